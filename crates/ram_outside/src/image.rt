@@ -1,0 +1,50 @@
+ghost use Rattle.std.specs.Prelude.{ℕ, ◌+◌, ◌≤◌, Option, List, length};
+ghost use Rattle.std.specs.Option.{ForSome};
+ghost use Rattle.ram_outside.specs.Image.{LenRule, ReadAtRule, WriteAtRule, SetLenRule};
+
+/// The answer of [`Image::len`].
+#[derive(Clone, Copy, Debug, PartialEq, Eq)]
+pub enum Length {
+    /// The number of bytes.
+    Is(u64),
+    /// The image failed, and counted it.
+    Failed,
+}
+
+/// The answer of a call that moves bytes or changes their number.
+#[derive(Clone, Copy, Debug, PartialEq, Eq)]
+pub enum Moved {
+    /// All of it was done.
+    Done,
+    /// The image failed, and counted it.
+    Failed,
+}
+
+/// The bytes of a disc image, such as a file's.
+pub trait Image {
+    /// The bytes, where they are told.
+    ghost bytes: { Self → Option (List ℕ) };
+
+    /// How often the image has failed. It never falls, and stands still at 2^64 - 1.
+    ghost faults: { Self → ℕ };
+
+    /// The number of bytes. It changes none.
+    fn len(&mut self) -> Length
+        ensures { LenRule (bytes self.old) (bytes self.new) (faults self.old) (faults self.new) result };
+
+    /// Reads the bytes from `at` on into the whole of `into`. It changes no byte of the image.
+    fn read_at(&mut self, at: u64, into: &mut [u8]) -> Moved
+        requires { ForSome (bytes self.old) (λ held. at + length into.old ≤ length held) }
+        ensures { ReadAtRule (bytes self.old) (bytes self.new) (faults self.old) (faults self.new) at into.new result };
+
+    /// Writes all of `from` at `at` and on. Where it fails, each byte of that range is the old or the new one,
+    /// and nothing else differs.
+    fn write_at(&mut self, at: u64, from: &[u8]) -> Moved
+        requires { ForSome (bytes self.old) (λ held. at + length from.now ≤ length held) }
+        ensures { WriteAtRule (bytes self.old) (bytes self.new) (faults self.old) (faults self.new) at from.now result };
+
+    /// Keeps the bytes below both lengths, and grows with zeros. Where it fails, the image is as it was or as
+    /// after a call that is done.
+    fn set_len(&mut self, len: u64) -> Moved
+        ensures { SetLenRule (bytes self.old) (bytes self.new) (faults self.old) (faults self.new) len result };
+}

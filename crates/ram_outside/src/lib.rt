@@ -1,0 +1,13 @@
+//! What a drive needs of the world outside it: a source of script bytes, a sink for the report, an image's
+//! bytes, and an opener of images. The traits say what each call may do; each failure is counted.
+#![tactic(auto)]
+
+pub mod image;
+pub mod opener;
+pub mod sink;
+pub mod source;
+
+pub use image::{Image, Length, Moved};
+pub use opener::{Opened, Opener};
+pub use sink::{Put, Sink};
+pub use source::{Source, Take};

@@ -1,0 +1,37 @@
+ghost use Rattle.std.specs.Prelude.{ℕ, Bool, Option};
+ghost use Rattle.ram_outside.specs.Opener.{OpenRule, CloseRule};
+
+use crate::image::Image;
+
+/// The answer of [`Opener::open`].
+pub enum Opened<I> {
+    /// The image is open.
+    Image(I),
+    /// The opener failed, and counted it.
+    Failed,
+}
+
+/// Opens disc images by name, and takes them back.
+pub trait Opener {
+    type Image: Image;
+
+    /// Whether openers of this kind tell what was handed back.
+    ghost tells: { Bool };
+
+    /// The image that the next `open` gives, where it is told.
+    ghost next: { Self → Option Self.Image };
+
+    /// The image that was handed back last, where there was one and it is told.
+    ghost returned: { Self → Option Self.Image };
+
+    /// How often the opener has failed, or an image that it took back. It never falls, and stands still at 2^64 - 1.
+    ghost faults: { Self → ℕ };
+
+    /// Opens the image of this name. Its count of failures begins at 0.
+    fn open(&mut self, name: &str) -> Opened<Self::Image>
+        ensures { OpenRule Self.Image.faults (next self.old) (returned self.old) (returned self.new) (faults self.old) (faults self.new) result };
+
+    /// Takes an image back, and adds its failures to the opener's.
+    fn close(&mut self, image: Self::Image)
+        ensures { CloseRule tells (Self.Image.faults image) image (returned self.new) (faults self.old) (faults self.new) };
+}

@@ -1,0 +1,25 @@
+ghost use Rattle.std.specs.Prelude.{ℕ, ◌<◌, Option, List, length};
+ghost use Rattle.ram_outside.specs.Sink.{PutRule};
+
+/// What a call of [`Sink::put`] took.
+#[derive(Clone, Copy, Debug, PartialEq, Eq)]
+pub enum Put {
+    /// So many bytes, at least one, from the front of the piece.
+    Took(usize),
+    /// The sink took nothing, failed, and counted it.
+    Failed,
+}
+
+/// Where bytes are written one after another, such as a report.
+pub trait Sink {
+    /// The bytes that were written, where they are told.
+    ghost written: { Self → Option (List ℕ) };
+
+    /// How often the sink has failed. It never falls, and stands still at 2^64 - 1.
+    ghost faults: { Self → ℕ };
+
+    /// Writes a front of `piece`, as many bytes as the sink takes at once.
+    fn put(&mut self, piece: &[u8]) -> Put
+        requires { 0 < length piece.now }
+        ensures { PutRule (written self.old) (written self.new) (faults self.old) (faults self.new) piece.now result };
+}

@@ -1,0 +1,27 @@
+ghost use Rattle.std.specs.Prelude.{ℕ, ◌<◌, Option, List, length};
+ghost use Rattle.ram_outside.specs.Source.{TakeRule};
+
+/// What a call of [`Source::take`] gave.
+#[derive(Clone, Copy, Debug, PartialEq, Eq)]
+pub enum Take {
+    /// So many bytes, at least one, at the front of the slice.
+    Got(usize),
+    /// Nothing is left.
+    End,
+    /// The source failed, and counted it.
+    Failed,
+}
+
+/// Bytes that come in pieces, such as the lines of a script.
+pub trait Source {
+    /// The bytes that are left, where they are told.
+    ghost left: { Self → Option (List ℕ) };
+
+    /// How often the source has failed. It never falls, and stands still at 2^64 - 1.
+    ghost faults: { Self → ℕ };
+
+    /// Puts the next bytes that are left at the front of `into`, as many as come at once.
+    fn take(&mut self, into: &mut [u8]) -> Take
+        requires { 0 < length into.old }
+        ensures { TakeRule (left self.old) (left self.new) (faults self.old) (faults self.new) into.new result };
+}
