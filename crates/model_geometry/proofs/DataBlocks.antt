@@ -4,12 +4,12 @@ use Rattle.std.specs.List.{range_with_len, filter, list_any, All, Contains}
 use Rattle.std.specs.List.Sorted.{IsStrictlyIncreasing}
 use Rattle.std.proofs.lemmas.List.{append-nil, length-append}
 use Rattle.std.proofs.lemmas.List.Elements.{filter-append, All-filter, filter_passes, All-from_get_or, All-contains, All-weaker}
-use Rattle.std.proofs.lemmas.List.Folds.{list_any_none, list_any_at}
+use Rattle.std.proofs.lemmas.List.Folds.{list_any_none, list_any_at, Any-from_list_any}
 use Rattle.std.proofs.lemmas.List.FromFn.{length-range_with_len, get_or-range_with_len}
-use Rattle.std.proofs.lemmas.List.Kept.{IsStrictlyIncreasing-filter}
-use Rattle.std.proofs.lemmas.Bool.{lt-ltb, le-ltb, and_from, and_left, and_right, cases_lt, true≢false}
+use Rattle.std.proofs.lemmas.List.Kept.{IsStrictlyIncreasing-filter, AllPairs-from_increasing}
+use Rattle.std.proofs.lemmas.Bool.{lt-ltb, le-ltb, and_from, and_left, and_right, cases_lt, cases_order, true≢false, and_parts, ltb-true}
 use Rattle.std.proofs.lemmas.Option.{slice_get-get_or, slice_get_past, slice_get_within, get_or_from_slice_get}
-use Rattle.model_geometry.specs.Geometry.{Shape, zone_blocks, zone_start, lead_out, total, is_inside, is_data, data_blocks}
+use Rattle.model_geometry.specs.Geometry.{Shape, zone_blocks, zone_start, lead_out, total, is_inside, is_data, data_blocks, IsDataIndex, IsInZone}
 use Rattle.model_geometry.proofs.Ranges.{range_with_len-append, filter-range_none, filter-range_inner}
 use Rattle.model_geometry.proofs.Zones.{zone_start_first, zone_start_next, zone_start_rises, zone_end_rises, zone_blocks_room, zone_start_closed, zone_start_least}
 
@@ -202,3 +202,52 @@ slice_get-data_blocks_inside shape scaled z block within after before =
     let early = zone_start_least shape scaled z in
     slice_get-data_blocks shape scaled z (block - zone_start shape z - 1) (block - 8 - 2 * z - 1) within (omega arith) (omega (arith, early))
     ∙ ap Some (omega arith)
+
+-- ---- the place of a block
+
+-- the data block at a place is among the data blocks
+pub Contains-slice_get : (xs : List ℕ) (n b : ℕ) → slice_get xs n ≡ Some b → Contains xs b
+Contains-slice_get xs n b h = (n, slice_get_within xs n b h, get_or_from_slice_get xs n b b h)
+
+-- numbers that rise stand at one place each
+pub same_place : (xs : List ℕ) → IsStrictlyIncreasing xs → (n k b : ℕ) → slice_get xs n ≡ Some b → slice_get xs k ≡ Some b → n ≡ k
+same_place xs rise n k b at at' =
+    let read = get_or_from_slice_get xs n b 0 at in
+    let read' = get_or_from_slice_get xs k b 0 at' in
+    let within = slice_get_within xs n b at in
+    let within' = slice_get_within xs k b at' in
+    ⊎_elim (λ e. e)
+    (⊎_elim (λ l. absurd (omega (arith, AllPairs-from_increasing xs rise n k 0 l within')))
+    (λ r. absurd (omega (arith, AllPairs-from_increasing xs rise k n 0 r within))))
+    (cases_order n k)
+
+-- the place of the n-th data block is n
+pub index_of_block : (shape : Shape) (n block : ℕ) (index : Option ℕ) → slice_get (data_blocks shape) n ≡ Some block → IsDataIndex shape block index → index ≡ Some n
+index_of_block shape n block None at none = absurd (none (Contains-slice_get (data_blocks shape) n block at))
+index_of_block shape n block (Some k) at found = ap Some (same_place (data_blocks shape) (data_blocks_rise shape) k n block found at)
+
+-- ---- the blocks of the lists
+
+-- a block of the lead-in or the lead-out is no data block
+pub no_data_block_outside : (shape : Shape) (b : ℕ) → (b < 8) ⊎ (lead_out shape ≤ b) → ¬ Contains (data_blocks shape) b
+no_data_block_outside shape b outside =
+    not_among_data_blocks shape b (⊎_elim (λ l. is_data_lead_in shape b l) (λ r. is_data_lead_out shape b r) outside)
+
+-- a data block lies in a zone
+pub zone_of_data : (shape : Shape) (b : ℕ) → is_data shape b ≡ true → (z : ℕ) × IsInZone shape z b
+unfolding is_data
+zone_of_data shape b h =
+    let some = Any-from_list_any (is_inside shape b) (range_with_len 0 shape.zones) h in
+    let z = some.1 in
+    let within : some.0 < shape.zones = omega (arith, some.2, length-range_with_len 0 shape.zones) in
+    let place : z ≡ some.0 = sym some.3 ∙ get_or-range_with_len 0 shape.zones some.0 z within ∙ omega arith in
+    let start = zone_start shape z in
+    let end = zone_start shape z + zone_blocks shape z in
+    let parts : (ltb start b ≡ true) × (ltb (b + 1) end ≡ true) = and_parts (ltb start b) (ltb (b + 1) end) some.4 in
+    let after = ltb-true start b parts.0 in
+    let before = ltb-true (b + 1) end parts.1 in
+    (z, record { zone = omega (arith, place, within); from_start = omega (arith, after); before_end = omega (arith, before) })
+
+pub zone_of_data_block : (shape : Shape) (b : ℕ) → Contains (data_blocks shape) b → (z : ℕ) × IsInZone shape z b
+zone_of_data_block shape b has =
+    zone_of_data shape b (All-contains (λ x. is_data shape x ≡ true) (data_blocks shape) b (data_blocks_pass shape) has)

@@ -1,6 +1,7 @@
-use Rattle.std.proofs.Common.{◌≡◌, ℕ, zero, suc, ◌+◌, ◌-◌, ◌*◌, ◌/◌, ◌<◌, ◌≤◌, refl, sym, ap, ◌∙◌, arith}
+use Rattle.std.proofs.Common.{◌≡◌, ℕ, zero, suc, ◌+◌, ◌-◌, ◌*◌, ◌/◌, ◌<◌, ◌≤◌, ⊎_elim, refl, sym, ap, ◌∙◌, arith}
 use Rattle.std.proofs.lemmas.Nat.{mul-le}
-use Rattle.model_geometry.specs.Geometry.{Shape, zone_blocks, zone_start, lead_out, total, IsLawful}
+use Rattle.std.proofs.lemmas.Bool.{cases_order}
+use Rattle.model_geometry.specs.Geometry.{Shape, zone_blocks, zone_start, lead_out, total, IsInZone, IsLawful}
 
 -- zone 0 begins after the lead-in
 pub zone_start_first : (shape : Shape) → zone_start shape 0 ≡ 8
@@ -64,3 +65,29 @@ total_most shape lawful =
 pub total_least : (shape : Shape) → IsLawful shape → 41 ≤ total shape
 total_least shape lawful =
     omega (arith, zone_start_first shape, zone_blocks_room shape lawful.some_scale 0, zone_end_rises shape 0 shape.zones lawful.some_zones)
+
+-- ---- the zone of a block
+
+-- a zone found by where it begins and where the next one does
+pub IsInZone-from_starts : (shape : Shape) (z block : ℕ) → z < shape.zones → zone_start shape z ≤ block → block < zone_start shape (z + 1) → IsInZone shape z block
+IsInZone-from_starts shape z block within after before =
+    let next = zone_start_next shape z in
+    record { zone = within; from_start = after; before_end = omega arith }
+
+-- a block of the lead-in lies in no zone
+pub no_zone_of_lead_in : (shape : Shape) (block : ℕ) → block < 8 → (z : ℕ) → ¬ IsInZone shape z block
+no_zone_of_lead_in shape block early z inside =
+    omega (arith, zone_start_first shape, zone_start_rises shape 0 z (omega arith), inside.from_start)
+
+-- nor does a block of the lead-out
+pub no_zone_of_lead_out : (shape : Shape) (block : ℕ) → lead_out shape ≤ block → (z : ℕ) → ¬ IsInZone shape z block
+no_zone_of_lead_out shape block late z inside =
+    omega (arith, zone_end_rises shape z shape.zones inside.zone, inside.before_end)
+
+-- a block lies in one zone at most
+pub same_zone : (shape : Shape) (z w block : ℕ) → IsInZone shape z block → IsInZone shape w block → z ≡ w
+same_zone shape z w block a b =
+    ⊎_elim (λ e. e)
+    (⊎_elim (λ l. absurd (omega (arith, zone_end_rises shape z w l, a.before_end, b.from_start)))
+    (λ r. absurd (omega (arith, zone_end_rises shape w z r, b.before_end, a.from_start))))
+    (cases_order z w)

@@ -1,5 +1,5 @@
-use Rattle.std.specs.Prelude.{ℕ, zero, suc, ◌+◌, ◌-◌, ◌*◌, ◌<◌, ◌≤◌, Bool, ◌&&◌, nat_lt, ◌==◌, if◌then◌else◌, List, length}
-use Rattle.std.specs.List.{range_with_len, filter, list_any}
+use Rattle.std.specs.Prelude.{◌≡◌, ℕ, zero, suc, ◌+◌, ◌-◌, ◌*◌, ◌<◌, ◌≤◌, Bool, ◌&&◌, nat_lt, ◌==◌, if◌then◌else◌, List, length, Option, Some, MatchOption, slice_get}
+use Rattle.std.specs.List.{range_with_len, filter, list_any, Contains}
 
 -- The three numbers of a geometry: its zones, the scale of their sizes, and its primary spares. (This project's own.)
 pub record Shape : Type 0 where
@@ -46,6 +46,15 @@ is_data shape block = list_any (is_inside shape block) (range_with_len 0 shape.z
 -- The data blocks: of all numbers below the total those that are data blocks, in rising order. (This project's own.)
 unfoldable pub data_blocks : Shape → List ℕ
 data_blocks shape = filter (is_data shape) (range_with_len 0 (total shape))
+
+-- The place of a block among the data blocks, counted from 0; there is none exactly where it is no data block.
+-- (This project's own.)
+abbrev pub IsDataIndex : Shape → ℕ → Option ℕ → Type 0
+IsDataIndex shape block index = MatchOption index (¬ Contains (data_blocks shape) block) (λ n. slice_get (data_blocks shape) n ≡ Some block)
+
+-- The zone of a block; there is none exactly where it lies in no zone. (This project's own.)
+abbrev pub IsZoneOf : Shape → ℕ → Option ℕ → Type 0
+IsZoneOf shape block found = MatchOption found ((z : ℕ) → ¬ IsInZone shape z block) (λ z. IsInZone shape z block)
 
 -- What a lawful geometry is: 1 to 35 zones, a scale of 1 to 100, and 1 to 4,092 primary spares, fewer than the
 -- data blocks. (This project's own.)
