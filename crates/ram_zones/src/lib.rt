@@ -1,0 +1,6 @@
+//! The geometry of a disc: its zones, its data blocks and the places of its lists, all by sums over the zones.
+#![tactic(auto)]
+
+pub mod geometry;
+
+pub use geometry::{Geometry, GeometryFault};
