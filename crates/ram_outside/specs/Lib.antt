@@ -2,3 +2,5 @@ pub mod Source
 pub mod Sink
 pub mod Image
 pub mod Opener
+pub mod Calls
+pub mod Memory

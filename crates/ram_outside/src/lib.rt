@@ -3,11 +3,13 @@
 #![tactic(auto)]
 
 pub mod image;
+pub mod memory;
 pub mod opener;
 pub mod sink;
 pub mod source;
 
 pub use image::{Image, Length, Moved};
+pub use memory::{MemImage, MemOpener, MemSink, MemSource};
 pub use opener::{Opened, Opener};
 pub use sink::{Put, Sink};
 pub use source::{Source, Take};
