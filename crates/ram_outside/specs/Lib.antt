@@ -4,3 +4,4 @@ pub mod Image
 pub mod Opener
 pub mod Calls
 pub mod Memory
+pub mod Adapters
