@@ -1,0 +1,2 @@
+pub mod BlockReads
+pub mod CellSteps
