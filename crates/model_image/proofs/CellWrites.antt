@@ -16,7 +16,7 @@ module _ (total block : ℕ) (inside : block < total) where
   state_step before after cell change is = record {
     as_long = change.as_long;
     header = same_part 0 16 before after change.as_long (λ k low high. change.same k (inl (omega arith)));
-    cells = cells-state total before after block inside change ∙ ap (set (cells_of total before) block) is
+    cells = cells-state total before after block inside change ∙ ap (set (cells_of total before) block) is;
   }
 
   -- one write of the data
@@ -24,7 +24,7 @@ module _ (total block : ℕ) (inside : block < total) where
   data_step before after cell change is = record {
     as_long = change.as_long;
     header = same_part 0 16 before after change.as_long (λ k low high. change.same k (inl (omega arith)));
-    cells = cells-data total before after block inside change ∙ ap (set (cells_of total before) block) is
+    cells = cells-data total before after block inside change ∙ ap (set (cells_of total before) block) is;
   }
 
   -- one after the other
@@ -32,7 +32,7 @@ module _ (total block : ℕ) (inside : block < total) where
   then_sets first before after c d one two = record {
     as_long = two.as_long ∙ one.as_long;
     header = two.header ∙ one.header;
-    cells = two.cells ∙ ap (λ cells. set cells block d) one.cells ∙ set-set (cells_of total first) block c d
+    cells = two.cells ∙ ap (λ cells. set cells block d) one.cells ∙ set-set (cells_of total first) block c d;
   }
 
   -- the write of the state byte of a torn block
@@ -96,7 +96,7 @@ module _ (total block : ℕ) (inside : block < total) where
       cell = cell_of (slice_index after (state_place block)) (data_in total held block);
       may = state_stopped 2 held after (λ s. MayLeave (cell_at (cells_of total held) block) from (cell_of s (data_in total held block))) put
           (inl (sym (cell_at-cells_of total held block inside))) (inr (inr (inl refl)));
-      sets = state_step held after _ (SameBut-PartlyPut (state_place block) (2 ∷ []) held after put) refl
+      sets = state_step held after _ (SameBut-PartlyPut (state_place block) (2 ∷ []) held after put) refl;
     }
 
     -- the second did
@@ -106,7 +106,7 @@ module _ (total block : ℕ) (inside : block < total) where
       may = inr (inr (inl refl));
       sets = then_sets held first after Torn Torn first_sets (data_step first after Torn
           (subst (λ n. SameBut (data_place total block) n first after) long (SameBut-PartlyPut (data_place total block) from first after put))
-          (ap (λ s. cell_of s (data_in total after block)) first_state))
+          (ap (λ s. cell_of s (data_in total after block)) first_state));
     }
 
     -- the third did
@@ -115,7 +115,7 @@ module _ (total block : ℕ) (inside : block < total) where
       cell = cell_of (slice_index after (state_place block)) (data_in total second block);
       may = state_stopped 1 second after (λ s. MayLeave (cell_at (cells_of total held) block) from (cell_of s (data_in total second block))) put
           (inr (inr (inl (ap (λ s. cell_of s (data_in total second block)) second_state)))) (inr (inl (ap Good data_now)));
-      sets = then_sets held second after Torn _ second_sets (state_step second after _ (SameBut-PartlyPut (state_place block) (1 ∷ []) second after put) refl)
+      sets = then_sets held second after Torn _ second_sets (state_step second after _ (SameBut-PartlyPut (state_place block) (1 ∷ []) second after put) refl);
     }
 
 -- The same where the image may not tell its bytes: what the three writes did, one by one.

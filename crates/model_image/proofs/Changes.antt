@@ -20,8 +20,8 @@ same_part p n before after long same =
     ext_get_or 0 _ _
     (length-take n (drop p after) ∙ ap (min n) (length-drop p after ∙ ap (λ m. m - p) long ∙ sym (length-drop p before)) ∙ sym (length-take n (drop p before)))
     (λ i h. let below : i < n = omega (arith, length-take n (drop p after)) in
-      get_or-take n (drop p after) i 0 below ∙ get_or-drop p after i 0 ∙ same (p + i) (omega arith) (omega arith)
-      ∙ sym (get_or-drop p before i 0) ∙ sym (get_or-take n (drop p before) i 0 below))
+    get_or-take n (drop p after) i 0 below ∙ get_or-drop p after i 0 ∙ same (p + i) (omega arith) (omega arith)
+    ∙ sym (get_or-drop p before i 0) ∙ sym (get_or-take n (drop p before) i 0 below))
 
 -- the cell of a block whose state byte and data are the same is the same
 pub same_cell : (total : ℕ) (before after : List ℕ) (k : ℕ) → length after ≡ length before → slice_index after (state_place k) ≡ slice_index before (state_place k)
@@ -53,12 +53,13 @@ pub cells_of-set : (total : ℕ) (before after : List ℕ) (block : ℕ) (cell :
     → ((k : ℕ) → k < total → k ≢ block → cell_in total after k ≡ cell_in total before k) → cells_of total after ≡ set (cells_of total before) block cell
 cells_of-set total before after block cell inside here others =
     sym (fill_by_all (cell_in total after) (set (cells_of total before) block cell) total Dead
-      (length-set (cells_of total before) block cell ∙ length-map-range_with_len (cell_in total before) 0 total) each)
+    (length-set (cells_of total before) block cell ∙ length-map-range_with_len (cell_in total before) 0 total) each)
   where
     long : length (cells_of total before) ≡ total
     long = length-map-range_with_len (cell_in total before) 0 total
+
     each : (k : ℕ) → k < total → get_or (set (cells_of total before) block cell) k Dead ≡ cell_in total after k
     each k h = elim (cases_eq k block) [
-      inl e ↦ ap (λ j. get_or (set (cells_of total before) block cell) j Dead) e ∙ get_or-set_same (cells_of total before) block cell Dead (omega (arith, long)) ∙ sym here ∙ ap (cell_in total after) (sym e)
+      | inl e ↦ ap (λ j. get_or (set (cells_of total before) block cell) j Dead) e ∙ get_or-set_same (cells_of total before) block cell Dead (omega (arith, long)) ∙ sym here ∙ ap (cell_in total after) (sym e)
       | inr ne ↦ get_or-set_other (cells_of total before) block k cell Dead ne ∙ get_or-map-range_with_len (cell_in total before) 0 total k k Dead h (omega arith) ∙ sym (others k h ne)
-      ]
+    ]

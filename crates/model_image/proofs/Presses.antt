@@ -11,7 +11,7 @@ use Rattle.model_bytes.specs.Told.{WhereTold}
 use Rattle.model_geometry.specs.Geometry.{Shape, IsLawful, total}
 use Rattle.model_medium.specs.Cells.{Cell, Blank, Dead}
 use Rattle.model_image.specs.Cells.{state_place, image_len, cell_of, data_in, cell_in, cells_of}
-use Rattle.model_image.specs.Image.{header_of, HasHeader, IsDiscImage, IsImageOf, blank_cells, IsBlankIfDisc}
+use Rattle.model_image.specs.Image.{header_of, HasHeader, IsDiscImage, IsImageOf, blank_cells, IsBlankIfDisc, IsStoppedPress}
 use Rattle.model_image.proofs.Changes.{SameBut}
 use Rattle.model_image.proofs.Writes.{SameBut-put_at, SameBut-PartlyPut}
 
@@ -54,9 +54,9 @@ module _ (shape : Shape) (header_long : length (header_of shape) ≡ 16) where
   pressed lawful = record {
     disc = record {
       has_header = record { lawful = lawful; header = take_at (header_of shape) (drop (0 + length (header_of shape)) zeros) 16 header_long };
-      as_long = change.as_long ∙ length-replicate new_len 0
+      as_long = change.as_long ∙ length-replicate new_len 0;
     };
-    cells_are = cells_of-zeros (total shape) (put_at 0 (header_of shape) zeros) (behind (put_at 0 (header_of shape) zeros) change)
+    cells_are = cells_of-zeros (total shape) (put_at 0 (header_of shape) zeros) (behind (put_at 0 (header_of shape) zeros) change);
   }
     where
       change : SameBut 0 (length (header_of shape)) zeros (put_at 0 (header_of shape) zeros)
@@ -92,3 +92,19 @@ module _ (shape : Shape) (header_long : length (header_of shape) ≡ 16) (before
       cases : (o : Option (List ℕ)) → WhereTold o (option_map (put_at 0 (header_of shape)) (option_map (resized (image_len (total shape))) (option_map (resized 0) o))) (λ held held'. IsImageOf shape (blank_cells shape) held')
       cases None = tt
       cases (Some held) = subst (λ l. IsImageOf shape (blank_cells shape) (put_at 0 (header_of shape) l)) (sym (resized-anew (image_len (total shape)) held)) (pressed shape header_long lawful)
+
+-- what a failed last step leaves, as the image's rule says it
+module _ (shape : Shape) (header_long : length (header_of shape) ≡ 16) (before : Option (List ℕ)) where
+  abbrev StoppedHeader : Option (List ℕ) → Option (List ℕ) → Type 0
+  StoppedHeader o p = MatchOption o (p ≡ o) (λ held. MatchOption p ⊥ (λ held'. PartlyPut 0 (header_of shape) held held'))
+
+  pub told-stopped_header : (b1 b2 after : Option (List ℕ)) → b1 ≡ option_map (resized 0) before → b2 ≡ option_map (resized (image_len (total shape))) b1
+      → StoppedHeader b2 after → WhereTold before after IsStoppedPress
+  told-stopped_header b1 b2 after e1 e2 stopped =
+      cases before after (subst (λ o. StoppedHeader o after) (e2 ∙ ap (option_map (resized (image_len (total shape)))) e1) stopped)
+    where
+      cases : (o p : Option (List ℕ)) → StoppedHeader (option_map (resized (image_len (total shape))) (option_map (resized 0) o)) p → WhereTold o p IsStoppedPress
+      cases None None s = tt
+      cases None (Some held') s = absurd (cc)
+      cases (Some held) None s = absurd s
+      cases (Some held) (Some held') s = inr (stopped_header shape header_long held' (subst (λ l. PartlyPut 0 (header_of shape) l held') (resized-anew (image_len (total shape)) held) s))

@@ -15,10 +15,13 @@ SameBut-put_at at from held fits = record { as_long = long; same = same }
   where
     front : length (take at held) ≡ at
     front = length-take-le at held (omega arith)
+
     both : length (take at held ++ from) ≡ at + length from
     both = length-append (take at held) from ∙ ap (λ n. n + length from) front
+
     long : length (put_at at from held) ≡ length held
     long = omega (arith, both, length-append (take at held ++ from) (drop (at + length from) held), length-drop (at + length from) held)
+
     same : (k : ℕ) → (k < at) ⊎ (at + length from ≤ k) → slice_index (put_at at from held) k ≡ slice_index held k
     same k (inl h) =
         get_or_append_left (take at held ++ from) (drop (at + length from) held) 0 k (omega (arith, both))

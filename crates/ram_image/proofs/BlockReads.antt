@@ -14,6 +14,7 @@ block_read before after faults faults' at old read moves.Done same long rule = (
   where
     back : take (length old) (read ++ drop (length read) old) ≡ read
     back = take_at read (drop (length read) old) (length old) same
+
     cases : (o : Option (List ℕ)) → IfSome o (λ held. read ≡ take (length read) (drop at held)) → IfSome o (λ held. take (length old) (read ++ drop (length read) old) ≡ take 32768 (drop at held))
     cases None h = tt
     cases (Some held) h = back ∙ h ∙ ap (λ n. take n (drop at held)) long

@@ -14,7 +14,9 @@ const TEXT: &[u8; 8] = b"DVDRAM01";
 
 /// Where the number of zones, the scale and the number of primary spares stand, two bytes each.
 const ZONES_AT: usize = 8;
+
 const SCALE_AT: usize = 10;
+
 const SPARES_AT: usize = 12;
 
 /// The header of an image of this geometry.
@@ -49,7 +51,8 @@ pub fn geometry_of(bytes: &[u8; 16]) -> Option<Geometry>
 
 /// How many bytes an image of this geometry has.
 pub fn image_len(geometry: &Geometry) -> u64
-    ensures { result ≡ image_len (total geometry.now) }
+    ensures bytes { result ≡ image_len (total geometry.now) }
+    ensures lawful { IsLawful geometry.now }
 {
     let blocks = u64::from(geometry.total());
     HEADER_BYTES as u64 + blocks + BLOCK_BYTES as u64 * blocks

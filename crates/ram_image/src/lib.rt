@@ -3,10 +3,10 @@
 
 pub mod cells;
 pub mod header;
-//pub mod medium;
-//pub mod open;
-//pub mod press;
+pub mod medium;
+pub mod opening;
+pub mod pressing;
 
-//pub use medium::ImageMedium;
-//pub use open::{OpenFault, open};
-//pub use press::{PressOut, press};
+pub use medium::ImageMedium;
+pub use opening::{OpenFault, open};
+pub use pressing::{PressOut, press};
