@@ -108,3 +108,14 @@ get_or-resized-new k n held d below past =
     let kept = take_all n held (omega arith) in
     get_or-append_right (take n held) (replicate (n - length held) 0) (length held) k d (ap length kept) past
     ∙ get_or-replicate (n - length held) (k - length held) 0 d (omega arith)
+
+-- a list written over its whole length, as by what `bytes_mut` of a block lends
+pub written_whole : (written held : List ℕ) → length written ≡ length held → take (length held) (written ++ drop (length written) held) ≡ written
+written_whole written held same =
+    take_at written (drop (length written) held) (length held) same
+
+-- a write at the end of a front makes the front longer
+pub take-put_at-end : (n at : ℕ) (from held : List ℕ) → n ≡ at + length from → at ≤ length held → take n (put_at at from held) ≡ take at held ++ from
+take-put_at-end n at from held end inside =
+    let front = length-take-le at held inside in
+    take_at (take at held ++ from) (drop (at + length from) held) n (omega (arith, length-append (take at held) from))

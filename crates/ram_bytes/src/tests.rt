@@ -11,6 +11,8 @@ fn numbers_are_big_endian(rt: HostRuntime) {
     assert_eq!(rt; get_u16(&bytes, 0), 0x0001);
     assert_eq!(rt; get_u24(&bytes, 3), 0x030405);
     assert_eq!(rt; get_u32(&bytes, 8), 0x0708_0900);
+    assert!(rt; is_zero(&bytes[11..]));
+    assert!(rt; !is_zero(&bytes[10..]));
 }
 
 #[test]
