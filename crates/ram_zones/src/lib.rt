@@ -2,5 +2,10 @@
 #![tactic(auto)]
 
 pub mod geometry;
+pub mod list_kind;
 
 pub use geometry::{Geometry, GeometryFault};
+pub use list_kind::ListKind;
+
+#[cfg(test)]
+mod tests;
