@@ -62,7 +62,8 @@ impl Model for Geometry {
     ghost inverse = { λ s. record { zones = s.zones; scale = s.scale; psa = s.psa } };
 }
 
-/// Where a zone of this scale begins; the one past the last begins where the lead-out does.
+/// Where a zone of this scale begins. The zones before it have 25, 26 and so on blocks for each unit of the scale,
+/// in all a half of `zone * (zone + 49)`.
 fn start_of_zone(scale: u32, zone: u32) -> u32
     requires scale_within { scale ≤ 100 }
     requires zone_within { zone ≤ 35 }
