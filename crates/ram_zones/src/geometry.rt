@@ -1,7 +1,9 @@
-ghost use Rattle.std.specs.Prelude.{◌≡◌, ◌+◌, ◌*◌, ◌/◌, ◌≤◌, length, slice_get, MatchResult, IsTrue, ◌↔◌};
-ghost use Rattle.model_geometry.specs.Geometry.{IsLawful, shape_of, total, data_blocks, formattable};
+ghost use Rattle.std.specs.Prelude.{◌≡◌, ◌+◌, ◌*◌, ◌/◌, ◌<◌, ◌≤◌, length, slice_get, MatchResult, IsTrue, ◌↔◌};
+ghost use Rattle.model_geometry.specs.Geometry.{IsLawful, IsInZone, IsDataIndex, IsZoneOf, shape_of, lead_out, total, data_blocks, formattable, dds_block};
 ghost use Rattle.ram_zones.specs.Limits.{IsWithin, SparesFit};
+ghost use Rattle.ram_zones.specs.ListKind.{list_block};
 
+use crate::list_kind::ListKind;
 use std::marker::Model;
 use thiserror::Error;
 
@@ -60,7 +62,8 @@ impl Model for Geometry {
     ghost inverse = { λ s. record { zones = s.zones; scale = s.scale; psa = s.psa } };
 }
 
-/// Where a zone of this scale begins; the one past the last begins where the lead-out does.
+/// Where a zone of this scale begins. The zones before it have 25, 26 and so on blocks for each unit of the scale,
+/// in all a half of `zone * (zone + 49)`.
 fn start_of_zone(scale: u32, zone: u32) -> u32
     requires scale_within { scale ≤ 100 }
     requires zone_within { zone ≤ 35 }
@@ -138,6 +141,15 @@ impl Geometry {
         self.psa
     }
 
+    /// The first block after the last zone, where the lead-out begins.
+    pub fn lead_out(&self) -> u32
+        ensures block { result ≡ lead_out self.now }
+        ensures most { result ≤ 147008 }
+        ensures lawful { IsLawful self.now }
+    {
+        start_of_zone(self.scale, self.zones)
+    }
+
     /// The number of blocks of the disc.
     pub fn total(&self) -> u32
         ensures blocks { result ≡ total self.now }
@@ -174,5 +186,67 @@ impl Geometry {
             }
         }
         None
+    }
+    /// The place of a block among the data blocks, counted from 0. It undoes [`Geometry::data_block`].
+    pub fn data_index(&self, block: u32) -> Option<u32>
+        ensures { IsDataIndex self.now block result }
+    {
+        let zone = self.zone_of(block)?;
+        self.index_in_zone(zone, block)
+    }
+
+    /// The place of a block of this zone among the data blocks. The guards have none.
+    fn index_in_zone(&self, zone: u32, block: u32) -> Option<u32>
+        requires { IsInZone self.now zone block }
+        ensures { IsDataIndex self.now block result }
+    {
+        if block == start_of_zone(self.scale, zone) {
+            return None;
+        }
+        if block == start_of_zone(self.scale, zone + 1) - 1 {
+            return None;
+        }
+        Some(block - (LEAD_IN_BLOCKS + GUARDS * zone + 1))
+    }
+
+    /// The zone of a block, counted from 0, with its guards.
+    pub fn zone_of(&self, block: u32) -> Option<u32>
+        ensures { IsZoneOf self.now block result }
+    {
+        if block < LEAD_IN_BLOCKS {
+            return None;
+        }
+        for zone in 0..self.zones {
+            if block < start_of_zone(self.scale, zone + 1) {
+                return Some(zone);
+            }
+        }
+        None
+    }
+
+    /// The block that holds the copy of a list in one of the four areas, counted from 1.
+    pub fn list_block(&self, area: u32, list: ListKind) -> u32
+        requires { IsWithin area 4 }
+        ensures block { result ≡ list_block self.now area list }
+        ensures inside { result < total self.now }
+    {
+        match list {
+            ListKind::Dds => self.dds_block(area),
+            ListKind::Sdl => self.dds_block(area) + 1,
+        }
+    }
+
+    /// The block of the first list of an area.
+    fn dds_block(&self, area: u32) -> u32
+        requires { IsWithin area 4 }
+        ensures block { result ≡ dds_block self.now area }
+        ensures most { result ≤ 147010 }
+    {
+        match area {
+            1 => 0,
+            2 => 2,
+            3 => self.lead_out(),
+            _ => self.lead_out() + 2,
+        }
     }
 }

@@ -2,5 +2,10 @@
 #![tactic(auto)]
 
 pub mod geometry;
+pub mod list_kind;
 
-pub use geometry::{Geometry, GeometryFault};
+pub use geometry::{Geometry, GeometryFault, MOST_SCALE, MOST_SPARES, MOST_ZONES};
+pub use list_kind::ListKind;
+
+#[cfg(test)]
+mod tests;
