@@ -1,13 +1,7 @@
-use Rattle.std.proofs.Common.{◌≡◌, ℕ, ◌<◌, ◌≤◌, Some, List, ◌++◌, length, take, drop, refl, sym, ap, ◌∙◌, arith, length-append}
-use Rattle.std.proofs.lemmas.List.{take_at, take-append-drop}
-use Rattle.ram_outside.specs.Source.{GivesNext}
+use Rattle.std.proofs.Common.{◌≡◌, ℕ, ◌+◌, List, ◌++◌, length, take, drop, sym, ap, ◌∙◌}
+use Rattle.std.proofs.lemmas.List.{take_at, take-append-drop, drop-drop}
 
--- bytes from the front of those that were left, put at the front of a slice, are the next ones
-pub gives_next : (left left' given rest : List ℕ) (n faults faults' : ℕ) → left' ≡ drop n left → given ≡ take n left → length given ≡ n → 0 < n → faults ≤ faults' → GivesNext (Some left) (Some left') faults faults' (given ++ rest) n
-gives_next left left' given rest n faults faults' is_rest is_given long some count = record {
-  some = some;
-  within = omega (arith, length-append given rest);
-  next = sym (take-append-drop n left) ∙ ap (λ xs. xs ++ drop n left) (sym is_given ∙ sym (take_at given rest n long)) ∙ ap (λ xs. take n (given ++ rest) ++ xs) (sym is_rest);
-  told = refl;
-  count = count;
-}
+-- a front of what was left, at the front of a slice, and what is left after it are what was left
+pub front_and_rest : (front others bytes : List ℕ) (n given : ℕ) → front ≡ take n (drop given bytes) → length front ≡ n → take n (front ++ others) ++ drop (given + n) bytes ≡ drop given bytes
+front_and_rest front others bytes n given is_front long =
+    ap (λ xs. xs ++ drop (given + n) bytes) (take_at front others n long ∙ is_front) ∙ ap (λ xs. take n (drop given bytes) ++ xs) (sym (drop-drop n given bytes)) ∙ take-append-drop n (drop given bytes)

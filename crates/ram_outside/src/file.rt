@@ -14,6 +14,9 @@ use std::io::{Read, Seek, SeekFrom, Write};
 use std::marker::Model;
 use std::rt::Files;
 
+#[cfg(test)]
+mod tests;
+
 /// The bytes of an open file, seen as its count of errors.
 #[derive(Drop)]
 pub struct FileImage<F: Read + Write + Seek + OpenFile + Drop> {
