@@ -1,0 +1,4 @@
+pub mod Feeds
+pub mod Cuts
+pub mod Fills
+pub mod Answers
