@@ -11,16 +11,17 @@ pub record Opens {I : Type 0} (faults_of : I → ℕ) (due returned returned' : 
   pub same : returned' ≡ returned
   pub count : faults ≤ faults'
 
--- the opener failed and counted it, and nothing was handed back
-pub record HasFailed {I : Type 0} (returned returned' : Option I) (faults faults' : ℕ) : Type 0 where
+-- the opener failed and counted it, gives the same image next, and nothing was handed back
+pub record HasFailed {I : Type 0} (next next' returned returned' : Option I) (faults faults' : ℕ) : Type 0 where
+  pub same_next : next' ≡ next
   pub same : returned' ≡ returned
   pub count : Rose faults faults'
 
--- What `open` may do, by its answer: the image that was next, the one handed back last before and after, and the
--- counts before and after. (This project's own.)
-abbrev pub OpenRule : {I : Type 0} → (I → ℕ) → Option I → Option I → Option I → ℕ → ℕ → Opened I → Type 0
-OpenRule faults_of next returned returned' faults faults' (Image image) = Opens faults_of next returned returned' faults faults' image
-OpenRule faults_of next returned returned' faults faults' Failed = HasFailed returned returned' faults faults'
+-- What `open` may do, by its answer: the image that is next, the one handed back last, and the counts, each before
+-- and after. (This project's own.)
+abbrev pub OpenRule : {I : Type 0} → (I → ℕ) → Option I → Option I → Option I → Option I → ℕ → ℕ → Opened I → Type 0
+OpenRule faults_of next next' returned returned' faults faults' (Image image) = Opens faults_of next returned returned' faults faults' image
+OpenRule faults_of next next' returned returned' faults faults' Failed = HasFailed next next' returned returned' faults faults'
 
 -- What `close` does: the image is the one handed back last, and its failures are counted with the opener's.
 -- (This project's own.)

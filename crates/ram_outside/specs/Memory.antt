@@ -1,0 +1,120 @@
+use Rattle.std.specs.Prelude.{◌≡◌, ℕ, ◌+◌, ◌<◌, ◌≤◌, ◌⊎◌, min, Option, Some, None, List, [], ◌++◌, length, take, drop}
+use Rattle.model_bytes.specs.Bytes.{put_at, resized}
+use Rattle.ram_outside.specs.Calls.{CallLog, IsNamed, with_call, with_faults, with_failed_call}
+use Rattle.ram_outside.specs.declared.source.Take.{Take}
+use Rattle.ram_outside.specs.declared.source.Take.TheVariants as takes
+use Rattle.ram_outside.specs.declared.sink.Put.{Put}
+use Rattle.ram_outside.specs.declared.sink.Put.TheVariants as puts
+use Rattle.ram_outside.specs.declared.image.Length.{Length}
+use Rattle.ram_outside.specs.declared.image.Length.TheVariants as lengths
+use Rattle.ram_outside.specs.declared.image.Moved.{Moved}
+use Rattle.ram_outside.specs.declared.image.Moved.TheVariants as moves
+use Rattle.ram_outside.specs.declared.opener.Opened.{Opened}
+use Rattle.ram_outside.specs.declared.opener.Opened.TheVariants as openings
+
+-- a source in memory: the bytes that are left, the most that it gives at once, and its calls (this project's own)
+pub record SourceState : Type 0 where
+  pub left : List ℕ
+  pub piece : ℕ
+  pub calls : CallLog
+
+-- a sink in memory: the bytes that were written, how many it has room for, the most that it takes at once, and its
+-- calls (this project's own)
+pub record SinkState : Type 0 where
+  pub written : List ℕ
+  pub room : ℕ
+  pub piece : ℕ
+  pub calls : CallLog
+
+-- an image in memory: its bytes, how many it has room for, and its calls (this project's own)
+pub record ImageState : Type 0 where
+  pub bytes : List ℕ
+  pub room : ℕ
+  pub calls : CallLog
+
+-- an opener in memory: the image that it still has, the image that was handed back last, and its calls of `open`
+-- (this project's own)
+pub record OpenerState : Type 0 where
+  pub next : Option ImageState
+  pub returned : Option ImageState
+  pub calls : CallLog
+
+-- the next n bytes, as many as fit the slice and one piece
+pub record GivesPiece (old new : SourceState) (into : List ℕ) (n : ℕ) : Type 0 where
+  pub unnamed : ¬ IsNamed old.calls
+  pub some : 0 < n
+  pub many : n ≡ min (min old.piece (length into)) (length old.left)
+  pub next : take n into ≡ take n old.left
+  pub new_state : new ≡ record old { left = drop n old.left; calls = with_call old.calls }
+
+-- Exactly what `take` of a source in memory does, by its answer; `into` is what the slice then holds.
+-- (This project's own.)
+abbrev pub TakesExactly : SourceState → SourceState → List ℕ → Take → Type 0
+TakesExactly old new into (takes.Got n) = GivesPiece old new into n
+TakesExactly old new into takes.End = (¬ IsNamed old.calls) × (old.left ≡ []) × (new ≡ record old { calls = with_call old.calls })
+TakesExactly old new into takes.Failed = IsNamed old.calls × (new ≡ record old { calls = with_failed_call old.calls })
+
+-- the first n bytes of the piece were written, as many as the sink takes at once
+pub record TakesPiece (old new : SinkState) (piece : List ℕ) (n : ℕ) : Type 0 where
+  pub unnamed : ¬ IsNamed old.calls
+  pub many : n ≡ min old.piece (length piece)
+  pub written : new.written ≡ old.written ++ take n piece
+  pub room : old.room ≤ new.room
+  pub piece_stays : new.piece ≡ old.piece
+  pub calls : new.calls ≡ with_call old.calls
+
+-- nothing was written, since the call is one that fails, or room was refused
+pub record RefusesPiece (old new : SinkState) (piece : List ℕ) : Type 0 where
+  pub cause : IsNamed old.calls ⊎ (old.room < length old.written + min old.piece (length piece))
+  pub written : new.written ≡ old.written
+  pub room : old.room ≤ new.room
+  pub piece_stays : new.piece ≡ old.piece
+  pub calls : new.calls ≡ with_failed_call old.calls
+
+-- Exactly what `put` of a sink in memory does, by its answer. (This project's own.)
+abbrev pub PutsExactly : SinkState → SinkState → List ℕ → Put → Type 0
+PutsExactly old new piece (puts.Took n) = TakesPiece old new piece n
+PutsExactly old new piece puts.Failed = RefusesPiece old new piece
+
+-- Exactly what `len` of an image in memory does, by its answer. (This project's own.)
+abbrev pub TellsLengthExactly : ImageState → ImageState → Length → Type 0
+TellsLengthExactly old new (lengths.Is n) = (¬ IsNamed old.calls) × (n ≡ length old.bytes) × (new ≡ record old { calls = with_call old.calls })
+TellsLengthExactly old new lengths.Failed = IsNamed old.calls × (new ≡ record old { calls = with_failed_call old.calls })
+
+-- Exactly what `read_at` of an image in memory does, by its answer; `into` is what the slice then holds.
+-- (This project's own.)
+abbrev pub ReadsExactly : ImageState → ImageState → ℕ → List ℕ → Moved → Type 0
+ReadsExactly old new at into moves.Done = (¬ IsNamed old.calls) × (into ≡ take (length into) (drop at old.bytes)) × (new ≡ record old { calls = with_call old.calls })
+ReadsExactly old new at into moves.Failed = IsNamed old.calls × (new ≡ record old { calls = with_failed_call old.calls })
+
+-- Exactly what `write_at` of an image in memory does, by its answer: a call that fails writes nothing.
+-- (This project's own.)
+abbrev pub WritesExactly : ImageState → ImageState → ℕ → List ℕ → Moved → Type 0
+WritesExactly old new at from moves.Done = (¬ IsNamed old.calls) × (new ≡ record old { bytes = put_at at from old.bytes; calls = with_call old.calls })
+WritesExactly old new at from moves.Failed = IsNamed old.calls × (new ≡ record old { calls = with_failed_call old.calls })
+
+-- the image has these bytes now, no less room, and these calls
+pub record HasBytes (old new : ImageState) (bytes : List ℕ) (calls : CallLog) : Type 0 where
+  pub bytes_are : new.bytes ≡ bytes
+  pub room : old.room ≤ new.room
+  pub calls_are : new.calls ≡ calls
+
+-- Exactly what `set_len` of an image in memory does, by its answer: it fails where the call is one that fails, or
+-- where room was refused, and then no byte changes. (This project's own.)
+abbrev pub ResizesExactly : ImageState → ImageState → ℕ → Moved → Type 0
+ResizesExactly old new len moves.Done = (¬ IsNamed old.calls) × HasBytes old new (resized len old.bytes) (with_call old.calls)
+ResizesExactly old new len moves.Failed = (IsNamed old.calls ⊎ (old.room < len)) × HasBytes old new old.bytes (with_failed_call old.calls)
+
+-- this image, with no failure counted (this project's own)
+abbrev pub unfailed : ImageState → ImageState
+unfailed image = record image { calls = record image.calls { faults = 0 } }
+
+-- Exactly what `open` of an opener in memory does, by its answer: it fails where the call is one that fails, or where
+-- the image was given before. (This project's own.)
+abbrev pub OpensExactly : OpenerState → OpenerState → Opened ImageState → Type 0
+OpensExactly old new (openings.Image image) = (¬ IsNamed old.calls) × (old.next ≡ Some image) × (new ≡ record old { next = None; calls = with_call old.calls })
+OpensExactly old new openings.Failed = (IsNamed old.calls ⊎ (old.next ≡ None)) × (new ≡ record old { calls = with_failed_call old.calls })
+
+-- the opener after it took this image back (this project's own)
+abbrev pub after_close : ImageState → OpenerState → OpenerState
+after_close image opener = record opener { returned = Some image; calls = with_faults image.calls.faults opener.calls }

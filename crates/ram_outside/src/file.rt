@@ -1,0 +1,149 @@
+//! Disc images that are files. They tell no bytes; what the system does is trusted.
+ghost use Rattle.std.specs.Prelude.{◌≡◌, ℕ, false, None};
+ghost use Rattle.model_counts.specs.Counts.{counted};
+ghost use Rattle.ram_outside.specs.Image.{LenRule, ReadAtRule, WriteAtRule, SetLenRule};
+ghost use Rattle.ram_outside.specs.Opener.{OpenRule, CloseRule};
+ghost use Rattle.ram_outside.specs.Adapters.{count_after_len, count_after_move, count_after_open};
+
+use crate::errors::count_error;
+use crate::image::{Image, Length, Moved};
+use crate::opener::{Opened, Opener};
+use std::fs::{OpenFile, OpenOptions};
+use std::io;
+use std::io::{Read, Seek, SeekFrom, Write};
+use std::marker::Model;
+use std::rt::Files;
+
+#[cfg(test)]
+mod tests;
+
+/// The bytes of an open file, seen as its count of errors.
+#[derive(Drop)]
+pub struct FileImage<F: Read + Write + Seek + OpenFile + Drop> {
+    file: F,
+    faults: u64,
+}
+
+impl<F: Read + Write + Seek + OpenFile + Drop> Model for FileImage<F> {
+    ghost use Rattle.std.specs.Prelude.{ℕ};
+
+    ghost Value = { ℕ };
+
+    ghost view = { λ i. i.faults };
+}
+
+impl<F: Read + Write + Seek + OpenFile + Drop> Image for FileImage<F> {
+    ghost bytes = { λ _. None };
+
+    ghost faults = { λ i. i };
+
+    fn len(&mut self) -> Length
+        ensures rule { LenRule None None self.old self.new result }
+        ensures count { self.new ≡ count_after_len result self.old }
+    {
+        match count_error(self.file.seek(SeekFrom::End(0)), &mut self.faults) {
+            Some(len) => Length::Is(len),
+            None => Length::Failed,
+        }
+    }
+
+    /// The end of the file in the range is an error.
+    fn read_at(&mut self, at: u64, into: &mut [u8]) -> Moved
+        ensures rule { ReadAtRule None None self.old self.new at into.new result }
+        ensures count { self.new ≡ count_after_move result self.old }
+    {
+        let outcome = read_exact_at(&mut self.file, at, into);
+        moved(outcome, &mut self.faults)
+    }
+
+    fn write_at(&mut self, at: u64, from: &[u8]) -> Moved
+        ensures rule { WriteAtRule None None self.old self.new at from.now result }
+        ensures count { self.new ≡ count_after_move result self.old }
+    {
+        let outcome = write_all_at(&mut self.file, at, from);
+        moved(outcome, &mut self.faults)
+    }
+
+    fn set_len(&mut self, len: u64) -> Moved
+        ensures rule { SetLenRule None None self.old self.new len result }
+        ensures count { self.new ≡ count_after_move result self.old }
+    {
+        moved(self.file.set_len(len), &mut self.faults)
+    }
+}
+
+fn read_exact_at<F: Read + Seek>(file: &mut F, at: u64, into: &mut [u8]) -> io::Result<()> {
+    file.seek(SeekFrom::Start(at))?;
+    file.read_exact(into)
+}
+
+fn write_all_at<F: Write + Seek>(file: &mut F, at: u64, from: &[u8]) -> io::Result<()> {
+    file.seek(SeekFrom::Start(at))?;
+    file.write_all(from)
+}
+
+fn moved(outcome: io::Result<()>, faults: &mut u64) -> Moved
+    ensures { faults.new ≡ count_after_move result faults.old }
+{
+    match count_error(outcome, faults) {
+        Some(()) => Moved::Done,
+        None => Moved::Failed,
+    }
+}
+
+/// Opens files by their paths, seen as its count of errors.
+#[derive(Drop)]
+pub struct FileOpener<R: Files> {
+    rt: R,
+    faults: u64,
+}
+
+impl<R: Files> Model for FileOpener<R> {
+    ghost use Rattle.std.specs.Prelude.{ℕ};
+
+    ghost Value = { ℕ };
+
+    ghost view = { λ o. o.faults };
+}
+
+impl<R: Files> FileOpener<R> {
+    /// An opener of the files of this system, with no error counted.
+    pub fn new(rt: R) -> FileOpener<R>
+        ensures { result ≡ 0 }
+    {
+        FileOpener { rt, faults: 0 }
+    }
+}
+
+impl<R: Files> Opener for FileOpener<R> {
+    type Image = FileImage<R::File>;
+
+    ghost tells = { false };
+
+    ghost next = { λ _. None };
+
+    ghost returned = { λ _. None };
+
+    ghost faults = { λ o. o };
+
+    /// Opens the file of this path to be read and written. It is made, empty, where there is none; what it holds
+    /// stays.
+    fn open(&mut self, name: &str) -> Opened<FileImage<R::File>>
+        ensures rule { OpenRule (λ i. i) None None None None self.old self.new result }
+        ensures count { self.new ≡ count_after_open result self.old }
+    {
+        let mut options = OpenOptions::new();
+        options.read(true).write(true).create(true);
+        match count_error(options.open(&self.rt, name), &mut self.faults) {
+            Some(file) => Opened::Image(FileImage { file, faults: 0 }),
+            None => Opened::Failed,
+        }
+    }
+
+    fn close(&mut self, image: FileImage<R::File>)
+        ensures rule { CloseRule false image image None self.old self.new }
+        ensures count { self.new ≡ counted self.old image }
+    {
+        self.faults = self.faults.saturating_add(image.faults);
+    }
+}

@@ -1,0 +1,92 @@
+ghost use Rattle.std.specs.Prelude.{◌≡◌, ℕ, ◌+◌, ◌<◌, ◌≤◌, [], Some, IsOk, OnOk, OnErr, length};
+ghost use Rattle.ram_outside.specs.Sink.{PutRule};
+ghost use Rattle.ram_outside.specs.Memory.{PutsExactly};
+
+use crate::memory::calls::Calls;
+use crate::sink::{Put, Sink};
+use std::alloc::{AllocError, Global};
+use std::marker::Model;
+
+/// A sink that keeps what is written in memory.
+#[derive(Debug, Drop)]
+pub struct MemSink {
+    bytes: Vec<u8>,
+    piece: usize,
+    calls: Calls,
+}
+
+impl Model for MemSink {
+    ghost use Rattle.std.specs.Prelude.{ℕ, ◌<◌, vec_capacity};
+    ghost use Rattle.ram_outside.specs.Memory.{SinkState};
+
+    ghost Value = { SinkState };
+
+    ghost view = { λ s. record { written = s.bytes.items; room = vec_capacity s.bytes; piece = s.piece; calls = s.calls } };
+
+    ghost invariant = { λ s. 0 < s.piece };
+}
+
+impl MemSink {
+    /// Nothing is written yet, and at most `piece` bytes are taken at once. `failing` has the numbers, from 1 on, of
+    /// the calls that fail.
+    pub fn new(alloc: Global, piece: usize, failing: Vec<u64>) -> MemSink
+        requires { 0 < piece }
+        ensures written { result.written ≡ [] }
+        ensures piece { result.piece ≡ piece }
+        ensures calls { result.calls ≡ record { failing = failing.items; made = 0; faults = 0 } }
+    {
+        MemSink {
+            bytes: Vec::new(alloc),
+            piece,
+            calls: Calls::new(failing),
+        }
+    }
+
+    /// The bytes that were written.
+    pub fn bytes(&self) -> &[u8]
+        ensures { result.now ≡ self.now.written }
+    {
+        self.bytes.as_slice()
+    }
+
+    /// How many calls of `put` were made, up to 2^64 - 1.
+    pub fn calls(&self) -> u64
+        ensures { result ≡ self.now.calls.made }
+    {
+        self.calls.made()
+    }
+
+    /// Makes room for `len` bytes in all, and changes no byte.
+    pub fn reserve(&mut self, len: usize) -> Result<(), AllocError>
+        ensures ok { OnOk result (len ≤ self.new.room) }
+        ensures enough { len ≤ self.old.room → IsOk result }
+        ensures room { self.old.room ≤ self.new.room }
+        ensures same { self.new ≡ record self.old { room = self.new.room } }
+    {
+        self.bytes.reserve(len.saturating_sub(self.bytes.len()))
+    }
+}
+
+impl Sink for MemSink {
+    ghost written = { λ s. Some s.written };
+
+    ghost faults = { λ s. s.calls.faults };
+
+    fn put(&mut self, piece: &[u8]) -> Put
+        requires { 0 < length piece.now }
+        ensures rule { PutRule (Some self.old.written) (Some self.new.written) self.old.calls.faults self.new.calls.faults piece.now result }
+        ensures exactly { PutsExactly self.old self.new piece.now result }
+    {
+        if self.calls.next_fails() {
+            return Put::Failed;
+        }
+        let count = self.piece.min(piece.len());
+        match self.bytes.extend_from_slice(&piece[..count]) {
+            Ok(()) => Put::Took(count),
+            Err(_) => {
+                self.calls.add_faults(1);
+                Put::Failed
+            }
+        }
+    }
+}
