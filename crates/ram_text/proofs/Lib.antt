@@ -2,3 +2,4 @@ pub mod Feeds
 pub mod Cuts
 pub mod Fills
 pub mod Answers
+pub mod Puts
