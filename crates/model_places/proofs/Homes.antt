@@ -17,10 +17,10 @@ use Rattle.model_places.proofs.Pools.{Contains-logical_block, logical_block_diff
 
 -- ---- look-ups
 
-Contains-first : (x : ℕ) (xs : List ℕ) → Contains (x ∷ xs) x
+pub Contains-first : {X : Type 0} (x : X) (xs : List X) → Contains (x ∷ xs) x
 Contains-first x xs = (0, omega arith, refl)
 
-Contains-later : (x : ℕ) (xs : List ℕ) (q : ℕ) → Contains xs q → Contains (x ∷ xs) q
+pub Contains-later : {X : Type 0} (x : X) (xs : List X) (q : X) → Contains xs q → Contains (x ∷ xs) q
 Contains-later x xs q (k, within, is) = (suc k, omega arith, is)
 
 Contains-cons_option : (o : Option ℕ) (xs : List ℕ) (q : ℕ) → Contains xs q → Contains (cons_option o xs) q
@@ -48,7 +48,7 @@ Contains-replacement (e ∷ es) b r is =
       (cases_Bool (eqb e.0 b))
 
 -- the first of numbers that differ is not among the others
-first_is_alone : (x : ℕ) (xs : List ℕ) → IsDistinct eqb (x ∷ xs) → ¬ Contains xs x
+pub first_is_alone : (x : ℕ) (xs : List ℕ) → IsDistinct eqb (x ∷ xs) → ¬ Contains xs x
 first_is_alone x xs apart has =
     let others = All-from_recursion (λ y. eqb x y ≡ false) xs (IsDistinct-head eqb x xs apart) in
     true≢false (sym (eq-eqb x x refl) ∙ All-contains (λ y. eqb x y ≡ false) xs x others has)

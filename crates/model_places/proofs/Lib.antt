@@ -1,3 +1,4 @@
 pub mod Listed
 pub mod Pools
 pub mod Homes
+pub mod Entries
