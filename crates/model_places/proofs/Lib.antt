@@ -2,3 +2,4 @@ pub mod Listed
 pub mod Pools
 pub mod Homes
 pub mod Entries
+pub mod Free
