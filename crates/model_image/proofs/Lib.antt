@@ -2,3 +2,4 @@ pub mod Changes
 pub mod Writes
 pub mod CellWrites
 pub mod Presses
+pub mod Headers

@@ -1,7 +1,8 @@
-use Rattle.std.specs.Prelude.{◌≡◌, ℕ, ◌+◌, ◌*◌, ◌/◌, ◌<◌, ◌≤◌, Bool, true, false, IsTrue, List, slice_index, set}
+use Rattle.std.specs.Prelude.{◌≡◌, ℕ, ◌+◌, ◌*◌, ◌/◌, ◌<◌, ◌≤◌, Bool, true, false, IsTrue, Option, None, Some, List, slice_index, set}
 use Rattle.model_counts.specs.Counts.{Rose}
 use Rattle.model_geometry.specs.Geometry.{Shape, formattable, data_blocks}
 use Rattle.model_medium.specs.Cells.{Cell, Good, IsGood, cell_at}
+use Rattle.model_image.specs.Image.{IsImageOf}
 use Rattle.ram_outside.specs.declared.image.Image.{Ghosts}
 use Rattle.ram_image.specs.Medium.{shape_of_medium, world_of}
 use Rattle.ram_run.specs.declared.plain.PlainDisc.{PlainDisc}
@@ -91,3 +92,8 @@ written s lba bytes = record s { cells = set s.cells (home s (lba / 16)) (Good b
 abbrev pub after_write : Plain → ℕ → List ℕ → PlainWrite → Plain
 after_write s lba bytes writes.Good = written s lba bytes
 after_write s lba bytes _ = s
+
+-- the image that a disc leaves tells its bytes, and they are those of the disc
+abbrev pub IsLeftBy : Plain → Option (List ℕ) → Type 0
+IsLeftBy s None = ⊥
+IsLeftBy s (Some bytes) = IsImageOf s.shape s.cells bytes

@@ -1,4 +1,6 @@
 //! Runs a script of commands over a disc image, and reports every answer.
 #![tactic(auto)]
 
+mod held;
 mod plain;
+mod script;

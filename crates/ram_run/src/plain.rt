@@ -1,4 +1,4 @@
-ghost use Rattle.std.specs.Prelude.{◌≡◌, ◌≢◌, ◌*◌, ◌%◌, ◌<◌, ◌^◌};
+ghost use Rattle.std.specs.Prelude.{◌≡◌, ◌≢◌, ◌*◌, ◌<◌, ◌^◌};
 ghost use Rattle.std.proofs.Props.{props};
 ghost use Rattle.model_geometry.specs.Geometry.{formattable, total};
 ghost use Rattle.ram_bytes.specs.declared.block.TheConstants.{SECTORS_PER_BLOCK};
@@ -47,17 +47,21 @@ pub struct PlainDisc<I: Image> {
 
 impl<I: Image> PlainDisc<I> {
     ghost use Rattle.std.specs.Option.{ForSome};
-    ghost use Rattle.ram_run.specs.Plain.{Plain, Holds, capacity, home, powered_on, faults_of, ReadCause, ReadCount, after_read, WriteCause, WriteCount, after_write};
+    ghost use Rattle.ram_run.specs.Plain.{Plain, Holds, IsLeftBy, capacity, home, powered_on, faults_of, ReadCause, ReadCount, after_read, WriteCause, WriteCount, after_write};
 
     /// The plain disc of this geometry on its medium.
     pub fn new(medium: ImageMedium<I>, geometry: Geometry) -> Self
         requires { shape_of_medium medium ≡ geometry }
+        ensures { result.medium ≡ medium }
     {
         PlainDisc { medium, geometry }
     }
 
     /// The image, as the disc leaves it.
-    pub fn into_image(self) -> I {
+    pub fn into_image(self) -> I
+        ensures count { I.faults result ≡ faults_of self }
+        ensures left { (s : Plain) → Holds self s → IsLeftBy s (I.bytes result) }
+    {
         let PlainDisc {
             medium,
             geometry: _,
@@ -67,7 +71,9 @@ impl<I: Image> PlainDisc<I> {
 
     /// Turns the power off and on again, and tells the capacity in sectors.
     pub fn power(&mut self) -> u32
-        ensures { (s : Plain) → Holds self.old s → (result ≡ capacity s) × Holds self.new (powered_on s) }
+        ensures capacity { (s : Plain) → Holds self.old s → result ≡ capacity s }
+        ensures after { (s : Plain) → Holds self.old s → Holds self.new (powered_on s) }
+        ensures count { faults_of self.new ≡ faults_of self.old }
     {
         self.medium.power_off();
         self.medium.power_on();
@@ -110,7 +116,6 @@ impl<I: Image> PlainDisc<I> {
 
     /// Writes the block that begins at a sector.
     pub fn write(&mut self, lba: u32, from: &Block) -> PlainWrite
-        requires { (lba % SECTORS_PER_BLOCK ≡ 0) × (lba < 2 ^ 32) }
         ensures cause { (s : Plain) → Holds self.old s → WriteCause s lba result }
         ensures after { result ≢ PlainWrite.Fault → (s : Plain) → Holds self.old s → Holds self.new (after_write s lba from.now result) }
         ensures count { WriteCount (faults_of self.old) (faults_of self.new) result }
@@ -118,7 +123,7 @@ impl<I: Image> PlainDisc<I> {
         if !self.medium.powered() {
             return PlainWrite::Off;
         }
-        if lba >= self.geometry.formattable() {
+        if u64::from(lba) + SECTORS_PER_BLOCK as u64 > u64::from(self.geometry.formattable()) {
             return PlainWrite::OutOfRange;
         }
         let home = self.home(lba / SECTORS_PER_BLOCK as u32);
