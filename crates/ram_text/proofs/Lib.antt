@@ -3,3 +3,4 @@ pub mod Cuts
 pub mod Fills
 pub mod Answers
 pub mod Puts
+pub mod Prints

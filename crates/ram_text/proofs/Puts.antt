@@ -1,5 +1,5 @@
 -- What is due after one text and another.
-use Rattle.std.proofs.Common.{◌≡◌, ℕ, ◌+◌, ◌-◌, ◌<◌, ◌≤◌, Option, None, Some, is_some, List, ◌++◌, length, take, drop, sym, ap, refl, ◌∙◌, append_assoc, take-add, length-take, length-drop, arith}
+use Rattle.std.proofs.Common.{◌≡◌, ℕ, ◌+◌, ◌-◌, Option, None, Some, is_some, List, ◌++◌, length, take, drop, sym, ap, refl, ◌∙◌, append_assoc, take-add}
 use Rattle.std.proofs.lemmas.List.{take_rest, drop-drop, take-append-drop}
 use Rattle.std.specs.Io.KnownBytes.{append_known, Appends}
 use Rattle.ram_outside.specs.Sink.{Takes}

@@ -2,3 +2,4 @@ pub mod Lines
 pub mod LineReader
 pub mod Steps
 pub mod Writer
+pub mod Report

@@ -3,6 +3,10 @@
 
 pub mod gathered;
 pub mod lines;
+pub mod print;
+pub mod report;
 
 pub use gathered::Print;
 pub use lines::{LINE_LIMIT, LineReader, NextLine, SCRIPT_LIMIT};
+pub use print::{Answer, print_answer, print_end, print_sector};
+pub use report::ReportWriter;
