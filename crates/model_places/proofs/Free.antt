@@ -1,11 +1,11 @@
-use Rattle.std.proofs.Common.{◌≡◌, ℕ, ◌-◌, true, false, ◌||◌, List, length, get_or, ⊎_elim, sym, ap, ◌∙◌, arith}
+use Rattle.std.proofs.Common.{All, not, Bool, ◌≡◌, ℕ, ◌-◌, true, false, ◌||◌, List, length, get_or, ⊎_elim, sym, ap, ◌∙◌, arith}
 use Rattle.std.specs.Prelude.{reverse}
 use Rattle.std.specs.List.{Contains}
 use Rattle.std.proofs.lemmas.Bool.{not-true, or_parts, or_from, not_from_false, false_from_ne_true, true≢false}
 use Rattle.std.proofs.lemmas.List.{length-reverse, get_or-reverse, reverse-reverse}
-use Rattle.std.proofs.lemmas.List.Elements.{Contains-append_cases, Contains-append_left, Contains-append_right}
+use Rattle.std.proofs.lemmas.List.Elements.{All-contains, Contains-append_cases, Contains-append_left, Contains-append_right}
 use Rattle.model_geometry.specs.Geometry.{Shape}
-use Rattle.model_places.specs.Places.{Entries, is_listed, is_free, primary_spares, supplementary_spares, spares, spares_down, free_spares, defectives, replacements}
+use Rattle.model_places.specs.Places.{Entries, is_listed, is_free, primary_spares, supplementary_spares, spares, spares_down, free_spares, usable_spares, defectives, replacements}
 use Rattle.model_places.proofs.Listed.{Decides-is_listed, Contains-filter, Contains-from_filter}
 
 -- a list turned round has the same elements
@@ -61,3 +61,18 @@ Contains-from_free_spares shape pdl ssa entries b has =
     let parts = Contains-from_filter (is_free entries) (spares_down shape pdl ssa) b has in
     let named = unnamed_from_free entries b parts.0 in
     (Contains-from_spares_down shape pdl ssa b parts.1, named.0, named.1)
+
+-- where each listed block is dead, a spare is usable that replaces none and is not dead
+pub Contains-usable_spares : (is_dead : ℕ → Bool) (shape : Shape) (pdl : List ℕ) (ssa : ℕ) (entries : Entries) → All (λ d. is_dead d ≡ true) (defectives entries) → (b : ℕ) → Contains (spares shape pdl ssa) b
+    → ¬ Contains (replacements entries) b → is_dead b ≡ false → Contains (usable_spares is_dead shape pdl ssa entries) b
+Contains-usable_spares is_dead shape pdl ssa entries dead b spare replace alive =
+    let sound : ¬ Contains (defectives entries) b = λ has. true≢false (sym (All-contains (λ d. is_dead d ≡ true) (defectives entries) b dead has) ∙ alive) in
+    Contains-filter (λ x. not (is_dead x)) (free_spares shape pdl ssa entries) b (not_from_false (is_dead b) alive) (Contains-free_spares shape pdl ssa entries b spare sound replace)
+
+-- and no other
+pub Contains-from_usable_spares : (is_dead : ℕ → Bool) (shape : Shape) (pdl : List ℕ) (ssa : ℕ) (entries : Entries) (b : ℕ) → Contains (usable_spares is_dead shape pdl ssa entries) b
+    → Contains (spares shape pdl ssa) b × (¬ Contains (replacements entries) b) × (is_dead b ≡ false)
+Contains-from_usable_spares is_dead shape pdl ssa entries b has =
+    let parts = Contains-from_filter (λ x. not (is_dead x)) (free_spares shape pdl ssa entries) b has in
+    let free = Contains-from_free_spares shape pdl ssa entries b parts.1 in
+    (free.0, free.2, not-true (is_dead b) parts.0)

@@ -4,10 +4,11 @@ use Rattle.std.specs.List.{Contains, IsDistinct, find, cons_option}
 use Rattle.std.proofs.lemmas.Bool.{cases_Bool, eqb-true, eq-eqb, cond-true, cond-false, true≢false}
 use Rattle.std.proofs.lemmas.List.Elements.{All-contains, All-from_recursion}
 use Rattle.std.proofs.lemmas.Map.Keys.{IsDistinct-head, IsDistinct-tail}
-use Rattle.model_geometry.specs.Geometry.{Shape}
+use Rattle.model_geometry.specs.Geometry.{Shape, data_blocks, lead_out, total}
+use Rattle.model_geometry.proofs.DataBlocks.{data_blocks_bounds}
 use Rattle.model_places.specs.Places.{Entries, logical_block, logical_count, spares, replacements, replacement_of, home}
 use Rattle.model_places.specs.Valid.{IsValidPdl, IsValidSdl}
-use Rattle.model_places.proofs.Pools.{Contains-logical_block, logical_block_differs, logical_is_no_spare}
+use Rattle.model_places.proofs.Pools.{unslipped_are_data, logical_is_unslipped, spare_is_unslipped, Contains-logical_block, logical_block_differs, logical_is_no_spare}
 
 -- ---- look-ups
 
@@ -127,3 +128,20 @@ home_differs shape psa pdl ssa entries primary secondary i j within within' same
         let spare = All-contains (Contains (spares shape pdl ssa)) (replacements entries) r secondary.from_spares (Contains-replacement entries b r is) in
         logical_is_no_spare shape psa pdl ssa primary secondary.area r
         (rw (← e) (Contains-logical_block shape psa pdl ssa primary secondary.area k inside)) spare
+
+-- a home is a data block
+pub home_is_data : (shape : Shape) (psa : ℕ) (pdl : List ℕ) (ssa : ℕ) (entries : Entries) → IsValidPdl shape psa pdl → IsValidSdl shape pdl ssa entries
+    → (i : ℕ) → i < logical_count shape ssa → Contains (data_blocks shape) (home shape pdl entries i)
+home_is_data shape psa pdl ssa entries primary secondary i within =
+    unslipped_are_data shape pdl (home shape pdl entries i)
+    (⊎_elim
+    (λ own. rw own (logical_is_unslipped shape psa pdl ssa primary secondary.area i within))
+    (λ spare. spare_is_unslipped shape pdl ssa (home shape pdl entries i) spare.1)
+    (home_cases shape pdl ssa entries secondary i))
+
+-- so it is a block of the disc
+pub home_inside : (shape : Shape) (psa : ℕ) (pdl : List ℕ) (ssa : ℕ) (entries : Entries) → IsValidPdl shape psa pdl → IsValidSdl shape pdl ssa entries
+    → (i : ℕ) → i < logical_count shape ssa → home shape pdl entries i < total shape
+home_inside shape psa pdl ssa entries primary secondary i within =
+    let bounds = All-contains (λ b. (7 < b) × (b < lead_out shape)) (data_blocks shape) (home shape pdl entries i) (data_blocks_bounds shape) (home_is_data shape psa pdl ssa entries primary secondary i within) in
+    omega (arith, bounds.1)

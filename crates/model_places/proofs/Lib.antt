@@ -3,3 +3,4 @@ pub mod Pools
 pub mod Homes
 pub mod Entries
 pub mod Free
+pub mod Slipping

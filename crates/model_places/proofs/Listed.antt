@@ -67,17 +67,20 @@ same_index xs rise n k d within within' same =
     (λ r. absurd (let less = AllPairs-from_increasing xs rise k n d r within in omega arith)))
     (cases_order n k)
 
--- of a rising list that has all the numbers of another, so many are listed there as that has
+-- of a list that has all the numbers of another, a filter keeps just those
+pub listed_in_filter : (xs ys : List ℕ) → All (Contains xs) ys → (q : ℕ) → is_listed (filter (is_listed ys) xs) q ≡ is_listed ys q
+listed_in_filter xs ys all q =
+    is_listed-filter (is_listed ys) xs q
+    ∙ ⊎_elim
+    (λ t. and_from (is_listed ys q) (is_listed xs q) t ((Decides-is_listed xs q).1 (All-contains (Contains xs) ys q all ((Decides-is_listed ys q).0 t))) ∙ sym t)
+    (λ f. and_left (is_listed ys q) (is_listed xs q) f ∙ sym f)
+    (cases_Bool (is_listed ys q))
+
+-- so it keeps as many as the other has
 pub length-filter_listed : (xs ys : List ℕ) → IsDistinct eqb (filter (is_listed ys) xs) → IsDistinct eqb ys → All (Contains xs) ys → length (filter (is_listed ys) xs) ≡ length ys
 length-filter_listed xs ys apart apart' all =
     length-from_same_keys nat_eq_equiv (filter (is_listed ys) xs) ys apart apart'
-    (λ q. is_member_is (filter (is_listed ys) xs) q ∙ is_listed-filter (is_listed ys) xs q ∙ kept q ∙ sym (is_member_is ys q))
-  where
-    kept : (q : ℕ) → (is_listed ys q && is_listed xs q) ≡ is_listed ys q
-    kept q = ⊎_elim
-        (λ t. and_from (is_listed ys q) (is_listed xs q) t ((Decides-is_listed xs q).1 (All-contains (Contains xs) ys q all ((Decides-is_listed ys q).0 t))) ∙ sym t)
-        (λ f. and_left (is_listed ys q) (is_listed xs q) f ∙ sym f)
-        (cases_Bool (is_listed ys q))
+    (λ q. is_member_is (filter (is_listed ys) xs) q ∙ listed_in_filter xs ys all q ∙ sym (is_member_is ys q))
 
 -- ---- places in the front and in the rest of a list
 

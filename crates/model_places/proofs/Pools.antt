@@ -113,3 +113,17 @@ spare_or_logical shape psa pdl ssa valid area b has =
     (λ l. ⊎_elim (λ p. inl (Contains-append_left first last b p)) (λ m. inr m) (Contains-append_cases first middle b l))
     (λ r. inl (Contains-append_right first last b r))
     (Contains-append_cases (first ++ middle) last b split)
+
+-- spares and logical blocks are blocks that are not slipped
+pub spare_is_unslipped : (shape : Shape) (pdl : List ℕ) (ssa b : ℕ) → Contains (spares shape pdl ssa) b → Contains (unslipped shape pdl) b
+spare_is_unslipped shape pdl ssa b has =
+    let u = unslipped shape pdl in
+    ⊎_elim
+    (λ l. let s = StandsWithin-take u (primary_count shape pdl) b l in (s.place, s.inside, s.is))
+    (λ r. let s = StandsWithin-drop u (length u - ssa) b r in (s.place, s.inside, s.is))
+    (Contains-append_cases (primary_spares shape pdl) (supplementary_spares shape pdl ssa) b has)
+
+pub logical_is_unslipped : (shape : Shape) (psa : ℕ) (pdl : List ℕ) (ssa : ℕ) → IsValidPdl shape psa pdl → IsValidSsa shape ssa → (i : ℕ) → i < logical_count shape ssa → Contains (unslipped shape pdl) (logical_block shape pdl i)
+logical_is_unslipped shape psa pdl ssa valid area i within =
+    let all = pools_are_all shape psa pdl ssa valid area in
+    Contains-get_or (unslipped shape pdl) (primary_count shape pdl + i) 0 (omega arith)
