@@ -2,3 +2,5 @@ pub mod Spelled
 pub mod Numbers
 pub mod DdsTexts
 pub mod SdlTexts
+pub mod Reading
+pub mod Writing

@@ -1,12 +1,13 @@
 -- Each secondary defect list has just one text, and each block is the text of at most one.
-use Rattle.std.proofs.Common.{◌≡◌, ℕ, ◌+◌, ◌-◌, ◌*◌, ◌<◌, ◌≤◌, ◌^◌, Option, IfSome, List, [], ◌∷◌, ◌++◌, length, get_or, take, drop, All, refl, sym, ◌∙◌, ap, ap₂, subst, arith, length-append, length-drop}
+use Rattle.std.proofs.Common.{◌≡◌, ℕ, ◌+◌, ◌-◌, ◌*◌, ◌<◌, ◌≤◌, ◌^◌, Option, IfSome, List, [], ◌∷◌, ◌++◌, length, get_or, take, drop, replicate, All, refl, sym, ◌∙◌, ap, ap₂, subst, arith, length-append, length-drop}
 use Rattle.std.specs.List.{flat_map}
 use Rattle.std.proofs.lemmas.List.{take-append-drop, take_at, drop_at, drop-drop}
+use Rattle.model_bytes.proofs.Laws.{written_whole}
 use Rattle.byteorder.specs.Endian.{big_bytes}
 use Rattle.model_lists.specs.declared.sdl.SdlEntry.{SdlEntry}
 use Rattle.model_lists.specs.Values.{Sdl, IsLawfulSdl, IsLawfulList, IsWithinSdlLimits, IsBlockNumber}
 use Rattle.model_lists.specs.Texts.{bytes_at, zeros, sdl_entry_bytes, Spells, IsSdlFront, IsSdlText}
-use Rattle.model_lists.proofs.Spelled.{agree_more, length-zeros, length-spelled, same_entries}
+use Rattle.model_lists.proofs.Spelled.{agree_more, replicated_zeros, length-zeros, length-spelled, same_entries}
 use Rattle.model_lists.proofs.Numbers.{big_bytes-injective, HasNumbers, sdl_entry_bytes-injective, length-sdl_entry_bytes}
 
 fronts_agree : (c d s n : ℕ) (x y : List ℕ) → IsSdlFront c d s n x → IsSdlFront c d s n y → take 32 x ≡ take 32 y
@@ -107,3 +108,32 @@ has_text value lawful =
     let long : length list ≡ 32736 =
         omega (arith, length-append (flat_map sdl_entry_bytes value.entries) (zeros (32736 - 8 * count)), length-spelled sdl_entry_bytes 8 length-sdl_entry_bytes value.entries, length-zeros (32736 - 8 * count)) in
     (sdl_begin value.counter value.dds_counter value.ssa count ++ (zeros 16 ++ list), text_spelled value (zeros 16) list lawful refl long (ap (λ (k : ℕ). flat_map sdl_entry_bytes value.entries ++ zeros (k - 8 * count)) (sym long)))
+
+-- the parts, written over a whole block, are the text
+pub text_written : (value : Sdl) (held begin gap list : List ℕ) → IsLawfulSdl value → length held ≡ 32768 → begin ≡ sdl_begin value.counter value.dds_counter value.ssa (length value.entries) → (n : ℕ) → n ≡ 16 → gap ≡ replicate n 0 → length list ≡ 32736 → Spells sdl_entry_bytes 8 value.entries list
+    → IsSdlText value (take (length held) ((begin ++ (gap ++ list)) ++ drop (length (begin ++ (gap ++ list))) held))
+text_written value held begin gap list lawful long begin_is n n_is gap_is list_long spells =
+    let zero : gap ≡ zeros 16 = replicated_zeros n 16 gap n_is gap_is in
+    let parts : begin ++ (gap ++ list) ≡ sdl_begin value.counter value.dds_counter value.ssa (length value.entries) ++ (gap ++ list) =
+        ap (λ (u : List ℕ). u ++ (gap ++ list)) begin_is in
+    let P : List ℕ → Type 0 = IsSdlText value in
+    let text : IsSdlText value (begin ++ (gap ++ list)) = subst P (sym parts) (text_spelled value gap list lawful zero list_long spells) in
+    subst P (sym (written_whole (begin ++ (gap ++ list)) held (text.whole ∙ sym long))) text
+
+-- where no list has the bytes after the front, the block is no text
+pub no_text : (c d s n : ℕ) (block : List ℕ) → IsWithinSdlLimits s n → IsSdlFront c d s n block → ((entries : List SdlEntry) → length entries ≡ n → IsLawfulList entries → Spells sdl_entry_bytes 8 entries (drop 32 block) → ⊥) → (value : Sdl) → IsSdlText value block → ⊥
+no_text c d s n block limits front none value text =
+    let value_limits = text.lawful.limits in
+    none value.entries (front_count value.counter c value.dds_counter d value.ssa s (length value.entries) n block (omega arith) (omega arith) text.front front) text.lawful.list text.list
+
+-- the front and the list that were read make the value whose text the block is
+pub text_read : (value : Sdl) (n : ℕ) (block : List ℕ) → value.counter < 2 ^ 32 → value.dds_counter < 2 ^ 32 → length block ≡ 32768 → IsWithinSdlLimits value.ssa n → IsSdlFront value.counter value.dds_counter value.ssa n block → length value.entries ≡ n → IsLawfulList value.entries → Spells sdl_entry_bytes 8 value.entries (drop 32 block) → IsSdlText value block
+text_read value n block counted dds_counted whole limits front long lawful spells =
+    let L : ℕ → Type 0 = IsWithinSdlLimits value.ssa in
+    let F : ℕ → Type 0 = λ k. IsSdlFront value.counter value.dds_counter value.ssa k block in
+    record {
+      lawful = record { counted = counted; dds_counted = dds_counted; limits = subst L (sym long) limits; list = lawful };
+      whole = whole;
+      front = subst F (sym long) front;
+      list = spells;
+    }
