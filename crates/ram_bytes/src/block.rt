@@ -1,5 +1,7 @@
 ghost use Rattle.std.specs.Prelude.{◌≡◌, ℕ, ◌+◌, ◌*◌, ◌<◌, ◌≤◌, ◌↔◌, List, length, take, drop, replicate, IfOk, IsTrue, ◌++◌};
+ghost use Rattle.std.specs.Borrow.{sem};
 ghost use Rattle.model_bytes.specs.Bytes.{put_at};
+ghost use Rattle.ram_bytes.specs.Lending.{LendsBytes};
 ghost use Rattle.ram_bytes.specs.declared.block.TheConstants.{BLOCK_BYTES, SECTOR_BYTES, SECTORS_PER_BLOCK};
 
 use std::alloc::{AllocError, Global};
@@ -46,6 +48,16 @@ impl Block {
         ensures len { length result.now ≡ BLOCK_BYTES }
     {
         self.bytes.as_slice()
+    }
+
+    /// All bytes of the block, to be written. The block is then the first 32,768 bytes of what was written,
+    /// followed by what it held.
+    pub fn bytes_mut(&mut self) -> &mut [u8]
+        ensures* writes_back { sem 𝓛 (LendsBytes self.entry result) }
+        ensures same { result.now ≡ self.old }
+        ensures len { length result.now ≡ BLOCK_BYTES }
+    {
+        self.bytes.as_mut_slice()
     }
 
     /// The bytes of sector `k` of the block.

@@ -1,4 +1,4 @@
-ghost use Rattle.std.specs.Prelude.{◌≡◌, ◌+◌, ◌<◌, ◌≤◌, ◌^◌, ◌++◌, length, take, drop};
+ghost use Rattle.std.specs.Prelude.{◌≡◌, ◌+◌, ◌<◌, ◌≤◌, ◌^◌, ◌++◌, ◌↔◌, IsTrue, length, take, drop, replicate};
 ghost use Rattle.byteorder.specs.Endian.{big_number, big_bytes};
 ghost use Rattle.model_bytes.specs.Bytes.{put_at};
 
@@ -51,4 +51,11 @@ pub fn put_u32(bytes: &mut [u8], at: usize, value: u32)
     ensures { bytes.new ≡ put_at at (big_bytes 4 value) bytes.old }
 {
     BigEndian::write_u32(&mut bytes[at..], value);
+}
+
+/// Whether each byte is zero.
+pub fn is_zero(bytes: &[u8]) -> bool
+    ensures { IsTrue result ↔ (bytes.now ≡ replicate (length bytes.now) 0) }
+{
+    bytes.iter().all(|byte| *byte == 0)
 }

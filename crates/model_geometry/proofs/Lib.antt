@@ -1,0 +1,4 @@
+pub mod Ranges
+pub mod Zones
+pub mod DataBlocks
+pub mod ListBlocks

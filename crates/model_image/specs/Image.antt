@@ -1,0 +1,41 @@
+use Rattle.std.specs.Prelude.{◌≡◌, ℕ, ◌⊎◌, List, [], ◌∷◌, ◌++◌, codes, length, take, replicate}
+use Rattle.byteorder.specs.Endian.{big_bytes}
+use Rattle.model_geometry.specs.Geometry.{Shape, IsLawful, total}
+use Rattle.model_medium.specs.Cells.{Cell, Blank}
+use Rattle.model_image.specs.Cells.{image_len, cells_of}
+
+-- The header of an image: a text, and the three numbers of its geometry in two bytes each. (This project's own.)
+abbrev pub header_of : Shape → List ℕ
+header_of shape = codes "DVDRAM01" ++ big_bytes 2 shape.zones ++ big_bytes 2 shape.scale ++ big_bytes 2 shape.psa ++ 0 ∷ 0 ∷ []
+
+-- The bytes begin with the header of a lawful geometry. (This project's own.)
+pub record HasHeader (shape : Shape) (bytes : List ℕ) : Type 0 where
+  pub lawful : IsLawful shape
+  pub header : take 16 bytes ≡ header_of shape
+
+-- The bytes are the image of a disc of this geometry: its header, and as many bytes as go with it. (This project's own.)
+pub record IsDiscImage (shape : Shape) (bytes : List ℕ) : Type 0 where
+  pub has_header : HasHeader shape bytes
+  pub as_long : length bytes ≡ image_len (total shape)
+
+-- The bytes are the image of a disc of this geometry whose cells are these. (This project's own.)
+pub record IsImageOf (shape : Shape) (cells : List Cell) (bytes : List ℕ) : Type 0 where
+  pub disc : IsDiscImage shape bytes
+  pub cells_are : cells_of (total shape) bytes ≡ cells
+
+-- the cells of a disc that was pressed, all blank
+abbrev pub blank_cells : Shape → List Cell
+blank_cells shape = replicate (total shape) Blank
+
+-- If the bytes are a disc image, all its cells are blank. (This project's own.)
+abbrev pub IsBlankIfDisc : List ℕ → Type 0
+IsBlankIfDisc bytes = (shape : Shape) → IsDiscImage shape bytes → cells_of (total shape) bytes ≡ blank_cells shape
+
+-- A press was stopped: the image is as before, or has blank cells alone where it is a disc image at all. (This
+-- project's own.)
+abbrev pub IsStoppedPress : List ℕ → List ℕ → Type 0
+IsStoppedPress before after = (after ≡ before) ⊎ IsBlankIfDisc after
+
+-- A press of this geometry: all cells are blank. (This project's own.)
+abbrev pub IsPressed : Shape → List ℕ → List ℕ → Type 0
+IsPressed shape before after = IsImageOf shape (blank_cells shape) after

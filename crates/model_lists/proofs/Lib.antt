@@ -1,0 +1,4 @@
+pub mod Spelled
+pub mod Numbers
+pub mod DdsTexts
+pub mod SdlTexts

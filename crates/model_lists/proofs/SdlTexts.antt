@@ -1,0 +1,109 @@
+-- Each secondary defect list has just one text, and each block is the text of at most one.
+use Rattle.std.proofs.Common.{◌≡◌, ℕ, ◌+◌, ◌-◌, ◌*◌, ◌<◌, ◌≤◌, ◌^◌, Option, IfSome, List, [], ◌∷◌, ◌++◌, length, get_or, take, drop, All, refl, sym, ◌∙◌, ap, ap₂, subst, arith, length-append, length-drop}
+use Rattle.std.specs.List.{flat_map}
+use Rattle.std.proofs.lemmas.List.{take-append-drop, take_at, drop_at, drop-drop}
+use Rattle.byteorder.specs.Endian.{big_bytes}
+use Rattle.model_lists.specs.declared.sdl.SdlEntry.{SdlEntry}
+use Rattle.model_lists.specs.Values.{Sdl, IsLawfulSdl, IsLawfulList, IsWithinSdlLimits, IsBlockNumber}
+use Rattle.model_lists.specs.Texts.{bytes_at, zeros, sdl_entry_bytes, Spells, IsSdlFront, IsSdlText}
+use Rattle.model_lists.proofs.Spelled.{agree_more, length-zeros, length-spelled, same_entries}
+use Rattle.model_lists.proofs.Numbers.{big_bytes-injective, HasNumbers, sdl_entry_bytes-injective, length-sdl_entry_bytes}
+
+fronts_agree : (c d s n : ℕ) (x y : List ℕ) → IsSdlFront c d s n x → IsSdlFront c d s n y → take 32 x ≡ take 32 y
+fronts_agree c d s n x y of_x of_y =
+    let begin : take 4 x ≡ take 4 y = of_x.begins ∙ sym of_y.begins in
+    let counted : take 8 x ≡ take 8 y = agree_more 4 4 x y begin (of_x.counted ∙ sym of_y.counted) in
+    let dds_counted : take 12 x ≡ take 12 y = agree_more 8 4 x y counted (of_x.dds_counted ∙ sym of_y.dds_counted) in
+    let spares : take 14 x ≡ take 14 y = agree_more 12 2 x y dds_counted (of_x.spares ∙ sym of_y.spares) in
+    let list_counted : take 16 x ≡ take 16 y = agree_more 14 2 x y spares (of_x.list_counted ∙ sym of_y.list_counted) in
+    agree_more 16 16 x y list_counted (of_x.gap ∙ sym of_y.gap)
+
+-- a value has at most one text
+pub one_text : (value : Sdl) (x y : List ℕ) → IsSdlText value x → IsSdlText value y → x ≡ y
+one_text value x y of_x of_y =
+    let long : length (drop 32 x) ≡ length (drop 32 y) = omega (arith, length-drop 32 x, length-drop 32 y, of_x.whole, of_y.whole) in
+    let lists : drop 32 x ≡ drop 32 y =
+        of_x.list ∙ ap (λ (k : ℕ). flat_map sdl_entry_bytes value.entries ++ zeros (k - 8 * length value.entries)) long ∙ sym of_y.list in
+    let fronts = fronts_agree value.counter value.dds_counter value.ssa (length value.entries) x y of_x.front of_y.front in
+    sym (take-append-drop 32 x) ∙ ap₂ (λ (u v : List ℕ). u ++ v) fronts lists ∙ take-append-drop 32 y
+
+-- the fields that two values must share
+record SameFields (v w : Sdl) : Type 0 where
+  counters : v.counter ≡ w.counter
+  dds_counters : v.dds_counter ≡ w.dds_counter
+  ssas : v.ssa ≡ w.ssa
+  lists : v.entries ≡ w.entries
+
+same_value : (v w : Sdl) → SameFields v w → v ≡ w
+same_value v w same =
+    let make : ℕ → ℕ → ℕ → List SdlEntry → Sdl = λ c d s e. record { counter = c; dds_counter = d; ssa = s; entries = e } in
+    ap (λ (c : ℕ). make c v.dds_counter v.ssa v.entries) same.counters
+    ∙ ap (λ (d : ℕ). make w.counter d v.ssa v.entries) same.dds_counters
+    ∙ ap (λ (s : ℕ). make w.counter w.dds_counter s v.entries) same.ssas
+    ∙ ap (λ (e : List SdlEntry). make w.counter w.dds_counter w.ssa e) same.lists
+
+-- the number of entries that the front tells
+pub front_count : (c c' d d' s s' n n' : ℕ) (x : List ℕ) → n < 256 ^ 2 → n' < 256 ^ 2 → IsSdlFront c d s n x → IsSdlFront c' d' s' n' x → n ≡ n'
+front_count c c' d d' s s' n n' x small small' of_v of_w =
+    big_bytes-injective 2 n n' small small' (sym of_v.list_counted ∙ of_w.list_counted)
+
+-- the numbers of all entries fit
+pub all_numbers : (entries : List SdlEntry) → IsLawfulList entries → All HasNumbers entries
+all_numbers entries lawful =
+    λ k d below. record { defective_fits = lawful.numbers k d below; replacement_fits = lawful.replaced_by k d below }
+
+-- a block is the text of at most one value
+pub one_value : (v w : Sdl) (x : List ℕ) → IsSdlText v x → IsSdlText w x → v ≡ w
+one_value v w x of_v of_w =
+    let lv = of_v.lawful.limits in
+    let lw = of_w.lawful.limits in
+    let long : length v.entries ≡ length w.entries =
+        front_count v.counter w.counter v.dds_counter w.dds_counter v.ssa w.ssa (length v.entries) (length w.entries) x (omega arith) (omega arith) of_v.front of_w.front in
+    same_value v w record {
+      counters = big_bytes-injective 4 v.counter w.counter (omega (arith, of_v.lawful.counted)) (omega (arith, of_w.lawful.counted)) (sym of_v.front.counted ∙ of_w.front.counted);
+      dds_counters = big_bytes-injective 4 v.dds_counter w.dds_counter (omega (arith, of_v.lawful.dds_counted)) (omega (arith, of_w.lawful.dds_counted)) (sym of_v.front.dds_counted ∙ of_w.front.dds_counted);
+      ssas = big_bytes-injective 2 v.ssa w.ssa (omega arith) (omega arith) (sym of_v.front.spares ∙ of_w.front.spares);
+      lists = same_entries sdl_entry_bytes 8 length-sdl_entry_bytes HasNumbers sdl_entry_bytes-injective v.entries w.entries (zeros (length (drop 32 x) - 8 * length v.entries)) (zeros (length (drop 32 x) - 8 * length w.entries)) long (all_numbers v.entries of_v.lawful.list) (all_numbers w.entries of_w.lawful.list) (sym of_v.list ∙ of_w.list);
+    }
+
+-- the first sixteen bytes
+abbrev pub sdl_begin : ℕ → ℕ → ℕ → ℕ → List ℕ
+sdl_begin c d s n = 0 ∷ 2 ∷ 1 ∷ 0 ∷ (big_bytes 4 c ++ (big_bytes 4 d ++ (big_bytes 2 s ++ big_bytes 2 n)))
+
+-- the bytes of a front, written one after another
+pub front_spelled : (c d s n : ℕ) (gap rest : List ℕ) → gap ≡ zeros 16 → IsSdlFront c d s n (sdl_begin c d s n ++ (gap ++ rest))
+front_spelled c d s n gap rest zero =
+    let long : length gap ≡ 16 = ap length zero ∙ length-zeros 16 in
+    record {
+      begins = refl;
+      counted = refl;
+      dds_counted = refl;
+      spares = refl;
+      list_counted = refl;
+      gap = ap (take 16) (drop_at (sdl_begin c d s n) (gap ++ rest) 16 refl) ∙ take_at gap rest 16 long ∙ zero;
+    }
+
+-- a lawful value's parts, one after another, are its text
+pub text_spelled : (value : Sdl) (gap list : List ℕ) → IsLawfulSdl value → gap ≡ zeros 16 → length list ≡ 32736 → Spells sdl_entry_bytes 8 value.entries list → IsSdlText value (sdl_begin value.counter value.dds_counter value.ssa (length value.entries) ++ (gap ++ list))
+text_spelled value gap list lawful zero long spells =
+    let long_gap : length gap ≡ 16 = ap length zero ∙ length-zeros 16 in
+    let begin = sdl_begin value.counter value.dds_counter value.ssa (length value.entries) in
+    let end : drop 32 (begin ++ (gap ++ list)) ≡ list =
+        sym (drop-drop 16 16 (begin ++ (gap ++ list))) ∙ ap (drop 16) (drop_at begin (gap ++ list) 16 refl) ∙ drop_at gap list 16 long_gap in
+    record {
+      lawful = lawful;
+      whole = omega (arith, length-append begin (gap ++ list), length-append gap list, long_gap, long);
+      front = front_spelled value.counter value.dds_counter value.ssa (length value.entries) gap list zero;
+      list = let P : List ℕ → Type 0 = Spells sdl_entry_bytes 8 value.entries in subst P (sym end) spells;
+    }
+
+-- a lawful value has a text
+pub has_text : (value : Sdl) → IsLawfulSdl value → (block : List ℕ) × IsSdlText value block
+has_text value lawful =
+    let count = length value.entries in
+    let limits = lawful.limits in
+    let room : 8 * count ≤ 32736 = omega arith in
+    let list = flat_map sdl_entry_bytes value.entries ++ zeros (32736 - 8 * count) in
+    let long : length list ≡ 32736 =
+        omega (arith, length-append (flat_map sdl_entry_bytes value.entries) (zeros (32736 - 8 * count)), length-spelled sdl_entry_bytes 8 length-sdl_entry_bytes value.entries, length-zeros (32736 - 8 * count)) in
+    (sdl_begin value.counter value.dds_counter value.ssa count ++ (zeros 16 ++ list), text_spelled value (zeros 16) list lawful refl long (ap (λ (k : ℕ). flat_map sdl_entry_bytes value.entries ++ zeros (k - 8 * count)) (sym long)))

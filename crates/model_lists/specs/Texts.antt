@@ -1,0 +1,81 @@
+use Rattle.std.specs.Prelude.{◌≡◌, ℕ, ◌-◌, ◌*◌, Option, Some, None, List, [], ◌∷◌, ◌++◌, length, take, drop, replicate}
+use Rattle.std.specs.List.{flat_map}
+use Rattle.byteorder.specs.Endian.{big_bytes}
+use Rattle.model_lists.specs.declared.dds.DdsState.{DdsState}
+use Rattle.model_lists.specs.declared.dds.DdsState.TheVariants.{Formatting, Formatted}
+use Rattle.model_lists.specs.declared.dds.PdlKind.{PdlKind}
+use Rattle.model_lists.specs.declared.dds.PdlKind.TheVariants.{P, G1, G2}
+use Rattle.model_lists.specs.declared.dds.PdlEntry.{PdlEntry}
+use Rattle.model_lists.specs.declared.sdl.SdlEntry.{SdlEntry}
+use Rattle.model_lists.specs.Values.{Dds, Sdl, IsLawfulDds, IsLawfulSdl}
+
+-- the n bytes from `at` on
+abbrev pub bytes_at : ℕ → ℕ → List ℕ → List ℕ
+bytes_at at n block = take n (drop at block)
+
+-- n zeros
+unfoldable pub zeros : ℕ → List ℕ
+zeros n = replicate n 0
+
+-- the byte of a state
+abbrev pub state_byte : DdsState → ℕ
+state_byte Formatting = 0
+state_byte Formatted = 128
+
+-- the byte of a kind
+abbrev pub kind_byte : PdlKind → ℕ
+kind_byte P = 0
+kind_byte G1 = 1
+kind_byte G2 = 2
+
+-- The four bytes of an entry of the primary defect list: its kind, and its block. (This project's own, after ECMA-330.)
+abbrev pub pdl_entry_bytes : PdlEntry → List ℕ
+pdl_entry_bytes entry = kind_byte entry.kind ∷ big_bytes 3 entry.block
+
+-- the eight bytes of an entry of the secondary defect list, by its replacement
+abbrev pub replaced_bytes : ℕ → Option ℕ → List ℕ
+replaced_bytes defective (Some replacement) = 0 ∷ big_bytes 3 defective ++ 0 ∷ big_bytes 3 replacement
+replaced_bytes defective None = 1 ∷ big_bytes 3 defective ++ 0 ∷ 0 ∷ 0 ∷ 0 ∷ []
+
+-- The eight bytes of an entry of the secondary defect list: 0 for a pair and 1 for a retired spare, the defective
+-- block, 0, and the replacement or zeros. (This project's own, after ECMA-330.)
+abbrev pub sdl_entry_bytes : SdlEntry → List ℕ
+sdl_entry_bytes entry = replaced_bytes entry.defective entry.replacement
+
+-- The bytes before the entries of a disc definition structure: 0Ah 0Ah, version 01h, state, counter and size of the
+-- primary spare area, zeros, and from 2,048 on 00h 01h and the number of entries. (This project's own, after ECMA-330.)
+pub record IsDdsFront (state : DdsState) (counter psa count : ℕ) (block : List ℕ) : Type 0 where
+  pub begins : bytes_at 0 4 block ≡ 10 ∷ 10 ∷ 1 ∷ state_byte state ∷ []
+  pub counted : bytes_at 4 4 block ≡ big_bytes 4 counter
+  pub spares : bytes_at 8 2 block ≡ big_bytes 2 psa
+  pub gap : bytes_at 10 2038 block ≡ zeros 2038
+  pub list_begins : bytes_at 2048 2 block ≡ 0 ∷ 1 ∷ []
+  pub list_counted : bytes_at 2050 2 block ≡ big_bytes 2 count
+
+-- The bytes before the entries of a secondary defect list: 00h 02h, version 01h, 00h, both counters, the size of the
+-- supplementary spare area, the number of entries, and zeros. (This project's own, after ECMA-330.)
+pub record IsSdlFront (counter dds_counter ssa count : ℕ) (block : List ℕ) : Type 0 where
+  pub begins : bytes_at 0 4 block ≡ 0 ∷ 2 ∷ 1 ∷ 0 ∷ []
+  pub counted : bytes_at 4 4 block ≡ big_bytes 4 counter
+  pub dds_counted : bytes_at 8 4 block ≡ big_bytes 4 dds_counter
+  pub spares : bytes_at 12 2 block ≡ big_bytes 2 ssa
+  pub list_counted : bytes_at 14 2 block ≡ big_bytes 2 count
+  pub gap : bytes_at 16 16 block ≡ zeros 16
+
+-- the bytes are those of the entries, of n bytes each, one after another, and then zeros
+abbrev pub Spells : {X : Type 0} → (X → List ℕ) → ℕ → List X → List ℕ → Type 0
+Spells bytes_of n entries bytes = bytes ≡ flat_map bytes_of entries ++ zeros (length bytes - n * length entries)
+
+-- The block is the text of this disc definition structure. (This project's own, after ECMA-330.)
+pub record IsDdsText (value : Dds) (block : List ℕ) : Type 0 where
+  pub lawful : IsLawfulDds value
+  pub whole : length block ≡ 32768
+  pub front : IsDdsFront value.state value.counter value.psa (length value.entries) block
+  pub list : Spells pdl_entry_bytes 4 value.entries (drop 2052 block)
+
+-- The block is the text of this secondary defect list. (This project's own, after ECMA-330.)
+pub record IsSdlText (value : Sdl) (block : List ℕ) : Type 0 where
+  pub lawful : IsLawfulSdl value
+  pub whole : length block ≡ 32768
+  pub front : IsSdlFront value.counter value.dds_counter value.ssa (length value.entries) block
+  pub list : Spells sdl_entry_bytes 8 value.entries (drop 32 block)

@@ -1,0 +1,85 @@
+use Rattle.std.specs.Prelude.{◌≡◌, ℕ, ◌<◌, ◌≤◌, ◌^◌, ◌++◌, Option, Some, None, IfSome, List, ◌∷◌, length, map, filter, nat_lt, All, Contains}
+use Rattle.std.specs.List.Sorted.{IsStrictlyIncreasing}
+use Rattle.model_lists.specs.declared.dds.TheConstants.{PSA_LIMIT}
+use Rattle.model_lists.specs.declared.sdl.TheConstants.{SDL_LIMIT, SSA_LIMIT}
+use Rattle.model_lists.specs.declared.dds.DdsState.{DdsState}
+use Rattle.model_lists.specs.declared.dds.DdsState.TheVariants.{Formatting, Formatted}
+use Rattle.model_lists.specs.declared.dds.PdlEntry.{PdlEntry}
+use Rattle.model_lists.specs.declared.sdl.SdlEntry.{SdlEntry}
+
+-- What a disc definition structure says, with its primary defect list. (After ECMA-330.)
+pub record Dds : Type 0 where
+  pub counter : ℕ
+  pub state : DdsState
+  pub psa : ℕ
+  pub entries : List PdlEntry
+
+-- What a secondary defect list says. (After ECMA-330.)
+pub record Sdl : Type 0 where
+  pub counter : ℕ
+  pub dds_counter : ℕ
+  pub ssa : ℕ
+  pub entries : List SdlEntry
+
+-- the blocks that a primary defect list names, in its order
+abbrev pub pdl_blocks : List PdlEntry → List ℕ
+pdl_blocks entries = map (λ (entry : PdlEntry). entry.block) entries
+
+-- the defective blocks that a secondary defect list names, in its order
+abbrev pub defectives : List SdlEntry → List ℕ
+defectives entries = map (λ (entry : SdlEntry). entry.defective) entries
+
+-- a block number of 24 bits
+abbrev pub IsBlockNumber : ℕ → Type 0
+IsBlockNumber block = block < 2 ^ 24
+
+-- The entries of a primary defect list rise. (After ECMA-330.)
+pub record IsLawfulPdl (entries : List PdlEntry) : Type 0 where
+  pub rise : IsStrictlyIncreasing (pdl_blocks entries)
+  pub numbers : All (λ (entry : PdlEntry). IsBlockNumber entry.block) entries
+
+-- The entries of a secondary defect list rise by their defective blocks. (After ECMA-330.)
+pub record IsLawfulList (entries : List SdlEntry) : Type 0 where
+  pub rise : IsStrictlyIncreasing (defectives entries)
+  pub numbers : All (λ (entry : SdlEntry). IsBlockNumber entry.defective) entries
+  pub replaced_by : All (λ (entry : SdlEntry). IfSome entry.replacement IsBlockNumber) entries
+
+-- a disc whose format has not ended has no primary defect list
+abbrev pub FitsState : DdsState → ℕ → Type 0
+FitsState Formatting count = count ≡ 0
+FitsState Formatted count = Unit {0}
+
+-- the limits of a disc definition structure whose list has so many entries
+pub record IsWithinDdsLimits (state : DdsState) (psa count : ℕ) : Type 0 where
+  pub some : 1 ≤ psa
+  pub most : psa ≤ PSA_LIMIT
+  pub few : count ≤ psa
+  pub fits : FitsState state count
+
+-- the limits of a secondary defect list that has so many entries
+pub record IsWithinSdlLimits (ssa count : ℕ) : Type 0 where
+  pub most : ssa ≤ SSA_LIMIT
+  pub few : count ≤ SDL_LIMIT
+
+-- The value is one that a disc definition structure may have. (After ECMA-330; the limits are this project's own.)
+pub record IsLawfulDds (value : Dds) : Type 0 where
+  pub counted : value.counter < 2 ^ 32
+  pub limits : IsWithinDdsLimits value.state value.psa (length value.entries)
+  pub list : IsLawfulPdl value.entries
+
+-- The value is one that a secondary defect list may have. (After ECMA-330; the limits are this project's own.)
+pub record IsLawfulSdl (value : Sdl) : Type 0 where
+  pub counted : value.counter < 2 ^ 32
+  pub dds_counted : value.dds_counter < 2 ^ 32
+  pub limits : IsWithinSdlLimits value.ssa (length value.entries)
+  pub list : IsLawfulList value.entries
+
+-- What the list has for this defective block: no entry names it, or this one does. (This project's own.)
+abbrev pub IsEntryOf : List SdlEntry → ℕ → Option SdlEntry → Type 0
+IsEntryOf entries block None = All (λ (entry : SdlEntry). entry.defective ≡ block → ⊥) entries
+IsEntryOf entries block (Some found) = (found.defective ≡ block) × Contains entries found
+
+-- The list with this entry in its place, and no other of its defective block: those of lower blocks, this one, those
+-- of higher blocks. (This project's own.)
+abbrev pub with_entry : SdlEntry → List SdlEntry → List SdlEntry
+with_entry new entries = filter (λ (entry : SdlEntry). nat_lt entry.defective new.defective) entries ++ new ∷ filter (λ (entry : SdlEntry). nat_lt new.defective entry.defective) entries

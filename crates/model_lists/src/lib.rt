@@ -1,0 +1,10 @@
+//! The values of the two defect lists of a disc, their limits, and the text of each: the block that spells it.
+//! Definitions, and their laws.
+#![tactic(auto)]
+
+mod dds;
+pub mod laws;
+mod sdl;
+
+pub use dds::{DdsState, PSA_LIMIT, PdlEntry, PdlKind};
+pub use sdl::{SDL_LIMIT, SSA_LIMIT, SdlEntry};

@@ -1,0 +1,5 @@
+pub mod Listed
+pub mod Pools
+pub mod Homes
+pub mod Entries
+pub mod Free

@@ -1,0 +1,3 @@
+pub mod BlockReads
+pub mod CellSteps
+pub mod TellsCells

@@ -1,0 +1,38 @@
+use Rattle.std.proofs.Common.{◌≡◌, ◌∙◌, ap, sym, length, arith, subst, Option, Some, List, ℕ, ◌+◌, ◌≤◌}
+use Rattle.model_image.proofs.CellWrites.{told-stopped_first, told-stopped_second, told-second_long}
+use Rattle.ram_image.proofs.CellSteps.{last_write}
+use Rattle.ram_image.proofs.cells.write_cell.Goals as goal
+
+pub returns-in-Failed : goal.returns-in-Failed
+returns-in-Failed g c = (
+  told-stopped_first c.args.total c.args.block c.requires.inside (g.I.Image.bytes c.args.image.now) c.args.from.now c.requires.whole
+      (ap length (sym c.bytes-bytes.ensures.same) ∙ c.bytes-bytes.ensures.len) (g.I.Image.bytes c.write_at.new.self)
+      (rw c.state_place.ensures at c.in-Failed.ensures.1),
+  c.in-Failed.ensures.0,
+)
+
+pub returns-in-Failed-write_at : goal.returns-in-Failed-write_at
+returns-in-Failed-write_at g c = (
+  told-stopped_second c.args.total c.args.block c.requires.inside (g.I.Image.bytes c.args.image.now) c.args.from.now c.requires.whole
+      (ap length (sym c.bytes-bytes.ensures.same) ∙ c.bytes-bytes.ensures.len) (g.I.Image.bytes c.write_at.new.self) (g.I.Image.bytes c.write_at-2.new.self)
+      (rw c.state_place.ensures at c.in-Done.ensures.changed) (rw (c.data_place.ensures, c.bytes-bytes.ensures.same) at c.in-Failed-write_at.ensures.1),
+  omega (arith, c.in-Done.ensures.count, c.in-Failed-write_at.ensures.0),
+)
+
+pub write_at-requires-3 : goal.write_at-requires-3
+write_at-requires-3 g c x is =
+    omega (
+      arith,
+      c.state_place-2.ensures,
+      told-second_long c.args.total c.args.block c.requires.inside (g.I.Image.bytes c.args.image.now) c.args.from.now c.requires.whole
+          (ap length (sym c.bytes-bytes.ensures.same) ∙ c.bytes-bytes.ensures.len) (g.I.Image.bytes c.write_at.new.self) (g.I.Image.bytes c.write_at-2.new.self)
+          (rw c.state_place.ensures at c.in-Done.ensures.changed) (rw (c.data_place.ensures, c.bytes-bytes.ensures.same) at c.in-Done-write_at.ensures.changed) x is,
+    )
+
+pub returns : goal.returns
+returns g c =
+    last_write c.args.total c.args.block c.requires.inside (g.I.Image.bytes c.args.image.now) (g.I.Image.bytes c.write_at.new.self) (g.I.Image.bytes c.write_at-2.new.self)
+    (g.I.Image.bytes c.write_at-3.new.self) c.args.from.now c.requires.whole (ap length (sym c.bytes-bytes.ensures.same) ∙ c.bytes-bytes.ensures.len)
+    (rw c.state_place.ensures at c.in-Done.ensures.changed) (rw (c.data_place.ensures, c.bytes-bytes.ensures.same) at c.in-Done-write_at.ensures.changed)
+    (g.I.Image.faults c.args.image.now) (g.I.Image.faults c.write_at-2.new.self) (g.I.Image.faults c.write_at-3.new.self)
+    (omega (arith, c.in-Done.ensures.count, c.in-Done-write_at.ensures.count)) c.write_at-3.result (rw c.state_place-2.ensures at c.write_at-3.ensures)

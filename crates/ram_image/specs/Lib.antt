@@ -1,0 +1,4 @@
+pub mod CellCalls
+pub mod Press
+pub mod Medium
+pub mod Opening

@@ -1,0 +1,38 @@
+use Rattle.std.specs.Prelude.{◌≡◌, ◌≢◌, ℕ, ◌<◌, ◌≤◌, ◌⊎◌, Bool, false, Option, is_some, IfSome, List, length, take}
+use Rattle.model_counts.specs.Counts.{Rose}
+use Rattle.model_geometry.specs.Geometry.{Shape, total}
+use Rattle.model_medium.specs.World.{World}
+use Rattle.model_image.specs.Cells.{image_len}
+use Rattle.model_image.specs.Image.{HasHeader, IsDiscImage}
+use Rattle.ram_outside.specs.declared.image.Image.{Ghosts}
+use Rattle.ram_outside.specs.Image.{IsUnchanged, HasFailed}
+use Rattle.ram_image.specs.declared.opening.OpenFault.{OpenFault}
+use Rattle.ram_image.specs.declared.opening.OpenFault.TheVariants as faulty
+use Rattle.ram_image.specs.declared.opening.HeaderFound.{HeaderFound}
+use Rattle.ram_image.specs.declared.opening.HeaderFound.TheVariants as found
+use Rattle.ram_image.specs.declared.medium.ImageMedium.{ImageMedium}
+use Rattle.ram_image.specs.Medium.{shape_of_medium, world_of, cells_told}
+
+-- An image was opened: it is that of a disc of this geometry, and the medium shows its cells, with the power off.
+-- (This project's own.)
+pub record IsOpened {I : Type 0} {d : Ghosts I} (image : I) (medium : ImageMedium I d) (shape : Shape) : Type 0 where
+  pub disc : IfSome (d.bytes image) (IsDiscImage shape)
+  pub shape_is : shape_of_medium medium ≡ shape
+  pub as_told : (world_of medium).told ≡ is_some (d.bytes image)
+  pub cells_are : (world_of medium).cells ≡ cells_told shape (d.bytes image)
+  pub off : (world_of medium).power ≡ false
+  pub count : d.faults image ≤ (world_of medium).faults
+
+-- Why an image was not opened. It has the bytes that it had. (This project's own.)
+abbrev pub IsRefused : Option (List ℕ) → Option (List ℕ) → ℕ → ℕ → OpenFault → Type 0
+IsRefused before after faults faults' faulty.Header = IsUnchanged before after faults faults' × IfSome before (λ held. (16 ≤ length held) × ((shape : Shape) → ¬ HasHeader shape held))
+IsRefused before after faults faults' (faulty.Length len) = IsUnchanged before after faults faults'
+    × IfSome before (λ held. (len ≡ length held) × ((len < 16) ⊎ ((shape : Shape) × HasHeader shape held × (len ≢ image_len (total shape)))))
+IsRefused before after faults faults' faulty.Fault = HasFailed before after faults faults'
+IsRefused before after faults faults' faulty.NoMemory = IsUnchanged before after faults faults'
+
+-- What the front of an image was found to be. (This project's own.)
+abbrev pub HeaderRule : Option (List ℕ) → Option (List ℕ) → ℕ → ℕ → HeaderFound → Type 0
+HeaderRule before after faults faults' (found.Bytes len header) = IsUnchanged before after faults faults' × IfSome after (λ held. (len ≡ length held) × (16 ≤ length held) × (header ≡ take 16 held))
+HeaderRule before after faults faults' (found.Short len) = IsUnchanged before after faults faults' × IfSome before (λ held. (len ≡ length held) × (len < 16))
+HeaderRule before after faults faults' found.Failed = HasFailed before after faults faults'

@@ -1,0 +1,12 @@
+//! A medium over the bytes of an image: pressing one, opening one that is there, and reading and writing its blocks.
+#![tactic(auto)]
+
+pub mod cells;
+pub mod header;
+pub mod medium;
+pub mod opening;
+pub mod pressing;
+
+pub use medium::ImageMedium;
+pub use opening::{OpenFault, open};
+pub use pressing::{PressOut, press};

@@ -1,0 +1,36 @@
+ghost use Rattle.std.specs.Prelude.{◌≡◌};
+ghost use Rattle.ram_image.specs.Press.{PressRule};
+
+use crate::header::{header, image_len};
+use ram_outside::{Image, Moved};
+use ram_zones::Geometry;
+
+/// The answer of [`press`].
+#[derive(Clone, Copy, Debug, PartialEq, Eq)]
+pub enum PressOut {
+    /// The image is that of a new disc.
+    Done,
+    /// The image failed, and counted it.
+    Failed,
+}
+
+/// Makes the image anew: a disc of this geometry with blank cells. Its length is set to 0, then to the full number,
+/// and then the header is written.
+pub fn press<I: Image>(image: &mut I, geometry: &Geometry) -> PressOut
+    ensures { PressRule (I.bytes image.old) (I.bytes image.new) (I.faults image.old) (I.faults image.new) geometry.now result }
+{
+    let len = image_len(geometry);
+    let header = header(geometry);
+    match image.set_len(0) {
+        Moved::Failed => return PressOut::Failed,
+        Moved::Done => {}
+    }
+    match image.set_len(len) {
+        Moved::Failed => return PressOut::Failed,
+        Moved::Done => {}
+    }
+    match image.write_at(0, &header) {
+        Moved::Failed => PressOut::Failed,
+        Moved::Done => PressOut::Done,
+    }
+}

@@ -1,0 +1,59 @@
+-- What the limits make of bytes that hold no line.
+use Rattle.std.proofs.Common.{◌≡◌, ℕ, ◌+◌, ◌-◌, ◌<◌, ◌≤◌, Some, List, slice_range, length, take, min, sym, ap, subst, ◌∙◌, refl, take_all, arith}
+use Rattle.ram_text.specs.declared.lines.NextLine.{NextLine}
+use Rattle.ram_text.specs.declared.lines.NextLine.TheVariants.{Line, End, LineTooLong, ScriptTooLong, Failed}
+use Rattle.ram_text.specs.Lines.{Reading, HasNoFeed, FeedAt}
+use Rattle.ram_text.specs.Steps.{CutRule, TookLine, PassedFirst, without_line}
+use Rattle.std.proofs.lemmas.List.{length-take-le}
+use Rattle.ram_text.proofs.Feeds.{HasNoFeed-shorter, slice_at_feed, slice_before_feed}
+
+-- bytes that hold no line feed among the first n pass the limit that is passed first
+passed : (before : Reading) (n : ℕ) → n ≤ length before.buffered → before.taken ≤ 67108864 → HasNoFeed (take n before.buffered)
+    → (before.taken + 70000 < 67108864 → 70001 ≤ n) → (67108864 ≤ before.taken + 70000 → (67108864 - before.taken ≤ n) × (67108864 - before.taken < length before.buffered))
+    → (answer : NextLine) → PassedFirst before.taken answer → CutRule before (without_line before) (Some answer)
+passed before n inside limit clear by_line by_script LineTooLong first = (
+  record {
+    longer = omega (arith, by_line first);
+    clear = HasNoFeed-shorter before.buffered 70001 n (by_line first) clear;
+    first = first;
+  },
+  refl,
+)
+passed before n inside limit clear by_line by_script ScriptTooLong first = (
+  record {
+    longer = (by_script first).1;
+    clear = HasNoFeed-shorter before.buffered (67108864 - before.taken) n (by_script first).0 clear;
+    first = first;
+  },
+  refl,
+)
+passed before n inside limit clear by_line by_script Line first = elim first [ ]
+passed before n inside limit clear by_line by_script End first = elim first [ ]
+passed before n inside limit clear by_line by_script Failed first = elim first [ ]
+
+-- the first line feed comes too late
+pub passed_late : (before : Reading) (place : ℕ) → before.taken ≤ 67108864 → FeedAt before.buffered place → min (67108864 - before.taken) 70001 ≤ place → (answer : NextLine) → PassedFirst before.taken answer → CutRule before (without_line before) (Some answer)
+passed_late before place limit at late =
+    let inside : place < length before.buffered = at.inside in
+    passed before place (omega arith) limit at.first (λ h. omega arith) (λ h. (omega arith, omega arith))
+
+-- no line feed comes, and too many bytes
+pub passed_whole : (before : Reading) → before.taken ≤ 67108864 → HasNoFeed before.buffered → min (67108864 - before.taken) 70000 < length before.buffered → (answer : NextLine) → PassedFirst before.taken answer → CutRule before (without_line before) (Some answer)
+passed_whole before limit clear longer =
+    passed before (length before.buffered) (omega arith) limit (subst HasNoFeed (sym (take_all (length before.buffered) before.buffered (omega arith))) clear) (λ h. omega arith) (λ h. (omega arith, omega arith))
+
+-- a line that ends within both limits is taken
+pub took : (bytes : List ℕ) (start end place taken : ℕ) (line : List ℕ) → taken ≤ 67108864 → FeedAt (slice_range bytes start end) place → place < min (67108864 - taken) 70001
+    → TookLine (record { line = line; buffered = slice_range bytes start end; taken = taken }) (record { line = slice_range bytes start (start + place); buffered = slice_range bytes (start + place + 1) end; taken = taken + (place + 1) })
+took bytes start end place taken line limit at within =
+    let held : List ℕ = slice_range bytes start end in
+    let inside : place < length held = at.inside in
+    let front : take place held ≡ slice_range bytes start (start + place) = slice_before_feed bytes start end place at in
+    let len : length (slice_range bytes start (start + place)) ≡ place = sym (ap length front) ∙ length-take-le place held (omega arith) in
+    record {
+      parts = slice_at_feed bytes start end place at;
+      one = subst HasNoFeed front at.first;
+      short = omega arith;
+      grew = omega arith;
+      within = omega arith;
+    }

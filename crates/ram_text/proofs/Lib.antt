@@ -1,0 +1,5 @@
+pub mod Feeds
+pub mod Cuts
+pub mod Fills
+pub mod Answers
+pub mod Puts

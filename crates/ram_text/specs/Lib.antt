@@ -1,0 +1,4 @@
+pub mod Lines
+pub mod LineReader
+pub mod Steps
+pub mod Writer

@@ -1,0 +1,86 @@
+use Rattle.std.specs.Prelude.{◌≡◌, ◌≢◌, ℕ, ◌+◌, ◌-◌, ◌<◌, ◌≤◌, ◌⊎◌, Option, None, Some, is_some, IfSome, List, [], ◌∷◌, ◌++◌, length, take, slice_index, All}
+use Rattle.std.specs.Io.KnownBytes.{Consumes, IsAtEnd}
+use Rattle.model_counts.specs.Counts.{Rose}
+use Rattle.ram_text.specs.declared.lines.TheConstants.{LINE_LIMIT, SCRIPT_LIMIT}
+use Rattle.ram_text.specs.declared.lines.NextLine.{NextLine}
+use Rattle.ram_text.specs.declared.lines.NextLine.TheVariants.{Line, End, LineTooLong, ScriptTooLong, Failed}
+
+-- the byte that ends a line (ASCII)
+abbrev pub line_feed : ℕ
+line_feed = 10
+
+-- no byte is a line feed
+abbrev pub HasNoFeed : List ℕ → Type 0
+HasNoFeed bytes = All (λ byte. byte ≢ line_feed) bytes
+
+-- the first line feed of the bytes is at this place
+pub record FeedAt (bytes : List ℕ) (place : ℕ) : Type 0 where
+  pub inside : place < length bytes
+  pub feed : slice_index bytes place ≡ line_feed
+  pub first : HasNoFeed (take place bytes)
+
+-- where the first line feed of the bytes is, if there is one (this project's own)
+abbrev pub IsFirstFeed : List ℕ → Option ℕ → Type 0
+IsFirstFeed bytes None = HasNoFeed bytes
+IsFirstFeed bytes (Some place) = FeedAt bytes place
+
+-- What a reader of lines holds: the line that it found last, without its line feed; the bytes that came from the
+-- source and are not taken yet; and how many bytes of the script its lines so far took. (This project's own.)
+pub record Reading : Type 0 where
+  pub line : List ℕ
+  pub buffered : List ℕ
+  pub taken : ℕ
+
+-- The buffered bytes begin with a line and its line feed, within both limits. (This project's own.)
+pub record HoldsLine (reading : Reading) : Type 0 where
+  pub place : ℕ
+  pub feed : FeedAt reading.buffered place
+  pub short : place ≤ LINE_LIMIT
+  pub within : reading.taken + place < SCRIPT_LIMIT
+
+-- the line and its line feed went, and what is left now came after them
+pub record EndsByFeed (left left' : Option (List ℕ)) (taken taken' : ℕ) (line : List ℕ) : Type 0 where
+  pub went : Consumes left left' (line ++ line_feed ∷ [])
+  pub grew : taken' ≡ taken + length line + 1
+
+-- the line went, which is not empty, and nothing is left now
+pub record EndsByScript (left left' : Option (List ℕ)) (taken taken' : ℕ) (line : List ℕ) : Type 0 where
+  pub some : 0 < length line
+  pub went : Consumes left left' line
+  pub ended : IsAtEnd left'
+  pub grew : taken' ≡ taken + length line
+
+-- the next line came, within both limits; it ends with a line feed or with the script
+pub record GivesLine (left left' : Option (List ℕ)) (taken taken' : ℕ) (line : List ℕ) (faults faults' : ℕ) : Type 0 where
+  pub ends : EndsByFeed left left' taken taken' line ⊎ EndsByScript left left' taken taken' line
+  pub one : HasNoFeed line
+  pub short : length line ≤ LINE_LIMIT
+  pub within : taken' ≤ SCRIPT_LIMIT
+  pub told : is_some left' ≡ is_some left
+  pub count : faults ≤ faults'
+
+-- nothing went, and there is no line
+pub record NothingWent (left left' : Option (List ℕ)) (taken taken' : ℕ) (line : List ℕ) : Type 0 where
+  pub same : left' ≡ left
+  pub stood : taken' ≡ taken
+  pub none : line ≡ []
+
+-- more than a line's limit of bytes come without a line feed, and the script's limit is not passed by then
+pub record LineIsTooLong (left : Option (List ℕ)) (taken : ℕ) : Type 0 where
+  pub bytes : IfSome left (λ held. (LINE_LIMIT < length held) × HasNoFeed (take (LINE_LIMIT + 1) held))
+  pub first : taken + LINE_LIMIT < SCRIPT_LIMIT
+
+-- more bytes are left than the script's limit allows, and those that it allows have no line feed and are no longer
+-- than a line may be
+pub record ScriptIsTooLong (left : Option (List ℕ)) (taken : ℕ) : Type 0 where
+  pub bytes : IfSome left (λ held. (SCRIPT_LIMIT - taken < length held) × HasNoFeed (take (SCRIPT_LIMIT - taken) held))
+  pub first : SCRIPT_LIMIT ≤ taken + LINE_LIMIT
+
+-- What the search for the next line may do, by its answer: what is left before and after, how much the lines took
+-- before and after, the line, and the source's counts before and after. (This project's own.)
+abbrev pub NextLineRule : Option (List ℕ) → Option (List ℕ) → ℕ → ℕ → List ℕ → ℕ → ℕ → NextLine → Type 0
+NextLineRule left left' taken taken' line faults faults' Line = GivesLine left left' taken taken' line faults faults'
+NextLineRule left left' taken taken' line faults faults' End = NothingWent left left' taken taken' line × IsAtEnd left × (faults ≤ faults')
+NextLineRule left left' taken taken' line faults faults' LineTooLong = NothingWent left left' taken taken' line × LineIsTooLong left taken × (faults ≤ faults')
+NextLineRule left left' taken taken' line faults faults' ScriptTooLong = NothingWent left left' taken taken' line × ScriptIsTooLong left taken × (faults ≤ faults')
+NextLineRule left left' taken taken' line faults faults' Failed = NothingWent left left' taken taken' line × Rose faults faults'

@@ -1,0 +1,86 @@
+-- The steps inside a reader of lines, for its own functions.
+use Rattle.std.specs.Prelude.{◌≡◌, ℕ, ◌+◌, ◌-◌, ◌<◌, ◌≤◌, Option, None, Some, List, [], ◌∷◌, ◌++◌, length, take}
+use Rattle.std.specs.Io.KnownBytes.{prepend_known, IsAtEnd}
+use Rattle.model_counts.specs.Counts.{Rose}
+use Rattle.ram_outside.specs.declared.source.Take.{Take}
+use Rattle.ram_outside.specs.declared.source.Take.TheVariants as takes
+use Rattle.ram_text.specs.declared.lines.TheConstants.{LINE_LIMIT, SCRIPT_LIMIT}
+use Rattle.ram_text.specs.declared.lines.NextLine.{NextLine}
+use Rattle.ram_text.specs.declared.lines.NextLine.TheVariants.{Line, End, LineTooLong, ScriptTooLong, Failed}
+use Rattle.ram_text.specs.Lines.{Reading, HasNoFeed, line_feed}
+
+-- the reader with no line, and all else as before
+abbrev pub without_line : Reading → Reading
+without_line r = record { line = []; buffered = r.buffered; taken = r.taken }
+
+-- what is buffered has no line feed, and passes no limit
+pub record IsOpen (r : Reading) : Type 0 where
+  pub clear : HasNoFeed r.buffered
+  pub short : length r.buffered ≤ LINE_LIMIT
+  pub within : r.taken + length r.buffered ≤ SCRIPT_LIMIT
+
+-- the buffered bytes were the line, its line feed, and what is buffered now
+pub record TookLine (before after : Reading) : Type 0 where
+  pub parts : before.buffered ≡ after.line ++ (line_feed ∷ after.buffered)
+  pub one : HasNoFeed after.line
+  pub short : length after.line ≤ LINE_LIMIT
+  pub grew : after.taken ≡ before.taken + length after.line + 1
+  pub within : after.taken ≤ SCRIPT_LIMIT
+
+-- the line's limit is passed by what is buffered, and the script's is not passed before it
+pub record PassesLine (r : Reading) : Type 0 where
+  pub longer : LINE_LIMIT < length r.buffered
+  pub clear : HasNoFeed (take (LINE_LIMIT + 1) r.buffered)
+  pub first : r.taken + LINE_LIMIT < SCRIPT_LIMIT
+
+-- the script's limit is passed by what is buffered, and the line's is not passed before it
+pub record PassesScript (r : Reading) : Type 0 where
+  pub longer : SCRIPT_LIMIT - r.taken < length r.buffered
+  pub clear : HasNoFeed (take (SCRIPT_LIMIT - r.taken) r.buffered)
+  pub first : SCRIPT_LIMIT ≤ r.taken + LINE_LIMIT
+
+-- what is decided by the bytes that are buffered
+abbrev pub CutRule : Reading → Reading → Option NextLine → Type 0
+CutRule before after None = IsOpen before × (after ≡ without_line before)
+CutRule before after (Some Line) = TookLine before after
+CutRule before after (Some LineTooLong) = PassesLine before × (after ≡ without_line before)
+CutRule before after (Some ScriptTooLong) = PassesScript before × (after ≡ without_line before)
+CutRule before after (Some End) = ⊥
+CutRule before after (Some Failed) = ⊥
+
+-- n bytes more are buffered, and as much is left as before
+pub record Refilled (before after : Reading) (rest rest' : Option (List ℕ)) (faults faults' n : ℕ) : Type 0 where
+  pub some : 0 < n
+  pub longer : length after.buffered ≡ length before.buffered + n
+  pub same : prepend_known after.buffered rest' ≡ prepend_known before.buffered rest
+  pub stood : after.taken ≡ before.taken
+  pub count : faults ≤ faults'
+
+-- what one more piece of the source brings
+abbrev pub FillRule : Reading → Reading → Option (List ℕ) → Option (List ℕ) → ℕ → ℕ → Take → Type 0
+FillRule before after rest rest' faults faults' (takes.Got n) = Refilled before after rest rest' faults faults' n
+FillRule before after rest rest' faults faults' takes.End = (after ≡ without_line before) × IsAtEnd rest × (rest' ≡ rest) × (faults ≤ faults')
+FillRule before after rest rest' faults faults' takes.Failed = (after ≡ without_line before) × (rest' ≡ rest) × Rose faults faults'
+
+-- what is buffered is the last line, unless nothing is
+pub record TookLast (before after : Reading) : Type 0 where
+  pub some : 0 < length before.buffered
+  pub line : after.line ≡ before.buffered
+  pub rest : after.buffered ≡ []
+  pub grew : after.taken ≡ before.taken + length before.buffered
+
+-- what the end of the source makes of what is buffered
+abbrev pub LastRule : Reading → Reading → NextLine → Type 0
+LastRule before after Line = TookLast before after
+LastRule before after End = (before.buffered ≡ []) × (after ≡ without_line before)
+LastRule before after LineTooLong = ⊥
+LastRule before after ScriptTooLong = ⊥
+LastRule before after Failed = ⊥
+
+-- which limit is passed first, where a line without an end passes one of them
+abbrev pub PassedFirst : ℕ → NextLine → Type 0
+PassedFirst taken LineTooLong = taken + LINE_LIMIT < SCRIPT_LIMIT
+PassedFirst taken ScriptTooLong = SCRIPT_LIMIT ≤ taken + LINE_LIMIT
+PassedFirst taken Line = ⊥
+PassedFirst taken End = ⊥
+PassedFirst taken Failed = ⊥
