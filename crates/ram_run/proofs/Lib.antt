@@ -1,2 +1,5 @@
 pub mod Homes
 pub mod HeldSteps
+pub mod Turns
+pub mod Takings
+pub mod CountsRise

@@ -4,8 +4,8 @@ use Rattle.model_medium.specs.Cells.{Good, IsGood}
 use Rattle.model_image.specs.Image.{IsImageOf, blank_cells}
 use Rattle.ram_run.specs.declared.script.Line.{Line}
 use Rattle.ram_run.specs.declared.script.Line.TheVariants.{Press, Power, Read, Write}
-use Rattle.ram_run.specs.declared.script.Answer.{Answer}
-use Rattle.ram_run.specs.declared.script.Answer.TheVariants as answers
+use Rattle.ram_text.specs.declared.print.Answer.{Answer}
+use Rattle.ram_text.specs.declared.print.Answer.TheVariants as answers
 use Rattle.ram_run.specs.Plain.{Plain, capacity, home_cell, powered_on, written, IsInRange, IsOutOfRange}
 
 -- What lies in the drive: an image of these bytes on which no disc was pressed in this run, or the disc that was

@@ -1,6 +1,10 @@
 //! Runs a script of commands over a disc image, and reports every answer.
 #![tactic(auto)]
 
+mod ending;
 mod held;
 mod plain;
+mod printing;
 mod script;
+mod serve;
+mod status;

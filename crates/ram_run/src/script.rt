@@ -1,3 +1,5 @@
+ghost use Rattle.ram_run.specs.Grammar.{Parses};
+
 /// A line of the script.
 #[derive(Clone, Copy, Debug, PartialEq, Eq)]
 pub enum Line {
@@ -7,14 +9,9 @@ pub enum Line {
     Write { lba: u32, fill: u8 },
 }
 
-/// The answer to a line.
-#[derive(Clone, Copy, Debug, PartialEq, Eq)]
-pub enum Answer {
-    Pressed,
-    NotPressed,
-    Ready { capacity: u32 },
-    Good,
-    Off,
-    OutOfRange,
-    Unread { lba: u32 },
+/// Dummy.
+pub fn parse_line(line: &[u8]) -> Option<Line>
+    ensures { Parses line.now result }
+{
+    None
 }
