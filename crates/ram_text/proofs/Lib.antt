@@ -4,3 +4,5 @@ pub mod Fills
 pub mod Answers
 pub mod Puts
 pub mod Prints
+pub mod Readings
+pub mod Digits

@@ -3,3 +3,5 @@ pub mod LineReader
 pub mod Steps
 pub mod Writer
 pub mod Report
+pub mod Grammar
+pub mod Words

@@ -1,8 +1,9 @@
-ghost use Rattle.std.specs.Prelude.{◌≡◌, ◌*◌, ◌≤◌, [], decimal, length, take, IfOk};
+ghost use Rattle.std.specs.Prelude.{◌≡◌, ◌*◌, ◌≤◌, [], decimal, length, IfOk};
 ghost use Rattle.hex.specs.Hex.{encode_lower};
 ghost use Rattle.ram_text.specs.Writer.{due, PrintRule, FlushRule};
 
 use crate::gathered::{Gathered, Print};
+use crate::hexadecimal::encode_front;
 use itoa::Buffer;
 use ram_bytes::SECTOR_BYTES;
 use ram_outside::Sink;
@@ -69,20 +70,4 @@ impl ReportWriter {
         encode_front(bytes, &mut self.digits);
         self.gathered.put(sink, &self.digits[..len])
     }
-}
-
-// Writes the bytes as hexadecimal digits to the front of `digits`.
-fn encode_front(bytes: &[u8], digits: &mut [u8])
-    requires { 2 * length bytes.now ≤ length digits.old }
-    ensures { take (2 * length bytes.now) digits.new ≡ encode_lower bytes.now }
-{
-    encode(bytes, &mut digits[..2 * bytes.len()]);
-}
-
-// Writes the bytes as hexadecimal digits into the whole of `digits`.
-fn encode(bytes: &[u8], digits: &mut [u8])
-    requires { length digits.old ≡ 2 * length bytes.now }
-    ensures { digits.new ≡ encode_lower bytes.now }
-{
-    let _ = hex::encode_to_slice(bytes, digits);
 }
