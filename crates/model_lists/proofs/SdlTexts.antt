@@ -5,10 +5,10 @@ use Rattle.std.proofs.lemmas.List.{take-append-drop, take_at, drop_at, drop-drop
 use Rattle.model_bytes.proofs.Laws.{written_whole}
 use Rattle.byteorder.specs.Endian.{big_bytes}
 use Rattle.model_lists.specs.declared.sdl.SdlEntry.{SdlEntry}
-use Rattle.model_lists.specs.Values.{Sdl, IsLawfulSdl, IsLawfulList, IsWithinSdlLimits, IsBlockNumber}
+use Rattle.model_lists.specs.Values.{Sdl, IsLawfulSdl, IsLawfulList, IsWithinSdlLimits, HasNumbers}
 use Rattle.model_lists.specs.Texts.{bytes_at, zeros, sdl_entry_bytes, Spells, IsSdlFront, IsSdlText}
 use Rattle.model_lists.proofs.Spelled.{agree_more, replicated_zeros, length-zeros, length-spelled, same_entries}
-use Rattle.model_lists.proofs.Numbers.{big_bytes-injective, HasNumbers, sdl_entry_bytes-injective, length-sdl_entry_bytes}
+use Rattle.model_lists.proofs.Numbers.{big_bytes-injective, sdl_entry_bytes-injective, length-sdl_entry_bytes}
 
 fronts_agree : (c d s n : ℕ) (x y : List ℕ) → IsSdlFront c d s n x → IsSdlFront c d s n y → take 32 x ≡ take 32 y
 fronts_agree c d s n x y of_x of_y =
@@ -48,11 +48,6 @@ pub front_count : (c c' d d' s s' n n' : ℕ) (x : List ℕ) → n < 256 ^ 2 →
 front_count c c' d d' s s' n n' x small small' of_v of_w =
     big_bytes-injective 2 n n' small small' (sym of_v.list_counted ∙ of_w.list_counted)
 
--- the numbers of all entries fit
-pub all_numbers : (entries : List SdlEntry) → IsLawfulList entries → All HasNumbers entries
-all_numbers entries lawful =
-    λ k d below. record { defective_fits = lawful.numbers k d below; replacement_fits = lawful.replaced_by k d below }
-
 -- a block is the text of at most one value
 pub one_value : (v w : Sdl) (x : List ℕ) → IsSdlText v x → IsSdlText w x → v ≡ w
 one_value v w x of_v of_w =
@@ -64,7 +59,7 @@ one_value v w x of_v of_w =
       counters = big_bytes-injective 4 v.counter w.counter (omega (arith, of_v.lawful.counted)) (omega (arith, of_w.lawful.counted)) (sym of_v.front.counted ∙ of_w.front.counted);
       dds_counters = big_bytes-injective 4 v.dds_counter w.dds_counter (omega (arith, of_v.lawful.dds_counted)) (omega (arith, of_w.lawful.dds_counted)) (sym of_v.front.dds_counted ∙ of_w.front.dds_counted);
       ssas = big_bytes-injective 2 v.ssa w.ssa (omega arith) (omega arith) (sym of_v.front.spares ∙ of_w.front.spares);
-      lists = same_entries sdl_entry_bytes 8 length-sdl_entry_bytes HasNumbers sdl_entry_bytes-injective v.entries w.entries (zeros (length (drop 32 x) - 8 * length v.entries)) (zeros (length (drop 32 x) - 8 * length w.entries)) long (all_numbers v.entries of_v.lawful.list) (all_numbers w.entries of_w.lawful.list) (sym of_v.list ∙ of_w.list);
+      lists = same_entries sdl_entry_bytes 8 length-sdl_entry_bytes HasNumbers sdl_entry_bytes-injective v.entries w.entries (zeros (length (drop 32 x) - 8 * length v.entries)) (zeros (length (drop 32 x) - 8 * length w.entries)) long of_v.lawful.list.numbers of_w.lawful.list.numbers (sym of_v.list ∙ of_w.list);
     }
 
 -- the first sixteen bytes

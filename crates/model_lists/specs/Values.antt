@@ -38,11 +38,15 @@ pub record IsLawfulPdl (entries : List PdlEntry) : Type 0 where
   pub rise : IsStrictlyIncreasing (pdl_blocks entries)
   pub numbers : All (λ (entry : PdlEntry). IsBlockNumber entry.block) entries
 
+-- the defective block has a number of 24 bits, and so has its replacement where there is one
+pub record HasNumbers (entry : SdlEntry) : Type 0 where
+  pub defective_fits : IsBlockNumber entry.defective
+  pub replacement_fits : IfSome entry.replacement IsBlockNumber
+
 -- The entries of a secondary defect list rise by their defective blocks. (After ECMA-330.)
 pub record IsLawfulList (entries : List SdlEntry) : Type 0 where
   pub rise : IsStrictlyIncreasing (defectives entries)
-  pub numbers : All (λ (entry : SdlEntry). IsBlockNumber entry.defective) entries
-  pub replaced_by : All (λ (entry : SdlEntry). IfSome entry.replacement IsBlockNumber) entries
+  pub numbers : All HasNumbers entries
 
 -- a disc whose format has not ended has no primary defect list
 abbrev pub FitsState : DdsState → ℕ → Type 0

@@ -11,7 +11,7 @@ use ram_bytes::Block;
 use std::alloc::{AllocError, Global};
 
 /// A disc definition structure with its primary defect list.
-#[derive(Drop)]
+#[derive(Debug, Drop)]
 pub struct DdsPdl {
     /// How often the structure was written.
     pub counter: u32,

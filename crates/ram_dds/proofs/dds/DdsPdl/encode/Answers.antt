@@ -12,5 +12,5 @@ returns c =
     let long : length c.args.into.now ≡ 32768 = sym (ap length c.bytes_mut.ensures.same) ∙ c.bytes_mut.ensures.len in
     let gap : length c.split_at_mut-gap.result.0.now ≡ 2038 = c.split_at_mut-gap.ensures.front_len in
     let list : length c.put_entries.new.into ≡ 30716 =
-        omega (arith, c.put_entries.auto.into, c.split_at_mut-list_begin.ensures.back_len, c.split_at_mut-gap.ensures.back_len, c.split_at_mut-begin.ensures.back_len, c.bytes_mut.ensures.len) in
+    omega (arith, c.put_entries.auto.into, c.split_at_mut-list_begin.ensures.back_len, c.split_at_mut-gap.ensures.back_len, c.split_at_mut-begin.ensures.back_len, c.bytes_mut.ensures.len) in
     text_written (dds_of c.args.self.now) c.args.into.now c.copy_from_slice.new.self c.fill.new.self c.copy_from_slice-2.new.self c.put_entries.new.into c.requires long (c.copy_from_slice.ensures.after ∙ c.begin_bytes.ensures) (length c.split_at_mut-gap.result.0.now) gap (c.fill.ensures.after (λ y same. same)) (c.copy_from_slice-2.ensures.after ∙ c.list_begin_bytes.ensures ∙ ap pdl_begin c.len.ensures) list (subst Q c.as_slice.ensures c.put_entries.ensures)
