@@ -29,9 +29,9 @@ parts kind between defective replacement (a ∷ b ∷ c ∷ d ∷ e ∷ f ∷ g 
 parts kind between defective replacement (a ∷ b ∷ c ∷ d ∷ e ∷ f ∷ g ∷ h ∷ []) reads =
     let bytes : List ℕ = a ∷ b ∷ c ∷ d ∷ e ∷ f ∷ g ∷ h ∷ [] in
     let first : b ∷ c ∷ d ∷ [] ≡ big_bytes 3 defective =
-        bytes_are_3 1 bytes (omega arith) reads.small ∙ ap (λ (m : ℕ). big_bytes 3 m) (sym reads.defective_is) in
+    bytes_are_3 1 bytes (omega arith) reads.small ∙ ap (λ (m : ℕ). big_bytes 3 m) (sym reads.defective_is) in
     let second : f ∷ g ∷ h ∷ [] ≡ big_bytes 3 replacement =
-        bytes_are_3 5 bytes (omega arith) reads.small ∙ ap (λ (m : ℕ). big_bytes 3 m) (sym reads.replacement_is) in
+    bytes_are_3 5 bytes (omega arith) reads.small ∙ ap (λ (m : ℕ). big_bytes 3 m) (sym reads.replacement_is) in
     ap₂ (λ (k : ℕ) (l : List ℕ). k ∷ l) (sym reads.kind_is) (ap₂ (λ (u v : List ℕ). u ++ v) first (ap₂ (λ (k : ℕ) (l : List ℕ). k ∷ l) (sym reads.between_is) second))
 
 -- three bytes are a block number

@@ -25,9 +25,9 @@ pub other_front : (ssa count c d s n : ℕ) (bytes : List ℕ) → Reads ssa cou
 other_front ssa count c d s n bytes reads limits front =
     let long = reads.long in
     let same_ssa : s ≡ ssa =
-        big_bytes-injective 2 s ssa (omega arith) (omega arith) (sym front.spares ∙ number_bytes 12 ssa bytes (omega arith) reads.small reads.ssa_is) in
+    big_bytes-injective 2 s ssa (omega arith) (omega arith) (sym front.spares ∙ number_bytes 12 ssa bytes (omega arith) reads.small reads.ssa_is) in
     let same_count : n ≡ count =
-        big_bytes-injective 2 n count (omega arith) (omega arith) (sym front.list_counted ∙ number_bytes 14 count bytes (omega arith) reads.small reads.count_is) in
+    big_bytes-injective 2 n count (omega arith) (omega arith) (sym front.list_counted ∙ number_bytes 14 count bytes (omega arith) reads.small reads.count_is) in
     let Q : ℕ → Type 0 = λ x. IsWithinSdlLimits x n in
     let R : ℕ → Type 0 = λ x. IsWithinSdlLimits ssa x in
     subst R same_count (subst Q same_ssa limits)
@@ -37,7 +37,7 @@ pub front_read : (counter dds_counter ssa count : ℕ) (bytes gap : List ℕ) �
 front_read counter dds_counter ssa count bytes gap reads begins counter_is dds_counter_is gap_is zero =
     let long = reads.long in
     let gap_long : length gap ≡ 16 =
-        ap length gap_is ∙ length-take-le 16 (drop 16 bytes) (omega (arith, length-drop 16 bytes)) in
+    ap length gap_is ∙ length-take-le 16 (drop 16 bytes) (omega (arith, length-drop 16 bytes)) in
     record {
       begins = begins;
       counted = bytes_are_4 4 bytes (omega arith) reads.small ∙ ap (λ (k : ℕ). big_bytes 4 k) (sym counter_is);

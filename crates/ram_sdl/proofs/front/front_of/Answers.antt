@@ -20,12 +20,16 @@ returns-then-not-is_within_limits c =
     } limits front))
 
 pub returns : goal.returns
-returns c =
-    (c.get_u32.type_inv, c.get_u32-2.type_inv, c.if-not-is_within_limits.ensures.0 refl, front_read c.get_u32.result c.get_u32-2.result c.get_u16-ssa.result c.get_u16-count.result c.args.bytes.now (take 16 (drop 16 c.args.bytes.now)) record {
-      long = c.requires;
-      small = λ k. omega (arith, c.type_inv.bytes k);
-      ssa_fits = c.get_u16-ssa.type_inv;
-      count_fits = c.get_u16-count.type_inv;
-      ssa_is = c.get_u16-ssa.ensures;
-      count_is = c.get_u16-count.ensures;
-    } (c.if-not-begins_list.ensures.0 refl) c.get_u32.ensures c.get_u32-2.ensures refl (c.if-not-is_zero.ensures.0 refl))
+returns c = (
+  c.get_u32.type_inv,
+  c.get_u32-2.type_inv,
+  c.if-not-is_within_limits.ensures.0 refl,
+  front_read c.get_u32.result c.get_u32-2.result c.get_u16-ssa.result c.get_u16-count.result c.args.bytes.now (take 16 (drop 16 c.args.bytes.now)) record {
+    long = c.requires;
+    small = λ k. omega (arith, c.type_inv.bytes k);
+    ssa_fits = c.get_u16-ssa.type_inv;
+    count_fits = c.get_u16-count.type_inv;
+    ssa_is = c.get_u16-ssa.ensures;
+    count_is = c.get_u16-count.ensures;
+  } (c.if-not-begins_list.ensures.0 refl) c.get_u32.ensures c.get_u32-2.ensures refl (c.if-not-is_zero.ensures.0 refl),
+)
