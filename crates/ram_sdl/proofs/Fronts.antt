@@ -1,9 +1,9 @@
 -- What was read of the bytes before the entries is what they say.
-use Rattle.std.proofs.Common.{◌≡◌, ℕ, ◌+◌, ◌-◌, ◌*◌, ◌<◌, ◌≤◌, ◌^◌, List, [], ◌∷◌, length, get_or, take, drop, replicate, refl, sym, ◌∙◌, ap, subst, arith, length-drop}
+use Rattle.std.proofs.Common.{◌≡◌, ℕ, ◌+◌, ◌<◌, ◌≤◌, List, [], ◌∷◌, length, get_or, take, drop, replicate, sym, ◌∙◌, ap, subst, arith, length-drop}
 use Rattle.std.proofs.lemmas.List.{length-take-le}
 use Rattle.byteorder.specs.Endian.{big_number, big_bytes}
 use Rattle.model_lists.specs.Values.{IsWithinSdlLimits}
-use Rattle.model_lists.specs.Texts.{bytes_at, zeros, IsSdlFront}
+use Rattle.model_lists.specs.Texts.{bytes_at, IsSdlFront}
 use Rattle.model_lists.proofs.Spelled.{zeros-is, zeros-all}
 use Rattle.model_lists.proofs.Numbers.{bytes_are_2, bytes_are_4, big_bytes-injective}
 

@@ -1,8 +1,8 @@
 -- Where an entry stands among entries that rise by their defective blocks, and what an entry put there makes of them.
-use Rattle.std.proofs.Common.{◌≡◌, ℕ, zero, suc, ◌+◌, ◌-◌, ◌<◌, ◌≤◌, ◌⊎◌, inl, inr, Bool, true, false, cond, nat_lt, Option, Some, None, List, [], ◌∷◌, ◌++◌, length, get_or, take, drop, set, insert, map, filter, All, Contains, refl, sym, ◌∙◌, ap, ap₂, subst, arith}
+use Rattle.std.proofs.Common.{◌≡◌, ℕ, zero, suc, ◌<◌, ◌≤◌, ◌⊎◌, inl, inr, Bool, true, false, nat_lt, Some, None, List, [], ◌∷◌, ◌++◌, length, get_or, take, drop, set, insert, filter, Contains, refl, sym, ◌∙◌, ap, ap₂, arith}
 use Rattle.std.specs.List.Sorted.{IsStrictlyIncreasing, IsNonDecreasingBy, IsPartitionPoint}
 use Rattle.std.proofs.lemmas.Bool.{cases_eq, lt-ltb, le-ltb, ltb-true, ltb-false}
-use Rattle.std.proofs.lemmas.List.{get_or-map, length-map, get_or_default, drop_all, take_all, set_split, drop_more}
+use Rattle.std.proofs.lemmas.List.{get_or-map, length-map, get_or_default, set_split}
 use Rattle.std.proofs.lemmas.List.Kept.{AllPairs-from_increasing}
 use Rattle.model_lists.specs.declared.sdl.SdlEntry.{SdlEntry}
 use Rattle.model_lists.specs.Values.{defectives, IsEntryOf, with_entry}

@@ -1,5 +1,5 @@
 -- By the lemmas on fronts.
-use Rattle.std.proofs.Common.{ℕ, get_or, length, take, drop, refl, arith}
+use Rattle.std.proofs.Common.{take, drop, refl, arith}
 use Rattle.std.proofs.lemmas.Bool.{false≢true}
 use Rattle.ram_dds.proofs.Fronts.{other_front, front_read, no_gap}
 use Rattle.ram_dds.proofs.front.front_of.Goals as goal

@@ -1,5 +1,5 @@
 -- The last entry's block decides.
-use Rattle.std.proofs.Common.{ℕ, ltb-true, lt-ltb}
+use Rattle.std.proofs.Common.{ltb-true, lt-ltb}
 use Rattle.model_lists.specs.declared.sdl.SdlEntry.{SdlEntry}
 use Rattle.model_lists.proofs.Reading.{follows_last}
 use Rattle.ram_sdl.proofs.list.may_follow.Goals as goal

@@ -1,5 +1,5 @@
 -- The entry stands in its place, or in the gap that its block has.
-use Rattle.std.proofs.Common.{◌≡◌, ℕ, ◌<◌, List, length, get_or, set, insert, vec_len, vec_capacity, ◌∙◌, ap, subst, arith}
+use Rattle.std.proofs.Common.{◌≡◌, ◌<◌, List, length, get_or, set, insert, vec_len, vec_capacity, ◌∙◌, ap, subst, arith}
 use Rattle.model_lists.specs.declared.sdl.SdlEntry.{SdlEntry}
 use Rattle.model_lists.specs.Values.{defectives}
 use Rattle.ram_sdl.specs.Held.{Held}

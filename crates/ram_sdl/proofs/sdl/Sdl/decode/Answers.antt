@@ -1,5 +1,5 @@
 -- The front and the list, read one after the other.
-use Rattle.std.proofs.Common.{◌≡◌, ℕ, List, length, sym, ◌∙◌, ap, subst, arith}
+use Rattle.std.proofs.Common.{ℕ, List, sym, subst}
 use Rattle.model_lists.specs.declared.sdl.SdlEntry.{SdlEntry}
 use Rattle.model_lists.specs.Values as values
 use Rattle.model_lists.specs.Texts.{sdl_entry_bytes, Spells, IsSdlText}

@@ -1,5 +1,5 @@
 -- The parts, one after another, are the text.
-use Rattle.std.proofs.Common.{◌≡◌, ℕ, List, length, sym, ◌∙◌, ap, subst, arith}
+use Rattle.std.proofs.Common.{◌≡◌, List, length, sym, ◌∙◌, ap, subst, arith}
 use Rattle.model_lists.specs.declared.sdl.SdlEntry.{SdlEntry}
 use Rattle.model_lists.specs.Texts.{sdl_entry_bytes, Spells}
 use Rattle.model_lists.proofs.SdlTexts.{sdl_begin, text_written}
