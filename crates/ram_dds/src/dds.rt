@@ -15,6 +15,7 @@ use std::alloc::{AllocError, Global};
 pub struct DdsPdl {
     /// How often the structure was written.
     pub counter: u32,
+    /// Whether a format has ended.
     pub state: DdsState,
     /// The size of the primary spare area in blocks, from 1 to 4,092.
     pub psa: u32,

@@ -7,6 +7,6 @@ pub record Held : Type 0 where
   pub list : List SdlEntry
   pub room : ℕ
 
--- there is room for one more entry, or the block has one
+-- there is room for one more entry, or the block has one (this project's own)
 abbrev pub HasRoomFor : ℕ → Held → Type 0
 HasRoomFor block held = (length held.list < held.room) ⊎ Contains (defectives held.list) block

@@ -3,7 +3,7 @@ use Rattle.model_lists.specs.Values as values
 use Rattle.model_lists.specs.Texts.{IsSdlText}
 use Rattle.ram_sdl.specs.declared.sdl.Sdl.{Sdl}
 
--- the value, as the definitions of the texts have it: without the room
+-- the value, as the definitions of the texts have it: without the room (this project's own)
 abbrev pub sdl_of : Sdl → values.Sdl
 sdl_of held = record { counter = held.counter; dds_counter = held.dds_counter; ssa = held.ssa; entries = held.entries.list }
 

@@ -22,6 +22,7 @@ pub struct Sdl {
     pub dds_counter: u32,
     /// The size of the supplementary spare area in blocks, at most 4,092.
     pub ssa: u32,
+    /// The defective blocks with what took their place, at most [`SDL_LIMIT`](crate::SDL_LIMIT).
     pub entries: SdlEntries,
 }
 
