@@ -1,9 +1,9 @@
 -- Entries read or written one after another: what the code keeps from one to the next, over any kind of entry.
-use Rattle.std.proofs.Common.{◌≡◌, ℕ, ◌+◌, ◌-◌, ◌*◌, ◌<◌, ◌≤◌, ◌⊎◌, inl, inr, List, [], ◌∷◌, ◌++◌, length, get_or, take, drop, map, replicate, All, refl, sym, ◌∙◌, ap, ap₂, subst, arith, append_assoc, length-append, length-drop, length-take}
+use Rattle.std.proofs.Common.{◌≡◌, ℕ, ◌+◌, ◌-◌, ◌*◌, ◌<◌, ◌≤◌, inl, inr, List, [], ◌∷◌, ◌++◌, length, get_or, take, drop, map, replicate, All, refl, sym, ◌∙◌, ap, subst, arith, append_assoc, length-drop}
 use Rattle.std.specs.List.{flat_map}
 use Rattle.std.specs.List.Sorted.{IsStrictlyIncreasing}
 use Rattle.std.proofs.lemmas.Bool.{cases_eq}
-use Rattle.std.proofs.lemmas.List.{take_at, drop_at, length-take-le, take_all, take-take, get_or-take, get_or-map, get_or_append_left, length-map, length_push, take-append-le, take-append-drop, get_or_push, map_push, take-map}
+use Rattle.std.proofs.lemmas.List.{take_at, drop_at, length-take-le, take_all, get_or-take, get_or-map, get_or_append_left, length-map, length_push, take-append-drop, get_or_push, map_push, take-map}
 use Rattle.std.proofs.lemmas.List.Concat.{flat_map-append}
 use Rattle.model_lists.specs.Texts.{zeros, Spells}
 use Rattle.model_lists.proofs.Spelled.{zeros-all, length-spelled, piece, same_entries, reads_on, read_all}
@@ -25,13 +25,13 @@ increasing_push numbers y rise may k below =
     let long = length_push numbers y in
     let first : get_or (numbers ++ y ∷ []) k 0 ≡ get_or numbers k 0 = get_or_append_left numbers (y ∷ []) 0 k (omega arith) in
     elim (cases_eq (k + 1) (length numbers)) [
-      inl end ↦ (let last : get_or (numbers ++ y ∷ []) (k + 1) 0 ≡ y = get_or_push numbers y 0 (k + 1) (sym end) in
-        let h = may k end in
-        omega (arith, first, last, h))
+      | inl end ↦ (let last : get_or (numbers ++ y ∷ []) (k + 1) 0 ≡ y = get_or_push numbers y 0 (k + 1) (sym end) in
+          let h = may k end in
+          omega (arith, first, last, h))
       | inr within ↦ (let inside : k + 1 < length numbers = omega arith in
-        let next : get_or (numbers ++ y ∷ []) (k + 1) 0 ≡ get_or numbers (k + 1) 0 = get_or_append_left numbers (y ∷ []) 0 (k + 1) inside in
-        let h = rise k inside in
-        omega (arith, first, next, h))
+          let next : get_or (numbers ++ y ∷ []) (k + 1) 0 ≡ get_or numbers (k + 1) 0 = get_or_append_left numbers (y ∷ []) 0 (k + 1) inside in
+          let h = rise k inside in
+          omega (arith, first, next, h))
     ]
 
 module _ {X : Type 0} (key : X → ℕ) where
@@ -39,7 +39,7 @@ module _ {X : Type 0} (key : X → ℕ) where
   pub follows_last : (entries : List X) (last : X) (number : ℕ) → 0 < length entries → ((d : X) → last ≡ get_or entries (length entries - 1) d) → (key last < number → MayFollow key entries number) × (MayFollow key entries number → key last < number)
   follows_last entries last number some is =
       let at : get_or (map key entries) (length entries - 1) 0 ≡ key last =
-          get_or-map key entries (length entries - 1) last 0 (omega arith) ∙ ap key (sym (is last)) in
+      get_or-map key entries (length entries - 1) last 0 (omega arith) ∙ ap key (sym (is last)) in
       (λ below k end. let same : k ≡ length entries - 1 = omega arith in rw same (omega (arith, at)), λ may. let h = may (length entries - 1) (omega arith) in omega (arith, at, h))
 
   -- one more that may follow
@@ -54,7 +54,7 @@ module _ {X : Type 0} (key : X → ℕ) where
       let long = length-take-le i whole (omega arith) in
       let at : get_or (map key whole) i 0 ≡ key (get_or whole i d) = get_or-map key whole i d 0 below in
       let before : get_or (map key (take i whole)) k 0 ≡ get_or (map key whole) k 0 =
-          ap (λ (l : List ℕ). get_or l k 0) (sym (take-map key i whole)) ∙ get_or-take i (map key whole) k 0 (omega arith) in
+      ap (λ (l : List ℕ). get_or l k 0) (sym (take-map key i whole)) ∙ get_or-take i (map key whole) k 0 (omega arith) in
       let here : k + 1 ≡ i = omega arith in
       let h = rise k (omega (arith, length-map whole key)) in
       let h' : get_or (map key whole) k 0 < get_or (map key whole) i 0 = rw here at h in
@@ -65,9 +65,9 @@ module _ {X : Type 0} (f : X → List ℕ) (n : ℕ) (fixed : (x : X) → length
   pub spelled_front : (whole : List X) (bytes : List ℕ) (i : ℕ) → Spells f n whole bytes → i ≤ length whole → take (n * i) bytes ≡ flat_map f (take i whole)
   spelled_front whole bytes i spells below =
       let parts : flat_map f whole ≡ flat_map f (take i whole) ++ flat_map f (drop i whole) =
-          ap (flat_map f) (sym (take-append-drop i whole)) ∙ flat_map-append f (take i whole) (drop i whole) in
+      ap (flat_map f) (sym (take-append-drop i whole)) ∙ flat_map-append f (take i whole) (drop i whole) in
       let long : length (flat_map f (take i whole)) ≡ n * i =
-          length-spelled f n fixed (take i whole) ∙ ap (λ (k : ℕ). n * k) (length-take-le i whole below) in
+      length-spelled f n fixed (take i whole) ∙ ap (λ (k : ℕ). n * k) (length-take-le i whole below) in
       ap (take (n * i)) (spells ∙ ap (λ (l : List ℕ). l ++ zeros (length bytes - n * length whole)) parts ∙ append_assoc (flat_map f (take i whole)) (flat_map f (drop i whole)) (zeros (length bytes - n * length whole)))
       ∙ take_at (flat_map f (take i whole)) (flat_map f (drop i whole) ++ zeros (length bytes - n * length whole)) (n * i) long
 
@@ -76,7 +76,7 @@ module _ {X : Type 0} (f : X → List ℕ) (n : ℕ) (fixed : (x : X) → length
   spelled_rest whole bytes count spells long =
       let tail = zeros (length bytes - n * length whole) in
       let end : drop (n * count) bytes ≡ tail =
-          ap (drop (n * count)) spells ∙ drop_at (flat_map f whole) tail (n * count) (length-spelled f n fixed whole ∙ ap (λ (k : ℕ). n * k) long) in
+      ap (drop (n * count)) spells ∙ drop_at (flat_map f whole) tail (n * count) (length-spelled f n fixed whole ∙ ap (λ (k : ℕ). n * k) long) in
       zeros-all (length bytes - n * length whole) (drop (n * count) bytes) end
 
 -- the bytes after so many entries, as the code takes them
@@ -95,10 +95,10 @@ All-push : {X : Type 0} (P : X → Type 0) (xs : List X) (y : X) → All P xs �
 All-push P xs y all holds k d below =
     let long = length_push xs y in
     elim (cases_eq k (length xs)) [
-      inl end ↦ (let last : get_or (xs ++ y ∷ []) k d ≡ y = get_or_push xs y d k (sym end) in subst P (sym last) holds)
+      | inl end ↦ (let last : get_or (xs ++ y ∷ []) k d ≡ y = get_or_push xs y d k (sym end) in subst P (sym last) holds)
       | inr within ↦ (let inside : k < length xs = omega arith in
-        let first : get_or (xs ++ y ∷ []) k d ≡ get_or xs k d = get_or_append_left xs (y ∷ []) d k inside in
-        subst P (sym first) (all k d inside))
+          let first : get_or (xs ++ y ∷ []) k d ≡ get_or xs k d = get_or_append_left xs (y ∷ []) d k inside in
+          subst P (sym first) (all k d inside))
     ]
 
 module _ {X : Type 0} (f : X → List ℕ) (n : ℕ) (P : X → Type 0) (key : X → ℕ) where

@@ -1,12 +1,12 @@
 -- Entries written one after another, over any kind of entry.
-use Rattle.std.proofs.Common.{◌≡◌, ℕ, ◌+◌, ◌-◌, ◌*◌, ◌<◌, ◌≤◌, List, [], ◌∷◌, ◌++◌, length, get_or, take, drop, replicate, refl, sym, ◌∙◌, ap, ap₂, arith, append_assoc, length-append, length-drop}
+use Rattle.std.proofs.Common.{◌≡◌, ℕ, ◌+◌, ◌-◌, ◌*◌, ◌<◌, ◌≤◌, List, [], ◌++◌, length, get_or, take, drop, replicate, sym, ◌∙◌, ap, ap₂, arith, append_assoc, length-append, length-drop}
 use Rattle.std.specs.List.{flat_map}
 use Rattle.std.proofs.lemmas.List.{length-take-le, take_all, drop-drop, drop_all, append-nil, length-replicate}
 use Rattle.std.proofs.Math.Nat.{mul-le-mul_left}
 use borrow.Rule.Slice.PartMut.{put_mid}
 use Rattle.model_bytes.specs.Bytes.{put_at}
-use Rattle.model_lists.specs.Texts.{zeros, Spells}
-use Rattle.model_lists.proofs.Spelled.{length-zeros, zeros-is, length-spelled, writes_on}
+use Rattle.model_lists.specs.Texts.{Spells}
+use Rattle.model_lists.proofs.Spelled.{zeros-is, length-spelled, writes_on}
 
 -- a part that was overwritten by as many bytes
 pub put_mid-put_at : (at n : ℕ) (held from : List ℕ) → length from ≡ n → put_mid at n held from ≡ put_at at from held
@@ -33,13 +33,13 @@ module _ {X : Type 0} (f : X → List ℕ) (n : ℕ) (fixed : (x : X) → length
   pub writes_all : (before after tail old : List ℕ) (count : ℕ) (entries : List X) → count ≡ length entries → n * count ≤ length before → take (n * count) before ≡ flat_map f (take count entries) → old ≡ take (length before - n * count) (drop (n * count) before) → tail ≡ replicate (length old) 0 → after ≡ put_mid (n * count) (length before - n * count) before tail → Spells f n entries after
   writes_all before after tail old count entries end room so_far old_is zeros_old now =
       let old_long : length old ≡ length before - n * count =
-          ap length old_is ∙ length-take-le (length before - n * count) (drop (n * count) before) (omega (arith, length-drop (n * count) before)) in
+      ap length old_is ∙ length-take-le (length before - n * count) (drop (n * count) before) (omega (arith, length-drop (n * count) before)) in
       let zero : tail ≡ replicate (length before - n * count) 0 = zeros_old ∙ ap (λ (m : ℕ). replicate m 0) old_long in
       let k : length tail ≡ length before - n * count = ap length zero ∙ length-replicate (length before - n * count) 0 in
       let rest : drop (length before - n * count) (drop (n * count) before) ≡ [] = drop_all (length before - n * count) (drop (n * count) before) (omega (arith, length-drop (n * count) before)) in
       let front : take (n * count) before ≡ flat_map f entries = so_far ∙ ap (flat_map f) (take_all count entries (omega arith)) in
       let both : after ≡ flat_map f entries ++ tail =
-          now ∙ ap₂ (λ (u v : List ℕ). u ++ v) front (ap (λ (l : List ℕ). tail ++ l) rest ∙ append-nil tail) in
+      now ∙ ap₂ (λ (u v : List ℕ). u ++ v) front (ap (λ (l : List ℕ). tail ++ l) rest ∙ append-nil tail) in
       let long : length after ≡ length before =
-          ap length both ∙ omega (arith, length-append (flat_map f entries) tail, length-spelled f n fixed entries, ap (λ (m : ℕ). n * m) end) in
+      ap length both ∙ omega (arith, length-append (flat_map f entries) tail, length-spelled f n fixed entries, ap (λ (m : ℕ). n * m) end) in
       both ∙ ap (λ (l : List ℕ). flat_map f entries ++ l) (zeros-is (length after - n * length entries) tail (omega (arith, ap (λ (m : ℕ). n * m) end)) (zero ∙ ap (λ (m : ℕ). replicate m 0) (sym k)))

@@ -1,10 +1,10 @@
 -- What was read of the bytes before the entries is what they say.
-use Rattle.std.proofs.Common.{◌≡◌, ℕ, ◌+◌, ◌-◌, ◌*◌, ◌<◌, ◌≤◌, ◌^◌, List, [], ◌∷◌, length, get_or, take, drop, replicate, refl, sym, ◌∙◌, ap, subst, arith, length-drop}
+use Rattle.std.proofs.Common.{◌≡◌, ℕ, ◌+◌, ◌<◌, ◌≤◌, List, [], ◌∷◌, length, get_or, take, drop, replicate, sym, ◌∙◌, ap, subst, arith, length-drop}
 use Rattle.std.proofs.lemmas.List.{length-take-le}
 use Rattle.byteorder.specs.Endian.{big_number, big_bytes}
 use Rattle.model_lists.specs.declared.dds.DdsState.{DdsState}
 use Rattle.model_lists.specs.Values.{IsWithinDdsLimits}
-use Rattle.model_lists.specs.Texts.{bytes_at, zeros, state_byte, IsDdsFront}
+use Rattle.model_lists.specs.Texts.{bytes_at, state_byte, IsDdsFront}
 use Rattle.model_lists.proofs.Spelled.{zeros-is, zeros-all}
 use Rattle.model_lists.proofs.Numbers.{bytes_are_2, bytes_are_4, big_bytes-injective, state_byte-injective}
 
@@ -26,12 +26,12 @@ number_bytes at m bytes inside small is =
 pub other_front : (state s : DdsState) (psa count c p n : ℕ) (bytes : List ℕ) → Reads state psa count bytes → IsWithinDdsLimits s p n → IsDdsFront s c p n bytes → IsWithinDdsLimits state psa count
 other_front state s psa count c p n bytes reads limits front =
     let same_state : s ≡ state =
-        state_byte-injective s state (ap (λ (l : List ℕ). get_or l 3 0) (sym front.begins ∙ reads.begins)) in
+    state_byte-injective s state (ap (λ (l : List ℕ). get_or l 3 0) (sym front.begins ∙ reads.begins)) in
     let long = reads.long in
     let same_psa : p ≡ psa =
-        big_bytes-injective 2 p psa (omega arith) (omega arith) (sym front.spares ∙ number_bytes 8 psa bytes (omega arith) reads.small reads.psa_is) in
+    big_bytes-injective 2 p psa (omega arith) (omega arith) (sym front.spares ∙ number_bytes 8 psa bytes (omega arith) reads.small reads.psa_is) in
     let same_count : n ≡ count =
-        big_bytes-injective 2 n count (omega arith) (omega arith) (sym front.list_counted ∙ number_bytes 2050 count bytes (omega arith) reads.small reads.count_is) in
+    big_bytes-injective 2 n count (omega arith) (omega arith) (sym front.list_counted ∙ number_bytes 2050 count bytes (omega arith) reads.small reads.count_is) in
     let P : DdsState → Type 0 = λ x. IsWithinDdsLimits x p n in
     let Q : ℕ → Type 0 = λ x. IsWithinDdsLimits state x n in
     let R : ℕ → Type 0 = λ x. IsWithinDdsLimits state psa x in
@@ -42,7 +42,7 @@ pub front_read : (state : DdsState) (counter psa count : ℕ) (bytes gap : List 
 front_read state counter psa count bytes gap reads counter_is list_begins gap_is zero =
     let long = reads.long in
     let gap_long : length gap ≡ 2038 =
-        ap length gap_is ∙ length-take-le 2038 (drop 10 bytes) (omega (arith, length-drop 10 bytes)) in
+    ap length gap_is ∙ length-take-le 2038 (drop 10 bytes) (omega (arith, length-drop 10 bytes)) in
     record {
       begins = reads.begins;
       counted = bytes_are_4 4 bytes (omega arith) reads.small ∙ ap (λ (k : ℕ). big_bytes 4 k) (sym counter_is);

@@ -3,7 +3,7 @@ use Rattle.model_lists.specs.Values.{Dds}
 use Rattle.model_lists.specs.Texts.{IsDdsText}
 use Rattle.ram_dds.specs.declared.dds.DdsPdl.{DdsPdl}
 
--- the value, as the definitions of the texts have it
+-- the value, as the definitions of the texts have it (this project's own)
 abbrev pub dds_of : DdsPdl → Dds
 dds_of held = record { counter = held.counter; state = held.state; psa = held.psa; entries = held.entries }
 

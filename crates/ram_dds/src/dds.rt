@@ -11,10 +11,11 @@ use ram_bytes::Block;
 use std::alloc::{AllocError, Global};
 
 /// A disc definition structure with its primary defect list.
-#[derive(Drop)]
+#[derive(Debug, Drop)]
 pub struct DdsPdl {
     /// How often the structure was written.
     pub counter: u32,
+    /// Whether a format has ended.
     pub state: DdsState,
     /// The size of the primary spare area in blocks, from 1 to 4,092.
     pub psa: u32,

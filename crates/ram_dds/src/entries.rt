@@ -4,7 +4,7 @@ use model_lists::PdlEntry;
 use std::marker::Model;
 
 /// The entries of a primary defect list, seen as their list.
-#[derive(Drop)]
+#[derive(Debug, Drop)]
 pub struct PdlEntries {
     items: Vec<PdlEntry>,
 }

@@ -1,8 +1,8 @@
-ghost use Rattle.std.specs.Prelude.{◌≡◌, ℕ, ◌+◌, ◌<◌, ◌≤◌, ◌^◌, ◌↔◌, [], ◌∷◌, length, take, IsTrue, MatchOption};
+ghost use Rattle.std.specs.Prelude.{◌≡◌, ℕ, ◌+◌, ◌<◌, ◌≤◌, ◌^◌, ◌↔◌, [], ◌∷◌, ◌++◌, length, take, IsTrue, MatchOption};
+ghost use Rattle.byteorder.specs.Endian.{big_bytes};
 ghost use Rattle.model_lists.specs.declared.dds.DdsState.{DdsState};
 ghost use Rattle.model_lists.specs.Values.{IsWithinDdsLimits};
 ghost use Rattle.model_lists.specs.Texts.{IsDdsFront, state_byte};
-ghost use Rattle.model_lists.proofs.DdsTexts.{dds_begin, pdl_begin};
 
 use model_lists::{DdsState, PSA_LIMIT};
 use ram_bytes::{get_u16, get_u32, is_zero};
@@ -19,7 +19,7 @@ pub struct Front {
 /// The first ten bytes, with the state, the counter and the size of the primary spare area.
 pub fn begin_bytes(state: DdsState, counter: u32, psa: u32) -> [u8; 10]
     requires { psa < 2 ^ 16 }
-    ensures { result ≡ dds_begin state counter psa }
+    ensures { result ≡ 10 ∷ 10 ∷ 1 ∷ state_byte state ∷ big_bytes 4 counter ++ big_bytes 2 psa }
 {
     let state_byte = match state {
         DdsState::Formatting => 0,
@@ -33,7 +33,7 @@ pub fn begin_bytes(state: DdsState, counter: u32, psa: u32) -> [u8; 10]
 /// The four bytes before the entries, with their number.
 pub fn list_begin_bytes(count: usize) -> [u8; 4]
     requires { count < 2 ^ 16 }
-    ensures { result ≡ pdl_begin count }
+    ensures { result ≡ 0 ∷ 1 ∷ big_bytes 2 count }
 {
     let [high, low] = (count as u16).to_be_bytes();
     [0, 1, high, low]

@@ -1,5 +1,5 @@
 -- By the lemmas on fronts.
-use Rattle.std.proofs.Common.{ℕ, get_or, length, take, drop, refl, arith}
+use Rattle.std.proofs.Common.{take, drop, refl, arith}
 use Rattle.std.proofs.lemmas.Bool.{false≢true}
 use Rattle.ram_dds.proofs.Fronts.{other_front, front_read, no_gap}
 use Rattle.ram_dds.proofs.front.front_of.Goals as goal
@@ -21,13 +21,16 @@ returns-then-not-is_within_limits c =
     } limits front))
 
 pub returns : goal.returns
-returns c =
-    (c.get_u32.type_inv, c.if-not-is_within_limits.ensures.0 refl, front_read c.in_ok-state.state c.get_u32.result c.get_u16-psa.result c.get_u16-count.result c.args.bytes.now (take 2038 (drop 10 c.args.bytes.now)) record {
-      long = c.requires;
-      small = λ k. omega (arith, c.type_inv.bytes k);
-      begins = c.in_ok-state.ensures;
-      psa_fits = c.get_u16-psa.type_inv;
-      count_fits = c.get_u16-count.type_inv;
-      psa_is = c.get_u16-psa.ensures;
-      count_is = c.get_u16-count.ensures;
-    } c.get_u32.ensures (c.if-not-begins_list.ensures.0 refl) refl (c.if-not-is_zero.ensures.0 refl))
+returns c = (
+  c.get_u32.type_inv,
+  c.if-not-is_within_limits.ensures.0 refl,
+  front_read c.in_ok-state.state c.get_u32.result c.get_u16-psa.result c.get_u16-count.result c.args.bytes.now (take 2038 (drop 10 c.args.bytes.now)) record {
+    long = c.requires;
+    small = λ k. omega (arith, c.type_inv.bytes k);
+    begins = c.in_ok-state.ensures;
+    psa_fits = c.get_u16-psa.type_inv;
+    count_fits = c.get_u16-count.type_inv;
+    psa_is = c.get_u16-psa.ensures;
+    count_is = c.get_u16-count.ensures;
+  } c.get_u32.ensures (c.if-not-begins_list.ensures.0 refl) refl (c.if-not-is_zero.ensures.0 refl),
+)

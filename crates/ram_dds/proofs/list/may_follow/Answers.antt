@@ -1,5 +1,5 @@
 -- The last entry's block decides.
-use Rattle.std.proofs.Common.{ℕ, ltb-true, lt-ltb}
+use Rattle.std.proofs.Common.{ltb-true, lt-ltb}
 use Rattle.model_lists.specs.declared.dds.PdlEntry.{PdlEntry}
 use Rattle.model_lists.proofs.Reading.{follows_last}
 use Rattle.ram_dds.proofs.list.may_follow.Goals as goal

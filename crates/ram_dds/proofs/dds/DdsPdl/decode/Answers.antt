@@ -1,11 +1,10 @@
 -- The front and the list, read one after the other.
-use Rattle.std.proofs.Common.{◌≡◌, ℕ, List, length, sym, ◌∙◌, ap, subst, arith}
+use Rattle.std.proofs.Common.{ℕ, List, sym, subst}
 use Rattle.model_lists.specs.declared.dds.PdlEntry.{PdlEntry}
-use Rattle.model_lists.specs.Values.{Dds, IsLawfulPdl}
+use Rattle.model_lists.specs.Values.{Dds}
 use Rattle.model_lists.specs.Texts.{pdl_entry_bytes, Spells, IsDdsText}
 use Rattle.model_lists.proofs.Spelled.{rest_of}
 use Rattle.model_lists.proofs.DdsTexts.{no_text, text_read}
-use Rattle.ram_dds.specs.Dds.{dds_of}
 use Rattle.ram_dds.proofs.dds.DdsPdl.decode.Goals as goal
 
 pub returns-in_default-2 : goal.returns-in_default-2
