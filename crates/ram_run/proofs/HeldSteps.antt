@@ -13,8 +13,8 @@ use Rattle.ram_image.specs.Opening.{IsOpened, IsRefused}
 use Rattle.ram_image.specs.declared.medium.ImageMedium.{ImageMedium}
 use Rattle.ram_image.specs.declared.opening.OpenFault.{OpenFault}
 use Rattle.ram_image.specs.declared.opening.OpenFault.TheVariants as faulty
-use Rattle.ram_run.specs.declared.script.Line.{Line}
-use Rattle.ram_run.specs.declared.script.Line.TheVariants as lines
+use Rattle.ram_text.specs.declared.grammar.Line.{Line}
+use Rattle.ram_text.specs.declared.grammar.Line.TheVariants as lines
 use Rattle.ram_text.specs.declared.print.Answer.{Answer}
 use Rattle.ram_run.specs.declared.plain.PlainDisc.{PlainDisc}
 use Rattle.ram_run.specs.declared.held.Held.{Held}

@@ -3,3 +3,4 @@ pub mod HeldSteps
 pub mod Turns
 pub mod Takings
 pub mod CountsRise
+pub mod Finishes

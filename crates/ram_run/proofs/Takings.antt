@@ -5,10 +5,10 @@ use Rattle.std.proofs.Common.{arith, refl, sym, ap, ◌∙◌, inl, inr, subst, 
 use Rattle.ram_outside.specs.declared.image.Image.{Ghosts}
 use Rattle.ram_text.specs.Lines.{line_feed, HasNoFeed, EndsByFeed, EndsByScript, GivesLine, LineIsTooLong, ScriptIsTooLong}
 use Rattle.ram_text.specs.declared.lines.TheConstants.{LINE_LIMIT, SCRIPT_LIMIT}
-use Rattle.ram_run.specs.declared.script.Line.{Line}
+use Rattle.ram_text.specs.declared.grammar.Line.{Line}
 use Rattle.ram_run.specs.declared.held.Held.{Held}
 use Rattle.ram_run.specs.declared.serve.Ending.TheVariants as endings
-use Rattle.ram_run.specs.Grammar.{Spells}
+use Rattle.ram_text.specs.Grammar.{Spells}
 use Rattle.ram_run.specs.Run.{report_text, IsNextLine, IsUnread, PassesLineLimit, PassesScriptLimit}
 use Rattle.ram_run.specs.Turn.{Beginning, Between, Taken, Ends}
 

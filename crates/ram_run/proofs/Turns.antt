@@ -6,10 +6,10 @@ use Rattle.ram_outside.specs.declared.image.Image.{Ghosts}
 use Rattle.ram_text.specs.Lines.{line_feed}
 use Rattle.ram_text.specs.Writer.{IsPut, IsCutOff}
 use Rattle.ram_text.specs.declared.print.Answer.{Answer}
-use Rattle.ram_run.specs.declared.script.Line.{Line}
+use Rattle.ram_text.specs.declared.grammar.Line.{Line}
 use Rattle.ram_run.specs.declared.held.Held.{Held}
 use Rattle.ram_run.specs.declared.serve.Ending.TheVariants as endings
-use Rattle.ram_run.specs.Grammar.{Spells}
+use Rattle.ram_text.specs.Grammar.{Spells}
 use Rattle.ram_run.specs.Machine.{State, Step}
 use Rattle.ram_run.specs.Held.{Stands, NeedsDisc, LacksMemory}
 use Rattle.ram_run.specs.Run.{Event, Run, Reaches, script_text, report_text, event_text, IsNextLine}

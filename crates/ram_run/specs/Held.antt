@@ -5,8 +5,8 @@ use Rattle.model_image.specs.Image.{IsImageOf, blank_cells}
 use Rattle.ram_outside.specs.declared.image.Image.{Ghosts}
 use Rattle.ram_image.specs.declared.opening.OpenFault.{OpenFault}
 use Rattle.ram_image.specs.declared.opening.OpenFault.TheVariants as faulty
-use Rattle.ram_run.specs.declared.script.Line.{Line}
-use Rattle.ram_run.specs.declared.script.Line.TheVariants as lines
+use Rattle.ram_text.specs.declared.grammar.Line.{Line}
+use Rattle.ram_text.specs.declared.grammar.Line.TheVariants as lines
 use Rattle.ram_text.specs.declared.print.Answer.{Answer}
 use Rattle.ram_text.specs.declared.print.Answer.TheVariants as answers
 use Rattle.ram_run.specs.declared.plain.PlainDisc.{PlainDisc}

@@ -2,8 +2,8 @@ use Rattle.std.specs.Prelude.{◌≡◌, ℕ, ◌+◌, ◌*◌, ◌%◌, ◌≤�
 use Rattle.model_geometry.specs.Geometry.{Shape, IsLawful, shape_of}
 use Rattle.model_medium.specs.Cells.{Good, IsGood}
 use Rattle.model_image.specs.Image.{IsImageOf, blank_cells}
-use Rattle.ram_run.specs.declared.script.Line.{Line}
-use Rattle.ram_run.specs.declared.script.Line.TheVariants.{Press, Power, Read, Write}
+use Rattle.ram_text.specs.declared.grammar.Line.{Line}
+use Rattle.ram_text.specs.declared.grammar.Line.TheVariants.{Press, Power, Read, Write}
 use Rattle.ram_text.specs.declared.print.Answer.{Answer}
 use Rattle.ram_text.specs.declared.print.Answer.TheVariants as answers
 use Rattle.ram_run.specs.Plain.{Plain, capacity, home_cell, powered_on, written, IsInRange, IsOutOfRange}

@@ -7,8 +7,8 @@ use Rattle.ram_text.specs.Report.{end_text}
 use Rattle.ram_text.specs.Writer.{PrintRule}
 use Rattle.ram_text.specs.declared.gathered.Print.{Print}
 use Rattle.ram_text.specs.declared.gathered.Print.TheVariants as prints
-use Rattle.ram_run.specs.declared.script.Line.{Line}
-use Rattle.ram_run.specs.declared.script.Line.TheVariants as lines
+use Rattle.ram_text.specs.declared.grammar.Line.{Line}
+use Rattle.ram_text.specs.declared.grammar.Line.TheVariants as lines
 use Rattle.ram_run.specs.declared.serve.Desk.{Desk}
 use Rattle.ram_run.specs.declared.serve.Ending.{Ending}
 use Rattle.ram_run.specs.declared.serve.Ending.TheVariants as endings

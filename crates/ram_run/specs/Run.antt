@@ -4,9 +4,9 @@ use Rattle.ram_text.specs.Report.{answer_text, sector_text, end_text}
 use Rattle.ram_text.specs.declared.lines.TheConstants.{LINE_LIMIT, SCRIPT_LIMIT}
 use Rattle.ram_text.specs.declared.print.Answer.{Answer}
 use Rattle.ram_text.specs.declared.print.Answer.TheVariants as answers
-use Rattle.ram_run.specs.declared.script.Line.{Line}
-use Rattle.ram_run.specs.declared.script.Line.TheVariants as lines
-use Rattle.ram_run.specs.Grammar.{Spells}
+use Rattle.ram_text.specs.declared.grammar.Line.{Line}
+use Rattle.ram_text.specs.declared.grammar.Line.TheVariants as lines
+use Rattle.ram_text.specs.Grammar.{Spells}
 use Rattle.ram_run.specs.Machine.{State, Step}
 
 -- One line of a run: its bytes, what they read as, the answer, and the sector that is told after it, if any.

@@ -7,14 +7,14 @@ use Rattle.ram_outside.specs.declared.image.Image.{Ghosts}
 use Rattle.ram_text.specs.declared.lines.TheConstants.{SCRIPT_LIMIT}
 use Rattle.ram_text.specs.declared.gathered.Print.{Print}
 use Rattle.ram_text.specs.declared.gathered.Print.TheVariants as prints
-use Rattle.ram_run.specs.declared.script.Line.{Line}
-use Rattle.ram_run.specs.declared.script.Line.TheVariants as lines
+use Rattle.ram_text.specs.declared.grammar.Line.{Line}
+use Rattle.ram_text.specs.declared.grammar.Line.TheVariants as lines
 use Rattle.ram_run.specs.declared.held.Held.{Held}
 use Rattle.ram_run.specs.declared.serve.Ending.{Ending}
 use Rattle.ram_run.specs.declared.serve.Ending.TheVariants as endings
 use Rattle.ram_run.specs.declared.serve.Turn.{Turn}
 use Rattle.ram_run.specs.declared.serve.Turn.TheVariants as turns
-use Rattle.ram_run.specs.Grammar.{Spells}
+use Rattle.ram_text.specs.Grammar.{Spells}
 use Rattle.ram_run.specs.Machine.{State, Unpressed, Pressed}
 use Rattle.ram_run.specs.Held.{Stands, LacksMemory, NeedsDisc, held_faults}
 use Rattle.ram_run.specs.Run.{Event, Run, Reaches, report_text, IsMisspelled, IsNextLine}

@@ -5,11 +5,10 @@ ghost use Rattle.ram_run.specs.Machine.{State};
 ghost use Rattle.ram_run.specs.Held.{Stands, LeavesImage, held_faults, OutcomeCount, IsNoPress, IsAnsweredOnDisc, IsReadAnswered, IsWriteAnswered, IsPressAnswered, IsAnswered, outcome_of};
 
 use crate::plain::{PlainDisc, PlainRead, PlainWrite};
-use crate::script::Line;
 use ram_bytes::Block;
 use ram_image::{OpenFault, PressOut, open, press};
 use ram_outside::Image;
-use ram_text::Answer;
+use ram_text::{Answer, Line};
 use ram_zones::Geometry;
 use std::alloc::Global;
 

@@ -5,6 +5,5 @@ mod ending;
 mod held;
 mod plain;
 mod printing;
-mod script;
 mod serve;
 mod status;

@@ -4,10 +4,9 @@ ghost use Rattle.std.specs.Prelude.{◌++◌};
 ghost use Rattle.ram_run.specs.Run.{told_text};
 ghost use Rattle.ram_run.specs.Held.{told_sector};
 
-use crate::script::Line;
 use ram_bytes::{Block, SECTORS_PER_BLOCK};
 use ram_outside::Sink;
-use ram_text::{Answer, Print, ReportWriter, print_answer, print_sector};
+use ram_text::{Answer, Line, Print, ReportWriter, print_answer, print_sector};
 
 /// Prints an answer, and after a good read the sector out of its block.
 pub fn print_event<K: Sink>(

@@ -9,11 +9,10 @@ ghost use Rattle.ram_run.specs.Turn.{Beginning, Between, Taken, TurnsTo, Ends, S
 use crate::ending::status_of;
 use crate::held::{Held, Outcome, answer_line};
 use crate::printing::print_event;
-use crate::script::{Line, parse_line};
 use crate::status::Status;
 use ram_bytes::Block;
 use ram_outside::{Image, Sink, Source};
-use ram_text::{LineReader, NextLine, Print, ReportWriter, print_end};
+use ram_text::{Line, LineReader, NextLine, Print, ReportWriter, parse_line, print_end};
 use std::alloc::Global;
 
 /// Why the lines of a script come to their end.
