@@ -4,3 +4,5 @@ pub mod Turns
 pub mod Takings
 pub mod CountsRise
 pub mod Finishes
+pub mod Opens
+pub mod Twos

@@ -1,4 +1,4 @@
-use Rattle.std.specs.Prelude.{◌≡◌, ℕ, ◌≤◌, ◌⊎◌, Option, Some, List, [], ◌∷◌, ◌++◌, length, codes}
+use Rattle.std.specs.Prelude.{◌≡◌, ℕ, ◌≤◌, ◌⊎◌, Bool, true, Option, None, Some, List, [], ◌∷◌, ◌++◌, length, codes}
 use Rattle.model_counts.specs.Counts.{Rose}
 use Rattle.model_geometry.specs.Geometry.{Shape, shape_of}
 use Rattle.model_image.specs.Image.{IsImageOf, blank_cells}
@@ -124,3 +124,44 @@ pub record IsFresh (desk : Desk) : Type 0 where
   pub buffered : desk.reader.buffered ≡ []
   pub taken : desk.reader.taken ≡ 0
   pub gathered : desk.writer ≡ []
+
+-- Source, sink and opener tell what the run begins with: the script that is left, what was written before, and the
+-- image that is opened next, of which no disc was pressed in this run.
+pub record IsTold {X : Type 0} (bytes_of : X → Option (List ℕ)) (first : Beginning) (left written : Option (List ℕ)) (next : Option X) (tells : Bool) : Type 0 where
+  pub image : X
+  pub next_is : next ≡ Some image
+  pub begins : Begins first left written (bytes_of image)
+  pub tells_is : tells ≡ true
+
+-- the bytes of an image that was handed back, where it tells them
+abbrev pub bytes_returned : {X : Type 0} → (X → Option (List ℕ)) → Option X → Option (List ℕ)
+bytes_returned bytes_of None = None
+bytes_returned bytes_of (Some image) = bytes_of image
+
+-- nothing was opened, read or written
+pub record IsUntouched {X : Type 0} (left left' written written' : Option (List ℕ)) (returned returned' : Option X) : Type 0 where
+  pub unread : left' ≡ left
+  pub unwritten : written' ≡ written
+  pub unopened : returned' ≡ returned
+
+-- the status of a run that opened no image: the words are another form, the opener failed, or there was no memory
+abbrev pub IsUnopened : Status → Type 0
+IsUnopened statuses.Usage = Unit {0}
+IsUnopened statuses.ImageFault = Unit {0}
+IsUnopened statuses.NoMemory = Unit {0}
+IsUnopened _ = ⊥
+
+-- the words are another form than `run` and the name of an image exactly where the status is that of usage
+abbrev pub UsageRule : List (List ℕ) → Status → Type 0
+UsageRule words statuses.Usage = ¬ IsRunImage words
+UsageRule words _ = IsRunImage words
+
+-- the status is not that of usage
+abbrev pub IsNoUsage : Status → Type 0
+IsNoUsage statuses.Usage = ⊥
+IsNoUsage _ = Unit {0}
+
+-- with the status of usage nothing was opened, read or written
+abbrev pub UntouchedByUsage : {X : Type 0} → Option (List ℕ) → Option (List ℕ) → Option (List ℕ) → Option (List ℕ) → Option X → Option X → Status → Type 0
+UntouchedByUsage left left' written written' returned returned' statuses.Usage = IsUntouched left left' written written' returned returned'
+UntouchedByUsage left left' written written' returned returned' _ = Unit {0}

@@ -5,5 +5,6 @@ mod ending;
 mod held;
 mod plain;
 mod printing;
+pub mod run;
 mod serve;
-mod status;
+pub mod status;

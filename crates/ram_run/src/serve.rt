@@ -1,9 +1,9 @@
-ghost use Rattle.std.specs.Prelude.{◌≡◌, ◌^◌, ◌<◌, ℕ, List, Option};
+ghost use Rattle.std.specs.Prelude.{◌≡◌, ◌^◌, ◌<◌, ℕ, List, Option, IfOk};
 ghost use Rattle.std.specs.Io.KnownBytes.{prepend_known};
 ghost use Rattle.ram_text.specs.Writer.{due};
 ghost use Rattle.model_counts.specs.Counts.{Rose};
 ghost use Rattle.ram_run.specs.Held.{held_faults};
-ghost use Rattle.ram_run.specs.Outcome.{Begins, IsFresh, Leaves, StatusCounts, LastRule, FinishRule};
+ghost use Rattle.ram_run.specs.Outcome.{Begins, IsFresh, IsNoUsage, Leaves, StatusCounts, LastRule, FinishRule};
 ghost use Rattle.ram_run.specs.Turn.{Beginning, Between, Taken, TurnsTo, Ends, ShowRule, TakesBytes, TurnCounts, counts_of};
 
 use crate::ending::status_of;
@@ -13,7 +13,7 @@ use crate::status::Status;
 use ram_bytes::Block;
 use ram_outside::{Image, Sink, Source};
 use ram_text::{Line, LineReader, NextLine, Print, ReportWriter, parse_line, print_end};
-use std::alloc::Global;
+use std::alloc::{AllocError, Global};
 
 /// Why the lines of a script come to their end.
 #[derive(Clone, Copy, Debug, PartialEq, Eq)]
@@ -77,6 +77,19 @@ fn answer_and_print<I: Image, K: Sink>(
         Outcome::NotADisc => (held, Turn::Ends(Ending::NotADisc)),
         Outcome::Fault => (held, Turn::Ends(Ending::ImageFault)),
         Outcome::NoMemory => (held, Turn::Ends(Ending::NoMemory)),
+    }
+}
+
+impl Desk {
+    /// A desk at which nothing was read yet. All its room is taken here.
+    pub fn new(alloc: Global) -> Result<Desk, AllocError>
+        ensures { IfOk result (λ desk. IsFresh desk) }
+    {
+        Ok(Desk {
+            reader: LineReader::new(alloc)?,
+            writer: ReportWriter::new(alloc)?,
+            block: Block::zeros(alloc)?,
+        })
     }
 }
 
@@ -168,6 +181,7 @@ pub fn serve<I: Image, S: Source, K: Sink>(
     report: &mut K,
 ) -> (I, Status)
     requires { IsFresh desk.old }
+    ensures other { IsNoUsage result.1 }
     ensures leaves { (first : Beginning) → Begins first (S.left script.old) (K.written report.old) (I.bytes image)
         → Leaves first (K.written report.new) (I.bytes result.0) (Rose (I.faults image) (I.faults result.0)) result.1 }
     ensures counts { StatusCounts (counts_of (S.faults script.old) (K.faults report.old) (I.faults image)) (counts_of (S.faults script.new) (K.faults report.new) (I.faults result.0)) result.1 }
@@ -184,7 +198,8 @@ fn finish<K: Sink>(
     answered: u64,
     ending: Ending,
 ) -> Status
-    ensures { FinishRule (due (K.written report.old) writer.old) (K.written report.new) (K.faults report.old) (K.faults report.new) answered ending result }
+    ensures other { IsNoUsage result }
+    ensures rule { FinishRule (due (K.written report.old) writer.old) (K.written report.new) (K.faults report.old) (K.faults report.new) answered ending result }
 {
     match print_last(writer, report, answered, ending) {
         Print::Failed => return Status::SinkFault,

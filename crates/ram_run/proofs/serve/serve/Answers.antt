@@ -14,5 +14,5 @@ returns-clause-leaves g c first b =
       (g.K.Sink.faults c.serve_lines-held.new.report) (g.K.Sink.faults c.finish-status.new.report) c.serve_lines-held.result.1 c.finish-status.result
       (c.serve_lines-held.ensures.ends first
         (begins {d = g.I.Image} first c.args.image (g.S.Source.left c.args.script.now) (g.K.Sink.written c.args.report.now) c.args.desk.now.reader.buffered c.args.desk.now.writer c.requires.buffered c.requires.gathered b))
-      c.finish-status.ensures
+      c.finish-status.ensures.rule
       (λ is. rw c.into_image.ensures.count (rw is at c.serve_lines-held.ensures.counts.1))
