@@ -8,3 +8,6 @@ mod printing;
 pub mod run;
 mod serve;
 pub mod status;
+
+#[cfg(test)]
+mod tests;
