@@ -157,20 +157,21 @@ fn a_disc_is_pressed_written_and_read(rt: HostRuntime) -> Result<(), Fail> {
     Ok(())
 }
 
+/// Whether these words are told as another form, and nothing is opened, read or written.
+fn opens_nothing(alloc: Global, words: &[&str]) -> Result<bool, AllocError> {
+    let ran = run_words(alloc, words, SCRIPT.as_bytes(), b"", PIECE, None)?;
+    Ok(ran.status == Status::Usage
+        && ran.script.calls() == 0
+        && ran.report.calls() == 0
+        && ran.opener.returned().is_none())
+}
+
 #[test]
 fn other_words_open_nothing(rt: HostRuntime) -> Result<(), Fail> {
-    for words in [
-        ["run"].as_slice(),
-        ["run", "x", "y"].as_slice(),
-        ["walk", "x"].as_slice(),
-        [].as_slice(),
-    ] {
-        let ran = run_words(rt.alloc(), words, SCRIPT.as_bytes(), b"", PIECE, None)?;
-        assert_eq!(rt; ran.status, Status::Usage);
-        assert_eq!(rt; ran.report.calls(), 0);
-        assert_eq!(rt; ran.script.calls(), 0);
-        assert!(rt; ran.opener.returned().is_none());
-    }
+    assert!(rt; opens_nothing(rt.alloc(), &[])?);
+    assert!(rt; opens_nothing(rt.alloc(), &["run"])?);
+    assert!(rt; opens_nothing(rt.alloc(), &["run", "x", "y"])?);
+    assert!(rt; opens_nothing(rt.alloc(), &["walk", "x"])?);
     Ok(())
 }
 
@@ -203,17 +204,15 @@ fn each_call_fails_in_turn(rt: HostRuntime) -> Result<(), Fail> {
         (Outside::Opener, 1, Status::ImageFault),
         (Outside::Image, 11, Status::ImageFault),
     ] {
-        for call in 1..=calls {
+        for call in 1..13 {
             let ran = run_script(rt.alloc(), SCRIPT, Some(Failure { of, call }))?;
-            assert_eq!(rt; ran.status, status, "{of:?} {call}");
+            let wanted = if call > calls { Status::Done } else { status };
+            assert_eq!(rt; ran.status, wanted, "{of:?} {call}");
             assert!(rt; REPORT.as_bytes().starts_with(ran.report.bytes()));
             if let Some(image) = ran.opener.returned() {
                 assert!(rt; is_lawful(image.bytes(), written.as_slice()));
             }
         }
-        let call = calls + 1;
-        let ran = run_script(rt.alloc(), SCRIPT, Some(Failure { of, call }))?;
-        assert_eq!(rt; ran.status, Status::Done, "{of:?} {call}");
     }
     Ok(())
 }
