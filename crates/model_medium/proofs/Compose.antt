@@ -71,9 +71,9 @@ module _ (a b c : World) (j k : ℕ) (one : Follows a b j) (two : Follows b c k)
   pub follows_then : Follows a c (j + k)
   follows_then = elim one.ends [
     | inl kept ↦ elim two.ends [
-        | inl kept' ↦ record { lasts = lasts_then a b c j k one.lasts two.lasts; off_is_still = still_world; ends = inl (no_cut_then a b c k kept kept' two.lasts) }
-        | inr fell ↦ record { lasts = lasts_then a b c j k one.lasts two.lasts; off_is_still = still_world; ends = inr (cut_then a b c k kept fell two.lasts) }
-      ]
+      | inl kept' ↦ record { lasts = lasts_then a b c j k one.lasts two.lasts; off_is_still = still_world; ends = inl (no_cut_then a b c k kept kept' two.lasts) }
+      | inr fell ↦ record { lasts = lasts_then a b c j k one.lasts two.lasts; off_is_still = still_world; ends = inr (cut_then a b c k kept fell two.lasts) }
+    ]
     | inr fell ↦
         let still = two.off_is_still fell.goes_off in
         subst (λ n. Follows a c n) (no_more j k still.1) (subst (λ w. Follows a w j) (sym still.0) one)
@@ -89,9 +89,9 @@ module _ (a b c : Machine) (j k : ℕ) (one : Reach a b j) (two : Reach b c k) w
   dies_then : (block : ℕ) → cell_at c.world.cells block ≡ Dead → (cell_at a.world.cells block ≡ Dead) ⊎ IsWornWithin (j + k) block a.arms
   dies_then block e = elim (two.dies_by_arm block e) [
     | inl dead ↦ elim (one.dies_by_arm block dead) [
-        | inl before ↦ inl before
-        | inr worn ↦ inr (worn_within-more j (j + k) block a.arms (omega arith) worn)
-      ]
+      | inl before ↦ inl before
+      | inr worn ↦ inr (worn_within-more j (j + k) block a.arms (omega arith) worn)
+    ]
     | inr worn ↦ inr (worn_within-before j k block b.world.cells a.arms b.arms one.arms worn)
   ]
 
@@ -104,9 +104,9 @@ module _ (a b c : Machine) (j k : ℕ) (one : Reach a b j) (two : Reach b c k) w
   pub reach_then : Reach a c (j + k)
   reach_then = elim one.ends [
     | inl kept ↦ elim two.ends [
-        | inl kept' ↦ go_on (inl (no_cut_then a.world b.world c.world k kept.0 kept'.0 two.lasts, cut_stands-then j k a.cut b.cut c.cut kept.1 kept'.1))
-        | inr fell ↦ go_on (inr (cut_then a.world b.world c.world k kept.0 fell.0 two.lasts, cut_fell-then j k a.cut b.cut c.cut kept.1 fell.1))
-      ]
+      | inl kept' ↦ go_on (inl (no_cut_then a.world b.world c.world k kept.0 kept'.0 two.lasts, cut_stands-then j k a.cut b.cut c.cut kept.1 kept'.1))
+      | inr fell ↦ go_on (inr (cut_then a.world b.world c.world k kept.0 fell.0 two.lasts, cut_fell-then j k a.cut b.cut c.cut kept.1 fell.1))
+    ]
     | inr fell ↦
         let still = two.off_is_still fell.0.goes_off in
         subst (λ n. Reach a c n) (no_more j k still.1) (subst (λ m. Reach a m j) (sym still.0) one)

@@ -96,10 +96,10 @@ reach_on old new block change used kind not_due power cuts =
     good : (other : ℕ) → IsGood (cell_at old.world.cells other) → IsGoodOrDead (cell_at new.world.cells other)
     good other h = elim (cases_eq other block) [
       | inl same ↦ elim (cases_Bool (is_killed block old.arms)) [
-          | inl killed ↦ subst IsGoodOrDead (sym (ap (cell_at new.world.cells) same ∙ killed_here old new block change used kind.tame killed)) tt
-          | inr spared ↦ subst IsGoodOrDead (sym (ap (cell_at new.world.cells) same ∙ spared_here old new block change used kind.tame spared))
-              (kind.stays_good (cell_at old.world.cells block) (subst IsGood (ap (cell_at old.world.cells) same) h))
-        ]
+        | inl killed ↦ subst IsGoodOrDead (sym (ap (cell_at new.world.cells) same ∙ killed_here old new block change used kind.tame killed)) tt
+        | inr spared ↦ subst IsGoodOrDead (sym (ap (cell_at new.world.cells) same ∙ spared_here old new block change used kind.tame spared))
+            (kind.stays_good (cell_at old.world.cells block) (subst IsGood (ap (cell_at old.world.cells) same) h))
+      ]
       | inr ne ↦ subst IsGoodOrDead (sym (cell_other old new block change used kind.tame other ne)) (good_or_dead-good (cell_at old.world.cells other) h)
     ]
 
@@ -108,8 +108,10 @@ pub reach_off : (old new : Machine) (block : ℕ) (change : Cell → Cell) (fate
     → new.world.cuts ≡ counted old.world.cuts 1 → Reach old new 1
 reach_off old new block change fate used harsh to_come due power cuts =
     reach_by old new block change used harsh.tame
-    (inr (record { was_on = used.was_on; goes_off = power; one_cut = cuts; torn = block; others_stay_good = others; one_torn = here },
-      subst (CutFell 1 old.cut) (sym used.cut) (cut_fell-one old.cut fate to_come due)))
+    (inr (
+      record { was_on = used.was_on; goes_off = power; one_cut = cuts; torn = block; others_stay_good = others; one_torn = here },
+      subst (CutFell 1 old.cut) (sym used.cut) (cut_fell-one old.cut fate to_come due),
+    ))
   where
     others : (other : ℕ) → other ≢ block → IsGood (cell_at old.world.cells other) → IsGoodOrDead (cell_at new.world.cells other)
     others other ne h = subst IsGoodOrDead (sym (cell_other old new block change used harsh.tame other ne)) (good_or_dead-good (cell_at old.world.cells other) h)

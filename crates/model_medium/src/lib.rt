@@ -3,7 +3,10 @@
 
 mod laws;
 
-pub use laws::{composes, none_is_no_use, one_read_goes_one_further, one_write_goes_one_further, steps_obey_the_rules};
+pub use laws::{
+    composes, none_is_no_use, one_read_goes_one_further, one_write_goes_one_further,
+    steps_obey_the_rules,
+};
 
 /// How a read of a block ended.
 #[derive(Clone, Copy, Debug, PartialEq, Eq)]

@@ -1,3 +1,6 @@
 pub mod Laws
 pub mod Control
 pub mod Countdown
+pub mod Slots
+pub mod Memory
+pub mod Begun

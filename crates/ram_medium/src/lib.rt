@@ -4,8 +4,11 @@
 mod blocks;
 mod control;
 mod countdown;
+mod memory;
+mod slots;
 
 pub use blocks::Medium;
 pub use control::{Arm, FailEnd, MediumControl};
 pub use countdown::{Armed, Due, MOST_ARMS};
+pub use memory::MemMedium;
 pub use model_medium::{ArmedCut, Fate, ReadEnd, WornBlock, WriteEnd};
