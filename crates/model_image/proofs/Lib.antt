@@ -2,3 +2,5 @@ pub mod Changes
 pub mod Writes
 pub mod CellWrites
 pub mod Presses
+pub mod StateWrites
+pub mod ToldCells

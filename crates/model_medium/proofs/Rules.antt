@@ -48,7 +48,7 @@ module _ (old new : Machine) (block : ℕ) where
     abbrev worn : List Cell
     worn = cells_worn block old.arms old.world.cells
 
-    used_read : IsExactly (begun block old) new → Used old new block (λ cell. cell)
+    pub used_read : IsExactly (begun block old) new → Used old new block (λ cell. cell)
     used_read x = record {
       was_on = was_on;
       as_told = ap (λ m. m.world.told) x.same;
@@ -136,7 +136,7 @@ module _ (old new : Machine) (block : ℕ) where
       stays_dead = dead_here old new block change used tame;
     }
 
-  left_by_read : Used old new block (λ cell. cell) → IsSameOrDead (cell_at old.world.cells block) (cell_at new.world.cells block)
+  pub left_by_read : Used old new block (λ cell. cell) → IsSameOrDead (cell_at old.world.cells block) (cell_at new.world.cells block)
   left_by_read used = elim (cases_Bool (is_killed block old.arms)) [
     | inl killed ↦ inr (killed_here old new block (λ cell. cell) used same_is_kind.tame killed)
     | inr spared ↦ inl (spared_here old new block (λ cell. cell) used same_is_kind.tame spared)
