@@ -1,2 +1,3 @@
 pub mod Retained
 pub mod SlotCells
+pub mod Parts

@@ -6,9 +6,11 @@ mod control;
 mod countdown;
 mod memory;
 mod slots;
+mod stops;
 
 pub use blocks::Medium;
 pub use control::{Arm, FailEnd, MediumControl};
 pub use countdown::{Armed, Due, MOST_ARMS};
 pub use memory::MemMedium;
 pub use model_medium::{ArmedCut, Fate, ReadEnd, WornBlock, WriteEnd};
+pub use stops::{Stop, read_whole, write_whole};
