@@ -12,7 +12,7 @@ use Rattle.model_image.proofs.Writes.{SameBut-put_at, SameBut-PartlyPut, part-pu
 
 module _ (total block : ℕ) (inside : block < total) where
   -- one write of the state byte
-  state_step : (before after : List ℕ) (cell : Cell) → SameBut (state_place block) 1 before after → cell_of (slice_index after (state_place block)) (data_in total before block) ≡ cell → SetsCell total block cell before after
+  pub state_step : (before after : List ℕ) (cell : Cell) → SameBut (state_place block) 1 before after → cell_of (slice_index after (state_place block)) (data_in total before block) ≡ cell → SetsCell total block cell before after
   state_step before after cell change is = record {
     as_long = change.as_long;
     header = same_part 0 16 before after change.as_long (λ k low high. change.same k (inl (omega arith)));
@@ -35,14 +35,14 @@ module _ (total block : ℕ) (inside : block < total) where
     cells = two.cells ∙ ap (λ cells. set cells block d) one.cells ∙ set-set (cells_of total first) block c d;
   }
 
-  -- the write of the state byte of a torn block
-  state_put : (byte : ℕ) (cell : Cell) (held : List ℕ) → length held ≡ image_len total → cell_of byte (data_in total held block) ≡ cell → SetsCell total block cell held (put_at (state_place block) (byte ∷ []) held)
+  -- a whole write of the state byte
+  pub state_put : (byte : ℕ) (cell : Cell) (held : List ℕ) → length held ≡ image_len total → cell_of byte (data_in total held block) ≡ cell → SetsCell total block cell held (put_at (state_place block) (byte ∷ []) held)
   state_put byte cell held whole is =
       state_step held (put_at (state_place block) (byte ∷ []) held) cell (SameBut-put_at (state_place block) (byte ∷ []) held (omega arith))
       (ap (λ s. cell_of s (data_in total held block)) (byte-put_at (state_place block) byte held (omega arith)) ∙ is)
 
   -- a write of the state byte that failed half way: the byte is the old or the new one
-  state_stopped : (byte : ℕ) (before after : List ℕ) (P : ℕ → Type 0) → PartlyPut (state_place block) (byte ∷ []) before after → P (slice_index before (state_place block)) → P byte → P (slice_index after (state_place block))
+  pub state_stopped : (byte : ℕ) (before after : List ℕ) (P : ℕ → Type 0) → PartlyPut (state_place block) (byte ∷ []) before after → P (slice_index before (state_place block)) → P byte → P (slice_index after (state_place block))
   state_stopped byte before after P put old new = cases (put.each (state_place block))
     where
       cases : (slice_index after (state_place block) ≡ slice_index before (state_place block)) ⊎ ((state_place block ≤ state_place block) × (state_place block < state_place block + 1) × (slice_index after (state_place block) ≡ slice_index (byte ∷ []) (state_place block - state_place block)))
