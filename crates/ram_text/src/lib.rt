@@ -3,7 +3,7 @@
 
 pub mod gathered;
 pub mod grammar;
-pub mod hexadecimal;
+mod hexadecimal;
 pub mod lines;
 pub mod print;
 pub mod report;
