@@ -1,7 +1,7 @@
 -- The cells of an image that may not tell its bytes, after a write of one.
-use Rattle.std.specs.Prelude.{◌≡◌, ◌≢◌, ℕ, ◌<◌, ◌⊎◌, Bool, true, false, MatchBool, if◌then◌else◌, Option, Some, None, is_some, IfSome, List, [], length, set}
+use Rattle.std.specs.Prelude.{◌≡◌, ◌≢◌, ℕ, ◌<◌, Option, Some, None, is_some, IfSome, List, [], set}
 use Rattle.std.specs.Bool.{OnFalse}
-use Rattle.std.proofs.Common.{refl, sym, ap, ◌∙◌, inl, inr, subst, arith}
+use Rattle.std.proofs.Common.{refl, sym, ap, ◌∙◌, subst, arith}
 use Rattle.std.proofs.lemmas.List.{get_or-set_same, get_or-set_other, set-get_or}
 use Rattle.std.proofs.lemmas.List.FromFn.{length-map-range_with_len}
 use Rattle.model_bytes.specs.Told.{WhereTold}
