@@ -22,7 +22,7 @@ write_fails old new block bytes fails = record { one = fails.one; failed = fails
     left_by cell (inr (inr (inl torn))) = inr (inr (inl torn))
     left_by cell (inr (inr (inr dead))) = inr (inr (inr dead))
 
-module _ {M : Type 0} (world : M → World) (reaches : M → M → ℕ → Type 0) (laws : MediumLaws world reaches) where
+module _ {M : Type 0} (world : M → World) (block_count : M → ℕ) (reaches : M → M → ℕ → Type 0) (laws : MediumLaws world block_count reaches) where
   -- no part at all
   pub goes_none : (m : M) → IsTrue (world m).power → Goes world reaches m m 0
   goes_none m on = record { reach = laws.none m; is_on = on }
