@@ -4,3 +4,4 @@ pub mod CellWrites
 pub mod Presses
 pub mod StateWrites
 pub mod ToldCells
+pub mod Headers
