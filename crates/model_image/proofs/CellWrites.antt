@@ -1,12 +1,12 @@
 -- The three writes of a block's cell, and what each of them leaves where it fails half way.
-use Rattle.std.specs.Prelude.{◌≡◌, ℕ, ◌+◌, ◌-◌, ◌*◌, ◌<◌, ◌≤◌, ◌⊎◌, List, [], ◌∷◌, length, take, set, get_or, slice_index, Option, Some, None, MatchOption}
+use Rattle.std.specs.Prelude.{◌≡◌, ℕ, ◌+◌, ◌-◌, ◌<◌, ◌≤◌, ◌⊎◌, List, [], ◌∷◌, length, set, slice_index, Option, Some, None, MatchOption}
 use Rattle.std.specs.Option.{option_map, ForSome}
 use Rattle.std.proofs.Common.{arith, refl, sym, ap, ◌∙◌, inl, inr, subst}
-use Rattle.std.proofs.lemmas.List.{set-set, length-set}
+use Rattle.std.proofs.lemmas.List.{set-set}
 use Rattle.model_bytes.specs.Bytes.{put_at, PartlyPut}
 use Rattle.model_bytes.specs.Told.{WhereTold}
-use Rattle.model_medium.specs.Cells.{Cell, Blank, Good, Torn, Dead, cell_at, MayLeave}
-use Rattle.model_image.specs.Cells.{state_place, data_place, image_len, cell_of, data_in, cell_in, cells_of, SetsCell, StopsInCell}
+use Rattle.model_medium.specs.Cells.{Cell, Good, Torn, cell_at, MayLeave}
+use Rattle.model_image.specs.Cells.{state_place, data_place, image_len, cell_of, data_in, cells_of, SetsCell, StopsInCell}
 use Rattle.model_image.proofs.Changes.{SameBut, same_part}
 use Rattle.model_image.proofs.Writes.{SameBut-put_at, SameBut-PartlyPut, part-put_at, byte-put_at, cells-state, cells-data, cell_at-cells_of}
 

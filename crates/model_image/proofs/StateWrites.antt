@@ -1,7 +1,7 @@
 -- A write of a block's state byte alone, which makes the same cell whatever data the block has.
-use Rattle.std.specs.Prelude.{◌≡◌, ℕ, ◌+◌, ◌<◌, ◌⊎◌, List, [], ◌∷◌, length, slice_index, Option, Some, None, MatchOption}
+use Rattle.std.specs.Prelude.{◌≡◌, ℕ, ◌<◌, ◌⊎◌, List, [], ◌∷◌, length, slice_index, Option, Some, None, MatchOption}
 use Rattle.std.specs.Option.{option_map, ForSome}
-use Rattle.std.proofs.Common.{refl, sym, ap, ◌∙◌, inl, inr, subst}
+use Rattle.std.proofs.Common.{refl, sym, inl, inr, subst}
 use Rattle.model_bytes.specs.Bytes.{put_at, PartlyPut}
 use Rattle.model_bytes.specs.Told.{WhereTold}
 use Rattle.model_medium.specs.Cells.{Cell, cell_at}

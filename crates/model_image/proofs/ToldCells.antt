@@ -1,7 +1,7 @@
 -- The cells of an image that may not tell its bytes, after a write of one.
-use Rattle.std.specs.Prelude.{◌≡◌, ◌≢◌, ℕ, ◌<◌, ◌⊎◌, Bool, true, false, MatchBool, if◌then◌else◌, Option, Some, None, is_some, IfSome, List, [], length, set}
-use Rattle.std.specs.Bool.{OnFalse}
-use Rattle.std.proofs.Common.{refl, sym, ap, ◌∙◌, inl, inr, subst, arith}
+use Rattle.std.specs.Prelude.{◌≡◌, ◌≢◌, ℕ, ◌<◌, Option, Some, None, is_some, IfSome, List, [], length, set}
+use Rattle.std.specs.Bool.{OnTrue, OnFalse}
+use Rattle.std.proofs.Common.{refl, sym, ap, ◌∙◌, subst, arith}
 use Rattle.std.proofs.lemmas.List.{get_or-set_same, get_or-set_other, set-get_or}
 use Rattle.std.proofs.lemmas.List.FromFn.{length-map-range_with_len}
 use Rattle.model_bytes.specs.Told.{WhereTold}
@@ -52,3 +52,8 @@ sets-others total block cell held held' sets other ne = ap (λ cells. cell_at ce
 pub sets-here : (total block : ℕ) (cell : Cell) (held held' : List ℕ) → block < total → SetsCell total block cell held held' → cell_at (cells_of total held') block ≡ cell
 sets-here total block cell held held' inside sets =
     ap (λ cells. cell_at cells block) sets.cells ∙ get_or-set_same (cells_of total held) block cell Dead (omega (arith, length-map-range_with_len (cell_in total held) 0 total))
+
+-- one cell for each block
+pub length-cells_told : (total : ℕ) (bytes : Option (List ℕ)) → OnTrue (is_some bytes) (length (cells_told total bytes) ≡ total)
+length-cells_told total None = tt
+length-cells_told total (Some held) = length-map-range_with_len (cell_in total held) 0 total

@@ -1,10 +1,10 @@
 -- How arms count down: at one use, over no use, and over one part after another.
-use Rattle.std.specs.Prelude.{◌≡◌, ◌≢◌, ℕ, ◌+◌, ◌-◌, ◌<◌, ◌≤◌, ◌⊎◌, ◌==◌, ◌&&◌, nat_le, Bool, true, false, if◌then◌else◌, Option, Some, None, List, [], ◌∷◌}
-use Rattle.std.specs.List.{filter_map, list_any, cons_option}
+use Rattle.std.specs.Prelude.{◌≡◌, ℕ, ◌+◌, ◌-◌, ◌<◌, ◌≤◌, ◌==◌, nat_le, Bool, true, false, if◌then◌else◌, Option, Some, None, List, [], ◌∷◌}
+use Rattle.std.specs.List.{cons_option}
 use Rattle.std.proofs.Common.{refl, sym, ap, ◌∙◌, inl, inr, subst, arith}
-use Rattle.std.proofs.lemmas.Bool.{and_parts, and_cases, or_cases, or_left, or_right, cases_Bool, eqb-true, eqb-false, leb-true, leb-false, cases_eq, ne_eqb, false≢true}
+use Rattle.std.proofs.lemmas.Bool.{and_parts, or_cases, or_left, or_right, eqb-true, leb-true, leb-false, false≢true}
 use Rattle.model_medium.specs.Cells.{Cell, Dead, cell_at}
-use Rattle.model_medium.specs.Machine.{runs_out, worn_down, arms_after, is_killed, fate_due, cut_after, IsToCome}
+use Rattle.model_medium.specs.Machine.{runs_out, arms_after, is_killed, fate_due, cut_after, IsToCome}
 use Rattle.model_medium.specs.Reach.{IsWornWithin, IsDropped, IsLowered, WornBy, CutStands, CutFell}
 use Rattle.model_medium.specs.declared.WornBlock.{WornBlock}
 use Rattle.model_medium.specs.declared.ArmedCut.{ArmedCut}

@@ -1,8 +1,8 @@
 -- What a use makes of the cells: the block's cell is changed, others are as before, and a dead cell stays dead.
-use Rattle.std.specs.Prelude.{◌≡◌, ◌≢◌, ℕ, zero, suc, ◌⊎◌, Bool, true, false, if◌then◌else◌, List, [], ◌∷◌, set, get_or}
-use Rattle.std.proofs.Common.{refl, sym, ap, ◌∙◌, inl, inr, subst, arith}
+use Rattle.std.specs.Prelude.{◌≡◌, ◌≢◌, ℕ, zero, suc, ◌⊎◌, List, [], ◌∷◌, set}
+use Rattle.std.proofs.Common.{refl, sym, inl, inr, subst}
 use Rattle.std.proofs.lemmas.List.{get_or-set_other}
-use Rattle.model_medium.specs.Cells.{Cell, Blank, Good, Torn, Dead, cell_at, IsGood, IsGoodOrDead, IsSameOrDead, MayLeave, unless_dead, written, cut_short}
+use Rattle.model_medium.specs.Cells.{Cell, Blank, Good, Torn, Dead, cell_at, IsGood, IsGoodOrDead, MayLeave, unless_dead, written, cut_short}
 use Rattle.model_medium.specs.declared.Fate.{Fate}
 use Rattle.model_medium.specs.declared.Fate.TheVariants as fates
 

@@ -1,8 +1,8 @@
 -- No use, and one part after another.
-use Rattle.std.specs.Prelude.{◌≡◌, ◌≢◌, ℕ, ◌+◌, ◌≤◌, ◌⊎◌, IsTrue, Option, List}
+use Rattle.std.specs.Prelude.{◌≡◌, ℕ, ◌+◌, ◌⊎◌, IsTrue}
 use Rattle.std.proofs.Common.{refl, sym, ap, ◌∙◌, inl, inr, subst, arith}
 use Rattle.model_counts.specs.Counts.{counted}
-use Rattle.model_medium.specs.Cells.{Cell, Torn, Dead, cell_at, IsGood, IsGoodOrDead}
+use Rattle.model_medium.specs.Cells.{Dead, cell_at}
 use Rattle.model_medium.specs.World.{World}
 use Rattle.model_medium.specs.Machine.{Machine, IsToCome}
 use Rattle.model_medium.specs.Reach.{Lasts, NoCutCame, CutCame, Follows, IsWornWithin, WornBy, CutStands, CutFell, Reach}

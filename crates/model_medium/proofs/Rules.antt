@@ -1,22 +1,21 @@
 -- The exact steps of a controllable medium obey the rules of any medium, and one use reaches one use further.
-use Rattle.std.specs.Prelude.{◌≡◌, ◌≢◌, ℕ, ◌≤◌, ◌⊎◌, Bool, true, false, IsTrue, if◌then◌else◌, Option, Some, None, IsSome, List, [], set}
+use Rattle.std.specs.Prelude.{◌≡◌, ℕ, ◌⊎◌, Bool, true, false, IsTrue, if◌then◌else◌, Option, Some, None, IsSome, List, [], set}
 use Rattle.std.specs.Bool.{OnTrue, OnFalse}
 use Rattle.std.specs.Option.{option_map_or}
-use Rattle.std.proofs.Common.{refl, sym, ap, ◌∙◌, inl, inr, subst, arith}
+use Rattle.std.proofs.Common.{refl, sym, ap, ◌∙◌, inl, inr, subst}
 use Rattle.std.proofs.lemmas.Bool.{cases_Bool, false≢true}
 use Rattle.std.proofs.lemmas.List.{set-get_or}
-use Rattle.model_counts.specs.Counts.{counted}
-use Rattle.model_medium.specs.Cells.{Cell, Good, Dead, cell_at, IsGood, IsSameOrDead, MayLeave, written, cut_short}
-use Rattle.model_medium.specs.World.{World, ShowsNoneUntold, IsUse, GoesOn, IsCut, IsOff, ReadsCell, FindsNoBytes, IsCutInRead, WritesCell, IsCutInWrite, ReadRule, WriteRule, ReadGoes, WriteGoes}
-use Rattle.model_medium.specs.Machine.{Machine, arms_after, is_killed, cells_worn, fate_due, cut_after, IsToCome, begun, cut_off, with_cell, after_read, after_write}
-use Rattle.model_medium.specs.Exact.{IsExactly, ReadsExactly, FindsNothingExactly, IsCutExactly, IsOffExactly, WritesExactly, ReadExactly, WriteExactly}
+use Rattle.model_medium.specs.Cells.{Cell, Good, Dead, cell_at, IsSameOrDead, MayLeave, written, cut_short}
+use Rattle.model_medium.specs.World.{ShowsNoneUntold, IsUse, GoesOn, IsCut, ReadRule, WriteRule, ReadGoes, WriteGoes}
+use Rattle.model_medium.specs.Machine.{Machine, is_killed, cells_worn, fate_due, IsToCome, begun, cut_off, with_cell, after_read, after_write}
+use Rattle.model_medium.specs.Exact.{IsExactly, ReadExactly, WriteExactly}
 use Rattle.model_medium.specs.Reach.{Reach}
 use Rattle.model_medium.specs.declared.Fate.{Fate}
 use Rattle.model_medium.specs.declared.ReadEnd.{ReadEnd}
 use Rattle.model_medium.specs.declared.ReadEnd.TheVariants as reads
 use Rattle.model_medium.specs.declared.WriteEnd.{WriteEnd}
 use Rattle.model_medium.specs.declared.WriteEnd.TheVariants as writes
-use Rattle.model_medium.proofs.CellFacts.{IsTame, same_is_kind, written_is_kind, cut_short_is_harsh, cut_short-may_leave, written-leaves, cell_at-set_dead}
+use Rattle.model_medium.proofs.CellFacts.{IsTame, same_is_kind, written_is_kind, cut_short_is_harsh, cut_short-may_leave, written-leaves}
 use Rattle.model_medium.proofs.Uses.{Used, cell_here, cell_other, dead_here, killed_here, spared_here, reach_on, reach_off}
 use Rattle.model_medium.proofs.Compose.{reach_none}
 

@@ -1,10 +1,9 @@
 -- What one use of a controllable medium makes of it, whatever it makes of the cell of its block.
-use Rattle.std.specs.Prelude.{◌≡◌, ◌≢◌, ℕ, ◌+◌, ◌≤◌, ◌⊎◌, Bool, true, false, IsTrue, if◌then◌else◌, Option, Some, None, List, set}
-use Rattle.std.proofs.Common.{refl, sym, ap, ◌∙◌, inl, inr, subst, arith}
+use Rattle.std.specs.Prelude.{◌≡◌, ◌≢◌, ℕ, ◌≤◌, ◌⊎◌, Bool, true, false, IsTrue, if◌then◌else◌, Some, None, List, set}
+use Rattle.std.proofs.Common.{refl, sym, ap, ◌∙◌, inl, inr, subst}
 use Rattle.std.proofs.lemmas.Bool.{cases_eq, cases_Bool}
 use Rattle.model_counts.specs.Counts.{counted}
-use Rattle.model_medium.specs.Cells.{Cell, Good, Torn, Dead, cell_at, IsGood, IsGoodOrDead}
-use Rattle.model_medium.specs.World.{World}
+use Rattle.model_medium.specs.Cells.{Cell, Torn, Dead, cell_at, IsGood, IsGoodOrDead}
 use Rattle.model_medium.specs.Machine.{Machine, arms_after, is_killed, cells_worn, fate_due, cut_after, IsToCome}
 use Rattle.model_medium.specs.Reach.{Lasts, NoCutCame, CutCame, IsWornWithin, WornBy, CutStands, CutFell, Reach}
 use Rattle.model_medium.specs.declared.Fate.{Fate}

@@ -1,8 +1,8 @@
 use Rattle.std.specs.Prelude.{◌≡◌, ℕ, ◌≤◌, true, false, IsTrue, None, IsSome, List}
 use Rattle.std.specs.Bool.{OnTrue}
 use Rattle.model_medium.specs.Cells.{Good, IsGood, cell_at}
-use Rattle.model_medium.specs.World.{World, FailsInRead, FailsInWrite}
-use Rattle.model_medium.specs.Machine.{Machine, arms_after, fate_due, cut_after, begun, after_read, after_write}
+use Rattle.model_medium.specs.World.{FailsInRead, FailsInWrite}
+use Rattle.model_medium.specs.Machine.{Machine, arms_after, fate_due, cut_after, after_read, after_write}
 use Rattle.model_medium.specs.declared.ReadEnd.{ReadEnd}
 use Rattle.model_medium.specs.declared.ReadEnd.TheVariants as reads
 use Rattle.model_medium.specs.declared.WriteEnd.{WriteEnd}

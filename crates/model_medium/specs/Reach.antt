@@ -6,8 +6,8 @@ use Rattle.model_medium.specs.Machine.{Machine}
 use Rattle.model_medium.specs.declared.WornBlock.{WornBlock}
 use Rattle.model_medium.specs.declared.ArmedCut.{ArmedCut}
 
--- What k uses of any medium keep, none of which failed: they are counted, a dead cell stays dead, and while the power
--- is off nothing happens. (This project's own, as all here.)
+-- What k uses of any medium keep, none of which failed: they are counted, what is told stays told, no count falls, and
+-- a dead cell stays dead. (This project's own, as all here.)
 pub record Lasts (old new : World) (k : ℕ) : Type 0 where
   pub as_told : new.told ≡ old.told
   pub counts : new.uses ≡ counted old.uses k
@@ -29,7 +29,7 @@ pub record CutCame (old new : World) : Type 0 where
   pub others_stay_good : (block : ℕ) → block ≢ torn → IsGood (cell_at old.cells block) → IsGoodOrDead (cell_at new.cells block)
   pub one_torn : IsGood (cell_at old.cells torn) → IsGoodOrDead (cell_at new.cells torn) ⊎ (cell_at new.cells torn ≡ Torn)
 
--- What can follow on any medium by k uses, none of which failed.
+-- What can follow on any medium by k uses, none of which failed. While the power is off nothing happens.
 pub record Follows (old new : World) (k : ℕ) : Type 0 where
   pub lasts : Lasts old new k
   pub off_is_still : ¬ IsTrue old.power → (new ≡ old) × (k ≡ 0)
@@ -70,7 +70,7 @@ abbrev pub CutFell : ℕ → Option ArmedCut → Option ArmedCut → Type 0
 CutFell k None cut' = ⊥
 CutFell k (Some armed) cut' = (armed.left ≡ k) × (cut' ≡ None)
 
--- What can follow on a controllable medium by k uses, none of which failed.
+-- What can follow on a controllable medium by k uses, none of which failed. A cell dies by an arm alone.
 pub record Reach (old new : Machine) (k : ℕ) : Type 0 where
   pub lasts : Lasts old.world new.world k
   pub off_is_still : ¬ IsTrue old.world.power → (new ≡ old) × (k ≡ 0)

@@ -1,15 +1,13 @@
 -- A use of a controllable medium in two parts: it begins, and then the block is read or left.
-use Rattle.std.specs.Prelude.{◌≡◌, ◌≢◌, ℕ, ◌≤◌, ◌⊎◌, IsTrue, is_some, Option, Some, None, IsSome, List}
+use Rattle.std.specs.Prelude.{◌≡◌, ℕ, IsTrue, is_some, Option, Some, None, IsSome, List}
 use Rattle.std.specs.Bool.{OnTrue}
 use Rattle.std.specs.Option.{option_map_or}
-use Rattle.std.proofs.Common.{refl, sym, ap, ◌∙◌, inl, inr, subst, arith}
-use Rattle.model_counts.specs.Counts.{counted, Rose}
-use Rattle.model_medium.specs.Cells.{Cell, Good, Dead, cell_at, IsGood, IsSameOrDead, MayLeave, written, cut_short}
-use Rattle.model_medium.specs.World.{World, IsUse, HasFailed}
-use Rattle.model_medium.specs.Machine.{Machine, fate_due, begun, cut_off, with_cell, after_read, after_write}
+use Rattle.std.proofs.Common.{sym, ap, ◌∙◌, inl, inr, subst, arith}
+use Rattle.model_medium.specs.Cells.{Good, cell_at, IsSameOrDead, MayLeave, written, cut_short}
+use Rattle.model_medium.specs.World.{IsUse, HasFailed}
+use Rattle.model_medium.specs.Machine.{Machine, fate_due, begun, cut_off, with_cell, after_read}
 use Rattle.model_medium.specs.Exact.{IsExactly, HasCountedDown, ReadExactly, WriteExactly}
 use Rattle.model_medium.specs.declared.Fate.{Fate}
-use Rattle.model_medium.specs.declared.Fate.TheVariants as fates
 use Rattle.model_medium.specs.declared.ReadEnd.{ReadEnd}
 use Rattle.model_medium.specs.declared.ReadEnd.TheVariants as reads
 use Rattle.model_medium.specs.declared.WriteEnd.{WriteEnd}
@@ -17,9 +15,7 @@ use Rattle.model_medium.specs.declared.WriteEnd.TheVariants as writes
 use Rattle.model_medium.proofs.Uses.{Used, cell_other, dead_here}
 use Rattle.model_medium.proofs.CellFacts.{same_is_kind}
 use Rattle.model_medium.proofs.Rules.{used_read, left_by_read}
-use Rattle.ram_outside.specs.declared.image.Moved.{Moved}
-use Rattle.ram_outside.specs.declared.image.Moved.TheVariants as moves
-use Rattle.ram_image.specs.Begun.{FailsWithin, ReadOnRule, LeaveRule, WriteCutRule}
+use Rattle.ram_image.specs.Begun.{FailsWithin, ReadOnRule, WriteCutRule}
 
 -- the machine with so many faults counted
 abbrev counting : ℕ → Machine → Machine

@@ -1,10 +1,10 @@
 -- What a write of a state byte, and a write that ends by a fate, do to an image.
-use Rattle.std.specs.Prelude.{◌≡◌, ◌≢◌, ℕ, ◌<◌, ◌≤◌, ◌⊎◌, Option, Some, None, IfSome, List, [], ◌∷◌, length}
+use Rattle.std.specs.Prelude.{◌≡◌, ℕ, ◌<◌, Option, Some, None, IfSome, List, [], ◌∷◌, length}
 use Rattle.std.specs.Option.{ForSome}
 use Rattle.std.proofs.Common.{refl, sym, ap, ◌∙◌, inl, inr, subst, arith}
 use Rattle.model_counts.specs.Counts.{Rose}
 use Rattle.model_bytes.specs.Told.{WhereTold}
-use Rattle.model_medium.specs.Cells.{Cell, Blank, Good, Torn, Dead, cell_at, MayLeave, unless_dead, cut_short}
+use Rattle.model_medium.specs.Cells.{Cell, Blank, Good, Torn, Dead, cell_at, unless_dead, cut_short}
 use Rattle.model_medium.specs.declared.Fate.{Fate}
 use Rattle.model_medium.specs.declared.Fate.TheVariants as fates
 use Rattle.model_image.specs.Cells.{state_place, image_len, cell_of, cell_in, cells_of, SetsCell, StopsInCell, StopsInState}

@@ -1,5 +1,5 @@
 -- What is found in an image that tells its bytes is so in the cells that it stands for.
-use Rattle.std.specs.Prelude.{◌≡◌, ℕ, ◌<◌, Option, Some, None, is_some, IfSome, List}
+use Rattle.std.specs.Prelude.{ℕ, ◌<◌, Option, Some, None, is_some, IfSome, List}
 use Rattle.std.specs.Bool.{OnTrue}
 use Rattle.std.proofs.Common.{sym, subst}
 use Rattle.model_medium.specs.Cells.{Cell, cell_at}

@@ -1,7 +1,5 @@
-use Rattle.std.specs.Prelude.{◌≡◌, ◌≢◌, ℕ, ◌<◌, ◌≤◌, ◌⊎◌, Bool, false, Option, None, is_some, IfSome, List, [], length, take}
-use Rattle.model_counts.specs.Counts.{Rose}
+use Rattle.std.specs.Prelude.{◌≡◌, ◌≢◌, ℕ, ◌<◌, ◌≤◌, ◌⊎◌, false, Option, None, is_some, IfSome, List, [], length, take}
 use Rattle.model_geometry.specs.Geometry.{Shape, total}
-use Rattle.model_medium.specs.World.{World}
 use Rattle.model_image.specs.Cells.{image_len, cells_told}
 use Rattle.model_image.specs.Image.{HasHeader, IsDiscImage}
 use Rattle.ram_outside.specs.declared.image.Image.{Ghosts}

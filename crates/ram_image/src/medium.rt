@@ -59,8 +59,8 @@ impl<I: Image> ImageMedium<I> {
 
     /// The image, as the medium leaves it.
     pub fn into_image(self) -> I
-        ensures bytes { MatchOption (I.bytes result) ((world_of self).told ≡ false) (λ bytes. IsImageOf (shape_of_medium self) (world_of self).cells bytes) }
         ensures count { I.faults result ≡ (world_of self).faults }
+        ensures cells { MatchOption (I.bytes result) ((world_of self).told ≡ false) (λ bytes. IsImageOf (shape_of_medium self) (world_of self).cells bytes) }
     {
         let ImageMedium {
             image,
@@ -199,7 +199,7 @@ impl<I: Image> ImageMedium<I> {
 impl<I: Image> Medium for ImageMedium<I> {
     ghost use Rattle.model_geometry.specs.Geometry.{total};
     ghost use Rattle.ram_image.specs.Medium.{shape_of_medium, world_of, machine_in, ImageReaches, ImageTakes};
-    ghost use Rattle.model_image.proofs.ToldCells.{shows_none_untold};
+    ghost use Rattle.model_image.proofs.ToldCells.{shows_none_untold, length-cells_told};
     ghost use Rattle.model_medium.proofs.Compose.{reach_none, reach_then, follows-reach};
 
     ghost world = { world_of };
@@ -239,6 +239,7 @@ impl<I: Image> Medium for ImageMedium<I> {
       adds_up = λ a b c j k one two. reach_then (machine_in a) (machine_in b) (machine_in c) j k one two;
       follows = λ a b k reach. follows-reach (machine_in a) (machine_in b) k reach;
       untold = λ medium. shows_none_untold (shape_of_medium medium) (I.bytes medium.image);
+      as_many = λ medium. length-cells_told (total (shape_of_medium medium)) (I.bytes medium.image);
     } };
 }
 

@@ -1,11 +1,11 @@
 -- Parts of the work on a medium, one after another.
-use Rattle.std.specs.Prelude.{◌≡◌, ℕ, ◌+◌, ◌<◌, ◌≤◌, ◌⊎◌, IsTrue, List}
-use Rattle.std.proofs.Common.{refl, sym, ap, ◌∙◌, inl, inr, subst, arith}
+use Rattle.std.specs.Prelude.{◌≡◌, ℕ, ◌+◌, ◌≤◌, ◌⊎◌, IsTrue, List}
+use Rattle.std.proofs.Common.{sym, ap, ◌∙◌, inl, inr, subst, arith}
 use Rattle.model_counts.specs.Counts.{counted}
-use Rattle.model_medium.specs.Cells.{Cell, Good, Torn, Dead, cell_at, IsGood, IsSameOrDead, MayLeave}
-use Rattle.model_medium.specs.World.{World, IsCut, FailsInRead, FailsInWrite}
+use Rattle.model_medium.specs.Cells.{Cell, Torn, Dead, cell_at, IsGood, MayLeave}
+use Rattle.model_medium.specs.World.{World, FailsInRead, FailsInWrite}
 use Rattle.ram_medium.specs.Laws.{MediumLaws}
-use Rattle.ram_medium.specs.Stops.{FailsInUse, Goes, StopsByCut, StopsByFault, Stops}
+use Rattle.ram_medium.specs.Stops.{FailsInUse, Goes, Stops}
 use Rattle.ram_medium.specs.declared.stops.Stop.{Stop}
 use Rattle.ram_medium.specs.declared.stops.Stop.TheVariants as stops
 
@@ -22,7 +22,7 @@ write_fails old new block bytes fails = record { one = fails.one; failed = fails
     left_by cell (inr (inr (inl torn))) = inr (inr (inl torn))
     left_by cell (inr (inr (inr dead))) = inr (inr (inr dead))
 
-module _ {M : Type 0} (world : M → World) (reaches : M → M → ℕ → Type 0) (laws : MediumLaws world reaches) where
+module _ {M : Type 0} (world : M → World) (block_count : M → ℕ) (reaches : M → M → ℕ → Type 0) (laws : MediumLaws world block_count reaches) where
   -- no part at all
   pub goes_none : (m : M) → IsTrue (world m).power → Goes world reaches m m 0
   goes_none m on = record { reach = laws.none m; is_on = on }

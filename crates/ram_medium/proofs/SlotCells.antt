@@ -1,6 +1,6 @@
 -- The cells of slots, after a change of one.
-use Rattle.std.specs.Prelude.{◌≡◌, ℕ, ◌+◌, ◌<◌, List, [], ◌∷◌, ◌++◌, length, map, set, get_or, replicate}
-use Rattle.std.proofs.Common.{refl, sym, ap, ◌∙◌}
+use Rattle.std.specs.Prelude.{◌≡◌, ℕ, ◌+◌, ◌<◌, List, [], ◌∷◌, ◌++◌, length, set, get_or, replicate}
+use Rattle.std.proofs.Common.{sym, ap, ◌∙◌}
 use Rattle.std.proofs.lemmas.List.{map-set, get_or-map, map_push, replicate_more}
 use Rattle.model_medium.specs.Cells.{Cell, Blank, Dead, cell_at}
 use Rattle.ram_medium.specs.Slots.{cell_of, cells_of}

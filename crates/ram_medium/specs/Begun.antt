@@ -2,7 +2,7 @@ use Rattle.std.specs.Prelude.{◌≡◌, ℕ, false, true, Some, None, List, [],
 use Rattle.model_counts.specs.Counts.{counted}
 use Rattle.model_medium.specs.Cells.{Blank}
 use Rattle.model_medium.specs.Machine.{Machine, arms_after, cut_after, fate_due, begun, cut_off}
-use Rattle.ram_medium.specs.Memory.{machine_in, world_of, failing_of, IsNamedUse}
+use Rattle.ram_medium.specs.Memory.{machine_in, failing_of, IsNamedUse}
 use Rattle.ram_medium.specs.declared.memory.MemMedium.{MemMedium}
 use Rattle.ram_medium.specs.declared.memory.Begun.{Begun}
 use Rattle.ram_medium.specs.declared.memory.Begun.TheVariants as begins

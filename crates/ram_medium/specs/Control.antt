@@ -1,6 +1,6 @@
-use Rattle.std.specs.Prelude.{◌≡◌, ◌≢◌, ℕ, ◌<◌, ◌≤◌, IsTrue, Some, List, [], ◌∷◌, ◌++◌, length, set}
+use Rattle.std.specs.Prelude.{◌≡◌, ◌≢◌, ℕ, ◌<◌, ◌≤◌, IsTrue, Some, [], ◌∷◌, ◌++◌, length, set}
 use Rattle.model_counts.specs.Counts.{Rose}
-use Rattle.model_medium.specs.Cells.{Cell, Dead, cell_at, IsSameOrDead}
+use Rattle.model_medium.specs.Cells.{Dead, cell_at, IsSameOrDead}
 use Rattle.model_medium.specs.Machine.{Machine}
 use Rattle.model_medium.specs.Exact.{IsExactly}
 use Rattle.model_medium.specs.declared.WornBlock.{WornBlock}

@@ -56,5 +56,5 @@ pub trait Medium {
         ensures event { takes self.old self.new PowerOff }
         ensures as_many { block_count self.new ≡ block_count self.old };
 
-    ghost laws: { MediumLaws world reaches };
+    ghost laws: { MediumLaws world block_count reaches };
 }

@@ -128,7 +128,10 @@ impl MemMedium {
 impl Medium for MemMedium {
     ghost use Rattle.std.specs.Prelude.{vec_len};
     ghost use Rattle.ram_medium.specs.Memory.{world_of, MemReaches, MemTakes, machine_in};
+    ghost use Rattle.std.proofs.Common.{arith};
+    ghost use Rattle.std.proofs.lemmas.List.{length-map};
     ghost use Rattle.model_medium.proofs.Compose.{reach_none, reach_then, follows-reach};
+    ghost use Rattle.ram_medium.specs.Slots.{cell_of};
 
     ghost world = { world_of };
 
@@ -167,6 +170,7 @@ impl Medium for MemMedium {
       adds_up = λ a b c j k one two. reach_then (machine_in a) (machine_in b) (machine_in c) j k one two;
       follows = λ a b k reach. follows-reach (machine_in a) (machine_in b) k reach;
       untold = λ medium. tt;
+      as_many = λ medium. Prim.omega (arith, length-map medium.slots.items cell_of, medium.slots.ok.0);
     } };
 }
 
