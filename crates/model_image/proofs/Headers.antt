@@ -14,10 +14,13 @@ same_shape a b p q same = ap (λ (z : ℕ). shape_of z a.scale a.psa) zones ∙ 
   where
     at : (k : ℕ) → slice_index (header_of a) k ≡ slice_index (header_of b) k
     at k = ap (λ l. slice_index l k) same
+
     zones : a.zones ≡ b.zones
     zones = two_bytes a.zones b.zones (omega (arith, p.most_zones)) (omega (arith, q.most_zones)) (at 8) (at 9)
+
     scale : a.scale ≡ b.scale
     scale = two_bytes a.scale b.scale (omega (arith, p.most_scale)) (omega (arith, q.most_scale)) (at 10) (at 11)
+
     spares : a.psa ≡ b.psa
     spares = two_bytes a.psa b.psa (omega (arith, p.most_spares)) (omega (arith, q.most_spares)) (at 12) (at 13)
 

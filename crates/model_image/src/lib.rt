@@ -8,5 +8,4 @@ ghost use Rattle.model_image.specs.Image.{HasHeader};
 /// Bytes are the image of a disc of one geometry.
 pub fn an_image_has_one_geometry()
     ensures { (a b : Shape) (bytes : List ℕ) → HasHeader a bytes → HasHeader b bytes → a ≡ b }
-{
-}
+{}

@@ -8,7 +8,10 @@ use Rattle.model_image.specs.Cells.{image_len, cells_of}
 use Rattle.model_image.specs.Image.{HasHeader, IsDiscImage, IsImageOf, IsPressed, blank_cells}
 use Rattle.model_image.proofs.Headers.{one_header}
 use Rattle.ram_outside.specs.declared.image.Image.{Ghosts}
-use Rattle.ram_image.specs.Medium.{shape_of_medium, world_of, cells_told}
+use Rattle.std.proofs.lemmas.List.{length-replicate, get_or-replicate}
+use Rattle.model_medium.specs.Cells.{Cell, Blank, Dead}
+use Rattle.model_image.specs.Cells.{cells_told}
+use Rattle.ram_image.specs.Medium.{shape_of_medium, world_of, machine_in}
 use Rattle.ram_image.specs.Opening.{IsOpened, IsRefused}
 use Rattle.ram_image.specs.declared.medium.ImageMedium.{ImageMedium}
 use Rattle.ram_image.specs.declared.opening.OpenFault.{OpenFault}
@@ -71,14 +74,20 @@ module _ {I : Type 0} {d : Ghosts I} where
   press_opened s shape shape' before image medium disc left pressed opened same = record {
     told = ap (λ (m : ImageMedium I d). (world_of m).told) same ∙ opened.as_told ∙ ap is_some found.1;
     shape_is = ap (λ (m : ImageMedium I d). shape_of_medium m) same ∙ opened.shape_is ∙ one;
-    cells_are = ap (λ (m : ImageMedium I d). (world_of m).cells) same ∙ opened.cells_are ∙ ap (λ (z : Shape). cells_told z (d.bytes image)) one ∙ ap (cells_told shape) found.1 ∙ found.2.cells_are;
-    power_is = ap (λ (m : ImageMedium I d). (world_of m).power) same ∙ opened.off
+    cells_are = ap (λ (m : ImageMedium I d). (world_of m).cells) same ∙ opened.cells_are ∙ ap (λ (z : Shape). cells_told (total z) (d.bytes image)) one ∙ ap (cells_told (total shape)) found.1 ∙ found.2.cells_are;
+    power_is = ap (λ (m : ImageMedium I d). (world_of m).power) same ∙ opened.off;
+    no_arms = ap (λ (m : ImageMedium I d). (machine_in m).arms) same ∙ opened.no_arms;
+    no_cut = ap (λ (m : ImageMedium I d). (machine_in m).cut) same ∙ opened.no_cut;
+    as_many = length-replicate {A = Cell} (total shape) Blank;
+    none_dead = λ block inside dead. blank_not_dead (sym (get_or-replicate (total shape) block Blank Dead (omega (arith, length-replicate {A = Cell} (total shape) Blank))) ∙ dead)
   }
     where
       found : (bytes : List ℕ) × (d.bytes image ≡ Some bytes) × IsImageOf shape (blank_cells shape) bytes
       found = pressed_bytes s shape before (d.bytes image) left pressed
       disc_there : IsDiscImage shape' found.0
       disc_there = subst (λ o. IfSome o (IsDiscImage shape')) found.1 opened.disc
+      blank_not_dead : Blank ≡ Dead → ⊥
+      blank_not_dead e = cc
       one : shape' ≡ shape
       one = one_header shape' shape found.0 disc_there.has_header found.2.disc.has_header
 

@@ -6,3 +6,4 @@ pub mod CountsRise
 pub mod Finishes
 pub mod Opens
 pub mod Twos
+pub mod PlainWrites

@@ -6,7 +6,7 @@ ghost use Rattle.ram_image.specs.Medium.{shape_of_medium};
 
 use ram_bytes::{Block, SECTORS_PER_BLOCK};
 use ram_image::ImageMedium;
-use ram_medium::{ReadEnd, WriteEnd};
+use ram_medium::{Medium, ReadEnd, WriteEnd};
 use ram_outside::Image;
 use ram_zones::Geometry;
 
@@ -47,7 +47,7 @@ pub struct PlainDisc<I: Image> {
 
 impl<I: Image> PlainDisc<I> {
     ghost use Rattle.std.specs.Option.{ForSome};
-    ghost use Rattle.ram_run.specs.Plain.{Plain, Holds, IsLeftBy, capacity, home, powered_on, faults_of, ReadCause, ReadCount, after_read, WriteCause, WriteCount, after_write};
+    ghost use Rattle.ram_run.specs.Plain.{Plain, Holds, IsLeftBy, capacity, home, powered_on, faults_of, IsRead, ReadCount, IsWritten, WriteCount};
 
     /// The plain disc of this geometry on its medium.
     pub fn new(medium: ImageMedium<I>, geometry: Geometry) -> Self
@@ -95,8 +95,7 @@ impl<I: Image> PlainDisc<I> {
 
     /// Reads the block in which a sector lies. `into` changes only where all of it was read.
     pub fn read(&mut self, lba: u32, into: &mut Block) -> PlainRead
-        ensures cause { (s : Plain) → Holds self.old s → ReadCause s lba into.new result }
-        ensures after { (s : Plain) → Holds self.old s → Holds self.new (after_read s result) }
+        ensures read { (s : Plain) → Holds self.old s → IsRead s lba into.new self.new result }
         ensures count { ReadCount (faults_of self.old) (faults_of self.new) result }
     {
         if !self.medium.powered() {
@@ -116,8 +115,7 @@ impl<I: Image> PlainDisc<I> {
 
     /// Writes the block that begins at a sector.
     pub fn write(&mut self, lba: u32, from: &Block) -> PlainWrite
-        ensures cause { (s : Plain) → Holds self.old s → WriteCause s lba result }
-        ensures after { result ≢ PlainWrite.Fault → (s : Plain) → Holds self.old s → Holds self.new (after_write s lba from.now result) }
+        ensures written { (s : Plain) → Holds self.old s → IsWritten s lba from.now self.new result }
         ensures count { WriteCount (faults_of self.old) (faults_of self.new) result }
     {
         if !self.medium.powered() {
