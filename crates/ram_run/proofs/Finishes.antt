@@ -59,7 +59,7 @@ front_of_front first far due written more part front =
       bytes = found.0;
       more = more ++ part.more;
       written_is = found.1;
-      front = inl (sym (append_assoc found.0 more part.more) ∙ ap (λ l. l ++ part.more) (found.2 ∙ append-nil part.written) ∙ part.front)
+      front = inl (sym (append_assoc found.0 more part.more) ∙ ap (λ l. l ++ part.more) (found.2 ∙ append-nil part.written) ∙ part.front);
     }
 
 -- a status that is not the sink's is told of another ending
@@ -75,7 +75,7 @@ begins {d = d} first image left written buffered gathered none empty b = record 
   left_is = ap (λ l. prepend_known l left) none ∙ ap (prepend_known []) b.left_is;
   taken_is = omega arith;
   number_is = refl;
-  due_is = ap (append_known written) empty ∙ ap (λ o. append_known o []) b.written_is
+  due_is = ap (append_known written) empty ∙ ap (λ o. append_known o []) b.written_is;
 }
 
 -- an image that is left as it was
@@ -95,7 +95,7 @@ failed_at_last due due' written gathered f f' number endings.Done is rule = reco
   front = sym (append_known-twice written gathered (drop rule.n (end_text number))) ∙ ap (λ o. append_known o (drop rule.n (end_text number))) (sym is ∙ rule.grew)
       ∙ append_known-twice due (take rule.n (end_text number)) (drop rule.n (end_text number)) ∙ ap (append_known due) (take-append-drop rule.n (end_text number));
   count = omega (arith, rule.count);
-  cause = inr rule.count
+  cause = inr rule.count;
 }
 failed_at_last due due' written gathered f f' number endings.SinkFault is rule = record { more = gathered; front = sym is ∙ rule.1 ∙ sym (append_known-nil due); count = rule.2; cause = inl refl }
 failed_at_last due due' written gathered f f' number endings.Script is rule = absurd (let clash : prints.Failed ≡ prints.Done = rule.0 in cc)

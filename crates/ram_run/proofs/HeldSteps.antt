@@ -79,15 +79,18 @@ module _ {I : Type 0} {d : Ghosts I} where
     no_arms = ap (λ (m : ImageMedium I d). (machine_in m).arms) same ∙ opened.no_arms;
     no_cut = ap (λ (m : ImageMedium I d). (machine_in m).cut) same ∙ opened.no_cut;
     as_many = length-replicate {A = Cell} (total shape) Blank;
-    none_dead = λ block inside dead. blank_not_dead (sym (get_or-replicate (total shape) block Blank Dead (omega (arith, length-replicate {A = Cell} (total shape) Blank))) ∙ dead)
+    none_dead = λ block inside dead. blank_not_dead (sym (get_or-replicate (total shape) block Blank Dead (omega (arith, length-replicate {A = Cell} (total shape) Blank))) ∙ dead);
   }
     where
       found : (bytes : List ℕ) × (d.bytes image ≡ Some bytes) × IsImageOf shape (blank_cells shape) bytes
       found = pressed_bytes s shape before (d.bytes image) left pressed
+
       disc_there : IsDiscImage shape' found.0
       disc_there = subst (λ o. IfSome o (IsDiscImage shape')) found.1 opened.disc
+
       blank_not_dead : Blank ≡ Dead → ⊥
       blank_not_dead e = cc
+
       one : shape' ≡ shape
       one = one_header shape' shape found.0 disc_there.has_header found.2.disc.has_header
 
@@ -102,16 +105,20 @@ press_refused d s shape before image image' faults faults' faulty.Header left pr
   where
     found : (bytes : List ℕ) × (d.bytes image ≡ Some bytes) × IsImageOf shape (blank_cells shape) bytes
     found = pressed_bytes s shape before (d.bytes image) left pressed
+
     bad : (16 ≤ length found.0) × ((z : Shape) → ¬ HasHeader z found.0)
     bad = subst (λ o. IfSome o (λ held. (16 ≤ length held) × ((z : Shape) → ¬ HasHeader z held))) found.1 refused.1
 press_refused d s shape before image image' faults faults' (faulty.Length len) left pressed refused = absurd (cases bad.1)
   where
     found : (bytes : List ℕ) × (d.bytes image ≡ Some bytes) × IsImageOf shape (blank_cells shape) bytes
     found = pressed_bytes s shape before (d.bytes image) left pressed
+
     bad : (len ≡ length found.0) × ((len < 16) ⊎ ((z : Shape) × HasHeader z found.0 × (len ≢ image_len (total z))))
     bad = subst (λ o. IfSome o (λ held. (len ≡ length held) × ((len < 16) ⊎ ((z : Shape) × HasHeader z held × (len ≢ image_len (total z)))))) found.1 refused.1
+
     long : length found.0 ≡ image_len (total shape)
     long = found.2.disc.as_long
+
     cases : (len < 16) ⊎ ((z : Shape) × HasHeader z found.0 × (len ≢ image_len (total z))) → ⊥
     cases (inl short) = omega (arith, bad.0, long)
     cases (inr other) = other.2 (bad.0 ∙ long ∙ ap (λ (z : Shape). image_len (total z)) (one_header shape other.0 found.0 found.2.disc.has_header other.1))

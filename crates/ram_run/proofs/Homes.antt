@@ -19,9 +19,9 @@ home_found shape i h none =
 pub data_block_inside : (shape : Shape) (n block : ℕ) → slice_get (data_blocks shape) n ≡ Some block → block < total shape
 data_block_inside shape n block h =
     elim (cases_lt block (lead_out shape)) [
-      inl below ↦ omega arith
+      | inl below ↦ omega arith
       | inr above ↦ absurd (no_data_block_outside shape block (inr above) (Contains-slice_get (data_blocks shape) n block h))
-      ]
+    ]
 
 -- the same of an answer of the geometry
 pub home_missing : (shape : Shape) (spares i : ℕ) (o : Option ℕ) → spares ≡ shape.psa → i * 16 < formattable shape → o ≡ slice_get (data_blocks shape) (spares + i) → o ≡ None → ⊥
@@ -31,4 +31,4 @@ pub home_is : (shape shape' : Shape) (spares i block : ℕ) (o : Option ℕ) →
     → block ≡ slice_index (data_blocks shape') (shape'.psa + i)
 home_is shape shape' spares i block o one same answer some =
     sym (get_or_from_slice_get (data_blocks shape') (shape'.psa + i) block 0
-      (ap (λ (s : Shape). slice_get (data_blocks s) (s.psa + i)) (sym one) ∙ ap (λ p. slice_get (data_blocks shape) (p + i)) (sym same) ∙ sym answer ∙ some))
+    (ap (λ (s : Shape). slice_get (data_blocks s) (s.psa + i)) (sym one) ∙ ap (λ p. slice_get (data_blocks shape) (p + i)) (sym same) ∙ sym answer ∙ some))

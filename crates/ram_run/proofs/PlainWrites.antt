@@ -30,7 +30,7 @@ quiet world new block bytes alive exactly = record {
   cells = ap (λ (m : Machine). m.world.cells) exactly.same ∙ ap (set world.cells block) (written_alive bytes (cell_at world.cells block) alive);
   power = ap (λ (m : Machine). m.world.power) exactly.same;
   arms = ap (λ (m : Machine). m.arms) exactly.same;
-  cut = ap (λ (m : Machine). m.cut) exactly.same
+  cut = ap (λ (m : Machine). m.cut) exactly.same;
 }
 
 pub wrote : (old new : Machine) (block : ℕ) (bytes : List ℕ) → old.arms ≡ [] → old.cut ≡ None → cell_at old.world.cells block ≢ Dead → IsExactly (after_write block bytes old) new → Wrote old new block bytes
@@ -43,11 +43,12 @@ wrote old new block bytes no_arms no_cut alive exactly =
 -- none of the blocks is dead afterwards either
 pub none_dead_after : (cells : List Cell) (block : ℕ) (bytes : List ℕ) → ((k : ℕ) → k < length cells → cell_at cells k ≢ Dead) → (k : ℕ) → k < length (set cells block (Good bytes)) → cell_at (set cells block (Good bytes)) k ≢ Dead
 none_dead_after cells block bytes alive k inside dead = elim (cases_eq k block) [
-  inl e ↦ good_not_dead (sym (get_or-set_same cells block (Good bytes) Dead (omega (arith, e, long, inside))) ∙ ap (cell_at (set cells block (Good bytes))) (sym e) ∙ dead)
+  | inl e ↦ good_not_dead (sym (get_or-set_same cells block (Good bytes) Dead (omega (arith, e, long, inside))) ∙ ap (cell_at (set cells block (Good bytes))) (sym e) ∙ dead)
   | inr ne ↦ alive k (omega (arith, long, inside)) (sym (get_or-set_other cells block k (Good bytes) Dead ne) ∙ dead)
-  ]
+]
   where
     long : length (set cells block (Good bytes)) ≡ length cells
     long = length-set cells block (Good bytes)
+
     good_not_dead : Good bytes ≡ Dead → ⊥
     good_not_dead e = cc

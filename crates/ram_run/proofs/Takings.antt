@@ -29,12 +29,12 @@ follows (Some after) taken taken' rest raw f f' gives = cases gives.ends
     cases (inl feed) = record {
       next = record { one = gives.one; short = gives.short; after = after; parts = inl (feed.went ∙ append_assoc raw (line_feed ∷ []) after) };
       left_is = refl;
-      taken_is = omega (arith, feed.grew, ap length feed.went, length-append (raw ++ line_feed ∷ []) after, length-append raw (line_feed ∷ []))
+      taken_is = omega (arith, feed.grew, ap length feed.went, length-append (raw ++ line_feed ∷ []) after, length-append raw (line_feed ∷ []));
     }
     cases (inr last) = record {
       next = record { one = gives.one; short = gives.short; after = after; parts = inr (last.went ∙ ap (λ l. raw ++ l) last.ended ∙ append-nil raw, last.some, last.ended) };
       left_is = refl;
-      taken_is = omega (arith, last.grew, ap length last.went, length-append raw after)
+      taken_is = omega (arith, last.grew, ap length last.went, length-append raw after);
     }
 
 module _ {I : Type 0} {d : Ghosts I} (first : Beginning) (held : Held I d) (left due : Option (List ℕ)) (taken number : ℕ) where
@@ -65,13 +65,20 @@ module _ {I : Type 0} {d : Ghosts I} (first : Beginning) (held : Held I d) (left
         bytes = subst (λ o. IfSome o (λ l. (LINE_LIMIT < length l) × HasNoFeed (take (LINE_LIMIT + 1) l))) b.left_is long.bytes
 
     pub ends_by_script : ScriptIsTooLong left taken → Ends first held due number endings.Script
-    ends_by_script long = (b.far, b.stands, b.due_is, inr (inr (record {
-      longer = omega (arith, bytes.0, b.taken_is);
-      open_line = subst (λ n. HasNoFeed (take (SCRIPT_LIMIT - n) b.far.rest)) before bytes.1;
-      first = omega (arith, long.first, b.taken_is) })))
+    ends_by_script long = (
+      b.far,
+      b.stands,
+      b.due_is,
+      inr (inr (record {
+        longer = omega (arith, bytes.0, b.taken_is);
+        open_line = subst (λ n. HasNoFeed (take (SCRIPT_LIMIT - n) b.far.rest)) before bytes.1;
+        first = omega (arith, long.first, b.taken_is);
+      })),
+    )
       where
         bytes : (SCRIPT_LIMIT - taken < length b.far.rest) × HasNoFeed (take (SCRIPT_LIMIT - taken) b.far.rest)
         bytes = subst (λ o. IfSome o (λ l. (SCRIPT_LIMIT - taken < length l) × HasNoFeed (take (SCRIPT_LIMIT - taken) l))) b.left_is long.bytes
+
         before : taken ≡ length first.script - length b.far.rest
         before = omega (arith, b.taken_is)
 

@@ -41,7 +41,7 @@ module _ {I : Type 0} {d : Ghosts I} (first : Beginning) (held : Held I d) (left
     now = now;
     rest = t.next.after;
     run = (t.far.now, t.far.run, t.reads, step);
-    lines = reaches_more first.script (script_text t.far.events) t.far.rest t.raw t.next.after t.far.lines t.next.parts
+    lines = reaches_more first.script (script_text t.far.events) t.far.rest t.raw t.next.after t.far.lines t.next.parts;
   }
 
   -- the line was answered, and the answer is due
@@ -54,7 +54,7 @@ module _ {I : Type 0} {d : Ghosts I} (first : Beginning) (held : Held I d) (left
     taken_is = t.taken_is;
     number_is = ap (λ n. n + 1) t.number_is ∙ omega arith;
     due_is = due_more due due' first.report (report_text t.far.events) (event_text (length t.far.events + 1) (event answer reply)) t.due_is
-        (put.grew ∙ ap (λ n. append_known due (event_text (n + 1) (event answer reply))) t.number_is)
+        (put.grew ∙ ap (λ n. append_known due (event_text (n + 1) (event answer reply))) t.number_is);
   }
 
   -- the line was answered, and a front of the answer is due
@@ -65,15 +65,18 @@ module _ {I : Type 0} {d : Ghosts I} (first : Beginning) (held : Held I d) (left
     where
       text : List ℕ
       text = event_text (number + 1) (event answer reply)
+
       front : List ℕ
       front = first.report ++ (report_text t.far.events ++ take cut.n text)
+
       grown : due' ≡ Some front
       grown = due_more due due' first.report (report_text t.far.events) (take cut.n text) t.due_is cut.grew
+
       whole : front ++ drop cut.n text ≡ first.report ++ (report_text t.far.events ++ event_text (length t.far.events + 1) (event answer reply))
       whole =
           append_assoc first.report (report_text t.far.events ++ take cut.n text) (drop cut.n text)
           ∙ ap (λ l. first.report ++ l) (append_assoc (report_text t.far.events) (take cut.n text) (drop cut.n text) ∙ ap (λ l. report_text t.far.events ++ l) (take-append-drop cut.n text)
-            ∙ ap (λ n. report_text t.far.events ++ event_text (n + 1) (event answer reply)) t.number_is)
+          ∙ ap (λ n. report_text t.far.events ++ event_text (n + 1) (event answer reply)) t.number_is)
 
   -- the line comes next
   pub comes_next : ComesNext t.far.rest line

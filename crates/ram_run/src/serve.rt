@@ -94,11 +94,7 @@ impl Desk {
 }
 
 /// Hands over the answers so far, where the next line may have to be waited for.
-fn show_answers<K: Sink>(
-    reader: &LineReader,
-    writer: &mut ReportWriter,
-    report: &mut K,
-) -> Print
+fn show_answers<K: Sink>(reader: &LineReader, writer: &mut ReportWriter, report: &mut K) -> Print
     ensures { ShowRule (due (K.written report.old) writer.old) (due (K.written report.new) writer.new) (K.faults report.old) (K.faults report.new) result }
 {
     if reader.has_line() {

@@ -7,15 +7,15 @@ pub returns-in-Done-clause-turn : goal.returns-in-Done-clause-turn
 returns-in-Done-clause-turn g c first left taken t =
     let step = rw c.in-Answered.is at (c.answer_line-held.ensures.step t.far.now t.stands) in
     goes_on first c.args.held left (due (g.K.Sink.written c.args.report.now) c.args.writer.now) taken c.args.number c.args.line.now t c.answer_line-held.result.0
-      (due (g.K.Sink.written c.print_event.new.report) c.print_event.new.writer) (g.K.Sink.faults c.args.report.now) (g.K.Sink.faults c.print_event.new.report)
-      c.in-Answered.answer (told_sector c.args.line.now c.in-Answered.answer c.answer_line-held.new.block) step.0 step.1 step.2 c.in-Done.ensures
+    (due (g.K.Sink.written c.print_event.new.report) c.print_event.new.writer) (g.K.Sink.faults c.args.report.now) (g.K.Sink.faults c.print_event.new.report)
+    c.in-Answered.answer (told_sector c.args.line.now c.in-Answered.answer c.answer_line-held.new.block) step.0 step.1 step.2 c.in-Done.ensures
 
 pub returns-in-Failed-clause-turn : goal.returns-in-Failed-clause-turn
 returns-in-Failed-clause-turn g c first left taken t =
     let step = rw c.in-Answered.is at (c.answer_line-held.ensures.step t.far.now t.stands) in
     cut_off first c.args.held left (due (g.K.Sink.written c.args.report.now) c.args.writer.now) taken c.args.number c.args.line.now t c.answer_line-held.result.0
-      (due (g.K.Sink.written c.print_event.new.report) c.print_event.new.writer) (g.K.Sink.faults c.args.report.now) (g.K.Sink.faults c.print_event.new.report)
-      c.in-Answered.answer (told_sector c.args.line.now c.in-Answered.answer c.answer_line-held.new.block) step.0 step.1 step.2 c.in-Failed.ensures
+    (due (g.K.Sink.written c.print_event.new.report) c.print_event.new.writer) (g.K.Sink.faults c.args.report.now) (g.K.Sink.faults c.print_event.new.report)
+    c.in-Answered.answer (told_sector c.args.line.now c.in-Answered.answer c.answer_line-held.new.block) step.0 step.1 step.2 c.in-Failed.ensures
 
 pub returns-in-NotADisc-clause-turn : goal.returns-in-NotADisc-clause-turn
 returns-in-NotADisc-clause-turn g c first left taken t =
