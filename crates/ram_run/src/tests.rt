@@ -193,7 +193,7 @@ fn each_status_has_its_cause(rt: HostRuntime) -> Result<(), Fail> {
 fn each_call_fails_in_turn(rt: HostRuntime) -> Result<(), Fail> {
     let written = written_image(rt.alloc())?;
     for (of, calls, status) in [
-        (Outside::Source, 2, Status::SourceFault),
+        (Outside::Source, 2u64, Status::SourceFault),
         (Outside::Sink, 2, Status::SinkFault),
         (Outside::Opener, 1, Status::ImageFault),
         // Three calls to press, two to open, four to write, two for the good read, and one for the blank block.
