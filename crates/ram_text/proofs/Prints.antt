@@ -1,0 +1,46 @@
+-- One printed text after another.
+use Rattle.std.proofs.Common.{◌≡◌, ℕ, ◌+◌, ◌≤◌, Option, List, ◌++◌, length, take, min, sym, ap, ◌∙◌, arith}
+use Rattle.std.proofs.lemmas.List.{take-append-le, take_min, take-take, take_at}
+use Rattle.std.proofs.Math.Seq.{take-append-add}
+use Rattle.std.specs.Io.KnownBytes.{append_known}
+use Rattle.ram_text.specs.declared.gathered.Print.{Print}
+use Rattle.ram_text.specs.declared.gathered.Print.TheVariants.{Done, Failed}
+use Rattle.ram_text.specs.Writer.{IsPut, IsCutOff, PrintRule}
+use Rattle.ram_text.proofs.Puts.{append_known-twice}
+
+-- both texts were put
+pub put_both : (a b c : Option (List ℕ)) (f g h : ℕ) (s t : List ℕ) → IsPut a b f g s → IsPut b c g h t → IsPut a c f h (s ++ t)
+put_both a b c f g h s t first second = record {
+  grew = second.grew ∙ ap (λ (x : Option (List ℕ)). append_known x t) first.grew ∙ append_known-twice a s t;
+  count = omega (arith, first.count, second.count);
+}
+
+-- the first was put, and the second was cut off
+pub put_cut : (a b c : Option (List ℕ)) (f g h : ℕ) (s t : List ℕ) → IsPut a b f g s → IsCutOff b c g h t → IsCutOff a c f h (s ++ t)
+put_cut a b c f g h s t first second = record {
+  n = length s + second.n;
+  grew = second.grew ∙ ap (λ (x : Option (List ℕ)). append_known x (take second.n t)) first.grew ∙ append_known-twice a s (take second.n t) ∙ ap (append_known a) (sym (take-append-add s t second.n));
+  count = omega (arith, first.count, second.count);
+}
+
+-- the first was cut off, and nothing of the second came
+pub cut_first : (a b : Option (List ℕ)) (f g : ℕ) (s t : List ℕ) → IsCutOff a b f g s → IsCutOff a b f g (s ++ t)
+cut_first a b f g s t first = record {
+  n = min first.n (length s);
+  grew = first.grew ∙ ap (append_known a) (sym (take_min first.n s) ∙ sym (take-append-le (min first.n (length s)) s t (omega arith)));
+  count = first.count;
+}
+
+-- the first was put, and the second ended so
+pub put_then : (a b c : Option (List ℕ)) (f g h : ℕ) (s t : List ℕ) → IsPut a b f g s → (answer : Print) → PrintRule b c g h t answer → PrintRule a c f h (s ++ t) answer
+put_then a b c f g h s t first Done second = put_both a b c f g h s t first second
+put_then a b c f g h s t first Failed second = put_cut a b c f g h s t first second
+
+-- a sector's line: its words, its digits and its end
+pub put_four : (a b c d e : Option (List ℕ)) (f g h i j : ℕ) (s t u v : List ℕ) → IsPut a b f g s → IsPut b c g h t → IsPut c d h i u → (answer : Print) → PrintRule d e i j v answer → PrintRule a e f j (s ++ t ++ u ++ v) answer
+put_four a b c d e f g h i j s t u v first second third answer last =
+    put_then a d e f i j (s ++ t ++ u) v (put_both a c d f h i (s ++ t) u (put_both a b c f g h s t first second) third) answer last
+
+-- the front of a list is what was put there
+pub front_is : (given rest : List ℕ) (n len : ℕ) → length given ≡ n → n ≤ len → take n (take len (given ++ rest)) ≡ given
+front_is given rest n len is le = take-take n len (given ++ rest) le ∙ take_at given rest n is

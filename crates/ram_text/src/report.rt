@@ -1,0 +1,73 @@
+ghost use Rattle.std.specs.Prelude.{◌≡◌, ◌*◌, ◌≤◌, [], decimal, length, IfOk};
+ghost use Rattle.hex.specs.Hex.{encode_lower};
+ghost use Rattle.ram_text.specs.Writer.{due, PrintRule, FlushRule};
+
+use crate::gathered::{Gathered, Print};
+use crate::hexadecimal::encode_front;
+use itoa::Buffer;
+use ram_bytes::SECTOR_BYTES;
+use ram_outside::Sink;
+use std::alloc::{AllocError, Global};
+use std::marker::Model;
+
+/// Writes a report to a sink. Texts are gathered, and handed over when 64 KiB are full or when told to. At all
+/// times what the sink has written is a front of the text that is due. Its room is taken when it is made.
+#[derive(Drop)]
+pub struct ReportWriter {
+    gathered: Gathered,
+    digits: Vec<u8>,
+}
+
+impl Model for ReportWriter {
+    ghost use Rattle.std.specs.Prelude.{◌≡◌, ℕ, List, vec_len};
+
+    ghost Value = { List ℕ };
+
+    ghost view = { λ w. w.gathered };
+
+    ghost invariant = { λ w. vec_len w.digits ≡ 4096 };
+}
+
+impl ReportWriter {
+    /// A writer with nothing gathered.
+    pub fn new(alloc: Global) -> Result<ReportWriter, AllocError>
+        ensures { IfOk result (λ writer. writer ≡ []) }
+    {
+        Ok(ReportWriter {
+            gathered: Gathered::new(alloc)?,
+            digits: vec![in alloc; 0; 2 * SECTOR_BYTES]?,
+        })
+    }
+
+    /// Puts a text behind what is due. Where the sink fails, a front of the text is.
+    pub fn put<K: Sink>(&mut self, sink: &mut K, text: &[u8]) -> Print
+        ensures { PrintRule (due (K.written sink.old) self.old) (due (K.written sink.new) self.new) (K.faults sink.old) (K.faults sink.new) text.now result }
+    {
+        self.gathered.put(sink, text)
+    }
+
+    /// Hands the sink what is gathered.
+    pub fn flush<K: Sink>(&mut self, sink: &mut K) -> Print
+        ensures { FlushRule (due (K.written sink.old) self.old) (due (K.written sink.new) self.new) self.new (K.faults sink.old) (K.faults sink.new) result }
+    {
+        self.gathered.flush(sink)
+    }
+
+    /// Puts a number in decimal digits behind what is due.
+    pub fn put_number<K: Sink>(&mut self, sink: &mut K, number: u64) -> Print
+        ensures { PrintRule (due (K.written sink.old) self.old) (due (K.written sink.new) self.new) (K.faults sink.old) (K.faults sink.new) (decimal number) result }
+    {
+        let mut buffer = Buffer::new();
+        self.gathered.put(sink, buffer.format(number).as_bytes())
+    }
+
+    /// Puts bytes in lower-case hexadecimal digits behind what is due, at most a sector's.
+    pub fn put_hex<K: Sink>(&mut self, sink: &mut K, bytes: &[u8]) -> Print
+        requires { length bytes.now ≤ SECTOR_BYTES }
+        ensures { PrintRule (due (K.written sink.old) self.old) (due (K.written sink.new) self.new) (K.faults sink.old) (K.faults sink.new) (encode_lower bytes.now) result }
+    {
+        let len = 2 * bytes.len();
+        encode_front(bytes, &mut self.digits);
+        self.gathered.put(sink, &self.digits[..len])
+    }
+}
