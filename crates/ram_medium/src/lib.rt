@@ -28,3 +28,10 @@ pub enum WriteEnd {
     /// What the medium lies on failed, and counted it. The power is off.
     Failed,
 }
+
+#[derive(Clone, Copy, Debug, PartialEq, Eq)]
+pub enum Fate {
+    Old,
+    New,
+    Torn,
+}

@@ -6,3 +6,7 @@ pub mod Puts
 pub mod Prints
 pub mod Readings
 pub mod Digits
+pub mod WordSteps
+pub mod HexSteps
+pub mod ScriptReadings
+pub mod Forms
