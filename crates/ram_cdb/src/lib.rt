@@ -1,7 +1,7 @@
 //! Command blocks: which the drive knows, and how many bytes of data go with each.
 #![tactic(auto)]
 
-ghost use Rattle.std.specs.Prelude.{◌≡◌, ◌↔◌, ◌*◌, ◌<◌, ◌≤◌, length, IsTrue, IsSome, nat_le, if◌then◌else◌};
+ghost use Rattle.std.specs.Prelude.{◌≡◌, ◌↔◌, ◌*◌, ◌≤◌, length, IsTrue, IsSome, nat_le, if◌then◌else◌};
 ghost use Rattle.model_commands.specs.Commands.{command, operation_with, operation_of, out_length_of, transfer_limit, data_length};
 
 use model_commands::Operation;
