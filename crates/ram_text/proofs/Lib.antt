@@ -10,3 +10,5 @@ pub mod WordSteps
 pub mod HexSteps
 pub mod ScriptReadings
 pub mod Forms
+pub mod Turns
+pub mod ToldApart

@@ -8,3 +8,4 @@ pub mod Words
 pub mod ScriptWords
 pub mod Script
 pub mod ScriptReading
+pub mod ReportLines

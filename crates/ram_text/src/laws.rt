@@ -2,7 +2,9 @@
 ghost use Rattle.std.specs.Prelude.{◌≡◌, ◌≢◌, ◌<◌, ℕ, List, [], ◌∷◌, ◌++◌, length, All};
 ghost use Rattle.ram_text.specs.ScriptWords.{words_of, space};
 ghost use Rattle.ram_text.specs.Script.{Reads};
+ghost use Rattle.ram_text.specs.ReportLines.{answer_words, IsTold};
 ghost use Rattle.ram_text.specs.declared.script.Line.{Line as Read};
+ghost use Rattle.ram_mmc.specs.declared.Answer.{Answer as Told};
 
 /// A line has at most one meaning, and the data that go with it are determined too.
 pub fn a_line_has_one_reading()
@@ -16,4 +18,9 @@ pub fn words_stand_between_spaces()
     ensures first { (word rest : List ℕ) → 0 < length word → All (λ byte. byte ≢ space) word
         → words_of (word ++ space ∷ rest) ≡ word ∷ words_of rest }
     ensures last { (word : List ℕ) → 0 < length word → All (λ byte. byte ≢ space) word → words_of word ≡ word ∷ [] }
+{}
+
+/// Two answers to commands that read the same are the same, with all parts of their sense.
+pub fn answers_are_told_apart()
+    ensures { (a b : Told) → IsTold a → IsTold b → answer_words a ≡ answer_words b → a ≡ b }
 {}

@@ -8,6 +8,7 @@ pub mod laws;
 pub mod lines;
 pub mod payload;
 pub mod print;
+pub mod printing;
 pub mod report;
 pub mod script;
 mod words;
