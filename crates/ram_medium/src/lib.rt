@@ -1,6 +1,8 @@
 //! Blocks that may fail: the answers of their reads and writes.
 #![tactic(auto)]
 
+pub use model_medium::Fate;
+
 /// How a read of a block ended.
 #[derive(Clone, Copy, Debug, PartialEq, Eq)]
 pub enum ReadEnd {
@@ -27,11 +29,4 @@ pub enum WriteEnd {
     Off,
     /// What the medium lies on failed, and counted it. The power is off.
     Failed,
-}
-
-#[derive(Clone, Copy, Debug, PartialEq, Eq)]
-pub enum Fate {
-    Old,
-    New,
-    Torn,
 }

@@ -1,17 +1,17 @@
 -- Each form of a line is read as what the language says, and nothing else is.
-use Rattle.std.proofs.Common.{◌≡◌, ◌≢◌, ℕ, ◌<◌, ◌⊎◌, inl, inr, Bool, true, false, eqb, ltb, cond, Option, Some, None, Result, Ok, Err, List, [], ◌∷◌, length, get_or, replicate, refl, sym, ◌∙◌, ap, subst, arith, codes}
-use Rattle.std.specs.Option.{option_map, ok_or}
+use Rattle.std.proofs.Common.{◌≡◌, ℕ, ◌<◌, ◌⊎◌, inl, inr, true, false, eqb, ltb, Option, Some, None, Result, List, [], ◌∷◌, get_or, refl, sym, ◌∙◌, ap, subst, arith, codes}
+use Rattle.std.specs.Option.{ok_or}
 use Rattle.std.specs.Result.{MatchResult}
 use Rattle.std.specs.Str.{bytes_eq}
 use Rattle.std.proofs.lemmas.Bool.{eq-eqb, eqb-true}
 use Rattle.std.proofs.lemmas.Bool.Decides.{nat_tests}
 use Rattle.std.proofs.lemmas.Slice.Eq.{bytes_eq-Decides}
 use Rattle.model_commands.specs.Commands.{out_length_of}
-use Rattle.ram_medium.specs.declared.Fate.{Fate}
-use Rattle.ram_medium.specs.declared.Fate.TheVariants.{Old, New, Torn}
-use Rattle.ram_text.specs.ScriptWords.{words_of, without_return, IsNumber, IsHex}
-use Rattle.ram_text.specs.Script.{Reads, IsForm, IsComment, IsOther, IsCommandBlock, IsFilled, IsCountedUp, IsSpelled, fate_word, filled, counted_up}
-use Rattle.ram_text.specs.ScriptReading.{◌>>=◌, number_of, hex_of, hex_byte_of, block_of, only_word, first_number, only_number, fate_of, kind_of, form_of, press_of, power_of, fail_of, wear_of, cut_of, payload_by, payload_of, command_of, alone, line_by, line_of, reading_of, Puts}
+use Rattle.model_medium.specs.declared.Fate.{Fate}
+use Rattle.model_medium.specs.declared.Fate.TheVariants.{Old, New, Torn}
+use Rattle.ram_text.specs.ScriptWords.{words_of, without_return, IsNumber}
+use Rattle.ram_text.specs.Script.{Reads, IsForm, IsCommandBlock, IsFilled, IsCountedUp, IsSpelled, fate_word, filled, counted_up}
+use Rattle.ram_text.specs.ScriptReading.{◌>>=◌, number_of, hex_byte_of, block_of, only_word, first_number, only_number, fate_of, kind_of, form_of, press_of, power_of, fail_of, wear_of, cut_of, payload_by, payload_of, command_of, alone, line_by, line_of, reading_of, Puts}
 use Rattle.ram_text.specs.declared.script.Unread.{Unread}
 use Rattle.ram_text.specs.declared.script.Line.{Line}
 use Rattle.ram_text.specs.declared.script.Line.TheVariants.{Empty, Press, Power, Fail, Wear, Cut, Command}

@@ -1,28 +1,17 @@
 -- What the words of a line are read as is what the language says, and nothing else.
-use Rattle.std.proofs.Common.{◌≡◌, ◌≢◌, ℕ, ◌+◌, ◌*◌, ◌<◌, ◌≤◌, ◌&&◌, ◌⊎◌, inl, inr, Bool, true, false, eqb, ltb, leb, cond, Option, Some, None, Result, Ok, Err, List, [], ◌∷◌, length, get_or, refl, sym, ◌∙◌, ap, subst, arith, codes}
-use Rattle.std.specs.List.{AllPass, list_all}
-use Rattle.std.specs.Option.{option_map, ok_or}
-use Rattle.std.specs.Result.{MatchResult, result_ok}
+use Rattle.std.proofs.Common.{◌≡◌, ℕ, ◌+◌, ◌*◌, ◌&&◌, ◌⊎◌, inl, inr, Bool, true, false, ltb, leb, cond, Option, Some, None, Result, Ok, Err, List, [], ◌∷◌, length, refl, sym, ◌∙◌, ap, subst, arith}
+use Rattle.std.specs.List.{list_all}
+use Rattle.std.specs.Option.{option_map}
+use Rattle.std.specs.Result.{result_ok}
 use Rattle.std.specs.Char.{is_ascii_digit}
-use Rattle.std.specs.Str.{bytes_eq}
-use Rattle.std.proofs.lemmas.Bool.{eq-eqb, eqb-true}
 use Rattle.std.proofs.lemmas.Bool.Decides.{nat_tests}
 use Rattle.std.proofs.lemmas.List.Sums.{AllPass-from_list_all, list_all-from_AllPass}
-use Rattle.std.proofs.lemmas.Slice.Eq.{bytes_eq-Decides}
 use Rattle.hex.specs.declared.error.FromHexError.{FromHexError}
 use Rattle.hex.specs.Hex.{◌>>=◌ as bind_result, decode_of, decode_pairs, digit_or_error, hex_digit_value}
 use Rattle.hex.proofs.HexLemmas.{decode_of-ok, decode_of-even, decode_pairs-ok}
-use Rattle.ram_medium.specs.declared.Fate.{Fate}
-use Rattle.ram_medium.specs.declared.Fate.TheVariants.{Old, New, Torn}
-use Rattle.ram_text.specs.ScriptWords.{words_of, without_return, decimal_value, IsNumber, IsHex, IsHexByte}
-use Rattle.ram_text.specs.Script.{Reads, IsForm, IsComment, IsOther, IsCommandBlock, IsFilled, IsCountedUp, IsSpelled, fate_word}
-use Rattle.ram_text.specs.ScriptReading.{◌>>=◌, number_of, hex_of, hex_byte_of, block_of, one_byte, only_word, first_number, only_number, fate_of, kind_of, form_of, press_of, power_of, fail_of, wear_of, cut_of, payload_by, payload_of, command_of, alone, line_by, line_of, reading_of, Puts}
-use Rattle.ram_text.specs.declared.script.Line.{Line}
-use Rattle.ram_text.specs.declared.script.Line.TheVariants.{Empty, Press, Power, Fail, Wear, Cut, Command}
-use Rattle.ram_text.specs.declared.script.Form.{Form}
-use Rattle.ram_text.specs.declared.script.Form.TheVariants as forms
-use Rattle.ram_text.specs.declared.payload.Kind.{Kind}
-use Rattle.ram_text.specs.declared.payload.Kind.TheVariants as kinds
+use Rattle.ram_text.specs.ScriptWords.{decimal_value, IsNumber, IsHex}
+use Rattle.ram_text.specs.Script.{IsCommandBlock}
+use Rattle.ram_text.specs.ScriptReading.{◌>>=◌, number_of, hex_of, hex_byte_of, block_of, one_byte}
 
 -- the step before gave a value
 pub bind_some : {A B : Type 0} (o : Option A) (f : A → Option B) (y : B) → (o >>= f) ≡ Some y → (x : A) × (o ≡ Some x) × (f x ≡ Some y)

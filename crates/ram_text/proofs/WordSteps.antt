@@ -1,12 +1,11 @@
 -- The first word of a line, by where its first space is; and how the value of digits grows.
-use Rattle.std.proofs.Common.{◌≡◌, ◌≢◌, ℕ, ◌+◌, ◌-◌, ◌*◌, ◌^◌, ◌<◌, ◌≤◌, Bool, true, false, eqb, cond, Some, None, suc, zero, List, [], ◌∷◌, ◌++◌, length, take, drop, get_or, refl, sym, ◌∙◌, ap, subst, arith, take_all, length-take, length-drop, add-one}
+use Rattle.std.proofs.Common.{◌≡◌, ◌≢◌, ℕ, ◌+◌, ◌-◌, ◌*◌, ◌^◌, ◌<◌, ◌≤◌, true, false, eqb, Some, None, suc, zero, List, [], ◌∷◌, ◌++◌, length, take, drop, get_or, refl, sym, ◌∙◌, ap, arith, take_all, length-take, add-one}
 use Rattle.std.proofs.Math.Nat.{pow-suc, pow-le-pow_right}
 use Rattle.std.proofs.lemmas.Bool.{eq-eqb}
 use Rattle.std.proofs.lemmas.Bool.Decides.{nat_tests}
-use Rattle.std.proofs.lemmas.List.{take-append-drop, drop_more, get_or-take, append-nil, drop_all, take_more}
-use Rattle.std.proofs.lemmas.List.Sums.{fold_more}
-use Rattle.memchr.specs.Find.{IsFirstByte, Passes, Nowhere, is_byte}
-use Rattle.ram_text.specs.ScriptWords.{pieces, words_of, lengthened, decimal_value}
+use Rattle.std.proofs.lemmas.List.{take-append-drop, drop_more, get_or-take, drop_all}
+use Rattle.memchr.specs.Find.{IsFirstByte, is_byte}
+use Rattle.ram_text.specs.ScriptWords.{pieces, words_of, lengthened}
 
 -- no byte is a space
 abbrev pub HasNoSpace : List ℕ → Type 0

@@ -1,8 +1,8 @@
-use Rattle.std.specs.Prelude.{◌≡◌, ℕ, ◌+◌, ◌*◌, ◌/◌, ◌%◌, ◌<◌, ◌≤◌, ◌⊎◌, List, [], ◌∷◌, length, slice_index, map, replicate, codes}
+use Rattle.std.specs.Prelude.{◌≡◌, ℕ, ◌+◌, ◌/◌, ◌%◌, ◌<◌, ◌≤◌, ◌⊎◌, List, [], ◌∷◌, length, slice_index, map, replicate, codes}
 use Rattle.std.specs.List.{range_with_len}
 use Rattle.model_commands.specs.Commands.{out_length_of}
-use Rattle.ram_medium.specs.declared.Fate.{Fate}
-use Rattle.ram_medium.specs.declared.Fate.TheVariants.{Old, New, Torn}
+use Rattle.model_medium.specs.declared.Fate.{Fate}
+use Rattle.model_medium.specs.declared.Fate.TheVariants.{Old, New, Torn}
 use Rattle.ram_text.specs.ScriptWords.{words_of, without_return, number_sign, IsNumber, IsHex}
 use Rattle.ram_text.specs.declared.script.Line.{Line}
 use Rattle.ram_text.specs.declared.script.Line.TheVariants.{Empty, Press, Power, Fail, Wear, Cut, Command}

@@ -1,14 +1,14 @@
 -- How the words of a line are read, one after another: each reading gives what it found and the words after it.
-use Rattle.std.specs.Prelude.{◌≡◌, ℕ, ◌+◌, ◌<◌, ◌≤◌, ◌==◌, ◌&&◌, nat_lt, nat_le, Bool, true, false, if◌then◌else◌, Option, Some, None, option_map, option_and_then, List, [], ◌∷◌, length, slice_index, codes}
+use Rattle.std.specs.Prelude.{◌≡◌, ℕ, ◌==◌, ◌&&◌, nat_lt, nat_le, if◌then◌else◌, Option, Some, None, option_map, option_and_then, List, [], ◌∷◌, length, slice_index, codes}
 use Rattle.std.specs.List.{list_all}
 use Rattle.std.specs.Result.{result_ok}
 use Rattle.std.specs.Char.{is_ascii_digit}
 use Rattle.std.specs.Str.{bytes_eq}
 use Rattle.hex.specs.Hex.{decode_of}
 use Rattle.model_commands.specs.Commands.{out_length_of}
-use Rattle.ram_medium.specs.declared.Fate.{Fate}
-use Rattle.ram_medium.specs.declared.Fate.TheVariants.{Old, New, Torn}
-use Rattle.ram_text.specs.ScriptWords.{words_of, without_return, number_sign, decimal_value}
+use Rattle.model_medium.specs.declared.Fate.{Fate}
+use Rattle.model_medium.specs.declared.Fate.TheVariants.{Old, New, Torn}
+use Rattle.ram_text.specs.ScriptWords.{words_of, number_sign, decimal_value}
 use Rattle.ram_text.specs.Script.{filled, counted_up}
 use Rattle.ram_text.specs.declared.script.Line.{Line}
 use Rattle.ram_text.specs.declared.script.Line.TheVariants.{Empty, Press, Power, Fail, Wear, Cut, Command}

@@ -1,5 +1,5 @@
 -- One sector more is counted.
-use Rattle.std.proofs.Common.{◌+◌, ◌%◌, vec_len, ap, arith, rules}
+use Rattle.std.proofs.Common.{◌+◌, ◌%◌, vec_len, ap, arith}
 use Rattle.ram_text.proofs.HexSteps.{counted_grown}
 use Rattle.ram_text.proofs.payload.count_up.Goals as goal
 

@@ -1,5 +1,4 @@
 -- One text after another, or a front of the first.
-use Rattle.std.proofs.Common.{decimal, codes, ◌++◌}
 use Rattle.ram_text.specs.ReportLines.{numbered, answer_words, reply_text}
 use Rattle.ram_text.proofs.Prints.{put_then, cut_first}
 use Rattle.ram_text.proofs.printing.print_answer.Goals as goal

@@ -1,5 +1,5 @@
 -- The number of the bytes, and then their digits.
-use Rattle.std.proofs.Common.{◌≡◌, eqb, false, decimal, codes, length, sym, ◌++◌, ◌∙◌}
+use Rattle.std.proofs.Common.{◌≡◌, eqb, false, decimal, codes, length, ◌++◌}
 use Rattle.hex.specs.Hex.{encode_lower}
 use Rattle.ram_text.proofs.Prints.{put_then, cut_first}
 use Rattle.ram_text.proofs.printing.print_data.Goals as goal

@@ -1,5 +1,5 @@
 -- One text after another, or a front of the first.
-use Rattle.std.proofs.Common.{decimal, codes, ◌++◌}
+use Rattle.std.proofs.Common.{decimal}
 use Rattle.ram_text.proofs.Prints.{put_then, cut_first}
 use Rattle.ram_text.proofs.printing.print_numbered.Goals as goal
 
