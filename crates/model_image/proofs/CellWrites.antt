@@ -1,18 +1,18 @@
 -- The three writes of a block's cell, and what each of them leaves where it fails half way.
-use Rattle.std.specs.Prelude.{◌≡◌, ℕ, ◌+◌, ◌-◌, ◌*◌, ◌<◌, ◌≤◌, ◌⊎◌, List, [], ◌∷◌, length, take, set, get_or, slice_index, Option, Some, None, MatchOption}
+use Rattle.std.specs.Prelude.{◌≡◌, ℕ, ◌+◌, ◌-◌, ◌<◌, ◌≤◌, ◌⊎◌, List, [], ◌∷◌, length, set, slice_index, Option, Some, None, MatchOption}
 use Rattle.std.specs.Option.{option_map, ForSome}
 use Rattle.std.proofs.Common.{arith, refl, sym, ap, ◌∙◌, inl, inr, subst}
-use Rattle.std.proofs.lemmas.List.{set-set, length-set}
+use Rattle.std.proofs.lemmas.List.{set-set}
 use Rattle.model_bytes.specs.Bytes.{put_at, PartlyPut}
 use Rattle.model_bytes.specs.Told.{WhereTold}
-use Rattle.model_medium.specs.Cells.{Cell, Blank, Good, Torn, Dead, cell_at, MayLeave}
-use Rattle.model_image.specs.Cells.{state_place, data_place, image_len, cell_of, data_in, cell_in, cells_of, SetsCell, StopsInCell}
+use Rattle.model_medium.specs.Cells.{Cell, Good, Torn, cell_at, MayLeave}
+use Rattle.model_image.specs.Cells.{state_place, data_place, image_len, cell_of, data_in, cells_of, SetsCell, StopsInCell}
 use Rattle.model_image.proofs.Changes.{SameBut, same_part}
 use Rattle.model_image.proofs.Writes.{SameBut-put_at, SameBut-PartlyPut, part-put_at, byte-put_at, cells-state, cells-data, cell_at-cells_of}
 
 module _ (total block : ℕ) (inside : block < total) where
   -- one write of the state byte
-  state_step : (before after : List ℕ) (cell : Cell) → SameBut (state_place block) 1 before after → cell_of (slice_index after (state_place block)) (data_in total before block) ≡ cell → SetsCell total block cell before after
+  pub state_step : (before after : List ℕ) (cell : Cell) → SameBut (state_place block) 1 before after → cell_of (slice_index after (state_place block)) (data_in total before block) ≡ cell → SetsCell total block cell before after
   state_step before after cell change is = record {
     as_long = change.as_long;
     header = same_part 0 16 before after change.as_long (λ k low high. change.same k (inl (omega arith)));
@@ -35,14 +35,14 @@ module _ (total block : ℕ) (inside : block < total) where
     cells = two.cells ∙ ap (λ cells. set cells block d) one.cells ∙ set-set (cells_of total first) block c d;
   }
 
-  -- the write of the state byte of a torn block
-  state_put : (byte : ℕ) (cell : Cell) (held : List ℕ) → length held ≡ image_len total → cell_of byte (data_in total held block) ≡ cell → SetsCell total block cell held (put_at (state_place block) (byte ∷ []) held)
+  -- a whole write of the state byte
+  pub state_put : (byte : ℕ) (cell : Cell) (held : List ℕ) → length held ≡ image_len total → cell_of byte (data_in total held block) ≡ cell → SetsCell total block cell held (put_at (state_place block) (byte ∷ []) held)
   state_put byte cell held whole is =
       state_step held (put_at (state_place block) (byte ∷ []) held) cell (SameBut-put_at (state_place block) (byte ∷ []) held (omega arith))
       (ap (λ s. cell_of s (data_in total held block)) (byte-put_at (state_place block) byte held (omega arith)) ∙ is)
 
   -- a write of the state byte that failed half way: the byte is the old or the new one
-  state_stopped : (byte : ℕ) (before after : List ℕ) (P : ℕ → Type 0) → PartlyPut (state_place block) (byte ∷ []) before after → P (slice_index before (state_place block)) → P byte → P (slice_index after (state_place block))
+  pub state_stopped : (byte : ℕ) (before after : List ℕ) (P : ℕ → Type 0) → PartlyPut (state_place block) (byte ∷ []) before after → P (slice_index before (state_place block)) → P byte → P (slice_index after (state_place block))
   state_stopped byte before after P put old new = cases (put.each (state_place block))
     where
       cases : (slice_index after (state_place block) ≡ slice_index before (state_place block)) ⊎ ((state_place block ≤ state_place block) × (state_place block < state_place block + 1) × (slice_index after (state_place block) ≡ slice_index (byte ∷ []) (state_place block - state_place block)))

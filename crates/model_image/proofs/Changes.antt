@@ -1,12 +1,10 @@
-use Rattle.std.specs.Prelude.{◌≡◌, ◌≢◌, ℕ, ◌+◌, ◌-◌, ◌*◌, ◌<◌, ◌≤◌, ◌⊎◌, List, ◌++◌, length, take, drop, map, set, get_or, min, slice_index}
-use Rattle.std.proofs.Common.{arith, refl, sym, ap, ◌∙◌, inl, inr, subst, length-drop, length-take, get_or-take, get_or-drop, get_or-set_same, get_or-set_other, rules}
+use Rattle.std.specs.Prelude.{◌≡◌, ◌≢◌, ℕ, ◌+◌, ◌-◌, ◌<◌, ◌≤◌, ◌⊎◌, List, length, take, drop, set, get_or, min, slice_index}
+use Rattle.std.proofs.Common.{arith, sym, ap, ◌∙◌, inl, inr, length-drop, length-take, get_or-take, get_or-drop, get_or-set_same, get_or-set_other}
 use Rattle.std.proofs.lemmas.Bool.{cases_eq, cases_lt}
-use Rattle.std.proofs.lemmas.List.{ext_get_or, length-set, places}
+use Rattle.std.proofs.lemmas.List.{ext_get_or, length-set}
 use Rattle.std.proofs.lemmas.List.FromFn.{fill_by_all, length-map-range_with_len, get_or-map-range_with_len}
-use Rattle.std.specs.List.{range_with_len}
-use Rattle.model_bytes.specs.Bytes.{put_at, PartlyPut}
-use Rattle.model_medium.specs.Cells.{Cell, Blank, Good, Torn, Dead}
-use Rattle.model_image.specs.Cells.{state_place, data_place, cell_of, data_in, cell_in, cells_of, image_len}
+use Rattle.model_medium.specs.Cells.{Cell, Dead}
+use Rattle.model_image.specs.Cells.{state_place, data_place, cell_of, data_in, cell_in, cells_of}
 
 -- As long as before, and the same outside of the n bytes at `at` and on.
 pub record SameBut (at n : ℕ) (before after : List ℕ) : Type 0 where

@@ -1,17 +1,16 @@
 -- What the three steps of a press make of an image, each of which may fail half way.
-use Rattle.std.specs.Prelude.{◌≡◌, ℕ, ◌+◌, ◌-◌, ◌*◌, ◌<◌, ◌≤◌, ◌⊎◌, List, [], ◌∷◌, ◌++◌, length, take, drop, replicate, get_or, slice_index, min, Option, Some, None, MatchOption, codes}
+use Rattle.std.specs.Prelude.{◌≡◌, ℕ, ◌+◌, ◌-◌, ◌≤◌, List, [], ◌++◌, length, take, drop, replicate, slice_index, Option, Some, None, MatchOption}
 use Rattle.std.specs.Option.{option_map, ForSome}
-use Rattle.std.specs.List.{range_with_len}
-use Rattle.std.proofs.Common.{arith, refl, sym, ap, ◌∙◌, inl, inr, subst, length-take, length-append}
+use Rattle.std.proofs.Common.{arith, refl, sym, ap, ◌∙◌, inl, inr, subst, length-take}
 use Rattle.std.proofs.lemmas.Bool.{cases_lt}
 use Rattle.std.proofs.lemmas.List.{nil_from_length, length-replicate, get_or-replicate, get_or_past, take_at}
 use Rattle.std.proofs.lemmas.List.FromFn.{fill_by_all}
 use Rattle.model_bytes.specs.Bytes.{put_at, resized, PartlyPut}
 use Rattle.model_bytes.specs.Told.{WhereTold}
 use Rattle.model_geometry.specs.Geometry.{Shape, IsLawful, total}
-use Rattle.model_medium.specs.Cells.{Cell, Blank, Dead}
+use Rattle.model_medium.specs.Cells.{Blank, Dead}
 use Rattle.model_image.specs.Cells.{state_place, image_len, cell_of, data_in, cell_in, cells_of}
-use Rattle.model_image.specs.Image.{header_of, HasHeader, IsDiscImage, IsImageOf, blank_cells, IsBlankIfDisc, IsStoppedPress}
+use Rattle.model_image.specs.Image.{header_of, IsImageOf, blank_cells, IsBlankIfDisc, IsStoppedPress}
 use Rattle.model_image.proofs.Changes.{SameBut}
 use Rattle.model_image.proofs.Writes.{SameBut-put_at, SameBut-PartlyPut}
 

@@ -1,13 +1,12 @@
 -- What the three writes of a block into an image leave of its cells, each of which may fail half way.
-use Rattle.std.specs.Prelude.{◌≡◌, ◌≢◌, ℕ, ◌+◌, ◌-◌, ◌*◌, ◌<◌, ◌≤◌, ◌⊎◌, List, [], ◌∷◌, ◌++◌, length, take, drop, set, get_or, slice_index}
-use Rattle.std.proofs.Common.{arith, refl, sym, ap, ◌∙◌, inl, inr, length-drop, length-take, length-append, get_or-take, get_or-drop, get_or-set_same}
-use Rattle.std.proofs.lemmas.Bool.{cases_lt}
-use Rattle.std.proofs.lemmas.List.{length-take-le, take_at, drop_at, append_assoc, get_or_append_left, get_or-append_right, set-set, get_or_at}
-use Rattle.std.proofs.lemmas.List.FromFn.{length-map-range_with_len, get_or-map-range_with_len}
+use Rattle.std.specs.Prelude.{◌≡◌, ℕ, ◌+◌, ◌-◌, ◌<◌, ◌≤◌, ◌⊎◌, List, [], ◌∷◌, ◌++◌, length, take, drop, set, slice_index}
+use Rattle.std.proofs.Common.{arith, ap, ◌∙◌, inl, inr, length-drop, length-append, get_or-take, get_or-drop}
+use Rattle.std.proofs.lemmas.List.{length-take-le, take_at, drop_at, append_assoc, get_or_append_left, get_or-append_right, get_or_at}
+use Rattle.std.proofs.lemmas.List.FromFn.{get_or-map-range_with_len}
 use Rattle.model_bytes.specs.Bytes.{put_at, PartlyPut}
-use Rattle.model_medium.specs.Cells.{Cell, Blank, Good, Torn, Dead, cell_at, MayLeave}
+use Rattle.model_medium.specs.Cells.{Dead, cell_at}
 use Rattle.model_image.specs.Cells.{state_place, data_place, cell_of, data_in, cell_in, cells_of}
-use Rattle.model_image.proofs.Changes.{SameBut, same_part, same_cell, other_cell-state, other_cell-data, cells_of-set}
+use Rattle.model_image.proofs.Changes.{SameBut, same_part, other_cell-state, other_cell-data, cells_of-set}
 
 -- bytes put at a place leave the others
 pub SameBut-put_at : (at : ℕ) (from held : List ℕ) → at + length from ≤ length held → SameBut at (length from) held (put_at at from held)

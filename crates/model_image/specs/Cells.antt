@@ -1,4 +1,4 @@
-use Rattle.std.specs.Prelude.{◌≡◌, ℕ, ◌+◌, ◌*◌, ◌==◌, if◌then◌else◌, List, length, take, drop, map, set, slice_index}
+use Rattle.std.specs.Prelude.{◌≡◌, ℕ, ◌+◌, ◌*◌, ◌⊎◌, ◌==◌, if◌then◌else◌, Option, Some, None, List, [], length, take, drop, map, set, slice_index}
 use Rattle.std.specs.List.{range_with_len}
 use Rattle.model_medium.specs.Cells.{Cell, Blank, Good, Torn, Dead, cell_at, MayLeave}
 
@@ -41,3 +41,14 @@ pub record StopsInCell (total block : ℕ) (bytes : List ℕ) (before after : Li
   pub cell : Cell
   pub may : MayLeave (cell_at (cells_of total before) block) bytes cell
   pub sets : SetsCell total block cell before after
+
+-- A write of a block's state byte was stopped: its cell is as it was, or the one that the whole write makes.
+pub record StopsInState (total block : ℕ) (cell : Cell) (before after : List ℕ) : Type 0 where
+  pub left : Cell
+  pub may : (left ≡ cell_at (cells_of total before) block) ⊎ (left ≡ cell)
+  pub sets : SetsCell total block left before after
+
+-- the cells of an image of so many blocks where it tells its bytes, and none where it does not
+abbrev pub cells_told : ℕ → Option (List ℕ) → List Cell
+cells_told total None = []
+cells_told total (Some bytes) = cells_of total bytes

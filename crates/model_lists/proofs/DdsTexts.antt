@@ -1,13 +1,14 @@
 -- Each disc definition structure has just one text, and each block is the text of at most one.
-use Rattle.std.proofs.Common.{◌≡◌, ℕ, ◌+◌, ◌-◌, ◌*◌, ◌<◌, ◌≤◌, ◌^◌, List, [], ◌∷◌, ◌++◌, length, get_or, take, drop, refl, sym, ◌∙◌, ap, ap₂, subst, arith, append_assoc, length-append, length-drop}
+use Rattle.std.proofs.Common.{◌≡◌, ℕ, ◌+◌, ◌-◌, ◌*◌, ◌<◌, ◌≤◌, ◌^◌, List, ◌∷◌, ◌++◌, length, get_or, take, drop, replicate, refl, sym, ◌∙◌, ap, ap₂, subst, arith, length-append, length-drop}
 use Rattle.std.specs.List.{flat_map}
 use Rattle.std.proofs.lemmas.List.{take-append-drop, take_at, drop_at, drop-drop}
+use Rattle.model_bytes.proofs.Laws.{written_whole}
 use Rattle.byteorder.specs.Endian.{big_bytes}
 use Rattle.model_lists.specs.declared.dds.DdsState.{DdsState}
 use Rattle.model_lists.specs.declared.dds.PdlEntry.{PdlEntry}
-use Rattle.model_lists.specs.Values.{Dds, IsLawfulDds, IsWithinDdsLimits, IsBlockNumber}
+use Rattle.model_lists.specs.Values.{Dds, IsLawfulDds, IsLawfulPdl, IsWithinDdsLimits, IsBlockNumber}
 use Rattle.model_lists.specs.Texts.{bytes_at, zeros, state_byte, pdl_entry_bytes, Spells, IsDdsFront, IsDdsText}
-use Rattle.model_lists.proofs.Spelled.{agree_more, length-zeros, length-spelled, same_entries}
+use Rattle.model_lists.proofs.Spelled.{agree_more, replicated_zeros, length-zeros, length-spelled, same_entries}
 use Rattle.model_lists.proofs.Numbers.{big_bytes-injective, state_byte-injective, pdl_entry_bytes-injective, length-pdl_entry_bytes}
 
 fronts_agree : (s : DdsState) (c p n : ℕ) (x y : List ℕ) → IsDdsFront s c p n x → IsDdsFront s c p n y → take 2052 x ≡ take 2052 y
@@ -24,7 +25,7 @@ pub one_text : (value : Dds) (x y : List ℕ) → IsDdsText value x → IsDdsTex
 one_text value x y of_x of_y =
     let long : length (drop 2052 x) ≡ length (drop 2052 y) = omega (arith, length-drop 2052 x, length-drop 2052 y, of_x.whole, of_y.whole) in
     let lists : drop 2052 x ≡ drop 2052 y =
-        of_x.list ∙ ap (λ (k : ℕ). flat_map pdl_entry_bytes value.entries ++ zeros (k - 4 * length value.entries)) long ∙ sym of_y.list in
+    of_x.list ∙ ap (λ (k : ℕ). flat_map pdl_entry_bytes value.entries ++ zeros (k - 4 * length value.entries)) long ∙ sym of_y.list in
     let fronts = fronts_agree value.state value.counter value.psa (length value.entries) x y of_x.front of_y.front in
     sym (take-append-drop 2052 x) ∙ ap₂ (λ (u v : List ℕ). u ++ v) fronts lists ∙ take-append-drop 2052 y
 
@@ -59,7 +60,7 @@ one_value v w x of_v of_w =
     let lv = of_v.lawful.limits in
     let lw = of_w.lawful.limits in
     let long : length v.entries ≡ length w.entries =
-        front_count v.state w.state v.counter w.counter v.psa w.psa (length v.entries) (length w.entries) x (omega arith) (omega arith) of_v.front of_w.front in
+    front_count v.state w.state v.counter w.counter v.psa w.psa (length v.entries) (length w.entries) x (omega arith) (omega arith) of_v.front of_w.front in
     same_value v w record {
       counters = big_bytes-injective 4 v.counter w.counter (omega (arith, of_v.lawful.counted)) (omega (arith, of_w.lawful.counted)) (sym of_v.front.counted ∙ of_w.front.counted);
       states = front_state v.state w.state v.counter w.counter v.psa w.psa (length v.entries) (length w.entries) x of_v.front of_w.front;
@@ -102,7 +103,7 @@ text_spelled value gap list lawful zero long spells =
     let long_gap : length gap ≡ 2038 = ap length zero ∙ length-zeros 2038 in
     let begin = dds_begin value.state value.counter value.psa in
     let end : drop 2052 (begin ++ (gap ++ (pdl_begin (length value.entries) ++ list))) ≡ list =
-        past_gap begin gap (pdl_begin (length value.entries) ++ list) 10 2038 4 refl long_gap in
+    past_gap begin gap (pdl_begin (length value.entries) ++ list) 10 2038 4 refl long_gap in
     record {
       lawful = lawful;
       whole = omega (arith, length-append begin (gap ++ (pdl_begin (length value.entries) ++ list)), length-append gap (pdl_begin (length value.entries) ++ list), long_gap, long);
@@ -118,5 +119,35 @@ has_text value lawful =
     let room : 4 * count ≤ 30716 = omega arith in
     let list = flat_map pdl_entry_bytes value.entries ++ zeros (30716 - 4 * count) in
     let long : length list ≡ 30716 =
-        omega (arith, length-append (flat_map pdl_entry_bytes value.entries) (zeros (30716 - 4 * count)), length-spelled pdl_entry_bytes 4 length-pdl_entry_bytes value.entries, length-zeros (30716 - 4 * count)) in
+    omega (arith, length-append (flat_map pdl_entry_bytes value.entries) (zeros (30716 - 4 * count)), length-spelled pdl_entry_bytes 4 length-pdl_entry_bytes value.entries, length-zeros (30716 - 4 * count)) in
     (dds_begin value.state value.counter value.psa ++ (zeros 2038 ++ (pdl_begin count ++ list)), text_spelled value (zeros 2038) list lawful refl long (ap (λ (k : ℕ). flat_map pdl_entry_bytes value.entries ++ zeros (k - 4 * count)) (sym long)))
+
+-- the parts, written over a whole block, are the text
+pub text_written : (value : Dds) (held begin gap list_begin list : List ℕ) → IsLawfulDds value → length held ≡ 32768 → begin ≡ dds_begin value.state value.counter value.psa → (n : ℕ) → n ≡ 2038 → gap ≡ replicate n 0 → list_begin ≡ pdl_begin (length value.entries) → length list ≡ 30716 → Spells pdl_entry_bytes 4 value.entries list
+    → IsDdsText value (take (length held) ((begin ++ (gap ++ (list_begin ++ list))) ++ drop (length (begin ++ (gap ++ (list_begin ++ list)))) held))
+text_written value held begin gap list_begin list lawful long begin_is n n_is gap_is list_begin_is list_long spells =
+    let zero : gap ≡ zeros 2038 = replicated_zeros n 2038 gap n_is gap_is in
+    let parts : begin ++ (gap ++ (list_begin ++ list)) ≡ dds_begin value.state value.counter value.psa ++ (gap ++ (pdl_begin (length value.entries) ++ list)) =
+    ap₂ (λ (u v : List ℕ). u ++ (gap ++ (v ++ list))) begin_is list_begin_is in
+    let text : IsDdsText value (begin ++ (gap ++ (list_begin ++ list))) =
+    (let P : List ℕ → Type 0 = IsDdsText value in subst P (sym parts) (text_spelled value gap list lawful zero list_long spells)) in
+    let P : List ℕ → Type 0 = IsDdsText value in
+    subst P (sym (written_whole (begin ++ (gap ++ (list_begin ++ list))) held (text.whole ∙ sym long))) text
+
+-- where no list has the bytes after the front, the block is no text
+pub no_text : (s : DdsState) (c p n : ℕ) (block : List ℕ) → IsWithinDdsLimits s p n → IsDdsFront s c p n block → ((entries : List PdlEntry) → length entries ≡ n → IsLawfulPdl entries → Spells pdl_entry_bytes 4 entries (drop 2052 block) → ⊥) → (value : Dds) → IsDdsText value block → ⊥
+no_text s c p n block limits front none value text =
+    let value_limits = text.lawful.limits in
+    none value.entries (front_count value.state s value.counter c value.psa p (length value.entries) n block (omega arith) (omega arith) text.front front) text.lawful.list text.list
+
+-- the front and the list that were read make the value whose text the block is
+pub text_read : (value : Dds) (n : ℕ) (block : List ℕ) → value.counter < 2 ^ 32 → length block ≡ 32768 → IsWithinDdsLimits value.state value.psa n → IsDdsFront value.state value.counter value.psa n block → length value.entries ≡ n → IsLawfulPdl value.entries → Spells pdl_entry_bytes 4 value.entries (drop 2052 block) → IsDdsText value block
+text_read value n block counted whole limits front long lawful spells =
+    let L : ℕ → Type 0 = IsWithinDdsLimits value.state value.psa in
+    let F : ℕ → Type 0 = λ k. IsDdsFront value.state value.counter value.psa k block in
+    record {
+      lawful = record { counted = counted; limits = subst L (sym long) limits; list = lawful };
+      whole = whole;
+      front = subst F (sym long) front;
+      list = spells;
+    }

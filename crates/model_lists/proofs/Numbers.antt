@@ -1,6 +1,6 @@
 -- The bytes of numbers, of states, of kinds and of entries tell them.
-use Rattle.std.proofs.Common.{◌≡◌, ℕ, ◌+◌, ◌-◌, ◌*◌, ◌/◌, ◌%◌, ◌<◌, ◌≤◌, ◌^◌, Option, Some, None, IfSome, List, [], ◌∷◌, ◌++◌, length, get_or, take, drop, refl, sym, ◌∙◌, ap, ap₂, arith, length-drop}
-use Rattle.std.proofs.lemmas.List.{append-nil, get_or-drop}
+use Rattle.std.proofs.Common.{◌≡◌, ℕ, ◌+◌, ◌<◌, ◌≤◌, ◌^◌, Option, Some, None, IfSome, List, [], ◌∷◌, ◌++◌, length, get_or, take, drop, refl, sym, ◌∙◌, ap, ap₂, arith, length-drop}
+use Rattle.std.proofs.lemmas.List.{get_or-drop}
 use Rattle.byteorder.specs.Endian.{big_bytes, big_number}
 use Rattle.byteorder.specs.Numbers.{big_number-reads_back}
 use Rattle.model_lists.specs.declared.dds.DdsState.{DdsState}
@@ -9,7 +9,7 @@ use Rattle.model_lists.specs.declared.dds.PdlKind.{PdlKind}
 use Rattle.model_lists.specs.declared.dds.PdlKind.TheVariants.{P, G1, G2}
 use Rattle.model_lists.specs.declared.dds.PdlEntry.{PdlEntry}
 use Rattle.model_lists.specs.declared.sdl.SdlEntry.{SdlEntry}
-use Rattle.model_lists.specs.Values.{IsBlockNumber}
+use Rattle.model_lists.specs.Values.{IsBlockNumber, HasNumbers}
 use Rattle.model_lists.specs.Texts.{bytes_at, state_byte, kind_byte, pdl_entry_bytes, sdl_entry_bytes, replaced_bytes}
 
 -- the bytes of a number that fits tell it
@@ -88,11 +88,6 @@ pdl_entry_bytes-injective x y small small' same =
     let kind = kind_byte-injective x.kind y.kind (ap (λ (l : List ℕ). get_or l 0 0) same) in
     let block = big_bytes-injective 3 x.block y.block (omega arith) (omega arith) (ap (drop 1) same) in
     ap₂ (λ (k : PdlKind) (b : ℕ). let e : PdlEntry = record { kind = k; block = b } in e) kind block
-
--- an entry of the secondary list whose numbers fit
-pub record HasNumbers (entry : SdlEntry) : Type 0 where
-  pub defective_fits : IsBlockNumber entry.defective
-  pub replacement_fits : IfSome entry.replacement IsBlockNumber
 
 replaced_bytes-injective : (d e : ℕ) (r s : Option ℕ) → d < 2 ^ 24 → e < 2 ^ 24 → IfSome r IsBlockNumber → IfSome s IsBlockNumber → replaced_bytes d r ≡ replaced_bytes e s → (d ≡ e) × (r ≡ s)
 replaced_bytes-injective d e (Some r) (Some s) sd se sr ss same =

@@ -1,7 +1,7 @@
 -- Entries of n bytes each, one after another.
 use Rattle.std.proofs.Common.{◌≡◌, ℕ, zero, suc, ◌+◌, ◌-◌, ◌*◌, ◌<◌, ◌≤◌, List, [], ◌∷◌, ◌++◌, length, get_or, take, drop, replicate, All, refl, sym, ◌∙◌, ap, ap₂, arith, append_assoc, length-append, length-drop, take-add}
 use Rattle.std.specs.List.{flat_map}
-use Rattle.std.proofs.lemmas.List.{take_at, drop_at, drop-drop, take-append-drop, same_lists, take_more, append-nil, length-take-le, length-replicate}
+use Rattle.std.proofs.lemmas.List.{take_at, drop_at, drop-drop, take-append-drop, same_lists, take_more, append-nil, take_all, length-replicate}
 use Rattle.std.proofs.lemmas.List.Concat.{flat_map-append}
 use Rattle.model_bytes.specs.Bytes.{put_at}
 use Rattle.model_bytes.proofs.Laws.{take-put_at-end}
@@ -17,10 +17,19 @@ pub zeros-is : (n : ℕ) (bytes : List ℕ) → length bytes ≡ n → bytes ≡
 unfolding zeros
 zeros-is n bytes long all = all ∙ ap (λ (k : ℕ). replicate k 0) long
 
+-- as many zeros, by another count
+pub replicated_zeros : (n m : ℕ) (bytes : List ℕ) → n ≡ m → bytes ≡ replicate n 0 → bytes ≡ zeros m
+unfolding zeros
+replicated_zeros n m bytes same all = all ∙ ap (λ (k : ℕ). replicate k 0) same
+
 pub zeros-all : (n : ℕ) (bytes : List ℕ) → bytes ≡ zeros n → bytes ≡ replicate (length bytes) 0
 unfolding zeros
 zeros-all n bytes same =
     same ∙ ap (λ (k : ℕ). replicate k 0) (sym (ap length same ∙ length-replicate n 0))
+
+-- what lies from a place on, as the code takes it
+pub rest_of : (a : ℕ) (bytes : List ℕ) → take (length bytes - a) (drop a bytes) ≡ drop a bytes
+rest_of a bytes = take_all (length bytes - a) (drop a bytes) (omega (arith, length-drop a bytes))
 
 -- the first a + n elements
 pub take_both : {X : Type 0} (a n : ℕ) (xs : List X) → take (a + n) xs ≡ take a xs ++ take n (drop a xs)
@@ -62,7 +71,7 @@ module _ {X : Type 0} (f : X → List ℕ) (n : ℕ) (fixed : (x : X) → length
   pub read_all : (bytes : List ℕ) (count : ℕ) (xs : List X) → take (n * count) bytes ≡ flat_map f xs → length xs ≡ count → drop (n * count) bytes ≡ replicate (length (drop (n * count) bytes)) 0 → Spells f n xs bytes
   read_all bytes count xs front long rest =
       let end : drop (n * count) bytes ≡ zeros (length bytes - n * length xs) =
-          zeros-is (length bytes - n * length xs) (drop (n * count) bytes) (length-drop (n * count) bytes ∙ ap (λ (k : ℕ). length bytes - n * k) (sym long)) rest in
+      zeros-is (length bytes - n * length xs) (drop (n * count) bytes) (length-drop (n * count) bytes ∙ ap (λ (k : ℕ). length bytes - n * k) (sym long)) rest in
       sym (take-append-drop (n * count) bytes) ∙ ap₂ (λ (u v : List ℕ). u ++ v) front end
 
   -- one more entry was written

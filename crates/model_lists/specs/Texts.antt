@@ -9,20 +9,20 @@ use Rattle.model_lists.specs.declared.dds.PdlEntry.{PdlEntry}
 use Rattle.model_lists.specs.declared.sdl.SdlEntry.{SdlEntry}
 use Rattle.model_lists.specs.Values.{Dds, Sdl, IsLawfulDds, IsLawfulSdl}
 
--- the n bytes from `at` on
+-- the n bytes from `at` on (this project's own)
 abbrev pub bytes_at : ℕ → ℕ → List ℕ → List ℕ
 bytes_at at n block = take n (drop at block)
 
--- n zeros
+-- n zeros (this project's own)
 unfoldable pub zeros : ℕ → List ℕ
 zeros n = replicate n 0
 
--- the byte of a state
+-- the byte of a state (this project's own, after ECMA-330)
 abbrev pub state_byte : DdsState → ℕ
 state_byte Formatting = 0
 state_byte Formatted = 128
 
--- the byte of a kind
+-- the byte of a kind (this project's own, after ECMA-330)
 abbrev pub kind_byte : PdlKind → ℕ
 kind_byte P = 0
 kind_byte G1 = 1
@@ -32,7 +32,7 @@ kind_byte G2 = 2
 abbrev pub pdl_entry_bytes : PdlEntry → List ℕ
 pdl_entry_bytes entry = kind_byte entry.kind ∷ big_bytes 3 entry.block
 
--- the eight bytes of an entry of the secondary defect list, by its replacement
+-- the eight bytes of an entry of the secondary defect list, by its replacement (this project's own, after ECMA-330)
 abbrev pub replaced_bytes : ℕ → Option ℕ → List ℕ
 replaced_bytes defective (Some replacement) = 0 ∷ big_bytes 3 defective ++ 0 ∷ big_bytes 3 replacement
 replaced_bytes defective None = 1 ∷ big_bytes 3 defective ++ 0 ∷ 0 ∷ 0 ∷ 0 ∷ []
@@ -62,7 +62,7 @@ pub record IsSdlFront (counter dds_counter ssa count : ℕ) (block : List ℕ) :
   pub list_counted : bytes_at 14 2 block ≡ big_bytes 2 count
   pub gap : bytes_at 16 16 block ≡ zeros 16
 
--- the bytes are those of the entries, of n bytes each, one after another, and then zeros
+-- the bytes are those of the entries, of n bytes each, one after another, and then zeros (this project's own)
 abbrev pub Spells : {X : Type 0} → (X → List ℕ) → ℕ → List X → List ℕ → Type 0
 Spells bytes_of n entries bytes = bytes ≡ flat_map bytes_of entries ++ zeros (length bytes - n * length entries)
 

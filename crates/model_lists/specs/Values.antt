@@ -21,15 +21,15 @@ pub record Sdl : Type 0 where
   pub ssa : ℕ
   pub entries : List SdlEntry
 
--- the blocks that a primary defect list names, in its order
+-- the blocks that a primary defect list names, in its order (this project's own)
 abbrev pub pdl_blocks : List PdlEntry → List ℕ
 pdl_blocks entries = map (λ (entry : PdlEntry). entry.block) entries
 
--- the defective blocks that a secondary defect list names, in its order
+-- the defective blocks that a secondary defect list names, in its order (this project's own)
 abbrev pub defectives : List SdlEntry → List ℕ
 defectives entries = map (λ (entry : SdlEntry). entry.defective) entries
 
--- a block number of 24 bits
+-- a block number of 24 bits (after ECMA-330)
 abbrev pub IsBlockNumber : ℕ → Type 0
 IsBlockNumber block = block < 2 ^ 24
 
@@ -38,25 +38,29 @@ pub record IsLawfulPdl (entries : List PdlEntry) : Type 0 where
   pub rise : IsStrictlyIncreasing (pdl_blocks entries)
   pub numbers : All (λ (entry : PdlEntry). IsBlockNumber entry.block) entries
 
+-- the defective block has a number of 24 bits, and so has its replacement where there is one (after ECMA-330)
+pub record HasNumbers (entry : SdlEntry) : Type 0 where
+  pub defective_fits : IsBlockNumber entry.defective
+  pub replacement_fits : IfSome entry.replacement IsBlockNumber
+
 -- The entries of a secondary defect list rise by their defective blocks. (After ECMA-330.)
 pub record IsLawfulList (entries : List SdlEntry) : Type 0 where
   pub rise : IsStrictlyIncreasing (defectives entries)
-  pub numbers : All (λ (entry : SdlEntry). IsBlockNumber entry.defective) entries
-  pub replaced_by : All (λ (entry : SdlEntry). IfSome entry.replacement IsBlockNumber) entries
+  pub numbers : All HasNumbers entries
 
--- a disc whose format has not ended has no primary defect list
+-- a disc whose format has not ended has no primary defect list (this project's own)
 abbrev pub FitsState : DdsState → ℕ → Type 0
 FitsState Formatting count = count ≡ 0
 FitsState Formatted count = Unit {0}
 
--- the limits of a disc definition structure whose list has so many entries
+-- the limits of a disc definition structure whose list has so many entries (this project's own)
 pub record IsWithinDdsLimits (state : DdsState) (psa count : ℕ) : Type 0 where
   pub some : 1 ≤ psa
   pub most : psa ≤ PSA_LIMIT
   pub few : count ≤ psa
   pub fits : FitsState state count
 
--- the limits of a secondary defect list that has so many entries
+-- the limits of a secondary defect list that has so many entries (this project's own)
 pub record IsWithinSdlLimits (ssa count : ℕ) : Type 0 where
   pub most : ssa ≤ SSA_LIMIT
   pub few : count ≤ SDL_LIMIT

@@ -24,6 +24,7 @@ pub enum PdlKind {
 /// An entry of the primary defect list: a block that is never used.
 #[derive(Clone, Copy, Debug, PartialEq, Eq)]
 pub struct PdlEntry {
+    /// Why it is never used.
     pub kind: PdlKind,
     /// Its number, below 2^24.
     pub block: u32,

@@ -1,2 +1,5 @@
 pub mod Cells
 pub mod World
+pub mod Machine
+pub mod Exact
+pub mod Reach

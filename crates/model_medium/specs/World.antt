@@ -1,50 +1,132 @@
-use Rattle.std.specs.Prelude.{◌≡◌, ℕ, ◌≤◌, Bool, IsTrue, List, set}
-use Rattle.std.specs.Bool.{OnTrue}
-use Rattle.model_counts.specs.Counts.{Rose}
-use Rattle.model_medium.specs.Cells.{Cell, Good, IsGood, cell_at, MayLeave}
+use Rattle.std.specs.Prelude.{◌≡◌, ◌≢◌, ℕ, ◌≤◌, ◌⊎◌, Bool, IsTrue, List, []}
+use Rattle.std.specs.Bool.{OnTrue, OnFalse}
+use Rattle.model_counts.specs.Counts.{counted, Rose}
+use Rattle.model_medium.specs.Cells.{Cell, Good, Dead, IsGood, cell_at, MayLeave, IsSameOrDead}
+use Rattle.model_medium.specs.declared.ReadEnd.{ReadEnd}
+use Rattle.model_medium.specs.declared.ReadEnd.TheVariants as reads
+use Rattle.model_medium.specs.declared.WriteEnd.{WriteEnd}
+use Rattle.model_medium.specs.declared.WriteEnd.TheVariants as writes
 
--- All that a medium shows: whether its cells are told, the cells, whether the power is on, and how often what it
--- lies on has failed. (This project's own.)
+-- All that any medium shows: whether its cells are told, the cells (none where they are not told), whether the power
+-- is on, how many uses there were, and how often the power was cut and what the medium lies on has failed. A use is
+-- one read or write with the power on, however it ends. (This project's own.)
 pub record World : Type 0 where
   pub told : Bool
   pub cells : List Cell
   pub power : Bool
+  pub uses : ℕ
+  pub cuts : ℕ
   pub faults : ℕ
 
--- the power was on and stays on, no cell changed, and no count fell
-pub record Looks (old new : World) : Type 0 where
+-- a medium that does not tell its cells shows none
+abbrev pub ShowsNoneUntold : World → Type 0
+ShowsNoneUntold world = OnFalse world.told (world.cells ≡ [])
+
+-- One use of a block, however it ended: it is counted, no cell but the block's changed, and a dead cell stays dead.
+-- (This project's own.)
+pub record IsUse (old new : World) (block : ℕ) : Type 0 where
   pub was_on : IsTrue old.power
-  pub stays_on : IsTrue new.power
   pub as_told : new.told ≡ old.told
-  pub same : new.cells ≡ old.cells
-  pub count : old.faults ≤ new.faults
+  pub counts : new.uses ≡ counted old.uses 1
+  pub never_falls : old.faults ≤ new.faults
+  pub others : (other : ℕ) → other ≢ block → cell_at new.cells other ≡ cell_at old.cells other
+  pub stays_dead : cell_at old.cells block ≡ Dead → cell_at new.cells block ≡ Dead
+
+-- the use went to its end: the power is on, and no cut is counted
+pub record GoesOn (old new : World) : Type 0 where
+  pub stays_on : IsTrue new.power
+  pub no_cut : new.cuts ≡ old.cuts
+
+-- the power was cut in the use: it is off, and the cut is counted
+pub record IsCut (old new : World) : Type 0 where
+  pub goes_off : ¬ IsTrue new.power
+  pub one_cut : new.cuts ≡ counted old.cuts 1
+
+-- what the medium lies on failed in the use: the power is off, and the fault is counted
+pub record HasFailed (old new : World) : Type 0 where
+  pub goes_off : ¬ IsTrue new.power
+  pub no_cut : new.cuts ≡ old.cuts
+  pub fault : Rose old.faults new.faults
 
 -- the power was off, and nothing changed
 pub record IsOff (old new : World) : Type 0 where
   pub was_off : ¬ IsTrue old.power
   pub nothing : new ≡ old
 
--- what the medium lies on failed in a read: it is counted, the power is off, and no cell changed
-pub record FailsInRead (old new : World) : Type 0 where
-  pub was_on : IsTrue old.power
-  pub goes_off : ¬ IsTrue new.power
-  pub as_told : new.told ≡ old.told
+-- the read gave the bytes of a good cell, and no cell changed
+pub record ReadsCell (old new : World) (block : ℕ) (into' : List ℕ) : Type 0 where
+  pub one : IsUse old new block
+  pub goes_on : GoesOn old new
   pub same : new.cells ≡ old.cells
-  pub count : Rose old.faults new.faults
+  pub gives : OnTrue old.told (cell_at new.cells block ≡ Good into')
 
--- the block has these bytes now, and no other cell changed
-pub record Writes (old new : World) (block : ℕ) (bytes : List ℕ) : Type 0 where
-  pub was_on : IsTrue old.power
-  pub stays_on : IsTrue new.power
-  pub as_told : new.told ≡ old.told
-  pub written : OnTrue old.told (new.cells ≡ set old.cells block (Good bytes))
-  pub count : old.faults ≤ new.faults
+-- the read found no good cell there
+pub record FindsNoBytes (old new : World) (block : ℕ) (into into' : List ℕ) : Type 0 where
+  pub one : IsUse old new block
+  pub goes_on : GoesOn old new
+  pub left : IsSameOrDead (cell_at old.cells block) (cell_at new.cells block)
+  pub not_good : ¬ IsGood (cell_at new.cells block)
+  pub kept : into' ≡ into
 
--- what the medium lies on failed in a write of these bytes: it is counted, the power is off, the block's cell is
--- what a stopped write may leave, and no other cell changed
+-- the power was cut in the read
+pub record IsCutInRead (old new : World) (block : ℕ) (into into' : List ℕ) : Type 0 where
+  pub one : IsUse old new block
+  pub cut : IsCut old new
+  pub left : IsSameOrDead (cell_at old.cells block) (cell_at new.cells block)
+  pub kept : into' ≡ into
+
+-- the read failed
+pub record FailsInRead (old new : World) (block : ℕ) (into into' : List ℕ) : Type 0 where
+  pub one : IsUse old new block
+  pub failed : HasFailed old new
+  pub left : IsSameOrDead (cell_at old.cells block) (cell_at new.cells block)
+  pub kept : into' ≡ into
+
+-- What a read of a block may do on any medium, by its answer: what the medium shows before and after, and what the
+-- block that is read into holds before and after. (This project's own.)
+abbrev pub ReadRule : World → World → ℕ → List ℕ → List ℕ → ReadEnd → Type 0
+ReadRule old new block into into' reads.Done = ReadsCell old new block into'
+ReadRule old new block into into' reads.Unreadable = FindsNoBytes old new block into into'
+ReadRule old new block into into' reads.Cut = IsCutInRead old new block into into'
+ReadRule old new block into into' reads.Off = IsOff old new × (into' ≡ into)
+ReadRule old new block into into' reads.Failed = FailsInRead old new block into into'
+
+-- the write put its bytes, unless the cell is dead
+pub record WritesCell (old new : World) (block : ℕ) (bytes : List ℕ) : Type 0 where
+  pub one : IsUse old new block
+  pub goes_on : GoesOn old new
+  pub left : (cell_at new.cells block ≡ Good bytes) ⊎ (cell_at new.cells block ≡ Dead)
+
+-- the power was cut in the write
+pub record IsCutInWrite (old new : World) (block : ℕ) (bytes : List ℕ) : Type 0 where
+  pub one : IsUse old new block
+  pub cut : IsCut old new
+  pub left : MayLeave (cell_at old.cells block) bytes (cell_at new.cells block)
+
+-- the write failed
 pub record FailsInWrite (old new : World) (block : ℕ) (bytes : List ℕ) : Type 0 where
-  pub was_on : IsTrue old.power
-  pub goes_off : ¬ IsTrue new.power
-  pub as_told : new.told ≡ old.told
-  pub stopped : OnTrue old.told ((cell : Cell) × MayLeave (cell_at old.cells block) bytes cell × (new.cells ≡ set old.cells block cell))
-  pub count : Rose old.faults new.faults
+  pub one : IsUse old new block
+  pub failed : HasFailed old new
+  pub left : MayLeave (cell_at old.cells block) bytes (cell_at new.cells block)
+
+-- What a write of these bytes to a block may do on any medium, by its answer. (This project's own.)
+abbrev pub WriteRule : World → World → ℕ → List ℕ → WriteEnd → Type 0
+WriteRule old new block bytes writes.Done = WritesCell old new block bytes
+WriteRule old new block bytes writes.Cut = IsCutInWrite old new block bytes
+WriteRule old new block bytes writes.Off = IsOff old new
+WriteRule old new block bytes writes.Failed = FailsInWrite old new block bytes
+
+-- How far a read or write went: one use, or none with the power off. A use that failed is told by its own rule.
+-- (This project's own.)
+abbrev pub ReadGoes : (ℕ → Type 0) → ReadEnd → Type 0
+ReadGoes goes reads.Done = goes 1
+ReadGoes goes reads.Unreadable = goes 1
+ReadGoes goes reads.Cut = goes 1
+ReadGoes goes reads.Off = goes 0
+ReadGoes goes reads.Failed = Unit {0}
+
+abbrev pub WriteGoes : (ℕ → Type 0) → WriteEnd → Type 0
+WriteGoes goes writes.Done = goes 1
+WriteGoes goes writes.Cut = goes 1
+WriteGoes goes writes.Off = goes 0
+WriteGoes goes writes.Failed = Unit {0}

@@ -1,8 +1,7 @@
-use Rattle.std.proofs.Common.{◌≡◌, ℕ, ◌+◌, ◌-◌, ◌<◌, ◌≤◌, Bool, true, false, not, eqb, List, [], ◌∷◌, ◌++◌, length, get_or, take, drop, ◌⊎◌, inl, inr, ⊎_elim, refl, sym, ap, ◌∙◌, arith}
+use Rattle.std.proofs.Common.{◌≡◌, ℕ, ◌+◌, ◌-◌, ◌<◌, not, List, ◌++◌, length, take, drop, ◌⊎◌, inl, inr, ⊎_elim, refl, sym, ap, ◌∙◌, arith}
 use Rattle.std.specs.Prelude.{slice_index}
-use Rattle.std.specs.List.{All, Contains, filter}
+use Rattle.std.specs.List.{Contains, filter}
 use Rattle.std.specs.List.Sorted.{IsStrictlyIncreasing}
-use Rattle.std.proofs.lemmas.Bool.{cases_lt}
 use Rattle.std.proofs.lemmas.List.{take-append-drop, drop-drop, append_assoc, length-take, length-drop, length-append, get_or-take, get_or-drop}
 use Rattle.std.proofs.lemmas.List.Elements.{Contains-append_cases, Contains-append_left, Contains-append_right, Contains-get_or}
 use Rattle.std.proofs.lemmas.List.Filters.{length-filter_both}
@@ -91,12 +90,17 @@ logical_is_no_spare shape psa pdl ssa valid area b logical spare =
     let all = pools_are_all shape psa pdl ssa valid area in
     let rest = StandsWithin-take (drop n u) (logical_count shape ssa) b logical in
     let here : StandsWithin u n (n + logical_count shape ssa) b =
-          record { place = n + rest.place; low_enough = omega arith; high_enough = omega (arith, rest.high_enough);
-            inside = omega (arith, rest.inside, length-drop n u); is = sym (get_or-drop n u rest.place b) ∙ rest.is } in
+    record {
+      place = n + rest.place;
+      low_enough = omega arith;
+      high_enough = omega (arith, rest.high_enough);
+      inside = omega (arith, rest.inside, length-drop n u);
+      is = sym (get_or-drop n u rest.place b) ∙ rest.is;
+    } in
     ⊎_elim
-      (λ l. parts_apart u (unslipped_rise shape pdl) 0 n n (n + logical_count shape ssa) b (omega arith) (StandsWithin-take u n b l) here)
-      (λ r. parts_apart u (unslipped_rise shape pdl) n (n + logical_count shape ssa) (length u - ssa) (length u) b (omega arith) here (StandsWithin-drop u (length u - ssa) b r))
-      (Contains-append_cases (primary_spares shape pdl) (supplementary_spares shape pdl ssa) b spare)
+    (λ l. parts_apart u (unslipped_rise shape pdl) 0 n n (n + logical_count shape ssa) b (omega arith) (StandsWithin-take u n b l) here)
+    (λ r. parts_apart u (unslipped_rise shape pdl) n (n + logical_count shape ssa) (length u - ssa) (length u) b (omega arith) here (StandsWithin-drop u (length u - ssa) b r))
+    (Contains-append_cases (primary_spares shape pdl) (supplementary_spares shape pdl ssa) b spare)
 
 -- a block that is not slipped is a spare or a logical block
 pub spare_or_logical : (shape : Shape) (psa : ℕ) (pdl : List ℕ) (ssa : ℕ) → IsValidPdl shape psa pdl → IsValidSsa shape ssa → (b : ℕ) → Contains (unslipped shape pdl) b → Contains (spares shape pdl ssa) b ⊎ Contains (logical_blocks shape pdl ssa) b
@@ -106,6 +110,20 @@ spare_or_logical shape psa pdl ssa valid area b has =
     let last = supplementary_spares shape pdl ssa in
     let split : Contains (first ++ middle ++ last) b = rw (unslipped_is shape psa pdl ssa valid area) has in
     ⊎_elim
-      (λ l. ⊎_elim (λ p. inl (Contains-append_left first last b p)) (λ m. inr m) (Contains-append_cases first middle b l))
-      (λ r. inl (Contains-append_right first last b r))
-      (Contains-append_cases (first ++ middle) last b split)
+    (λ l. ⊎_elim (λ p. inl (Contains-append_left first last b p)) (λ m. inr m) (Contains-append_cases first middle b l))
+    (λ r. inl (Contains-append_right first last b r))
+    (Contains-append_cases (first ++ middle) last b split)
+
+-- spares and logical blocks are blocks that are not slipped
+pub spare_is_unslipped : (shape : Shape) (pdl : List ℕ) (ssa b : ℕ) → Contains (spares shape pdl ssa) b → Contains (unslipped shape pdl) b
+spare_is_unslipped shape pdl ssa b has =
+    let u = unslipped shape pdl in
+    ⊎_elim
+    (λ l. let s = StandsWithin-take u (primary_count shape pdl) b l in (s.place, s.inside, s.is))
+    (λ r. let s = StandsWithin-drop u (length u - ssa) b r in (s.place, s.inside, s.is))
+    (Contains-append_cases (primary_spares shape pdl) (supplementary_spares shape pdl ssa) b has)
+
+pub logical_is_unslipped : (shape : Shape) (psa : ℕ) (pdl : List ℕ) (ssa : ℕ) → IsValidPdl shape psa pdl → IsValidSsa shape ssa → (i : ℕ) → i < logical_count shape ssa → Contains (unslipped shape pdl) (logical_block shape pdl i)
+logical_is_unslipped shape psa pdl ssa valid area i within =
+    let all = pools_are_all shape psa pdl ssa valid area in
+    Contains-get_or (unslipped shape pdl) (primary_count shape pdl + i) 0 (omega arith)

@@ -1,5 +1,5 @@
 use Rattle.std.specs.Prelude.{ℕ, ◌+◌, ◌-◌, ◌*◌, Bool, not, ◌||◌, ◌==◌, Option, unwrap_or, option_and_then, List, ◌++◌, length, take, drop, map, reverse, slice_index}
-use Rattle.std.specs.List.{filter, filter_map, find, list_any, after_first}
+use Rattle.std.specs.List.{count_by, filter, filter_map, find, list_any, after_first}
 use Rattle.model_geometry.specs.Geometry.{Shape, data_blocks}
 
 -- The entries of a secondary defect list: each names a defective block and the block that replaces it, where there
@@ -72,6 +72,13 @@ free_spares shape pdl ssa entries = filter (is_free entries) (spares_down shape 
 -- the first free spare that comes after the spare `last` in that order (this project's own)
 abbrev pub free_spare_after : Shape → List ℕ → ℕ → Entries → ℕ → Option ℕ
 free_spare_after shape pdl ssa entries last = find (is_free entries) (after_first (λ b. b == last) (spares_down shape pdl ssa))
+
+-- how many spares of each area are free
+abbrev pub free_primary_count : Shape → List ℕ → Entries → ℕ
+free_primary_count shape pdl entries = count_by (is_free entries) (primary_spares shape pdl)
+
+abbrev pub free_supplementary_count : Shape → List ℕ → ℕ → Entries → ℕ
+free_supplementary_count shape pdl ssa entries = count_by (is_free entries) (supplementary_spares shape pdl ssa)
 
 -- The spares that a write may use: those that are free and not dead. Where each listed block is dead, these are the
 -- spares that replace none and are not dead. (This project's own.)

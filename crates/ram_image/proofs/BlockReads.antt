@@ -1,6 +1,6 @@
 -- What a read into the bytes of a block leaves there.
-use Rattle.std.specs.Prelude.{◌≡◌, ℕ, ◌+◌, Option, Some, None, IfSome, List, ◌++◌, length, take, drop}
-use Rattle.std.proofs.Common.{ap, ◌∙◌, sym, subst}
+use Rattle.std.specs.Prelude.{◌≡◌, ℕ, Option, Some, None, IfSome, List, ◌++◌, length, take, drop}
+use Rattle.std.proofs.Common.{ap, ◌∙◌}
 use Rattle.std.proofs.lemmas.List.{take_at}
 use Rattle.ram_outside.specs.Image.{ReadAtRule}
 use Rattle.ram_outside.specs.declared.image.Moved.{Moved}

@@ -2,7 +2,6 @@
 use Rattle.std.specs.Prelude.{◌≡◌, ℕ, ◌<◌, ◌≤◌, Option, List, [], ◌∷◌, length}
 use Rattle.std.specs.Option.{option_map, ForSome}
 use Rattle.std.proofs.Common.{arith}
-use Rattle.model_counts.specs.Counts.{Rose}
 use Rattle.model_bytes.specs.Bytes.{put_at}
 use Rattle.model_image.specs.Cells.{state_place, data_place, image_len}
 use Rattle.model_image.proofs.CellWrites.{told-written, told-stopped_third}

@@ -1,3 +1,6 @@
 pub mod BlockReads
 pub mod CellSteps
 pub mod TellsCells
+pub mod Leaving
+pub mod Events
+pub mod MachineParts

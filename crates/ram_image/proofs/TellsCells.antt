@@ -1,13 +1,11 @@
 -- What is found in an image that tells its bytes is so in the cells that it stands for.
-use Rattle.std.specs.Prelude.{◌≡◌, ℕ, ◌<◌, Option, Some, None, is_some, IfSome, List}
+use Rattle.std.specs.Prelude.{ℕ, ◌<◌, Option, Some, None, is_some, IfSome, List}
 use Rattle.std.specs.Bool.{OnTrue}
 use Rattle.std.proofs.Common.{sym, subst}
-use Rattle.model_geometry.specs.Geometry.{Shape, total}
 use Rattle.model_medium.specs.Cells.{Cell, cell_at}
-use Rattle.model_image.specs.Cells.{cell_in}
+use Rattle.model_image.specs.Cells.{cell_in, cells_told}
 use Rattle.model_image.proofs.Writes.{cell_at-cells_of}
-use Rattle.ram_image.specs.Medium.{cells_told}
 
-pub told_cell : (shape : Shape) (block : ℕ) (P : Cell → Type 0) → block < total shape → (o : Option (List ℕ)) → IfSome o (λ held. P (cell_in (total shape) held block)) → OnTrue (is_some o) (P (cell_at (cells_told shape o) block))
-told_cell shape block P inside None h = tt
-told_cell shape block P inside (Some held) h = subst P (sym (cell_at-cells_of (total shape) held block inside)) h
+pub told_cell : (total block : ℕ) (P : Cell → Type 0) → block < total → (o : Option (List ℕ)) → IfSome o (λ held. P (cell_in total held block)) → OnTrue (is_some o) (P (cell_at (cells_told total o) block))
+told_cell total block P inside None h = tt
+told_cell total block P inside (Some held) h = subst P (sym (cell_at-cells_of total held block inside)) h

@@ -1,4 +1,5 @@
 pub mod CellCalls
 pub mod Press
 pub mod Medium
+pub mod Begun
 pub mod Opening

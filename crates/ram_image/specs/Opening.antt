@@ -1,8 +1,6 @@
-use Rattle.std.specs.Prelude.{◌≡◌, ◌≢◌, ℕ, ◌<◌, ◌≤◌, ◌⊎◌, Bool, false, Option, is_some, IfSome, List, length, take}
-use Rattle.model_counts.specs.Counts.{Rose}
+use Rattle.std.specs.Prelude.{◌≡◌, ◌≢◌, ℕ, ◌<◌, ◌≤◌, ◌⊎◌, false, Option, None, is_some, IfSome, List, [], length, take}
 use Rattle.model_geometry.specs.Geometry.{Shape, total}
-use Rattle.model_medium.specs.World.{World}
-use Rattle.model_image.specs.Cells.{image_len}
+use Rattle.model_image.specs.Cells.{image_len, cells_told}
 use Rattle.model_image.specs.Image.{HasHeader, IsDiscImage}
 use Rattle.ram_outside.specs.declared.image.Image.{Ghosts}
 use Rattle.ram_outside.specs.Image.{IsUnchanged, HasFailed}
@@ -11,17 +9,22 @@ use Rattle.ram_image.specs.declared.opening.OpenFault.TheVariants as faulty
 use Rattle.ram_image.specs.declared.opening.HeaderFound.{HeaderFound}
 use Rattle.ram_image.specs.declared.opening.HeaderFound.TheVariants as found
 use Rattle.ram_image.specs.declared.medium.ImageMedium.{ImageMedium}
-use Rattle.ram_image.specs.Medium.{shape_of_medium, world_of, cells_told}
+use Rattle.ram_image.specs.Medium.{shape_of_medium, world_of, machine_in}
 
--- An image was opened: it is that of a disc of this geometry, and the medium shows its cells, with the power off.
+-- An image was opened: it is that of a disc of this geometry, and the medium shows its cells, with the power off,
+-- nothing counted and nothing armed.
 -- (This project's own.)
 pub record IsOpened {I : Type 0} {d : Ghosts I} (image : I) (medium : ImageMedium I d) (shape : Shape) : Type 0 where
   pub disc : IfSome (d.bytes image) (IsDiscImage shape)
   pub shape_is : shape_of_medium medium ≡ shape
   pub as_told : (world_of medium).told ≡ is_some (d.bytes image)
-  pub cells_are : (world_of medium).cells ≡ cells_told shape (d.bytes image)
+  pub cells_are : (world_of medium).cells ≡ cells_told (total shape) (d.bytes image)
   pub off : (world_of medium).power ≡ false
+  pub no_uses : (world_of medium).uses ≡ 0
+  pub no_cuts : (world_of medium).cuts ≡ 0
   pub count : d.faults image ≤ (world_of medium).faults
+  pub no_arms : (machine_in medium).arms ≡ []
+  pub no_cut : (machine_in medium).cut ≡ None
 
 -- Why an image was not opened. It has the bytes that it had. (This project's own.)
 abbrev pub IsRefused : Option (List ℕ) → Option (List ℕ) → ℕ → ℕ → OpenFault → Type 0

@@ -1,11 +1,13 @@
 ghost use Rattle.std.specs.Prelude.{◌≡◌, ◌+◌, ◌*◌, ◌<◌, ◌≤◌, length};
 ghost use Rattle.std.specs.Option.{ForSome};
 ghost use Rattle.model_image.specs.Cells.{image_len};
+ghost use Rattle.model_medium.specs.Cells.{Torn, Dead};
 ghost use Rattle.ram_bytes.specs.declared.block.TheConstants.{BLOCK_BYTES};
-ghost use Rattle.ram_image.specs.CellCalls.{ReadBlockRule, ReadCellRule, WriteCellRule};
+ghost use Rattle.ram_image.specs.CellCalls.{ReadBlockRule, ReadCellRule, ReadStateRule, WriteStateRule, WriteCellRule, KillWhereRule, LeaveCellRule};
 
 use crate::header::HEADER_BYTES;
 use ram_bytes::{BLOCK_BYTES, Block};
+use ram_medium::Fate;
 use ram_outside::{Image, Moved};
 
 /// The state byte of a block with whole bytes.
@@ -13,6 +15,9 @@ const GOOD: u8 = 1;
 
 /// The state byte of a block in whose writing the power was cut.
 const TORN: u8 = 2;
+
+/// The state byte of a dead block.
+const DEAD: u8 = 3;
 
 /// What a read of a block's cell found.
 #[derive(Clone, Copy, Debug, PartialEq, Eq)]
@@ -72,6 +77,91 @@ pub fn write_cell<I: Image>(image: &mut I, total: u32, block: u32, from: &Block)
         Moved::Done => {}
     }
     image.write_at(state_place(block), &[GOOD])
+}
+
+/// What the state byte of a block says.
+#[derive(Clone, Copy, Debug, PartialEq, Eq)]
+pub enum StateRead {
+    /// The block is dead.
+    Dead,
+    /// It is not.
+    Alive,
+    /// The image failed.
+    Failed,
+}
+
+/// Reads the state byte of a block in an image of so many blocks.
+fn read_state<I: Image>(image: &mut I, total: u32, block: u32) -> StateRead
+    requires inside { block < total }
+    requires whole { ForSome (I.bytes image.old) (λ held. length held ≡ image_len total) }
+    ensures { ReadStateRule (I.bytes image.old) (I.bytes image.new) (I.faults image.old) (I.faults image.new) total block result }
+{
+    let mut state = [0u8; 1];
+    match image.read_at(state_place(block), &mut state) {
+        Moved::Failed => StateRead::Failed,
+        Moved::Done => {
+            if state[0] == DEAD {
+                StateRead::Dead
+            } else {
+                StateRead::Alive
+            }
+        }
+    }
+}
+
+/// Makes a block dead: its state byte alone is written.
+pub fn kill_cell<I: Image>(image: &mut I, total: u32, block: u32) -> Moved
+    requires inside { block < total }
+    requires whole { ForSome (I.bytes image.old) (λ held. length held ≡ image_len total) }
+    ensures { WriteStateRule (I.bytes image.old) (I.bytes image.new) (I.faults image.old) (I.faults image.new) total block Dead result }
+{
+    image.write_at(state_place(block), &[DEAD])
+}
+
+/// Makes a block torn, as the first of the three writes of its cell does.
+fn tear_cell<I: Image>(image: &mut I, total: u32, block: u32) -> Moved
+    requires inside { block < total }
+    requires whole { ForSome (I.bytes image.old) (λ held. length held ≡ image_len total) }
+    ensures { WriteStateRule (I.bytes image.old) (I.bytes image.new) (I.faults image.old) (I.faults image.new) total block Torn result }
+{
+    image.write_at(state_place(block), &[TORN])
+}
+
+/// Makes a block dead where it is to die, and does nothing else.
+pub fn kill_where<I: Image>(image: &mut I, total: u32, block: u32, dies: bool) -> Moved
+    requires inside { block < total }
+    requires whole { ForSome (I.bytes image.old) (λ held. length held ≡ image_len total) }
+    ensures { KillWhereRule (I.bytes image.old) (I.bytes image.new) (I.faults image.old) (I.faults image.new) total block dies result }
+{
+    if dies {
+        return kill_cell(image, total, block);
+    }
+    Moved::Done
+}
+
+/// Leaves a block as a write of these bytes does that is cut with this fate: an old one ends before the first of its
+/// three writes, a torn one after it, and a new one after the last, as a write does that is not cut. A dead block is
+/// left as it is.
+pub fn leave_cell<I: Image>(
+    image: &mut I,
+    total: u32,
+    block: u32,
+    from: &Block,
+    fate: Fate,
+) -> Moved
+    requires inside { block < total }
+    requires whole { ForSome (I.bytes image.old) (λ held. length held ≡ image_len total) }
+    ensures { LeaveCellRule (I.bytes image.old) (I.bytes image.new) (I.faults image.old) (I.faults image.new) total block from.now fate result }
+{
+    match read_state(image, total, block) {
+        StateRead::Failed => Moved::Failed,
+        StateRead::Dead => Moved::Done,
+        StateRead::Alive => match fate {
+            Fate::Old => Moved::Done,
+            Fate::New => write_cell(image, total, block, from),
+            Fate::Torn => tear_cell(image, total, block),
+        },
+    }
 }
 
 /// Where the state byte of a block stands.

@@ -10,3 +10,6 @@ pub mod pressing;
 pub use medium::ImageMedium;
 pub use opening::{OpenFault, open};
 pub use pressing::{PressOut, press};
+
+#[cfg(test)]
+mod tests;

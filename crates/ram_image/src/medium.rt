@@ -1,81 +1,134 @@
-ghost use Rattle.std.specs.Prelude.{◌≡◌, ◌<◌, true, false, is_some, MatchOption};
+ghost use Rattle.std.specs.Prelude.{◌≡◌, ◌<◌, ◌≤◌, true, false, is_some, IsTrue, MatchOption};
 ghost use Rattle.std.specs.Option.{ForSome};
 ghost use Rattle.std.proofs.Props.{props};
 ghost use Rattle.model_image.specs.Image.{IsDiscImage, IsImageOf};
 
-use crate::cells::{CellRead, read_cell, write_cell};
+use crate::cells::{CellRead, kill_cell, kill_where, leave_cell, read_cell};
 use ram_bytes::Block;
-use ram_medium::{ReadEnd, WriteEnd};
+use ram_medium::{Arm, Armed, FailEnd, Fate, Medium, MediumControl, ReadEnd, WriteEnd};
 use ram_outside::{Image, Moved};
 use ram_zones::Geometry;
 
-/// The medium of a disc whose blocks lie in an image. It keeps room for one block, and takes no more memory.
+/// The controllable medium of a disc whose blocks lie in an image. It keeps room for one block, and takes no more
+/// memory.
 pub struct ImageMedium<I: Image> {
     image: I,
     geometry: Geometry,
     room: Block,
     powered: bool,
+    uses: u64,
+    cuts: u64,
+    armed: Armed,
     // Where the image tells its bytes, they are the image of a disc of this geometry.
     ghost disc: { ForSome (I.bytes image) (IsDiscImage geometry) } by { Prim.hlevel props },
 }
 
-impl<I: Image> ImageMedium<I> {
-    ghost use Rattle.model_geometry.specs.Geometry.{total};
-    ghost use Rattle.ram_image.specs.Medium.{shape_of_medium, world_of, cells_told, ReadRule, WriteRule};
+/// How a use of a block begins.
+enum Begun {
+    /// It goes on.
+    On,
+    /// The power is to be cut in it, with this fate.
+    Cut(Fate),
+    /// The image failed, and the power is off.
+    Failed,
+}
 
-    /// The medium of a disc of this geometry over its image, with the power off.
+impl<I: Image> ImageMedium<I> {
+    ghost use Rattle.std.specs.Prelude.{[], None, length};
+    ghost use Rattle.model_geometry.specs.Geometry.{total};
+    ghost use Rattle.model_medium.specs.Machine.{cut_off};
+    ghost use Rattle.model_medium.specs.Exact.{Read, Write};
+    ghost use Rattle.ram_image.specs.Medium.{shape_of_medium, world_of, machine_in, ImageTakes};
+    ghost use Rattle.ram_image.specs.Begun.{IsNew, BeginRule, ReadOnRule, WriteCutRule, LeaveRule};
+
+    /// The medium of a disc of this geometry over its image, with the power off, nothing counted and nothing armed.
     pub(crate) fn new(image: I, geometry: Geometry, room: Block) -> Self
         requires { ForSome (I.bytes image) (IsDiscImage geometry) }
-        ensures shape { shape_of_medium result ≡ geometry }
-        ensures world { world_of result ≡ record { told = is_some (I.bytes image); cells = cells_told geometry (I.bytes image); power = false; faults = I.faults image } }
+        ensures { IsNew image geometry result }
     {
         ImageMedium {
             image,
             geometry,
             room,
             powered: false,
+            uses: 0,
+            cuts: 0,
+            armed: Armed::new(),
         }
     }
 
-    /// How many blocks the medium has.
-    pub fn blocks(&self) -> u32
-        ensures { result ≡ total (shape_of_medium self.now) }
+    /// The image, as the medium leaves it.
+    pub fn into_image(self) -> I
+        ensures count { I.faults result ≡ (world_of self).faults }
+        ensures cells { MatchOption (I.bytes result) ((world_of self).told ≡ false) (λ bytes. IsImageOf (shape_of_medium self) (world_of self).cells bytes) }
     {
-        self.geometry.total()
+        let ImageMedium {
+            image,
+            geometry: _,
+            room: _,
+            powered: _,
+            uses: _,
+            cuts: _,
+            armed: _,
+        } = self;
+        image
     }
 
-    /// Whether the power is on.
-    pub fn powered(&self) -> bool
-        ensures { result ≡ (world_of self.now).power }
+    /// Begins a use of the block: it is counted, the arms of the block and the armed cut count down, and a block that
+    /// an arm kills is dead.
+    fn begin(&mut self, block: u32) -> Begun
+        requires inside { block < total (shape_of_medium self.old) }
+        requires on { IsTrue (world_of self.old).power }
+        ensures rule { BeginRule (machine_in self.old) (machine_in self.new) block result }
+        ensures same_shape { shape_of_medium self.new ≡ shape_of_medium self.old }
     {
-        self.powered
+        self.uses = self.uses.saturating_add(1);
+        let due = self.armed.count(block);
+        match kill_where(&mut self.image, self.geometry.total(), block, due.dies) {
+            Moved::Failed => {
+                self.powered = false;
+                Begun::Failed
+            }
+            Moved::Done => match due.cut {
+                None => Begun::On,
+                Some(fate) => Begun::Cut(fate),
+            },
+        }
     }
 
-    /// Turns the power on, and does nothing else.
-    pub fn power_on(&mut self)
-        ensures power { world_of self.new ≡ record (world_of self.old) { power = true } }
-        ensures same { shape_of_medium self.new ≡ shape_of_medium self.old }
+    /// Cuts the power, and counts it.
+    fn cut_power(&mut self)
+        ensures machine { machine_in self.new ≡ cut_off (machine_in self.old) }
+        ensures same_shape { shape_of_medium self.new ≡ shape_of_medium self.old }
     {
-        self.powered = true;
-    }
-
-    /// Turns the power off, and does nothing else.
-    pub fn power_off(&mut self)
-        ensures power { world_of self.new ≡ record (world_of self.old) { power = false } }
-        ensures same { shape_of_medium self.new ≡ shape_of_medium self.old }
-    {
+        self.cuts = self.cuts.saturating_add(1);
         self.powered = false;
     }
 
-    /// Reads a block. `into` changes only where all of it was read.
-    pub fn read(&mut self, block: u32, into: &mut Block) -> ReadEnd
+    /// A read, as the trait has it.
+    fn read_block(&mut self, block: u32, into: &mut Block) -> ReadEnd
         requires { block < total (shape_of_medium self.old) }
-        ensures rule { ReadRule (world_of self.old) (world_of self.new) block into.old into.new result }
-        ensures same { shape_of_medium self.new ≡ shape_of_medium self.old }
+        ensures { ImageTakes self.old self.new (Read block into.old into.new result) }
     {
         if !self.powered {
             return ReadEnd::Off;
         }
+        match self.begin(block) {
+            Begun::Failed => ReadEnd::Failed,
+            Begun::Cut(_) => {
+                self.cut_power();
+                ReadEnd::Cut
+            }
+            Begun::On => self.read_on(block, into),
+        }
+    }
+
+    /// Reads the cell of a block in a use that goes on.
+    fn read_on(&mut self, block: u32, into: &mut Block) -> ReadEnd
+        requires { block < total (shape_of_medium self.old) }
+        ensures rule { ReadOnRule (machine_in self.old) (machine_in self.new) block into.old into.new result }
+        ensures same_shape { shape_of_medium self.new ≡ shape_of_medium self.old }
+    {
         match read_cell(
             &mut self.image,
             self.geometry.total(),
@@ -94,34 +147,160 @@ impl<I: Image> ImageMedium<I> {
         }
     }
 
-    /// Writes a block. Its cell is not dead.
-    pub fn write(&mut self, block: u32, from: &Block) -> WriteEnd
+    /// A write, as the trait has it.
+    fn write_block(&mut self, block: u32, from: &Block) -> WriteEnd
         requires { block < total (shape_of_medium self.old) }
-        ensures rule { WriteRule (world_of self.old) (world_of self.new) block from.now result }
-        ensures same { shape_of_medium self.new ≡ shape_of_medium self.old }
+        ensures { ImageTakes self.old self.new (Write block from.now result) }
     {
         if !self.powered {
             return WriteEnd::Off;
         }
-        match write_cell(&mut self.image, self.geometry.total(), block, from) {
-            Moved::Done => WriteEnd::Done,
-            Moved::Failed => {
-                self.powered = false;
-                WriteEnd::Failed
+        match self.begin(block) {
+            Begun::Failed => WriteEnd::Failed,
+            Begun::Cut(fate) => self.write_cut(block, from, fate),
+            Begun::On => match self.leave(block, from, Fate::New) {
+                Moved::Failed => WriteEnd::Failed,
+                Moved::Done => WriteEnd::Done,
+            },
+        }
+    }
+
+    /// Writes a block in a use in which the power is cut with this fate.
+    fn write_cut(&mut self, block: u32, from: &Block, fate: Fate) -> WriteEnd
+        requires { block < total (shape_of_medium self.old) }
+        ensures rule { WriteCutRule (machine_in self.old) (machine_in self.new) block from.now fate result }
+        ensures same_shape { shape_of_medium self.new ≡ shape_of_medium self.old }
+    {
+        match self.leave(block, from, fate) {
+            Moved::Failed => WriteEnd::Failed,
+            Moved::Done => {
+                self.cut_power();
+                WriteEnd::Cut
             }
         }
     }
 
-    /// The image, as the medium leaves it.
-    pub fn into_image(self) -> I
-        ensures { MatchOption (I.bytes result) ((world_of self).told ≡ false) (λ bytes. IsImageOf (shape_of_medium self) (world_of self).cells bytes) }
+    /// Leaves the cell of a block as a write of these bytes with this fate does.
+    fn leave(&mut self, block: u32, from: &Block, fate: Fate) -> Moved
+        requires { block < total (shape_of_medium self.old) }
+        ensures rule { LeaveRule (machine_in self.old) (machine_in self.new) block from.now fate result }
+        ensures same_shape { shape_of_medium self.new ≡ shape_of_medium self.old }
     {
-        let ImageMedium {
-            image,
-            geometry: _,
-            room: _,
-            powered: _,
-        } = self;
-        image
+        match leave_cell(&mut self.image, self.geometry.total(), block, from, fate) {
+            Moved::Done => Moved::Done,
+            Moved::Failed => {
+                self.powered = false;
+                Moved::Failed
+            }
+        }
     }
+}
+
+impl<I: Image> Medium for ImageMedium<I> {
+    ghost use Rattle.model_geometry.specs.Geometry.{total};
+    ghost use Rattle.ram_image.specs.Medium.{shape_of_medium, world_of, machine_in, ImageReaches, ImageTakes};
+    ghost use Rattle.model_image.proofs.ToldCells.{shows_none_untold, length-cells_told};
+    ghost use Rattle.model_medium.proofs.Compose.{reach_none, reach_then, follows-reach};
+
+    ghost world = { world_of };
+
+    ghost block_count = { λ medium. total (shape_of_medium medium) };
+
+    ghost reaches = { ImageReaches };
+
+    ghost takes = { ImageTakes };
+
+    fn blocks(&self) -> u32 {
+        self.geometry.total()
+    }
+
+    fn powered(&self) -> bool {
+        self.powered
+    }
+
+    fn read(&mut self, block: u32, into: &mut Block) -> ReadEnd {
+        self.read_block(block, into)
+    }
+
+    fn write(&mut self, block: u32, from: &Block) -> WriteEnd {
+        self.write_block(block, from)
+    }
+
+    fn power_on(&mut self) {
+        self.powered = true;
+    }
+
+    fn power_off(&mut self) {
+        self.powered = false;
+    }
+
+    ghost laws = { record {
+      none = λ medium. reach_none (machine_in medium) medium.armed.to_come;
+      adds_up = λ a b c j k one two. reach_then (machine_in a) (machine_in b) (machine_in c) j k one two;
+      follows = λ a b k reach. follows-reach (machine_in a) (machine_in b) k reach;
+      untold = λ medium. shows_none_untold (shape_of_medium medium) (I.bytes medium.image);
+      as_many = λ medium. length-cells_told (total (shape_of_medium medium)) (I.bytes medium.image);
+    } };
+}
+
+impl<I: Image> MediumControl for ImageMedium<I> {
+    ghost use Rattle.model_geometry.specs.Geometry.{total};
+    ghost use Rattle.ram_medium.specs.Countdown.{arms_of, cut_of};
+    ghost use Rattle.ram_medium.specs.Control.{FailRule, WearRule, with_armed_cut};
+    ghost use Rattle.ram_image.specs.Medium.{shape_of_medium, machine_in};
+
+    ghost arms = { λ medium. arms_of medium.armed };
+
+    ghost armed_cut = { λ medium. cut_of medium.armed };
+
+    fn fail(&mut self, block: u32) -> FailEnd
+        ensures rule { FailRule (total (shape_of_medium self.old)) (machine_in self.old) (machine_in self.new) block result }
+        ensures as_many { total (shape_of_medium self.new) ≡ total (shape_of_medium self.old) }
+        ensures same_shape { shape_of_medium self.new ≡ shape_of_medium self.old }
+    {
+        let blocks = self.geometry.total();
+        if block >= blocks {
+            return FailEnd::NoBlock { blocks };
+        }
+        match kill_cell(&mut self.image, blocks, block) {
+            Moved::Done => FailEnd::Done,
+            Moved::Failed => {
+                self.powered = false;
+                FailEnd::Failed
+            }
+        }
+    }
+
+    fn wear(&mut self, block: u32, n: u32) -> Arm
+        requires { 1 ≤ n }
+        ensures rule { WearRule (total (shape_of_medium self.old)) (machine_in self.old) (machine_in self.new) (record { block = block; left = n }) result }
+        ensures as_many { total (shape_of_medium self.new) ≡ total (shape_of_medium self.old) }
+        ensures same_shape { shape_of_medium self.new ≡ shape_of_medium self.old }
+    {
+        let blocks = self.geometry.total();
+        if block >= blocks {
+            return Arm::NoBlock { blocks };
+        }
+        if self.armed.wear(block, n) {
+            Arm::Set
+        } else {
+            Arm::Full
+        }
+    }
+
+    fn arm_cut(&mut self, n: u32, fate: Fate)
+        requires { 1 ≤ n }
+        ensures rule { machine_in self.new ≡ with_armed_cut n fate (machine_in self.old) }
+        ensures as_many { total (shape_of_medium self.new) ≡ total (shape_of_medium self.old) }
+        ensures same_shape { shape_of_medium self.new ≡ shape_of_medium self.old }
+    {
+        self.armed.arm_cut(n, fate);
+    }
+
+    ghost control_laws = { record {
+      exactly = λ a b event takes. takes.exactly;
+      reach = λ a b k reach. reach;
+      to_come = λ medium. medium.armed.to_come;
+      few = λ medium. medium.armed.few;
+    } };
 }

@@ -1,32 +1,16 @@
-//! Blocks that may fail: the answers of their reads and writes.
+//! Blocks that may fail: what any medium is, what a controllable one is, and one in memory.
 #![tactic(auto)]
 
-pub use model_medium::Fate;
+mod blocks;
+mod control;
+mod countdown;
+mod memory;
+mod slots;
+mod stops;
 
-/// How a read of a block ended.
-#[derive(Clone, Copy, Debug, PartialEq, Eq)]
-pub enum ReadEnd {
-    /// The whole block was read.
-    Done,
-    /// The block has no whole bytes.
-    Unreadable,
-    /// The power was cut in this read.
-    Cut,
-    /// The power was off already, and nothing was done.
-    Off,
-    /// What the medium lies on failed, and counted it. The power is off.
-    Failed,
-}
-
-/// How a write of a block ended.
-#[derive(Clone, Copy, Debug, PartialEq, Eq)]
-pub enum WriteEnd {
-    /// The whole block was written.
-    Done,
-    /// The power was cut in this write.
-    Cut,
-    /// The power was off already, and nothing was done.
-    Off,
-    /// What the medium lies on failed, and counted it. The power is off.
-    Failed,
-}
+pub use blocks::Medium;
+pub use control::{Arm, FailEnd, MediumControl};
+pub use countdown::{Armed, Due, MOST_ARMS};
+pub use memory::MemMedium;
+pub use model_medium::{ArmedCut, Fate, ReadEnd, WornBlock, WriteEnd};
+pub use stops::{Stop, read_whole, write_whole};

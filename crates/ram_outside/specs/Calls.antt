@@ -8,6 +8,10 @@ pub record CallLog : Type 0 where
   pub made : ℕ
   pub faults : ℕ
 
+-- no call yet, where the calls of these numbers fail (this project's own)
+abbrev pub no_calls : List ℕ → CallLog
+no_calls numbers = record { failing = numbers; made = 0; faults = 0 }
+
 -- The next call is one that fails. Calls are numbered from 1 on, and the number stands still at its type's end.
 -- (This project's own.)
 abbrev pub IsNamed : CallLog → Type 0

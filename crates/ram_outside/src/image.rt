@@ -41,7 +41,8 @@ pub trait Image {
     /// and nothing else differs.
     fn write_at(&mut self, at: u64, from: &[u8]) -> Moved
         requires { ForSome (bytes self.old) (λ held. at + length from.now ≤ length held) }
-        ensures { WriteAtRule (bytes self.old) (bytes self.new) (faults self.old) (faults self.new) at from.now result };
+        ensures { WriteAtRule (bytes self.old) (bytes self.new)
+            (faults self.old) (faults self.new) at from.now result };
 
     /// Keeps the bytes below both lengths, and grows with zeros. Where it fails, the image is as it was or as
     /// after a call that is done.

@@ -29,9 +29,11 @@ pub trait Opener {
 
     /// Opens the image of this name. Its count of failures begins at 0.
     fn open(&mut self, name: &str) -> Opened<Self::Image>
-        ensures { OpenRule Self.Image.faults (next self.old) (next self.new) (returned self.old) (returned self.new) (faults self.old) (faults self.new) result };
+        ensures { OpenRule Self.Image.faults (next self.old) (next self.new)
+            (returned self.old) (returned self.new) (faults self.old) (faults self.new) result };
 
     /// Takes an image back, and adds its failures to the opener's.
     fn close(&mut self, image: Self::Image)
-        ensures { CloseRule tells (Self.Image.faults image) image (returned self.new) (faults self.old) (faults self.new) };
+        ensures { CloseRule tells (Self.Image.faults image) image (returned self.new)
+            (faults self.old) (faults self.new) };
 }

@@ -106,3 +106,47 @@ fn write_some(rt: &impl Print, piece: &[u8]) -> io::Result<usize>
         count => Ok(count),
     }
 }
+
+#[cfg(test)]
+mod tests {
+    use super::{StdSink, StdSource};
+    use crate::sink::{Put, Sink};
+    use crate::source::{Source, Take};
+    use std::alloc::Allocator;
+    use std::io;
+    use std::io::{BufRead, Lines};
+
+    /// What a person typed.
+    struct Typed(&'static [u8]);
+
+    impl Input for Typed {
+        type Reader = &'static [u8];
+
+        fn read_line<A: Allocator + Clone>(&self, buf: &mut String<A>) -> io::Result<usize> {
+            self.reader().read_line(buf)
+        }
+
+        fn lines<A: Allocator>(&self, alloc: A) -> Lines<Self::Reader, A> {
+            self.reader().lines(alloc)
+        }
+
+        fn reader(&self) -> Self::Reader {
+            self.0
+        }
+    }
+
+    #[test]
+    fn standard_streams(rt: HostRuntime) {
+        let mut source = StdSource::new(&Typed(b"power"));
+        for (take, got) in [
+            (Take::Got(3), "pow"),
+            (Take::Got(2), "er-"),
+            (Take::End, "---"),
+        ] {
+            let mut into = *b"---";
+            assert_eq!(rt; source.take(&mut into), take);
+            assert_eq!(rt; into.as_slice(), got.as_bytes());
+        }
+        assert_eq!(rt; StdSink::new(&rt).put(b"power"), Put::Took(5));
+    }
+}

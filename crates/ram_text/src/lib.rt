@@ -3,7 +3,7 @@
 
 pub mod gathered;
 pub mod grammar;
-pub mod hexadecimal;
+mod hexadecimal;
 pub mod laws;
 pub mod lines;
 pub mod payload;

@@ -1,10 +1,10 @@
-use Rattle.std.proofs.Common.{◌≡◌, ℕ, ◌+◌, ◌-◌, ◌*◌, ◌/◌, ◌<◌, ◌≤◌, ltb, nat_lt, IsTrue, length, Option, Some, None, refl, sym, ap, ◌∙◌, arith}
+use Rattle.std.proofs.Common.{◌≡◌, ℕ, ◌+◌, ◌-◌, ◌*◌, ◌/◌, ◌<◌, ◌≤◌, nat_lt, IsTrue, length, Some, None, refl, sym, ap, ◌∙◌, arith}
 use Rattle.std.specs.Prelude.{slice_get}
 use Rattle.std.specs.List.{Contains}
 use Rattle.std.proofs.lemmas.Option.{slice_get_past}
 use Rattle.std.proofs.lemmas.Bool.{lt-ltb, ltb-true}
-use Rattle.model_geometry.specs.Geometry.{Shape, shape_of, zone_start, lead_out, total, data_blocks, IsInZone, IsLawful}
-use Rattle.model_geometry.proofs.Zones.{zone_start_closed, zone_start_next, zone_start_least, IsInZone-from_starts, no_zone_of_lead_in, no_zone_of_lead_out}
+use Rattle.model_geometry.specs.Geometry.{Shape, shape_of, zone_start, lead_out, data_blocks, IsInZone}
+use Rattle.model_geometry.proofs.Zones.{zone_start_closed, zone_start_next, zone_start_least, IsInZone-from_starts, no_zone_of_lead_out}
 use Rattle.model_geometry.proofs.DataBlocks.{length-data_blocks_closed, slice_get-data_blocks_closed, slice_get-data_blocks_inside, zone_of_data_block, not_among_data_blocks, is_data_first, is_data_last}
 use Rattle.ram_zones.specs.Limits.{IsWithin, SparesFit}
 

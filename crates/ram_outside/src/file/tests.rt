@@ -1,8 +1,6 @@
 use super::FileOpener;
 use crate::image::{Image, Length, Moved};
 use crate::opener::{Opened, Opener};
-use crate::sink::{Put, Sink};
-use crate::standard::StdSink;
 use std::fs;
 use std::test::Fail;
 
@@ -42,7 +40,6 @@ fn a_real_file(rt: HostRuntime) -> Result<(), Fail> {
     assert_eq!(rt; into.as_slice(), b"\0abc\0".as_slice());
     assert_eq!(rt; image.read_at(5, &mut into), Moved::Failed, "past the end");
     opener.close(image);
-    assert_eq!(rt; StdSink::new(&rt).put(b"."), Put::Took(1));
     fs::remove_dir_all(&rt, "fresh_folder")?;
     Ok(())
 }

@@ -1,5 +1,5 @@
 ghost use Rattle.std.specs.Prelude.{◌≡◌, ◌↔◌, IsTrue, if◌then◌else◌};
-ghost use Rattle.ram_outside.specs.Calls.{IsNamed, with_call, with_faults, with_failed_call};
+ghost use Rattle.ram_outside.specs.Calls.{no_calls, IsNamed, with_call, with_faults, with_failed_call};
 
 use std::marker::Model;
 
@@ -22,7 +22,7 @@ impl Model for Calls {
 impl Calls {
     /// No call was made yet. `failing` has the numbers, from 1 on, of the calls that fail.
     pub(crate) fn new(failing: Vec<u64>) -> Calls
-        ensures { result ≡ record { failing = failing.items; made = 0; faults = 0 } }
+        ensures { result ≡ no_calls failing.items }
     {
         Calls {
             failing,

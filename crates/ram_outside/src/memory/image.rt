@@ -1,5 +1,6 @@
-ghost use Rattle.std.specs.Prelude.{◌≡◌, ℕ, ◌+◌, ◌≤◌, Some, IsOk, OnOk, length, vec_capacity};
+ghost use Rattle.std.specs.Prelude.{◌≡◌, ◌+◌, ◌≤◌, Some, IsOk, OnOk, length, vec_capacity};
 ghost use Rattle.ram_outside.specs.Image.{LenRule, ReadAtRule, WriteAtRule, SetLenRule};
+ghost use Rattle.ram_outside.specs.Calls.{no_calls};
 ghost use Rattle.ram_outside.specs.Memory.{TellsLengthExactly, ReadsExactly, WritesExactly, ResizesExactly, unfailed};
 
 use crate::image::{Image, Length, Moved};
@@ -26,7 +27,11 @@ impl Model for MemImage {
 impl MemImage {
     /// An image of these bytes. `failing` has the numbers, from 1 on, of the calls that fail.
     pub fn new(bytes: Vec<u8>, failing: Vec<u64>) -> MemImage
-        ensures { result ≡ record { bytes = bytes.items; room = vec_capacity bytes; calls = record { failing = failing.items; made = 0; faults = 0 } } }
+        ensures { result ≡ record {
+          bytes = bytes.items;
+          room = vec_capacity bytes;
+          calls = no_calls failing.items;
+        } }
     {
         MemImage {
             bytes,
@@ -79,7 +84,8 @@ impl Image for MemImage {
     ghost faults = { λ i. i.calls.faults };
 
     fn len(&mut self) -> Length
-        ensures rule { LenRule (Some self.old.bytes) (Some self.new.bytes) self.old.calls.faults self.new.calls.faults result }
+        ensures rule { LenRule (Some self.old.bytes) (Some self.new.bytes)
+            self.old.calls.faults self.new.calls.faults result }
         ensures exactly { TellsLengthExactly self.old self.new result }
     {
         if self.calls.next_fails() {
@@ -90,7 +96,8 @@ impl Image for MemImage {
 
     fn read_at(&mut self, at: u64, into: &mut [u8]) -> Moved
         requires { at + length into.old ≤ length self.old.bytes }
-        ensures rule { ReadAtRule (Some self.old.bytes) (Some self.new.bytes) self.old.calls.faults self.new.calls.faults at into.new result }
+        ensures rule { ReadAtRule (Some self.old.bytes) (Some self.new.bytes)
+            self.old.calls.faults self.new.calls.faults at into.new result }
         ensures exactly { ReadsExactly self.old self.new at into.new result }
     {
         if self.calls.next_fails() {
@@ -103,7 +110,8 @@ impl Image for MemImage {
 
     fn write_at(&mut self, at: u64, from: &[u8]) -> Moved
         requires { at + length from.now ≤ length self.old.bytes }
-        ensures rule { WriteAtRule (Some self.old.bytes) (Some self.new.bytes) self.old.calls.faults self.new.calls.faults at from.now result }
+        ensures rule { WriteAtRule (Some self.old.bytes) (Some self.new.bytes)
+            self.old.calls.faults self.new.calls.faults at from.now result }
         ensures exactly { WritesExactly self.old self.new at from.now result }
     {
         if self.calls.next_fails() {
@@ -115,7 +123,8 @@ impl Image for MemImage {
     }
 
     fn set_len(&mut self, len: u64) -> Moved
-        ensures rule { SetLenRule (Some self.old.bytes) (Some self.new.bytes) self.old.calls.faults self.new.calls.faults len result }
+        ensures rule { SetLenRule (Some self.old.bytes) (Some self.new.bytes)
+            self.old.calls.faults self.new.calls.faults len result }
         ensures exactly { ResizesExactly self.old self.new len result }
     {
         if self.calls.next_fails() {

@@ -1,6 +1,7 @@
-ghost use Rattle.std.specs.Prelude.{◌≡◌, ℕ, Bool, true, Some, None};
+ghost use Rattle.std.specs.Prelude.{◌≡◌, true, Some, None};
 ghost use Rattle.std.specs.Option.{option_copied};
 ghost use Rattle.ram_outside.specs.Opener.{OpenRule, CloseRule};
+ghost use Rattle.ram_outside.specs.Calls.{no_calls};
 ghost use Rattle.ram_outside.specs.Memory.{OpensExactly, after_close, unfailed};
 
 use crate::memory::calls::Calls;
@@ -29,7 +30,11 @@ impl MemOpener {
     /// Opens this image once, with no failure of it counted. `failing` has the numbers, from 1 on, of the calls of
     /// `open` that fail.
     pub fn new(image: MemImage, failing: Vec<u64>) -> MemOpener
-        ensures { result ≡ record { next = Some (unfailed image); returned = None; calls = record { failing = failing.items; made = 0; faults = 0 } } }
+        ensures { result ≡ record {
+          next = Some (unfailed image);
+          returned = None;
+          calls = no_calls failing.items;
+        } }
     {
         MemOpener {
             image: Some(image),
@@ -58,7 +63,8 @@ impl Opener for MemOpener {
     ghost faults = { λ o. o.calls.faults };
 
     fn open(&mut self, _name: &str) -> Opened<MemImage>
-        ensures rule { OpenRule (λ i. i.calls.faults) self.old.next self.new.next self.old.returned self.new.returned self.old.calls.faults self.new.calls.faults result }
+        ensures rule { OpenRule (λ i. i.calls.faults) self.old.next self.new.next self.old.returned self.new.returned
+            self.old.calls.faults self.new.calls.faults result }
         ensures exactly { OpensExactly self.old self.new result }
     {
         if self.calls.next_fails() {
@@ -77,7 +83,8 @@ impl Opener for MemOpener {
     }
 
     fn close(&mut self, image: MemImage)
-        ensures rule { CloseRule true image.calls.faults image self.new.returned self.old.calls.faults self.new.calls.faults }
+        ensures rule { CloseRule true image.calls.faults image self.new.returned
+            self.old.calls.faults self.new.calls.faults }
         ensures exactly { self.new ≡ after_close image self.old }
     {
         self.calls.add_faults(image.faults());

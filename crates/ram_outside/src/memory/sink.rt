@@ -1,5 +1,6 @@
-ghost use Rattle.std.specs.Prelude.{◌≡◌, ℕ, ◌+◌, ◌<◌, ◌≤◌, [], Some, IsOk, OnOk, OnErr, length};
+ghost use Rattle.std.specs.Prelude.{◌≡◌, ℕ, ◌<◌, ◌≤◌, [], Some, IsOk, OnOk, length};
 ghost use Rattle.ram_outside.specs.Sink.{PutRule};
+ghost use Rattle.ram_outside.specs.Calls.{no_calls};
 ghost use Rattle.ram_outside.specs.Memory.{PutsExactly};
 
 use crate::memory::calls::Calls;
@@ -21,7 +22,12 @@ impl Model for MemSink {
 
     ghost Value = { SinkState };
 
-    ghost view = { λ s. record { written = s.bytes.items; room = vec_capacity s.bytes; piece = s.piece; calls = s.calls } };
+    ghost view = { λ s. record {
+      written = s.bytes.items;
+      room = vec_capacity s.bytes;
+      piece = s.piece;
+      calls = s.calls;
+    } };
 
     ghost invariant = { λ s. 0 < s.piece };
 }
@@ -33,7 +39,7 @@ impl MemSink {
         requires { 0 < piece }
         ensures written { result.written ≡ [] }
         ensures piece { result.piece ≡ piece }
-        ensures calls { result.calls ≡ record { failing = failing.items; made = 0; faults = 0 } }
+        ensures calls { result.calls ≡ no_calls failing.items }
     {
         MemSink {
             bytes: Vec::new(alloc),
@@ -74,7 +80,8 @@ impl Sink for MemSink {
 
     fn put(&mut self, piece: &[u8]) -> Put
         requires { 0 < length piece.now }
-        ensures rule { PutRule (Some self.old.written) (Some self.new.written) self.old.calls.faults self.new.calls.faults piece.now result }
+        ensures rule { PutRule (Some self.old.written) (Some self.new.written)
+            self.old.calls.faults self.new.calls.faults piece.now result }
         ensures exactly { PutsExactly self.old self.new piece.now result }
     {
         if self.calls.next_fails() {

@@ -1,5 +1,6 @@
 ghost use Rattle.std.specs.Prelude.{◌≡◌, ℕ, ◌<◌, Some, length};
 ghost use Rattle.ram_outside.specs.Source.{TakeRule};
+ghost use Rattle.ram_outside.specs.Calls.{no_calls};
 ghost use Rattle.ram_outside.specs.Memory.{TakesExactly};
 
 use crate::memory::calls::Calls;
@@ -27,10 +28,11 @@ impl Model for MemSource {
 }
 
 impl MemSource {
-    /// Gives these bytes, at most `piece` of them at once. `failing` has the numbers, from 1 on, of the calls that fail.
+    /// Gives these bytes, at most `piece` of them at once. `failing` has the numbers, from 1 on, of the calls that
+    /// fail.
     pub fn new(bytes: Vec<u8>, piece: usize, failing: Vec<u64>) -> MemSource
         requires { 0 < piece }
-        ensures { result ≡ record { left = bytes.items; piece = piece; calls = record { failing = failing.items; made = 0; faults = 0 } } }
+        ensures { result ≡ record { left = bytes.items; piece = piece; calls = no_calls failing.items } }
     {
         MemSource {
             bytes,
@@ -55,7 +57,8 @@ impl Source for MemSource {
 
     fn take(&mut self, into: &mut [u8]) -> Take
         requires { 0 < length into.old }
-        ensures rule { TakeRule (Some self.old.left) (Some self.new.left) self.old.calls.faults self.new.calls.faults into.new result }
+        ensures rule { TakeRule (Some self.old.left) (Some self.new.left)
+            self.old.calls.faults self.new.calls.faults into.new result }
         ensures exactly { TakesExactly self.old self.new into.new result }
     {
         if self.calls.next_fails() {

@@ -1,4 +1,4 @@
-use Rattle.std.proofs.Common.{◌∙◌, ap, sym, length}
+use Rattle.std.proofs.Common.{◌∙◌, ap, length}
 use Rattle.ram_image.proofs.BlockReads.{block_read}
 use Rattle.ram_image.proofs.cells.read_block.Goals as goal
 

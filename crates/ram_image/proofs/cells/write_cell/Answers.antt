@@ -1,4 +1,4 @@
-use Rattle.std.proofs.Common.{◌≡◌, ◌∙◌, ap, sym, length, arith, subst, Option, Some, List, ℕ, ◌+◌, ◌≤◌}
+use Rattle.std.proofs.Common.{◌∙◌, ap, sym, length, arith}
 use Rattle.model_image.proofs.CellWrites.{told-stopped_first, told-stopped_second, told-second_long}
 use Rattle.ram_image.proofs.CellSteps.{last_write}
 use Rattle.ram_image.proofs.cells.write_cell.Goals as goal

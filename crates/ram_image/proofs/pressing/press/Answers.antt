@@ -1,4 +1,4 @@
-use Rattle.std.proofs.Common.{◌≡◌, ◌∙◌, refl, arith}
+use Rattle.std.proofs.Common.{refl, arith}
 use Rattle.model_image.proofs.Presses.{told-pressed, told-stopped_header}
 use Rattle.ram_image.proofs.pressing.press.Goals as goal
 

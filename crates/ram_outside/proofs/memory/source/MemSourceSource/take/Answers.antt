@@ -1,4 +1,4 @@
-use Rattle.std.proofs.Common.{rules, arith, refl}
+use Rattle.std.proofs.Common.{arith, refl}
 use Rattle.std.proofs.lemmas.Grind.{common_steps}
 use Rattle.ram_outside.proofs.Pieces.{front_and_rest}
 use Rattle.ram_outside.proofs.memory.source.MemSourceSource.take.Goals as goal

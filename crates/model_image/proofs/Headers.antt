@@ -1,0 +1,28 @@
+-- A header is that of one geometry.
+use Rattle.std.specs.Prelude.{◌≡◌, ℕ, ◌+◌, ◌*◌, ◌/◌, ◌%◌, ◌<◌, ◌≤◌, List, length, take, slice_index}
+use Rattle.std.proofs.Common.{arith, refl, sym, ap, ◌∙◌}
+use Rattle.model_geometry.specs.Geometry.{Shape, IsLawful, shape_of, total}
+use Rattle.model_image.specs.Cells.{image_len}
+use Rattle.model_image.specs.Image.{header_of, HasHeader, IsDiscImage, IsImageOf}
+
+-- a number below 65,536 by its two bytes
+two_bytes : (m n : ℕ) → m < 65536 → n < 65536 → m / 256 % 256 ≡ n / 256 % 256 → m % 256 ≡ n % 256 → m ≡ n
+two_bytes m n p q high low = omega arith
+
+pub same_shape : (a b : Shape) → IsLawful a → IsLawful b → header_of a ≡ header_of b → a ≡ b
+same_shape a b p q same = ap (λ (z : ℕ). shape_of z a.scale a.psa) zones ∙ ap (λ (k : ℕ). shape_of b.zones k a.psa) scale ∙ ap (λ (s : ℕ). shape_of b.zones b.scale s) spares
+  where
+    at : (k : ℕ) → slice_index (header_of a) k ≡ slice_index (header_of b) k
+    at k = ap (λ l. slice_index l k) same
+
+    zones : a.zones ≡ b.zones
+    zones = two_bytes a.zones b.zones (omega (arith, p.most_zones)) (omega (arith, q.most_zones)) (at 8) (at 9)
+
+    scale : a.scale ≡ b.scale
+    scale = two_bytes a.scale b.scale (omega (arith, p.most_scale)) (omega (arith, q.most_scale)) (at 10) (at 11)
+
+    spares : a.psa ≡ b.psa
+    spares = two_bytes a.psa b.psa (omega (arith, p.most_spares)) (omega (arith, q.most_spares)) (at 12) (at 13)
+
+pub one_header : (a b : Shape) (bytes : List ℕ) → HasHeader a bytes → HasHeader b bytes → a ≡ b
+one_header a b bytes p q = same_shape a b p.lawful q.lawful (sym p.header ∙ q.header)

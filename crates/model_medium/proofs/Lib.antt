@@ -1,0 +1,5 @@
+pub mod CellFacts
+pub mod Arms
+pub mod Uses
+pub mod Compose
+pub mod Rules

@@ -1,0 +1,220 @@
+-- The exact steps of a controllable medium obey the rules of any medium, and one use reaches one use further.
+use Rattle.std.specs.Prelude.{◌≡◌, ℕ, ◌⊎◌, Bool, true, false, IsTrue, if◌then◌else◌, Option, Some, None, IsSome, List, [], set}
+use Rattle.std.specs.Bool.{OnTrue, OnFalse}
+use Rattle.std.specs.Option.{option_map_or}
+use Rattle.std.proofs.Common.{refl, sym, ap, ◌∙◌, inl, inr, subst}
+use Rattle.std.proofs.lemmas.Bool.{cases_Bool, false≢true}
+use Rattle.std.proofs.lemmas.List.{set-get_or}
+use Rattle.model_medium.specs.Cells.{Cell, Good, Dead, cell_at, IsSameOrDead, MayLeave, written, cut_short}
+use Rattle.model_medium.specs.World.{ShowsNoneUntold, IsUse, GoesOn, IsCut, ReadRule, WriteRule, ReadGoes, WriteGoes}
+use Rattle.model_medium.specs.Machine.{Machine, is_killed, cells_worn, fate_due, IsToCome, begun, cut_off, with_cell, after_read, after_write}
+use Rattle.model_medium.specs.Exact.{IsExactly, ReadExactly, WriteExactly}
+use Rattle.model_medium.specs.Reach.{Reach}
+use Rattle.model_medium.specs.declared.Fate.{Fate}
+use Rattle.model_medium.specs.declared.ReadEnd.{ReadEnd}
+use Rattle.model_medium.specs.declared.ReadEnd.TheVariants as reads
+use Rattle.model_medium.specs.declared.WriteEnd.{WriteEnd}
+use Rattle.model_medium.specs.declared.WriteEnd.TheVariants as writes
+use Rattle.model_medium.proofs.CellFacts.{IsTame, same_is_kind, written_is_kind, cut_short_is_harsh, cut_short-may_leave, written-leaves}
+use Rattle.model_medium.proofs.Uses.{Used, cell_here, cell_other, dead_here, killed_here, spared_here, reach_on, reach_off}
+use Rattle.model_medium.proofs.Compose.{reach_none}
+
+fate_of_due : (due : Option Fate) → IsSome due → (fate : Fate) × (due ≡ Some fate)
+fate_of_due None e = absurd (false≢true e)
+fate_of_due (Some fate) e = (fate, refl)
+
+module _ (old new : Machine) (block : ℕ) where
+  -- what a use is exactly, where no cut is due and where one is
+  read_on : fate_due old.cut ≡ None → IsExactly (after_read block old) new → IsExactly (begun block old) new
+  read_on e exactly = subst (λ m. IsExactly m new) (ap (λ due. option_map_or (λ fate. cut_off (begun block old)) due (begun block old)) e) exactly
+
+  read_off : (fate : Fate) → fate_due old.cut ≡ Some fate → IsExactly (after_read block old) new → IsExactly (cut_off (begun block old)) new
+  read_off fate e exactly = subst (λ m. IsExactly m new) (ap (λ due. option_map_or (λ fate. cut_off (begun block old)) due (begun block old)) e) exactly
+
+  abbrev cut_write : List ℕ → Fate → Machine
+  cut_write bytes fate = cut_off (with_cell block (cut_short fate bytes) (begun block old))
+
+  abbrev done_write : List ℕ → Machine
+  done_write bytes = with_cell block (written bytes) (begun block old)
+
+  write_on : (bytes : List ℕ) → fate_due old.cut ≡ None → IsExactly (after_write block bytes old) new → IsExactly (done_write bytes) new
+  write_on bytes e exactly = subst (λ m. IsExactly m new) (ap (λ due. option_map_or (cut_write bytes) due (done_write bytes)) e) exactly
+
+  write_off : (bytes : List ℕ) (fate : Fate) → fate_due old.cut ≡ Some fate → IsExactly (after_write block bytes old) new → IsExactly (cut_write bytes fate) new
+  write_off bytes fate e exactly = subst (λ m. IsExactly m new) (ap (λ due. option_map_or (cut_write bytes) due (done_write bytes)) e) exactly
+
+  module _ (was_on : IsTrue old.world.power) where
+    abbrev worn : List Cell
+    worn = cells_worn block old.arms old.world.cells
+
+    pub used_read : IsExactly (begun block old) new → Used old new block (λ cell. cell)
+    used_read x = record {
+      was_on = was_on;
+      as_told = ap (λ m. m.world.told) x.same;
+      counts = ap (λ m. m.world.uses) x.same;
+      never_falls = x.never_falls;
+      cells = ap (λ m. m.world.cells) x.same ∙ sym (set-get_or worn block Dead);
+      arms = ap (λ m. m.arms) x.same;
+      cut = ap (λ m. m.cut) x.same;
+    }
+
+    used_cut_read : IsExactly (cut_off (begun block old)) new → Used old new block (λ cell. cell)
+    used_cut_read x = record {
+      was_on = was_on;
+      as_told = ap (λ m. m.world.told) x.same;
+      counts = ap (λ m. m.world.uses) x.same;
+      never_falls = x.never_falls;
+      cells = ap (λ m. m.world.cells) x.same ∙ sym (set-get_or worn block Dead);
+      arms = ap (λ m. m.arms) x.same;
+      cut = ap (λ m. m.cut) x.same;
+    }
+
+    used_write : (bytes : List ℕ) → IsExactly (done_write bytes) new → Used old new block (written bytes)
+    used_write bytes x = record {
+      was_on = was_on;
+      as_told = ap (λ m. m.world.told) x.same;
+      counts = ap (λ m. m.world.uses) x.same;
+      never_falls = x.never_falls;
+      cells = ap (λ m. m.world.cells) x.same;
+      arms = ap (λ m. m.arms) x.same;
+      cut = ap (λ m. m.cut) x.same;
+    }
+
+    used_cut_write : (bytes : List ℕ) (fate : Fate) → IsExactly (cut_write bytes fate) new → Used old new block (cut_short fate bytes)
+    used_cut_write bytes fate x = record {
+      was_on = was_on;
+      as_told = ap (λ m. m.world.told) x.same;
+      counts = ap (λ m. m.world.uses) x.same;
+      never_falls = x.never_falls;
+      cells = ap (λ m. m.world.cells) x.same;
+      arms = ap (λ m. m.arms) x.same;
+      cut = ap (λ m. m.cut) x.same;
+    }
+
+  -- one use reaches one use further
+  goes_on : fate_due old.cut ≡ None → IsTrue old.world.power → IsExactly (begun block old) new → Reach old new 1
+  goes_on due was_on x = reach_on old new block (λ cell. cell) (used_read was_on x) same_is_kind due (ap (λ m. m.world.power) x.same) (ap (λ m. m.world.cuts) x.same)
+
+  off_now : (x : IsExactly (cut_off (begun block old)) new) → ¬ IsTrue new.world.power
+  off_now x on = false≢true (sym (ap (λ m. m.world.power) x.same) ∙ on)
+
+  off_now_write : (bytes : List ℕ) (fate : Fate) → IsExactly (cut_write bytes fate) new → ¬ IsTrue new.world.power
+  off_now_write bytes fate x on = false≢true (sym (ap (λ m. m.world.power) x.same) ∙ on)
+
+  pub read_goes : (into into' : List ℕ) (end : ReadEnd) → IsToCome old.cut → ReadExactly old new block into into' end → ReadGoes (Reach old new) end
+  read_goes into into' reads.Done to_come rule = goes_on rule.not_due rule.was_on (read_on rule.not_due rule.exactly)
+  read_goes into into' reads.Unreadable to_come rule = goes_on rule.not_due rule.was_on (read_on rule.not_due rule.exactly)
+  read_goes into into' reads.Cut to_come rule =
+      let due = fate_of_due (fate_due old.cut) rule.0.due in
+      let x = read_off due.0 due.1 rule.0.exactly in
+      reach_off old new block (λ cell. cell) due.0 (used_cut_read rule.0.was_on x) (record { tame = same_is_kind.tame; may_tear = λ cell h. inl (same_is_kind.stays_good cell h) }) to_come due.1 (off_now x)
+      (ap (λ m. m.world.cuts) x.same)
+  read_goes into into' reads.Off to_come rule = subst (λ m. Reach old m 0) (sym rule.0.nothing) (reach_none old to_come)
+  read_goes into into' reads.Failed to_come rule = tt
+
+  pub write_goes : (bytes : List ℕ) (end : WriteEnd) → IsToCome old.cut → WriteExactly old new block bytes end → WriteGoes (Reach old new) end
+  write_goes bytes writes.Done to_come rule =
+      let x = write_on bytes rule.not_due rule.exactly in
+      reach_on old new block (written bytes) (used_write rule.was_on bytes x) (written_is_kind bytes) rule.not_due (ap (λ m. m.world.power) x.same) (ap (λ m. m.world.cuts) x.same)
+  write_goes bytes writes.Cut to_come rule =
+      let due = fate_of_due (fate_due old.cut) rule.due in
+      let x = write_off bytes due.0 due.1 rule.exactly in
+      reach_off old new block (cut_short due.0 bytes) due.0 (used_cut_write rule.was_on bytes due.0 x) (cut_short_is_harsh due.0 bytes) to_come due.1 (off_now_write bytes due.0 x) (ap (λ m. m.world.cuts) x.same)
+  write_goes bytes writes.Off to_come rule = subst (λ m. Reach old m 0) (sym rule.nothing) (reach_none old to_come)
+  write_goes bytes writes.Failed to_come rule = tt
+
+  -- the rules of any medium
+  module _ (change : Cell → Cell) (tame : IsTame change) where
+    is_use : Used old new block change → IsUse old.world new.world block
+    is_use used = record {
+      was_on = used.was_on;
+      as_told = used.as_told;
+      counts = used.counts;
+      never_falls = used.never_falls;
+      others = cell_other old new block change used tame;
+      stays_dead = dead_here old new block change used tame;
+    }
+
+  pub left_by_read : Used old new block (λ cell. cell) → IsSameOrDead (cell_at old.world.cells block) (cell_at new.world.cells block)
+  left_by_read used = elim (cases_Bool (is_killed block old.arms)) [
+    | inl killed ↦ inr (killed_here old new block (λ cell. cell) used same_is_kind.tame killed)
+    | inr spared ↦ inl (spared_here old new block (λ cell. cell) used same_is_kind.tame spared)
+  ]
+
+  -- a read that is done changed no cell
+  worn_none : (killed : Bool) (cells : List Cell) → cells ≡ [] → (if killed then set cells block Dead else cells) ≡ cells
+  worn_none true cells e = ap (λ held. set held block Dead) e ∙ sym e
+  worn_none false cells e = refl
+
+  worn_same : (killed : Bool) → killed ≡ false → (if killed then set old.world.cells block Dead else old.world.cells) ≡ old.world.cells
+  worn_same true e = absurd (cc)
+  worn_same false e = refl
+
+  unchanged : (told : Bool) → OnFalse told (old.world.cells ≡ []) → (into' : List ℕ) → Used old new block (λ cell. cell) → OnTrue told (cell_at new.world.cells block ≡ Good into')
+      → new.world.cells ≡ cells_worn block old.arms old.world.cells → new.world.cells ≡ old.world.cells
+  unchanged true hidden into' used gives e = elim (cases_Bool (is_killed block old.arms)) [
+    | inl killed ↦ absurd (let clash : Good into' ≡ Dead = sym gives ∙ killed_here old new block (λ cell. cell) used same_is_kind.tame killed in cc)
+    | inr spared ↦ e ∙ worn_same (is_killed block old.arms) spared
+  ]
+  unchanged false hidden into' used gives e = e ∙ worn_none (is_killed block old.arms) old.world.cells hidden
+
+  stays_on : IsTrue old.world.power → IsExactly (begun block old) new → GoesOn old.world new.world
+  stays_on was_on x = record { stays_on = ap (λ m. m.world.power) x.same ∙ was_on; no_cut = ap (λ m. m.world.cuts) x.same }
+
+  is_cut : IsExactly (cut_off (begun block old)) new → IsCut old.world new.world
+  is_cut x = record { goes_off = off_now x; one_cut = ap (λ m. m.world.cuts) x.same }
+
+  pub read_rule : (into into' : List ℕ) (end : ReadEnd) → ShowsNoneUntold old.world → ReadExactly old new block into into' end → ReadRule old.world new.world block into into' end
+  read_rule into into' reads.Done hidden rule =
+      let x = read_on rule.not_due rule.exactly in
+      let used = used_read rule.was_on x in
+      record {
+        one = is_use (λ cell. cell) same_is_kind.tame used;
+        goes_on = stays_on rule.was_on x;
+        same = unchanged old.world.told hidden into' used rule.gives (ap (λ m. m.world.cells) x.same);
+        gives = rule.gives;
+      }
+  read_rule into into' reads.Unreadable hidden rule =
+      let x = read_on rule.not_due rule.exactly in
+      let used = used_read rule.was_on x in
+      record { one = is_use (λ cell. cell) same_is_kind.tame used; goes_on = stays_on rule.was_on x; left = left_by_read used; not_good = rule.not_good; kept = rule.kept }
+  read_rule into into' reads.Cut hidden rule =
+      let due = fate_of_due (fate_due old.cut) rule.0.due in
+      let x = read_off due.0 due.1 rule.0.exactly in
+      let used = used_cut_read rule.0.was_on x in
+      record { one = is_use (λ cell. cell) same_is_kind.tame used; cut = is_cut x; left = left_by_read used; kept = rule.1 }
+  read_rule into into' reads.Off hidden rule = (record { was_off = rule.0.was_off; nothing = ap (λ m. m.world) rule.0.nothing }, rule.1)
+  read_rule into into' reads.Failed hidden rule = rule.0
+
+  left_by_write : (bytes : List ℕ) → Used old new block (written bytes) → (cell_at new.world.cells block ≡ Good bytes) ⊎ (cell_at new.world.cells block ≡ Dead)
+  left_by_write bytes used =
+      subst (λ cell. (cell ≡ Good bytes) ⊎ (cell ≡ Dead)) (sym (cell_here old new block (written bytes) used (written_is_kind bytes).tame))
+      (written-leaves bytes (cell_at (cells_worn block old.arms old.world.cells) block))
+
+  left_by_cut : (bytes : List ℕ) (fate : Fate) → Used old new block (cut_short fate bytes) → MayLeave (cell_at old.world.cells block) bytes (cell_at new.world.cells block)
+  left_by_cut bytes fate used = elim (cases_Bool (is_killed block old.arms)) [
+    | inl killed ↦ inr (inr (inr (killed_here old new block (cut_short fate bytes) used (cut_short_is_harsh fate bytes).tame killed)))
+    | inr spared ↦ subst (MayLeave (cell_at old.world.cells block) bytes) (sym (spared_here old new block (cut_short fate bytes) used (cut_short_is_harsh fate bytes).tame spared))
+        (cut_short-may_leave fate bytes (cell_at old.world.cells block))
+  ]
+
+  pub write_rule : (bytes : List ℕ) (end : WriteEnd) → WriteExactly old new block bytes end → WriteRule old.world new.world block bytes end
+  write_rule bytes writes.Done rule =
+      let x = write_on bytes rule.not_due rule.exactly in
+      let used = used_write rule.was_on bytes x in
+      record {
+        one = is_use (written bytes) (written_is_kind bytes).tame used;
+        goes_on = record { stays_on = ap (λ m. m.world.power) x.same ∙ rule.was_on; no_cut = ap (λ m. m.world.cuts) x.same };
+        left = left_by_write bytes used;
+      }
+  write_rule bytes writes.Cut rule =
+      let due = fate_of_due (fate_due old.cut) rule.due in
+      let x = write_off bytes due.0 due.1 rule.exactly in
+      let used = used_cut_write rule.was_on bytes due.0 x in
+      record {
+        one = is_use (cut_short due.0 bytes) (cut_short_is_harsh due.0 bytes).tame used;
+        cut = record { goes_off = off_now_write bytes due.0 x; one_cut = ap (λ m. m.world.cuts) x.same };
+        left = left_by_cut bytes due.0 used;
+      }
+  write_rule bytes writes.Off rule = record { was_off = rule.was_off; nothing = ap (λ m. m.world) rule.nothing }
+  write_rule bytes writes.Failed rule = rule.0

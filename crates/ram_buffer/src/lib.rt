@@ -1,0 +1,75 @@
+//! The logical blocks that were used last, kept so that they need not be read again.
+#![tactic(auto)]
+
+ghost use Rattle.std.specs.Prelude.{◌≡◌, IfOk, MatchBool, Some, None, []};
+ghost use Rattle.model_buffer.specs.Buffer.{bytes_at, with_front};
+
+pub use model_buffer::BUFFERED_BLOCKS;
+use ram_bytes::Block;
+use std::alloc::{AllocError, Global};
+use std::marker::Model;
+
+/// The logical blocks that were used last, [`BUFFERED_BLOCKS`] at most. All its room is taken when it is made. It is
+/// seen as the list of its blocks, each a number and its bytes, the one used last first.
+#[derive(Drop)]
+pub struct BlockBuffer {
+    number: Option<u32>,
+    block: Block,
+}
+
+impl Model for BlockBuffer {
+    ghost use Rattle.std.specs.Prelude.{ℕ, List};
+
+    ghost Value = { List (ℕ × List ℕ) };
+
+    ghost use Rattle.ram_buffer.specs.Held.{held_in};
+
+    ghost view = { held_in };
+}
+
+impl BlockBuffer {
+    /// A buffer without blocks, and the room for as many as it may have.
+    pub fn new(alloc: Global) -> Result<BlockBuffer, AllocError>
+        ensures { IfOk result (λ buffer. buffer ≡ []) }
+    {
+        Ok(BlockBuffer {
+            number: None,
+            block: Block::zeros(alloc)?,
+        })
+    }
+
+    /// Copies block `i` to `into` and makes it the one used last, where it is there. Whether it is; else `into` and
+    /// the buffer are as before.
+    pub fn lookup(&mut self, i: u32, into: &mut Block) -> bool
+        ensures { MatchBool result
+            ((bytes_at i self.old ≡ Some into.new) × (self.new ≡ with_front i into.new self.old))
+            ((bytes_at i self.old ≡ None) × (self.new ≡ self.old) × (into.new ≡ into.old)) }
+    {
+        let Some(number) = self.number else {
+            return false;
+        };
+        if number != i {
+            return false;
+        }
+        into.copy_from(&self.block);
+        true
+    }
+
+    /// Puts block `i` with these bytes there, as the one used last. The one used longest ago makes room for it.
+    pub fn put(&mut self, i: u32, from: &Block)
+        ensures { self.new ≡ with_front i from.now self.old }
+    {
+        self.block.copy_from(from);
+        self.number = Some(i);
+    }
+
+    /// Drops all blocks.
+    pub fn drop_all(&mut self)
+        ensures { self.new ≡ [] }
+    {
+        self.number = None;
+    }
+}
+
+#[cfg(test)]
+mod tests;

@@ -1,0 +1,59 @@
+ghost use Rattle.std.specs.Prelude.{IfOk};
+ghost use Rattle.model_lists.specs.Values.{IsLawfulDds};
+ghost use Rattle.model_lists.specs.Texts.{IsDdsText};
+ghost use Rattle.ram_dds.specs.Dds.{dds_of, IsDecoded};
+
+use crate::entries::PdlEntries;
+use crate::front::{begin_bytes, front_of, list_begin_bytes};
+use crate::list::{entries_of, put_entries};
+use model_lists::DdsState;
+use ram_bytes::Block;
+use std::alloc::{AllocError, Global};
+
+/// A disc definition structure with its primary defect list.
+#[derive(Debug, Drop)]
+pub struct DdsPdl {
+    /// How often the structure was written.
+    pub counter: u32,
+    /// Whether a format has ended.
+    pub state: DdsState,
+    /// The size of the primary spare area in blocks, from 1 to 4,092.
+    pub psa: u32,
+    /// The blocks that are never used. They rise, and are none while the disc is being formatted.
+    pub entries: PdlEntries,
+}
+
+impl DdsPdl {
+    /// Writes the text of this value, all bytes of the block.
+    pub fn encode(&self, into: &mut Block)
+        requires { IsLawfulDds (dds_of self.now) }
+        ensures { IsDdsText (dds_of self.now) into.new }
+    {
+        let (begin, others) = into.bytes_mut().split_at_mut(10);
+        begin.copy_from_slice(&begin_bytes(self.state, self.counter, self.psa));
+        let (gap, others) = others.split_at_mut(2_038);
+        gap.fill(0);
+        let (list_begin, list) = others.split_at_mut(4);
+        list_begin.copy_from_slice(&list_begin_bytes(self.entries.len()));
+        put_entries(self.entries.as_slice(), list);
+    }
+
+    /// The value whose text this block is, or none where it is the text of no value.
+    pub fn decode(alloc: Global, from: &Block) -> Result<Option<DdsPdl>, AllocError>
+        ensures { IfOk result (λ found. IsDecoded found from.now) }
+    {
+        let bytes = from.bytes();
+        let Some(front) = front_of(bytes) else {
+            return Ok(None);
+        };
+        let Some(entries) = entries_of(alloc, &bytes[2_052..], front.count)? else {
+            return Ok(None);
+        };
+        Ok(Some(DdsPdl {
+            counter: front.counter,
+            state: front.state,
+            psa: front.psa,
+            entries: PdlEntries::from_vec(entries),
+        }))
+    }
+}

@@ -1,0 +1,14 @@
+//! The disc definition structure with its primary defect list, and its text on the disc, both ways.
+#![tactic(auto)]
+
+mod dds;
+mod entries;
+mod front;
+mod list;
+
+pub use dds::DdsPdl;
+pub use entries::PdlEntries;
+pub use model_lists::{DdsState, PSA_LIMIT, PdlEntry, PdlKind};
+
+#[cfg(test)]
+mod tests;

@@ -1,0 +1,45 @@
+//! The program: `ram_drive run IMAGE` answers the script on standard input over an image file, and writes the report
+//! to standard output. Its exit status tells how the run ended.
+#![tactic(auto)]
+
+use ram_outside::{FileOpener, StdSink, StdSource};
+use ram_run::run::run;
+use ram_run::status::Status;
+use std::process::ExitCode;
+use std::rt::{Env, Files};
+use std::{env, io};
+
+fn main(rt: HostRuntime) -> ExitCode {
+    let status = match answer(&rt) {
+        Ok(status) => status,
+        Err(error) => refusal(&error),
+    };
+    ExitCode::from(status as u8)
+}
+
+/// Runs the program's words over the standard streams and files.
+fn answer<R: Input + Print + Files + Env + AllocGlobal>(rt: &R) -> io::Result<Status> {
+    let words: Vec<String> = env::args(rt)?.skip(1).collect(rt.alloc())?;
+    let mut texts = Vec::with_capacity(rt.alloc(), words.len())?;
+    for word in &words {
+        texts.push(word.as_str())?;
+    }
+    let mut script = StdSource::new(rt);
+    let mut report = StdSink::new(rt);
+    let mut opener = FileOpener::new(rt);
+    Ok(run(
+        rt.alloc(),
+        texts.as_slice(),
+        &mut script,
+        &mut report,
+        &mut opener,
+    ))
+}
+
+/// The status where the words could not be taken: there was no memory, or one of them is no text.
+fn refusal(error: &io::Error) -> Status {
+    match error.kind() {
+        io::ErrorKind::OutOfMemory => Status::NoMemory,
+        _ => Status::Usage,
+    }
+}

@@ -1,0 +1,60 @@
+-- The machine that a medium over an image shows, of its parts.
+use Rattle.std.specs.Prelude.{◌≡◌, ℕ, ◌<◌, ◌≤◌, Bool, true, false, MatchBool, Option, Some, None, is_some, IfSome, List}
+use Rattle.std.specs.Bool.{OnTrue}
+use Rattle.std.specs.Option.{ForSome}
+use Rattle.std.proofs.Common.{refl, sym, ap, ◌∙◌, subst}
+use Rattle.model_bytes.specs.Told.{WhereTold}
+use Rattle.model_geometry.specs.Geometry.{Shape, total}
+use Rattle.model_medium.specs.Cells.{Cell, Dead, IsGood, cell_at}
+use Rattle.model_medium.specs.Machine.{Machine}
+use Rattle.model_medium.specs.Exact.{IsExactly}
+use Rattle.model_medium.specs.declared.WornBlock.{WornBlock}
+use Rattle.model_medium.specs.declared.ArmedCut.{ArmedCut}
+use Rattle.model_image.specs.Cells.{cell_in, cells_told, SetsCell}
+use Rattle.model_image.specs.Image.{IsDiscImage}
+use Rattle.model_image.proofs.Writes.{cell_at-cells_of}
+use Rattle.ram_image.proofs.TellsCells.{told_cell}
+
+abbrev pub machine_by : ℕ → Option (List ℕ) → Bool → ℕ → ℕ → ℕ → List WornBlock → Option ArmedCut → Machine
+machine_by total bytes power uses cuts faults arms cut = record {
+  world = record { told = is_some bytes; cells = cells_told total bytes; power = power; uses = uses; cuts = cuts; faults = faults };
+  arms = arms;
+  cut = cut;
+}
+
+-- the image has the bytes that it had
+pub exactly_same : (total : ℕ) (before after : Option (List ℕ)) (power : Bool) (uses cuts f f' : ℕ) (arms : List WornBlock) (cut : Option ArmedCut) → after ≡ before → f ≤ f'
+    → IsExactly (machine_by total before power uses cuts f arms cut) (machine_by total after power uses cuts f' arms cut)
+exactly_same total before after power uses cuts f f' arms cut e le = record { same = ap (λ o. machine_by total o power uses cuts f' arms cut) e; never_falls = le }
+
+-- a cell that was found, where the image has the bytes that it had
+pub cell_found : (total block : ℕ) (P : Cell → Type 0) → block < total → (before after : Option (List ℕ)) → after ≡ before → IfSome before (λ held. P (cell_in total held block))
+    → OnTrue (is_some before) (P (cell_at (cells_told total after) block))
+cell_found total block P inside before after e found = subst (λ o. OnTrue (is_some before) (P (cell_at (cells_told total o) block))) (sym e) (told_cell total block P inside before found)
+
+-- a cell that was found not to be good
+pub not_good_found : (total block : ℕ) → block < total → (before after : Option (List ℕ)) → after ≡ before → IfSome before (λ held. ¬ IsGood (cell_in total held block))
+    → ¬ IsGood (cell_at (cells_told total after) block)
+not_good_found total block inside before after e found = subst (λ o. ¬ IsGood (cell_at (cells_told total o) block)) (sym e) (cases before found)
+  where
+    cases : (o : Option (List ℕ)) → IfSome o (λ held. ¬ IsGood (cell_in total held block)) → ¬ IsGood (cell_at (cells_told total o) block)
+    cases None h = λ good. good
+    cases (Some held) h = λ good. h (subst IsGood (cell_at-cells_of total held block inside) good)
+
+-- a disc image stays one
+disc_sets : (shape : Shape) (block : ℕ) (cell : Cell) (held held' : List ℕ) → IsDiscImage shape held → SetsCell (total shape) block cell held held' → IsDiscImage shape held'
+disc_sets shape block cell held held' disc sets = record {
+  has_header = record { lawful = disc.has_header.lawful; header = sets.header ∙ disc.has_header.header };
+  as_long = sets.as_long ∙ disc.as_long;
+}
+
+pub disc_after_kill : (shape : Shape) (block : ℕ) (dies : Bool) (before after : Option (List ℕ)) → ForSome before (IsDiscImage shape)
+    → MatchBool dies (WhereTold before after (SetsCell (total shape) block Dead)) (after ≡ before) → ForSome after (IsDiscImage shape)
+disc_after_kill shape block false before after disc e = subst (λ o. ForSome o (IsDiscImage shape)) (sym e) disc
+disc_after_kill shape block true before after disc told = cases before after disc told
+  where
+    cases : (o p : Option (List ℕ)) → ForSome o (IsDiscImage shape) → WhereTold o p (SetsCell (total shape) block Dead) → ForSome p (IsDiscImage shape)
+    cases None None d t = d
+    cases None (Some held') d t = absurd t
+    cases (Some held) None d t = absurd t
+    cases (Some held) (Some held') d t = λ x e. subst (IsDiscImage shape) (let both : Some held' ≡ Some x = e in cc) (disc_sets shape block Dead held held' (d held refl) t)

@@ -1,0 +1,78 @@
+use Rattle.std.specs.Prelude.{◌≡◌, ◌≢◌, ℕ, false, IsTrue, Some, None, is_some, List, []}
+use Rattle.std.specs.Bool.{OnTrue}
+use Rattle.model_counts.specs.Counts.{Rose}
+use Rattle.model_geometry.specs.Geometry.{Shape, total}
+use Rattle.model_medium.specs.Cells.{Good, Dead, IsGood, cell_at, IsSameOrDead, MayLeave, cut_short}
+use Rattle.model_medium.specs.declared.Fate.{Fate}
+use Rattle.model_medium.specs.declared.ReadEnd.{ReadEnd}
+use Rattle.model_medium.specs.declared.ReadEnd.TheVariants as reads
+use Rattle.model_medium.specs.declared.WriteEnd.{WriteEnd}
+use Rattle.model_medium.specs.declared.WriteEnd.TheVariants as writes
+use Rattle.model_medium.specs.World.{IsUse, HasFailed}
+use Rattle.model_medium.specs.Machine.{Machine, fate_due, begun, cut_off, with_cell}
+use Rattle.model_medium.specs.Exact.{IsExactly, HasCountedDown}
+use Rattle.model_image.specs.Cells.{cells_told}
+use Rattle.ram_outside.specs.declared.image.Image.{Ghosts}
+use Rattle.ram_outside.specs.declared.image.Moved.{Moved}
+use Rattle.ram_outside.specs.declared.image.Moved.TheVariants as moves
+use Rattle.ram_image.specs.Medium.{shape_of_medium, machine_in}
+use Rattle.ram_image.specs.declared.medium.ImageMedium.{ImageMedium}
+use Rattle.ram_image.specs.declared.medium.Begun.{Begun}
+use Rattle.ram_image.specs.declared.medium.Begun.TheVariants as begins
+
+-- A medium just opened over this image: its cells, with the power off, nothing counted and nothing armed. (This
+-- project's own.)
+pub record IsNew {I : Type 0} {d : Ghosts I} (image : I) (shape : Shape) (medium : ImageMedium I d) : Type 0 where
+  pub shape_is : shape_of_medium medium ≡ shape
+  pub machine : machine_in medium ≡ record {
+    world = record { told = is_some (d.bytes image); cells = cells_told (total shape) (d.bytes image); power = false; uses = 0; cuts = 0; faults = d.faults image };
+    arms = [];
+    cut = None;
+  }
+
+-- the image failed as an arm killed the block: the use is counted, and the block is as it was or dead
+pub record BeginFails (old new : Machine) (block : ℕ) : Type 0 where
+  pub one : IsUse old.world new.world block
+  pub failed : HasFailed old.world new.world
+  pub left : IsSameOrDead (cell_at old.world.cells block) (cell_at new.world.cells block)
+  pub counted : HasCountedDown old new block
+
+-- How a use of a block begins, with the power on. (This project's own.)
+abbrev pub BeginRule : Machine → Machine → ℕ → Begun → Type 0
+BeginRule old new block begins.On = (fate_due old.cut ≡ None) × IsExactly (begun block old) new
+BeginRule old new block (begins.Cut fate) = (fate_due old.cut ≡ Some fate) × IsExactly (begun block old) new
+BeginRule old new block begins.Failed = BeginFails old new block
+
+-- the image failed in a use that had begun: it is counted, the power is off, and all else is as it was but for the
+-- block's cell, of which a dead one stays dead
+pub record FailsWithin (old new : Machine) (block : ℕ) : Type 0 where
+  pub goes_off : ¬ IsTrue new.world.power
+  pub fault : Rose old.world.faults new.world.faults
+  pub as_told : new.world.told ≡ old.world.told
+  pub uses_same : new.world.uses ≡ old.world.uses
+  pub cuts_same : new.world.cuts ≡ old.world.cuts
+  pub arms_same : new.arms ≡ old.arms
+  pub cut_same : new.cut ≡ old.cut
+  pub others : (other : ℕ) → other ≢ block → cell_at new.world.cells other ≡ cell_at old.world.cells other
+  pub stays_dead : cell_at old.world.cells block ≡ Dead → cell_at new.world.cells block ≡ Dead
+
+-- What a read does in a use that had begun and goes on, by its answer. (This project's own.)
+abbrev pub ReadOnRule : Machine → Machine → ℕ → List ℕ → List ℕ → ReadEnd → Type 0
+ReadOnRule old new block into into' reads.Done = IsExactly old new × OnTrue old.world.told (cell_at new.world.cells block ≡ Good into')
+ReadOnRule old new block into into' reads.Unreadable = IsExactly old new × (¬ IsGood (cell_at new.world.cells block)) × (into' ≡ into)
+ReadOnRule old new block into into' reads.Cut = ⊥
+ReadOnRule old new block into into' reads.Off = ⊥
+ReadOnRule old new block into into' reads.Failed = FailsWithin old new block × (cell_at new.world.cells block ≡ cell_at old.world.cells block) × (into' ≡ into)
+
+-- What a write of these bytes with this fate makes of the block in a use that had begun, by its answer. (This
+-- project's own.)
+abbrev pub LeaveRule : Machine → Machine → ℕ → List ℕ → Fate → Moved → Type 0
+LeaveRule old new block bytes fate moves.Done = IsExactly (with_cell block (cut_short fate bytes) old) new
+LeaveRule old new block bytes fate moves.Failed = FailsWithin old new block × MayLeave (cell_at old.world.cells block) bytes (cell_at new.world.cells block)
+
+-- What such a write does where the power is cut in it, by its answer. (This project's own.)
+abbrev pub WriteCutRule : Machine → Machine → ℕ → List ℕ → Fate → WriteEnd → Type 0
+WriteCutRule old new block bytes fate writes.Done = ⊥
+WriteCutRule old new block bytes fate writes.Cut = IsExactly (cut_off (with_cell block (cut_short fate bytes) old)) new
+WriteCutRule old new block bytes fate writes.Off = ⊥
+WriteCutRule old new block bytes fate writes.Failed = FailsWithin old new block × MayLeave (cell_at old.world.cells block) bytes (cell_at new.world.cells block)

@@ -1,0 +1,263 @@
+use crate::header::image_len;
+use crate::{ImageMedium, PressOut, open, press};
+use ram_bytes::Block;
+use ram_medium::{Arm, FailEnd, Fate, Medium, MediumControl, MemMedium, ReadEnd, WriteEnd};
+use ram_outside::MemImage;
+use ram_zones::Geometry;
+use std::alloc::Global;
+use std::test::Fail;
+
+/// What is done to a medium.
+#[derive(Clone, Copy, Debug)]
+enum Step {
+    On,
+    Off,
+    Read(u32),
+    Write(u32, u8),
+    Fails(u32),
+    Wear(u32, u32),
+    Cut(u32, Fate),
+}
+
+/// What it answers.
+#[derive(Clone, Copy, Debug, PartialEq, Eq)]
+enum Answer {
+    Done,
+    Filled(u8),
+    Unreadable,
+    PowerCut,
+    PowerOff,
+    Failed,
+    NoBlock,
+    Full,
+}
+
+fn read<M: MediumControl>(medium: &mut M, number: u32, block: &mut Block) -> Answer {
+    if number >= medium.blocks() {
+        return Answer::NoBlock;
+    }
+    match medium.read(number, block) {
+        ReadEnd::Done => Answer::Filled(
+            block.bytes()[0] ^ block.bytes()[1] ^ block.bytes()[32_767],
+        ),
+        ReadEnd::Unreadable => Answer::Unreadable,
+        ReadEnd::Cut => Answer::PowerCut,
+        ReadEnd::Off => Answer::PowerOff,
+        ReadEnd::Failed => Answer::Failed,
+    }
+}
+
+fn write<M: MediumControl>(medium: &mut M, number: u32, block: &Block) -> Answer {
+    if number >= medium.blocks() {
+        return Answer::NoBlock;
+    }
+    match medium.write(number, block) {
+        WriteEnd::Done => Answer::Done,
+        WriteEnd::Cut => Answer::PowerCut,
+        WriteEnd::Off => Answer::PowerOff,
+        WriteEnd::Failed => Answer::Failed,
+    }
+}
+
+fn fail<M: MediumControl>(medium: &mut M, number: u32) -> Answer {
+    match medium.fail(number) {
+        FailEnd::Done => Answer::Done,
+        FailEnd::NoBlock { blocks: _ } => Answer::NoBlock,
+        FailEnd::Failed => Answer::Failed,
+    }
+}
+
+fn wear<M: MediumControl>(medium: &mut M, number: u32, n: u32) -> Answer {
+    match medium.wear(number, n.max(1)) {
+        Arm::Set => Answer::Done,
+        Arm::NoBlock { blocks: _ } => Answer::NoBlock,
+        Arm::Full => Answer::Full,
+    }
+}
+
+fn take<M: MediumControl>(medium: &mut M, step: Step, block: &mut Block) -> Answer {
+    match step {
+        Step::On => medium.power_on(),
+        Step::Off => medium.power_off(),
+        Step::Read(number) => return read(medium, number, block),
+        Step::Write(number, byte) => {
+            block.fill(byte);
+            return write(medium, number, block);
+        }
+        Step::Fails(number) => return fail(medium, number),
+        Step::Wear(number, n) => return wear(medium, number, n),
+        Step::Cut(n, fate) => medium.arm_cut(n.max(1), fate),
+    }
+    Answer::Done
+}
+
+/// A pressed disc of one zone, 41 blocks.
+fn pressed(alloc: Global) -> Result<MemImage, Fail> {
+    let geometry = Geometry::new(1, 1, 1)?;
+    let mut image = MemImage::new(Vec::new(alloc), Vec::new(alloc));
+    image.reserve(image_len(&geometry) as usize)?;
+    match press(&mut image, &geometry) {
+        PressOut::Done => Ok(image),
+        PressOut::Failed => Err("press")?,
+    }
+}
+
+fn opened(alloc: Global, image: MemImage) -> Result<ImageMedium<MemImage>, Fail> {
+    let (medium, _) = open(alloc, image).map_err(|refused| refused.1)?;
+    Ok(medium)
+}
+
+#[test]
+fn both_media_take_the_same_steps(rt: HostRuntime) -> Result<(), Fail> {
+    use Answer::{Done, Filled, NoBlock, PowerCut, PowerOff, Unreadable};
+    use Step::{Cut, Fails, Off, On, Read, Wear, Write};
+    let steps = [
+        (Read(5), PowerOff),
+        (On, Done),
+        (Read(5), Unreadable),
+        (Write(5, 0xaa), Done),
+        (Read(5), Filled(0xaa)),
+        // A cut write leaves the block torn, old or new; the cut falls at the use that was named, whatever block it is of.
+        (Cut(1, Fate::Torn), Done),
+        (Write(5, 0xbb), PowerCut),
+        (Read(5), PowerOff),
+        (On, Done),
+        (Read(5), Unreadable),
+        (Write(5, 0xcc), Done),
+        (Cut(2, Fate::Old), Done),
+        (Read(4), Unreadable),
+        (Write(5, 0xdd), PowerCut),
+        (On, Done),
+        (Read(5), Filled(0xcc)),
+        (Cut(1, Fate::New), Done),
+        (Write(5, 0xee), PowerCut),
+        (On, Done),
+        (Read(5), Filled(0xee)),
+        // A cut read changes nothing, and a new cut takes the place of the old.
+        (Cut(3, Fate::Old), Done),
+        (Cut(1, Fate::Torn), Done),
+        (Read(5), PowerCut),
+        (On, Done),
+        (Read(5), Filled(0xee)),
+        // An arm counts down at the uses of its block alone, and the block then stays dead.
+        (Wear(6, 2), Done),
+        (Write(6, 0x11), Done),
+        (Read(5), Filled(0xee)),
+        (Read(6), Unreadable),
+        (Write(6, 0x22), Done),
+        (Read(6), Unreadable),
+        // Two arms of a block count down together, and both outlive a power cycle.
+        (Wear(7, 2), Done),
+        (Wear(7, 3), Done),
+        (Write(7, 0x33), Done),
+        (Off, Done),
+        (Read(7), PowerOff),
+        (On, Done),
+        (Read(7), Unreadable),
+        // A write that is cut at the use that kills its block leaves it dead.
+        (Write(8, 0x44), Done),
+        (Wear(8, 1), Done),
+        (Cut(1, Fate::New), Done),
+        (Write(8, 0x55), PowerCut),
+        (On, Done),
+        (Read(8), Unreadable),
+        (Write(8, 0x66), Done),
+        (Read(8), Unreadable),
+        // A block fails with the power on or off.
+        (Write(9, 0x77), Done),
+        (Off, Done),
+        (Fails(9), Done),
+        (On, Done),
+        (Read(9), Unreadable),
+        (Write(9, 0x88), Done),
+        (Read(9), Unreadable),
+        (Fails(41), NoBlock),
+        (Wear(41, 1), NoBlock),
+        (Read(40), Unreadable),
+    ];
+    let mut block = Block::zeros(rt.alloc())?;
+    let mut in_memory = MemMedium::new(rt.alloc(), 41, Vec::new(rt.alloc()))?;
+    let mut over_image = opened(rt.alloc(), pressed(rt.alloc())?)?;
+    for (step, answer) in steps {
+        assert_eq!(rt;
+            take(&mut in_memory, step, &mut block),
+            answer,
+            "{step:?} in memory"
+        );
+        assert_eq!(rt;
+            take(&mut over_image, step, &mut block),
+            answer,
+            "{step:?} over an image"
+        );
+    }
+    let _ = over_image.into_image();
+    Ok(())
+}
+
+#[test]
+fn at_most_64_arms_stand(rt: HostRuntime) -> Result<(), Fail> {
+    let mut block = Block::zeros(rt.alloc())?;
+    let mut medium = MemMedium::new(rt.alloc(), 2, Vec::new(rt.alloc()))?;
+    for n in 1..=64 {
+        assert_eq!(rt; wear(&mut medium, 1, n), Answer::Done);
+    }
+    assert_eq!(rt; wear(&mut medium, 1, 1), Answer::Full);
+    assert_eq!(rt; wear(&mut medium, 2, 1), Answer::NoBlock);
+    take(&mut medium, Step::On, &mut block);
+    assert_eq!(rt; read(&mut medium, 1, &mut block), Answer::Unreadable);
+    assert_eq!(rt; wear(&mut medium, 0, 1), Answer::Done);
+    Ok(())
+}
+
+#[test]
+fn the_named_uses_fail(rt: HostRuntime) -> Result<(), Fail> {
+    let failing = [2, 3].to_vec(rt.alloc())?;
+    let mut block = Block::zeros(rt.alloc())?;
+    let mut medium = MemMedium::new(rt.alloc(), 2, failing)?;
+    for (step, answer) in [
+        (Step::On, Answer::Done),
+        (Step::Write(1, 0xaa), Answer::Done),
+        (Step::Read(1), Answer::Failed),
+        (Step::Read(1), Answer::PowerOff),
+        (Step::On, Answer::Done),
+        (Step::Write(1, 0xbb), Answer::Failed),
+        (Step::On, Answer::Done),
+        (Step::Read(1), Answer::Filled(0xaa)),
+    ] {
+        assert_eq!(rt; take(&mut medium, step, &mut block), answer, "{step:?}");
+    }
+    Ok(())
+}
+
+/// Writes a block anew on an image that fails at one of its calls, and reads what it then has.
+fn rewritten(alloc: Global, image: MemImage, block: &mut Block) -> Result<(Answer, Answer), Fail> {
+    let mut medium = opened(alloc, image)?;
+    medium.power_on();
+    take(&mut medium, Step::Write(5, 0xaa), block);
+    let answer = take(&mut medium, Step::Write(5, 0xbb), block);
+    medium.power_on();
+    let after = take(&mut medium, Step::Read(5), block);
+    let _ = medium.into_image();
+    Ok((answer, after))
+}
+
+#[test]
+fn a_write_over_an_image_that_fails(rt: HostRuntime) -> Result<(), Fail> {
+    let mut block = Block::zeros(rt.alloc())?;
+    // Opening takes two calls, and each write four: the state byte is read, and then the cell is written.
+    for (call, answer, after) in [
+        (7, Answer::Failed, Answer::Filled(0xaa)),
+        (8, Answer::Failed, Answer::Filled(0xaa)),
+        (9, Answer::Failed, Answer::Unreadable),
+        (10, Answer::Failed, Answer::Unreadable),
+        (11, Answer::Done, Answer::Failed),
+        (12, Answer::Done, Answer::Failed),
+        (13, Answer::Done, Answer::Filled(0xbb)),
+    ] {
+        let failing = [call].to_vec(rt.alloc())?;
+        let image = MemImage::new(pressed(rt.alloc())?.bytes().to_vec(rt.alloc())?, failing);
+        let found = rewritten(rt.alloc(), image, &mut block)?;
+        assert_eq!(rt; found, (answer, after), "call {call}");
+    }
+    Ok(())
+}

@@ -1,0 +1,3 @@
+pub mod Retained
+pub mod SlotCells
+pub mod Parts

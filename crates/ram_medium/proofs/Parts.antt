@@ -1,0 +1,62 @@
+-- Parts of the work on a medium, one after another.
+use Rattle.std.specs.Prelude.{◌≡◌, ℕ, ◌+◌, ◌≤◌, ◌⊎◌, IsTrue, List}
+use Rattle.std.proofs.Common.{sym, ap, ◌∙◌, inl, inr, subst, arith}
+use Rattle.model_counts.specs.Counts.{counted}
+use Rattle.model_medium.specs.Cells.{Cell, Torn, Dead, cell_at, IsGood, MayLeave}
+use Rattle.model_medium.specs.World.{World, FailsInRead, FailsInWrite}
+use Rattle.ram_medium.specs.Laws.{MediumLaws}
+use Rattle.ram_medium.specs.Stops.{FailsInUse, Goes, Stops}
+use Rattle.ram_medium.specs.declared.stops.Stop.{Stop}
+use Rattle.ram_medium.specs.declared.stops.Stop.TheVariants as stops
+
+-- a failed read and a failed write are failed uses
+pub read_fails : (old new : World) (block : ℕ) (into into' : List ℕ) → FailsInRead old new block into into' → FailsInUse old new block
+read_fails old new block into into' fails = record { one = fails.one; failed = fails.failed; left = elim fails.left [ inl same ↦ inl same | inr dead ↦ inr (inr (inr dead)) ] }
+
+pub write_fails : (old new : World) (block : ℕ) (bytes : List ℕ) → FailsInWrite old new block bytes → FailsInUse old new block
+write_fails old new block bytes fails = record { one = fails.one; failed = fails.failed; left = left_by (cell_at new.cells block) fails.left }
+  where
+    left_by : (cell : Cell) → MayLeave (cell_at old.cells block) bytes cell → (cell ≡ cell_at old.cells block) ⊎ IsGood cell ⊎ (cell ≡ Torn) ⊎ (cell ≡ Dead)
+    left_by cell (inl same) = inl same
+    left_by cell (inr (inl good)) = inr (inl (subst IsGood (sym good) tt))
+    left_by cell (inr (inr (inl torn))) = inr (inr (inl torn))
+    left_by cell (inr (inr (inr dead))) = inr (inr (inr dead))
+
+module _ {M : Type 0} (world : M → World) (block_count : M → ℕ) (reaches : M → M → ℕ → Type 0) (laws : MediumLaws world block_count reaches) where
+  -- no part at all
+  pub goes_none : (m : M) → IsTrue (world m).power → Goes world reaches m m 0
+  goes_none m on = record { reach = laws.none m; is_on = on }
+
+  pub goes_then : (a b c : M) (j k : ℕ) → Goes world reaches a b j → Goes world reaches b c k → Goes world reaches a c (j + k)
+  goes_then a b c j k one two = record { reach = laws.adds_up a b c j k one.reach two.reach; is_on = two.is_on }
+
+  -- where the power is on afterwards it was on all the while, and no cut is counted
+  pub goes_quiet : (a b : M) (k : ℕ) → Goes world reaches a b k → IsTrue (world a).power × ((world b).cuts ≡ (world a).cuts)
+  goes_quiet a b k one = elim (laws.follows a b k one.reach).ends [
+    | inl kept ↦ (sym kept.power_same ∙ one.is_on, kept.no_cut)
+    | inr fell ↦ absurd (fell.goes_off one.is_on)
+  ]
+
+  -- a stop after a part that went to its end
+  pub stops_later : (a b c : M) (j most : ℕ) (why : Stop) → Goes world reaches a b j → Stops world reaches b c most why → Stops world reaches a c (j + most) why
+  stops_later a b c j most stops.Cut one two = record {
+    uses = j + two.uses;
+    few = omega (arith, two.few);
+    reach = laws.adds_up a b c j two.uses one.reach two.reach;
+    cut = record { goes_off = two.cut.goes_off; one_cut = two.cut.one_cut ∙ ap (λ n. counted n 1) (goes_quiet a b j one).1 };
+  }
+  stops_later a b c j most stops.Off one two = absurd (two.was_off one.is_on)
+  stops_later a b c j most stops.Fault one two = record {
+    mid = two.mid;
+    before = j + two.before;
+    few = omega (arith, two.few);
+    reach = laws.adds_up a b two.mid j two.before one.reach two.reach;
+    block = two.block;
+    fails = two.fails;
+  }
+
+  -- a stop within fewer uses is one within more
+  pub stops_within : (a b : M) (most more : ℕ) (why : Stop) → most ≤ more → Stops world reaches a b most why → Stops world reaches a b more why
+  stops_within a b most more stops.Cut le stop = record { uses = stop.uses; few = omega (arith, stop.few); reach = stop.reach; cut = stop.cut }
+  stops_within a b most more stops.Off le stop = stop
+  stops_within a b most more stops.Fault le stop = record { mid = stop.mid; before = stop.before; few = omega (arith, stop.few); reach = stop.reach; block = stop.block; fails = stop.fails }

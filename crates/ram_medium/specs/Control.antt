@@ -1,0 +1,48 @@
+use Rattle.std.specs.Prelude.{◌≡◌, ◌≢◌, ℕ, ◌<◌, ◌≤◌, IsTrue, Some, [], ◌∷◌, ◌++◌, length, set}
+use Rattle.model_counts.specs.Counts.{Rose}
+use Rattle.model_medium.specs.Cells.{Dead, cell_at, IsSameOrDead}
+use Rattle.model_medium.specs.Machine.{Machine}
+use Rattle.model_medium.specs.Exact.{IsExactly}
+use Rattle.model_medium.specs.declared.WornBlock.{WornBlock}
+use Rattle.model_medium.specs.declared.Fate.{Fate}
+use Rattle.ram_medium.specs.declared.control.FailEnd.{FailEnd}
+use Rattle.ram_medium.specs.declared.control.FailEnd.TheVariants as fails
+use Rattle.ram_medium.specs.declared.control.Arm.{Arm}
+use Rattle.ram_medium.specs.declared.control.Arm.TheVariants as arming
+
+-- the medium with a dead block more
+abbrev pub with_dead : ℕ → Machine → Machine
+with_dead block machine = record machine { world = record machine.world { cells = set machine.world.cells block Dead } }
+
+-- What the medium lies on failed while a block was made dead: it is counted, the power is off, the block's cell is as
+-- it was or dead, and nothing else changed. (This project's own.)
+pub record FailsInFail (old new : Machine) (block : ℕ) : Type 0 where
+  pub goes_off : ¬ IsTrue new.world.power
+  pub fault : Rose old.world.faults new.world.faults
+  pub as_told : new.world.told ≡ old.world.told
+  pub uses_same : new.world.uses ≡ old.world.uses
+  pub cuts_same : new.world.cuts ≡ old.world.cuts
+  pub others : (other : ℕ) → other ≢ block → cell_at new.world.cells other ≡ cell_at old.world.cells other
+  pub left : IsSameOrDead (cell_at old.world.cells block) (cell_at new.world.cells block)
+  pub arms_same : new.arms ≡ old.arms
+  pub cut_same : new.cut ≡ old.cut
+
+-- What the failure of a block does on a medium of so many blocks, by its answer. (This project's own.)
+abbrev pub FailRule : ℕ → Machine → Machine → ℕ → FailEnd → Type 0
+FailRule total old new block fails.Done = (block < total) × IsExactly (with_dead block old) new
+FailRule total old new block (fails.NoBlock blocks) = (total ≤ block) × (blocks ≡ total) × (new ≡ old)
+FailRule total old new block fails.Failed = (block < total) × FailsInFail old new block
+
+-- the medium with one arm more, behind the others
+abbrev pub with_arm : WornBlock → Machine → Machine
+with_arm worn machine = record machine { arms = machine.arms ++ worn ∷ [] }
+
+-- What the arming of a block does on a medium of so many blocks, by its answer. (This project's own.)
+abbrev pub WearRule : ℕ → Machine → Machine → WornBlock → Arm → Type 0
+WearRule total old new worn arming.Set = (worn.block < total) × (length old.arms < 64) × (new ≡ with_arm worn old)
+WearRule total old new worn (arming.NoBlock blocks) = (total ≤ worn.block) × (blocks ≡ total) × (new ≡ old)
+WearRule total old new worn arming.Full = (worn.block < total) × (length old.arms ≡ 64) × (new ≡ old)
+
+-- the medium whose power is cut at the n-th use from now on, in place of any cut that was armed
+abbrev pub with_armed_cut : ℕ → Fate → Machine → Machine
+with_armed_cut n fate machine = record machine { cut = Some (record { left = n; fate = fate }) }

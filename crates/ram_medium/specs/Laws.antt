@@ -1,0 +1,30 @@
+use Rattle.std.specs.Prelude.{◌≡◌, ℕ, ◌+◌, ◌≤◌, Option, List, length}
+use Rattle.std.specs.Bool.{OnTrue}
+use Rattle.model_medium.specs.World.{World, ShowsNoneUntold}
+use Rattle.model_medium.specs.Machine.{Machine, IsToCome}
+use Rattle.model_medium.specs.Exact.{Event, Exactly}
+use Rattle.model_medium.specs.Reach.{Follows, Reach}
+use Rattle.model_medium.specs.declared.WornBlock.{WornBlock}
+use Rattle.model_medium.specs.declared.ArmedCut.{ArmedCut}
+
+-- What holds of `reaches`, which says what can follow by so many uses that did not fail: nothing follows by none, one
+-- part after another adds up, and what follows is what can follow on any medium. A medium that tells its cells shows
+-- one for each block, and one that does not shows none. (This project's own.)
+pub record MediumLaws {M : Type 0} (world : M → World) (block_count : M → ℕ) (reaches : M → M → ℕ → Type 0) : Type 0 where
+  pub none : (m : M) → reaches m m 0
+  pub adds_up : (a b c : M) (j k : ℕ) → reaches a b j → reaches b c k → reaches a c (j + k)
+  pub follows : (a b : M) (k : ℕ) → reaches a b k → Follows (world a) (world b) k
+  pub untold : (m : M) → ShowsNoneUntold (world m)
+  pub as_many : (m : M) → OnTrue (world m).told (length (world m).cells ≡ block_count m)
+
+-- a controllable medium, of its parts
+abbrev pub machine_of : World → List WornBlock → Option ArmedCut → Machine
+machine_of world arms cut = record { world = world; arms = arms; cut = cut }
+
+-- What holds of a controllable medium: each event does exactly what it is to do, what follows is what can follow with
+-- its arms and its armed cut, the armed cut is to come, and at most 64 arms stand. (This project's own.)
+pub record ControlLaws {M : Type 0} (world : M → World) (reaches : M → M → ℕ → Type 0) (takes : M → M → Event → Type 0) (arms : M → List WornBlock) (armed_cut : M → Option ArmedCut) : Type 0 where
+  pub exactly : (a b : M) (event : Event) → takes a b event → Exactly (machine_of (world a) (arms a) (armed_cut a)) (machine_of (world b) (arms b) (armed_cut b)) event
+  pub reach : (a b : M) (k : ℕ) → reaches a b k → Reach (machine_of (world a) (arms a) (armed_cut a)) (machine_of (world b) (arms b) (armed_cut b)) k
+  pub to_come : (m : M) → IsToCome (armed_cut m)
+  pub few : (m : M) → length (arms m) ≤ 64

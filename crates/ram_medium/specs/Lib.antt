@@ -1,0 +1,7 @@
+pub mod Laws
+pub mod Control
+pub mod Countdown
+pub mod Slots
+pub mod Memory
+pub mod Begun
+pub mod Stops

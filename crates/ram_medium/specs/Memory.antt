@@ -1,0 +1,45 @@
+use Rattle.std.specs.Prelude.{◌≡◌, ◌↔◌, ℕ, true, IsTrue, List, Contains}
+use Rattle.model_counts.specs.Counts.{counted}
+use Rattle.model_medium.specs.Machine.{Machine}
+use Rattle.model_medium.specs.World.{World}
+use Rattle.model_medium.specs.Exact.{Event, Read, Write, PowerOn, PowerOff, Exactly}
+use Rattle.model_medium.specs.Reach.{Reach}
+use Rattle.model_medium.specs.declared.ReadEnd.TheVariants as reads
+use Rattle.model_medium.specs.declared.WriteEnd.TheVariants as writes
+use Rattle.ram_medium.specs.Laws.{machine_of}
+use Rattle.ram_medium.specs.Countdown.{arms_of, cut_of}
+use Rattle.ram_medium.specs.Slots.{cells_of}
+use Rattle.ram_medium.specs.declared.memory.MemMedium.{MemMedium}
+
+-- what a medium in memory shows
+abbrev pub world_of : MemMedium → World
+world_of medium = record { told = true; cells = cells_of medium.slots.items; power = medium.powered; uses = medium.uses; cuts = medium.cuts; faults = medium.faults }
+
+-- the same with what is armed on it
+abbrev pub machine_in : MemMedium → Machine
+machine_in medium = machine_of (world_of medium) (arms_of medium.armed) (cut_of medium.armed)
+
+-- the numbers of the uses that fail, from 1 on
+abbrev pub failing_of : MemMedium → List ℕ
+failing_of medium = medium.failing.items
+
+-- what can follow on a medium in memory
+abbrev pub MemReaches : MemMedium → MemMedium → ℕ → Type 0
+MemReaches old new k = Reach (machine_in old) (machine_in new) k
+
+-- The next use has a number that fails. The number of uses stands still at its type's end. (This project's own.)
+abbrev pub IsNamedUse : MemMedium → Type 0
+IsNamedUse medium = Contains (failing_of medium) (counted medium.uses 1)
+
+-- A use fails exactly where its number is one that fails. (This project's own.)
+abbrev pub FailsAsNamed : MemMedium → Event → Type 0
+FailsAsNamed old (Read block into into' how) = (how ≡ reads.Failed) ↔ (IsTrue old.powered × IsNamedUse old)
+FailsAsNamed old (Write block bytes how) = (how ≡ writes.Failed) ↔ (IsTrue old.powered × IsNamedUse old)
+FailsAsNamed old PowerOn = Unit {0}
+FailsAsNamed old PowerOff = Unit {0}
+
+-- What an event does on a medium in memory: exactly what it does on a controllable medium, and it fails as it is to.
+pub record MemTakes (old new : MemMedium) (event : Event) : Type 0 where
+  pub exactly : Exactly (machine_in old) (machine_in new) event
+  pub fails : FailsAsNamed old event
+  pub same_names : failing_of new ≡ failing_of old

@@ -1,0 +1,57 @@
+use Rattle.std.specs.Prelude.{◌≡◌, ℕ, ◌<◌, ◌≤◌, ◌⊎◌, Bool, IsTrue, MatchBool, List}
+use Rattle.model_medium.specs.Cells.{Torn, Dead, IsGood, cell_at}
+use Rattle.model_medium.specs.World.{World, IsUse, HasFailed, IsCut, IsOff, ReadsCell, FindsNoBytes, IsCutInRead, FailsInRead, IsCutInWrite, FailsInWrite}
+use Rattle.ram_medium.specs.declared.stops.Stop.{Stop}
+use Rattle.ram_medium.specs.declared.stops.Stop.TheVariants as stops
+
+-- A use of a block failed, whatever it was: the block's cell is as it was, has whole bytes, or is torn or dead. (This
+-- project's own, as all here.)
+pub record FailsInUse (old new : World) (block : ℕ) : Type 0 where
+  pub one : IsUse old new block
+  pub failed : HasFailed old new
+  pub left : (cell_at new.cells block ≡ cell_at old.cells block) ⊎ IsGood (cell_at new.cells block) ⊎ (cell_at new.cells block ≡ Torn) ⊎ (cell_at new.cells block ≡ Dead)
+
+-- What a part of the work on a medium did, where `reaches` says what can follow by so many uses that did not fail.
+module _ {M : Type 0} (world : M → World) (reaches : M → M → ℕ → Type 0) where
+  -- it went to its end by k uses, and the power is on
+  pub record Goes (old new : M) (k : ℕ) : Type 0 where
+    pub reach : reaches old new k
+    pub is_on : IsTrue (world new).power
+
+  -- the power was cut in the last of at most so many uses
+  pub record StopsByCut (old new : M) (most : ℕ) : Type 0 where
+    pub uses : ℕ
+    pub few : uses ≤ most
+    pub reach : reaches old new uses
+    pub cut : IsCut (world old) (world new)
+
+  -- the last of at most so many uses failed, and those before did not
+  pub record StopsByFault (old new : M) (most : ℕ) : Type 0 where
+    pub mid : M
+    pub before : ℕ
+    pub few : before < most
+    pub reach : reaches old mid before
+    pub block : ℕ
+    pub fails : FailsInUse (world mid) (world new) block
+
+  -- it was stopped within so many uses, for this cause
+  abbrev pub Stops : M → M → ℕ → Stop → Type 0
+  Stops old new most stops.Cut = StopsByCut old new most
+  Stops old new most stops.Off = IsOff (world old) (world new)
+  Stops old new most stops.Fault = StopsByFault old new most
+
+-- What a stopped read did by itself.
+abbrev pub StoppedRead : World → World → ℕ → List ℕ → List ℕ → Stop → Type 0
+StoppedRead old new block into into' stops.Cut = IsCutInRead old new block into into'
+StoppedRead old new block into into' stops.Off = IsOff old new × (into' ≡ into)
+StoppedRead old new block into into' stops.Fault = FailsInRead old new block into into'
+
+-- What a read that was not stopped did: whether the block has whole bytes.
+abbrev pub EndedRead : World → World → ℕ → List ℕ → List ℕ → Bool → Type 0
+EndedRead old new block into into' whole = MatchBool whole (ReadsCell old new block into') (FindsNoBytes old new block into into')
+
+-- What a stopped write did by itself.
+abbrev pub StoppedWrite : World → World → ℕ → List ℕ → Stop → Type 0
+StoppedWrite old new block bytes stops.Cut = IsCutInWrite old new block bytes
+StoppedWrite old new block bytes stops.Off = IsOff old new
+StoppedWrite old new block bytes stops.Fault = FailsInWrite old new block bytes

@@ -1,0 +1,60 @@
+ghost use Rattle.std.specs.Prelude.{◌≡◌, ℕ, ◌<◌, true, false};
+ghost use Rattle.model_medium.specs.World.{World, ReadRule, WriteRule, ReadGoes, WriteGoes};
+ghost use Rattle.model_medium.specs.Exact.{Event, Read, Write, PowerOn, PowerOff};
+ghost use Rattle.ram_medium.specs.Laws.{MediumLaws};
+
+use model_medium::{ReadEnd, WriteEnd};
+use ram_bytes::Block;
+
+/// Blocks that are read and written whole. Each read or write with the power on is one use.
+pub trait Medium {
+    /// All that the medium shows.
+    ghost world: { Self → World };
+
+    /// How many blocks it has.
+    ghost block_count: { Self → ℕ };
+
+    /// What can follow by so many uses that did not fail.
+    ghost reaches: { Self → Self → ℕ → Type 0 };
+
+    /// That this event happened in between. What it does exactly, a controllable medium says.
+    ghost takes: { Self → Self → Event → Type 0 };
+
+    /// How many blocks the medium has.
+    fn blocks(&self) -> u32
+        ensures { result ≡ block_count self.now };
+
+    /// Whether the power is on.
+    fn powered(&self) -> bool
+        ensures { result ≡ (world self.now).power };
+
+    /// Reads a block. `into` changes only where all of it was read.
+    fn read(&mut self, block: u32, into: &mut Block) -> ReadEnd
+        requires { block < block_count self.old }
+        ensures rule { ReadRule (world self.old) (world self.new) block into.old into.new result }
+        ensures goes { ReadGoes (reaches self.old self.new) result }
+        ensures event { takes self.old self.new (Read block into.old into.new result) }
+        ensures as_many { block_count self.new ≡ block_count self.old };
+
+    /// Writes a block. A dead one stays dead.
+    fn write(&mut self, block: u32, from: &Block) -> WriteEnd
+        requires { block < block_count self.old }
+        ensures rule { WriteRule (world self.old) (world self.new) block from.now result }
+        ensures goes { WriteGoes (reaches self.old self.new) result }
+        ensures event { takes self.old self.new (Write block from.now result) }
+        ensures as_many { block_count self.new ≡ block_count self.old };
+
+    /// Turns the power on, and does nothing else.
+    fn power_on(&mut self)
+        ensures power { world self.new ≡ record (world self.old) { power = true } }
+        ensures event { takes self.old self.new PowerOn }
+        ensures as_many { block_count self.new ≡ block_count self.old };
+
+    /// Turns the power off, and does nothing else.
+    fn power_off(&mut self)
+        ensures power { world self.new ≡ record (world self.old) { power = false } }
+        ensures event { takes self.old self.new PowerOff }
+        ensures as_many { block_count self.new ≡ block_count self.old };
+
+    ghost laws: { MediumLaws world block_count reaches };
+}

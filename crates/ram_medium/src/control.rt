@@ -1,0 +1,69 @@
+ghost use Rattle.std.specs.Prelude.{◌≡◌, ℕ, ◌≤◌, Option, List};
+ghost use Rattle.model_medium.specs.declared.WornBlock.{WornBlock};
+ghost use Rattle.model_medium.specs.declared.ArmedCut.{ArmedCut};
+ghost use Rattle.ram_medium.specs.Laws.{ControlLaws, machine_of};
+ghost use Rattle.ram_medium.specs.Control.{FailRule, WearRule, with_armed_cut};
+
+use crate::blocks::Medium;
+use model_medium::Fate;
+
+/// How the failure of a block ended.
+#[derive(Clone, Copy, Debug, PartialEq, Eq)]
+pub enum FailEnd {
+    /// The block is dead.
+    Done,
+    /// There is no such block.
+    NoBlock {
+        /// How many blocks there are.
+        blocks: u32,
+    },
+    /// What the medium lies on failed, and counted it. The power is off.
+    Failed,
+}
+
+/// How the arming of a block ended.
+#[derive(Clone, Copy, Debug, PartialEq, Eq)]
+pub enum Arm {
+    /// The arm stands.
+    Set,
+    /// There is no such block.
+    NoBlock {
+        /// How many blocks there are.
+        blocks: u32,
+    },
+    /// As many arms stand as can.
+    Full,
+}
+
+/// A medium that is told when its blocks fail and when its power is cut. Arms and the armed cut outlive a power
+/// cycle.
+pub trait MediumControl: Medium {
+    /// The arms that stand, in the order in which they were set.
+    ghost arms: { Self → List WornBlock };
+
+    /// The armed cut, if there is one.
+    ghost armed_cut: { Self → Option ArmedCut };
+
+    /// Makes a block dead, with the power on or off.
+    fn fail(&mut self, block: u32) -> FailEnd
+        ensures rule { FailRule (Self.block_count self.old) (machine_of (Self.world self.old) (arms self.old) (armed_cut self.old))
+            (machine_of (Self.world self.new) (arms self.new) (armed_cut self.new)) block result }
+        ensures as_many { Self.block_count self.new ≡ Self.block_count self.old };
+
+    /// Makes a block dead at its `n`-th use from now on. At most 64 arms stand, and a block may have several.
+    fn wear(&mut self, block: u32, n: u32) -> Arm
+        requires { 1 ≤ n }
+        ensures rule { WearRule (Self.block_count self.old) (machine_of (Self.world self.old) (arms self.old) (armed_cut self.old))
+            (machine_of (Self.world self.new) (arms self.new) (armed_cut self.new)) (record { block = block; left = n }) result }
+        ensures as_many { Self.block_count self.new ≡ Self.block_count self.old };
+
+    /// Cuts the power at the `n`-th use from now on, and a write that is then cut leaves its block by the fate. The
+    /// cut takes the place of one that was armed.
+    fn arm_cut(&mut self, n: u32, fate: Fate)
+        requires { 1 ≤ n }
+        ensures rule { machine_of (Self.world self.new) (arms self.new) (armed_cut self.new)
+            ≡ with_armed_cut n fate (machine_of (Self.world self.old) (arms self.old) (armed_cut self.old)) }
+        ensures as_many { Self.block_count self.new ≡ Self.block_count self.old };
+
+    ghost control_laws: { ControlLaws Self.world Self.reaches Self.takes arms armed_cut };
+}

@@ -1,0 +1,215 @@
+ghost use Rattle.std.specs.Prelude.{◌≡◌, ℕ, ◌+◌, ◌<◌, ◌≤◌, ◌^◌, length, vec_len};
+
+use crate::blocks::Medium;
+use crate::control::{Arm, FailEnd, MediumControl};
+use crate::countdown::Armed;
+use crate::slots::{Slot, blank_slots, cut_slot, kill_where, read_slot, write_slot};
+use model_medium::{Fate, ReadEnd, WriteEnd};
+use ram_bytes::Block;
+use std::alloc::{AllocError, Global};
+
+/// A controllable medium whose blocks lie in memory. All its room is taken when it is made.
+#[derive(Drop)]
+pub struct MemMedium {
+    slots: Vec<Slot>,
+    powered: bool,
+    uses: u64,
+    cuts: u64,
+    faults: u64,
+    armed: Armed,
+    failing: Vec<u64>,
+    ghost few: { vec_len slots < 2 ^ 32 },
+}
+
+/// How a use begins.
+enum Begun {
+    /// It goes on.
+    On,
+    /// The power is cut in it, with this fate.
+    Cut(Fate),
+    /// It is one that fails.
+    Failed,
+}
+
+impl MemMedium {
+    ghost use Rattle.std.specs.Prelude.{[], IfOk, replicate, false, true};
+    ghost use Rattle.model_medium.specs.Cells.{Blank};
+    ghost use Rattle.model_medium.specs.Exact.{Read, Write};
+    ghost use Rattle.ram_medium.specs.Memory.{world_of, machine_in, failing_of, MemTakes};
+    ghost use Rattle.ram_medium.specs.Begun.{IsNew, BeginRule};
+
+    /// A medium of so many blank blocks, with the power off. `failing` has the numbers, from 1 on, of the uses that
+    /// fail.
+    pub fn new(alloc: Global, blocks: u32, failing: Vec<u64>) -> Result<MemMedium, AllocError>
+        ensures { IfOk result (IsNew blocks failing.items) }
+    {
+        Ok(MemMedium {
+            slots: blank_slots(alloc, blocks)?,
+            powered: false,
+            uses: 0,
+            cuts: 0,
+            faults: 0,
+            armed: Armed::new(),
+            failing,
+        })
+    }
+
+    /// Begins a use of the block: it is counted, the arms of the block count down, and then the armed cut does. A
+    /// use that fails changes no block.
+    fn begin(&mut self, block: u32) -> Begun
+        requires { block < vec_len self.old.slots }
+        ensures rule { BeginRule self.old self.new block result }
+        ensures same_names { failing_of self.new ≡ failing_of self.old }
+        ensures len { vec_len self.new.slots ≡ vec_len self.old.slots }
+    {
+        self.uses = self.uses.saturating_add(1);
+        let due = self.armed.count(block);
+        if self.failing.contains(&self.uses) {
+            self.faults = self.faults.saturating_add(1);
+            self.powered = false;
+            return Begun::Failed;
+        }
+        kill_where(&mut self.slots, block, due.dies);
+        match due.cut {
+            None => Begun::On,
+            Some(fate) => {
+                self.cuts = self.cuts.saturating_add(1);
+                self.powered = false;
+                Begun::Cut(fate)
+            }
+        }
+    }
+
+    /// A read, as the trait has it.
+    fn read_block(&mut self, block: u32, into: &mut Block) -> ReadEnd
+        requires { block < vec_len self.old.slots }
+        ensures event { MemTakes self.old self.new (Read block into.old into.new result) }
+        ensures len { vec_len self.new.slots ≡ vec_len self.old.slots }
+    {
+        if !self.powered {
+            return ReadEnd::Off;
+        }
+        match self.begin(block) {
+            Begun::Failed => ReadEnd::Failed,
+            Begun::Cut(_) => ReadEnd::Cut,
+            Begun::On => {
+                if read_slot(&self.slots, block, into) {
+                    ReadEnd::Done
+                } else {
+                    ReadEnd::Unreadable
+                }
+            }
+        }
+    }
+
+    /// A write, as the trait has it.
+    fn write_block(&mut self, block: u32, from: &Block) -> WriteEnd
+        requires { block < vec_len self.old.slots }
+        ensures event { MemTakes self.old self.new (Write block from.now result) }
+        ensures len { vec_len self.new.slots ≡ vec_len self.old.slots }
+    {
+        if !self.powered {
+            return WriteEnd::Off;
+        }
+        match self.begin(block) {
+            Begun::Failed => WriteEnd::Failed,
+            Begun::Cut(fate) => {
+                cut_slot(&mut self.slots, block, from, fate);
+                WriteEnd::Cut
+            }
+            Begun::On => {
+                write_slot(&mut self.slots, block, from);
+                WriteEnd::Done
+            }
+        }
+    }
+}
+
+impl Medium for MemMedium {
+    ghost use Rattle.std.specs.Prelude.{vec_len};
+    ghost use Rattle.ram_medium.specs.Memory.{world_of, MemReaches, MemTakes, machine_in};
+    ghost use Rattle.std.proofs.Common.{arith};
+    ghost use Rattle.std.proofs.lemmas.List.{length-map};
+    ghost use Rattle.model_medium.proofs.Compose.{reach_none, reach_then, follows-reach};
+    ghost use Rattle.ram_medium.specs.Slots.{cell_of};
+
+    ghost world = { world_of };
+
+    ghost block_count = { λ medium. vec_len medium.slots };
+
+    ghost reaches = { MemReaches };
+
+    ghost takes = { MemTakes };
+
+    fn blocks(&self) -> u32 {
+        self.slots.len() as u32
+    }
+
+    fn powered(&self) -> bool {
+        self.powered
+    }
+
+    fn read(&mut self, block: u32, into: &mut Block) -> ReadEnd {
+        self.read_block(block, into)
+    }
+
+    fn write(&mut self, block: u32, from: &Block) -> WriteEnd {
+        self.write_block(block, from)
+    }
+
+    fn power_on(&mut self) {
+        self.powered = true;
+    }
+
+    fn power_off(&mut self) {
+        self.powered = false;
+    }
+
+    ghost laws = { record {
+      none = λ medium. reach_none (machine_in medium) medium.armed.to_come;
+      adds_up = λ a b c j k one two. reach_then (machine_in a) (machine_in b) (machine_in c) j k one two;
+      follows = λ a b k reach. follows-reach (machine_in a) (machine_in b) k reach;
+      untold = λ medium. tt;
+      as_many = λ medium. Prim.omega (arith, length-map medium.slots.items cell_of, medium.slots.ok.0);
+    } };
+}
+
+impl MediumControl for MemMedium {
+    ghost use Rattle.ram_medium.specs.Countdown.{arms_of, cut_of};
+
+    ghost arms = { λ medium. arms_of medium.armed };
+
+    ghost armed_cut = { λ medium. cut_of medium.armed };
+
+    fn fail(&mut self, block: u32) -> FailEnd {
+        let blocks = self.blocks();
+        if block >= blocks {
+            return FailEnd::NoBlock { blocks };
+        }
+        kill_where(&mut self.slots, block, true);
+        FailEnd::Done
+    }
+
+    fn wear(&mut self, block: u32, n: u32) -> Arm {
+        let blocks = self.blocks();
+        if block >= blocks {
+            return Arm::NoBlock { blocks };
+        }
+        if self.armed.wear(block, n) {
+            Arm::Set
+        } else {
+            Arm::Full
+        }
+    }
+
+    fn arm_cut(&mut self, n: u32, fate: Fate) {
+        self.armed.arm_cut(n, fate);
+    }
+
+    ghost control_laws = { record {
+      exactly = λ a b event takes. takes.exactly;
+      reach = λ a b k reach. reach;
+      to_come = λ medium. medium.armed.to_come;
+      few = λ medium. medium.armed.few;
+    } };
+}

@@ -1,0 +1,120 @@
+ghost use Rattle.std.specs.Prelude.{◌≡◌, ℕ, ◌<◌, IfOk, MatchBool, if◌then◌else◌, map, set, replicate, [], vec_len};
+ghost use Rattle.model_medium.specs.Cells.{Blank, Good, Dead, IsGood, cell_at, written, cut_short};
+ghost use Rattle.ram_medium.specs.Slots.{cell_of, cells_of};
+
+use model_medium::Fate;
+use ram_bytes::Block;
+use std::alloc::{AllocError, Global};
+
+/// What a slot stands for.
+#[derive(Clone, Copy, Debug, PartialEq, Eq)]
+pub(crate) enum State {
+    Blank,
+    Good,
+    Torn,
+    Dead,
+}
+
+/// One block of a medium in memory. Its room is taken when it is made.
+#[derive(Drop)]
+pub(crate) struct Slot {
+    state: State,
+    block: Block,
+}
+
+/// So many blank slots.
+pub(crate) fn blank_slots(alloc: Global, blocks: u32) -> Result<Vec<Slot>, AllocError>
+    ensures { IfOk result (λ slots. (vec_len slots ≡ blocks) × (cells_of slots.items ≡ replicate blocks Blank)) }
+{
+    let mut slots = Vec::with_capacity(alloc, blocks as usize)?;
+    for _ in 0..blocks {
+        slots.push(Slot {
+            state: State::Blank,
+            block: Block::zeros(alloc)?,
+        })?;
+    }
+    Ok(slots)
+}
+
+/// Makes the block of a slot dead, where it is to die.
+pub(crate) fn kill_where(slots: &mut Vec<Slot>, block: u32, dies: bool)
+    requires { block < vec_len slots.old }
+    ensures cells { cells_of slots.new.items ≡ (if dies then set (cells_of slots.old.items) block Dead else cells_of slots.old.items) }
+    ensures len { vec_len slots.new ≡ vec_len slots.old }
+{
+    if dies {
+        slots[block as usize].state = State::Dead;
+    }
+}
+
+/// Reads a slot with whole bytes. Whether it has any; else `into` is as it was.
+pub(crate) fn read_slot(slots: &Vec<Slot>, block: u32, into: &mut Block) -> bool
+    requires { block < vec_len slots.now }
+    ensures { MatchBool result
+        (cell_at (cells_of slots.now.items) block ≡ Good into.new)
+        ((¬ IsGood (cell_at (cells_of slots.now.items) block)) × (into.new ≡ into.old)) }
+{
+    let slot = &slots[block as usize];
+    match slot.state {
+        State::Good => {
+            into.copy_from(&slot.block);
+            true
+        }
+        State::Blank => false,
+        State::Torn => false,
+        State::Dead => false,
+    }
+}
+
+/// Writes a slot. A dead one stays dead.
+pub(crate) fn write_slot(slots: &mut Vec<Slot>, block: u32, from: &Block)
+    requires { block < vec_len slots.old }
+    ensures cells { cells_of slots.new.items ≡ set (cells_of slots.old.items) block (written from.now (cell_at (cells_of slots.old.items) block)) }
+    ensures len { vec_len slots.new ≡ vec_len slots.old }
+{
+    let slot = &mut slots[block as usize];
+    slot.write(from);
+}
+
+/// Leaves a slot as a write in which the power is cut does, by its fate.
+pub(crate) fn cut_slot(slots: &mut Vec<Slot>, block: u32, from: &Block, fate: Fate)
+    requires { block < vec_len slots.old }
+    ensures cells { cells_of slots.new.items ≡ set (cells_of slots.old.items) block (cut_short fate from.now (cell_at (cells_of slots.old.items) block)) }
+    ensures len { vec_len slots.new ≡ vec_len slots.old }
+{
+    let slot = &mut slots[block as usize];
+    slot.cut_short(from, fate);
+}
+
+impl Slot {
+    fn write(&mut self, from: &Block)
+        ensures { cell_of self.new ≡ written from.now (cell_of self.old) }
+    {
+        match self.state {
+            State::Dead => {}
+            State::Blank | State::Good | State::Torn => {
+                self.block.copy_from(from);
+                self.state = State::Good;
+            }
+        }
+    }
+
+    fn tear(&mut self)
+        ensures { cell_of self.new ≡ cut_short Fate.Torn [] (cell_of self.old) }
+    {
+        match self.state {
+            State::Dead => {}
+            State::Blank | State::Good | State::Torn => self.state = State::Torn,
+        }
+    }
+
+    fn cut_short(&mut self, from: &Block, fate: Fate)
+        ensures { cell_of self.new ≡ cut_short fate from.now (cell_of self.old) }
+    {
+        match fate {
+            Fate::Old => {}
+            Fate::New => self.write(from),
+            Fate::Torn => self.tear(),
+        }
+    }
+}

@@ -1,0 +1,53 @@
+ghost use Rattle.std.specs.Prelude.{◌≡◌, ◌<◌, MatchResult};
+ghost use Rattle.model_medium.specs.World.{WritesCell};
+ghost use Rattle.ram_medium.specs.Stops.{Goes, Stops, StoppedRead, EndedRead, StoppedWrite};
+
+use crate::blocks::Medium;
+use model_medium::{ReadEnd, WriteEnd};
+use ram_bytes::Block;
+
+/// Why work on a medium was stopped. The power is off.
+#[derive(Clone, Copy, Debug, PartialEq, Eq)]
+pub enum Stop {
+    /// The power was cut.
+    Cut,
+    /// The power was off already, and nothing was done.
+    Off,
+    /// What the medium lies on failed, and counted it.
+    Fault,
+}
+
+/// Reads a block. Whether it has whole bytes, or why the read was stopped; `into` changes only where it has.
+pub fn read_whole<M: Medium>(medium: &mut M, block: u32, into: &mut Block) -> Result<bool, Stop>
+    requires { block < M.block_count medium.old }
+    ensures rule { MatchResult result
+        (EndedRead (M.world medium.old) (M.world medium.new) block into.old into.new)
+        (StoppedRead (M.world medium.old) (M.world medium.new) block into.old into.new) }
+    ensures goes { MatchResult result (λ whole. Goes M.world M.reaches medium.old medium.new 1) (Stops M.world M.reaches medium.old medium.new 1) }
+    ensures as_many { M.block_count medium.new ≡ M.block_count medium.old }
+{
+    match medium.read(block, into) {
+        ReadEnd::Done => Ok(true),
+        ReadEnd::Unreadable => Ok(false),
+        ReadEnd::Cut => Err(Stop::Cut),
+        ReadEnd::Off => Err(Stop::Off),
+        ReadEnd::Failed => Err(Stop::Fault),
+    }
+}
+
+/// Writes a block, or says why the write was stopped. A dead block stays dead.
+pub fn write_whole<M: Medium>(medium: &mut M, block: u32, from: &Block) -> Result<(), Stop>
+    requires { block < M.block_count medium.old }
+    ensures rule { MatchResult result
+        (λ done. WritesCell (M.world medium.old) (M.world medium.new) block from.now)
+        (StoppedWrite (M.world medium.old) (M.world medium.new) block from.now) }
+    ensures goes { MatchResult result (λ done. Goes M.world M.reaches medium.old medium.new 1) (Stops M.world M.reaches medium.old medium.new 1) }
+    ensures as_many { M.block_count medium.new ≡ M.block_count medium.old }
+{
+    match medium.write(block, from) {
+        WriteEnd::Done => Ok(()),
+        WriteEnd::Cut => Err(Stop::Cut),
+        WriteEnd::Off => Err(Stop::Off),
+        WriteEnd::Failed => Err(Stop::Fault),
+    }
+}

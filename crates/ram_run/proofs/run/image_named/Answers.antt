@@ -1,0 +1,11 @@
+use Rattle.std.proofs.Common.{◌≡◌, ◌∙◌, ap, refl, arith, sym, List, ℕ, ◌∷◌, [], get_or}
+use Rattle.std.specs.Borrow.{Bor}
+use Rattle.std.proofs.lemmas.Slice.Eq.{bytes_eq-Decides}
+use Rattle.ram_run.proofs.Twos.{map_of_two}
+use Rattle.ram_run.proofs.run.image_named.Goals as goal
+
+pub returns-in-len2 : goal.returns-in-len2
+returns-in-len2 c =
+    let none : Bor (List ℕ) = record { ref_ptr = (0, 0); now = [] } in
+    map_of_two (λ (word : Bor (List ℕ)). word.now) c.args.words.now none (omega (arith, c.in-len2.len_at_least, c.in-len2.len_below))
+    ∙ ap (λ (first : List ℕ). first ∷ (get_or c.args.words.now 1 none).now ∷ []) ((bytes_eq-Decides (get_or c.args.words.now 0 none).now (114 ∷ 117 ∷ 110 ∷ [])).0 (sym c.eq.ensures ∙ c.if-eq.true))

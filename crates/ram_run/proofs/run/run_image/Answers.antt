@@ -1,0 +1,13 @@
+use Rattle.std.proofs.Common.{◌≡◌, inl, inr, subst, refl, sym, arith}
+use Rattle.model_counts.specs.Counts.{Rose}
+use Rattle.ram_run.specs.Outcome.{bytes_returned}
+use Rattle.ram_run.proofs.Opens.{leaves_weaker, begins_told, handed_back, counted_back}
+use Rattle.ram_run.proofs.run.run_image.Goals as goal
+
+pub returns-clause-run : goal.returns-clause-run
+returns-clause-run g c first told =
+    inl (leaves_weaker first (g.K.Sink.written c.serve-image.new.report) (g.O.Image.Image.bytes c.serve-image.result.0) (bytes_returned g.O.Image.Image.bytes (g.O.Opener.returned c.close.new.self))
+    (Rose (g.O.Image.Image.faults c.in-Image.image) (g.O.Image.Image.faults c.serve-image.result.0)) (Rose (g.O.Opener.faults c.args.opener.now) (g.O.Opener.faults c.close.new.self)) c.serve-image.result.1
+    (handed_back g.O.Image.Image.bytes g.O.Opener.tells c.serve-image.result.0 (g.O.Opener.returned c.close.new.self) told.tells_is c.close.ensures.returned)
+    (λ rose. counted_back (g.O.Opener.faults c.args.opener.now) (g.O.Opener.faults c.open.new.self) (g.O.Opener.faults c.close.new.self) (g.O.Image.Image.faults c.serve-image.result.0) c.in-Image.ensures.count (rw c.in-Image.ensures.unfailed at rose) c.close.ensures.count)
+    (c.serve-image.ensures.leaves first (begins_told g.O.Image.Image.bytes first (g.S.Source.left c.args.script.now) (g.K.Sink.written c.args.report.now) (g.O.Opener.next c.args.opener.now) g.O.Opener.tells c.in-Image.image told c.in-Image.ensures.next)))

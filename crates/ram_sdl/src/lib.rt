@@ -1,0 +1,15 @@
+//! The secondary defect list, and its text on the disc, both ways.
+#![tactic(auto)]
+
+mod entries;
+mod front;
+mod list;
+mod places;
+mod sdl;
+
+pub use entries::SdlEntries;
+pub use model_lists::{SDL_LIMIT, SSA_LIMIT, SdlEntry};
+pub use sdl::Sdl;
+
+#[cfg(test)]
+mod tests;
