@@ -40,3 +40,18 @@ fn blocks_are_filled_copied_and_compared(rt: HostRuntime) -> Result<(), Fail> {
     assert!(rt; block.same(&other));
     Ok(())
 }
+
+#[test]
+fn command_blocks_have_1_to_16_bytes(rt: HostRuntime) -> Result<(), Fail> {
+    let bytes = [0x28, 1, 2, 3, 4, 5, 6, 7, 8, 9, 10, 11, 12, 13, 14, 15, 16];
+    for (count, taken) in [(0usize, false), (1, true), (16, true), (17, false)] {
+        let cdb = Cdb::from_bytes(&bytes[..count]);
+        assert_eq!(rt; cdb.is_some(), taken, "of {count} bytes");
+    }
+    let cdb = Cdb::from_bytes(&bytes[..16]).ok_or("no command block")?;
+    assert_eq!(rt; cdb.len(), 16);
+    assert_eq!(rt; cdb.byte(15), 15);
+    assert_eq!(rt; cdb.operation_code(), 0x28);
+    assert_eq!(rt; cdb.bytes(), &bytes[..16]);
+    Ok(())
+}

@@ -1,7 +1,5 @@
 -- Counts over several steps.
-use Rattle.std.specs.Prelude.{ℕ, ◌≤◌}
 use Rattle.std.proofs.Common.{arith}
-use Rattle.model_counts.specs.Counts.{Rose}
 use Rattle.ram_run.specs.declared.serve.Ending.{Ending}
 use Rattle.ram_run.specs.declared.serve.Ending.TheVariants as endings
 use Rattle.ram_run.specs.declared.serve.Turn.{Turn}

@@ -1,8 +1,7 @@
 -- How a run ends: what its lines left, and what was then written.
-use Rattle.std.specs.Prelude.{◌≡◌, ℕ, ◌+◌, ◌≤◌, ◌⊎◌, Option, None, Some, List, [], ◌∷◌, ◌++◌, length, take, drop}
+use Rattle.std.specs.Prelude.{◌≡◌, ℕ, Option, None, Some, List, [], ◌++◌, length, take, drop}
 use Rattle.std.specs.Io.KnownBytes.{append_known, prepend_known}
 use Rattle.std.proofs.Common.{arith, refl, sym, ap, ◌∙◌, inl, inr, subst, append_assoc, append-nil, take-append-drop}
-use Rattle.model_counts.specs.Counts.{Rose}
 use Rattle.ram_outside.specs.declared.image.Image.{Ghosts}
 use Rattle.model_geometry.specs.Geometry.{shape_of}
 use Rattle.ram_text.proofs.Puts.{append_known-twice}
@@ -17,10 +16,10 @@ use Rattle.ram_run.specs.declared.serve.Ending.TheVariants as endings
 use Rattle.ram_run.specs.declared.status.Status.{Status}
 use Rattle.ram_run.specs.declared.status.Status.TheVariants as statuses
 use Rattle.ram_run.specs.Machine.{State, Unpressed}
-use Rattle.ram_run.specs.Held.{Stands, LeavesImage, LacksMemory, IsPressedUnopened}
+use Rattle.ram_run.specs.Held.{Stands, LeavesImage, LacksMemory}
 use Rattle.ram_run.specs.Run.{report_text}
-use Rattle.ram_run.specs.Turn.{Beginning, SoFar, Between, IsReported, IsFrontOf, ComesNext, Ends, Counts, NoneFell, HasRisen}
-use Rattle.ram_run.specs.Outcome.{status_of, last_text, LastRule, IsReportedWhole, IsWrittenInPart, IsPressedUnanswered, Leaves, StatusRose, StatusCounts, EndsAtSink, EndsWhole, FinishRule, Begins}
+use Rattle.ram_run.specs.Turn.{Beginning, SoFar, Between, IsReported, IsFrontOf, ComesNext, Ends}
+use Rattle.ram_run.specs.Outcome.{status_of, last_text, LastRule, IsReportedWhole, IsWrittenInPart, IsPressedUnanswered, Leaves, EndsAtSink, FinishRule, Begins}
 
 -- a list that is told with more behind it
 known_front : (written : Option (List ℕ)) (more whole : List ℕ) → append_known written more ≡ Some whole → (bytes : List ℕ) × (written ≡ Some bytes) × (bytes ++ more ≡ whole)

@@ -1,10 +1,9 @@
 -- What the answers on a disc make of what is held.
-use Rattle.std.specs.Prelude.{◌≡◌, ◌≢◌, ℕ, ◌+◌, ◌*◌, ◌<◌, ◌≤◌, ◌⊎◌, true, false, Option, Some, None, is_some, IfSome, List, [], length, take, replicate}
+use Rattle.std.specs.Prelude.{◌≡◌, ◌≢◌, ℕ, ◌<◌, ◌≤◌, ◌⊎◌, Option, Some, None, is_some, IfSome, List, length, replicate}
 use Rattle.std.proofs.Common.{arith, refl, sym, ap, ◌∙◌, inl, inr, subst}
-use Rattle.model_counts.specs.Counts.{Rose}
 use Rattle.model_bytes.specs.Told.{WhereTold}
-use Rattle.model_geometry.specs.Geometry.{Shape, IsLawful, total}
-use Rattle.model_image.specs.Cells.{image_len, cells_of}
+use Rattle.model_geometry.specs.Geometry.{Shape, total}
+use Rattle.model_image.specs.Cells.{image_len}
 use Rattle.model_image.specs.Image.{HasHeader, IsDiscImage, IsImageOf, IsPressed, blank_cells}
 use Rattle.model_image.proofs.Headers.{one_header}
 use Rattle.ram_outside.specs.declared.image.Image.{Ghosts}
@@ -20,13 +19,12 @@ use Rattle.ram_text.specs.declared.grammar.Line.{Line}
 use Rattle.ram_text.specs.declared.grammar.Line.TheVariants as lines
 use Rattle.ram_text.specs.declared.print.Answer.{Answer}
 use Rattle.ram_run.specs.declared.plain.PlainDisc.{PlainDisc}
-use Rattle.ram_run.specs.declared.held.Held.{Held}
 use Rattle.ram_run.specs.declared.held.Held.TheVariants as helds
 use Rattle.ram_run.specs.declared.held.Outcome.{Outcome}
 use Rattle.ram_run.specs.declared.held.Outcome.TheVariants as outcomes
 use Rattle.ram_run.specs.Plain.{Plain, Holds, IsLeftBy, faults_of}
-use Rattle.ram_run.specs.Machine.{State, Unpressed, Pressed, IsLeft, new_disc, after_write, disc_after, DiscStep, OnDisc, Step}
-use Rattle.ram_run.specs.Held.{Stands, LeavesImage, told_sector, IsReadAnswered, IsWriteAnswered, IsAnsweredOnDisc, IsAnswered, IsPressAnswered, IsPressedUnopened, outcome_of}
+use Rattle.ram_run.specs.Machine.{State, Unpressed, Pressed, new_disc, after_write, disc_after, DiscStep, Step}
+use Rattle.ram_run.specs.Held.{Stands, LeavesImage, told_sector, IsReadAnswered, IsWriteAnswered, IsAnsweredOnDisc, IsAnswered, IsPressAnswered, outcome_of}
 
 -- a step on the disc is a step of the state
 on_disc : (p : Plain) (line : Line) (answer : Answer) (reply : List ℕ) → DiscStep p line answer reply → Step (Pressed p) line answer reply (Pressed (disc_after p line answer))

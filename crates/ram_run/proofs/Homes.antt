@@ -1,9 +1,9 @@
 -- The homes of logical blocks are blocks of the disc.
-use Rattle.std.specs.Prelude.{◌≡◌, ℕ, ◌+◌, ◌-◌, ◌*◌, ◌<◌, ◌≤◌, ◌⊎◌, Option, Some, None, length, slice_get, slice_index, Contains}
-use Rattle.std.proofs.Common.{arith, refl, sym, ap, ◌∙◌, inl, inr}
+use Rattle.std.specs.Prelude.{◌≡◌, ℕ, ◌+◌, ◌*◌, ◌<◌, Option, Some, None, length, slice_get, slice_index}
+use Rattle.std.proofs.Common.{arith, sym, ap, ◌∙◌, inl, inr}
 use Rattle.std.proofs.lemmas.Bool.{cases_lt}
 use Rattle.std.proofs.lemmas.Option.{get_or_from_slice_get, slice_get-get_or}
-use Rattle.model_geometry.specs.Geometry.{Shape, IsLawful, formattable, data_blocks, lead_out, total}
+use Rattle.model_geometry.specs.Geometry.{Shape, formattable, data_blocks, lead_out, total}
 use Rattle.model_geometry.proofs.DataBlocks.{Contains-slice_get, no_data_block_outside}
 
 -- a logical block of the disc has a data block behind the primary spares

@@ -7,3 +7,4 @@ pub mod Finishes
 pub mod Opens
 pub mod Twos
 pub mod PlainWrites
+pub mod Completes

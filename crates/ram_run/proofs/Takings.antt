@@ -1,7 +1,7 @@
 -- What the next line of the script, or its absence, makes of the lines so far.
-use Rattle.std.specs.Prelude.{◌≡◌, ℕ, ◌+◌, ◌-◌, ◌<◌, ◌≤◌, ◌⊎◌, Option, None, Some, is_some, IfSome, List, [], ◌∷◌, ◌++◌, length, take}
-use Rattle.std.specs.Io.KnownBytes.{Consumes, IsAtEnd}
-use Rattle.std.proofs.Common.{arith, refl, sym, ap, ◌∙◌, inl, inr, subst, append_assoc, append-nil, length-append}
+use Rattle.std.specs.Prelude.{◌≡◌, ℕ, ◌+◌, ◌-◌, ◌<◌, ◌⊎◌, Option, None, Some, is_some, IfSome, List, [], ◌∷◌, ◌++◌, length, take}
+use Rattle.std.specs.Io.KnownBytes.{IsAtEnd}
+use Rattle.std.proofs.Common.{arith, refl, ap, ◌∙◌, inl, inr, subst, append_assoc, append-nil, length-append}
 use Rattle.ram_outside.specs.declared.image.Image.{Ghosts}
 use Rattle.ram_text.specs.Lines.{line_feed, HasNoFeed, EndsByFeed, EndsByScript, GivesLine, LineIsTooLong, ScriptIsTooLong}
 use Rattle.ram_text.specs.declared.lines.TheConstants.{LINE_LIMIT, SCRIPT_LIMIT}
@@ -9,7 +9,7 @@ use Rattle.ram_text.specs.declared.grammar.Line.{Line}
 use Rattle.ram_run.specs.declared.held.Held.{Held}
 use Rattle.ram_run.specs.declared.serve.Ending.TheVariants as endings
 use Rattle.ram_text.specs.Grammar.{Spells}
-use Rattle.ram_run.specs.Run.{report_text, IsNextLine, IsUnread, PassesLineLimit, PassesScriptLimit}
+use Rattle.ram_run.specs.Run.{report_text, IsNextLine}
 use Rattle.ram_run.specs.Turn.{Beginning, Between, Taken, Ends}
 
 -- what follows a line that was taken from what is left
@@ -27,12 +27,12 @@ follows (Some after) taken taken' rest raw f f' gives = cases gives.ends
   where
     cases : EndsByFeed (Some rest) (Some after) taken taken' raw ⊎ EndsByScript (Some rest) (Some after) taken taken' raw → Follows (Some after) taken taken' rest raw
     cases (inl feed) = record {
-      next = record { one = gives.one; short = gives.short; after = after; parts = inl (feed.went ∙ append_assoc raw (line_feed ∷ []) after) };
+      next = record { line = record { one = gives.one; short = gives.short }; after = after; parts = inl (feed.went ∙ append_assoc raw (line_feed ∷ []) after) };
       left_is = refl;
       taken_is = omega (arith, feed.grew, ap length feed.went, length-append (raw ++ line_feed ∷ []) after, length-append raw (line_feed ∷ []));
     }
     cases (inr last) = record {
-      next = record { one = gives.one; short = gives.short; after = after; parts = inr (last.went ∙ ap (λ l. raw ++ l) last.ended ∙ append-nil raw, last.some, last.ended) };
+      next = record { line = record { one = gives.one; short = gives.short }; after = after; parts = inr (last.went ∙ ap (λ l. raw ++ l) last.ended ∙ append-nil raw, last.some, last.ended) };
       left_is = refl;
       taken_is = omega (arith, last.grew, ap length last.went, length-append raw after);
     }

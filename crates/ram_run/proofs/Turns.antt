@@ -1,7 +1,7 @@
 -- How the lines so far go on by one line, and how they end.
-use Rattle.std.specs.Prelude.{◌≡◌, ℕ, suc, ◌+◌, ◌-◌, ◌<◌, ◌≤◌, ◌⊎◌, Option, None, Some, List, [], ◌∷◌, ◌++◌, length, take, drop}
+use Rattle.std.specs.Prelude.{◌≡◌, ℕ, ◌+◌, ◌<◌, ◌⊎◌, Option, Some, List, [], ◌∷◌, ◌++◌, length, take, drop}
 use Rattle.std.specs.Io.KnownBytes.{append_known}
-use Rattle.std.proofs.Common.{arith, refl, sym, ap, ◌∙◌, inl, inr, subst, append_assoc, length-append, take-append-drop}
+use Rattle.std.proofs.Common.{arith, sym, ap, ◌∙◌, inl, inr, append_assoc, length-append, take-append-drop}
 use Rattle.ram_outside.specs.declared.image.Image.{Ghosts}
 use Rattle.ram_text.specs.Lines.{line_feed}
 use Rattle.ram_text.specs.Writer.{IsPut, IsCutOff}
@@ -9,11 +9,10 @@ use Rattle.ram_text.specs.declared.print.Answer.{Answer}
 use Rattle.ram_text.specs.declared.grammar.Line.{Line}
 use Rattle.ram_run.specs.declared.held.Held.{Held}
 use Rattle.ram_run.specs.declared.serve.Ending.TheVariants as endings
-use Rattle.ram_text.specs.Grammar.{Spells}
 use Rattle.ram_run.specs.Machine.{State, Step}
 use Rattle.ram_run.specs.Held.{Stands, NeedsDisc, LacksMemory}
-use Rattle.ram_run.specs.Run.{Event, Run, Reaches, script_text, report_text, event_text, IsNextLine}
-use Rattle.ram_run.specs.Turn.{Beginning, SoFar, IsReported, Between, Taken, ComesNext, IsFrontOf, Ends}
+use Rattle.ram_run.specs.Run.{Event, script_text, report_text, event_text}
+use Rattle.ram_run.specs.Turn.{Beginning, SoFar, Between, Taken, ComesNext, Ends}
 
 -- the script after one line more
 reaches_more : (script text rest raw after : List ℕ) → (script ≡ text ++ rest) ⊎ ((rest ≡ []) × (script ++ line_feed ∷ [] ≡ text)) → (rest ≡ raw ++ (line_feed ∷ after)) ⊎ ((rest ≡ raw) × (0 < length raw) × (after ≡ []))
@@ -40,7 +39,7 @@ module _ {I : Type 0} {d : Ghosts I} (first : Beginning) (held : Held I d) (left
     events = event answer reply ∷ t.far.events;
     now = now;
     rest = t.next.after;
-    run = (t.far.now, t.far.run, t.reads, step);
+    run = (t.far.now, t.far.run, t.next.line, t.reads, step);
     lines = reaches_more first.script (script_text t.far.events) t.far.rest t.raw t.next.after t.far.lines t.next.parts;
   }
 

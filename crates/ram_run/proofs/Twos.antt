@@ -1,5 +1,5 @@
 -- A list of two.
-use Rattle.std.specs.Prelude.{◌≡◌, ℕ, List, [], ◌∷◌, length, map, get_or}
+use Rattle.std.specs.Prelude.{◌≡◌, List, [], ◌∷◌, length, map, get_or}
 use Rattle.std.proofs.Common.{arith, refl}
 
 pub map_of_two : {X Y : Type 0} (f : X → Y) (xs : List X) (d : X) → length xs ≡ 2 → map f xs ≡ f (get_or xs 0 d) ∷ f (get_or xs 1 d) ∷ []

@@ -4,3 +4,4 @@ pub mod Held
 pub mod Run
 pub mod Turn
 pub mod Outcome
+pub mod Completes

@@ -1,4 +1,4 @@
-use Rattle.std.specs.Prelude.{◌≡◌, ℕ, ◌+◌, ◌*◌, ◌%◌, ◌≤◌, Bool, false, IsTrue, List, [], ◌++◌, take, drop, replicate}
+use Rattle.std.specs.Prelude.{◌≡◌, ℕ, ◌*◌, ◌%◌, false, IsTrue, List, [], take, drop, replicate}
 use Rattle.model_geometry.specs.Geometry.{Shape, IsLawful, shape_of}
 use Rattle.model_medium.specs.Cells.{Good, IsGood}
 use Rattle.model_image.specs.Image.{IsImageOf, blank_cells}

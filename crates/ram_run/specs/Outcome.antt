@@ -14,7 +14,7 @@ use Rattle.ram_run.specs.declared.serve.Ending.{Ending}
 use Rattle.ram_run.specs.declared.serve.Ending.TheVariants as endings
 use Rattle.ram_run.specs.declared.status.Status.{Status}
 use Rattle.ram_run.specs.declared.status.Status.TheVariants as statuses
-use Rattle.ram_run.specs.Machine.{State, Unpressed}
+use Rattle.ram_run.specs.Machine.{Unpressed}
 use Rattle.ram_run.specs.Held.{LeavesImage, NeedsDisc}
 use Rattle.ram_run.specs.Run.{report_text, IsMisspelled}
 use Rattle.ram_run.specs.Turn.{Beginning, SoFar, IsReported, ComesNext, Counts, NoneFell}

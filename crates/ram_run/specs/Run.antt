@@ -1,6 +1,6 @@
-use Rattle.std.specs.Prelude.{◌≡◌, ℕ, ◌+◌, ◌-◌, ◌<◌, ◌≤◌, ◌⊎◌, Option, Some, List, [], ◌∷◌, ◌++◌, length, take}
+use Rattle.std.specs.Prelude.{◌≡◌, ℕ, ◌+◌, ◌-◌, ◌<◌, ◌≤◌, ◌⊎◌, List, [], ◌∷◌, ◌++◌, length, take}
 use Rattle.ram_text.specs.Lines.{line_feed, HasNoFeed}
-use Rattle.ram_text.specs.Report.{answer_text, sector_text, end_text}
+use Rattle.ram_text.specs.Report.{answer_text, sector_text}
 use Rattle.ram_text.specs.declared.lines.TheConstants.{LINE_LIMIT, SCRIPT_LIMIT}
 use Rattle.ram_text.specs.declared.print.Answer.{Answer}
 use Rattle.ram_text.specs.declared.print.Answer.TheVariants as answers
@@ -17,11 +17,16 @@ pub record Event : Type 0 where
   pub answer : Answer
   pub reply : List ℕ
 
--- The events, the newest first, lead from the first state to the last: each line reads as it says, and is a step.
--- (This project's own.)
+-- the bytes are one line: none is a line feed, and they are within the limit (this project's own)
+pub record IsLine (raw : List ℕ) : Type 0 where
+  pub one : HasNoFeed raw
+  pub short : length raw ≤ LINE_LIMIT
+
+-- The events, the newest first, lead from the first state to the last: each is one line, reads as it says, and is a
+-- step. (This project's own.)
 abbrev pub Run : State → List Event → State → Type 0
 Run first [] last = last ≡ first
-Run first (event ∷ events) last = (before : State) × Run first events before × Spells event.line event.raw × Step before event.line event.answer event.reply last
+Run first (event ∷ events) last = (before : State) × Run first events before × IsLine event.raw × Spells event.line event.raw × Step before event.line event.answer event.reply last
 
 -- the bytes of the script that the events took, each line with its line feed
 abbrev pub script_text : List Event → List ℕ
@@ -48,8 +53,7 @@ Reaches script events rest = (script ≡ script_text events ++ rest) ⊎ ((rest 
 
 -- the next line of what is left: it ends with a line feed, or with the script and is not empty then
 pub record IsNextLine (rest raw : List ℕ) : Type 0 where
-  pub one : HasNoFeed raw
-  pub short : length raw ≤ LINE_LIMIT
+  pub line : IsLine raw
   pub after : List ℕ
   pub parts : (rest ≡ raw ++ (line_feed ∷ after)) ⊎ ((rest ≡ raw) × (0 < length raw) × (after ≡ []))
 

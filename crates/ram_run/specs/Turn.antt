@@ -1,22 +1,18 @@
-use Rattle.std.specs.Prelude.{◌≡◌, ℕ, ◌+◌, ◌<◌, ◌≤◌, Option, None, Some, List, [], ◌++◌, length}
-use Rattle.std.specs.Io.KnownBytes.{prepend_known, append_known}
+use Rattle.std.specs.Prelude.{◌≡◌, ℕ, ◌+◌, ◌<◌, ◌≤◌, Option, Some, List, [], ◌++◌, length}
 use Rattle.model_counts.specs.Counts.{Rose}
-use Rattle.model_image.specs.Image.{IsImageOf, blank_cells}
-use Rattle.model_geometry.specs.Geometry.{shape_of}
 use Rattle.ram_outside.specs.declared.image.Image.{Ghosts}
 use Rattle.ram_text.specs.declared.lines.TheConstants.{SCRIPT_LIMIT}
 use Rattle.ram_text.specs.declared.gathered.Print.{Print}
 use Rattle.ram_text.specs.declared.gathered.Print.TheVariants as prints
 use Rattle.ram_text.specs.declared.grammar.Line.{Line}
-use Rattle.ram_text.specs.declared.grammar.Line.TheVariants as lines
 use Rattle.ram_run.specs.declared.held.Held.{Held}
 use Rattle.ram_run.specs.declared.serve.Ending.{Ending}
 use Rattle.ram_run.specs.declared.serve.Ending.TheVariants as endings
 use Rattle.ram_run.specs.declared.serve.Turn.{Turn}
 use Rattle.ram_run.specs.declared.serve.Turn.TheVariants as turns
 use Rattle.ram_text.specs.Grammar.{Spells}
-use Rattle.ram_run.specs.Machine.{State, Unpressed, Pressed}
-use Rattle.ram_run.specs.Held.{Stands, LacksMemory, NeedsDisc, held_faults}
+use Rattle.ram_run.specs.Machine.{State}
+use Rattle.ram_run.specs.Held.{Stands, LacksMemory, NeedsDisc}
 use Rattle.ram_run.specs.Run.{Event, Run, Reaches, report_text, IsMisspelled, IsNextLine}
 
 -- What came first: the script, what was written before, and the state. (This project's own.)
@@ -111,6 +107,7 @@ HasRisen before after endings.SinkFault = Rose before.sink after.sink
 HasRisen before after endings.ImageFault = Rose before.image after.image
 HasRisen before after _ = Unit {0}
 
+-- no count falls in a turn, and the one that an ending tells of rose
 abbrev pub TurnCounts : Counts → Counts → Turn → Type 0
 TurnCounts before after turns.Goes = NoneFell before after
 TurnCounts before after (turns.Ends ending) = NoneFell before after × HasRisen before after ending

@@ -1,6 +1,7 @@
 ghost use Rattle.std.specs.Prelude.{◌≡◌, ◌⊎◌, [], ◌∷◌, map, codes, MatchOption};
 ghost use Rattle.model_counts.specs.Counts.{Rose};
 ghost use Rattle.ram_run.specs.Turn.{Beginning, counts_of};
+ghost use Rattle.ram_run.specs.Completes.{IsInLanguage, BeginsWithPress, NoneRose, IsComplete};
 ghost use Rattle.ram_run.specs.Outcome.{IsRunImage, IsTold, IsUntouched, IsUnopened, IsNoUsage, UsageRule, UntouchedByUsage, Leaves, StatusCounts, bytes_returned};
 
 use crate::serve::{Desk, serve};
@@ -23,6 +24,10 @@ pub fn run<S: Source, K: Sink, O: Opener>(
     ensures run { (first : Beginning) → IsTold O.Image.bytes first (S.left script.old) (K.written report.old) (O.next opener.old) O.tells
         → Leaves first (K.written report.new) (bytes_returned O.Image.bytes (O.returned opener.new)) (Rose (O.faults opener.old) (O.faults opener.new)) result
         ⊎ (IsUnopened result × IsUntouched (S.left script.old) (S.left script.new) (K.written report.old) (K.written report.new) (O.returned opener.old) (O.returned opener.new)) }
+    ensures completes { (first : Beginning) → IsTold O.Image.bytes first (S.left script.old) (K.written report.old) (O.next opener.old) O.tells
+        → IsRunImage (map (λ word. word.now) words.now) → IsInLanguage first.script → BeginsWithPress first.script
+        → NoneRose (counts_of (S.faults script.old) (K.faults report.old) (O.faults opener.old)) (counts_of (S.faults script.new) (K.faults report.new) (O.faults opener.new))
+        → IsComplete result }
 {
     match image_named(words) {
         Some(name) => run_image(alloc, name, script, report, opener),

@@ -1,4 +1,4 @@
-/// How a run ended. Its number is the exit status of the program.
+/// How a run ended. Its number is the exit status of the program. (This project's own.)
 #[derive(Clone, Copy, Debug, PartialEq, Eq)]
 pub enum Status {
     /// The script was read to its end, and every line was answered.
@@ -15,6 +15,6 @@ pub enum Status {
     SinkFault = 6,
     /// There was no memory.
     NoMemory = 7,
-    /// A line needs a disc, and the image is none.
+    /// A line needs a disc, and no lawful press came before it in this script.
     NotADisc = 8,
 }

@@ -6,3 +6,9 @@ pub mod Puts
 pub mod Prints
 pub mod Readings
 pub mod Digits
+pub mod WordSteps
+pub mod HexSteps
+pub mod ScriptReadings
+pub mod Forms
+pub mod Turns
+pub mod ToldApart

@@ -5,3 +5,7 @@ pub mod Writer
 pub mod Report
 pub mod Grammar
 pub mod Words
+pub mod ScriptWords
+pub mod Script
+pub mod ScriptReading
+pub mod ReportLines

@@ -1,4 +1,3 @@
-use Rattle.std.proofs.Common.{refl}
 use Rattle.ram_run.proofs.HeldSteps.{answered_on_disc}
 use Rattle.ram_run.proofs.held.answer_line.Goals as goal
 

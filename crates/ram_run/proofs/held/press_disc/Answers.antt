@@ -1,4 +1,4 @@
-use Rattle.std.proofs.Common.{◌≡◌, ◌∙◌, refl, arith, subst, sym}
+use Rattle.std.proofs.Common.{refl, arith, subst}
 use Rattle.model_bytes.specs.Told.{WhereTold}
 use Rattle.model_geometry.specs.Geometry.{Shape, IsLawful, shape_of}
 use Rattle.model_image.specs.Image.{IsPressed}

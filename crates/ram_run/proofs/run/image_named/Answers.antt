@@ -1,4 +1,4 @@
-use Rattle.std.proofs.Common.{◌≡◌, ◌∙◌, ap, refl, arith, sym, List, ℕ, ◌∷◌, [], get_or}
+use Rattle.std.proofs.Common.{◌∙◌, ap, arith, sym, List, ℕ, ◌∷◌, [], get_or}
 use Rattle.std.specs.Borrow.{Bor}
 use Rattle.std.proofs.lemmas.Slice.Eq.{bytes_eq-Decides}
 use Rattle.ram_run.proofs.Twos.{map_of_two}

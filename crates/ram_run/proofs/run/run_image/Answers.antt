@@ -1,4 +1,4 @@
-use Rattle.std.proofs.Common.{◌≡◌, inl, inr, subst, refl, sym, arith}
+use Rattle.std.proofs.Common.{inl}
 use Rattle.model_counts.specs.Counts.{Rose}
 use Rattle.ram_run.specs.Outcome.{bytes_returned}
 use Rattle.ram_run.proofs.Opens.{leaves_weaker, begins_told, handed_back, counted_back}

@@ -1,9 +1,5 @@
-use Rattle.std.proofs.Common.{◌≡◌, ◌∙◌, refl, sym, arith, subst}
-use Rattle.std.specs.Io.KnownBytes.{prepend_known}
 use Rattle.model_counts.specs.Counts.{Rose}
 use Rattle.ram_text.specs.Writer.{due}
-use Rattle.ram_run.specs.Held.{held_faults}
-use Rattle.ram_run.specs.Turn.{HasRisen, counts_of}
 use Rattle.ram_run.proofs.Finishes.{begins, left_by}
 use Rattle.ram_run.proofs.serve.serve.Goals as goal
 

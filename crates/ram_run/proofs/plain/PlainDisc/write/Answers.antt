@@ -1,4 +1,4 @@
-use Rattle.std.proofs.Common.{◌≡◌, ◌<◌, ◌/◌, ◌∙◌, ap, sym, refl, arith, rules, set, length, subst, IsTrue, List}
+use Rattle.std.proofs.Common.{◌≡◌, ◌<◌, ◌/◌, ◌∙◌, ap, sym, arith, set, length, subst, IsTrue, List}
 use Rattle.std.proofs.lemmas.List.{length-set}
 use Rattle.model_medium.specs.Cells.{Cell, Good, Dead, cell_at}
 use Rattle.model_geometry.specs.Geometry.{Shape, total, formattable}

@@ -1,0 +1,134 @@
+//! Command blocks: which the drive knows, and how many bytes of data go with each.
+#![tactic(auto)]
+
+ghost use Rattle.std.specs.Prelude.{◌≡◌, ◌↔◌, ◌*◌, ◌≤◌, length, IsTrue, IsSome, nat_le, if◌then◌else◌};
+ghost use Rattle.model_commands.specs.Commands.{command, operation_with, operation_of, out_length_of, transfer_limit, data_length};
+
+use model_commands::Operation;
+use ram_bytes::{Cdb, SECTOR_BYTES, get_u16, get_u32};
+
+/// How many sectors a command reads or writes at most.
+pub const TRANSFER_LIMIT: u32 = 1_024;
+
+/// How many bytes the parameter list of FORMAT UNIT has.
+pub const FORMAT_LIST_BYTES: usize = 12;
+
+/// Whether the drive knows the command, by its operation code alone.
+pub fn known(cdb: &Cdb) -> bool
+    ensures { IsTrue result ↔ IsSome (operation_of cdb.now) }
+{
+    operation(cdb.operation_code()).is_some()
+}
+
+/// How many bytes of data the command takes, at most 2,097,152. None where the operation code is unknown, the
+/// command block is too short, or more than [`TRANSFER_LIMIT`] sectors would be written.
+pub fn out_length(cdb: &Cdb) -> usize
+    ensures exact { result ≡ out_length_of cdb.now }
+    ensures bound { result ≤ 2097152 }
+{
+    let Some(operation) = operation(cdb.operation_code()) else {
+        return 0;
+    };
+    if cdb.len() < command_bytes(operation) {
+        return 0;
+    }
+    data_bytes(operation, cdb.bytes())
+}
+
+/// The command with this operation code.
+pub fn operation(code: u8) -> Option<Operation>
+    ensures { result ≡ operation_with code }
+{
+    match code {
+        0x00 => Some(Operation::TestUnitReady),
+        0x03 => Some(Operation::RequestSense),
+        0x04 => Some(Operation::FormatUnit),
+        0x12 => Some(Operation::Inquiry),
+        0x1b => Some(Operation::StartStopUnit),
+        0x1e => Some(Operation::PreventAllowMediumRemoval),
+        0x23 => Some(Operation::ReadFormatCapacities),
+        0x25 => Some(Operation::ReadCapacity10),
+        0x28 => Some(Operation::Read10),
+        0x2a => Some(Operation::Write10),
+        0x2e => Some(Operation::WriteAndVerify10),
+        0x2f => Some(Operation::Verify10),
+        0x35 => Some(Operation::SynchronizeCache),
+        0x46 => Some(Operation::GetConfiguration),
+        0x55 => Some(Operation::ModeSelect10),
+        0x5a => Some(Operation::ModeSense10),
+        0xa8 => Some(Operation::Read12),
+        0xaa => Some(Operation::Write12),
+        0xad => Some(Operation::ReadDvdStructure),
+        _ => None,
+    }
+}
+
+/// How many bytes a command block of this command has at least.
+pub fn command_bytes(operation: Operation) -> usize
+    ensures { result ≡ (command operation).bytes }
+{
+    match operation {
+        Operation::TestUnitReady
+        | Operation::RequestSense
+        | Operation::FormatUnit
+        | Operation::Inquiry
+        | Operation::StartStopUnit
+        | Operation::PreventAllowMediumRemoval => 6,
+        Operation::ReadFormatCapacities
+        | Operation::ReadCapacity10
+        | Operation::Read10
+        | Operation::Write10
+        | Operation::WriteAndVerify10
+        | Operation::Verify10
+        | Operation::SynchronizeCache
+        | Operation::GetConfiguration
+        | Operation::ModeSelect10
+        | Operation::ModeSense10 => 10,
+        Operation::Read12 | Operation::Write12 | Operation::ReadDvdStructure => 12,
+    }
+}
+
+// How many bytes of data the command takes, by a command block that is long enough.
+fn data_bytes(operation: Operation, cdb: &[u8]) -> usize
+    requires { (command operation).bytes ≤ length cdb.now }
+    ensures exact { result ≡ data_length (command operation).taken cdb.now }
+    ensures bound { result ≤ 2097152 }
+{
+    match operation {
+        Operation::FormatUnit => FORMAT_LIST_BYTES,
+        Operation::Write10 | Operation::WriteAndVerify10 => {
+            sectors_bytes(u32::from(get_u16(cdb, 7)))
+        }
+        Operation::Write12 => sectors_bytes(get_u32(cdb, 6)),
+        Operation::ModeSelect10 => get_u16(cdb, 7) as usize,
+        Operation::TestUnitReady
+        | Operation::RequestSense
+        | Operation::Inquiry
+        | Operation::StartStopUnit
+        | Operation::PreventAllowMediumRemoval
+        | Operation::ReadFormatCapacities
+        | Operation::ReadCapacity10
+        | Operation::Read10
+        | Operation::Verify10
+        | Operation::SynchronizeCache
+        | Operation::GetConfiguration
+        | Operation::ModeSense10
+        | Operation::Read12
+        | Operation::ReadDvdStructure => 0,
+    }
+}
+
+// How many bytes so many sectors have; none where they are more than a command writes.
+fn sectors_bytes(count: u32) -> usize
+    ensures exact { result ≡ (if nat_le count transfer_limit then count * 2048 else 0) }
+    ensures bound { result ≤ 2097152 }
+{
+    if count <= TRANSFER_LIMIT {
+        count as usize * SECTOR_BYTES
+    } else {
+        0
+    }
+}
+
+#[cfg(test)]
+mod tests;

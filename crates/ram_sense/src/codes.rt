@@ -1,0 +1,132 @@
+//! The sense that the drive gives, under the names that INCITS MMC has for it.
+ghost use Rattle.std.specs.Prelude.{◌≡◌};
+
+use crate::Sense;
+
+/// 0/00/00: there is nothing to tell.
+pub const NO_SENSE: Sense = Sense {
+    key: 0x0,
+    asc: 0x00,
+    ascq: 0x00,
+    info: None,
+};
+
+/// 2/3A/00: the disc is out.
+pub const MEDIUM_NOT_PRESENT: Sense = Sense {
+    key: 0x2,
+    asc: 0x3a,
+    ascq: 0x00,
+    info: None,
+};
+
+/// 3/31/00: the disc is not formatted.
+pub const MEDIUM_FORMAT_CORRUPTED: Sense = Sense {
+    key: 0x3,
+    asc: 0x31,
+    ascq: 0x00,
+    info: None,
+};
+
+/// 3/31/01: a format found too many defects, or no copy of a list could be written.
+pub const FORMAT_COMMAND_FAILED: Sense = Sense {
+    key: 0x3,
+    asc: 0x31,
+    ascq: 0x01,
+    info: None,
+};
+
+/// 3/32/01: no copy of the list of replaced blocks could be written.
+pub const DEFECT_LIST_UPDATE_FAILURE: Sense = Sense {
+    key: 0x3,
+    asc: 0x32,
+    ascq: 0x01,
+    info: None,
+};
+
+/// 5/1A/00: the data have another length than the command takes.
+pub const PARAMETER_LIST_LENGTH_ERROR: Sense = Sense {
+    key: 0x5,
+    asc: 0x1a,
+    ascq: 0x00,
+    info: None,
+};
+
+/// 5/20/00: the operation code is none of the drive's.
+pub const INVALID_OPERATION_CODE: Sense = Sense {
+    key: 0x5,
+    asc: 0x20,
+    ascq: 0x00,
+    info: None,
+};
+
+/// 5/21/00: the sectors lie past the end of the disc.
+pub const ADDRESS_OUT_OF_RANGE: Sense = Sense {
+    key: 0x5,
+    asc: 0x21,
+    ascq: 0x00,
+    info: None,
+};
+
+/// 5/24/00: the command block is too short, or one of its fields has a value that the drive does not take.
+pub const INVALID_FIELD_IN_COMMAND: Sense = Sense {
+    key: 0x5,
+    asc: 0x24,
+    ascq: 0x00,
+    info: None,
+};
+
+/// 5/26/00: a parameter list has a value that the drive does not take.
+pub const INVALID_FIELD_IN_PARAMETERS: Sense = Sense {
+    key: 0x5,
+    asc: 0x26,
+    ascq: 0x00,
+    info: None,
+};
+
+/// 5/39/00: saved mode pages are asked for, and there are none.
+pub const SAVING_NOT_SUPPORTED: Sense = Sense {
+    key: 0x5,
+    asc: 0x39,
+    ascq: 0x00,
+    info: None,
+};
+
+/// 5/53/02: ejection is asked for while removal is prevented.
+pub const REMOVAL_PREVENTED: Sense = Sense {
+    key: 0x5,
+    asc: 0x53,
+    ascq: 0x02,
+    info: None,
+};
+
+/// 6/29/00: the power came on since the last command.
+pub const POWER_ON_OCCURRED: Sense = Sense {
+    key: 0x6,
+    asc: 0x29,
+    ascq: 0x00,
+    info: None,
+};
+
+/// 3/11/00: sector `lba` is the first that cannot be read.
+pub fn unrecovered_read_error(lba: u32) -> Sense
+    ensures { result ≡ record { key = 0x3; asc = 0x11; ascq = 0; info = Some lba } }
+{
+    Sense {
+        key: 0x3,
+        asc: 0x11,
+        ascq: 0x00,
+        info: Some(lba),
+    }
+}
+
+/// 3/32/00: the block of sector `lba` cannot be written, and no spare is left for it.
+pub fn no_spare_location(lba: u32) -> Sense
+    ensures { result ≡ record { key = 0x3; asc = 0x32; ascq = 0; info = Some lba } }
+{
+    Sense {
+        key: 0x3,
+        asc: 0x32,
+        ascq: 0x00,
+        info: Some(lba),
+    }
+}

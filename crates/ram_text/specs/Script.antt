@@ -1,0 +1,82 @@
+use Rattle.std.specs.Prelude.{◌≡◌, ℕ, ◌+◌, ◌/◌, ◌%◌, ◌<◌, ◌≤◌, ◌⊎◌, List, [], ◌∷◌, length, slice_index, map, replicate, codes}
+use Rattle.std.specs.List.{range_with_len}
+use Rattle.model_commands.specs.Commands.{out_length_of}
+use Rattle.model_medium.specs.declared.Fate.{Fate}
+use Rattle.model_medium.specs.declared.Fate.TheVariants.{Old, New, Torn}
+use Rattle.ram_text.specs.ScriptWords.{words_of, without_return, number_sign, IsNumber, IsHex}
+use Rattle.ram_text.specs.declared.script.Line.{Line}
+use Rattle.ram_text.specs.declared.script.Line.TheVariants.{Empty, Press, Power, Fail, Wear, Cut, Command}
+
+-- the word for what a cut leaves of the block in progress (this project's own)
+abbrev pub fate_word : Fate → List ℕ
+fate_word Old = codes "old"
+fate_word New = codes "new"
+fate_word Torn = codes "torn"
+
+-- so many bytes, each this one (this project's own)
+abbrev pub filled : ℕ → ℕ → List ℕ
+filled byte n = replicate n byte
+
+-- so many bytes that count up by sectors of 2,048 bytes, from this one on, and after FFh from 00h on (this project's
+-- own)
+abbrev pub counted_up : ℕ → ℕ → List ℕ
+counted_up byte n = map (λ place. (byte + place / 2048) % 256) (range_with_len 0 n)
+
+-- `fill XX`: the data that the command takes are this byte
+pub record IsFilled (cdb word digits payload : List ℕ) : Type 0 where
+  pub named : word ≡ codes "fill"
+  pub byte : ℕ
+  pub digits_are : IsHex digits (byte ∷ [])
+  pub payload_is : payload ≡ filled byte (out_length_of cdb)
+
+-- `count XX`: the data that the command takes count up by sectors from this byte
+pub record IsCountedUp (cdb word digits payload : List ℕ) : Type 0 where
+  pub named : word ≡ codes "count"
+  pub byte : ℕ
+  pub digits_are : IsHex digits (byte ∷ [])
+  pub payload_is : payload ≡ counted_up byte (out_length_of cdb)
+
+-- `hex HEX`: exactly these data
+pub record IsSpelled (word digits payload : List ℕ) : Type 0 where
+  pub named : word ≡ codes "hex"
+  pub digits_are : IsHex digits payload
+
+-- a command block of 1 to 16 bytes
+pub record IsCommandBlock (digits cdb : List ℕ) : Type 0 where
+  pub digits_are : IsHex digits cdb
+  pub some : 0 < length cdb
+  pub short : length cdb ≤ 16
+
+-- The forms of a line, by its words: what it means, and the data that go with it. A word is never empty, so a word
+-- of hexadecimal digits has at least two. (This project's own.)
+abbrev pub IsForm : List (List ℕ) → Line → List ℕ → Type 0
+IsForm [] Empty payload = payload ≡ []
+IsForm (word ∷ a ∷ b ∷ c ∷ []) (Press zones scale psa) payload =
+    (word ≡ codes "press") × IsNumber a zones × IsNumber b scale × IsNumber c psa × (payload ≡ [])
+IsForm (word ∷ []) Power payload = (word ≡ codes "power") × (payload ≡ [])
+IsForm (word ∷ a ∷ []) (Fail block) payload = (word ≡ codes "fail") × IsNumber a block × (payload ≡ [])
+IsForm (word ∷ a ∷ b ∷ []) (Wear block n) payload =
+    (word ≡ codes "wear") × IsNumber a block × IsNumber b n × (0 < n) × (payload ≡ [])
+IsForm (word ∷ a ∷ b ∷ []) (Cut n fate) payload =
+    (word ≡ codes "cut") × IsNumber a n × (0 < n) × (b ≡ fate_word fate) × (payload ≡ [])
+IsForm (word ∷ a ∷ []) (Command cdb) payload = (word ≡ codes "cdb") × IsCommandBlock a cdb × (payload ≡ [])
+IsForm (word ∷ a ∷ b ∷ c ∷ []) (Command cdb) payload =
+    (word ≡ codes "cdb") × IsCommandBlock a cdb
+    × (IsFilled cdb b c payload ⊎ IsCountedUp cdb b c payload ⊎ IsSpelled b c payload)
+IsForm _ _ payload = ⊥
+
+-- a line that begins with a number sign says nothing
+pub record IsComment (line : List ℕ) (read : Line) (payload : List ℕ) : Type 0 where
+  pub sign : slice_index line 0 ≡ number_sign
+  pub nothing : read ≡ Empty
+  pub no_payload : payload ≡ []
+
+-- every other line is one of the forms
+pub record IsOther (line : List ℕ) (read : Line) (payload : List ℕ) : Type 0 where
+  pub no_sign : ¬ (slice_index line 0 ≡ number_sign)
+  pub form : IsForm (words_of line) read payload
+
+-- What a line means, without its line feed, and the data that go with it; a carriage return at its end is dropped.
+-- (This project's own.)
+abbrev pub Reads : List ℕ → Line → List ℕ → Type 0
+Reads line read payload = IsComment (without_return line) read payload ⊎ IsOther (without_return line) read payload

@@ -1,0 +1,26 @@
+//! Laws of the script language and of the report, for whoever relies on their definitions.
+ghost use Rattle.std.specs.Prelude.{◌≡◌, ◌≢◌, ◌<◌, ℕ, List, [], ◌∷◌, ◌++◌, length, All};
+ghost use Rattle.ram_text.specs.ScriptWords.{words_of, space};
+ghost use Rattle.ram_text.specs.Script.{Reads};
+ghost use Rattle.ram_text.specs.ReportLines.{answer_words, IsTold};
+ghost use Rattle.ram_text.specs.declared.script.Line.{Line as Read};
+ghost use Rattle.ram_mmc.specs.declared.Answer.{Answer as Told};
+
+/// A line has at most one meaning, and the data that go with it are determined too.
+pub fn a_line_has_one_reading()
+    ensures { (line : List ℕ) (a b : Read) (p q : List ℕ) → Reads line a p → Reads line b q → (a ≡ b) × (p ≡ q) }
+{}
+
+/// The words of a line are what stands between its spaces, however many these are, before, between and after them.
+pub fn words_stand_between_spaces()
+    ensures none { words_of [] ≡ [] }
+    ensures skipped { (rest : List ℕ) → words_of (space ∷ rest) ≡ words_of rest }
+    ensures first { (word rest : List ℕ) → 0 < length word → All (λ byte. byte ≢ space) word
+        → words_of (word ++ space ∷ rest) ≡ word ∷ words_of rest }
+    ensures last { (word : List ℕ) → 0 < length word → All (λ byte. byte ≢ space) word → words_of word ≡ word ∷ [] }
+{}
+
+/// Two answers to commands that read the same are the same, with all parts of their sense.
+pub fn answers_are_told_apart()
+    ensures { (a b : Told) → IsTold a → IsTold b → answer_words a ≡ answer_words b → a ≡ b }
+{}

@@ -1,0 +1,242 @@
+//! The lines of the script language.
+ghost use Rattle.std.specs.Prelude.{◌≡◌, ◌≤◌, [], ℕ, List, MatchResult, length, vec_capacity};
+ghost use Rattle.ram_text.specs.ScriptWords.{words_of};
+ghost use Rattle.ram_text.specs.Script.{Reads};
+ghost use Rattle.ram_text.specs.ScriptReading.{press_of, power_of, fail_of, wear_of, cut_of, command_of, fate_of, form_of, line_by, line_of, reading_of, Puts};
+ghost use Rattle.ram_text.specs.declared.lines.TheConstants.{LINE_LIMIT};
+ghost use Rattle.ram_text.specs.declared.payload.TheConstants.{PAYLOAD_ROOM};
+ghost use Rattle.ram_text.specs.declared.script.Line.{Line as Read};
+
+use crate::payload::{command_block, put_payload};
+use crate::words::{last_number, last_word, next_number, next_word, without_return_of};
+use ram_bytes::Cdb;
+use ram_medium::Fate;
+
+/// A line of the script.
+#[derive(Debug, PartialEq, Eq, Drop)]
+pub enum Line {
+    /// It has no words, or is a comment. It has no answer.
+    Empty,
+    /// Make the image anew, for a disc of so many zones, this scale and so many primary spares.
+    Press {
+        /// How many zones the disc has.
+        zones: u32,
+        /// How large the zones are.
+        scale: u32,
+        /// How many primary spare blocks the disc has.
+        psa: u32,
+    },
+    /// Turn the power off and on again.
+    Power,
+    /// A block becomes dead.
+    Fail {
+        /// The block.
+        block: u32,
+    },
+    /// A block becomes dead at its `n`-th use from now.
+    Wear {
+        /// The block.
+        block: u32,
+        /// How many uses, at least one.
+        n: u32,
+    },
+    /// The power is cut at the `n`-th use of the medium from now.
+    Cut {
+        /// How many uses, at least one.
+        n: u32,
+        /// What the cut leaves of a block that is being written.
+        fate: Fate,
+    },
+    /// A command for the drive. Its data are put beside the line.
+    Command {
+        /// The command block.
+        cdb: Cdb,
+    },
+}
+
+/// The line is none of the script language.
+#[derive(Clone, Copy, Debug, PartialEq, Eq)]
+pub struct Unread;
+
+/// The forms of a line, by its first word.
+#[derive(Clone, Copy, Debug, PartialEq, Eq)]
+enum Form {
+    Press,
+    Power,
+    Fail,
+    Wear,
+    Cut,
+    Command,
+}
+
+/// Reads a line of the script, which comes without its line feed, in one pass, and puts the data that go with it into
+/// `payload`. It takes no memory.
+///
+/// It answers [`Unread`] exactly where the line is none of the language; `payload` is empty then.
+pub fn parse_line(line: &[u8], payload: &mut Vec<u8>) -> Result<Line, Unread>
+    requires short { length line.now ≤ LINE_LIMIT }
+    requires empty { payload.old.items ≡ [] }
+    requires room { PAYLOAD_ROOM ≤ vec_capacity payload.old }
+    ensures read { MatchResult result
+        (λ read. Reads line.now read payload.new.items)
+        (λ _. ((read : Read) («data» : List ℕ) → ¬ Reads line.now read «data») × (payload.new.items ≡ [])) }
+    ensures room { vec_capacity payload.old ≤ vec_capacity payload.new }
+{
+    read_line(without_return_of(line), payload).ok_or(Unread)
+}
+
+fn read_line(line: &[u8], payload: &mut Vec<u8>) -> Option<Line>
+    requires short { length line.now ≤ LINE_LIMIT }
+    requires empty { payload.old.items ≡ [] }
+    requires room { PAYLOAD_ROOM ≤ vec_capacity payload.old }
+    ensures read { Puts (reading_of line.now) result payload.new.items }
+    ensures room { vec_capacity payload.old ≤ vec_capacity payload.new }
+{
+    if let [b'#', ..] = line {
+        return Some(Line::Empty);
+    }
+    read_words(line, payload)
+}
+
+#[tactic(auto, unfolding(crate::specs::ScriptReading::line_of))]
+fn read_words(line: &[u8], payload: &mut Vec<u8>) -> Option<Line>
+    requires short { length line.now ≤ LINE_LIMIT }
+    requires empty { payload.old.items ≡ [] }
+    requires room { PAYLOAD_ROOM ≤ vec_capacity payload.old }
+    ensures read { Puts (line_of (words_of line.now)) result payload.new.items }
+    ensures room { vec_capacity payload.old ≤ vec_capacity payload.new }
+{
+    let Some((word, rest)) = next_word(line) else {
+        return Some(Line::Empty);
+    };
+    let form = form_named(word)?;
+    read_form(form, rest, payload)
+}
+
+fn read_form(form: Form, rest: &[u8], payload: &mut Vec<u8>) -> Option<Line>
+    requires short { length rest.now ≤ LINE_LIMIT }
+    requires empty { payload.old.items ≡ [] }
+    requires room { PAYLOAD_ROOM ≤ vec_capacity payload.old }
+    ensures read { Puts (line_by (words_of rest.now) form) result payload.new.items }
+    ensures room { vec_capacity payload.old ≤ vec_capacity payload.new }
+{
+    match form {
+        Form::Press => press(rest),
+        Form::Power => power(rest),
+        Form::Fail => fail(rest),
+        Form::Wear => wear(rest),
+        Form::Cut => cut(rest),
+        Form::Command => command(rest, payload),
+    }
+}
+
+fn form_named(word: &[u8]) -> Option<Form>
+    ensures { result ≡ form_of word.now }
+{
+    if word == b"press".as_slice() {
+        return Some(Form::Press);
+    }
+    if word == b"power".as_slice() {
+        return Some(Form::Power);
+    }
+    if word == b"fail".as_slice() {
+        return Some(Form::Fail);
+    }
+    if word == b"wear".as_slice() {
+        return Some(Form::Wear);
+    }
+    if word == b"cut".as_slice() {
+        return Some(Form::Cut);
+    }
+    if word == b"cdb".as_slice() {
+        return Some(Form::Command);
+    }
+    None
+}
+
+#[tactic(auto, unfolding(crate::specs::ScriptReading::press_of))]
+fn press(rest: &[u8]) -> Option<Line>
+    ensures { result ≡ press_of (words_of rest.now) }
+{
+    let (zones, rest) = next_number(rest)?;
+    let (scale, rest) = next_number(rest)?;
+    let psa = last_number(rest)?;
+    Some(Line::Press { zones, scale, psa })
+}
+
+#[tactic(auto, unfolding(crate::specs::ScriptReading::power_of))]
+fn power(rest: &[u8]) -> Option<Line>
+    ensures { result ≡ power_of (words_of rest.now) }
+{
+    match next_word(rest) {
+        None => Some(Line::Power),
+        Some(_) => None,
+    }
+}
+
+#[tactic(auto, unfolding(crate::specs::ScriptReading::fail_of))]
+fn fail(rest: &[u8]) -> Option<Line>
+    ensures { result ≡ fail_of (words_of rest.now) }
+{
+    let block = last_number(rest)?;
+    Some(Line::Fail { block })
+}
+
+#[tactic(auto, unfolding(crate::specs::ScriptReading::wear_of))]
+fn wear(rest: &[u8]) -> Option<Line>
+    ensures { result ≡ wear_of (words_of rest.now) }
+{
+    let (block, rest) = next_number(rest)?;
+    let n = last_number(rest)?;
+    if n > 0 {
+        Some(Line::Wear { block, n })
+    } else {
+        None
+    }
+}
+
+#[tactic(auto, unfolding(crate::specs::ScriptReading::cut_of))]
+fn cut(rest: &[u8]) -> Option<Line>
+    ensures { result ≡ cut_of (words_of rest.now) }
+{
+    let (n, rest) = next_number(rest)?;
+    let word = last_word(rest)?;
+    let fate = fate_named(word)?;
+    if n > 0 {
+        Some(Line::Cut { n, fate })
+    } else {
+        None
+    }
+}
+
+fn fate_named(word: &[u8]) -> Option<Fate>
+    ensures { result ≡ fate_of word.now }
+{
+    if word == b"old".as_slice() {
+        return Some(Fate::Old);
+    }
+    if word == b"new".as_slice() {
+        return Some(Fate::New);
+    }
+    if word == b"torn".as_slice() {
+        return Some(Fate::Torn);
+    }
+    None
+}
+
+#[tactic(auto, unfolding(crate::specs::ScriptReading::command_of))]
+fn command(rest: &[u8], payload: &mut Vec<u8>) -> Option<Line>
+    requires short { length rest.now ≤ LINE_LIMIT }
+    requires empty { payload.old.items ≡ [] }
+    requires room { PAYLOAD_ROOM ≤ vec_capacity payload.old }
+    ensures read { Puts (command_of (words_of rest.now)) result payload.new.items }
+    ensures room { vec_capacity payload.old ≤ vec_capacity payload.new }
+{
+    let (word, rest) = next_word(rest)?;
+    let cdb = command_block(word)?;
+    put_payload(&cdb, rest, payload)?;
+    Some(Line::Command { cdb })
+}
+
+#[cfg(test)]
+mod tests;
