@@ -175,7 +175,12 @@ fn each_status_has_its_cause(rt: HostRuntime) -> Result<(), Fail> {
         ("press 1 1 4\ntur\n", None, Status::Script, "1 pressed\n"),
         ("press 1 1 4\npower \n", None, Status::Script, "1 pressed\n"),
         ("power\n", None, Status::NotADisc, ""),
-        ("press 0 1 4\npower\n", None, Status::NotADisc, "1 not pressed\n"),
+        (
+            "press 0 1 4\npower\n",
+            None,
+            Status::NotADisc,
+            "1 not pressed\n",
+        ),
         (SCRIPT, Some(Outside::Opener), Status::ImageFault, ""),
         (SCRIPT, Some(Outside::Image), Status::ImageFault, ""),
         (SCRIPT, Some(Outside::Source), Status::SourceFault, ""),
