@@ -64,7 +64,7 @@ IsRead s lba into disc reads.Good = IsInRange s lba 1 × (home_cell s lba ≡ Go
 IsRead s lba into disc reads.Off = ¬ IsTrue s.power × Holds disc s
 IsRead s lba into disc reads.OutOfRange = IsOutOfRange s lba 1 × Holds disc s
 IsRead s lba into disc reads.Unread = IsInRange s lba 1 × ¬ IsGood (home_cell s lba) × Holds disc s
-IsRead s lba into disc reads.Fault = Unit {0}
+IsRead s lba into disc reads.Fault = IsTrue s.power
 
 -- a failure of the image is counted, and no count falls
 abbrev pub ReadCount : ℕ → ℕ → PlainRead → Type 0
@@ -81,7 +81,7 @@ abbrev pub IsWritten : {I : Type 0} {d : Ghosts I} → Plain → ℕ → List �
 IsWritten s lba bytes disc writes.Good = IsInRange s lba 16 × Holds disc (written s lba bytes)
 IsWritten s lba bytes disc writes.Off = ¬ IsTrue s.power × Holds disc s
 IsWritten s lba bytes disc writes.OutOfRange = IsOutOfRange s lba 16 × Holds disc s
-IsWritten s lba bytes disc writes.Fault = Unit {0}
+IsWritten s lba bytes disc writes.Fault = IsTrue s.power
 
 -- a failure of the image in a write is counted, and no count falls
 abbrev pub WriteCount : ℕ → ℕ → PlainWrite → Type 0
