@@ -1,0 +1,3 @@
+pub mod Discs
+pub mod Uses
+pub mod Calls
