@@ -1,6 +1,10 @@
-use Rattle.std.specs.Prelude.{◌≡◌, ℕ, ◌<◌, ◌≤◌, ◌⊎◌, Bool, IsTrue, MatchBool, List}
+use Rattle.std.specs.Prelude.{◌≡◌, ℕ, ◌<◌, ◌≤◌, ◌⊎◌, Bool, true, false, IsTrue, MatchBool, Result, Ok, Err, List}
 use Rattle.model_medium.specs.Cells.{Torn, Dead, IsGood, cell_at}
 use Rattle.model_medium.specs.World.{World, IsUse, HasFailed, IsCut, IsOff, ReadsCell, FindsNoBytes, IsCutInRead, FailsInRead, IsCutInWrite, FailsInWrite}
+use Rattle.model_medium.specs.declared.ReadEnd.{ReadEnd}
+use Rattle.model_medium.specs.declared.ReadEnd.TheVariants as reads
+use Rattle.model_medium.specs.declared.WriteEnd.{WriteEnd}
+use Rattle.model_medium.specs.declared.WriteEnd.TheVariants as writes
 use Rattle.ram_medium.specs.declared.stops.Stop.{Stop}
 use Rattle.ram_medium.specs.declared.stops.Stop.TheVariants as stops
 
@@ -55,3 +59,18 @@ abbrev pub StoppedWrite : World → World → ℕ → List ℕ → Stop → Type
 StoppedWrite old new block bytes stops.Cut = IsCutInWrite old new block bytes
 StoppedWrite old new block bytes stops.Off = IsOff old new
 StoppedWrite old new block bytes stops.Fault = FailsInWrite old new block bytes
+
+-- how a read ended, by whether the block has whole bytes or why it was stopped
+abbrev pub read_end : Result Bool Stop → ReadEnd
+read_end (Ok true) = reads.Done
+read_end (Ok false) = reads.Unreadable
+read_end (Err stops.Cut) = reads.Cut
+read_end (Err stops.Off) = reads.Off
+read_end (Err stops.Fault) = reads.Failed
+
+-- how a write ended, by why it was stopped, if it was
+abbrev pub write_end : Result (Unit {0}) Stop → WriteEnd
+write_end (Ok done) = writes.Done
+write_end (Err stops.Cut) = writes.Cut
+write_end (Err stops.Off) = writes.Off
+write_end (Err stops.Fault) = writes.Failed

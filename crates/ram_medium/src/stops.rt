@@ -1,6 +1,7 @@
 ghost use Rattle.std.specs.Prelude.{◌≡◌, ◌<◌, MatchResult};
 ghost use Rattle.model_medium.specs.World.{WritesCell};
-ghost use Rattle.ram_medium.specs.Stops.{Goes, Stops, StoppedRead, EndedRead, StoppedWrite};
+ghost use Rattle.model_medium.specs.Exact.{Read, Write};
+ghost use Rattle.ram_medium.specs.Stops.{Goes, Stops, StoppedRead, EndedRead, StoppedWrite, read_end, write_end};
 
 use crate::blocks::Medium;
 use model_medium::{ReadEnd, WriteEnd};
@@ -24,6 +25,7 @@ pub fn read_whole<M: Medium>(medium: &mut M, block: u32, into: &mut Block) -> Re
         (EndedRead (M.world medium.old) (M.world medium.new) block into.old into.new)
         (StoppedRead (M.world medium.old) (M.world medium.new) block into.old into.new) }
     ensures goes { MatchResult result (λ whole. Goes M.world M.reaches medium.old medium.new 1) (Stops M.world M.reaches medium.old medium.new 1) }
+    ensures event { M.takes medium.old medium.new (Read block into.old into.new (read_end result)) }
     ensures as_many { M.block_count medium.new ≡ M.block_count medium.old }
 {
     match medium.read(block, into) {
@@ -42,6 +44,7 @@ pub fn write_whole<M: Medium>(medium: &mut M, block: u32, from: &Block) -> Resul
         (λ done. WritesCell (M.world medium.old) (M.world medium.new) block from.now)
         (StoppedWrite (M.world medium.old) (M.world medium.new) block from.now) }
     ensures goes { MatchResult result (λ done. Goes M.world M.reaches medium.old medium.new 1) (Stops M.world M.reaches medium.old medium.new 1) }
+    ensures event { M.takes medium.old medium.new (Write block from.now (write_end result)) }
     ensures as_many { M.block_count medium.new ≡ M.block_count medium.old }
 {
     match medium.write(block, from) {
