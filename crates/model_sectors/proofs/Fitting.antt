@@ -54,6 +54,22 @@ first_fit shown (d ∷ discs) some = elim (fits_decided shown d) [
   ]
 ]
 
+-- the first that fits does fit
+pub first_fits : (shown : Shown) (discs : List (List ℕ)) (d : List ℕ) → IsFirstFit shown discs d → Fits shown d
+first_fits shown [] d none = absurd none
+first_fits shown (disc ∷ discs) d first = elim first [
+  | inl here ↦ subst (Fits shown) (sym here.1) here.0
+  | inr later ↦ first_fits shown discs d later.1
+]
+
+-- one disc alone is the first that fits
+pub first_fit_is_one : (shown : Shown) (discs : List (List ℕ)) (d e : List ℕ) → IsFirstFit shown discs d → IsFirstFit shown discs e → d ≡ e
+first_fit_is_one shown [] d e none other = absurd none
+first_fit_is_one shown (disc ∷ discs) d e first other = elim first [
+  | inl here ↦ elim other [ inl there ↦ here.1 ∙ sym there.1 | inr past ↦ absurd (past.0 here.0) ]
+  | inr later ↦ elim other [ inl there ↦ absurd (later.0 there.0) | inr past ↦ first_fit_is_one shown discs d e later.1 past.1 ]
+]
+
 -- a cell without whole bytes agrees with any
 pub agrees_not_good : (cell : Cell) (bytes : List ℕ) → ¬ IsGood cell → Agrees cell bytes
 agrees_not_good Blank bytes bad = tt
