@@ -97,6 +97,7 @@ end_last lba n k last =
 pub partly_few : (lba n block : ℕ) → IsTrue (is_partly lba n block) → end_in lba n block - start_in lba block < 16
 partly_few lba n block partly = ltb-true (end_in lba n block - start_in lba block) 16 partly
 
+-- a block with less than sixteen sectors of the request is covered in part
 pub few_partly : (lba n block : ℕ) → end_in lba n block - start_in lba block < 16 → IsTrue (is_partly lba n block)
 few_partly lba n block few = lt-ltb (end_in lba n block - start_in lba block) 16 few
 
@@ -106,6 +107,7 @@ wholly_start lba n block whole =
     let all : 16 ≤ end_in lba n block - start_in lba block = ltb-false (end_in lba n block - start_in lba block) 16 (false_from_ne_true (is_partly lba n block) whole) in
     omega arith
 
+-- and it ends in the request too
 pub wholly_end : (lba n block : ℕ) → ¬ IsTrue (is_partly lba n block) → end_in lba n block ≡ 16 * block + 16
 wholly_end lba n block whole =
     let all : 16 ≤ end_in lba n block - start_in lba block = ltb-false (end_in lba n block - start_in lba block) 16 (false_from_ne_true (is_partly lba n block) whole) in
@@ -182,6 +184,7 @@ buffered_in_room room b i j h =
       | inr later ↦ inr (list_any-filter (λ other. other == j) (λ other. not (other == i)) b later)
     ]
 
+-- the same of a buffer with its own room
 pub buffered_after_use : (b : List ℕ) (i j : ℕ) → IsTrue (is_buffered (touched_one b i) j) → (j ≡ i) ⊎ IsTrue (is_buffered b j)
 buffered_after_use b i j h = buffered_in_room BUFFERED_BLOCKS b i j h
 
@@ -202,6 +205,7 @@ pub record StaysBuffered (room : ℕ) (before after : List ℕ) : Type 0 where
   pub few : length after ≤ room
   pub kept : (j : ℕ) → IsTrue (is_buffered before j) → IsTrue (is_buffered after j)
 
+-- a use of a buffered block is such a step, in any room
 pub use_in_room : (room : ℕ) (b : List ℕ) (i : ℕ) → length b ≤ room → IsTrue (is_buffered b i) → StaysBuffered room b (take room (i ∷ filter (λ other. not (other == i)) b))
 use_in_room room b i few here = record {
   few = few_left;
@@ -224,6 +228,7 @@ use_in_room room b i few here = record {
           (list_any-kept (λ other. other == j) (λ other. not (other == i)) b (λ x e. not_from_false (x == i) (ne_eqb x i (λ d. ne (sym d ∙ eqb-true x j e)))) h)
     ]
 
+-- the same of a buffer with its own room
 pub use_stays_buffered : (b : List ℕ) (i : ℕ) → length b ≤ BUFFERED_BLOCKS → IsTrue (is_buffered b i) → StaysBuffered BUFFERED_BLOCKS b (touched_one b i)
 use_stays_buffered b i few here = use_in_room BUFFERED_BLOCKS b i few here
 
@@ -242,6 +247,7 @@ pub all_at_hand : (b : List ℕ) (first count : ℕ) → ((k : ℕ) → k < coun
     → (k : ℕ) → k < count → IsTrue (is_at_hand b first k)
 all_at_hand b first count all few k h = (uses_stay_buffered b first count k all few (omega arith)).kept (first + k) (all k h)
 
+-- a sum of nothing and nothing
 none_in_sum : (a b : ℕ) → a ≡ 0 → b ≡ 0 → a + b ≡ 0
 none_in_sum a b p q = omega arith
 
@@ -255,29 +261,35 @@ no_uses_at_hand b first count (suc k) all within =
 pub no_uses_buffered : (b : List ℕ) (first count : ℕ) → ((k : ℕ) → k < count → IsTrue (is_buffered b (first + k))) → length b ≤ BUFFERED_BLOCKS → read_uses b first count ≡ 0
 no_uses_buffered b first count all few = no_uses_at_hand b first count count (λ j h. all_at_hand b first count all few j h) (omega arith)
 
--- what is found is one of the numbered
+-- one more of a buffer, found or not
 found_step : {X : Type 0} (b : Bool) (x : X) (o : Option X) (r : Bool) → is_some o ≡ r → is_some (cond b (Some x) o) ≡ (b || r)
 found_step true x o r h = refl
 found_step false x o r h = h
 
+-- a block is found in a buffer where its number is there
 pub is_some-found : (i : ℕ) (buffer : List (ℕ × List ℕ)) → is_some (find (λ held. held.0 == i) buffer) ≡ is_buffered (numbers_in buffer) i
 is_some-found i [] = refl
 is_some-found i (x ∷ xs) = found_step (x.0 == i) x (find (λ held. held.0 == i) xs) (is_buffered (numbers_in xs) i) (is_some-found i xs)
 
+-- nothing is not something
 none_is_not_some : {X : Type 0} {x : X} → None ≡ Some x → ⊥
 none_is_not_some h = cc
 
+-- the same something is the same inside
 same_in_some : {X : Type 0} {x y : X} → Some x ≡ Some y → x ≡ y
 same_in_some h = cc
 
+-- what was something after a change was something before
 some_mapped : {X Y : Type 0} (f : X → Y) (o : Option X) (y : Y) → option_map f o ≡ Some y → (x : X) × (o ≡ Some x) × (f x ≡ y)
 some_mapped f None y h = absurd (none_is_not_some h)
 some_mapped f (Some x) y h = (x, refl, same_in_some h)
 
+-- what was nothing after a change was nothing before
 none_mapped : {X Y : Type 0} (f : X → Y) (o : Option X) → option_map f o ≡ None → o ≡ None
 none_mapped f None h = refl
 none_mapped f (Some x) h = absurd (none_is_not_some (sym h))
 
+-- what is something is so after a change
 mapped_some : {X Y : Type 0} (f : X → Y) (o : Option X) → is_some o ≡ true → (y : Y) × (option_map f o ≡ Some y)
 mapped_some f None h = absurd (both_ways false refl h)
 mapped_some f (Some x) h = (f x, refl)
@@ -297,16 +309,18 @@ bytes_at_none i buffer h = λ here. both_ways (is_buffered (numbers_in buffer) i
 pub bytes_at_buffered : (i : ℕ) (buffer : List (ℕ × List ℕ)) → IsTrue (is_buffered (numbers_in buffer) i) → (bytes : List ℕ) × (bytes_at i buffer ≡ Some bytes)
 bytes_at_buffered i buffer h = mapped_some (λ (held : ℕ × List ℕ). held.1) (find (λ held. held.0 == i) buffer) (is_some-found i buffer ∙ h)
 
--- the numbers of those that pass a test on the number
+-- one more of a buffer, kept or not, and its number
 numbers_step : (b : Bool) (x : ℕ × List ℕ) (xs : List (ℕ × List ℕ)) (ys : List ℕ) → map (λ held. held.0) xs ≡ ys
     → map (λ held. held.0) (cond b (x ∷ xs) xs) ≡ cond b (x.0 ∷ ys) ys
 numbers_step true x xs ys h = ap (λ (l : List ℕ). x.0 ∷ l) h
 numbers_step false x xs ys h = h
 
+-- the numbers of those that pass a test on the number
 numbers_kept : (q : ℕ → Bool) (buffer : List (ℕ × List ℕ)) → map (λ held. held.0) (filter (λ held. q held.0) buffer) ≡ filter q (map (λ held. held.0) buffer)
 numbers_kept q [] = refl
 numbers_kept q (x ∷ xs) = numbers_step (q x.0) x (filter (λ held. q held.0) xs) (filter q (map (λ held. held.0) xs)) (numbers_kept q xs)
 
+-- the numbers after a use, in any room
 numbers_in_room : (room : ℕ) (i : ℕ) (bytes : List ℕ) (buffer : List (ℕ × List ℕ))
     → numbers_in (take room ((i, bytes) ∷ filter (λ held. not (held.0 == i)) buffer)) ≡ take room (i ∷ filter (λ other. not (other == i)) (numbers_in buffer))
 numbers_in_room room i bytes buffer =
@@ -317,6 +331,7 @@ numbers_in_room room i bytes buffer =
 pub numbers_in-with_front : (i : ℕ) (bytes : List ℕ) (buffer : List (ℕ × List ℕ)) → numbers_in (with_front i bytes buffer) ≡ touched_one (numbers_in buffer) i
 numbers_in-with_front i bytes buffer = numbers_in_room BUFFERED_BLOCKS i bytes buffer
 
+-- a front is at most as long as was asked
 length-take-le_room : {X : Type 0} (room : ℕ) (xs : List X) → length (take room xs) ≤ room
 length-take-le_room room xs = omega (arith, length-take room xs)
 
@@ -324,9 +339,11 @@ length-take-le_room room xs = omega (arith, length-take room xs)
 pub length_with_front : (i : ℕ) (bytes : List ℕ) (buffer : List (ℕ × List ℕ)) → length (with_front i bytes buffer) ≤ BUFFERED_BLOCKS
 length_with_front i bytes buffer = length-take-le_room BUFFERED_BLOCKS ((i, bytes) ∷ filter (λ held. not (held.0 == i)) buffer)
 
+-- the numbers after a use are at most as many as there is room for
 pub length_touched_one : (b : List ℕ) (i : ℕ) → length (touched_one b i) ≤ BUFFERED_BLOCKS
 length_touched_one b i = length-take-le_room BUFFERED_BLOCKS (i ∷ filter (λ other. not (other == i)) b)
 
+-- the same after uses of so many blocks
 pub length_touched_from : (b : List ℕ) (first k : ℕ) → length b ≤ BUFFERED_BLOCKS → length (touched_from b first k) ≤ BUFFERED_BLOCKS
 length_touched_from b first zero few = few
 length_touched_from b first (suc k) few = length_touched_one (touched_from b first k) (first + k)
@@ -352,6 +369,7 @@ find-filter {X = X} p q (x ∷ xs) both = elim (cases_Bool (q x)) [
       ∙ sym (cond-false (p x) (Some x) (find p xs) (false_from_ne_true (p x) (λ here. both_ways (q x) fails (both x here))))
 ]
 
+-- what the buffer has after a use, in any room
 bytes_in_room : (room i j : ℕ) (bytes : List ℕ) (buffer : List (ℕ × List ℕ)) (found : List ℕ)
     → bytes_at j (take room ((i, bytes) ∷ filter (λ held. not (held.0 == i)) buffer)) ≡ Some found → ((j ≡ i) × (found ≡ bytes)) ⊎ (bytes_at j buffer ≡ Some found)
 bytes_in_room room i j bytes buffer found h =
@@ -375,6 +393,7 @@ pub bytes_at-with_front : (i j : ℕ) (bytes : List ℕ) (buffer : List (ℕ × 
     → ((j ≡ i) × (found ≡ bytes)) ⊎ (bytes_at j buffer ≡ Some found)
 bytes_at-with_front i j bytes buffer found h = bytes_in_room BUFFERED_BLOCKS i j bytes buffer found h
 
+-- the block that was used last is there, in any room
 used_in_room : (room i : ℕ) (bytes : List ℕ) (buffer : List (ℕ × List ℕ)) → 0 < room → bytes_at i (take room ((i, bytes) ∷ filter (λ held. not (held.0 == i)) buffer)) ≡ Some bytes
 used_in_room zero i bytes buffer some = absurd (omega arith)
 used_in_room (suc room) i bytes buffer some =

@@ -88,6 +88,7 @@ fits_moved old new d same cells fits = record {
   ];
 }
 
+-- the same where no home moved
 pub fits_kept : (old new : Shown) (d : List ℕ) → new.homes ≡ old.homes
     → ((i : ℕ) → i < length old.homes → (home_cell new i ≡ home_cell old i) ⊎ ¬ IsGood (home_cell new i)) → Fits old d → Fits new d
 fits_kept old new d same cells fits = fits_moved old new d (ap length same) cells fits
@@ -101,6 +102,7 @@ some_fits_moved old new (d ∷ discs) same cells some = elim some [
   | inr later ↦ inr (some_fits_moved old new discs same cells later)
 ]
 
+-- the same of some of the discs, where no home moved
 pub some_fits_kept : (old new : Shown) (discs : List (List ℕ)) → new.homes ≡ old.homes
     → ((i : ℕ) → i < length old.homes → (home_cell new i ≡ home_cell old i) ⊎ ¬ IsGood (home_cell new i)) → SomeFits old discs → SomeFits new discs
 some_fits_kept old new discs same cells some = some_fits_moved old new discs (ap length same) cells some
