@@ -1,4 +1,4 @@
-use Rattle.std.specs.Prelude.{◌≡◌, ℕ, ◌-◌, ◌*◌, ◌<◌, ◌⊎◌, IsTrue, List, [], ◌∷◌, length, take, drop, slice_index}
+use Rattle.std.specs.Prelude.{◌≡◌, ℕ, ◌-◌, ◌*◌, ◌<◌, ◌⊎◌, IsTrue, List, [], ◌∷◌, length, take, drop, replicate, slice_index, flat_map}
 use Rattle.model_bytes.specs.Bytes.{put_at}
 use Rattle.model_medium.specs.Cells.{Cell, Blank, Good, Torn, Dead, cell_at}
 use Rattle.model_medium.specs.Machine.{Machine}
@@ -77,3 +77,19 @@ IsShown shown (Off discs) = ¬ IsOn shown × SomeFits shown discs
 abbrev pub candidates : Standing → List (List ℕ)
 candidates (On disc) = disc ∷ []
 candidates (Off discs) = discs
+
+-- so many zeros
+unfoldable pub zeros : ℕ → List ℕ
+zeros n = replicate n 0
+
+-- the whole bytes of a cell, or as many zeros
+abbrev pub bytes_or_zeros : Cell → List ℕ
+bytes_or_zeros Blank = zeros 32768
+bytes_or_zeros (Good bytes) = bytes
+bytes_or_zeros Torn = zeros 32768
+bytes_or_zeros Dead = zeros 32768
+
+-- The disc that a drive begins with: the bytes of the homes that have whole ones, and zeros for the others. (This
+-- project's own.)
+unfoldable pub first_disc : List ℕ → List Cell → List ℕ
+first_disc homes cells = flat_map (λ block. bytes_or_zeros (cell_at cells block)) homes

@@ -2,6 +2,10 @@
 //! their laws.
 #![tactic(auto)]
 
+mod laws;
+
+pub use laws::{buffered_blocks_take_no_use, some_disc_fits_first, what_is_replaced_reads_back};
+
 /// How a read of sectors ended.
 #[derive(Clone, Copy, Debug, PartialEq, Eq)]
 pub enum ReadOut {

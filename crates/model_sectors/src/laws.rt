@@ -1,0 +1,29 @@
+ghost use Rattle.std.specs.Prelude.{◌≡◌, ℕ, ◌+◌, ◌-◌, ◌*◌, ◌≤◌, ◌⊎◌, List, length, take, drop};
+ghost use Rattle.model_buffer.specs.declared.TheConstants.{BUFFERED_BLOCKS};
+ghost use Rattle.model_sectors.specs.Discs.{Shown, sectors_of, replaced, Fits, SomeFits, IsFirstFit};
+ghost use Rattle.model_sectors.specs.Uses.{block_with, blocks_covered, read_uses};
+ghost use Rattle.model_sectors.specs.Calls.{AreBuffered};
+
+/// The sectors that are replaced read back as the bytes that were written, and the others as before.
+pub fn what_is_replaced_reads_back()
+    ensures written { (disc : List ℕ) (blocks lba n : ℕ) (bytes : List ℕ) (block at m : ℕ) → length bytes ≡ 2048 * n → lba + n ≤ 16 * blocks
+        → length disc ≡ 32768 * blocks → lba ≤ at → at + m ≤ 16 * block → at + m ≤ lba + n
+        → sectors_of (replaced disc lba bytes block) at m ≡ take (2048 * m) (drop (2048 * (at - lba)) bytes) }
+    ensures elsewhere { (disc : List ℕ) (blocks lba n : ℕ) (bytes : List ℕ) (block at m : ℕ) → length bytes ≡ 2048 * n → lba + n ≤ 16 * blocks
+        → length disc ≡ 32768 * blocks → (at + m ≤ lba) ⊎ (lba + n ≤ at) ⊎ (16 * block ≤ at)
+        → sectors_of (replaced disc lba bytes block) at m ≡ sectors_of disc at m }
+    ensures as_long { (disc : List ℕ) (blocks lba n : ℕ) (bytes : List ℕ) (block : ℕ) → length bytes ≡ 2048 * n → lba + n ≤ 16 * blocks
+        → length disc ≡ 32768 * blocks → length (replaced disc lba bytes block) ≡ length disc }
+{}
+
+/// Of discs one of which fits what a drive shows there is a first that fits, and one alone.
+pub fn some_disc_fits_first()
+    ensures found { (shown : Shown) (discs : List (List ℕ)) → SomeFits shown discs → (disc : List ℕ) × IsFirstFit shown discs disc × Fits shown disc }
+    ensures alone { (shown : Shown) (discs : List (List ℕ)) (disc other : List ℕ) → IsFirstFit shown discs disc → IsFirstFit shown discs other → disc ≡ other }
+{}
+
+/// A read of blocks that are all buffered takes no use of the medium.
+pub fn buffered_blocks_take_no_use()
+    ensures { (shown : Shown) (lba n : ℕ) → length shown.buffered ≤ BUFFERED_BLOCKS → AreBuffered shown lba n
+        → read_uses shown.buffered (block_with lba) (blocks_covered lba n) ≡ 0 }
+{}
