@@ -4,8 +4,6 @@ pub mod Fills
 pub mod Answers
 pub mod Puts
 pub mod Prints
-pub mod Readings
-pub mod Digits
 pub mod WordSteps
 pub mod HexSteps
 pub mod ScriptReadings

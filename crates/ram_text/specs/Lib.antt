@@ -2,9 +2,6 @@ pub mod Lines
 pub mod LineReader
 pub mod Steps
 pub mod Writer
-pub mod Report
-pub mod Grammar
-pub mod Words
 pub mod ScriptWords
 pub mod Script
 pub mod ScriptReading

@@ -1,4 +1,4 @@
-use Rattle.std.specs.Prelude.{ℕ, ◌+◌, ◌*◌, ◌/◌, ◌%◌, ◌^◌, ◌<◌, ◌==◌, Bool, true, false, if◌then◌else◌, Option, Some, None, IfSome, List, [], ◌∷◌, ◌++◌, length, take, drop, slice_index, codes, decimal}
+use Rattle.std.specs.Prelude.{◌≡◌, ℕ, ◌+◌, ◌*◌, ◌/◌, ◌%◌, ◌^◌, ◌<◌, ◌≤◌, ◌==◌, Bool, true, false, if◌then◌else◌, Option, Some, None, IfSome, List, [], ◌∷◌, ◌++◌, length, take, drop, slice_index, codes, decimal}
 use Rattle.std.specs.List.{list_all, flat_map, range_with_len}
 use Rattle.hex.specs.Hex.{encode_lower, lower_digits}
 use Rattle.model_commands.specs.Commands.{operation_of, field}
@@ -62,6 +62,11 @@ abbrev pub is_read : Option Operation → Bool
 is_read (Some Read10) = true
 is_read (Some Read12) = true
 is_read _ = false
+
+-- the command block of a read that was done has the bytes of its address
+abbrev pub IsAddressed : Answer → List ℕ → Type 0
+IsAddressed answers.Good cdb = is_read (operation_of cdb) ≡ true → 6 ≤ length cdb
+IsAddressed _ cdb = Unit {0}
 
 -- whether each byte is as the first one
 abbrev pub is_one_byte : List ℕ → Bool

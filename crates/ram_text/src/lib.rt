@@ -2,20 +2,18 @@
 #![tactic(auto)]
 
 pub mod gathered;
-pub mod grammar;
 mod hexadecimal;
 pub mod laws;
 pub mod lines;
 pub mod payload;
-pub mod print;
 pub mod printing;
 pub mod report;
 pub mod script;
 mod words;
 
-pub use gathered::Print;
-pub use grammar::{Line, parse_line};
+pub use gathered::{Print, hand_over};
 pub use lines::{LINE_LIMIT, LineReader, NextLine, SCRIPT_LIMIT};
 pub use payload::PAYLOAD_ROOM;
-pub use print::{Answer, print_answer, print_end, print_sector};
+pub use printing::{Event, LastLine, print_answer, print_event, print_last, print_line};
 pub use report::ReportWriter;
+pub use script::{Line, Unread, parse_line};

@@ -1,9 +1,9 @@
 //! The lines of the report.
-ghost use Rattle.std.specs.Prelude.{◌≡◌, ◌<◌, ◌≤◌, ◌/◌, ◌++◌, true, length, codes, decimal, slice_index};
+ghost use Rattle.std.specs.Prelude.{◌≡◌, ◌<◌, ◌≤◌, ◌/◌, ◌++◌, length, codes, decimal, slice_index};
 ghost use Rattle.hex.specs.Hex.{encode_lower, lower_digits};
 ghost use Rattle.model_commands.specs.Commands.{operation_of};
 ghost use Rattle.ram_text.specs.Writer.{due, PrintRule};
-ghost use Rattle.ram_text.specs.ReportLines.{numbered, event_words, sense_code, info_words, answer_words, answer_text, reply_text, IsPrinted, is_read, is_one_byte, sector_text, sectors_text, data_text, last_text};
+ghost use Rattle.ram_text.specs.ReportLines.{numbered, event_words, sense_code, info_words, answer_words, answer_text, reply_text, IsPrinted, IsAddressed, is_read, is_one_byte, sector_text, sectors_text, data_text, last_text};
 
 use crate::gathered::Print;
 use crate::report::ReportWriter;
@@ -94,7 +94,7 @@ pub fn print_answer<K: Sink>(
     reply: &[u8],
 ) -> Print
     requires printed { IsPrinted answer.now }
-    requires addressed { is_read (operation_of cdb.now) ≡ true → 6 ≤ length cdb.now }
+    requires addressed { IsAddressed answer.now cdb.now }
     ensures { PrintRule (due (K.written sink.old) writer.old) (due (K.written sink.new) writer.new) (K.faults sink.old) (K.faults sink.new) (answer_text number answer.now cdb.now reply.now) result }
 {
     match print_words_of(writer, sink, number, answer) {
@@ -285,7 +285,7 @@ fn print_reply<K: Sink>(
     cdb: &Cdb,
     reply: &[u8],
 ) -> Print
-    requires { is_read (operation_of cdb.now) ≡ true → 6 ≤ length cdb.now }
+    requires { IsAddressed answer.now cdb.now }
     ensures { PrintRule (due (K.written sink.old) writer.old) (due (K.written sink.new) writer.new) (K.faults sink.old) (K.faults sink.new) (reply_text answer.now cdb.now reply.now) result }
 {
     match answer {

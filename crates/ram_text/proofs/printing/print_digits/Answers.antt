@@ -1,5 +1,5 @@
 -- One piece more, or a front of it.
-use Rattle.std.proofs.Common.{◌+◌, ◌*◌, ◌<◌, ◌≤◌, ◌++◌, length, ap, sym, ◌∙◌, arith}
+use Rattle.std.proofs.Common.{◌*◌, ◌<◌, ◌≤◌, ◌++◌, length, ap, sym, ◌∙◌, arith}
 use Rattle.hex.specs.Hex.{encode_lower}
 use Rattle.ram_text.proofs.Turns.{no_digits_put, piece_put, piece_cut, digits_so_far, digits_more, digits_every, piece_is, digits_all, all_cut}
 use Rattle.ram_text.proofs.printing.print_digits.Goals as goal
