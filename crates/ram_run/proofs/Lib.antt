@@ -1,10 +1,1 @@
-pub mod Homes
-pub mod HeldSteps
-pub mod Turns
-pub mod Takings
-pub mod CountsRise
-pub mod Finishes
-pub mod Opens
-pub mod Twos
-pub mod PlainWrites
-pub mod Completes
+pub mod Founds

@@ -1,35 +1,56 @@
 -- When a run must come to its end.
 use Rattle.std.specs.Prelude.{◌≡◌, ℕ, ◌≤◌, ◌⊎◌, List, [], ◌∷◌, ◌++◌, length}
 use Rattle.model_counts.specs.Counts.{Rose}
-use Rattle.model_geometry.specs.Geometry.{IsLawful, shape_of}
+use Rattle.model_geometry.specs.Geometry.{Shape, IsLawful, shape_of}
+use Rattle.model_image.specs.Image.{IsDiscImage}
 use Rattle.ram_text.specs.Lines.{line_feed}
+use Rattle.ram_text.specs.Script.{Reads}
 use Rattle.ram_text.specs.declared.lines.TheConstants.{SCRIPT_LIMIT}
-use Rattle.ram_text.specs.declared.grammar.Line.{Line}
-use Rattle.ram_text.specs.declared.grammar.Line.TheVariants as lines
-use Rattle.ram_text.specs.Grammar.{Spells}
+use Rattle.ram_text.specs.declared.script.Line.{Line}
+use Rattle.ram_text.specs.declared.script.Line.TheVariants as lines
 use Rattle.ram_run.specs.declared.status.Status.{Status}
 use Rattle.ram_run.specs.declared.status.Status.TheVariants as statuses
 use Rattle.ram_run.specs.Run.{IsNextLine}
-use Rattle.ram_run.specs.Turn.{Counts}
+use Rattle.ram_run.specs.Turn.{Beginning, Counts}
 
--- a line begins after these bytes of a script: there are none, or the last is a line feed
+-- a line begins after these bytes of a script: there are none, or the last is a line feed (this project's own, as all
+-- here)
 abbrev pub BeginsLine : List ℕ → Type 0
 BeginsLine before = (before ≡ []) ⊎ ((front : List ℕ) × (before ≡ front ++ line_feed ∷ []))
 
 -- nothing is left, or a line within the limit; and whatever is the next line reads as something
 pub record GoesOn (rest : List ℕ) : Type 0 where
   pub more : (rest ≡ []) ⊎ ((raw : List ℕ) × IsNextLine rest raw)
-  pub reads : (raw : List ℕ) → IsNextLine rest raw → (line : Line) × Spells line raw
+  pub reads : (raw : List ℕ) → IsNextLine rest raw → (line : Line) × (payload : List ℕ) × Reads raw line payload
 
--- The script is in the language and within its limits: wherever a line begins, it goes on so. (This project's own.)
+-- The script is in the language and within its limits: wherever a line begins, it goes on so.
 pub record IsInLanguage (script : List ℕ) : Type 0 where
   pub short : length script ≤ SCRIPT_LIMIT
   pub lines : (before rest : List ℕ) → script ≡ before ++ rest → BeginsLine before → GoesOn rest
 
--- the first line presses a disc, and lawfully
+-- the bytes of these lines, the newest of which comes first here, each with its line feed
+abbrev pub lines_text : List (List ℕ) → List ℕ
+lines_text [] = []
+lines_text (raw ∷ raws) = lines_text raws ++ (raw ++ line_feed ∷ [])
+
+-- none of these lines has an answer
+abbrev pub AreSilent : List (List ℕ) → Type 0
+AreSilent [] = Unit {0}
+AreSilent (raw ∷ raws) = AreSilent raws × Reads raw lines.Empty []
+
+-- the line presses a disc, and lawfully
+abbrev pub IsLawfulPress : Line → Type 0
+IsLawfulPress (lines.Press zones scale psa) = IsLawful (shape_of zones scale psa)
+IsLawfulPress _ = ⊥
+
+-- the first line that has an answer presses a disc, and lawfully
 abbrev pub BeginsWithPress : List ℕ → Type 0
-BeginsWithPress script = (raw : List ℕ) → IsNextLine script raw
-    → (zones : ℕ) × (scale : ℕ) × (psa : ℕ) × Spells (lines.Press zones scale psa) raw × IsLawful (shape_of zones scale psa)
+BeginsWithPress script = (raws : List (List ℕ)) (rest raw : List ℕ) (line : Line) (payload : List ℕ) → AreSilent raws → script ≡ lines_text raws ++ rest
+    → IsNextLine rest raw → Reads raw line payload → (line ≡ lines.Empty) ⊎ IsLawfulPress line
+
+-- the image is that of a disc, or the first line that has an answer makes one
+abbrev pub BeginsWithDisc : Beginning → Type 0
+BeginsWithDisc first = ((shape : Shape) × IsDiscImage shape first.image) ⊎ BeginsWithPress first.script
 
 -- source, sink and image did not fail
 pub record NoneRose (before after : Counts) : Type 0 where

@@ -1,7 +1,11 @@
 pub mod Plain
+pub mod Blocks
+pub mod Host
 pub mod Machine
 pub mod Held
 pub mod Run
 pub mod Turn
 pub mod Outcome
+pub mod Starts
+pub mod Words
 pub mod Completes

@@ -1,85 +1,202 @@
-use Rattle.std.specs.Prelude.{◌≡◌, ℕ, ◌*◌, ◌%◌, false, IsTrue, List, [], take, drop, replicate}
-use Rattle.model_geometry.specs.Geometry.{Shape, IsLawful, shape_of}
-use Rattle.model_medium.specs.Cells.{Good, IsGood}
-use Rattle.model_image.specs.Image.{IsImageOf, blank_cells}
-use Rattle.ram_text.specs.declared.grammar.Line.{Line}
-use Rattle.ram_text.specs.declared.grammar.Line.TheVariants.{Press, Power, Read, Write}
-use Rattle.ram_text.specs.declared.print.Answer.{Answer}
-use Rattle.ram_text.specs.declared.print.Answer.TheVariants as answers
-use Rattle.ram_run.specs.Plain.{Plain, capacity, home_cell, powered_on, written, IsInRange, IsOutOfRange}
+use Rattle.std.specs.Prelude.{◌≡◌, ℕ, ◌⊎◌, IsTrue, None, List, [], ◌∷◌}
+use Rattle.model_geometry.specs.Geometry.{Shape, IsLawful, shape_of, total}
+use Rattle.model_medium.specs.Cells.{Cell}
+use Rattle.model_image.specs.Cells.{cells_of}
+use Rattle.model_image.specs.Image.{IsDiscImage, IsImageOf, IsStoppedPress, blank_cells}
+use Rattle.model_sectors.specs.Discs.{Standing, Off, Shown, IsOn, IsShown, first_disc, candidates}
+use Rattle.model_sectors.specs.Calls.{PowerCause, PowerStep}
+use Rattle.model_sectors.specs.declared.PowerOut.{PowerOut}
+use Rattle.model_sectors.specs.declared.PowerOut.TheVariants as powers
+use Rattle.ram_medium.specs.Control.{FailRule, WearRule, with_armed_cut}
+use Rattle.model_medium.specs.declared.Fate.{Fate}
+use Rattle.ram_medium.specs.declared.control.FailEnd.{FailEnd}
+use Rattle.ram_medium.specs.declared.control.FailEnd.TheVariants as fails
+use Rattle.ram_medium.specs.declared.control.Arm.{Arm}
+use Rattle.ram_medium.specs.declared.control.Arm.TheVariants as arming
+use Rattle.ram_mmc.specs.declared.Answer.{Answer}
+use Rattle.ram_mmc.specs.declared.Answer.TheVariants as answers
+use Rattle.ram_text.specs.declared.script.Line.{Line}
+use Rattle.ram_text.specs.declared.script.Line.TheVariants.{Empty, Press, Power, Fail, Wear, Cut, Command}
+use Rattle.ram_text.specs.declared.printing.Event.{Event}
+use Rattle.ram_text.specs.declared.printing.Event.TheVariants as events
+use Rattle.ram_run.specs.declared.held.Told.{Told}
+use Rattle.ram_run.specs.declared.held.Told.TheVariants as tolds
+use Rattle.ram_run.specs.declared.held.Outcome.{Outcome}
+use Rattle.ram_run.specs.declared.held.Outcome.TheVariants as outcomes
+use Rattle.ram_run.specs.Plain.{plain_homes}
+use Rattle.ram_run.specs.Host.{IsExecuted}
 
--- What lies in the drive: an image of these bytes on which no disc was pressed in this run, or the disc that was
--- pressed last. (This project's own.)
+-- A disc in the drive: its geometry, what the drive shows, and what it stands for, which agree. (This project's own, as
+-- all here.)
+pub record Loaded : Type 0 where
+  pub shape : Shape
+  pub shown : Shown
+  pub standing : Standing
+  pub homes_are : shown.homes ≡ plain_homes shape
+  pub agrees : IsShown shown standing
+
+-- What lies in the drive: an image of these bytes that was not opened as a disc, or a disc.
 pub data State : Type 0 where
-  Unpressed : List ℕ → State
-  Pressed : Plain → State
+  Unopened : List ℕ → State
+  Disc : Loaded → State
 
 -- an image that is left in this state
 abbrev pub IsLeft : State → List ℕ → Type 0
-IsLeft (Unpressed first) bytes = bytes ≡ first
-IsLeft (Pressed s) bytes = IsImageOf s.shape s.cells bytes
+IsLeft (Unopened first) bytes = bytes ≡ first
+IsLeft (Disc s) bytes = IsImageOf s.shape s.shown.medium.world.cells bytes
 
--- a disc that was just pressed: its cells are blank, and the power is off
-abbrev pub new_disc : Shape → Plain
-new_disc shape = record { shape = shape; cells = blank_cells shape; power = false }
+-- A disc that was just opened: it has these cells, the power is off, nothing is armed, counted or buffered, and when the
+-- power goes on it is the bytes of the homes that have whole ones, and zeros for the others.
+pub record IsOpenedOn (shape : Shape) (cells : List Cell) (s : Loaded) : Type 0 where
+  pub shape_is : s.shape ≡ shape
+  pub cells_are : s.shown.medium.world.cells ≡ cells
+  pub off : ¬ IsOn s.shown
+  pub no_uses : s.shown.medium.world.uses ≡ 0
+  pub no_cuts : s.shown.medium.world.cuts ≡ 0
+  pub no_arms : s.shown.medium.arms ≡ []
+  pub no_cut : s.shown.medium.cut ≡ None
+  pub unbuffered : s.shown.buffered ≡ []
+  pub standing_is : s.standing ≡ Off (first_disc (plain_homes shape) cells ∷ [])
 
--- the sector at its place in its block
-abbrev pub sector_in : List ℕ → ℕ → List ℕ
-sector_in block lba = take 2048 (drop (2048 * (lba % 16)) block)
+-- what a run over an image of these bytes begins with: its disc, or the image where it is no disc's
+abbrev pub IsFirst : List ℕ → State → Type 0
+IsFirst bytes (Unopened held) = (held ≡ bytes) × ((shape : Shape) → ¬ IsDiscImage shape bytes)
+IsFirst bytes (Disc s) = (shape : Shape) × IsDiscImage shape bytes × IsOpenedOn shape (cells_of (total shape) bytes) s
 
--- the answers of a press
-abbrev pub PressStep : State → Shape → Answer → State → Type 0
-PressStep s shape answers.Pressed t = IsLawful shape × (t ≡ Pressed (new_disc shape))
-PressStep s shape answers.NotPressed t = ¬ IsLawful shape × (t ≡ s)
+-- the answers of a line that is no command
+abbrev pub event : Event → Outcome
+event answer = outcomes.Told (tolds.Event answer)
+
+-- a disc of this geometry was pressed
+abbrev pub IsPressed : Shape → State → Type 0
+IsPressed shape (Unopened bytes) = ⊥
+IsPressed shape (Disc s) = IsOpenedOn shape (blank_cells shape) s
+
+-- the image of a disc of this geometry, with blank cells, that was not opened
+abbrev pub IsPressedUnopened : Shape → State → Type 0
+IsPressedUnopened shape (Unopened bytes) = IsImageOf shape (blank_cells shape) bytes
+IsPressedUnopened shape (Disc s) = ⊥
+
+-- what a press that the image stopped leaves: the image as before, no disc image, or one whose cells are blank
+abbrev pub IsHalfPressed : State → State → Type 0
+IsHalfPressed s (Unopened bytes) = (before : List ℕ) × IsLeft s before × IsStoppedPress before bytes
+IsHalfPressed s (Disc t) = ⊥
+
+-- What became of a press of this geometry.
+abbrev pub PressStep : State → Shape → Outcome → State → Type 0
+PressStep s shape (outcomes.Told (tolds.Event events.Pressed)) t = IsLawful shape × IsPressed shape t
+PressStep s shape (outcomes.Told (tolds.Event events.NotPressed)) t = ¬ IsLawful shape × (t ≡ s)
+PressStep s shape outcomes.Fault t = IsLawful shape × (IsHalfPressed s t ⊎ IsPressedUnopened shape t)
+PressStep s shape outcomes.NoMemory t = IsLawful shape × IsPressedUnopened shape t
 PressStep s shape _ t = ⊥
 
--- the causes of the answers of a read of one sector, with the sector that is told; it changes nothing
-abbrev pub ReadStep : Plain → ℕ → Answer → List ℕ → Type 0
-ReadStep s lba answers.Good reply = IsInRange s lba 1 × ((block : List ℕ) × (home_cell s lba ≡ Good block) × (reply ≡ sector_in block lba))
-ReadStep s lba answers.Off reply = ¬ IsTrue s.power × (reply ≡ [])
-ReadStep s lba answers.OutOfRange reply = IsOutOfRange s lba 1 × (reply ≡ [])
-ReadStep s lba (answers.Unread named) reply = IsInRange s lba 1 × (named ≡ lba) × ¬ IsGood (home_cell s lba) × (reply ≡ [])
-ReadStep s lba _ reply = ⊥
+-- how each end of the turning on of the power is answered
+abbrev pub power_outcome : PowerOut → Outcome
+power_outcome (powers.Ready capacity) = event (events.Ready capacity)
+power_outcome powers.NotFormatted = event events.NotFormatted
+power_outcome powers.Cut = event events.Cut
+power_outcome powers.Fault = outcomes.Fault
+power_outcome powers.NoMemory = outcomes.NoMemory
 
--- the causes of the answers of a write of a whole block
-abbrev pub WriteStep : Plain → ℕ → Answer → Type 0
-WriteStep s lba answers.Good = IsInRange s lba 16
-WriteStep s lba answers.Off = ¬ IsTrue s.power
-WriteStep s lba answers.OutOfRange = IsOutOfRange s lba 16
-WriteStep s lba _ = ⊥
+-- how each end of the failure of a block is answered
+abbrev pub fail_outcome : FailEnd → Outcome
+fail_outcome fails.Done = event events.Failed
+fail_outcome (fails.NoBlock blocks) = event events.NoSuchBlock
+fail_outcome fails.Failed = outcomes.Fault
 
--- the disc after a write of a whole block was so answered
-abbrev pub after_write : Plain → ℕ → List ℕ → Answer → Plain
-after_write s lba block answers.Good = written s lba block
-after_write s lba block _ = s
+-- how each end of the arming of a block is answered
+abbrev pub wear_outcome : Arm → Outcome
+wear_outcome arming.Set = event events.Armed
+wear_outcome (arming.NoBlock blocks) = event events.NoSuchBlock
+wear_outcome arming.Full = event events.Full
 
--- the answer of the power line
-abbrev pub PowerStep : Plain → Answer → Type 0
-PowerStep s (answers.Ready told) = told ≡ capacity s
-PowerStep s _ = ⊥
+-- how each answer of a command comes out: a fault and want of memory end the run
+abbrev pub command_outcome : Answer → Outcome
+command_outcome answers.Good = outcomes.Told (tolds.Command answers.Good)
+command_outcome (answers.Check sense) = outcomes.Told (tolds.Command (answers.Check sense))
+command_outcome answers.Cut = outcomes.Told (tolds.Command answers.Cut)
+command_outcome answers.Off = outcomes.Told (tolds.Command answers.Off)
+command_outcome answers.Fault = outcomes.Fault
+command_outcome answers.NoMemory = outcomes.NoMemory
 
--- the causes of the answers on a disc to a line that presses none, with the sector that is told
-abbrev pub DiscStep : Plain → Line → Answer → List ℕ → Type 0
-DiscStep s (Press zones scale psa) answer reply = ⊥
-DiscStep s Power answer reply = PowerStep s answer × (reply ≡ [])
-DiscStep s (Read lba) answer reply = ReadStep s lba answer reply
-DiscStep s (Write lba fill) answer reply = WriteStep s lba answer × (reply ≡ [])
+-- What a line does on a disc: what the drive shows and may stand for, before and after.
+module _ (old new : Shown) (before after : Standing → Type 0) where
+  -- what it stood for it still stands for, and the same blocks are buffered
+  pub record KeepsRest : Type 0 where
+    pub buffered : new.buffered ≡ old.buffered
+    pub stands : (s : Standing) → before s → after s
 
--- the disc after a line was so answered
-abbrev pub disc_after : Plain → Line → Answer → Plain
-disc_after s (Press zones scale psa) answer = s
-disc_after s Power answer = powered_on s
-disc_after s (Read lba) answer = s
-disc_after s (Write lba fill) answer = after_write s lba (replicate 32768 fill) answer
+  -- what it stood for is what it may stand for when the power goes on, and no block is buffered
+  pub record LosesPower : Type 0 where
+    pub dropped : new.buffered ≡ []
+    pub stands : (s : Standing) → before s → after (Off (candidates s))
 
--- From s a line that presses no disc may get this answer, with this sector told, and leave t.
-abbrev pub OnDisc : State → Line → Answer → List ℕ → State → Type 0
-OnDisc (Unpressed bytes) line answer reply t = ⊥
-OnDisc (Pressed s) line answer reply t = DiscStep s line answer reply × (t ≡ Pressed (disc_after s line answer))
+  -- the power went off and on again, and it ended so
+  pub record PowerLine (outcome : Outcome) : Type 0 where
+    pub out : PowerOut
+    pub cause : PowerCause old new out
+    pub step : (s : Standing) → before s → PowerStep new after s out
+    pub outcome_is : outcome ≡ power_outcome out
 
--- From s a line may get this answer, with this sector told, and leave t. (This project's own.)
-abbrev pub Step : State → Line → Answer → List ℕ → State → Type 0
-Step s (Press zones scale psa) answer reply t = PressStep s (shape_of zones scale psa) answer t × (reply ≡ [])
-Step s Power answer reply t = OnDisc s Power answer reply t
-Step s (Read lba) answer reply t = OnDisc s (Read lba) answer reply t
-Step s (Write lba fill) answer reply t = OnDisc s (Write lba fill) answer reply t
+  -- what stands after the failure of a block: all as before, but where what the medium lies on failed
+  abbrev pub FailLeaves : FailEnd → Type 0
+  FailLeaves fails.Done = KeepsRest
+  FailLeaves (fails.NoBlock blocks) = KeepsRest
+  FailLeaves fails.Failed = LosesPower
+
+  -- a block of a medium of so many was to fail, and it ended so
+  pub record FailLine (total block : ℕ) (outcome : Outcome) : Type 0 where
+    pub end : FailEnd
+    pub rule : FailRule total old.medium new.medium block end
+    pub leaves : FailLeaves end
+    pub outcome_is : outcome ≡ fail_outcome end
+
+  -- a block of a medium of so many was to be armed, and it ended so
+  pub record WearLine (total block n : ℕ) (outcome : Outcome) : Type 0 where
+    pub end : Arm
+    pub rule : WearRule total old.medium new.medium (record { block = block; left = n }) end
+    pub keeps : KeepsRest
+    pub outcome_is : outcome ≡ wear_outcome end
+
+  -- a cut was armed
+  pub record CutLine (n : ℕ) (fate : Fate) (outcome : Outcome) : Type 0 where
+    pub armed : new.medium ≡ with_armed_cut n fate old.medium
+    pub keeps : KeepsRest
+    pub outcome_is : outcome ≡ event events.Armed
+
+  -- a command was executed, and answered so
+  pub record CommandLine (cdb payload : List ℕ) (outcome : Outcome) (reply : List ℕ) : Type 0 where
+    pub answer : Answer
+    pub executed : IsExecuted old new before after cdb payload answer reply
+    pub outcome_is : outcome ≡ command_outcome answer
+
+  -- What a line does that needs a disc, on a medium of so many blocks, with its data and the reply.
+  abbrev pub DiscRule : (total : ℕ) → Line → List ℕ → Outcome → List ℕ → Type 0
+  DiscRule total Empty payload outcome reply = ⊥
+  DiscRule total (Press zones scale psa) payload outcome reply = ⊥
+  DiscRule total Power payload outcome reply = PowerLine outcome × (reply ≡ [])
+  DiscRule total (Fail block) payload outcome reply = FailLine total block outcome × (reply ≡ [])
+  DiscRule total (Wear block n) payload outcome reply = WearLine total block n outcome × (reply ≡ [])
+  DiscRule total (Cut n fate) payload outcome reply = CutLine n fate outcome × (reply ≡ [])
+  DiscRule total (Command cdb) payload outcome reply = CommandLine cdb payload outcome reply
+
+-- the same between two discs of one geometry
+pub record DiscStep (s t : Loaded) (line : Line) (payload : List ℕ) (outcome : Outcome) (reply : List ℕ) : Type 0 where
+  pub same_shape : t.shape ≡ s.shape
+  pub rule : DiscRule s.shown t.shown (λ x. x ≡ s.standing) (λ x. x ≡ t.standing) (total s.shape) line payload outcome reply
+
+-- the same in any state: without a disc the line cannot be answered
+abbrev pub OnDisc : State → Line → List ℕ → Outcome → List ℕ → State → Type 0
+OnDisc (Unopened bytes) line payload outcome reply t = (outcome ≡ outcomes.NotADisc) × (reply ≡ []) × (t ≡ Unopened bytes)
+OnDisc (Disc s) line payload outcome reply (Unopened bytes) = ⊥
+OnDisc (Disc s) line payload outcome reply (Disc t) = DiscStep s t line payload outcome reply
+
+-- From s a line with these data may have this outcome and reply, and leave t.
+abbrev pub Step : State → Line → List ℕ → Outcome → List ℕ → State → Type 0
+Step s Empty payload outcome reply t = (outcome ≡ outcomes.Told tolds.Silent) × (reply ≡ []) × (t ≡ s)
+Step s (Press zones scale psa) payload outcome reply t = PressStep s (shape_of zones scale psa) outcome t × (reply ≡ [])
+Step s Power payload outcome reply t = OnDisc s Power payload outcome reply t
+Step s (Fail block) payload outcome reply t = OnDisc s (Fail block) payload outcome reply t
+Step s (Wear block n) payload outcome reply t = OnDisc s (Wear block n) payload outcome reply t
+Step s (Cut n fate) payload outcome reply t = OnDisc s (Cut n fate) payload outcome reply t
+Step s (Command cdb) payload outcome reply t = OnDisc s (Command cdb) payload outcome reply t

@@ -1,65 +1,71 @@
-use Rattle.std.specs.Prelude.{◌≡◌, ℕ, ◌+◌, ◌<◌, ◌≤◌, Option, Some, List, [], ◌++◌, length}
+use Rattle.std.specs.Prelude.{◌≡◌, ℕ, ◌+◌, ◌<◌, ◌≤◌, Option, None, Some, List, [], ◌++◌, length}
 use Rattle.model_counts.specs.Counts.{Rose}
 use Rattle.ram_outside.specs.declared.image.Image.{Ghosts}
+use Rattle.ram_text.specs.Script.{Reads}
 use Rattle.ram_text.specs.declared.lines.TheConstants.{SCRIPT_LIMIT}
 use Rattle.ram_text.specs.declared.gathered.Print.{Print}
 use Rattle.ram_text.specs.declared.gathered.Print.TheVariants as prints
-use Rattle.ram_text.specs.declared.grammar.Line.{Line}
+use Rattle.ram_text.specs.declared.printing.LastLine.{LastLine}
+use Rattle.ram_text.specs.declared.printing.LastLine.TheVariants as lasts
+use Rattle.ram_text.specs.declared.script.Line.{Line}
 use Rattle.ram_run.specs.declared.held.Held.{Held}
+use Rattle.ram_run.specs.declared.held.Outcome.{Outcome}
+use Rattle.ram_run.specs.declared.held.Outcome.TheVariants as outcomes
 use Rattle.ram_run.specs.declared.serve.Ending.{Ending}
 use Rattle.ram_run.specs.declared.serve.Ending.TheVariants as endings
 use Rattle.ram_run.specs.declared.serve.Turn.{Turn}
 use Rattle.ram_run.specs.declared.serve.Turn.TheVariants as turns
-use Rattle.ram_text.specs.Grammar.{Spells}
-use Rattle.ram_run.specs.Machine.{State}
-use Rattle.ram_run.specs.Held.{Stands, LacksMemory, NeedsDisc}
-use Rattle.ram_run.specs.Run.{Event, Run, Reaches, report_text, IsMisspelled, IsNextLine}
+use Rattle.ram_run.specs.declared.serve.Tally.{Tally}
+use Rattle.ram_run.specs.Machine.{State, IsFirst, Step}
+use Rattle.ram_run.specs.Held.{Stands}
+use Rattle.ram_run.specs.Run.{Event, Run, Reaches, answered_in, report_text, IsNextLine, IsUnread, PassesLineLimit, PassesScriptLimit, ComesNext}
 
--- What came first: the script, what was written before, and the state. (This project's own.)
+-- What came first: the script, what was written before, and the image's bytes. (This project's own, as all here.)
 pub record Beginning : Type 0 where
   pub script : List ℕ
   pub report : List ℕ
-  pub state : State
+  pub image : List ℕ
 
--- The lines so far are a run from the beginning: their events, the state that they lead to, and what follows them in
--- the script.
+-- The lines so far are a run from the beginning: the state that it began in, their events, the state that they lead
+-- to, and what follows them in the script.
 pub record SoFar (first : Beginning) : Type 0 where
+  pub start : State
   pub events : List Event
   pub now : State
   pub rest : List ℕ
-  pub run : Run first.state events now
+  pub starts : IsFirst first.image start
+  pub run : Run start events now
   pub lines : Reaches first.script events rest
 
 -- the report has the answers so far and no more
 abbrev pub IsReported : {first : Beginning} → SoFar first → Option (List ℕ) → Type 0
 IsReported {first} far due = due ≡ Some (first.report ++ report_text far.events)
 
+-- so many lines were read, of which so many were answered
+pub record IsTallied {first : Beginning} (far : SoFar first) (tally : Tally) : Type 0 where
+  pub lines : tally.lines ≡ length far.events
+  pub answered : tally.answered ≡ answered_in far.events
+
 -- Between two lines: what is held stands for the state, what is left follows in the script, so many lines were
 -- read, and what is due is the text of their answers.
-pub record Between {I : Type 0} {d : Ghosts I} (first : Beginning) (held : Held I d) (left due : Option (List ℕ)) (taken number : ℕ) : Type 0 where
+pub record Between {I : Type 0} {d : Ghosts I} (first : Beginning) (held : Held I d) (left due : Option (List ℕ)) (taken : ℕ) (tally : Tally) : Type 0 where
   pub far : SoFar first
   pub stands : Stands held far.now
   pub left_is : left ≡ Some far.rest
   pub taken_is : taken + length far.rest ≡ length first.script
-  pub number_is : number ≡ length far.events
+  pub tallied : IsTallied far tally
   pub due_is : IsReported far due
 
--- the next line of what is left reads as this
-pub record ComesNext (rest : List ℕ) (line : Line) : Type 0 where
-  pub raw : List ℕ
-  pub next : IsNextLine rest raw
-  pub reads : Spells line raw
-
 -- A line was taken and reads as this: what is left follows it, and the rest is as before it.
-pub record Taken {I : Type 0} {d : Ghosts I} (first : Beginning) (held : Held I d) (left due : Option (List ℕ)) (taken number : ℕ) (line : Line) : Type 0 where
+pub record Taken {I : Type 0} {d : Ghosts I} (first : Beginning) (held : Held I d) (left due : Option (List ℕ)) (taken : ℕ) (tally : Tally) (line : Line) (payload : List ℕ) : Type 0 where
   pub far : SoFar first
   pub stands : Stands held far.now
   pub raw : List ℕ
   pub next : IsNextLine far.rest raw
-  pub reads : Spells line raw
+  pub reads : Reads raw line payload
   pub left_is : left ≡ Some next.after
   pub taken_is : taken + length next.after ≡ length first.script
-  pub number_is : number ≡ length far.events
+  pub tallied : IsTallied far tally
   pub due_is : IsReported far due
 
 -- what is due is a front of the text of the answers
@@ -69,20 +75,72 @@ pub record IsFrontOf {first : Beginning} (far : SoFar first) (due : Option (List
   pub due_is : due ≡ Some written
   pub front : written ++ more ≡ first.report ++ report_text far.events
 
+-- the next line comes out so, and leaves what is held
+pub record ComesOut {I : Type 0} {d : Ghosts I} {first : Beginning} (far : SoFar first) (held : Held I d) (outcome : Outcome) : Type 0 where
+  pub line : Line
+  pub payload : List ℕ
+  pub reply : List ℕ
+  pub state : State
+  pub next : ComesNext far.rest line payload
+  pub step : Step far.now line payload outcome reply state
+  pub stands : Stands held state
+
+-- why the last line of a report says what it says
+abbrev pub IsLast : {first : Beginning} → SoFar first → LastLine → Type 0
+IsLast {first} far (lasts.End answered) = (far.rest ≡ []) × (answered ≡ answered_in far.events)
+IsLast {first} far (lasts.NotInLanguage line) = IsUnread far.rest × (line ≡ length far.events + 1)
+IsLast {first} far (lasts.LineTooLong line) = PassesLineLimit first.script far.rest × (line ≡ length far.events + 1)
+IsLast {first} far lasts.ScriptTooLong = PassesScriptLimit first.script far.rest
+IsLast {first} far (lasts.NotADisc line) =
+    ((next : Line) × (payload : List ℕ) × (reply : List ℕ) × (state : State) × ComesNext far.rest next payload × Step far.now next payload outcomes.NotADisc reply state)
+    × (line ≡ length far.events + 1)
+
+-- the last line of a report whose lines come to this end, if there is one
+abbrev pub last_line : Tally → Ending → Option LastLine
+last_line tally endings.Done = Some (lasts.End tally.answered)
+last_line tally endings.NotInLanguage = Some (lasts.NotInLanguage (tally.lines + 1))
+last_line tally endings.LineTooLong = Some (lasts.LineTooLong (tally.lines + 1))
+last_line tally endings.ScriptTooLong = Some lasts.ScriptTooLong
+last_line tally endings.NotADisc = Some (lasts.NotADisc (tally.lines + 1))
+last_line tally endings.SourceFault = None
+last_line tally endings.SinkFault = None
+last_line tally endings.ImageFault = None
+last_line tally endings.NoMemory = None
+
+abbrev pub IsLastIfAny : {first : Beginning} → SoFar first → Option LastLine → Type 0
+IsLastIfAny far None = Unit {0}
+IsLastIfAny far (Some last) = IsLast far last
+
+-- the lines end between two of them, with the answers so far, and what is held stands for the state that they lead to
+pub record EndsBetween {I : Type 0} {d : Ghosts I} (first : Beginning) (held : Held I d) (due : Option (List ℕ)) (last : Option LastLine) : Type 0 where
+  pub far : SoFar first
+  pub stands : Stands held far.now
+  pub due_is : IsReported far due
+  pub last_is : IsLastIfAny far last
+
+-- the sink failed: a front of the answers is due
+pub record EndsCutOff {I : Type 0} {d : Ghosts I} (first : Beginning) (held : Held I d) (due : Option (List ℕ)) : Type 0 where
+  pub far : SoFar first
+  pub stands : Stands held far.now
+  pub front : IsFrontOf far due
+
+-- the next line was not done whole, and is not told
+pub record EndsInLine {I : Type 0} {d : Ghosts I} (first : Beginning) (held : Held I d) (due : Option (List ℕ)) (outcome : Outcome) : Type 0 where
+  pub far : SoFar first
+  pub due_is : IsReported far due
+  pub line : ComesOut far held outcome
+
 -- Why the lines end there, and what is then held and due.
-abbrev pub Ends : {I : Type 0} {d : Ghosts I} → Beginning → Held I d → Option (List ℕ) → ℕ → Ending → Type 0
-Ends first held due number endings.Done = (far : SoFar first) × Stands held far.now × IsReported far due × (number ≡ length far.events) × (far.rest ≡ [])
-Ends first held due number endings.Script = (far : SoFar first) × Stands held far.now × IsReported far due × IsMisspelled first.script far.rest
-Ends first held due number endings.NotADisc = (far : SoFar first) × Stands held far.now × IsReported far due × (line : Line) × ComesNext far.rest line × NeedsDisc far.now line
-Ends first held due number endings.SourceFault = (far : SoFar first) × Stands held far.now × IsReported far due
-Ends first held due number endings.SinkFault = (far : SoFar first) × Stands held far.now × IsFrontOf far due
-Ends first held due number endings.ImageFault = (far : SoFar first) × IsReported far due
-Ends first held due number endings.NoMemory = (far : SoFar first) × IsReported far due × (line : Line) × ComesNext far.rest line × LacksMemory line held
+abbrev pub Ends : {I : Type 0} {d : Ghosts I} → Beginning → Held I d → Option (List ℕ) → Tally → Ending → Type 0
+Ends first held due tally endings.SinkFault = EndsCutOff first held due
+Ends first held due tally endings.ImageFault = EndsInLine first held due outcomes.Fault
+Ends first held due tally endings.NoMemory = EndsInLine first held due outcomes.NoMemory
+Ends first held due tally ending = EndsBetween first held due (last_line tally ending)
 
 -- What one turn makes of what stands between two lines.
-abbrev pub TurnsTo : {I : Type 0} {d : Ghosts I} → Beginning → Held I d → Option (List ℕ) → Option (List ℕ) → ℕ → ℕ → Turn → Type 0
-TurnsTo first held left due taken number turns.Goes = Between first held left due taken (number + 1)
-TurnsTo first held left due taken number (turns.Ends ending) = Ends first held due number ending
+abbrev pub TurnsTo : {I : Type 0} {d : Ghosts I} → Beginning → Held I d → Option (List ℕ) → Option (List ℕ) → ℕ → Tally → Turn → Type 0
+TurnsTo first held left due taken tally (turns.Goes next) = Between first held left due taken next
+TurnsTo first held left due taken tally (turns.Ends ending) = Ends first held due tally ending
 
 -- The counts of source, sink and image, before and after.
 pub record Counts : Type 0 where
@@ -109,13 +167,18 @@ HasRisen before after _ = Unit {0}
 
 -- no count falls in a turn, and the one that an ending tells of rose
 abbrev pub TurnCounts : Counts → Counts → Turn → Type 0
-TurnCounts before after turns.Goes = NoneFell before after
+TurnCounts before after (turns.Goes next) = NoneFell before after
 TurnCounts before after (turns.Ends ending) = NoneFell before after × HasRisen before after ending
 
 -- a turn that goes on took bytes of the script, within its limit
 abbrev pub TakesBytes : ℕ → ℕ → Turn → Type 0
-TakesBytes taken taken' turns.Goes = (taken < taken') × (taken' ≤ SCRIPT_LIMIT)
+TakesBytes taken taken' (turns.Goes next) = (taken < taken') × (taken' ≤ SCRIPT_LIMIT)
 TakesBytes taken taken' (turns.Ends ending) = Unit {0}
+
+-- a turn that goes on came by one line, and by one answer at most
+abbrev pub GoesByOne : Tally → Turn → Type 0
+GoesByOne tally (turns.Goes next) = (next.lines ≡ tally.lines + 1) × (next.answered ≤ tally.answered + 1)
+GoesByOne tally (turns.Ends ending) = Unit {0}
 
 -- The answers so far were handed over, or the sink failed: what is due stays as it was.
 abbrev pub ShowRule : Option (List ℕ) → Option (List ℕ) → ℕ → ℕ → Print → Type 0

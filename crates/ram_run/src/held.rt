@@ -1,21 +1,51 @@
-ghost use Rattle.std.specs.Prelude.{◌≡◌};
+//! What lies in the drive, and what one line does with it.
+ghost use Rattle.std.specs.Prelude.{◌≡◌, ◌≤◌, [], vec_capacity};
 ghost use Rattle.model_geometry.specs.Geometry.{shape_of};
-ghost use Rattle.ram_run.specs.Plain.{Plain, Holds, faults_of};
-ghost use Rattle.ram_run.specs.Machine.{State};
-ghost use Rattle.ram_run.specs.Held.{Stands, LeavesImage, held_faults, OutcomeCount, IsNoPress, IsAnsweredOnDisc, IsReadAnswered, IsWriteAnswered, IsPressAnswered, IsAnswered, outcome_of};
+ghost use Rattle.ram_text.specs.declared.payload.TheConstants.{PAYLOAD_ROOM};
+ghost use Rattle.ram_run.specs.Machine.{State, PressStep};
+ghost use Rattle.ram_run.specs.Held.{Stands, LeavesImage, held_faults, OutcomeCount, NeedsDisc, IsAnswered, IsPressAnswered, IsOnDisc, IsPrintable, IsNoCommand, outcome_of};
+ghost use Rattle.ram_run.specs.Machine.{power_outcome, fail_outcome, wear_outcome, command_outcome};
+ghost use Rattle.ram_run.specs.Starts.{IsOpening};
 
-use crate::plain::{PlainDisc, PlainRead, PlainWrite};
-use ram_bytes::Block;
+use crate::commands::execute;
+use crate::plain::PlainDisc;
 use ram_image::{OpenFault, PressOut, open, press};
+use ram_medium::{Arm, FailEnd};
+use ram_mmc::Answer;
 use ram_outside::Image;
-use ram_text::{Answer, Line};
+use ram_sectors::{PowerOut, Sectors};
+use ram_text::{Event, Line};
 use ram_zones::Geometry;
 use std::alloc::Global;
 
-/// What lies in the drive: an image on which no disc was pressed in this run, or the disc that was.
+/// What lies in the drive: an image that was not opened as a disc, or a disc.
 pub enum Held<I: Image> {
     Image(I),
     Disc(PlainDisc<I>),
+}
+
+/// What is told of a line.
+#[derive(Clone, Copy, Debug, PartialEq, Eq)]
+pub enum Told {
+    /// Nothing: it says nothing.
+    Silent,
+    /// The answer to a line that is no command.
+    Event(Event),
+    /// The answer to a command.
+    Command(Answer),
+}
+
+/// What became of a line.
+#[derive(Clone, Copy, Debug, PartialEq, Eq)]
+pub enum Outcome {
+    /// This is told of it.
+    Told(Told),
+    /// It needs a disc, and there is none.
+    NotADisc,
+    /// The image failed in it, and counted it.
+    Fault,
+    /// It needs memory, and there was none.
+    NoMemory,
 }
 
 impl<I: Image> Held<I> {
@@ -26,90 +56,155 @@ impl<I: Image> Held<I> {
     {
         match self {
             Held::Image(image) => image,
-            Held::Disc(disc) => disc.into_image(),
+            Held::Disc(disc) => disc.into_medium().into_image(),
         }
     }
 }
 
-/// What became of a line.
-#[derive(Clone, Copy, Debug, PartialEq, Eq)]
-pub enum Outcome {
-    /// It was answered.
-    Answered(Answer),
-    /// It needs a disc, and there is none.
-    NotADisc,
-    /// The image failed in it, and counted it.
-    Fault,
-    /// It needs memory, and there was none.
-    NoMemory,
-}
-
-/// Answers a line. A block that is read is then in `block`, which is also the room for what is written.
+/// What one line does, with its data in `payload`. The reply of a command is then in `reply`.
 pub fn answer_line<I: Image>(
     alloc: Global,
     held: Held<I>,
     line: &Line,
-    block: &mut Block,
+    payload: &[u8],
+    reply: &mut Vec<u8>,
 ) -> (Held<I>, Outcome)
-    ensures step { (s : State) → Stands held s → IsAnswered s line.now block.new result.0 result.1 }
+    requires empty { reply.old.items ≡ [] }
+    requires room { PAYLOAD_ROOM ≤ vec_capacity reply.old }
+    ensures step { (s : State) → Stands held s → IsAnswered s line.now payload.now reply.new.items result.0 result.1 }
+    ensures printable { IsPrintable line.now result.1 }
     ensures count { OutcomeCount (held_faults held) (held_faults result.0) result.1 }
+    ensures room { vec_capacity reply.old ≤ vec_capacity reply.new }
 {
-    if let Line::Press { zones, scale, psa } = line {
-        return press_disc(alloc, held, *zones, *scale, *psa);
+    match line {
+        Line::Empty => (held, Outcome::Told(Told::Silent)),
+        Line::Press { zones, scale, psa } => press_disc(alloc, held, *zones, *scale, *psa),
+        Line::Power | Line::Fail { .. } | Line::Wear { .. } | Line::Cut { .. } | Line::Command { .. } => {
+            answer_held(alloc, held, line, payload, reply)
+        }
     }
+}
+
+/// What a line does that needs a disc.
+fn answer_held<I: Image>(
+    alloc: Global,
+    held: Held<I>,
+    line: &Line,
+    payload: &[u8],
+    reply: &mut Vec<u8>,
+) -> (Held<I>, Outcome)
+    requires needs { NeedsDisc line.now }
+    requires empty { reply.old.items ≡ [] }
+    requires room { PAYLOAD_ROOM ≤ vec_capacity reply.old }
+    ensures step { (s : State) → Stands held s → IsAnswered s line.now payload.now reply.new.items result.0 result.1 }
+    ensures printable { IsPrintable line.now result.1 }
+    ensures count { OutcomeCount (held_faults held) (held_faults result.0) result.1 }
+    ensures room { vec_capacity reply.old ≤ vec_capacity reply.new }
+{
     match held {
         Held::Image(image) => (Held::Image(image), Outcome::NotADisc),
         Held::Disc(disc) => {
             let mut disc = disc;
-            let outcome = answer_on_disc(&mut disc, line, block);
+            let outcome = answer_on_disc(alloc, &mut disc, line, payload, reply);
             (Held::Disc(disc), outcome)
         }
     }
 }
 
-/// Answers a line that presses no disc.
-fn answer_on_disc<I: Image>(disc: &mut PlainDisc<I>, line: &Line, block: &mut Block) -> Outcome
-    requires { IsNoPress line.now }
-    ensures step { (s : Plain) → Holds disc.old s → IsAnsweredOnDisc s line.now block.new disc.new result }
-    ensures count { OutcomeCount (faults_of disc.old) (faults_of disc.new) result }
+/// What a line does on a disc.
+fn answer_on_disc<I: Image>(
+    alloc: Global,
+    disc: &mut PlainDisc<I>,
+    line: &Line,
+    payload: &[u8],
+    reply: &mut Vec<u8>,
+) -> Outcome
+    requires needs { NeedsDisc line.now }
+    requires empty { reply.old.items ≡ [] }
+    requires room { PAYLOAD_ROOM ≤ vec_capacity reply.old }
+    ensures rule { IsOnDisc disc.old disc.new line.now payload.now result reply.new.items }
+    ensures room { vec_capacity reply.old ≤ vec_capacity reply.new }
 {
     match line {
-        Line::Press { .. } => unreachable!(),
-        Line::Power => Outcome::Answered(Answer::Ready {
-            capacity: disc.power(),
-        }),
-        Line::Read { lba } => answer_read(disc, *lba, block),
-        Line::Write { lba, fill } => {
-            block.fill(*fill);
-            answer_write(disc, *lba, block)
+        Line::Empty | Line::Press { .. } => unreachable!(),
+        Line::Power => power_outcome(disc.power(alloc)),
+        Line::Fail { block } => fail_outcome(disc.fail(*block)),
+        Line::Wear { block, n } => wear_outcome(disc.wear(*block, *n)),
+        Line::Cut { n, fate } => {
+            disc.arm_cut(*n, *fate);
+            Outcome::Told(Told::Event(Event::Armed))
         }
+        Line::Command { cdb } => command_outcome(execute(disc, cdb, payload, reply)),
     }
 }
 
-/// Answers a read of one sector, whose block is then in `block`.
-fn answer_read<I: Image>(disc: &mut PlainDisc<I>, lba: u32, block: &mut Block) -> Outcome
-    ensures step { (s : Plain) → Holds disc.old s → IsReadAnswered s lba block.new disc.new result }
-    ensures count { OutcomeCount (faults_of disc.old) (faults_of disc.new) result }
+/// How the turning on of the power comes out.
+fn power_outcome(out: PowerOut) -> Outcome
+    ensures { result ≡ power_outcome out }
 {
-    match disc.read(lba, block) {
-        PlainRead::Good => Outcome::Answered(Answer::Good),
-        PlainRead::Off => Outcome::Answered(Answer::Off),
-        PlainRead::OutOfRange => Outcome::Answered(Answer::OutOfRange),
-        PlainRead::Unread => Outcome::Answered(Answer::Unread { lba }),
-        PlainRead::Fault => Outcome::Fault,
+    match out {
+        PowerOut::Ready { capacity } => Outcome::Told(Told::Event(Event::Ready { capacity })),
+        PowerOut::NotFormatted => Outcome::Told(Told::Event(Event::NotFormatted)),
+        PowerOut::Cut => Outcome::Told(Told::Event(Event::Cut)),
+        PowerOut::Fault => Outcome::Fault,
+        PowerOut::NoMemory => Outcome::NoMemory,
     }
 }
 
-/// Answers a write of a whole block.
-fn answer_write<I: Image>(disc: &mut PlainDisc<I>, lba: u32, block: &Block) -> Outcome
-    ensures step { (s : Plain) → Holds disc.old s → IsWriteAnswered s lba block.now disc.new result }
-    ensures count { OutcomeCount (faults_of disc.old) (faults_of disc.new) result }
+/// How the failure of a block comes out.
+fn fail_outcome(end: FailEnd) -> Outcome
+    ensures { result ≡ fail_outcome end }
 {
-    match disc.write(lba, block) {
-        PlainWrite::Good => Outcome::Answered(Answer::Good),
-        PlainWrite::Off => Outcome::Answered(Answer::Off),
-        PlainWrite::OutOfRange => Outcome::Answered(Answer::OutOfRange),
-        PlainWrite::Fault => Outcome::Fault,
+    match end {
+        FailEnd::Done => Outcome::Told(Told::Event(Event::Failed)),
+        FailEnd::NoBlock { .. } => Outcome::Told(Told::Event(Event::NoSuchBlock)),
+        FailEnd::Failed => Outcome::Fault,
+    }
+}
+
+/// How the arming of a block comes out.
+fn wear_outcome(end: Arm) -> Outcome
+    ensures { result ≡ wear_outcome end }
+{
+    match end {
+        Arm::Set => Outcome::Told(Told::Event(Event::Armed)),
+        Arm::NoBlock { .. } => Outcome::Told(Told::Event(Event::NoSuchBlock)),
+        Arm::Full => Outcome::Told(Told::Event(Event::Full)),
+    }
+}
+
+/// How the answer of a command comes out.
+fn command_outcome(answer: Answer) -> Outcome
+    ensures { result ≡ command_outcome answer }
+{
+    match answer {
+        Answer::Good | Answer::Check(_) | Answer::Cut | Answer::Off => {
+            Outcome::Told(Told::Command(answer))
+        }
+        Answer::Fault => Outcome::Fault,
+        Answer::NoMemory => Outcome::NoMemory,
+    }
+}
+
+/// What became of the opening of an image.
+pub enum Opening<I: Image> {
+    /// It holds a disc.
+    Disc(PlainDisc<I>),
+    /// It does not, or could not be opened.
+    Refused(I, OpenFault),
+}
+
+/// Opens the disc of an image, where it holds one.
+pub fn open_disc<I: Image>(alloc: Global, image: I) -> Opening<I>
+    ensures { IsOpening image result }
+{
+    let (medium, geometry) = match open(alloc, image) {
+        Ok(opened) => opened,
+        Err((image, fault)) => return Opening::Refused(image, fault),
+    };
+    match PlainDisc::new(alloc, medium, geometry) {
+        Ok(disc) => Opening::Disc(disc),
+        Err((medium, _)) => Opening::Refused(medium.into_image(), OpenFault::NoMemory),
     }
 }
 
@@ -122,22 +217,23 @@ fn press_disc<I: Image>(
     psa: u32,
 ) -> (Held<I>, Outcome)
     ensures step { (s : State) → Stands held s → IsPressAnswered s (shape_of zones scale psa) result.0 result.1 }
+    ensures printable { IsNoCommand result.1 }
     ensures count { OutcomeCount (held_faults held) (held_faults result.0) result.1 }
 {
     let Ok(geometry) = Geometry::new(zones, scale, psa) else {
-        return (held, Outcome::Answered(Answer::NotPressed));
+        return (held, Outcome::Told(Told::Event(Event::NotPressed)));
     };
     let mut image = held.into_image();
     match press(&mut image, &geometry) {
         PressOut::Failed => return (Held::Image(image), Outcome::Fault),
         PressOut::Done => {}
     }
-    match open(alloc, image) {
-        Ok((medium, geometry)) => (
-            Held::Disc(PlainDisc::new(medium, geometry)),
-            Outcome::Answered(Answer::Pressed),
+    match open_disc(alloc, image) {
+        Opening::Disc(disc) => (
+            Held::Disc(disc),
+            Outcome::Told(Told::Event(Event::Pressed)),
         ),
-        Err((image, fault)) => (Held::Image(image), not_opened(fault)),
+        Opening::Refused(image, fault) => (Held::Image(image), not_opened(fault)),
     }
 }
 

@@ -1,48 +1,30 @@
 ghost use Rattle.ram_text.specs.Writer.{due, PrintRule};
-ghost use Rattle.ram_text.specs.Report.{answer_text};
-ghost use Rattle.std.specs.Prelude.{◌++◌};
 ghost use Rattle.ram_run.specs.Run.{told_text};
-ghost use Rattle.ram_run.specs.Held.{told_sector};
+ghost use Rattle.ram_run.specs.Held.{IsPrintable};
+ghost use Rattle.ram_run.specs.declared.held.Outcome.TheVariants as outcomes;
 
-use ram_bytes::{Block, SECTORS_PER_BLOCK};
+use crate::held::Told;
 use ram_outside::Sink;
-use ram_text::{Answer, Line, Print, ReportWriter, print_answer, print_sector};
+use ram_text::{Line, Print, ReportWriter, print_answer, print_event};
 
-/// Prints an answer, and after a good read the sector out of its block.
-pub fn print_event<K: Sink>(
+/// Prints what is told of a line, with the reply of a command.
+pub fn print_told<K: Sink>(
     writer: &mut ReportWriter,
     report: &mut K,
     number: u64,
     line: &Line,
-    answer: &Answer,
-    block: &Block,
+    told: &Told,
+    reply: &[u8],
 ) -> Print
-    ensures { PrintRule (due (K.written report.old) writer.old) (due (K.written report.new) writer.new) (K.faults report.old) (K.faults report.new)
-        (answer_text number answer.now ++ told_text line.now answer.now (told_sector line.now answer.now block.now)) result }
+    requires { IsPrintable line.now (outcomes.Told told.now) }
+    ensures { PrintRule (due (K.written report.old) writer.old) (due (K.written report.new) writer.new) (K.faults report.old) (K.faults report.new) (told_text number line.now told.now reply.now) result }
 {
-    match print_answer(writer, report, number, answer) {
-        Print::Failed => return Print::Failed,
-        Print::Done => {}
-    }
-    print_told(writer, report, line, answer, block)
-}
-
-/// Prints the sector that is told after a good read.
-fn print_told<K: Sink>(
-    writer: &mut ReportWriter,
-    report: &mut K,
-    line: &Line,
-    answer: &Answer,
-    block: &Block,
-) -> Print
-    ensures { PrintRule (due (K.written report.old) writer.old) (due (K.written report.new) writer.new) (K.faults report.old) (K.faults report.new)
-        (told_text line.now answer.now (told_sector line.now answer.now block.now)) result }
-{
-    match (line, answer) {
-        (Line::Read { lba }, Answer::Good) => {
-            let place = *lba as usize % SECTORS_PER_BLOCK;
-            print_sector(writer, report, *lba, block.sector(place))
-        }
-        _ => Print::Done,
+    match told {
+        Told::Silent => Print::Done,
+        Told::Event(event) => print_event(writer, report, number, event),
+        Told::Command(answer) => match line {
+            Line::Command { cdb } => print_answer(writer, report, number, answer, cdb, reply),
+            Line::Empty | Line::Press { .. } | Line::Power | Line::Fail { .. } | Line::Wear { .. } | Line::Cut { .. } => unreachable!(),
+        },
     }
 }

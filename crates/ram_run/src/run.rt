@@ -1,16 +1,30 @@
-ghost use Rattle.std.specs.Prelude.{◌≡◌, ◌⊎◌, [], ◌∷◌, map, codes, MatchOption};
-ghost use Rattle.model_counts.specs.Counts.{Rose};
+ghost use Rattle.std.specs.Prelude.{ℕ, ◌⊎◌, map};
+ghost use Rattle.ram_run.specs.declared.help.TheConstants.{HELP, VERSION};
 ghost use Rattle.ram_run.specs.Turn.{Beginning, counts_of};
-ghost use Rattle.ram_run.specs.Completes.{IsInLanguage, BeginsWithPress, NoneRose, IsComplete};
-ghost use Rattle.ram_run.specs.Outcome.{IsRunImage, IsTold, IsUntouched, IsUnopened, IsNoUsage, UsageRule, UntouchedByUsage, Leaves, StatusCounts, bytes_returned};
+ghost use Rattle.ram_run.specs.Completes.{IsInLanguage, BeginsWithDisc, NoneRose, IsComplete};
+ghost use Rattle.ram_run.specs.Words.{IsRunImage, IsHelp, IsVersion, UsageRule, IsUnread, IsUntouched, UntouchedByUsage, WritesText, FormRule};
+ghost use Rattle.ram_run.specs.Outcome.{IsTold, IsUnopened, IsNoUsage, Leaves, StatusCounts, bytes_returned};
 
+use crate::help::{HELP, VERSION};
 use crate::serve::{Desk, serve};
 use crate::status::Status;
 use ram_outside::{Opened, Opener, Sink, Source};
+use ram_text::hand_over;
 use std::alloc::Global;
 
+/// The forms of the program's words.
+#[derive(Clone, Copy, Debug, PartialEq, Eq)]
+enum Form<'a> {
+    /// Run a script over the image of this name.
+    Run(&'a str),
+    /// Tell what the program does.
+    Help,
+    /// Tell the program's version.
+    Version,
+}
+
 /// Runs the words of the program: `run IMAGE` answers the script over the image of that name, and reports every
-/// answer.
+/// answer; `--help` and `--version` tell of the program.
 pub fn run<S: Source, K: Sink, O: Opener>(
     alloc: Global,
     words: &[&str],
@@ -21,27 +35,45 @@ pub fn run<S: Source, K: Sink, O: Opener>(
     ensures usage { UsageRule (map (λ word. word.now) words.now) result }
     ensures untouched { UntouchedByUsage (S.left script.old) (S.left script.new) (K.written report.old) (K.written report.new) (O.returned opener.old) (O.returned opener.new) result }
     ensures causes { StatusCounts (counts_of (S.faults script.old) (K.faults report.old) (O.faults opener.old)) (counts_of (S.faults script.new) (K.faults report.new) (O.faults opener.new)) result }
-    ensures run { (first : Beginning) → IsTold O.Image.bytes first (S.left script.old) (K.written report.old) (O.next opener.old) O.tells
-        → Leaves first (K.written report.new) (bytes_returned O.Image.bytes (O.returned opener.new)) (Rose (O.faults opener.old) (O.faults opener.new)) result
+    ensures help { IsHelp (map (λ word. word.now) words.now) → IsUnread (S.left script.old) (S.left script.new) (O.returned opener.old) (O.returned opener.new) × WritesText (K.written report.old) (K.written report.new) HELP.now result }
+    ensures version { IsVersion (map (λ word. word.now) words.now) → IsUnread (S.left script.old) (S.left script.new) (O.returned opener.old) (O.returned opener.new) × WritesText (K.written report.old) (K.written report.new) VERSION.now result }
+    ensures run { (first : Beginning) → IsRunImage (map (λ word. word.now) words.now) → IsTold O.Image.bytes first (S.left script.old) (K.written report.old) (O.next opener.old) O.tells
+        → Leaves first (K.written report.new) (bytes_returned O.Image.bytes (O.returned opener.new)) result
         ⊎ (IsUnopened result × IsUntouched (S.left script.old) (S.left script.new) (K.written report.old) (K.written report.new) (O.returned opener.old) (O.returned opener.new)) }
-    ensures completes { (first : Beginning) → IsTold O.Image.bytes first (S.left script.old) (K.written report.old) (O.next opener.old) O.tells
-        → IsRunImage (map (λ word. word.now) words.now) → IsInLanguage first.script → BeginsWithPress first.script
+    ensures completes { (first : Beginning) → IsRunImage (map (λ word. word.now) words.now) → IsTold O.Image.bytes first (S.left script.old) (K.written report.old) (O.next opener.old) O.tells
+        → IsInLanguage first.script → BeginsWithDisc first
         → NoneRose (counts_of (S.faults script.old) (K.faults report.old) (O.faults opener.old)) (counts_of (S.faults script.new) (K.faults report.new) (O.faults opener.new))
         → IsComplete result }
 {
-    match image_named(words) {
-        Some(name) => run_image(alloc, name, script, report, opener),
+    match form_of(words) {
+        Some(Form::Run(name)) => run_image(alloc, name, script, report, opener),
+        Some(Form::Help) => tell(report, HELP),
+        Some(Form::Version) => tell(report, VERSION),
         None => Status::Usage,
     }
 }
 
-/// The name of the image, where the words are `run` and a name.
-fn image_named<'a>(words: &[&'a str]) -> Option<&'a str>
-    ensures { MatchOption result (¬ IsRunImage (map (λ word. word.now) words.now)) (λ name. map (λ word. word.now) words.now ≡ codes "run" ∷ name.now ∷ []) }
+/// The form of the words, if they have one.
+fn form_of<'a>(words: &[&'a str]) -> Option<Form<'a>>
+    ensures { FormRule (map (λ word. word.now) words.now) result }
 {
     match words {
-        [verb, name] if *verb == "run" => Some(*name),
+        [verb, name] if *verb == "run" => Some(Form::Run(*name)),
+        [word] if *word == "--help" => Some(Form::Help),
+        [word] if *word == "--version" => Some(Form::Version),
         _ => None,
+    }
+}
+
+/// Writes a text to the report. It takes no memory.
+fn tell<K: Sink>(report: &mut K, text: &[u8]) -> Status
+    ensures other { IsNoUsage result }
+    ensures writes { WritesText (K.written report.old) (K.written report.new) text.now result }
+    ensures counts { (source image : ℕ) → StatusCounts (counts_of source (K.faults report.old) image) (counts_of source (K.faults report.new) image) result }
+{
+    match hand_over(report, text) {
+        Ok(()) => Status::Done,
+        Err(_) => Status::SinkFault,
     }
 }
 
@@ -56,7 +88,7 @@ fn run_image<S: Source, K: Sink, O: Opener>(
     ensures other { IsNoUsage result }
     ensures causes { StatusCounts (counts_of (S.faults script.old) (K.faults report.old) (O.faults opener.old)) (counts_of (S.faults script.new) (K.faults report.new) (O.faults opener.new)) result }
     ensures run { (first : Beginning) → IsTold O.Image.bytes first (S.left script.old) (K.written report.old) (O.next opener.old) O.tells
-        → Leaves first (K.written report.new) (bytes_returned O.Image.bytes (O.returned opener.new)) (Rose (O.faults opener.old) (O.faults opener.new)) result
+        → Leaves first (K.written report.new) (bytes_returned O.Image.bytes (O.returned opener.new)) result
         ⊎ (IsUnopened result × IsUntouched (S.left script.old) (S.left script.new) (K.written report.old) (K.written report.new) (O.returned opener.old) (O.returned opener.new)) }
 {
     let Ok(desk) = Desk::new(alloc) else {
