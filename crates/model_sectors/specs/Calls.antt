@@ -205,13 +205,21 @@ pub record IsPowered (old new : Shown) : Type 0 where
   pub dropped : new.buffered ≡ []
   pub same_cells : (i : ℕ) → i < length new.homes → home_cell new i ≡ cell_at old.medium.world.cells (home new i)
 
+-- Memory was refused after at most so many uses, and the power is off again.
+pub record RunsOutOfMemory (old new : Shown) (most : ℕ) : Type 0 where
+  pub off : ¬ IsOn new
+  pub uses : ℕ
+  pub few : uses ≤ most
+  pub reach : Reach (turned_on old.medium) (turned_on new.medium) uses
+  pub dropped : new.buffered ≡ []
+
 -- The cause of each answer of the turning on of the power. Want of memory is free.
 abbrev pub PowerCause : Shown → Shown → PowerOut → Type 0
 PowerCause old new (powers.Ready told) = IsPowered old new × IsFormatted new × (told ≡ capacity new)
 PowerCause old new powers.NotFormatted = IsPowered old new × ¬ IsFormatted new
 PowerCause old new powers.Cut = IsStopped (record old { medium = turned_on old.medium }) new mount_uses stops.Cut
 PowerCause old new powers.Fault = IsStopped (record old { medium = turned_on old.medium }) new mount_uses stops.Fault
-PowerCause old new powers.NoMemory = ¬ IsOn new × (new.buffered ≡ [])
+PowerCause old new powers.NoMemory = RunsOutOfMemory old new mount_uses
 
 -- What the drive stands for after the power went off and on again: the first of its discs that fits.
 abbrev pub PowerStep : Shown → (Standing → Type 0) → Standing → PowerOut → Type 0

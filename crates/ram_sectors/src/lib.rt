@@ -2,6 +2,7 @@
 #![tactic(auto)]
 
 ghost use Rattle.std.specs.Prelude.{◌≡◌, ◌*◌, ◌≤◌, List, length};
+ghost use Rattle.model_geometry.specs.Geometry.{Shape};
 ghost use Rattle.model_sectors.specs.Discs.{Standing, Shown};
 ghost use Rattle.model_sectors.specs.Calls.{CapacityRule, ReadCause, ReadStep, IsInRange, AreBuffered, ReadsBuffered, WriteCause, WriteStep, PowerCause, PowerStep};
 ghost use Rattle.ram_sectors.specs.Laws.{SectorsLaws};
@@ -12,6 +13,9 @@ use std::alloc::Global;
 /// A disc as its host sees it: a list of sectors of 2,048 bytes. Wherever its medium tells its cells, it stands for a
 /// disc whose sectors are those that were last acknowledged.
 pub trait Sectors {
+    /// The geometry of its disc.
+    ghost shape: { Self → Shape };
+
     /// What it shows beside its disc.
     ghost shows: { Self → Shown };
 
@@ -29,6 +33,7 @@ pub trait Sectors {
         requires whole { length into.old ≡ 2048 * n }
         ensures cause { ReadCause (shows self.old) (shows self.new) lba n result }
         ensures step { (s : Standing) → stands self.old s → ReadStep (shows self.old) (shows self.new) (stands self.new) s lba n into.new result }
+        ensures same_shape { shape self.new ≡ shape self.old }
         ensures buffered { IsInRange (shows self.old) lba n → AreBuffered (shows self.old) lba n → ReadsBuffered (shows self.old) (shows self.new) result };
 
     /// Writes `n` sectors from sector `lba` on, and reads each block back. Whole logical blocks are replaced one
@@ -37,12 +42,14 @@ pub trait Sectors {
         requires few { n ≤ 1024 }
         requires whole { length from.now ≡ 2048 * n }
         ensures cause { WriteCause (shows self.old) (shows self.new) lba n result }
-        ensures step { (s : Standing) → stands self.old s → WriteStep (shows self.old) (shows self.new) (stands self.new) s lba n from.now result };
+        ensures step { (s : Standing) → stands self.old s → WriteStep (shows self.old) (shows self.new) (stands self.new) s lba n from.now result }
+        ensures same_shape { shape self.new ≡ shape self.old };
 
     /// Turns the power off and on again. Only on Ready and NotFormatted is it on afterwards.
     fn power(&mut self, alloc: Global) -> PowerOut
         ensures cause { PowerCause (shows self.old) (shows self.new) result }
-        ensures step { (s : Standing) → stands self.old s → PowerStep (shows self.new) (stands self.new) s result };
+        ensures step { (s : Standing) → stands self.old s → PowerStep (shows self.new) (stands self.new) s result }
+        ensures same_shape { shape self.new ≡ shape self.old };
 
     ghost laws: { SectorsLaws shows stands };
 }
