@@ -1,8 +1,9 @@
 //! The logical blocks that were used last, kept so that they need not be read again.
 #![tactic(auto)]
 
-ghost use Rattle.std.specs.Prelude.{◌≡◌, IfOk, MatchBool, Some, None, []};
+ghost use Rattle.std.specs.Prelude.{◌≡◌, ◌≤◌, IfOk, MatchBool, Some, None, [], length};
 ghost use Rattle.model_buffer.specs.Buffer.{bytes_at, with_front};
+ghost use Rattle.model_buffer.specs.declared.TheConstants.{BUFFERED_BLOCKS};
 
 pub use model_buffer::BUFFERED_BLOCKS;
 use ram_bytes::Block;
@@ -41,9 +42,10 @@ impl BlockBuffer {
     /// Copies block `i` to `into` and makes it the one used last, where it is there. Whether it is; else `into` and
     /// the buffer are as before.
     pub fn lookup(&mut self, i: u32, into: &mut Block) -> bool
-        ensures { MatchBool result
+        ensures found { MatchBool result
             ((bytes_at i self.old ≡ Some into.new) × (self.new ≡ with_front i into.new self.old))
             ((bytes_at i self.old ≡ None) × (self.new ≡ self.old) × (into.new ≡ into.old)) }
+        ensures few { length self.old ≤ BUFFERED_BLOCKS }
     {
         let Some(number) = self.number else {
             return false;

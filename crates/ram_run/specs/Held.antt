@@ -51,6 +51,12 @@ NeedsDisc lines.Empty = ⊥
 NeedsDisc (lines.Press zones scale psa) = ⊥
 NeedsDisc _ = Unit {0}
 
+-- an arm or a cut that the line sets falls at a use from the next one on
+abbrev pub CountsUses : Line → Type 0
+CountsUses (lines.Wear block n) = 1 ≤ n
+CountsUses (lines.Cut n fate) = 1 ≤ n
+CountsUses _ = Unit {0}
+
 -- What became of a line, of which the state before it is s.
 pub record IsAnswered {I : Type 0} {d : Ghosts I} (s : State) (line : Line) (payload reply : List ℕ) (held : Held I d) (outcome : Outcome) : Type 0 where
   pub state : State

@@ -1,5 +1,8 @@
 pub mod Plain
 pub mod Blocks
+pub mod Reading
+pub mod Control
+pub mod Writing
 pub mod Host
 pub mod Machine
 pub mod Held

@@ -24,6 +24,7 @@ use Rattle.ram_run.specs.declared.held.Told.TheVariants as tolds
 use Rattle.ram_run.specs.declared.held.Outcome.{Outcome}
 use Rattle.ram_run.specs.declared.held.Outcome.TheVariants as outcomes
 use Rattle.ram_run.specs.Plain.{plain_homes}
+use Rattle.ram_run.specs.Control.{buffer_after_fail, stands_after_fail}
 use Rattle.ram_run.specs.Host.{IsExecuted}
 
 -- A disc in the drive: its geometry, what the drive shows, and what it stands for, which agree. (This project's own, as
@@ -126,11 +127,6 @@ module _ (old new : Shown) (before after : Standing → Type 0) where
     pub buffered : new.buffered ≡ old.buffered
     pub stands : (s : Standing) → before s → after s
 
-  -- what it stood for is what it may stand for when the power goes on, and no block is buffered
-  pub record LosesPower : Type 0 where
-    pub dropped : new.buffered ≡ []
-    pub stands : (s : Standing) → before s → after (Off (candidates s))
-
   -- the power went off and on again, and it ended so
   pub record PowerLine (outcome : Outcome) : Type 0 where
     pub out : PowerOut
@@ -138,17 +134,12 @@ module _ (old new : Shown) (before after : Standing → Type 0) where
     pub step : (s : Standing) → before s → PowerStep new after s out
     pub outcome_is : outcome ≡ power_outcome out
 
-  -- what stands after the failure of a block: all as before, but where what the medium lies on failed
-  abbrev pub FailLeaves : FailEnd → Type 0
-  FailLeaves fails.Done = KeepsRest
-  FailLeaves (fails.NoBlock blocks) = KeepsRest
-  FailLeaves fails.Failed = LosesPower
-
   -- a block of a medium of so many was to fail, and it ended so
   pub record FailLine (total block : ℕ) (outcome : Outcome) : Type 0 where
     pub end : FailEnd
     pub rule : FailRule total old.medium new.medium block end
-    pub leaves : FailLeaves end
+    pub buffered : new.buffered ≡ buffer_after_fail old.buffered end
+    pub stands : (s : Standing) → before s → after (stands_after_fail s end)
     pub outcome_is : outcome ≡ fail_outcome end
 
   -- a block of a medium of so many was to be armed, and it ended so

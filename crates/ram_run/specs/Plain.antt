@@ -2,12 +2,10 @@ use Rattle.std.specs.Prelude.{◌≡◌, ℕ, true, IsTrue, Some, List, [], drop
 use Rattle.model_geometry.specs.Geometry.{Shape, data_blocks}
 use Rattle.model_medium.specs.Cells.{Good, cell_at}
 use Rattle.model_buffer.specs.Buffer.{bytes_at, numbers_in}
-use Rattle.model_sectors.specs.Discs.{Standing, On, Off, Shown, block_of, IsShown, candidates}
+use Rattle.model_sectors.specs.Discs.{Standing, On, Off, Shown, block_of, IsShown}
 use Rattle.ram_outside.specs.declared.image.Image.{Ghosts}
 use Rattle.ram_image.specs.declared.medium.ImageMedium.{ImageMedium}
 use Rattle.ram_image.specs.Medium.{shape_of_medium, world_of, machine_in}
-use Rattle.ram_medium.specs.declared.control.FailEnd.{FailEnd}
-use Rattle.ram_medium.specs.declared.control.FailEnd.TheVariants as fails
 use Rattle.ram_run.specs.declared.plain.PlainDisc.{PlainDisc}
 
 -- The homes of the logical blocks of a disc without lists: the data blocks behind the primary spares, in order. (This
@@ -39,8 +37,3 @@ pub record IsStart {I : Type 0} {d : Ghosts I} (medium : ImageMedium I d) : Type
   pub told : (world_of medium).told ≡ true
   pub whole : (block : ℕ) (bytes : List ℕ) → cell_at (world_of medium).cells block ≡ Good bytes → length bytes ≡ 32768
   pub off : ¬ IsTrue (world_of medium).power
-
--- what a plain disc stands for after a block failed, by the answer, and what is buffered
-abbrev pub AfterFail : {I : Type 0} {d : Ghosts I} → PlainDisc I d → PlainDisc I d → FailEnd → Type 0
-AfterFail old new fails.Failed = (new.buffer ≡ []) × ((s : Standing) → stands_for old s → stands_for new (Off (candidates s)))
-AfterFail old new _ = (new.buffer ≡ old.buffer) × ((s : Standing) → stands_for old s → stands_for new s)

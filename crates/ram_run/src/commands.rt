@@ -1,8 +1,7 @@
 //! The commands that a disc without lists knows, READ(10) and WRITE(10), over any drive of sectors.
 ghost use Rattle.std.specs.Prelude.{◌≡◌, ◌≤◌, [], length, vec_capacity};
-ghost use Rattle.model_sectors.specs.Calls.{IsFormatted};
 ghost use Rattle.ram_text.specs.declared.payload.TheConstants.{PAYLOAD_ROOM};
-ghost use Rattle.ram_run.specs.Host.{asked, read_answer, write_answer, IsExecuted, IsRead};
+ghost use Rattle.ram_run.specs.Host.{asked, read_answer, write_answer, IsTransferred, IsRead};
 
 use model_commands::Operation;
 use ram_bytes::{Cdb, SECTOR_BYTES, get_u16, get_u32};
@@ -28,23 +27,20 @@ pub enum Transfer {
     Write { lba: u32, n: u32 },
 }
 
-/// Executes a command on a disc that is always formatted, with the command's data in `payload`. The reply is then in
-/// `reply`, which stays empty on every answer but Good.
+/// Executes a command on a drive whose power is on, with the command's data in `payload`. The reply is then in `reply`,
+/// which stays empty on every answer but Good.
 pub fn execute<D: Sectors>(
     disc: &mut D,
     cdb: &Cdb,
     payload: &[u8],
     reply: &mut Vec<u8>,
 ) -> Answer
-    requires formatted { IsFormatted (D.shows disc.old) }
     requires empty { reply.old.items ≡ [] }
     requires room { PAYLOAD_ROOM ≤ vec_capacity reply.old }
-    ensures rule { IsExecuted (D.shows disc.old) (D.shows disc.new) (D.stands disc.old) (D.stands disc.new) cdb.now payload.now result reply.new.items }
+    ensures rule { IsTransferred (D.shows disc.old) (D.shows disc.new) (D.stands disc.old) (D.stands disc.new) payload.now result reply.new.items (asked cdb.now (length payload.now)) }
+    ensures same_shape { D.shape disc.new ≡ D.shape disc.old }
     ensures room { vec_capacity reply.old ≤ vec_capacity reply.new }
 {
-    if disc.capacity().is_none() {
-        return Answer::Off;
-    }
     match asked(cdb, payload.len()) {
         Err(sense) => Answer::Check(sense),
         Ok(Transfer::Read { lba, n }) => read(disc, lba, n, reply),
@@ -85,6 +81,7 @@ fn read<D: Sectors>(disc: &mut D, lba: u32, n: u32, reply: &mut Vec<u8>) -> Answ
     requires empty { reply.old.items ≡ [] }
     requires room { PAYLOAD_ROOM ≤ vec_capacity reply.old }
     ensures rule { IsRead (D.shows disc.old) (D.shows disc.new) (D.stands disc.old) (D.stands disc.new) lba n result reply.new.items }
+    ensures same_shape { D.shape disc.new ≡ D.shape disc.old }
     ensures room { vec_capacity reply.old ≤ vec_capacity reply.new }
 {
     match reply.resize(n as usize * SECTOR_BYTES, 0) {

@@ -3,12 +3,16 @@ ghost use Rattle.std.specs.Prelude.{◌≡◌, ◌≤◌, [], vec_capacity};
 ghost use Rattle.model_geometry.specs.Geometry.{shape_of};
 ghost use Rattle.ram_text.specs.declared.payload.TheConstants.{PAYLOAD_ROOM};
 ghost use Rattle.ram_run.specs.Machine.{State, PressStep};
-ghost use Rattle.ram_run.specs.Held.{Stands, LeavesImage, held_faults, OutcomeCount, NeedsDisc, IsAnswered, IsPressAnswered, IsOnDisc, IsPrintable, IsNoCommand, outcome_of};
+ghost use Rattle.ram_run.specs.Held.{Stands, LeavesImage, held_faults, OutcomeCount, NeedsDisc, CountsUses, IsAnswered, IsPressAnswered, IsOnDisc, IsPrintable, IsNoCommand, outcome_of};
 ghost use Rattle.ram_run.specs.Machine.{power_outcome, fail_outcome, wear_outcome, command_outcome};
 ghost use Rattle.ram_run.specs.Starts.{IsOpening};
+ghost use Rattle.ram_image.specs.Medium.{shape_of_medium};
+ghost use Rattle.ram_run.specs.Plain.{shown_by, stands_for};
+ghost use Rattle.ram_run.specs.Host.{IsExecuted};
 
 use crate::commands::execute;
 use crate::plain::PlainDisc;
+use ram_bytes::Cdb;
 use ram_image::{OpenFault, PressOut, open, press};
 use ram_medium::{Arm, FailEnd};
 use ram_mmc::Answer;
@@ -69,6 +73,7 @@ pub fn answer_line<I: Image>(
     payload: &[u8],
     reply: &mut Vec<u8>,
 ) -> (Held<I>, Outcome)
+    requires uses { CountsUses line.now }
     requires empty { reply.old.items ≡ [] }
     requires room { PAYLOAD_ROOM ≤ vec_capacity reply.old }
     ensures step { (s : State) → Stands held s → IsAnswered s line.now payload.now reply.new.items result.0 result.1 }
@@ -94,6 +99,7 @@ fn answer_held<I: Image>(
     reply: &mut Vec<u8>,
 ) -> (Held<I>, Outcome)
     requires needs { NeedsDisc line.now }
+    requires uses { CountsUses line.now }
     requires empty { reply.old.items ≡ [] }
     requires room { PAYLOAD_ROOM ≤ vec_capacity reply.old }
     ensures step { (s : State) → Stands held s → IsAnswered s line.now payload.now reply.new.items result.0 result.1 }
@@ -120,6 +126,7 @@ fn answer_on_disc<I: Image>(
     reply: &mut Vec<u8>,
 ) -> Outcome
     requires needs { NeedsDisc line.now }
+    requires uses { CountsUses line.now }
     requires empty { reply.old.items ≡ [] }
     requires room { PAYLOAD_ROOM ≤ vec_capacity reply.old }
     ensures rule { IsOnDisc disc.old disc.new line.now payload.now result reply.new.items }
@@ -134,8 +141,27 @@ fn answer_on_disc<I: Image>(
             disc.arm_cut(*n, *fate);
             Outcome::Told(Told::Event(Event::Armed))
         }
-        Line::Command { cdb } => command_outcome(execute(disc, cdb, payload, reply)),
+        Line::Command { cdb } => command_outcome(execute_if_on(disc, cdb, payload, reply)),
     }
+}
+
+/// Executes a command, where the power is on.
+fn execute_if_on<I: Image>(
+    disc: &mut PlainDisc<I>,
+    cdb: &Cdb,
+    payload: &[u8],
+    reply: &mut Vec<u8>,
+) -> Answer
+    requires empty { reply.old.items ≡ [] }
+    requires room { PAYLOAD_ROOM ≤ vec_capacity reply.old }
+    ensures rule { IsExecuted (shown_by disc.old) (shown_by disc.new) (stands_for disc.old) (stands_for disc.new) cdb.now payload.now result reply.new.items }
+    ensures same_shape { shape_of_medium disc.new.medium ≡ shape_of_medium disc.old.medium }
+    ensures room { vec_capacity reply.old ≤ vec_capacity reply.new }
+{
+    if !disc.powered() {
+        return Answer::Off;
+    }
+    execute(disc, cdb, payload, reply)
 }
 
 /// How the turning on of the power comes out.

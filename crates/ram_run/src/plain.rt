@@ -3,14 +3,15 @@ ghost use Rattle.std.specs.Prelude.{◌≡◌};
 ghost use Rattle.std.proofs.Props.{props};
 ghost use Rattle.ram_image.specs.Medium.{shape_of_medium};
 
+mod control;
 mod fetching;
+mod reading;
 mod request;
-mod stub;
+mod writing;
 
 use ram_buffer::BlockBuffer;
 use ram_bytes::Block;
 use ram_image::ImageMedium;
-use ram_medium::{Arm, FailEnd, Fate, Medium, MediumControl};
 use ram_outside::Image;
 use ram_sectors::{PowerOut, ReadOut, Sectors, WriteOut};
 use ram_zones::Geometry;
@@ -70,4 +71,36 @@ impl<I: Image> PlainDisc<I> {
         } = self;
         medium
     }
+}
+
+impl<I: Image> Sectors for PlainDisc<I> {
+    ghost use Rattle.ram_image.specs.Medium.{shape_of_medium};
+    ghost use Rattle.ram_run.specs.Plain.{shown_by, stands_for};
+
+    ghost shape = { λ disc. shape_of_medium disc.medium };
+
+    ghost shows = { shown_by };
+
+    ghost stands = { stands_for };
+
+    fn capacity(&self) -> Option<u32> {
+        self.tell_capacity()
+    }
+
+    fn read(&mut self, lba: u32, n: u32, into: &mut [u8]) -> ReadOut {
+        self.read_sectors(lba, n, into)
+    }
+
+    fn write(&mut self, lba: u32, n: u32, from: &[u8]) -> WriteOut {
+        self.write_sectors(lba, n, from)
+    }
+
+    fn power(&mut self, _alloc: Global) -> PowerOut {
+        self.cycle_power()
+    }
+
+    ghost laws = { record {
+      told = λ disc s stands. stands.told;
+      agrees = λ disc s stands. stands.agrees;
+    } };
 }

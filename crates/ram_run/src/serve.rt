@@ -2,7 +2,7 @@
 ghost use Rattle.std.specs.Prelude.{◌≡◌, ◌^◌, ◌<◌, ◌≤◌, ◌+◌, ℕ, List, [], Option, IfOk, vec_capacity};
 ghost use Rattle.std.specs.Io.KnownBytes.{prepend_known};
 ghost use Rattle.ram_text.specs.Writer.{due};
-ghost use Rattle.ram_run.specs.Held.{held_faults};
+ghost use Rattle.ram_run.specs.Held.{held_faults, CountsUses};
 ghost use Rattle.ram_run.specs.Run.{answers_of};
 ghost use Rattle.ram_run.specs.Outcome.{Begins, IsFresh, HasRoom, IsNoUsage, Leaves, StatusCounts};
 ghost use Rattle.ram_run.specs.Starts.{StartRule};
@@ -123,6 +123,7 @@ fn answer_and_print<I: Image, K: Sink>(
     writer: &mut ReportWriter,
     report: &mut K,
 ) -> (Held<I>, Turn)
+    requires uses { CountsUses line.now }
     requires lines { tally.lines < 2 ^ 63 }
     requires answered { tally.answered < 2 ^ 63 }
     requires empty { reply.old.items ≡ [] }

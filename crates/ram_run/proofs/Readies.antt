@@ -1,0 +1,127 @@
+-- How the look for the rest of a block ends.
+use Rattle.std.specs.Prelude.{◌≡◌, ℕ, ◌-◌, ◌<◌, ◌⊎◌, ◌&&◌, not, nat_lt, if◌then◌else◌, Bool, true, false, IsTrue, Some, List, length}
+use Rattle.std.proofs.Common.{refl, sym, ap, ◌∙◌, inl, inr, subst}
+use Rattle.std.proofs.lemmas.Bool.{both_ways, cond-true, cond-false}
+use Rattle.model_medium.specs.Cells.{Cell, Good, IsGood, IsSameOrDead, cell_at}
+use Rattle.model_buffer.specs.Buffer.{bytes_at, numbers_in, touched_one}
+use Rattle.model_sectors.specs.Discs.{On, Agrees, block_of, home, home_cell}
+use Rattle.model_sectors.specs.Uses.{is_partly, is_buffered, start_in}
+use Rattle.model_sectors.proofs.Covering.{bytes_at_some, numbers_in-with_front}
+use Rattle.ram_outside.specs.declared.image.Image.{Ghosts}
+use Rattle.ram_medium.specs.Stops.{Stops}
+use Rattle.ram_medium.specs.declared.stops.Stop.{Stop}
+use Rattle.ram_image.specs.declared.medium.ImageMedium.{ImageMedium}
+use Rattle.ram_image.specs.Medium.{shape_of_medium, world_of, ImageReaches}
+use Rattle.ram_run.specs.declared.plain.PlainDisc.{PlainDisc}
+use Rattle.ram_run.specs.declared.plain.request.Part.{Part}
+use Rattle.ram_run.specs.Plain.{shown_by, stands_for}
+use Rattle.ram_run.specs.Blocks.{Stays, IsFetched, FromBuffer, FromHome, IsUnread, HaltsReading}
+use Rattle.ram_run.specs.Writing.{IsPart, rest_uses, IsReady, LacksItsRest, HaltsAsWas}
+use Rattle.ram_run.proofs.ImageLaws.{image_laws}
+use Rattle.ram_run.proofs.Standings.{where_told, buffer_more, home_cell_now, fits_still, stays_none}
+
+-- whether a part is less than its block
+pub partly_is : (lba n : ℕ) (part : Part) (b : Bool) → IsPart lba n part → b ≡ nat_lt (part.end - part.start) 16 → is_partly lba n part.block ≡ b
+partly_is lba n part b is_part e = ap (λ (m : ℕ). nat_lt (m - start_in lba part.block) 16) (sym is_part.end_is) ∙ ap (λ (m : ℕ). nat_lt (part.end - m) 16) (sym is_part.start_is) ∙ sym e
+
+-- how many uses the rest takes
+rest_whole : (p b : Bool) → p ≡ false → ◌≡◌ {A = ℕ} (if p && not b then 1 else 0) 0
+rest_whole false b e = refl
+rest_whole true b e = absurd (both_ways true e refl)
+
+rest_at_hand : (p b : Bool) → b ≡ true → ◌≡◌ {A = ℕ} (if p && not b then 1 else 0) 0
+rest_at_hand false true e = refl
+rest_at_hand true true e = refl
+rest_at_hand p false e = absurd (both_ways false refl e)
+
+rest_missing : (p b : Bool) → p ≡ true → ¬ IsTrue b → ◌≡◌ {A = ℕ} (if p && not b then 1 else 0) 1
+rest_missing true false e missing = refl
+rest_missing true true e missing = absurd (missing refl)
+rest_missing false b e missing = absurd (both_ways false refl e)
+
+not_good_by : (old new : Cell) → IsSameOrDead old new → (new ≡ old) ⊎ ¬ IsGood new
+not_good_by old new (inl same) = inl same
+not_good_by old new (inr dead) = inr (λ good. subst IsGood dead good)
+
+module _ {I : Type 0} {d : Ghosts I} (old : PlainDisc I d) (lba n block : ℕ) where
+  -- a block that the request covers wholly needs no rest
+  pub ready_whole : IsTrue (world_of old.medium).power → is_partly lba n block ≡ false → IsReady old old lba n block
+  ready_whole on whole = record {
+    stays = subst (Stays old old) (sym (rest_whole (is_partly lba n block) (is_buffered (numbers_in old.buffer) block) whole)) (stays_none old on);
+    same_cells = refl;
+    buffered = sym (cond-false (is_partly lba n block) (touched_one (numbers_in old.buffer) block) (numbers_in old.buffer) whole);
+    keeps = λ disc stands. stands;
+    has = λ partly. absurd (both_ways (is_partly lba n block) whole partly);
+  }
+
+  module _ (new : PlainDisc I d) (inside : block < length (shown_by old).homes) (partly : is_partly lba n block ≡ true) where
+    -- the rest was read, or was buffered
+    stays_by : IsTrue (world_of old.medium).power → FromBuffer old new block ⊎ FromHome old new block → Stays old new (rest_uses (numbers_in old.buffer) lba n block)
+    stays_by on (inl held) = subst (Stays old new) (sym (rest_at_hand (is_partly lba n block) (is_buffered (numbers_in old.buffer) block) (bytes_at_some block old.buffer new.block held.held)))
+        (record {
+          same_shape = ap (λ (m : ImageMedium I d). shape_of_medium m) held.unused;
+          as_told = ap (λ (m : ImageMedium I d). (world_of m).told) held.unused;
+          on = ap (λ (m : ImageMedium I d). (world_of m).power) held.unused ∙ on;
+          reach = subst (λ (m : ImageMedium I d). ImageReaches old.medium m 0) (sym held.unused) (image_laws.none old.medium);
+        })
+    stays_by on (inr read) = subst (Stays old new) (sym (rest_missing (is_partly lba n block) (is_buffered (numbers_in old.buffer) block) partly read.not_buffered)) read.stays
+
+    cells_by : FromBuffer old new block ⊎ FromHome old new block → (world_of new.medium).cells ≡ (world_of old.medium).cells
+    cells_by (inl held) = ap (λ (m : ImageMedium I d). (world_of m).cells) held.unused
+    cells_by (inr read) = read.same_cells
+
+    cell_by : shape_of_medium new.medium ≡ shape_of_medium old.medium → (world_of new.medium).cells ≡ (world_of old.medium).cells → (i : ℕ) → home_cell (shown_by new) i ≡ home_cell (shown_by old) i
+    cell_by same cells i = home_cell_now old new same i ∙ ap (λ cs. cell_at cs (home (shown_by old) i)) cells
+
+    has_by : FromBuffer old new block ⊎ FromHome old new block → (disc : List ℕ) → stands_for old (On disc) → new.block ≡ block_of disc block
+    has_by (inl held) disc stands = stands.buffered block new.block held.held
+    has_by (inr read) disc stands =
+        let found : home_cell (shown_by old) block ≡ Good new.block =
+        sym (cell_by read.stays.same_shape read.same_cells block) ∙ where_told (world_of old.medium).told (home_cell (shown_by new) block ≡ Good new.block) stands.told read.gives in
+        subst (λ (cell : Cell). Agrees cell (block_of disc block)) found (stands.agrees.1.agrees block inside)
+
+    pub ready_fetched : IsTrue (world_of old.medium).power → IsFetched old new block → IsReady old new lba n block
+    ready_fetched on fetched =
+        let stays = stays_by on fetched.came in
+        let cells = cells_by fetched.came in
+        record {
+          stays = stays;
+          same_cells = cells;
+          buffered = ap numbers_in fetched.buffer_is ∙ numbers_in-with_front block new.block old.buffer
+              ∙ sym (cond-true (is_partly lba n block) (touched_one (numbers_in old.buffer) block) (numbers_in old.buffer) partly);
+          keeps = λ disc stands. record {
+            told = stays.as_told ∙ stands.told;
+            agrees = (stays.on, fits_still old new stays.same_shape block inside (λ other ne. ap (λ cs. cell_at cs other) cells) disc (inl (cell_by stays.same_shape cells block)) stands.agrees.1);
+            buffered = subst (λ buffer. (i : ℕ) (bytes : List ℕ) → bytes_at i buffer ≡ Some bytes → bytes ≡ block_of disc i) (sym fetched.buffer_is)
+                (buffer_more block new.block old.buffer disc disc (λ i ne. refl) (has_by fetched.came disc stands) stands.buffered);
+          };
+          has = λ _ disc stands. has_by fetched.came disc stands;
+        }
+
+    -- the rest cannot be read
+    pub lacks_rest : IsUnread old new block → LacksItsRest old new lba n block
+    lacks_rest unread = record {
+      stays = unread.stays;
+      partly = partly;
+      not_buffered = unread.not_buffered;
+      buffered = ap numbers_in unread.buffer_is;
+      others = unread.others;
+      left = unread.left;
+      not_good = unread.not_good;
+      keeps = λ disc stands. record {
+        told = unread.stays.as_told ∙ stands.told;
+        agrees = (unread.stays.on, fits_still old new unread.stays.same_shape block inside unread.others disc (inr unread.not_good) stands.agrees.1);
+        buffered = subst (λ buffer. (i : ℕ) (bytes : List ℕ) → bytes_at i buffer ≡ Some bytes → bytes ≡ block_of disc i) (sym unread.buffer_is) stands.buffered;
+      };
+    }
+
+    -- the look was stopped
+    pub halts_as_was : (stop : Stop) → HaltsReading old new block stop → HaltsAsWas old new lba n block stop
+    halts_as_was stop halted = record {
+      same_shape = halted.same_shape;
+      as_told = halted.as_told;
+      stops = subst (λ (most : ℕ). Stops world_of ImageReaches old.medium new.medium most stop)
+          (sym (rest_missing (is_partly lba n block) (is_buffered (numbers_in old.buffer) block) partly halted.not_buffered)) halted.stops;
+      keeps = λ disc stands. inl (fits_still old new halted.same_shape block inside halted.others disc
+          (not_good_by (home_cell (shown_by old) block) (home_cell (shown_by new) block) halted.left) stands.agrees.1);
+    }
