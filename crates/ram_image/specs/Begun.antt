@@ -24,6 +24,7 @@ use Rattle.ram_image.specs.declared.medium.Begun.TheVariants as begins
 -- project's own.)
 pub record IsNew {I : Type 0} {d : Ghosts I} (image : I) (shape : Shape) (medium : ImageMedium I d) : Type 0 where
   pub shape_is : shape_of_medium medium ≡ shape
+  pub image_is : medium.image ≡ image
   pub machine : machine_in medium ≡ record {
     world = record { told = is_some (d.bytes image); cells = cells_told (total shape) (d.bytes image); power = false; uses = 0; cuts = 0; faults = d.faults image };
     arms = [];

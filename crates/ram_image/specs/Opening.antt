@@ -17,6 +17,7 @@ use Rattle.ram_image.specs.Medium.{shape_of_medium, world_of, machine_in}
 pub record IsOpened {I : Type 0} {d : Ghosts I} (image : I) (medium : ImageMedium I d) (shape : Shape) : Type 0 where
   pub disc : IfSome (d.bytes image) (IsDiscImage shape)
   pub shape_is : shape_of_medium medium ≡ shape
+  pub same_image : d.bytes medium.image ≡ d.bytes image
   pub as_told : (world_of medium).told ≡ is_some (d.bytes image)
   pub cells_are : (world_of medium).cells ≡ cells_told (total shape) (d.bytes image)
   pub off : (world_of medium).power ≡ false

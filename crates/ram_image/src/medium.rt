@@ -59,6 +59,7 @@ impl<I: Image> ImageMedium<I> {
 
     /// The image, as the medium leaves it.
     pub fn into_image(self) -> I
+        ensures image { result ≡ self.image }
         ensures count { I.faults result ≡ (world_of self).faults }
         ensures cells { MatchOption (I.bytes result) ((world_of self).told ≡ false) (λ bytes. IsImageOf (shape_of_medium self) (world_of self).cells bytes) }
     {

@@ -1,0 +1,26 @@
+use Rattle.std.proofs.Common.{subst}
+use Rattle.model_bytes.specs.Told.{WhereTold}
+use Rattle.model_geometry.specs.Geometry.{Shape, IsLawful, shape_of}
+use Rattle.model_image.specs.Image.{IsPressed}
+use Rattle.ram_run.proofs.Opens.{press_stopped, press_opened, press_refused}
+use Rattle.ram_run.proofs.held.press_disc.Goals as goal
+
+pub returns-in-Failed-clause-step : goal.returns-in-Failed-clause-step
+returns-in-Failed-clause-step g c s h =
+    press_stopped g.I.Image s (shape_of c.args.zones c.args.scale c.args.psa) (subst (λ (z : Shape). IsLawful z) c.in-Ok.ensures.0 c.in-Ok.ensures.1)
+    (g.I.Image.bytes c.into_image-image.result) c.press.new.image (c.into_image-image.ensures.left s h) c.in-Failed.ensures.0
+
+pub returns-in-Disc-clause-step : goal.returns-in-Disc-clause-step
+returns-in-Disc-clause-step g c s h =
+    press_opened g.I.Image s (shape_of c.args.zones c.args.scale c.args.psa) (subst (λ (z : Shape). IsLawful z) c.in-Ok.ensures.0 c.in-Ok.ensures.1)
+    (g.I.Image.bytes c.into_image-image.result) c.press.new.image (c.into_image-image.ensures.left s h)
+    (subst (λ (z : Shape). WhereTold (g.I.Image.bytes c.into_image-image.result) (g.I.Image.bytes c.press.new.image) (IsPressed z)) c.in-Ok.ensures.0 c.in-Done.ensures.0)
+    c.in-Disc.disc c.in-Disc.ensures.0
+
+pub returns-in-Refused-clause-step : goal.returns-in-Refused-clause-step
+returns-in-Refused-clause-step g c s h =
+    rw c.not_opened.ensures
+    (press_refused g.I.Image s (shape_of c.args.zones c.args.scale c.args.psa) (subst (λ (z : Shape). IsLawful z) c.in-Ok.ensures.0 c.in-Ok.ensures.1)
+    (g.I.Image.bytes c.into_image-image.result) c.press.new.image (c.into_image-image.ensures.left s h)
+    (subst (λ (z : Shape). WhereTold (g.I.Image.bytes c.into_image-image.result) (g.I.Image.bytes c.press.new.image) (IsPressed z)) c.in-Ok.ensures.0 c.in-Done.ensures.0)
+    c.in-Refused.image (g.I.Image.faults c.press.new.image) (g.I.Image.faults c.in-Refused.image) c.in-Refused.fault c.in-Refused.ensures)
