@@ -14,3 +14,4 @@ pub mod Placing
 pub mod Written
 pub mod Founds
 pub mod HeldSteps
+pub mod Completes
