@@ -73,7 +73,7 @@ pub record MeetsUnread (old new : Shown) (lba n named block k : ℕ) : Type 0 wh
   pub goes : GoesOn old new (read_uses old.buffered (block_with lba) k + 1) (touched_from old.buffered (block_with lba) k)
 
 -- The cause of each answer of a read of so many sectors from this one on, the uses that it took, and the blocks that
--- are buffered then. It moves no block.
+-- are buffered then.
 abbrev pub ReadCause : Shown → Shown → (lba n : ℕ) → ReadOut → Type 0
 ReadCause old new lba n reads.Good = ReadsAll old new lba n
 ReadCause old new lba n reads.NotFormatted = IsUnformatted old × (new ≡ old)

@@ -98,6 +98,7 @@ module _ (old new : Shown) (before after : Standing → Type 0) (s : Standing) (
           bytes = p.bytes;
           cause = p.cause;
           step = λ x e. subst (λ y. ReadStep old new (λ z. z ≡ found.0) y lba n p.bytes p.out) (sym e) found.2;
+          buffered = p.buffered;
           answer_is = p.answer_is;
           reply_is = p.reply_is;
         },

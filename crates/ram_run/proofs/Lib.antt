@@ -15,3 +15,9 @@ pub mod Written
 pub mod Founds
 pub mod HeldSteps
 pub mod Opens
+pub mod Completes
+pub mod Turns
+pub mod Takings
+pub mod CountsRise
+pub mod Finishes
+pub mod Twos

@@ -10,7 +10,7 @@ use Rattle.ram_text.specs.declared.script.Line.{Line}
 use Rattle.ram_text.specs.declared.script.Line.TheVariants as lines
 use Rattle.ram_run.specs.declared.status.Status.{Status}
 use Rattle.ram_run.specs.declared.status.Status.TheVariants as statuses
-use Rattle.ram_run.specs.Run.{IsNextLine}
+use Rattle.ram_run.specs.Run.{IsLine, IsNextLine}
 use Rattle.ram_run.specs.Turn.{Beginning, Counts}
 
 -- a line begins after these bytes of a script: there are none, or the last is a line feed (this project's own, as all
@@ -33,10 +33,10 @@ abbrev pub lines_text : List (List ℕ) → List ℕ
 lines_text [] = []
 lines_text (raw ∷ raws) = lines_text raws ++ (raw ++ line_feed ∷ [])
 
--- none of these lines has an answer
+-- each of these is a line, and none has an answer
 abbrev pub AreSilent : List (List ℕ) → Type 0
 AreSilent [] = Unit {0}
-AreSilent (raw ∷ raws) = AreSilent raws × Reads raw lines.Empty []
+AreSilent (raw ∷ raws) = AreSilent raws × IsLine raw × Reads raw lines.Empty []
 
 -- the line presses a disc, and lawfully
 abbrev pub IsLawfulPress : Line → Type 0

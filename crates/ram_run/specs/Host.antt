@@ -7,7 +7,7 @@ use Rattle.ram_sense.specs.declared.sense.Sense.{Sense}
 use Rattle.ram_mmc.specs.declared.Answer.{Answer}
 use Rattle.ram_mmc.specs.declared.Answer.TheVariants as answers
 use Rattle.model_sectors.specs.Discs.{Standing, Shown, IsOn}
-use Rattle.model_sectors.specs.Calls.{ReadCause, ReadStep, WriteCause, WriteStep}
+use Rattle.model_sectors.specs.Calls.{ReadCause, ReadStep, IsInRange, AreBuffered, ReadsBuffered, WriteCause, WriteStep}
 use Rattle.model_sectors.specs.declared.ReadOut.{ReadOut}
 use Rattle.model_sectors.specs.declared.ReadOut.TheVariants as reads
 use Rattle.model_sectors.specs.declared.WriteOut.{WriteOut}
@@ -76,6 +76,7 @@ module _ (old new : Shown) (before after : Standing → Type 0) where
     pub bytes : List ℕ
     pub cause : ReadCause old new lba n out
     pub step : (s : Standing) → before s → ReadStep old new after s lba n bytes out
+    pub buffered : IsInRange old lba n → AreBuffered old lba n → ReadsBuffered old new out
     pub answer_is : answer ≡ read_answer out
     pub reply_is : reply ≡ read_reply out bytes
 

@@ -67,7 +67,7 @@ pub record IsStoppedInLine (first : Beginning) (written image : Option (List ℕ
   pub written_is : IsReported far written
   pub line : ComesToThis far image outcome
 
--- The run ended before its first line: nothing was read or written, and the image has the bytes that it had.
+-- The run ended before its first line: nothing was written, and the image has the bytes that it had.
 pub record IsNotBegun (first : Beginning) (written image : Option (List ℕ)) : Type 0 where
   pub written_is : written ≡ Some first.report
   pub image_is : image ≡ Some first.image
@@ -163,7 +163,7 @@ pub record Begins (first : Beginning) (left written image : Option (List ℕ)) :
   pub written_is : written ≡ Some first.report
   pub image_is : image ≡ Some first.image
 
--- nothing was read yet, nothing is gathered, and there is room for data and replies
+-- nothing was read yet, and nothing is gathered
 pub record IsFresh (desk : Desk) : Type 0 where
   pub buffered : desk.reader.buffered ≡ []
   pub taken : desk.reader.taken ≡ 0

@@ -15,6 +15,6 @@ pub enum Status {
     SinkFault = 6,
     /// There was no memory.
     NoMemory = 7,
-    /// A line needs a disc, and no lawful press came before it in this script.
+    /// A line needs a disc: the image holds none, and no lawful press came before.
     NotADisc = 8,
 }

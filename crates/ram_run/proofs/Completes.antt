@@ -1,0 +1,318 @@
+-- Why a run comes to its end: what else it might have left does not agree with its script, its image and the counts.
+use Rattle.std.specs.Prelude.{◌≡◌, ℕ, ◌+◌, ◌<◌, ◌⊎◌, Bool, Option, List, [], ◌∷◌, ◌++◌, length, take}
+use Rattle.std.proofs.Common.{zero, suc, arith, refl, sym, ap, ◌∙◌, inl, inr, subst, append_assoc, length-append}
+use Rattle.model_geometry.specs.Geometry.{Shape, IsLawful, shape_of}
+use Rattle.model_sectors.specs.Discs.{Standing, Shown}
+use Rattle.model_sectors.specs.declared.PowerOut.{PowerOut}
+use Rattle.model_sectors.specs.declared.PowerOut.TheVariants as powers
+use Rattle.ram_medium.specs.declared.control.FailEnd.{FailEnd}
+use Rattle.ram_medium.specs.declared.control.FailEnd.TheVariants as fails
+use Rattle.ram_medium.specs.declared.control.Arm.{Arm}
+use Rattle.ram_medium.specs.declared.control.Arm.TheVariants as arming
+use Rattle.ram_mmc.specs.declared.Answer.{Answer}
+use Rattle.ram_mmc.specs.declared.Answer.TheVariants as answers
+use Rattle.ram_text.specs.Lines.{line_feed, HasNoFeed}
+use Rattle.ram_text.specs.ScriptWords.{words_of, without_return}
+use Rattle.ram_text.specs.Script.{IsForm, Reads}
+use Rattle.ram_text.specs.declared.lines.TheConstants.{LINE_LIMIT}
+use Rattle.ram_text.specs.declared.printing.Event.TheVariants as events
+use Rattle.ram_text.specs.declared.printing.LastLine.{LastLine}
+use Rattle.ram_text.specs.declared.printing.LastLine.TheVariants as lasts
+use Rattle.ram_text.specs.declared.script.Line.{Line}
+use Rattle.ram_text.specs.declared.script.Line.TheVariants as lines
+use Rattle.ram_run.specs.declared.held.Told.{Told}
+use Rattle.ram_run.specs.declared.held.Told.TheVariants as tolds
+use Rattle.ram_run.specs.declared.held.Outcome.{Outcome}
+use Rattle.ram_run.specs.declared.held.Outcome.TheVariants as outcomes
+use Rattle.ram_run.specs.declared.status.Status.{Status}
+use Rattle.ram_run.specs.declared.status.Status.TheVariants as statuses
+use Rattle.ram_run.specs.Machine.{State, Loaded, Unopened, Disc, IsFirst, IsPressed, PressStep, power_outcome, fail_outcome, wear_outcome, command_outcome, DiscRule, OnDisc, Step}
+use Rattle.ram_run.specs.Held.{NeedsDisc}
+use Rattle.ram_run.specs.Run.{Event, IsStep, Run, Reaches, script_text, IsNextLine, ComesNext}
+use Rattle.ram_run.specs.Turn.{Beginning, SoFar, IsLast, Counts}
+use Rattle.ram_run.specs.Outcome.{IsTold, IsUnopened, IsNoUsage, IsOfScript, Leaves, StatusCounts}
+use Rattle.ram_run.specs.Completes.{BeginsLine, GoesOn, IsInLanguage, lines_text, AreSilent, IsLawfulPress, BeginsWithPress, BeginsWithDisc, NoneRose, IsComplete}
+
+-- a line feed within the front of a list
+feed_within : (raw after : List ℕ) (n : ℕ) → length raw < n → HasNoFeed (take n (raw ++ (line_feed ∷ after))) → ⊥
+feed_within raw after zero within clear = absurd (omega (arith, within))
+feed_within [] after (suc n) within clear = clear 0 0 (omega arith) refl
+feed_within (x ∷ raw) after (suc n) within clear = feed_within raw after n (omega (arith, within)) (λ k d below. clear (suc k) d (omega (arith, below)))
+
+-- no line follows where nothing is left
+nothing_follows : (rest raw : List ℕ) → rest ≡ [] → IsNextLine rest raw → ⊥
+nothing_follows rest raw none next = parted next.parts
+  where
+    parted : (rest ≡ raw ++ (line_feed ∷ next.after)) ⊎ ((rest ≡ raw) × (0 < length raw) × (next.after ≡ [])) → ⊥
+    parted (inl parts) = absurd (omega (arith, ap length (sym none ∙ parts), length-append raw (line_feed ∷ next.after)))
+    parted (inr last) = absurd (omega (arith, ap length (sym none ∙ last.0), last.1))
+
+-- what goes on passes no limit
+within_limit : (rest : List ℕ) → (rest ≡ []) ⊎ ((raw : List ℕ) × IsNextLine rest raw) → LINE_LIMIT < length rest → HasNoFeed (take (LINE_LIMIT + 1) rest) → ⊥
+within_limit rest (inl none) longer clear = absurd (omega (arith, ap length none, longer))
+within_limit rest (inr found) longer clear = parted found.1.parts
+  where
+    parted : (rest ≡ found.0 ++ (line_feed ∷ found.1.after)) ⊎ ((rest ≡ found.0) × (0 < length found.0) × (found.1.after ≡ [])) → ⊥
+    parted (inl parts) = feed_within found.0 found.1.after (LINE_LIMIT + 1) (omega (arith, found.1.line.short)) (subst (λ l. HasNoFeed (take (LINE_LIMIT + 1) l)) parts clear)
+    parted (inr last) = absurd (omega (arith, ap length last.0, found.1.line.short, longer))
+
+-- the lines that were answered end with a line feed
+begins_line : (events : List Event) → BeginsLine (script_text events)
+begins_line [] = inl refl
+begins_line (event ∷ events) = inr (script_text events ++ event.raw, sym (append_assoc (script_text events) event.raw (line_feed ∷ [])))
+
+-- what follows the lines that were answered goes on
+goes_on : (script rest : List ℕ) (events : List Event) → IsInLanguage script → Reaches script events rest → GoesOn rest
+goes_on script rest events language (inl whole) = language.lines (script_text events) rest whole (begins_line events)
+goes_on script rest events language (inr ended) = record { more = inl ended.0; reads = λ raw next. absurd (nothing_follows rest raw ended.0 next) }
+
+-- in a script in the language no last line tells what is wrong with it
+well_spelled : (first : Beginning) (far : SoFar first) (last : LastLine) → IsInLanguage first.script → IsOfScript last → IsLast far last → ⊥
+well_spelled first far (lasts.End answered) language of_script is = of_script
+well_spelled first far (lasts.NotInLanguage line) language of_script is =
+    let read = (goes_on first.script far.rest far.events language far.lines).reads is.0.raw is.0.next in is.0.nothing read.0 read.1 read.2
+well_spelled first far (lasts.LineTooLong line) language of_script is =
+    within_limit far.rest (goes_on first.script far.rest far.events language far.lines).more is.0.longer is.0.open_line
+well_spelled first far lasts.ScriptTooLong language of_script is = absurd (omega (arith, language.short, is.longer))
+well_spelled first far (lasts.NotADisc line) language of_script is = of_script
+
+-- what is done on a disc is not answered as if there were none
+power_answers : (out : PowerOut) → outcomes.NotADisc ≡ power_outcome out → ⊥
+power_answers (powers.Ready capacity) same = cc
+power_answers powers.NotFormatted same = cc
+power_answers powers.Cut same = cc
+power_answers powers.Fault same = cc
+power_answers powers.NoMemory same = cc
+
+fail_answers : (end : FailEnd) → outcomes.NotADisc ≡ fail_outcome end → ⊥
+fail_answers fails.Done same = cc
+fail_answers (fails.NoBlock blocks) same = cc
+fail_answers fails.Failed same = cc
+
+wear_answers : (end : Arm) → outcomes.NotADisc ≡ wear_outcome end → ⊥
+wear_answers arming.Set same = cc
+wear_answers (arming.NoBlock blocks) same = cc
+wear_answers arming.Full same = cc
+
+command_answers : (answer : Answer) → outcomes.NotADisc ≡ command_outcome answer → ⊥
+command_answers answers.Good same = cc
+command_answers (answers.Check sense) same = cc
+command_answers answers.Cut same = cc
+command_answers answers.Off same = cc
+command_answers answers.Fault same = cc
+command_answers answers.NoMemory same = cc
+
+told_apart : (told : Told) → outcomes.NotADisc ≡ outcomes.Told told → ⊥
+told_apart told same = cc
+
+rule_answers : (old new : Shown) (before after : Standing → Type 0) (total : ℕ) (line : Line) (payload reply : List ℕ) → DiscRule old new before after total line payload outcomes.NotADisc reply → ⊥
+rule_answers old new before after total lines.Empty payload reply rule = rule
+rule_answers old new before after total (lines.Press zones scale psa) payload reply rule = rule
+rule_answers old new before after total lines.Power payload reply rule = power_answers rule.0.out rule.0.outcome_is
+rule_answers old new before after total (lines.Fail block) payload reply rule = fail_answers rule.0.end rule.0.outcome_is
+rule_answers old new before after total (lines.Wear block n) payload reply rule = wear_answers rule.0.end rule.0.outcome_is
+rule_answers old new before after total (lines.Cut n fate) payload reply rule = told_apart (tolds.Event events.Armed) rule.0.outcome_is
+rule_answers old new before after total (lines.Command cdb) payload reply rule = command_answers rule.answer rule.outcome_is
+
+on_disc_answers : (s : Loaded) (line : Line) (payload reply : List ℕ) (t : State) → OnDisc (Disc s) line payload outcomes.NotADisc reply t → ⊥
+on_disc_answers s line payload reply (Unopened bytes) on = on
+on_disc_answers s line payload reply (Disc t) on = rule_answers s.shown t.shown (λ x. x ≡ s.standing) (λ x. x ≡ t.standing) _ line payload reply on.rule
+
+-- no line lacks a disc where there is one
+disc_answers : (s : Loaded) (line : Line) (payload reply : List ℕ) (t : State) → Step (Disc s) line payload outcomes.NotADisc reply t → ⊥
+disc_answers s lines.Empty payload reply t step = told_apart tolds.Silent step.0
+disc_answers s (lines.Press zones scale psa) payload reply t step = step.0
+disc_answers s lines.Power payload reply t step = on_disc_answers s lines.Power payload reply t step
+disc_answers s (lines.Fail block) payload reply t step = on_disc_answers s (lines.Fail block) payload reply t step
+disc_answers s (lines.Wear block n) payload reply t step = on_disc_answers s (lines.Wear block n) payload reply t step
+disc_answers s (lines.Cut n fate) payload reply t step = on_disc_answers s (lines.Cut n fate) payload reply t step
+disc_answers s (lines.Command cdb) payload reply t step = on_disc_answers s (lines.Command cdb) payload reply t step
+
+-- a disc that was pressed is there
+pressed_disc : (shape : Shape) (t : State) → IsPressed shape t → (disc : Loaded) × (t ≡ Disc disc)
+pressed_disc shape (Unopened bytes) pressed = absurd pressed
+pressed_disc shape (Disc disc) pressed = (disc, refl)
+
+-- a press that is told of leaves a disc, or what was there where there is no such geometry
+press_leaves : (s t : State) (shape : Shape) (told : Told) → PressStep s shape (outcomes.Told told) t → ((disc : Loaded) × (t ≡ Disc disc)) ⊎ (¬ IsLawful shape × (t ≡ s))
+press_leaves s t shape (tolds.Event events.Pressed) step = inl (pressed_disc shape t step.1)
+press_leaves s t shape (tolds.Event events.NotPressed) step = inr step
+press_leaves s t shape _ step = absurd step
+
+-- what is done on a disc leaves one
+on_disc_leaves : (s : Loaded) (line : Line) (payload : List ℕ) (outcome : Outcome) (reply : List ℕ) (t : State) → OnDisc (Disc s) line payload outcome reply t → (disc : Loaded) × (t ≡ Disc disc)
+on_disc_leaves s line payload outcome reply (Unopened bytes) on = absurd on
+on_disc_leaves s line payload outcome reply (Disc disc) on = (disc, refl)
+
+-- a line that is told of leaves a disc where there was one
+stays_disc : (s : Loaded) (line : Line) (payload : List ℕ) (told : Told) (reply : List ℕ) (t : State) → Step (Disc s) line payload (outcomes.Told told) reply t → (disc : Loaded) × (t ≡ Disc disc)
+stays_disc s lines.Empty payload told reply t step = (s, step.2)
+stays_disc s (lines.Press zones scale psa) payload told reply t step =
+    elim (press_leaves (Disc s) t (shape_of zones scale psa) told step.0) [
+      | inl disc ↦ disc
+      | inr kept ↦ (s, kept.1)
+    ]
+stays_disc s lines.Power payload told reply t step = on_disc_leaves s lines.Power payload (outcomes.Told told) reply t step
+stays_disc s (lines.Fail block) payload told reply t step = on_disc_leaves s (lines.Fail block) payload (outcomes.Told told) reply t step
+stays_disc s (lines.Wear block n) payload told reply t step = on_disc_leaves s (lines.Wear block n) payload (outcomes.Told told) reply t step
+stays_disc s (lines.Cut n fate) payload told reply t step = on_disc_leaves s (lines.Cut n fate) payload (outcomes.Told told) reply t step
+stays_disc s (lines.Command cdb) payload told reply t step = on_disc_leaves s (lines.Command cdb) payload (outcomes.Told told) reply t step
+
+-- a run leaves a disc where there was one
+run_leaves : (s : Loaded) (events : List Event) (now : State) → Run (Disc s) events now → (disc : Loaded) × (now ≡ Disc disc)
+run_leaves s [] now run = (s, run)
+run_leaves s (event ∷ events) now run =
+    let before = run_leaves s events run.0 run.1 in
+    stays_disc before.0 event.line event.payload event.told event.reply now (subst (λ x. Step x event.line event.payload (outcomes.Told event.told) event.reply now) before.1 run.2.step)
+
+-- a line that says nothing has no data
+empty_form : (words : List (List ℕ)) (payload : List ℕ) → IsForm words lines.Empty payload → payload ≡ []
+empty_form [] payload form = form
+empty_form (a ∷ []) payload form = absurd form
+empty_form (a ∷ b ∷ []) payload form = absurd form
+empty_form (a ∷ b ∷ c ∷ []) payload form = absurd form
+empty_form (a ∷ b ∷ c ∷ d ∷ []) payload form = absurd form
+empty_form (a ∷ b ∷ c ∷ d ∷ e ∷ words) payload form = absurd form
+
+empty_payload : (raw payload : List ℕ) → Reads raw lines.Empty payload → payload ≡ []
+empty_payload raw payload (inl comment) = comment.no_payload
+empty_payload raw payload (inr other) = empty_form (words_of (without_return raw)) payload other.form
+
+-- the bytes of the lines that were answered, the newest of which comes first
+abbrev raws_of : List Event → List (List ℕ)
+raws_of [] = []
+raws_of (event ∷ events) = event.raw ∷ raws_of events
+
+same_text : (events : List Event) → script_text events ≡ lines_text (raws_of events)
+same_text [] = refl
+same_text (event ∷ events) = ap (λ text. text ++ (event.raw ++ line_feed ∷ [])) (same_text events)
+
+-- a line that needs a disc says something, and presses none
+needs_none : (line : Line) → NeedsDisc line → (line ≡ lines.Empty) ⊎ IsLawfulPress line → ⊥
+needs_none line needs (inl empty) = subst NeedsDisc empty needs
+needs_none lines.Empty needs (inr press) = press
+needs_none (lines.Press zones scale psa) needs (inr press) = needs
+needs_none lines.Power needs (inr press) = press
+needs_none (lines.Fail block) needs (inr press) = press
+needs_none (lines.Wear block n) needs (inr press) = press
+needs_none (lines.Cut n fate) needs (inr press) = press
+needs_none (lines.Command cdb) needs (inr press) = press
+
+-- a press says something
+press_speaks : (zones scale psa : ℕ) → lines.Press zones scale psa ≡ lines.Empty → ⊥
+press_speaks zones scale psa same = cc
+
+module _ (bytes script : List ℕ) (press : BeginsWithPress script) where
+  -- what a line that is the first to be answered, or says nothing, leaves of an image that is no disc's
+  first_leaves : (line : Line) (raw payload : List ℕ) (told : Told) (reply : List ℕ) (now : State) → Step (Unopened bytes) line payload (outcomes.Told told) reply now → Reads raw line payload
+      → (line ≡ lines.Empty) ⊎ IsLawfulPress line → ((disc : Loaded) × (now ≡ Disc disc)) ⊎ ((now ≡ Unopened bytes) × Reads raw lines.Empty [])
+  first_leaves lines.Empty raw payload told reply now step reads is = inr (step.2, subst (Reads raw lines.Empty) (empty_payload raw payload reads) reads)
+  first_leaves (lines.Press zones scale psa) raw payload told reply now step reads (inl empty) = absurd (press_speaks zones scale psa empty)
+  first_leaves (lines.Press zones scale psa) raw payload told reply now step reads (inr lawful) =
+      elim (press_leaves (Unopened bytes) now (shape_of zones scale psa) told step.0) [
+        | inl disc ↦ inl disc
+        | inr kept ↦ absurd (kept.0 lawful)
+      ]
+  first_leaves lines.Power raw payload told reply now step reads is = absurd (needs_none lines.Power tt is)
+  first_leaves (lines.Fail block) raw payload told reply now step reads is = absurd (needs_none (lines.Fail block) tt is)
+  first_leaves (lines.Wear block n) raw payload told reply now step reads is = absurd (needs_none (lines.Wear block n) tt is)
+  first_leaves (lines.Cut n fate) raw payload told reply now step reads is = absurd (needs_none (lines.Cut n fate) tt is)
+  first_leaves (lines.Command cdb) raw payload told reply now step reads is = absurd (needs_none (lines.Command cdb) tt is)
+
+  -- a line after silent ones says nothing, or is that press
+  after_silent : (events : List Event) (rest raw : List ℕ) (line : Line) (payload : List ℕ) → AreSilent (raws_of events) → script ≡ script_text events ++ rest
+      → IsNextLine rest raw → Reads raw line payload → (line ≡ lines.Empty) ⊎ IsLawfulPress line
+  after_silent events rest raw line payload silent whole next reads =
+      press (raws_of events) rest raw line payload silent (whole ∙ ap (λ text. text ++ rest) (same_text events)) next reads
+
+  -- one event more
+  goes_silent : (event : Event) (events : List Event) (rest : List ℕ) (before now : State) → IsStep before event now → script ≡ script_text events ++ ((event.raw ++ line_feed ∷ []) ++ rest)
+      → ((disc : Loaded) × (before ≡ Disc disc)) ⊎ ((before ≡ Unopened bytes) × AreSilent (raws_of events))
+      → ((disc : Loaded) × (now ≡ Disc disc)) ⊎ ((now ≡ Unopened bytes) × AreSilent (raws_of (event ∷ events)))
+  goes_silent event events rest before now step whole (inl disc) =
+      inl (stays_disc disc.0 event.line event.payload event.told event.reply now (subst (λ x. Step x event.line event.payload (outcomes.Told event.told) event.reply now) disc.1 step.step))
+  goes_silent event events rest before now step whole (inr silent) =
+      elim (
+      first_leaves event.line event.raw event.payload event.told event.reply now
+      (subst (λ x. Step x event.line event.payload (outcomes.Told event.told) event.reply now) silent.0 step.step) step.reads
+      (after_silent events ((event.raw ++ line_feed ∷ []) ++ rest) event.raw event.line event.payload silent.1 whole
+      (record { line = step.line; after = rest; parts = inl (append_assoc event.raw (line_feed ∷ []) rest) }) step.reads)
+      ) [
+        | inl disc ↦ inl disc
+        | inr empty ↦ inr (empty.0, (silent.1, empty.1))
+      ]
+
+  -- there is a disc, or all lines so far say nothing
+  silent_so_far : (events : List Event) (rest : List ℕ) (now : State) → Run (Unopened bytes) events now → script ≡ script_text events ++ rest
+      → ((disc : Loaded) × (now ≡ Disc disc)) ⊎ ((now ≡ Unopened bytes) × AreSilent (raws_of events))
+  silent_so_far [] rest now run whole = inr (run, tt)
+  silent_so_far (event ∷ events) rest now run whole =
+      let parts : script ≡ script_text events ++ ((event.raw ++ line_feed ∷ []) ++ rest) = whole ∙ append_assoc (script_text events) (event.raw ++ line_feed ∷ []) rest in
+      goes_silent event events rest run.0 now run.2 parts (silent_so_far events ((event.raw ++ line_feed ∷ []) ++ rest) run.0 run.1 parts)
+
+  -- a line that says nothing, or is that press, lacks no disc
+  first_answers : (line : Line) (payload reply : List ℕ) (t : State) → Step (Unopened bytes) line payload outcomes.NotADisc reply t → (line ≡ lines.Empty) ⊎ IsLawfulPress line → ⊥
+  first_answers lines.Empty payload reply t step is = told_apart tolds.Silent step.0
+  first_answers (lines.Press zones scale psa) payload reply t step is = step.0
+  first_answers lines.Power payload reply t step is = needs_none lines.Power tt is
+  first_answers (lines.Fail block) payload reply t step is = needs_none (lines.Fail block) tt is
+  first_answers (lines.Wear block n) payload reply t step is = needs_none (lines.Wear block n) tt is
+  first_answers (lines.Cut n fate) payload reply t step is = needs_none (lines.Cut n fate) tt is
+  first_answers (lines.Command cdb) payload reply t step is = needs_none (lines.Command cdb) tt is
+
+  -- no line lacks a disc
+  lacks_none : (events : List Event) (rest : List ℕ) (now : State) (line : Line) (payload reply : List ℕ) (t : State) → Run (Unopened bytes) events now → Reaches script events rest
+      → ComesNext rest line payload → Step now line payload outcomes.NotADisc reply t → ⊥
+  lacks_none events rest now line payload reply t run (inr ended) next step = nothing_follows rest next.raw ended.0 next.next
+  lacks_none events rest now line payload reply t run (inl whole) next step =
+      elim (silent_so_far events rest now run whole) [
+        | inl disc ↦ disc_answers disc.0 line payload reply t (subst (λ x. Step x line payload outcomes.NotADisc reply t) disc.1 step)
+        | inr silent ↦
+            first_answers line payload reply t (subst (λ x. Step x line payload outcomes.NotADisc reply t) silent.0 step)
+            (after_silent events rest next.raw line payload silent.1 whole next.next next.reads)
+      ]
+
+-- where the run begins with a disc, or with the press of one, no line lacks a disc
+has_disc : (first : Beginning) → BeginsWithDisc first → (start : State) → IsFirst first.image start → (events : List Event) (rest : List ℕ) (now : State) (line : Line) (payload reply : List ℕ) (t : State)
+    → Run start events now → Reaches first.script events rest → ComesNext rest line payload → Step now line payload outcomes.NotADisc reply t → ⊥
+has_disc first begins (Disc s) starts events rest now line payload reply t run lines next step =
+    let disc = run_leaves s events now run in disc_answers disc.0 line payload reply t (subst (λ x. Step x line payload outcomes.NotADisc reply t) disc.1 step)
+has_disc first (inl image) (Unopened bytes) starts events rest now line payload reply t run lines next step = starts.1 image.0 image.1
+has_disc first (inr press) (Unopened bytes) starts events rest now line payload reply t run lines next step =
+    lacks_none bytes first.script press events rest now line payload reply t run lines next step
+
+-- so no last line tells that one does
+never_lacks : (first : Beginning) → BeginsWithDisc first → (far : SoFar first) (line : ℕ) → IsLast far (lasts.NotADisc line) → ⊥
+never_lacks first begins far line is =
+    let found = is.0 in has_disc first begins far.start far.starts far.events far.rest far.now found.0 found.1 found.2 found.3 far.run far.lines found.4 found.5
+
+module _ (first : Beginning) (language : IsInLanguage first.script) (begins : BeginsWithDisc first) (before after : Counts) (none : NoneRose before after) where
+  comes_to_its_end : (written image : Option (List ℕ)) (status : Status) → StatusCounts before after status → Leaves first written image status → IsComplete status
+  comes_to_its_end written image statuses.Done counts leaves = tt
+  comes_to_its_end written image statuses.Usage counts leaves = absurd leaves
+  comes_to_its_end written image statuses.Script counts leaves = absurd (well_spelled first leaves.2.far leaves.0 language leaves.1 leaves.2.last_is)
+  comes_to_its_end written image statuses.NotADisc counts leaves = absurd (never_lacks first begins leaves.1.far leaves.0 leaves.1.last_is)
+  comes_to_its_end written image statuses.SourceFault counts leaves = absurd (none.source counts.1)
+  comes_to_its_end written image statuses.SinkFault counts leaves = absurd (none.sink counts.1)
+  comes_to_its_end written image statuses.ImageFault counts leaves = absurd (none.image counts.1)
+  comes_to_its_end written image statuses.NoMemory counts leaves = tt
+
+  unopened : (status : Status) → StatusCounts before after status → IsUnopened status → IsComplete status
+  unopened statuses.Done counts un = absurd un
+  unopened statuses.Usage counts un = absurd un
+  unopened statuses.Script counts un = absurd un
+  unopened statuses.NotADisc counts un = absurd un
+  unopened statuses.SourceFault counts un = absurd un
+  unopened statuses.SinkFault counts un = absurd un
+  unopened statuses.ImageFault counts un = absurd (none.image counts.1)
+  unopened statuses.NoMemory counts un = tt
+
+-- such a run comes to its end
+pub completes : {X : Type 0} (bytes_of : X → Option (List ℕ)) (first : Beginning) (left written : Option (List ℕ)) (next : Option X) (tells : Bool) → IsTold bytes_of first left written next tells
+    → IsInLanguage first.script → BeginsWithDisc first → (before after : Counts) → NoneRose before after
+    → (written' image : Option (List ℕ)) (untouched : Type 0) (status : Status) → IsNoUsage status → StatusCounts before after status
+    → Leaves first written' image status ⊎ (IsUnopened status × untouched) → IsComplete status
+completes bytes_of first left written next tells told language begins before after none written' image untouched status other counts (inl leaves) =
+    comes_to_its_end first language begins before after none written' image status counts leaves
+completes bytes_of first left written next tells told language begins before after none written' image untouched status other counts (inr un) =
+    unopened first language begins before after none status counts un.0
