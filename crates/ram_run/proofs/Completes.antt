@@ -2,15 +2,6 @@
 use Rattle.std.specs.Prelude.{◌≡◌, ℕ, ◌+◌, ◌<◌, ◌⊎◌, Bool, Option, List, [], ◌∷◌, ◌++◌, length, take}
 use Rattle.std.proofs.Common.{zero, suc, arith, refl, sym, ap, ◌∙◌, inl, inr, subst, append_assoc, length-append}
 use Rattle.model_geometry.specs.Geometry.{Shape, IsLawful, shape_of}
-use Rattle.model_sectors.specs.Discs.{Standing, Shown}
-use Rattle.model_sectors.specs.declared.PowerOut.{PowerOut}
-use Rattle.model_sectors.specs.declared.PowerOut.TheVariants as powers
-use Rattle.ram_medium.specs.declared.control.FailEnd.{FailEnd}
-use Rattle.ram_medium.specs.declared.control.FailEnd.TheVariants as fails
-use Rattle.ram_medium.specs.declared.control.Arm.{Arm}
-use Rattle.ram_medium.specs.declared.control.Arm.TheVariants as arming
-use Rattle.ram_mmc.specs.declared.Answer.{Answer}
-use Rattle.ram_mmc.specs.declared.Answer.TheVariants as answers
 use Rattle.ram_text.specs.Lines.{line_feed, HasNoFeed}
 use Rattle.ram_text.specs.ScriptWords.{words_of, without_return}
 use Rattle.ram_text.specs.Script.{IsForm, Reads}
@@ -26,11 +17,12 @@ use Rattle.ram_run.specs.declared.held.Outcome.{Outcome}
 use Rattle.ram_run.specs.declared.held.Outcome.TheVariants as outcomes
 use Rattle.ram_run.specs.declared.status.Status.{Status}
 use Rattle.ram_run.specs.declared.status.Status.TheVariants as statuses
-use Rattle.ram_run.specs.Machine.{State, Loaded, Unopened, Disc, IsFirst, IsPressed, PressStep, power_outcome, fail_outcome, wear_outcome, command_outcome, DiscRule, OnDisc, Step}
+use Rattle.ram_run.specs.Machine.{State, Loaded, Unopened, Disc, IsFirst, IsPressed, PressStep, OnDisc, Step}
 use Rattle.ram_run.specs.Held.{NeedsDisc}
 use Rattle.ram_run.specs.Run.{Event, IsStep, Run, Reaches, script_text, IsNextLine, ComesNext}
 use Rattle.ram_run.specs.Turn.{Beginning, SoFar, IsLast, Counts}
 use Rattle.ram_run.specs.Outcome.{IsTold, IsUnopened, IsNoUsage, IsOfScript, Leaves, StatusCounts}
+use Rattle.ram_run.proofs.Answering.{told_apart, disc_answers}
 use Rattle.ram_run.specs.Completes.{BeginsLine, GoesOn, IsInLanguage, lines_text, AreSilent, IsLawfulPress, BeginsWithPress, BeginsWithDisc, NoneRose, IsComplete}
 
 -- a line feed within the front of a list
@@ -75,58 +67,6 @@ well_spelled first far (lasts.LineTooLong line) language of_script is =
     within_limit far.rest (goes_on first.script far.rest far.events language far.lines).more is.0.longer is.0.open_line
 well_spelled first far lasts.ScriptTooLong language of_script is = absurd (omega (arith, language.short, is.longer))
 well_spelled first far (lasts.NotADisc line) language of_script is = of_script
-
--- what is done on a disc is not answered as if there were none
-power_answers : (out : PowerOut) → outcomes.NotADisc ≡ power_outcome out → ⊥
-power_answers (powers.Ready capacity) same = cc
-power_answers powers.NotFormatted same = cc
-power_answers powers.Cut same = cc
-power_answers powers.Fault same = cc
-power_answers powers.NoMemory same = cc
-
-fail_answers : (end : FailEnd) → outcomes.NotADisc ≡ fail_outcome end → ⊥
-fail_answers fails.Done same = cc
-fail_answers (fails.NoBlock blocks) same = cc
-fail_answers fails.Failed same = cc
-
-wear_answers : (end : Arm) → outcomes.NotADisc ≡ wear_outcome end → ⊥
-wear_answers arming.Set same = cc
-wear_answers (arming.NoBlock blocks) same = cc
-wear_answers arming.Full same = cc
-
-command_answers : (answer : Answer) → outcomes.NotADisc ≡ command_outcome answer → ⊥
-command_answers answers.Good same = cc
-command_answers (answers.Check sense) same = cc
-command_answers answers.Cut same = cc
-command_answers answers.Off same = cc
-command_answers answers.Fault same = cc
-command_answers answers.NoMemory same = cc
-
-told_apart : (told : Told) → outcomes.NotADisc ≡ outcomes.Told told → ⊥
-told_apart told same = cc
-
-rule_answers : (old new : Shown) (before after : Standing → Type 0) (total : ℕ) (line : Line) (payload reply : List ℕ) → DiscRule old new before after total line payload outcomes.NotADisc reply → ⊥
-rule_answers old new before after total lines.Empty payload reply rule = rule
-rule_answers old new before after total (lines.Press zones scale psa) payload reply rule = rule
-rule_answers old new before after total lines.Power payload reply rule = power_answers rule.0.out rule.0.outcome_is
-rule_answers old new before after total (lines.Fail block) payload reply rule = fail_answers rule.0.end rule.0.outcome_is
-rule_answers old new before after total (lines.Wear block n) payload reply rule = wear_answers rule.0.end rule.0.outcome_is
-rule_answers old new before after total (lines.Cut n fate) payload reply rule = told_apart (tolds.Event events.Armed) rule.0.outcome_is
-rule_answers old new before after total (lines.Command cdb) payload reply rule = command_answers rule.answer rule.outcome_is
-
-on_disc_answers : (s : Loaded) (line : Line) (payload reply : List ℕ) (t : State) → OnDisc (Disc s) line payload outcomes.NotADisc reply t → ⊥
-on_disc_answers s line payload reply (Unopened bytes) on = on
-on_disc_answers s line payload reply (Disc t) on = rule_answers s.shown t.shown (λ x. x ≡ s.standing) (λ x. x ≡ t.standing) _ line payload reply on.rule
-
--- no line lacks a disc where there is one
-disc_answers : (s : Loaded) (line : Line) (payload reply : List ℕ) (t : State) → Step (Disc s) line payload outcomes.NotADisc reply t → ⊥
-disc_answers s lines.Empty payload reply t step = told_apart tolds.Silent step.0
-disc_answers s (lines.Press zones scale psa) payload reply t step = step.0
-disc_answers s lines.Power payload reply t step = on_disc_answers s lines.Power payload reply t step
-disc_answers s (lines.Fail block) payload reply t step = on_disc_answers s (lines.Fail block) payload reply t step
-disc_answers s (lines.Wear block n) payload reply t step = on_disc_answers s (lines.Wear block n) payload reply t step
-disc_answers s (lines.Cut n fate) payload reply t step = on_disc_answers s (lines.Cut n fate) payload reply t step
-disc_answers s (lines.Command cdb) payload reply t step = on_disc_answers s (lines.Command cdb) payload reply t step
 
 -- a disc that was pressed is there
 pressed_disc : (shape : Shape) (t : State) → IsPressed shape t → (disc : Loaded) × (t ≡ Disc disc)
@@ -239,7 +179,7 @@ module _ (bytes script : List ℕ) (press : BeginsWithPress script) where
       (record { line = step.line; after = rest; parts = inl (append_assoc event.raw (line_feed ∷ []) rest) }) step.reads)
       ) [
         | inl disc ↦ inl disc
-        | inr empty ↦ inr (empty.0, (silent.1, empty.1))
+        | inr empty ↦ inr (empty.0, (silent.1, step.line, empty.1))
       ]
 
   -- there is a disc, or all lines so far say nothing

@@ -1,12 +1,11 @@
 -- What a call leaves a drive standing for, found in its clause, and that no count falls.
-use Rattle.std.specs.Prelude.{◌≡◌, ℕ, ◌≤◌, ◌⊎◌, Result, Ok, Err, List, [], ◌∷◌, length}
-use Rattle.std.proofs.Common.{arith, refl, sym, ap, ◌∙◌, inl, inr, subst}
+use Rattle.std.specs.Prelude.{◌≡◌, ℕ, ◌≤◌, Result, Ok, Err, List, [], ◌∷◌, length}
+use Rattle.std.proofs.Common.{arith, refl, sym, ap, inl, inr, subst}
 use Rattle.model_counts.specs.Counts.{Rose}
 use Rattle.model_medium.specs.Machine.{Machine}
 use Rattle.model_medium.specs.Reach.{Reach}
-use Rattle.model_sectors.specs.Discs.{Standing, On, Off, Shown, replaced, candidates}
-use Rattle.model_sectors.specs.Uses.{block_with}
-use Rattle.model_sectors.specs.Calls.{ReadCause, ReadStep, WriteCause, WriteStep, PowerCause, PowerStep, GoesOn, IsStopped}
+use Rattle.model_sectors.specs.Discs.{Standing, On, Off, Shown, candidates}
+use Rattle.model_sectors.specs.Calls.{ReadCause, ReadStep, WriteCause, WriteStep, PowerCause, PowerStep, IsStopped}
 use Rattle.model_sectors.specs.declared.ReadOut.{ReadOut}
 use Rattle.model_sectors.specs.declared.ReadOut.TheVariants as reads
 use Rattle.model_sectors.specs.declared.WriteOut.{WriteOut}
@@ -29,7 +28,7 @@ use Rattle.ram_run.specs.declared.commands.Transfer.{Transfer}
 use Rattle.ram_run.specs.declared.commands.Transfer.TheVariants as transfers
 use Rattle.ram_run.specs.declared.held.Outcome.{Outcome}
 use Rattle.ram_run.specs.Host.{asked, read_answer, write_answer, IsTransferred, IsExecuted, IsRefused}
-use Rattle.ram_run.specs.Machine.{PowerLine, FailLine, WearLine, CutLine, CommandLine, KeepsRest, DiscRule, power_outcome, fail_outcome, wear_outcome, command_outcome}
+use Rattle.ram_run.specs.Machine.{KeepsRest, DiscRule, power_outcome, fail_outcome, wear_outcome, command_outcome}
 use Rattle.ram_run.specs.Control.{stands_after_fail}
 use Rattle.ram_run.specs.Held.{OutcomeCount}
 
@@ -89,8 +88,7 @@ module _ (old new : Shown) (before after : Standing → Type 0) (s : Standing) (
   transfer_found : (payload : List ℕ) (answer : Answer) (reply : List ℕ) (wanted : Result Transfer Sense) → IsTransferred old new before after payload answer reply wanted
       → Found after (λ t. IsTransferred old new (λ x. x ≡ s) (λ x. x ≡ t) payload answer reply wanted)
   transfer_found payload answer reply (Ok (transfers.Read lba n)) p =
-      let found = read_found old new after s lba n p.bytes p.out (p.step s stood) in
-      (
+      let found = read_found old new after s lba n p.bytes p.out (p.step s stood) in (
         found.0,
         found.1,
         record {
@@ -104,8 +102,7 @@ module _ (old new : Shown) (before after : Standing → Type 0) (s : Standing) (
         },
       )
   transfer_found payload answer reply (Ok (transfers.Write lba n)) p =
-      let found = write_found old new after s lba n payload p.out (p.step s stood) in
-      (
+      let found = write_found old new after s lba n payload p.out (p.step s stood) in (
         found.0,
         found.1,
         record {
@@ -132,8 +129,7 @@ module _ (old new : Shown) (before after : Standing → Type 0) (s : Standing) (
   rule_found total Empty payload outcome reply p = absurd p
   rule_found total (Press zones scale psa) payload outcome reply p = absurd p
   rule_found total Power payload outcome reply p =
-      let found = power_found old new after s p.0.out (p.0.step s stood) in
-      (
+      let found = power_found old new after s p.0.out (p.0.step s stood) in (
         found.0,
         found.1,
         (
@@ -141,12 +137,11 @@ module _ (old new : Shown) (before after : Standing → Type 0) (s : Standing) (
           p.1,
         ),
       )
-  rule_found total (Fail block) payload outcome reply p =
-      (
-        stands_after_fail s p.0.end,
-        p.0.stands s stood,
-        (record { end = p.0.end; rule = p.0.rule; buffered = p.0.buffered; stands = λ x e. ap (λ y. stands_after_fail y p.0.end) e; outcome_is = p.0.outcome_is }, p.1),
-      )
+  rule_found total (Fail block) payload outcome reply p = (
+    stands_after_fail s p.0.end,
+    p.0.stands s stood,
+    (record { end = p.0.end; rule = p.0.rule; buffered = p.0.buffered; stands = λ x e. ap (λ y. stands_after_fail y p.0.end) e; outcome_is = p.0.outcome_is }, p.1),
+  )
   rule_found total (Wear block n) payload outcome reply p =
       let found = keeps_found p.0.keeps in
       (found.0, found.1, (record { end = p.0.end; rule = p.0.rule; keeps = found.2; outcome_is = p.0.outcome_is }, p.1))

@@ -1,17 +1,15 @@
 -- What a line leaves of what is held.
-use Rattle.std.specs.Prelude.{◌≡◌, ℕ, ◌<◌, ◌≤◌, ◌⊎◌, Option, None, Some, List, [], ◌∷◌, length, drop}
-use Rattle.std.proofs.Common.{arith, refl, sym, ap, ◌∙◌, inl, inr, subst}
-use Rattle.model_geometry.specs.Geometry.{Shape, IsLawful, total}
-use Rattle.model_sectors.specs.Discs.{Standing, Shown}
+use Rattle.std.specs.Prelude.{◌≡◌, ℕ, List}
+use Rattle.std.proofs.Common.{refl, ap, ◌∙◌, subst}
+use Rattle.model_geometry.specs.Geometry.{total}
 use Rattle.ram_outside.specs.declared.image.Image.{Ghosts}
 use Rattle.ram_image.specs.Medium.{shape_of_medium}
 use Rattle.ram_text.specs.declared.script.Line.{Line}
 use Rattle.ram_text.specs.declared.script.Line.TheVariants as lines
 use Rattle.ram_run.specs.declared.plain.PlainDisc.{PlainDisc}
-use Rattle.ram_run.specs.declared.held.Held.{Held}
 use Rattle.ram_run.specs.declared.held.Held.TheVariants as helds
 use Rattle.ram_run.specs.declared.held.Outcome.{Outcome}
-use Rattle.ram_run.specs.Plain.{plain_homes, shown_by, stands_for}
+use Rattle.ram_run.specs.Plain.{shown_by, stands_for}
 use Rattle.ram_run.specs.Machine.{State, Loaded, Unopened, Disc, DiscRule, DiscStep, OnDisc, Step}
 use Rattle.ram_run.specs.Held.{Stands, StandsFor, NeedsDisc, IsOnDisc, IsAnswered}
 use Rattle.ram_run.proofs.Founds.{rule_found}
@@ -21,13 +19,12 @@ module _ {I : Type 0} {d : Ghosts I} (old new : PlainDisc I d) (line : Line) (pa
   disc_left : (s : Loaded) → StandsFor old s → (t : Loaded) × DiscStep s t line payload outcome reply × StandsFor new t
   disc_left s stands =
       let found = rule_found (shown_by old) (shown_by new) (stands_for old) (stands_for new) s.standing stands.stands (total (shape_of_medium old.medium)) line payload outcome reply on.rule in
-      let t : Loaded = record { shape = shape_of_medium new.medium; shown = shown_by new; standing = found.0; homes_are = refl; agrees = found.1.agrees } in
-      (
+      let t : Loaded = record { shape = shape_of_medium new.medium; shown = shown_by new; standing = found.0; homes_are = refl; agrees = found.1.agrees } in (
         t,
         record {
           same_shape = on.same_shape ∙ stands.shape_is;
           rule = subst (λ n. DiscRule s.shown (shown_by new) (λ x. x ≡ s.standing) (λ x. x ≡ found.0) n line payload outcome reply) (ap total stands.shape_is)
-          (subst (λ shown. DiscRule shown (shown_by new) (λ x. x ≡ s.standing) (λ x. x ≡ found.0) (total (shape_of_medium old.medium)) line payload outcome reply) stands.shown_is found.2);
+              (subst (λ shown. DiscRule shown (shown_by new) (λ x. x ≡ s.standing) (λ x. x ≡ found.0) (total (shape_of_medium old.medium)) line payload outcome reply) stands.shown_is found.2);
         },
         record { shape_is = refl; shown_is = refl; stands = found.1 },
       )

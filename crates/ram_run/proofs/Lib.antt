@@ -15,9 +15,11 @@ pub mod Written
 pub mod Founds
 pub mod HeldSteps
 pub mod Opens
+pub mod Answering
 pub mod Completes
 pub mod Turns
 pub mod Takings
 pub mod CountsRise
 pub mod Finishes
-pub mod Twos
+pub mod Few
+pub mod Closes

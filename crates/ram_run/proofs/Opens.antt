@@ -1,13 +1,12 @@
 -- What opening and pressing an image make of it.
-use Rattle.std.specs.Prelude.{◌≡◌, ◌≢◌, ℕ, ◌<◌, ◌≤◌, ◌⊎◌, ◌==◌, if◌then◌else◌, Bool, false, true, IsTrue, Option, Some, None, is_some, IfSome, List, [], ◌∷◌, length, drop, slice_index}
+use Rattle.std.specs.Prelude.{◌≡◌, ◌≢◌, ℕ, ◌<◌, ◌≤◌, ◌⊎◌, ◌==◌, if◌then◌else◌, Bool, false, true, Option, Some, None, is_some, IfSome, List, [], ◌∷◌, length, drop, slice_index}
 use Rattle.std.proofs.Common.{arith, refl, sym, ap, ◌∙◌, inl, inr, subst, length-drop}
 use Rattle.std.proofs.lemmas.Bool.{cases_lt, false≢true}
 use Rattle.std.proofs.lemmas.List.{length-take-le, get_or_past}
 use Rattle.std.proofs.lemmas.List.FromFn.{length-map-range_with_len}
-use Rattle.model_counts.specs.Counts.{Rose}
 use Rattle.model_bytes.specs.Told.{WhereTold}
 use Rattle.model_geometry.specs.Geometry.{Shape, IsLawful, total}
-use Rattle.model_medium.specs.Cells.{Cell, Blank, Good, Torn, Dead, cell_at}
+use Rattle.model_medium.specs.Cells.{Blank, Good, Torn, Dead, cell_at}
 use Rattle.model_image.specs.Cells.{image_len, state_place, data_place, data_in, cell_in, cells_of, cells_told}
 use Rattle.model_image.specs.Image.{HasHeader, IsDiscImage, IsImageOf, IsStoppedPress, IsPressed as IsPressedImage, blank_cells}
 use Rattle.model_image.proofs.Headers.{one_header}
@@ -16,7 +15,7 @@ use Rattle.model_buffer.specs.Buffer.{numbers_in}
 use Rattle.model_sectors.specs.Discs.{Off, first_disc}
 use Rattle.ram_outside.specs.declared.image.Image.{Ghosts}
 use Rattle.ram_outside.specs.Image.{IsUnchanged}
-use Rattle.ram_image.specs.Medium.{shape_of_medium, world_of, machine_in}
+use Rattle.ram_image.specs.Medium.{world_of}
 use Rattle.ram_image.specs.Opening.{IsOpened, IsRefused}
 use Rattle.ram_image.specs.declared.medium.ImageMedium.{ImageMedium}
 use Rattle.ram_image.specs.declared.opening.OpenFault.{OpenFault}
@@ -27,8 +26,8 @@ use Rattle.ram_run.specs.declared.held.Held.TheVariants as helds
 use Rattle.ram_run.specs.declared.held.Told.TheVariants as tolds
 use Rattle.ram_run.specs.declared.held.Outcome.TheVariants as outcomes
 use Rattle.ram_run.specs.Plain.{plain_homes, shown_by, stands_for, IsStart}
-use Rattle.ram_run.specs.Machine.{State, Loaded, Unopened, Disc, IsLeft, IsFirst, IsOpenedOn}
-use Rattle.ram_run.specs.Held.{Stands, LeavesImage, IsPressAnswered, outcome_of}
+use Rattle.ram_run.specs.Machine.{State, Loaded, Unopened, Disc, IsOpenedOn}
+use Rattle.ram_run.specs.Held.{LeavesImage, IsPressAnswered, outcome_of}
 use Rattle.ram_run.specs.declared.held.Opening.TheVariants as openings
 use Rattle.ram_run.specs.Starts.{IsOpening, IsOpenedBy, IsHeldFirst}
 
@@ -50,7 +49,7 @@ good_data false false false whole held e = absurd (clash e)
 
 -- a good cell of an image has the bytes of a whole block
 whole_cells : (n : ℕ) (bytes : List ℕ) → length bytes ≡ image_len n → (block : ℕ) (held : List ℕ) → cell_at (cells_of n bytes) block ≡ Good held → length held ≡ 32768
-whole_cells n bytes long block held good = elim (cases_lt block n) [ | inl inside ↦ within inside | inr past ↦ absurd (beyond past) ]
+whole_cells n bytes long block held good = elim (cases_lt block n) [ inl inside ↦ within inside | inr past ↦ absurd (beyond past) ]
   where
     within : block < n → length held ≡ 32768
     within inside =
@@ -62,7 +61,7 @@ whole_cells n bytes long block held good = elim (cases_lt block n) [ | inl insid
         let e : Dead ≡ Good held = sym (get_or_past (cells_of n bytes) block Dead (omega (arith, past, length-map-range_with_len (cell_in n bytes) 0 n))) ∙ good in cc
 
 module _ {I : Type 0} {d : Ghosts I} (image : I) (disc : PlainDisc I d) (geometry : Shape) (opened : IsOpened image disc.medium geometry) (empty : disc.buffer ≡ [])
-  (starts : IsStart disc.medium → stands_for disc (Off (first_disc (plain_homes geometry) (world_of disc.medium).cells ∷ []))) where
+    (starts : IsStart disc.medium → stands_for disc (Off (first_disc (plain_homes geometry) (world_of disc.medium).cells ∷ []))) where
   module _ (bytes : List ℕ) (told : d.bytes image ≡ Some bytes) where
     disc_there : IsDiscImage geometry bytes
     disc_there = subst (λ o. IfSome o (IsDiscImage geometry)) told opened.disc
@@ -189,10 +188,9 @@ module _ {I : Type 0} {d : Ghosts I} where
   pub opened_disc : (image : I) (disc : PlainDisc I d) (medium : ImageMedium I d) (geometry : Shape) → IsOpened image medium geometry → disc.medium ≡ medium → disc.buffer ≡ []
       → (IsStart medium → stands_for disc (Off (first_disc (plain_homes geometry) (world_of medium).cells ∷ []))) → IsOpening {d = d} image (openings.Disc disc)
   opened_disc image disc medium geometry opened same empty starts =
-      let there : IsOpened image disc.medium geometry = subst (λ (m : ImageMedium I d). IsOpened image m geometry) (sym same) opened in
-      (
+      let there : IsOpened image disc.medium geometry = subst (λ (m : ImageMedium I d). IsOpened image m geometry) (sym same) opened in (
         λ bytes told. opened_by image disc geometry there empty
-        (subst (λ (m : ImageMedium I d). IsStart m → stands_for disc (Off (first_disc (plain_homes geometry) (world_of m).cells ∷ []))) (sym same) starts) bytes told,
+            (subst (λ (m : ImageMedium I d). IsStart m → stands_for disc (Off (first_disc (plain_homes geometry) (world_of m).cells ∷ []))) (sym same) starts) bytes told,
         there.count,
       )
 

@@ -1,7 +1,7 @@
 -- How the lines so far go on by one line, and how they end.
 use Rattle.std.specs.Prelude.{◌≡◌, ℕ, ◌+◌, ◌<◌, ◌⊎◌, Option, Some, List, [], ◌∷◌, ◌++◌, length, take, drop}
 use Rattle.std.specs.Io.KnownBytes.{append_known}
-use Rattle.std.proofs.Common.{arith, refl, sym, ap, ◌∙◌, inl, inr, subst, append_assoc, length-append, take-append-drop}
+use Rattle.std.proofs.Common.{arith, sym, ap, ◌∙◌, inl, inr, subst, append_assoc, length-append, take-append-drop}
 use Rattle.ram_outside.specs.declared.image.Image.{Ghosts}
 use Rattle.ram_text.specs.Lines.{line_feed}
 use Rattle.ram_text.specs.Writer.{IsPut, IsCutOff}
@@ -12,7 +12,8 @@ use Rattle.ram_run.specs.declared.held.Told.{Told}
 use Rattle.ram_run.specs.declared.held.Outcome.{Outcome}
 use Rattle.ram_run.specs.declared.held.Outcome.TheVariants as outcomes
 use Rattle.ram_run.specs.declared.serve.Tally.{Tally}
-use Rattle.ram_run.specs.Machine.{State, Step}
+use Rattle.ram_run.proofs.Answering.{lacks_same}
+use Rattle.ram_run.specs.Machine.{State}
 use Rattle.ram_run.specs.Held.{Stands, IsAnswered}
 use Rattle.ram_run.specs.Run.{Event, answers_of, script_text, report_text, event_text, told_text, ComesNext}
 use Rattle.ram_run.specs.Turn.{Beginning, SoFar, Between, Taken, EndsBetween, EndsCutOff, EndsInLine}
@@ -93,11 +94,10 @@ module _ {I : Type 0} {d : Ghosts I} (first : Beginning) (held : Held I d) (left
   comes_next = record { raw = t.raw; next = t.next; reads = t.reads }
 
   -- the line needs a disc, and there is none
-  pub ends_without_disc : IsAnswered t.far.now line payload reply held' outcomes.NotADisc → ((s : State) → Step s line payload outcomes.NotADisc reply s → Stands held' s → Stands held' s) → Stands held' t.far.now
-      → EndsBetween first held' due (Some (lasts.NotADisc (tally.lines + 1)))
-  ends_without_disc answered same stands = record {
+  pub ends_without_disc : IsAnswered t.far.now line payload reply held' outcomes.NotADisc → EndsBetween first held' due (Some (lasts.NotADisc (tally.lines + 1)))
+  ends_without_disc answered = record {
     far = t.far;
-    stands = stands;
+    stands = subst (λ s. Stands held' s) (lacks_same t.far.now line payload reply answered.state answered.step) answered.stands;
     due_is = t.due_is;
     last_is = ((line, payload, reply, answered.state, comes_next, answered.step), ap (λ n. n + 1) t.tallied.lines);
   }

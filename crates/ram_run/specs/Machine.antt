@@ -1,9 +1,9 @@
-use Rattle.std.specs.Prelude.{◌≡◌, ℕ, ◌⊎◌, IsTrue, None, List, [], ◌∷◌}
+use Rattle.std.specs.Prelude.{◌≡◌, ℕ, ◌⊎◌, None, List, [], ◌∷◌}
 use Rattle.model_geometry.specs.Geometry.{Shape, IsLawful, shape_of, total}
 use Rattle.model_medium.specs.Cells.{Cell}
 use Rattle.model_image.specs.Cells.{cells_of}
 use Rattle.model_image.specs.Image.{IsDiscImage, IsImageOf, IsStoppedPress, blank_cells}
-use Rattle.model_sectors.specs.Discs.{Standing, Off, Shown, IsOn, IsShown, first_disc, candidates}
+use Rattle.model_sectors.specs.Discs.{Standing, Off, Shown, IsOn, IsShown, first_disc}
 use Rattle.model_sectors.specs.Calls.{PowerCause, PowerStep}
 use Rattle.model_sectors.specs.declared.PowerOut.{PowerOut}
 use Rattle.model_sectors.specs.declared.PowerOut.TheVariants as powers
@@ -19,7 +19,6 @@ use Rattle.ram_text.specs.declared.script.Line.{Line}
 use Rattle.ram_text.specs.declared.script.Line.TheVariants.{Empty, Press, Power, Fail, Wear, Cut, Command}
 use Rattle.ram_text.specs.declared.printing.Event.{Event}
 use Rattle.ram_text.specs.declared.printing.Event.TheVariants as events
-use Rattle.ram_run.specs.declared.held.Told.{Told}
 use Rattle.ram_run.specs.declared.held.Told.TheVariants as tolds
 use Rattle.ram_run.specs.declared.held.Outcome.{Outcome}
 use Rattle.ram_run.specs.declared.held.Outcome.TheVariants as outcomes

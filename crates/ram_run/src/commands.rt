@@ -29,12 +29,7 @@ pub enum Transfer {
 
 /// Executes a command on a drive whose power is on, with the command's data in `payload`. The reply is then in `reply`,
 /// which stays empty on every answer but Good.
-pub fn execute<D: Sectors>(
-    disc: &mut D,
-    cdb: &Cdb,
-    payload: &[u8],
-    reply: &mut Vec<u8>,
-) -> Answer
+pub fn execute<D: Sectors>(disc: &mut D, cdb: &Cdb, payload: &[u8], reply: &mut Vec<u8>) -> Answer
     requires empty { reply.old.items ≡ [] }
     requires room { PAYLOAD_ROOM ≤ vec_capacity reply.old }
     ensures rule { IsTransferred (D.shows disc.old) (D.shows disc.new) (D.stands disc.old) (D.stands disc.new) payload.now result reply.new.items (asked cdb.now (length payload.now)) }

@@ -84,9 +84,11 @@ pub fn answer_line<I: Image>(
     match line {
         Line::Empty => (held, Outcome::Told(Told::Silent)),
         Line::Press { zones, scale, psa } => press_disc(alloc, held, *zones, *scale, *psa),
-        Line::Power | Line::Fail { .. } | Line::Wear { .. } | Line::Cut { .. } | Line::Command { .. } => {
-            answer_held(alloc, held, line, payload, reply)
-        }
+        Line::Power
+        | Line::Fail { .. }
+        | Line::Wear { .. }
+        | Line::Cut { .. }
+        | Line::Command { .. } => { answer_held(alloc, held, line, payload, reply) }
     }
 }
 
@@ -255,10 +257,7 @@ fn press_disc<I: Image>(
         PressOut::Done => {}
     }
     match open_disc(alloc, image) {
-        Opening::Disc(disc) => (
-            Held::Disc(disc),
-            Outcome::Told(Told::Event(Event::Pressed)),
-        ),
+        Opening::Disc(disc) => (Held::Disc(disc), Outcome::Told(Told::Event(Event::Pressed))),
         Opening::Refused(image, fault) => (Held::Image(image), not_opened(fault)),
     }
 }

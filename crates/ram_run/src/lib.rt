@@ -10,5 +10,3 @@ mod printing;
 pub mod run;
 mod serve;
 pub mod status;
-
-

@@ -24,7 +24,12 @@ pub fn print_told<K: Sink>(
         Told::Event(event) => print_event(writer, report, number, event),
         Told::Command(answer) => match line {
             Line::Command { cdb } => print_answer(writer, report, number, answer, cdb, reply),
-            Line::Empty | Line::Press { .. } | Line::Power | Line::Fail { .. } | Line::Wear { .. } | Line::Cut { .. } => unreachable!(),
+            Line::Empty
+            | Line::Press { .. }
+            | Line::Power
+            | Line::Fail { .. }
+            | Line::Wear { .. }
+            | Line::Cut { .. } => unreachable!(),
         },
     }
 }

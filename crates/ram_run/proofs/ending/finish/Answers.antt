@@ -1,8 +1,9 @@
-use Rattle.std.proofs.Common.{rules, ◌≡◌, ◌-◌, ◌<◌, ◌^◌, ℕ, ◌+◌, ◌*◌, ◌≤◌, length, ◌/◌, ◌%◌, Bool, true, false, nat_eq, nat_lt, List, [], ◌∷◌, ◌++◌, slice_index_or, slice_set, bit_and, bit_or, Fits, w8, w32, w64, Bor, MutBor}
+use Rattle.std.proofs.Common.{refl}
 use Rattle.ram_text.specs.Writer.{due}
-use Rattle.ram_run.specs.Outcome.{status_of, IsNoUsage, LastRule, FinishRule}
+use Rattle.ram_run.proofs.Finishes.{failed_at_last}
 use Rattle.ram_run.proofs.ending.finish.Goals as goal
 
--- src/ending.rt:38:26
 pub returns-in-Failed-clause-rule : goal.returns-in-Failed-clause-rule
-returns-in-Failed-clause-rule g c = ?
+returns-in-Failed-clause-rule g c =
+    failed_at_last (due (g.K.Sink.written c.args.report.now) c.args.writer.now) (due (g.K.Sink.written c.print_ending.new.report) c.print_ending.new.writer) (g.K.Sink.written c.print_ending.new.report) c.print_ending.new.writer
+    (g.K.Sink.faults c.args.report.now) (g.K.Sink.faults c.print_ending.new.report) c.args.tally c.args.ending refl c.in-Failed.ensures

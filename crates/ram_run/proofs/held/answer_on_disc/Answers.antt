@@ -1,6 +1,5 @@
 use Rattle.ram_run.proofs.held.answer_on_disc.Goals as goal
 
-
 pub returns-in-Power-clause-rule : goal.returns-in-Power-clause-rule
 returns-in-Power-clause-rule g c =
     rw c.in-Power.is (record { same_shape = c.power.ensures.same_shape; rule = (record { out = c.power.result; cause = c.power.ensures.cause; step = c.power.ensures.step; outcome_is = c.power_outcome.ensures }, c.requires.empty) })

@@ -1,8 +1,3 @@
-use Rattle.std.proofs.Common.{sym, ap, ◌∙◌, subst}
-use Rattle.model_sectors.specs.Discs.{Off, first_disc}
-use Rattle.ram_outside.specs.declared.image.Image.{Ghosts}
-use Rattle.ram_image.specs.declared.medium.ImageMedium.{ImageMedium}
-use Rattle.ram_image.specs.Opening.{IsOpened}
 use Rattle.ram_run.proofs.Opens.{opened_disc, handed_back_unopened}
 use Rattle.ram_run.proofs.held.open_disc.Goals as goal
 

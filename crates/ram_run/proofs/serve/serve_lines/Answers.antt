@@ -1,46 +1,25 @@
-use Rattle.std.proofs.Common.{rules, ◌≡◌, ◌^◌, ◌<◌, ◌≤◌, ◌+◌, ℕ, List, [], Option, IfOk, vec_capacity, ◌-◌, ◌*◌, length, ◌/◌, ◌%◌, Bool, true, false, nat_eq, nat_lt, ◌∷◌, ◌++◌, slice_index_or, slice_set, bit_and, bit_or, Fits, w8, w32, w64, Bor, MutBor}
-use Rattle.std.specs.Io.KnownBytes.{prepend_known}
-use Rattle.ram_text.specs.Writer.{due}
-use Rattle.ram_run.specs.Held.{held_faults, CountsUses}
-use Rattle.ram_run.specs.Run.{answers_of}
-use Rattle.ram_run.specs.Outcome.{Begins, IsFresh, HasRoom, IsNoUsage, Leaves, StatusCounts}
-use Rattle.ram_run.specs.Starts.{StartRule}
-use Rattle.ram_run.specs.Turn.{Beginning, Between, Taken, TurnsTo, Ends, ShowRule, TakesBytes, GoesByOne, TurnCounts, counts_of}
-use Rattle.ram_text.specs.declared.payload.TheConstants.{PAYLOAD_ROOM}
+use Rattle.std.proofs.Common.{arith}
+use Rattle.ram_run.specs.Held.{held_faults}
+use Rattle.ram_run.specs.Turn.{counts_of}
+use Rattle.ram_run.proofs.CountsRise.{none_fell}
 use Rattle.ram_run.proofs.serve.serve_lines.Goals as goal
 
--- src/serve.rt:218:5
-pub loop-more-init : goal.loop-more-init
-loop-more-init g c = ?
-
--- src/serve.rt:219:28
-pub take_turn-next-requires-clause-lines : goal.take_turn-next-requires-clause-lines
-take_turn-next-requires-clause-lines g c = ?
-
--- src/serve.rt:219:28
-pub take_turn-next-requires-clause-answered : goal.take_turn-next-requires-clause-answered
-take_turn-next-requires-clause-answered g c = ?
-
--- src/serve.rt:219:28
-pub take_turn-next-requires-clause-room : goal.take_turn-next-requires-clause-room
-take_turn-next-requires-clause-room g c = ?
-
--- src/serve.rt:218:5
-pub loop-more-smaller : goal.loop-more-smaller
-loop-more-smaller g c = ?
-
--- src/serve.rt:218:5
 pub loop-more-preserved : goal.loop-more-preserved
-loop-more-preserved g c = ?
+loop-more-preserved g c =
+    let takes = rw c.in-Goes.is at c.take_turn-next.ensures.takes in
+    let goes = rw c.in-Goes.is at c.take_turn-next.ensures.goes in
+    record {
+      between = λ first b. rw c.in-Goes.is at (c.take_turn-next.ensures.turn first (c.loop-more.invariant.between first b));
+      counts = none_fell (counts_of (g.S.Source.faults c.args.script.now) (g.K.Sink.faults c.args.report.now) (held_faults c.args.held))
+          (counts_of (g.S.Source.faults c.loop-more.script) (g.K.Sink.faults c.loop-more.report) (held_faults c.loop-more.held))
+          (counts_of (g.S.Source.faults c.take_turn-next.new.script) (g.K.Sink.faults c.take_turn-next.new.report) (held_faults c.take_turn-next.result.0))
+          c.loop-more.invariant.counts (rw c.in-Goes.is at c.take_turn-next.ensures.counts);
+      room = c.take_turn-next.ensures.room;
+      few = omega (arith, takes.0, goes.0, c.loop-more.invariant.few);
+      answered = omega (arith, goes.0, goes.1, c.loop-more.invariant.answered);
+      within = takes.1;
+    }
 
--- src/serve.rt:223:35
 pub returns-in-Ends-clause-ends : goal.returns-in-Ends-clause-ends
-returns-in-Ends-clause-ends g c = ?
-
--- src/serve.rt:223:35
-pub returns-in-Ends-clause-counts : goal.returns-in-Ends-clause-counts
-returns-in-Ends-clause-counts g c = ?
-
--- src/serve.rt:223:35
-pub returns-in-Ends-clause-few : goal.returns-in-Ends-clause-few
-returns-in-Ends-clause-few g c = ?
+returns-in-Ends-clause-ends g c first b =
+    rw c.in-Ends.is at (c.take_turn-next.ensures.turn first (c.loop-more.invariant.between first b))
