@@ -4,7 +4,8 @@
 pub const VERSION: &[u8] = b"ram_drive 1.00\n";
 
 /// The text of `--help`: what the program does, its forms, the script language in one screen, and the exit statuses.
-pub const HELP: &[u8] = b"ram_drive: a drive of rewritable discs whose blocks may fail, over an image file
+pub const HELP: &[u8] =
+    b"ram_drive: a drive of rewritable discs whose blocks may fail, over an image file
 
   ram_drive run IMAGE    answer the script on standard input over this image and
                          print the report; the file is made where there is none
