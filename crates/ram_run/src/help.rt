@@ -5,6 +5,27 @@ pub const VERSION: &[u8] = b"ram_drive 1.00\n";
 
 /// The text of `--help`: what the program does, its forms, the script language in one screen, and the exit statuses.
 pub const HELP: &[u8] =
-    b"ram_drive: a drive for rewritable discs that hides blocks that fail, over an image file.
-\x20   ram_drive run IMAGE    read a script from standard input, print the report
+    b"ram_drive: a drive of rewritable discs whose blocks may fail, over an image file
+
+  ram_drive run IMAGE    answer the script on standard input over this image and
+                         print the report; the file is made where there is none
+  ram_drive --help       print this text
+  ram_drive --version    print the version
+
+The script has one of these a line; words are parted by spaces, # is a comment:
+  press ZONES SCALE PSA  make a new disc: 1 to 35 zones, scale 1 to 100, and at
+                         least 1 primary spare block; the power is off
+  power                  turn the power off and on again
+  fail BLOCK             this block is dead from now on
+  wear BLOCK N           this block is dead at its N-th use from now on
+  cut N FATE             cut the power at the N-th use of any block from now on;
+                         a block being written then is left old, new or torn
+  cdb HEX                a command block of 1 to 16 bytes, without data
+  cdb HEX fill XX        with as many bytes as it takes, each of them XX
+  cdb HEX count XX       the same, from XX on one more for each sector
+  cdb HEX hex HEX        with exactly these data
+
+The exit status: 0 done, 2 other words than these, 3 a line is not in the script
+language or too long, 4 the image failed, 5 the script could not be read, 6 the
+report could not be written, 7 no memory, 8 a line needs a disc: there is none
 ";

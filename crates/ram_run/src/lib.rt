@@ -10,3 +10,5 @@ mod printing;
 pub mod run;
 mod serve;
 pub mod status;
+#[cfg(test)]
+mod tests;

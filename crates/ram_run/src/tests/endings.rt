@@ -1,0 +1,151 @@
+//! How a run ends: the last line of the report, and the status.
+ghost use Rattle.std.specs.Prelude.{None};
+
+use super::{PIECE, REPORT_BYTES, Status, run_script, run_words};
+use crate::run::run;
+use ram_outside::{MemImage, MemOpener, MemSink, Source, Take};
+use std::alloc::{AllocError, Global};
+use std::test::Fail;
+
+/// Scripts over an image that is no disc, with their statuses and reports.
+const ENDINGS: [(&str, Status, &str); 18] = [
+    ("", Status::Done, "end 0\n"),
+    ("\n", Status::Done, "end 0\n"),
+    ("# nothing\n\n   \n\r\n#\n", Status::Done, "end 0\n"),
+    ("press 1 1 4", Status::Done, "1 pressed\nend 1\n"),
+    ("press 1 1 4\r", Status::Done, "1 pressed\nend 1\n"),
+    ("press 1 1 4\r\npower\r\n", Status::Done, "1 pressed\n2 ready 304\nend 2\n"),
+    ("press 1 1 4\n\n# on\n  power  \n\n", Status::Done, "1 pressed\n4 ready 304\nend 2\n"),
+    ("press 1 1 4\n\n # on\n", Status::Script, "1 pressed\n3 not in the script language\n"),
+    ("press 1 1 4\r\r\n", Status::Script, "1 not in the script language\n"),
+    ("press 1 1 4\npress\t1 1 4", Status::Script, "1 pressed\n2 not in the script language\n"),
+    (
+        "press 1 1 4\ncdb 000000000000\ncdb 2G",
+        Status::Script,
+        "1 pressed\n2 off\n3 not in the script language\n",
+    ),
+    ("Press 1 1 4\npower\n", Status::Script, "1 not in the script language\n"),
+    ("power\n", Status::NotADisc, "1 not a disc\n"),
+    ("# first\n\ncdb 000000000000", Status::NotADisc, "3 not a disc\n"),
+    ("fail 1\n", Status::NotADisc, "1 not a disc\n"),
+    ("wear 1 1\n", Status::NotADisc, "1 not a disc\n"),
+    ("cut 1 old\n", Status::NotADisc, "1 not a disc\n"),
+    (
+        "press 0 1 4\npress 1 1 4294967295\npower\n",
+        Status::NotADisc,
+        "1 not pressed\n2 not pressed\n3 not a disc\n",
+    ),
+];
+
+#[test]
+fn each_last_line_has_its_status(rt: HostRuntime) -> Result<(), Fail> {
+    for (script, status, report) in ENDINGS {
+        let ran = run_script(rt.alloc(), script, None)?;
+        assert_eq!(rt; ran.report.bytes(), report.as_bytes(), "{script}");
+        assert_eq!(rt; ran.status, status, "{script}");
+    }
+    Ok(())
+}
+
+/// What is told of a line of so many bytes, a comment, between two lines, with an end of its own.
+const LONG_LINES: [(usize, &str, Status, &str); 6] = [
+    (70_000, "\npower\n", Status::Done, "1 pressed\n3 ready 304\nend 2\n"),
+    (70_001, "\npower\n", Status::Script, "1 pressed\n2 too long\n"),
+    (69_999, "\r\npower\n", Status::Done, "1 pressed\n3 ready 304\nend 2\n"),
+    (70_000, "\r\npower\n", Status::Script, "1 pressed\n2 too long\n"),
+    (70_000, "", Status::Done, "1 pressed\nend 1\n"),
+    (70_001, "", Status::Script, "1 pressed\n2 too long\n"),
+];
+
+#[test]
+fn a_line_has_its_limit(rt: HostRuntime) -> Result<(), Fail> {
+    for (len, end, status, report) in LONG_LINES {
+        let mut script = b"press 1 1 4\n".to_vec(rt.alloc())?;
+        script.resize(script.len().saturating_add(len), b'#')?;
+        script.extend_from_slice(end.as_bytes())?;
+        for piece in [7, PIECE] {
+            let ran = run_words(
+                rt.alloc(),
+                &["run", "disc"],
+                script.as_slice(),
+                b"",
+                piece,
+                None,
+            )?;
+            assert_eq!(rt; ran.report.bytes(), report.as_bytes(), "{len} bytes");
+            assert_eq!(rt; ran.status, status, "{len} bytes");
+        }
+    }
+    Ok(())
+}
+
+/// A source of so many bytes, in comments of 65,536 bytes.
+#[derive(Drop)]
+struct Comments {
+    at: usize,
+    end: usize,
+}
+
+impl Source for Comments {
+    ghost left = { λ _. None };
+
+    ghost faults = { λ _. 0 };
+
+    fn take(&mut self, into: &mut [u8]) -> Take {
+        let count = into.len().min(self.end.saturating_sub(self.at));
+        if count == 0 {
+            return Take::End;
+        }
+        into[..count].fill(b'#');
+        let last = 65_535 - self.at % 65_536;
+        if last < count {
+            into[last] = b'\n';
+        }
+        self.at += count;
+        Take::Got(count)
+    }
+}
+
+/// Runs a script of so many bytes that is not stored.
+fn run_comments(alloc: Global, end: usize) -> Result<(Status, MemSink), AllocError> {
+    let mut script = Comments { at: 0, end };
+    let mut report = MemSink::new(alloc, PIECE, Vec::new(alloc));
+    report.reserve(REPORT_BYTES)?;
+    let mut opener = MemOpener::new(
+        MemImage::new(Vec::new(alloc), Vec::new(alloc)),
+        Vec::new(alloc),
+    );
+    let status = run(alloc, &["run", "disc"], &mut script, &mut report, &mut opener);
+    Ok((status, report))
+}
+
+#[test]
+fn a_script_has_its_limit(rt: HostRuntime) -> Result<(), Fail> {
+    for (end, status, text) in [
+        (67_108_864, Status::Done, "end 0\n"),
+        (67_108_865, Status::Script, "script too long\n"),
+    ] {
+        let (found, report) = run_comments(rt.alloc(), end)?;
+        assert_eq!(rt; report.bytes(), text.as_bytes(), "{end} bytes");
+        assert_eq!(rt; found, status, "{end} bytes");
+    }
+    Ok(())
+}
+
+#[test]
+fn a_long_script_takes_few_calls(rt: HostRuntime) -> Result<(), Fail> {
+    let mut script = String::new(rt.alloc());
+    script.push_str("press 1 1 4\n")?;
+    for _ in 0..200_000u32 {
+        script.push_str("power\n")?;
+    }
+    let ran = run_script(rt.alloc(), script.as_str(), None)?;
+    assert_eq!(rt; ran.status, Status::Done);
+    let end = b"\n200001 ready 304\nend 200001\n";
+    assert!(rt; ran.report.bytes().ends_with(end));
+    let takes = script.len().div_ceil(PIECE) as u64;
+    assert!(rt; ran.script.calls() <= takes.saturating_add(2));
+    let puts = ran.report.bytes().len().div_ceil(PIECE) as u64;
+    assert!(rt; ran.report.calls() <= puts.saturating_add(ran.script.calls()));
+    Ok(())
+}
