@@ -40,9 +40,9 @@ module _ (old new : Shown) (after : Standing → Type 0) where
   read_found (On disc) lba n into reads.NotFormatted p = (On disc, p, refl)
   read_found (On disc) lba n into (reads.Range told) p = (On disc, p, refl)
   read_found (On disc) lba n into (reads.Unread named block) p = (On disc, p.3, (p.0, p.1, p.2, refl))
-  read_found (On disc) lba n into reads.Cut p = (Off (disc ∷ []), p, refl)
+  read_found (On disc) lba n into reads.Cut p = (Off (disc ∷ []), p.1, (p.0, refl))
   read_found (On disc) lba n into reads.Off p = absurd p
-  read_found (On disc) lba n into reads.Fault p = (Off (disc ∷ []), p, refl)
+  read_found (On disc) lba n into reads.Fault p = (Off (disc ∷ []), p.1, (p.0, refl))
   read_found (Off discs) lba n into reads.Good p = absurd p
   read_found (Off discs) lba n into reads.NotFormatted p = absurd p
   read_found (Off discs) lba n into (reads.Range told) p = absurd p
@@ -53,14 +53,14 @@ module _ (old new : Shown) (after : Standing → Type 0) where
 
   -- what a write leaves
   write_found : (s : Standing) (lba n : ℕ) (bytes : List ℕ) (out : WriteOut) → WriteStep old new after s lba n bytes out → (t : Standing) × after t × WriteStep old new (λ x. x ≡ t) s lba n bytes out
-  write_found (On disc) lba n bytes writes.Good p = (_, p.1, (p.0, refl))
+  write_found (On disc) lba n bytes writes.Good p = (_, p.2, (p.0, p.1, refl))
   write_found (On disc) lba n bytes writes.NotFormatted p = (On disc, p, refl)
   write_found (On disc) lba n bytes (writes.Range told) p = (On disc, p, refl)
-  write_found (On disc) lba n bytes (writes.Unread named block) p = (_, p.2, (p.0, p.1, refl))
-  write_found (On disc) lba n bytes (writes.NoSpare named) p = (_, p.1, (p.0, refl))
-  write_found (On disc) lba n bytes writes.Cut p = (_, p.either, record { block = p.block; covered = p.covered; either = refl })
+  write_found (On disc) lba n bytes (writes.Unread named block) p = (_, p.3, (p.0, p.1, p.2, refl))
+  write_found (On disc) lba n bytes (writes.NoSpare named) p = (_, p.2, (p.0, p.1, refl))
+  write_found (On disc) lba n bytes writes.Cut p = (_, p.1.either, (p.0, record { block = p.1.block; covered = p.1.covered; either = refl }))
   write_found (On disc) lba n bytes writes.Off p = absurd p
-  write_found (On disc) lba n bytes writes.Fault p = (_, p.either, record { block = p.block; covered = p.covered; either = refl })
+  write_found (On disc) lba n bytes writes.Fault p = (_, p.1.either, (p.0, record { block = p.1.block; covered = p.1.covered; either = refl }))
   write_found (Off discs) lba n bytes writes.Good p = absurd p
   write_found (Off discs) lba n bytes writes.NotFormatted p = absurd p
   write_found (Off discs) lba n bytes (writes.Range told) p = absurd p
@@ -89,8 +89,7 @@ module _ (old new : Shown) (before after : Standing → Type 0) (s : Standing) (
   transfer_found : (payload : List ℕ) (answer : Answer) (reply : List ℕ) (wanted : Result Transfer Sense) → IsTransferred old new before after payload answer reply wanted
       → Found after (λ t. IsTransferred old new (λ x. x ≡ s) (λ x. x ≡ t) payload answer reply wanted)
   transfer_found payload answer reply (Ok (transfers.Read lba n)) p =
-      let found = read_found old new after s lba n p.bytes p.out (p.step s stood) in
-      (
+      let found = read_found old new after s lba n p.bytes p.out (p.step s stood) in (
         found.0,
         found.1,
         record {
@@ -104,8 +103,7 @@ module _ (old new : Shown) (before after : Standing → Type 0) (s : Standing) (
         },
       )
   transfer_found payload answer reply (Ok (transfers.Write lba n)) p =
-      let found = write_found old new after s lba n payload p.out (p.step s stood) in
-      (
+      let found = write_found old new after s lba n payload p.out (p.step s stood) in (
         found.0,
         found.1,
         record {
@@ -132,8 +130,7 @@ module _ (old new : Shown) (before after : Standing → Type 0) (s : Standing) (
   rule_found total Empty payload outcome reply p = absurd p
   rule_found total (Press zones scale psa) payload outcome reply p = absurd p
   rule_found total Power payload outcome reply p =
-      let found = power_found old new after s p.0.out (p.0.step s stood) in
-      (
+      let found = power_found old new after s p.0.out (p.0.step s stood) in (
         found.0,
         found.1,
         (
@@ -141,12 +138,11 @@ module _ (old new : Shown) (before after : Standing → Type 0) (s : Standing) (
           p.1,
         ),
       )
-  rule_found total (Fail block) payload outcome reply p =
-      (
-        stands_after_fail s p.0.end,
-        p.0.stands s stood,
-        (record { end = p.0.end; rule = p.0.rule; buffered = p.0.buffered; stands = λ x e. ap (λ y. stands_after_fail y p.0.end) e; outcome_is = p.0.outcome_is }, p.1),
-      )
+  rule_found total (Fail block) payload outcome reply p = (
+    stands_after_fail s p.0.end,
+    p.0.stands s stood,
+    (record { end = p.0.end; rule = p.0.rule; buffered = p.0.buffered; stands = λ x e. ap (λ y. stands_after_fail y p.0.end) e; outcome_is = p.0.outcome_is }, p.1),
+  )
   rule_found total (Wear block n) payload outcome reply p =
       let found = keeps_found p.0.keeps in
       (found.0, found.1, (record { end = p.0.end; rule = p.0.rule; keeps = found.2; outcome_is = p.0.outcome_is }, p.1))
