@@ -1,4 +1,4 @@
-use Rattle.std.specs.Prelude.{◌≡◌, ℕ, ◌+◌, ◌-◌, ◌<◌, ◌≤◌, ◌⊎◌, true, IsTrue, Option, Some, None, List, [], ◌∷◌, length}
+use Rattle.std.specs.Prelude.{◌≡◌, ◌≢◌, ℕ, ◌+◌, ◌-◌, ◌<◌, ◌≤◌, ◌⊎◌, true, IsTrue, Option, Some, None, List, [], ◌∷◌, length}
 use Rattle.model_medium.specs.Cells.{Dead, IsGood, IsSameOrDead, cell_at}
 use Rattle.model_medium.specs.Machine.{Machine}
 use Rattle.model_medium.specs.Reach.{Reach}
@@ -87,23 +87,24 @@ ReadCause old new lba n reads.Fault = IsInRange old lba n × IsStopped old new (
 abbrev pub AreReadable : Shown → Shown → (first : ℕ) → ℕ → Type 0
 AreReadable old new first count = (k : ℕ) → k < count → IsGood (home_cell new (first + k)) ⊎ IsTrue (is_buffered old.buffered (first + k))
 
--- the home of each logical block that is not among these is as before
-abbrev pub OthersAreSame : Shown → Shown → (first : ℕ) → ℕ → Type 0
-OthersAreSame old new first count = (i : ℕ) → i < length old.homes → (i < first) ⊎ (first + count ≤ i) → home_cell new i ≡ home_cell old i
+-- no cell changed but those of the homes of these logical blocks
+abbrev pub OnlyCovered : Shown → Shown → (first : ℕ) → ℕ → Type 0
+OnlyCovered old new first count =
+    (block : ℕ) → ((k : ℕ) → k < count → block ≢ home old (first + k)) → cell_at new.medium.world.cells block ≡ cell_at old.medium.world.cells block
 
 -- What a read of the disc gives, by its answer, and what the drive stands for then.
 abbrev pub ReadOn : Shown → Shown → (Standing → Type 0) → List ℕ → (lba n : ℕ) → List ℕ → ReadOut → Type 0
 ReadOn old new stands disc lba n into reads.Good =
     (into ≡ sectors_of disc lba n) × AreReadable old new (block_with lba) (blocks_covered lba n)
-    × OthersAreSame old new (block_with lba) (blocks_covered lba n) × stands (On disc)
+    × OnlyCovered old new (block_with lba) (blocks_covered lba n) × stands (On disc)
 ReadOn old new stands disc lba n into reads.NotFormatted = stands (On disc)
 ReadOn old new stands disc lba n into (reads.Range told) = stands (On disc)
 ReadOn old new stands disc lba n into (reads.Unread named block) =
     ¬ IsGood (cell_at new.medium.world.cells block) × AreReadable old new (block_with lba) (block_with named - block_with lba)
-    × OthersAreSame old new (block_with lba) (blocks_covered lba n) × stands (On disc)
-ReadOn old new stands disc lba n into reads.Cut = stands (Off (disc ∷ []))
+    × OnlyCovered old new (block_with lba) (blocks_covered lba n) × stands (On disc)
+ReadOn old new stands disc lba n into reads.Cut = OnlyCovered old new (block_with lba) (blocks_covered lba n) × stands (Off (disc ∷ []))
 ReadOn old new stands disc lba n into reads.Off = ⊥
-ReadOn old new stands disc lba n into reads.Fault = stands (Off (disc ∷ []))
+ReadOn old new stands disc lba n into reads.Fault = OnlyCovered old new (block_with lba) (blocks_covered lba n) × stands (Off (disc ∷ []))
 
 -- What a read does with the power off: it answers so.
 abbrev pub ReadOff : (Standing → Type 0) → List (List ℕ) → ReadOut → Type 0
@@ -172,17 +173,18 @@ pub record StopsInBlock (stands : Standing → Type 0) (disc : List ℕ) (lba n 
 -- What a write of these bytes makes of the disc, by its answer.
 abbrev pub WriteOn : Shown → Shown → (Standing → Type 0) → List ℕ → (lba n : ℕ) → List ℕ → WriteOut → Type 0
 WriteOn old new stands disc lba n bytes writes.Good =
-    AreGood new (block_with lba) (blocks_covered lba n) × stands (On (replaced disc lba bytes (block_with lba + blocks_covered lba n)))
+    AreGood new (block_with lba) (blocks_covered lba n) × OnlyCovered old new (block_with lba) (blocks_covered lba n)
+    × stands (On (replaced disc lba bytes (block_with lba + blocks_covered lba n)))
 WriteOn old new stands disc lba n bytes writes.NotFormatted = stands (On disc)
 WriteOn old new stands disc lba n bytes (writes.Range told) = stands (On disc)
 WriteOn old new stands disc lba n bytes (writes.Unread named block) =
     ¬ IsGood (cell_at new.medium.world.cells block) × IsSameOrDead (cell_at old.medium.world.cells block) (cell_at new.medium.world.cells block)
-    × stands (On (replaced disc lba bytes (block_with named)))
+    × OnlyCovered old new (block_with lba) (blocks_covered lba n) × stands (On (replaced disc lba bytes (block_with named)))
 WriteOn old new stands disc lba n bytes (writes.NoSpare named) =
-    (home_cell new (block_with named) ≡ Dead) × stands (On (replaced disc lba bytes (block_with named)))
-WriteOn old new stands disc lba n bytes writes.Cut = StopsInBlock stands disc lba n bytes
+    (home_cell new (block_with named) ≡ Dead) × OnlyCovered old new (block_with lba) (blocks_covered lba n) × stands (On (replaced disc lba bytes (block_with named)))
+WriteOn old new stands disc lba n bytes writes.Cut = OnlyCovered old new (block_with lba) (blocks_covered lba n) × StopsInBlock stands disc lba n bytes
 WriteOn old new stands disc lba n bytes writes.Off = ⊥
-WriteOn old new stands disc lba n bytes writes.Fault = StopsInBlock stands disc lba n bytes
+WriteOn old new stands disc lba n bytes writes.Fault = OnlyCovered old new (block_with lba) (blocks_covered lba n) × StopsInBlock stands disc lba n bytes
 
 -- What a write does with the power off: it answers so.
 abbrev pub WriteOff : (Standing → Type 0) → List (List ℕ) → WriteOut → Type 0
@@ -198,12 +200,12 @@ WriteStep old new stands (Off discs) lba n bytes out = WriteOff stands discs out
 abbrev pub turned_on : Machine → Machine
 turned_on machine = record machine { world = record machine.world { power = true } }
 
--- The power went off and on again, from when on the uses count, and no block is buffered. No home changed.
+-- The power went off and on again, from when on the uses count, and no block is buffered. No cell changed.
 pub record IsPowered (old new : Shown) : Type 0 where
   pub on : IsOn new
   pub reach : Reach (turned_on old.medium) new.medium mount_uses
   pub dropped : new.buffered ≡ []
-  pub same_cells : (i : ℕ) → i < length new.homes → home_cell new i ≡ cell_at old.medium.world.cells (home new i)
+  pub same_cells : (block : ℕ) → cell_at new.medium.world.cells block ≡ cell_at old.medium.world.cells block
 
 -- Memory was refused after at most so many uses, and the power is off again.
 pub record RunsOutOfMemory (old new : Shown) (most : ℕ) : Type 0 where

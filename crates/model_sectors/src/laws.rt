@@ -1,8 +1,9 @@
-ghost use Rattle.std.specs.Prelude.{◌≡◌, ℕ, ◌+◌, ◌-◌, ◌*◌, ◌≤◌, ◌⊎◌, List, length, take, drop};
+ghost use Rattle.std.specs.Prelude.{◌≡◌, ℕ, ◌+◌, ◌-◌, ◌*◌, ◌<◌, ◌≤◌, ◌⊎◌, List, length, take, drop};
 ghost use Rattle.model_buffer.specs.declared.TheConstants.{BUFFERED_BLOCKS};
-ghost use Rattle.model_sectors.specs.Discs.{Shown, sectors_of, replaced, Fits, SomeFits, IsFirstFit};
+ghost use Rattle.model_sectors.specs.Discs.{Shown, home, home_cell, sectors_of, replaced, Fits, SomeFits, IsFirstFit};
 ghost use Rattle.model_sectors.specs.Uses.{block_with, blocks_covered, read_uses};
-ghost use Rattle.model_sectors.specs.Calls.{AreBuffered};
+ghost use Rattle.model_medium.specs.Cells.{cell_at};
+ghost use Rattle.model_sectors.specs.Calls.{AreBuffered, OnlyCovered};
 
 /// The sectors that are replaced read back as the bytes that were written, and the others as before.
 pub fn what_is_replaced_reads_back()
@@ -26,4 +27,13 @@ pub fn some_disc_fits_first()
 pub fn buffered_blocks_take_no_use()
     ensures { (shown : Shown) (lba n : ℕ) → length shown.buffered ≤ BUFFERED_BLOCKS → AreBuffered shown lba n
         → read_uses shown.buffered (block_with lba) (blocks_covered lba n) ≡ 0 }
+{}
+
+/// Where different logical blocks have different homes, and no cell changed but those of the homes of some logical
+/// blocks, the home of each other one is as before.
+pub fn uncovered_homes_stay()
+    ensures { (old new : Shown) (first count i : ℕ) → OnlyCovered old new first count
+        → ((j k : ℕ) → j < length old.homes → k < length old.homes → home old j ≡ home old k → j ≡ k)
+        → ((k : ℕ) → k < count → first + k < length old.homes) → i < length old.homes → (i < first) ⊎ (first + count ≤ i)
+        → cell_at new.medium.world.cells (home old i) ≡ home_cell old i }
 {}

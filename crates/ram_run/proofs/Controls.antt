@@ -121,7 +121,7 @@ module _ {I : Type 0} {d : Ghosts I} (old new : PlainDisc I d) (same_shape : sha
       on = ap (λ (m : Machine). m.world.power) machine;
       reach = subst (λ (m : Machine). Reach m (machine_in new.medium) 0) machine (image_laws.none new.medium);
       dropped = ap numbers_in dropped;
-      same_cells = λ i h. ap (λ (m : Machine). cell_at m.world.cells (home (shown_by new) i)) machine;
+      same_cells = λ block. ap (λ (m : Machine). cell_at m.world.cells block) machine;
     }
 
     pub powered_step : (s : Standing) → stands_for old s → (disc : List ℕ) × IsFirstFit (shown_by new) (candidates s) disc × stands_for new (On disc)

@@ -39,9 +39,9 @@ module _ (old new : Shown) (after : Standing → Type 0) where
   read_found (On disc) lba n into reads.NotFormatted p = (On disc, p, refl)
   read_found (On disc) lba n into (reads.Range told) p = (On disc, p, refl)
   read_found (On disc) lba n into (reads.Unread named block) p = (On disc, p.3, (p.0, p.1, p.2, refl))
-  read_found (On disc) lba n into reads.Cut p = (Off (disc ∷ []), p, refl)
+  read_found (On disc) lba n into reads.Cut p = (Off (disc ∷ []), p.1, (p.0, refl))
   read_found (On disc) lba n into reads.Off p = absurd p
-  read_found (On disc) lba n into reads.Fault p = (Off (disc ∷ []), p, refl)
+  read_found (On disc) lba n into reads.Fault p = (Off (disc ∷ []), p.1, (p.0, refl))
   read_found (Off discs) lba n into reads.Good p = absurd p
   read_found (Off discs) lba n into reads.NotFormatted p = absurd p
   read_found (Off discs) lba n into (reads.Range told) p = absurd p
@@ -52,14 +52,14 @@ module _ (old new : Shown) (after : Standing → Type 0) where
 
   -- what a write leaves
   write_found : (s : Standing) (lba n : ℕ) (bytes : List ℕ) (out : WriteOut) → WriteStep old new after s lba n bytes out → (t : Standing) × after t × WriteStep old new (λ x. x ≡ t) s lba n bytes out
-  write_found (On disc) lba n bytes writes.Good p = (_, p.1, (p.0, refl))
+  write_found (On disc) lba n bytes writes.Good p = (_, p.2, (p.0, p.1, refl))
   write_found (On disc) lba n bytes writes.NotFormatted p = (On disc, p, refl)
   write_found (On disc) lba n bytes (writes.Range told) p = (On disc, p, refl)
-  write_found (On disc) lba n bytes (writes.Unread named block) p = (_, p.2, (p.0, p.1, refl))
-  write_found (On disc) lba n bytes (writes.NoSpare named) p = (_, p.1, (p.0, refl))
-  write_found (On disc) lba n bytes writes.Cut p = (_, p.either, record { block = p.block; covered = p.covered; either = refl })
+  write_found (On disc) lba n bytes (writes.Unread named block) p = (_, p.3, (p.0, p.1, p.2, refl))
+  write_found (On disc) lba n bytes (writes.NoSpare named) p = (_, p.2, (p.0, p.1, refl))
+  write_found (On disc) lba n bytes writes.Cut p = (_, p.1.either, (p.0, record { block = p.1.block; covered = p.1.covered; either = refl }))
   write_found (On disc) lba n bytes writes.Off p = absurd p
-  write_found (On disc) lba n bytes writes.Fault p = (_, p.either, record { block = p.block; covered = p.covered; either = refl })
+  write_found (On disc) lba n bytes writes.Fault p = (_, p.1.either, (p.0, record { block = p.1.block; covered = p.1.covered; either = refl }))
   write_found (Off discs) lba n bytes writes.Good p = absurd p
   write_found (Off discs) lba n bytes writes.NotFormatted p = absurd p
   write_found (Off discs) lba n bytes (writes.Range told) p = absurd p

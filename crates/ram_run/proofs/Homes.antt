@@ -6,7 +6,8 @@ use Rattle.std.proofs.lemmas.List.{get_or-drop}
 use Rattle.std.proofs.lemmas.Option.{slice_get-get_or}
 use Rattle.model_geometry.specs.Geometry.{Shape, IsLawful, data_blocks, formattable, lead_out, total}
 use Rattle.model_geometry.proofs.Zones.{total_most}
-use Rattle.model_geometry.proofs.DataBlocks.{Contains-slice_get, no_data_block_outside, same_place, data_blocks_rise, length-data_blocks}
+use Rattle.model_geometry.proofs.DataBlocks.{Contains-slice_get, no_data_block_outside, data_blocks_rise, length-data_blocks}
+use Rattle.model_sectors.proofs.Apart.{apart_behind}
 use Rattle.ram_run.specs.Plain.{plain_homes}
 
 -- a logical block has a data block behind the primary spares
@@ -52,10 +53,7 @@ data_block_inside shape n block h =
 
 -- other logical blocks have other homes
 pub homes_differ : (shape : Shape) (i j : ℕ) → i < length (plain_homes shape) → j < length (plain_homes shape) → slice_index (plain_homes shape) i ≡ slice_index (plain_homes shape) j → i ≡ j
-homes_differ shape i j h k same =
-    let e = same_place (data_blocks shape) (data_blocks_rise shape) (shape.psa + i) (shape.psa + j) (slice_index (plain_homes shape) i)
-    (home_found shape i h) (home_found shape j k ∙ ap Some (sym same)) in
-    omega arith
+homes_differ shape i j h k same = apart_behind (data_blocks shape) (data_blocks_rise shape) shape.psa i j h k same
 
 -- the same of an answer of the geometry
 module _ (shape shape' : Shape) (spares i : ℕ) (o : Option ℕ) (one : shape ≡ shape') (spares_are : spares ≡ shape.psa) (inside : i < length (plain_homes shape'))

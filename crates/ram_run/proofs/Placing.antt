@@ -47,6 +47,7 @@ module _ {I : Type 0} {d : Ghosts I} (old : PlainDisc I d) (lba n : ℕ) (bytes 
     as_told = halted.as_told;
     stops = stops_within (λ (m : ImageMedium I d). world_of m) (λ m. total (shape_of_medium m)) ImageReaches image_laws old.medium new.medium (rest_uses (numbers_in old.buffer) lba n block)
         (rest_uses (numbers_in old.buffer) lba n block + 2) stop (omega arith) halted.stops;
+    others = halted.others;
     leaves = λ disc stands. first_alone disc (with_part lba n bytes block disc ∷ []) (halted.keeps disc stands);
   }
     where
@@ -128,6 +129,7 @@ module _ {I : Type 0} {d : Ghosts I} (old : PlainDisc I d) (lba n : ℕ) (bytes 
         stays = stays_then old laid new (rest_uses (numbers_in old.buffer) lba n block) 2
             (record { same_shape = is_ready.stays.same_shape; as_told = is_ready.stays.as_told; on = is_ready.stays.on; reach = is_ready.stays.reach }) lost.stays;
         buffered = ap numbers_in lost.buffer_is ∙ is_ready.buffered;
+        others = others_old new lost.others;
         dead = lost.dead;
         keeps = λ disc stands. record {
           told = lost.stays.as_told ∙ told_laid stands.told;
@@ -143,6 +145,7 @@ module _ {I : Type 0} {d : Ghosts I} (old : PlainDisc I d) (lba n : ℕ) (bytes 
         as_told = halted.as_told ∙ is_ready.stays.as_told;
         stops = stops_then old laid new (rest_uses (numbers_in old.buffer) lba n block) 2 stop
             (record { same_shape = is_ready.stays.same_shape; as_told = is_ready.stays.as_told; on = is_ready.stays.on; reach = is_ready.stays.reach }) halted.stops;
+        others = others_old new halted.others;
         leaves = λ disc stands. by_cell disc stands halted.left;
       }
         where

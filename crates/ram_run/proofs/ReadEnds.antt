@@ -11,7 +11,7 @@ use Rattle.model_buffer.specs.Buffer.{numbers_in}
 use Rattle.model_buffer.specs.declared.TheConstants.{BUFFERED_BLOCKS}
 use Rattle.model_sectors.specs.Discs.{Standing, On, Off, sectors_of, home, home_cell, Fits}
 use Rattle.model_sectors.specs.Uses.{block_with, blocks_covered, start_in, is_buffered, is_at_hand, read_uses}
-use Rattle.model_sectors.specs.Calls.{AreReadable, AreBuffered, ReadsBuffered, ReadsAll, ReadCause, ReadStep}
+use Rattle.model_sectors.specs.Calls.{AreReadable, OnlyCovered, AreBuffered, ReadsBuffered, ReadsAll, ReadCause, ReadStep}
 use Rattle.model_sectors.specs.declared.ReadOut.{ReadOut}
 use Rattle.model_sectors.specs.declared.ReadOut.TheVariants as reads
 use Rattle.model_sectors.proofs.Covering.{covered_inside, block_with_start, all_at_hand, no_uses_buffered}
@@ -121,7 +121,7 @@ module _ {I : Type 0} {d : Ghosts I} where
     all_step (On disc) stands = (
       all_into disc stands,
       (ended.discs disc stands).readable,
-      (λ i h outside. same_home_cell old new i so_far.stays.same_shape so_far.same_cells),
+      (λ block apart. ap (λ (l : List Cell). cell_at l block) so_far.same_cells),
       all_stands disc stands,
     )
     all_step (Off discs) stands = absurd (stands.agrees.0 so_far.inside.on)
@@ -150,6 +150,13 @@ module _ {I : Type 0} {d : Ghosts I} where
 
     within : block_with lba + k < length (shown_by old).homes
     within = covered_inside lba n k (length (shown_by old).homes) so_far.inside.inside covered
+
+  -- no cell changed but those of the homes of the covered blocks, where one home alone changed after so many blocks
+  only_next : (old mid new : PlainDisc I d) (lba n k : ℕ) (into : List ℕ) → ReadSoFar old mid lba n k into → k < blocks_covered lba n → OthersSame mid new (block_with lba + k)
+      → OnlyCovered (shown_by old) (shown_by new) (block_with lba) (blocks_covered lba n)
+  only_next old mid new lba n k into so_far covered others block apart =
+      others block (λ e. apart k covered (e ∙ ap (λ (s : Shape). slice_index (plain_homes s) (block_with lba + k)) so_far.stays.same_shape))
+      ∙ ap (λ (l : List Cell). cell_at l block) so_far.same_cells
 
   -- and it cannot be read
   module _ (old mid new : PlainDisc I d) (lba n k : ℕ) (into into' : List ℕ) (so_far : ReadSoFar old mid lba n k into) (covered : k < blocks_covered lba n)
@@ -203,7 +210,7 @@ module _ {I : Type 0} {d : Ghosts I} where
     unread_step (On disc) stands = (
       did.not_good,
       subst (AreReadable (shown_by old) (shown_by new) (block_with lba)) (sym unread_named) (unread_readable disc stands),
-      (λ i h outside. unread_other i h (λ e. elim outside [ inl low ↦ omega arith | inr high ↦ omega arith ])),
+      only_next old mid new lba n k into so_far covered did.others,
       unread_stands disc stands,
     )
     unread_step (Off discs) stands = absurd (stands.agrees.0 so_far.inside.on)
@@ -260,9 +267,9 @@ module _ {I : Type 0} {d : Ghosts I} where
     halted_cause_by stops.Fault did = (so_far.inside, record { stops = stops_all stops.Fault did; dropped = ap numbers_in dropped })
 
     halted_step_by : (why : Stop) → HaltsReading mid last (block_with lba + k) why → (s : Standing) → stands_for old s → ReadStep (shown_by old) (shown_by last) (stands_for last) s lba n into' (read_stopped_by why)
-    halted_step_by stops.Cut did (On disc) stands = halted_stands stops.Cut did disc stands
+    halted_step_by stops.Cut did (On disc) stands = (only_next old mid last lba n k into so_far covered did.others, halted_stands stops.Cut did disc stands)
     halted_step_by stops.Off did (On disc) stands = absurd (did.stops.was_off so_far.stays.on)
-    halted_step_by stops.Fault did (On disc) stands = halted_stands stops.Fault did disc stands
+    halted_step_by stops.Fault did (On disc) stands = (only_next old mid last lba n k into so_far covered did.others, halted_stands stops.Fault did disc stands)
     halted_step_by why did (Off discs) stands = absurd (stands.agrees.0 so_far.inside.on)
 
     pub halted_cause : (why : Stop) → HaltsReading mid new (block_with lba + k) why → (out : ReadOut) → out ≡ read_stopped_by why → ReadCause (shown_by old) (shown_by last) lba n out

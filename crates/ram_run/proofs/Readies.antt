@@ -122,6 +122,7 @@ module _ {I : Type 0} {d : Ghosts I} (old : PlainDisc I d) (lba n block : ℕ) w
       as_told = halted.as_told;
       stops = subst (λ (most : ℕ). Stops world_of ImageReaches old.medium new.medium most stop)
           (sym (rest_missing (is_partly lba n block) (is_buffered (numbers_in old.buffer) block) partly halted.not_buffered)) halted.stops;
+      others = halted.others;
       keeps = λ disc stands. inl (fits_still old new halted.same_shape block inside halted.others disc
           (not_good_by (home_cell (shown_by old) block) (home_cell (shown_by new) block) halted.left) stands.agrees.1);
     }

@@ -7,7 +7,7 @@ use Rattle.model_medium.specs.Cells.{Cell, IsGood, IsSameOrDead, cell_at}
 use Rattle.model_buffer.specs.Buffer.{numbers_in, touched_one}
 use Rattle.model_sectors.specs.Discs.{Standing, On, Off, SomeFits, replaced, home, home_cell}
 use Rattle.model_sectors.specs.Uses.{block_with, blocks_covered, start_in, is_partly, touched_from, is_buffered, is_at_hand, write_uses}
-use Rattle.model_sectors.specs.Calls.{IsInRange, IsStopped, KeepsHomes, WriteCause, StopsInBlock, WriteOn, WriteStep}
+use Rattle.model_sectors.specs.Calls.{IsInRange, IsStopped, KeepsHomes, WriteCause, OnlyCovered, StopsInBlock, WriteOn, WriteStep}
 use Rattle.model_sectors.specs.declared.WriteOut.{WriteOut}
 use Rattle.model_sectors.specs.declared.WriteOut.TheVariants as writes
 use Rattle.model_sectors.proofs.Covering.{covered_part, covered_inside, block_with_start, replaced_first}
@@ -21,7 +21,7 @@ use Rattle.ram_image.specs.declared.medium.ImageMedium.{ImageMedium}
 use Rattle.ram_image.specs.Medium.{shape_of_medium, world_of, ImageReaches}
 use Rattle.ram_run.specs.declared.plain.PlainDisc.{PlainDisc}
 use Rattle.ram_run.specs.Plain.{shown_by, stands_for, plain_homes}
-use Rattle.ram_run.specs.Blocks.{Stays}
+use Rattle.ram_run.specs.Blocks.{Stays, OthersSame}
 use Rattle.ram_run.specs.Writing.{rest_uses, touched_rest, with_part, LacksItsRest, HasDied, IsPlaced, HaltsPlacing, HasWritten, write_stopped_by}
 use Rattle.ram_run.proofs.Homes.{homes_differ}
 use Rattle.ram_run.proofs.ImageLaws.{image_laws}
@@ -96,7 +96,7 @@ module _ {I : Type 0} {d : Ghosts I} (old : PlainDisc I d) (lba n : ℕ) (bytes 
 
   pub all_step : (new : PlainDisc I d) → HasWritten old new lba n bytes (blocks_covered lba n) → (s : Standing) → stands_for old s
       → WriteStep (shown_by old) (shown_by new) (stands_for new) s lba n bytes writes.Good
-  all_step new w = step_by new writes.Good (λ disc stands. (w.good stands.told, w.makes disc stands))
+  all_step new w = step_by new writes.Good (λ disc stands. (w.good stands.told, w.others, w.makes disc stands))
 
   module _ (mid : PlainDisc I d) (k : ℕ) (w : HasWritten old mid lba n bytes k) (covered : k < blocks_covered lba n) where
     -- the uses of the next block
@@ -114,6 +114,10 @@ module _ {I : Type 0} {d : Ghosts I} (old : PlainDisc I d) (lba n : ℕ) (bytes 
       where
         apart : (j : ℕ) → j < k → block_with lba + k ≡ block_with lba + j → ⊥
         apart j h e = omega arith
+
+    -- no cell changed but those of the homes of the covered blocks
+    only_next : (new : PlainDisc I d) → OthersSame mid new (block_with lba + k) → OnlyCovered (shown_by old) (shown_by new) (block_with lba) (blocks_covered lba n)
+    only_next new others = λ block apart. (others block (λ e. apart k covered (e ∙ home_mid)) ∙ w.others block (λ j h. apart j (omega arith)))
 
     -- the next block was written
     pub written_more : (new : PlainDisc I d) → IsPlaced mid new lba n bytes (block_with lba + k) → HasWritten old new lba n bytes (k + 1)
@@ -174,6 +178,7 @@ module _ {I : Type 0} {d : Ghosts I} (old : PlainDisc I d) (lba n : ℕ) (bytes 
           subst (λ (cell : Cell). ¬ IsGood cell) (sym cell_new) p.not_good,
           subst (λ (cell : Cell). IsSameOrDead (cell_at (world_of old.medium).cells block) cell) (sym cell_new)
               (subst (λ (cell : Cell). IsSameOrDead cell (home_cell (shown_by new) (block_with lba + k))) (sym cell_old) p.left),
+          only_next new p.others,
           subst (λ (b : ℕ). stands_for new (On (replaced disc lba bytes b))) (sym named_block) (p.keeps (replaced disc lba bytes (block_with lba + k)) (w.makes disc stands)),
         ))
 
@@ -197,6 +202,7 @@ module _ {I : Type 0} {d : Ghosts I} (old : PlainDisc I d) (lba n : ℕ) (bytes 
         pub died_step : (s : Standing) → stands_for old s → WriteStep (shown_by old) (shown_by new) (stands_for new) s lba n bytes (writes.NoSpare named)
         died_step = step_by new (writes.NoSpare named) (λ disc stands. (
           ap (home_cell (shown_by new)) named_block ∙ p.dead,
+          only_next new p.others,
           subst (λ (b : ℕ). stands_for new (On (replaced disc lba bytes b))) (sym named_block) (p.keeps (replaced disc lba bytes (block_with lba + k)) (w.makes disc stands)),
         ))
 
@@ -224,6 +230,9 @@ module _ {I : Type 0} {d : Ghosts I} (old : PlainDisc I d) (lba n : ℕ) (bytes 
           (λ i h. inl (ap (λ (m : ImageMedium I d). cell_at (world_of m).cells (slice_index (plain_homes (shape_of_medium m)) i)) same))
           (p.leaves (replaced disc lba bytes (block_with lba + k)) (w.makes disc stands)))
 
+      only_new : OnlyCovered (shown_by old) (shown_by new) (block_with lba) (blocks_covered lba n)
+      only_new = λ block apart. (ap (λ (m : ImageMedium I d). cell_at (world_of m).cells block) same ∙ only_next halted p.others block apart)
+
       in_block : (disc : List ℕ) → stands_for old (On disc) → StopsInBlock (stands_for new) disc lba n bytes
       in_block disc stands = record {
         block = k;
@@ -243,6 +252,6 @@ module _ {I : Type 0} {d : Ghosts I} (old : PlainDisc I d) (lba n : ℕ) (bytes 
 
     pub halted_step : (halted new : PlainDisc I d) (stop : Stop) → HaltsPlacing mid halted lba n bytes (block_with lba + k) stop → new.medium ≡ halted.medium → new.buffer ≡ []
         → (s : Standing) → stands_for old s → WriteStep (shown_by old) (shown_by new) (stands_for new) s lba n bytes (write_stopped_by stop)
-    halted_step halted new stops.Cut p same dropped = step_by new writes.Cut (λ disc stands. in_block halted new stops.Cut p same dropped disc stands)
+    halted_step halted new stops.Cut p same dropped = step_by new writes.Cut (λ disc stands. (only_new halted new stops.Cut p same dropped, in_block halted new stops.Cut p same dropped disc stands))
     halted_step halted new stops.Off p same dropped = absurd (p.stops.was_off w.stays.on)
-    halted_step halted new stops.Fault p same dropped = step_by new writes.Fault (λ disc stands. in_block halted new stops.Fault p same dropped disc stands)
+    halted_step halted new stops.Fault p same dropped = step_by new writes.Fault (λ disc stands. (only_new halted new stops.Fault p same dropped, in_block halted new stops.Fault p same dropped disc stands))

@@ -75,12 +75,14 @@ module _ {I : Type 0} {d : Ghosts I} (old new : PlainDisc I d) (lba n block : �
     pub same_shape : shape_of_medium new.medium ≡ shape_of_medium old.medium
     pub as_told : (world_of new.medium).told ≡ (world_of old.medium).told
     pub stops : Stops world_of ImageReaches old.medium new.medium (rest_uses (numbers_in old.buffer) lba n block) stop
+    pub others : OthersSame old new block
     pub keeps : (disc : List ℕ) → stands_for old (On disc) → SomeFits (shown_by new) (disc ∷ [])
 
   -- the home is dead
   pub record HasDied : Type 0 where
     pub stays : Stays old new (rest_uses (numbers_in old.buffer) lba n block + 2)
     pub buffered : numbers_in new.buffer ≡ touched_rest (numbers_in old.buffer) lba n block
+    pub others : OthersSame old new block
     pub dead : home_cell (shown_by new) block ≡ Dead
     pub keeps : (disc : List ℕ) → stands_for old (On disc) → stands_for new (On disc)
 
@@ -104,6 +106,7 @@ module _ {I : Type 0} {d : Ghosts I} (old new : PlainDisc I d) (lba n : ℕ) (by
     pub same_shape : shape_of_medium new.medium ≡ shape_of_medium old.medium
     pub as_told : (world_of new.medium).told ≡ (world_of old.medium).told
     pub stops : Stops world_of ImageReaches old.medium new.medium (rest_uses (numbers_in old.buffer) lba n block + 2) stop
+    pub others : OthersSame old new block
     pub leaves : (disc : List ℕ) → stands_for old (On disc) → SomeFits (shown_by new) (disc ∷ with_part lba n bytes block disc ∷ [])
 
 -- The first so many blocks of a request were written.

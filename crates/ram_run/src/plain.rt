@@ -74,6 +74,9 @@ impl<I: Image> PlainDisc<I> {
 }
 
 impl<I: Image> Sectors for PlainDisc<I> {
+    ghost use Rattle.model_geometry.specs.Geometry.{data_blocks};
+    ghost use Rattle.model_geometry.proofs.DataBlocks.{data_blocks_rise};
+    ghost use Rattle.model_sectors.proofs.Apart.{apart_behind};
     ghost use Rattle.ram_image.specs.Medium.{shape_of_medium};
     ghost use Rattle.ram_run.specs.Plain.{shown_by, stands_for};
 
@@ -102,5 +105,6 @@ impl<I: Image> Sectors for PlainDisc<I> {
     ghost laws = { record {
       told = λ disc s stands. stands.told;
       agrees = λ disc s stands. stands.agrees;
+      apart = λ disc i j h k same. apart_behind (data_blocks (shape_of_medium disc.medium)) (data_blocks_rise (shape_of_medium disc.medium)) (shape_of_medium disc.medium).psa i j h k same;
     } };
 }
