@@ -1,4 +1,4 @@
-use Rattle.std.specs.Prelude.{ℕ, ◌+◌, ◌*◌, ◌<◌, Bool, true, false, nat_lt, nat_le, ◌==◌, if◌then◌else◌, Option, Some, None, List, [], ◌∷◌, length, drop, slice_index, find}
+use Rattle.std.specs.Prelude.{ℕ, ◌*◌, nat_lt, nat_le, ◌==◌, if◌then◌else◌, Option, Some, None, List, [], ◌∷◌, length, drop, slice_index, find}
 use Rattle.byteorder.specs.Endian.{big_number}
 use Rattle.model_commands.specs.declared.Operation.{Operation}
 use Rattle.model_commands.specs.declared.Operation.TheVariants.{TestUnitReady, RequestSense, FormatUnit, Inquiry, StartStopUnit, PreventAllowMediumRemoval, ReadFormatCapacities, ReadCapacity10, Read10, Write10, WriteAndVerify10, Verify10, SynchronizeCache, GetConfiguration, ModeSelect10, ModeSense10, Read12, Write12, ReadDvdStructure}
