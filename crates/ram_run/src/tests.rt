@@ -18,7 +18,7 @@ use std::alloc::{AllocError, Global};
 const IMAGE_BYTES: usize = 1_343_545;
 
 /// Room for the longest report.
-const REPORT_BYTES: usize = 4_000_000;
+const REPORT_BYTES: usize = 1_000_000;
 
 /// How many bytes source and sink move at once, where a test does not say it.
 const PIECE: usize = 65_536;
@@ -70,9 +70,10 @@ fn run_words(
 ) -> Result<Ran, AllocError>
     requires { 0 < piece }
 {
+    let mut bytes = Vec::with_capacity(alloc, IMAGE_BYTES)?;
+    bytes.extend_from_slice(image)?;
     let calls = failing(alloc, failure, Outside::Image)?;
-    let mut image = MemImage::new(image.to_vec(alloc)?, calls);
-    image.reserve(IMAGE_BYTES)?;
+    let image = MemImage::new(bytes, calls);
     let calls = failing(alloc, failure, Outside::Source)?;
     let mut script = MemSource::new(script.to_vec(alloc)?, piece, calls);
     let calls = failing(alloc, failure, Outside::Sink)?;

@@ -36,7 +36,9 @@ fn tell_read(text: &mut String, line: u32, sector: u32, left: Left) -> Result<()
 /// The report of a run whose second write was cut and left this of its two blocks.
 fn report_after(alloc: Global, first: Left, second: Left) -> Result<String, AllocError> {
     let mut text = String::new(alloc);
-    text.push_str("1 pressed\n2 ready 304\n3 good\n4 ready 304\n5 armed\n6 cut\n7 off\n8 ready 304\n")?;
+    text.push_str(
+        "1 pressed\n2 ready 304\n3 good\n4 ready 304\n5 armed\n6 cut\n7 off\n8 ready 304\n",
+    )?;
     tell_read(&mut text, 9, 12, first)?;
     tell_read(&mut text, 10, 15, first)?;
     tell_read(&mut text, 11, 16, second)?;
@@ -57,9 +59,14 @@ fn report_after(alloc: Global, first: Left, second: Left) -> Result<String, Allo
 
 #[test]
 fn a_cut_at_any_use_leaves_the_old_the_new_or_nothing(rt: HostRuntime) -> Result<(), Fail> {
-    for (word, fate) in [("old", Left::Old), ("new", Left::New), ("torn", Left::Nothing)] {
+    for (word, fate) in [
+        ("old", Left::Old),
+        ("new", Left::New),
+        ("torn", Left::Nothing),
+    ] {
         for number in 1..7u32 {
-            let script = format!(in rt.alloc(); "press 1 1 4
+            let script = format!(in rt.alloc();
+                "press 1 1 4
 power
 cdb 2a000000000000002000 fill aa
 power
@@ -73,7 +80,8 @@ cdb 28000000001000000100
 cdb 28000000001300000100
 cdb 28000000000b00000100
 cdb 28000000001400000100
-")?;
+"
+            )?;
             let (first, second) = left_at(number, fate);
             let report = report_after(rt.alloc(), first, second)?;
             let ran = run_script(rt.alloc(), script.as_str(), None)?;
@@ -304,15 +312,18 @@ fn sixty_four_arms_stand_and_no_more(rt: HostRuntime) -> Result<(), Fail> {
         script.push_str("wear 13 1\n")?;
         writeln!(&mut report, "{line} armed")?;
     }
-    script.push_str("wear 13 1
+    script.push_str(
+        "wear 13 1
 wear 41 1
 power
 cdb 2a000000000000001000 fill aa
 wear 13 1
 press 1 1 4
 wear 8 9
-")?;
-    report.push_str("66 full
+",
+    )?;
+    report.push_str(
+        "66 full
 67 no such block
 68 ready 304
 69 check 3/32/00 info 0
@@ -320,7 +331,8 @@ wear 8 9
 71 pressed
 72 armed
 end 72
-")?;
+",
+    )?;
     let ran = run_script(rt.alloc(), script.as_str(), None)?;
     assert_eq!(rt; ran.report.bytes(), report.as_bytes());
     assert_eq!(rt; ran.status, Status::Done);

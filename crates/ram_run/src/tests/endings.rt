@@ -14,19 +14,47 @@ const ENDINGS: [(&str, Status, &str); 18] = [
     ("# nothing\n\n   \n\r\n#\n", Status::Done, "end 0\n"),
     ("press 1 1 4", Status::Done, "1 pressed\nend 1\n"),
     ("press 1 1 4\r", Status::Done, "1 pressed\nend 1\n"),
-    ("press 1 1 4\r\npower\r\n", Status::Done, "1 pressed\n2 ready 304\nend 2\n"),
-    ("press 1 1 4\n\n# on\n  power  \n\n", Status::Done, "1 pressed\n4 ready 304\nend 2\n"),
-    ("press 1 1 4\n\n # on\n", Status::Script, "1 pressed\n3 not in the script language\n"),
-    ("press 1 1 4\r\r\n", Status::Script, "1 not in the script language\n"),
-    ("press 1 1 4\npress\t1 1 4", Status::Script, "1 pressed\n2 not in the script language\n"),
+    (
+        "press 1 1 4\r\npower\r\n",
+        Status::Done,
+        "1 pressed\n2 ready 304\nend 2\n",
+    ),
+    (
+        "press 1 1 4\n\n# on\n  power  \n\n",
+        Status::Done,
+        "1 pressed\n4 ready 304\nend 2\n",
+    ),
+    (
+        "press 1 1 4\n\n # on\n",
+        Status::Script,
+        "1 pressed\n3 not in the script language\n",
+    ),
+    (
+        "press 1 1 4\r\r\n",
+        Status::Script,
+        "1 not in the script language\n",
+    ),
+    (
+        "press 1 1 4\npress\t1 1 4",
+        Status::Script,
+        "1 pressed\n2 not in the script language\n",
+    ),
     (
         "press 1 1 4\ncdb 000000000000\ncdb 2G",
         Status::Script,
         "1 pressed\n2 off\n3 not in the script language\n",
     ),
-    ("Press 1 1 4\npower\n", Status::Script, "1 not in the script language\n"),
+    (
+        "Press 1 1 4\npower\n",
+        Status::Script,
+        "1 not in the script language\n",
+    ),
     ("power\n", Status::NotADisc, "1 not a disc\n"),
-    ("# first\n\ncdb 000000000000", Status::NotADisc, "3 not a disc\n"),
+    (
+        "# first\n\ncdb 000000000000",
+        Status::NotADisc,
+        "3 not a disc\n",
+    ),
     ("fail 1\n", Status::NotADisc, "1 not a disc\n"),
     ("wear 1 1\n", Status::NotADisc, "1 not a disc\n"),
     ("cut 1 old\n", Status::NotADisc, "1 not a disc\n"),
@@ -49,10 +77,30 @@ fn each_last_line_has_its_status(rt: HostRuntime) -> Result<(), Fail> {
 
 /// What is told of a line of so many bytes, a comment, between two lines, with an end of its own.
 const LONG_LINES: [(usize, &str, Status, &str); 6] = [
-    (70_000, "\npower\n", Status::Done, "1 pressed\n3 ready 304\nend 2\n"),
-    (70_001, "\npower\n", Status::Script, "1 pressed\n2 too long\n"),
-    (69_999, "\r\npower\n", Status::Done, "1 pressed\n3 ready 304\nend 2\n"),
-    (70_000, "\r\npower\n", Status::Script, "1 pressed\n2 too long\n"),
+    (
+        70_000,
+        "\npower\n",
+        Status::Done,
+        "1 pressed\n3 ready 304\nend 2\n",
+    ),
+    (
+        70_001,
+        "\npower\n",
+        Status::Script,
+        "1 pressed\n2 too long\n",
+    ),
+    (
+        69_999,
+        "\r\npower\n",
+        Status::Done,
+        "1 pressed\n3 ready 304\nend 2\n",
+    ),
+    (
+        70_000,
+        "\r\npower\n",
+        Status::Script,
+        "1 pressed\n2 too long\n",
+    ),
     (70_000, "", Status::Done, "1 pressed\nend 1\n"),
     (70_001, "", Status::Script, "1 pressed\n2 too long\n"),
 ];
@@ -79,9 +127,10 @@ fn a_line_has_its_limit(rt: HostRuntime) -> Result<(), Fail> {
     Ok(())
 }
 
-/// A source of so many bytes, in comments of 65,536 bytes.
+/// A source of so many bytes, made of one comment over and over.
 #[derive(Drop)]
 struct Comments {
+    line: Vec<u8>,
     at: usize,
     end: usize,
 }
@@ -92,30 +141,35 @@ impl Source for Comments {
     ghost faults = { λ _. 0 };
 
     fn take(&mut self, into: &mut [u8]) -> Take {
-        let count = into.len().min(self.end.saturating_sub(self.at));
-        if count == 0 {
+        if self.at >= self.end || self.line.is_empty() {
             return Take::End;
         }
-        into[..count].fill(b'#');
-        let last = 65_535 - self.at % 65_536;
-        if last < count {
-            into[last] = b'\n';
-        }
+        let rest = &self.line[self.at % self.line.len()..];
+        let count = into.len().min(rest.len()).min(self.end - self.at);
+        into[..count].copy_from_slice(&rest[..count]);
         self.at += count;
         Take::Got(count)
     }
 }
 
-/// Runs a script of so many bytes that is not stored.
+/// Runs a script of so many bytes that is not stored, in lines of 65,536 bytes.
 fn run_comments(alloc: Global, end: usize) -> Result<(Status, MemSink), AllocError> {
-    let mut script = Comments { at: 0, end };
+    let mut line = vec![in alloc; b'#'; 65_535]?;
+    line.push(b'\n')?;
+    let mut script = Comments { line, at: 0, end };
     let mut report = MemSink::new(alloc, PIECE, Vec::new(alloc));
     report.reserve(REPORT_BYTES)?;
     let mut opener = MemOpener::new(
         MemImage::new(Vec::new(alloc), Vec::new(alloc)),
         Vec::new(alloc),
     );
-    let status = run(alloc, &["run", "disc"], &mut script, &mut report, &mut opener);
+    let status = run(
+        alloc,
+        &["run", "disc"],
+        &mut script,
+        &mut report,
+        &mut opener,
+    );
     Ok((status, report))
 }
 
@@ -136,12 +190,12 @@ fn a_script_has_its_limit(rt: HostRuntime) -> Result<(), Fail> {
 fn a_long_script_takes_few_calls(rt: HostRuntime) -> Result<(), Fail> {
     let mut script = String::new(rt.alloc());
     script.push_str("press 1 1 4\n")?;
-    for _ in 0..200_000u32 {
+    for _ in 0..50_000u32 {
         script.push_str("power\n")?;
     }
     let ran = run_script(rt.alloc(), script.as_str(), None)?;
     assert_eq!(rt; ran.status, Status::Done);
-    let end = b"\n200001 ready 304\nend 200001\n";
+    let end = b"\n50001 ready 304\nend 50001\n";
     assert!(rt; ran.report.bytes().ends_with(end));
     let takes = script.len().div_ceil(PIECE) as u64;
     assert!(rt; ran.script.calls() <= takes.saturating_add(2));

@@ -33,7 +33,8 @@ pub const NO_DISC_REPORT: &str = "1 not pressed
 ";
 
 /// `failing-medium.script`: blocks that fail, wear, and are cut.
-pub const FAILING_MEDIUM: &str = "# A disc of 41 blocks. Sectors 0 to 15 lie in block 13, sectors 16 to 31 in block 14, and so on.
+pub const FAILING_MEDIUM: &str =
+    "# A disc of 41 blocks. Sectors 0 to 15 lie in block 13, sectors 16 to 31 in block 14, and so on.
 press 1 1 4
 power
 cdb 2a000000000000004000 fill aa

@@ -1,6 +1,5 @@
 //! Sources, sinks, openers and images that fail.
-use super::{Failure, Outside, PIECE, Ran, Status, run_over, run_script};
-use std::alloc::{AllocError, Global};
+use super::{Failure, Outside, Ran, Status, run_over, run_script};
 use std::test::Fail;
 
 /// A disc is pressed, two blocks of it are written, both again in part, and a block fails.
@@ -24,6 +23,18 @@ sector 16 fill cc
 end 7
 ";
 
+/// Writes two blocks of a new disc.
+const WRITTEN: &str = "press 1 1 4
+power
+cdb 2a000000000000002000 fill aa
+";
+
+/// Writes both again in part, and makes a third one fail.
+const AGAIN: &str = "power
+cdb 2a000000000c00000800 fill cc
+fail 15
+";
+
 /// Reads what that left.
 const LATER: &str = "power
 cdb 28000000000b00000100
@@ -45,9 +56,8 @@ sector 20 fill aa
 end 5
 ";
 
-/// Each line that may be told of what lies there, where the image failed at some call.
-const LAWFUL: [&str; 17] = [
-    "1 not a disc",
+/// Each line that may be told of it, where the image failed at some call.
+const LAWFUL: [&str; 16] = [
     "1 ready 304",
     "2 good",
     "sector 11 fill aa",
@@ -101,11 +111,19 @@ fn source_and_sink_fail_at_each_call_in_turn(rt: HostRuntime) -> Result<(), Fail
     Ok(())
 }
 
-/// Reads what lies in the image that a run handed back.
-fn run_later(alloc: Global, ran: &Ran) -> Result<Option<Ran>, AllocError> {
+/// The bytes of the image that a run handed back.
+fn bytes_left(ran: &Ran) -> &[u8] {
     match ran.opener.returned() {
-        Some(image) => Ok(Some(run_over(alloc, LATER.as_bytes(), image.bytes(), None)?)),
-        None => Ok(None),
+        Some(image) => image.bytes(),
+        None => b"",
+    }
+}
+
+/// How many calls a run made that the image may fail.
+fn calls_made(ran: &Ran) -> u64 {
+    match ran.opener.returned() {
+        Some(image) => image.calls(),
+        None => 0,
     }
 }
 
@@ -123,24 +141,47 @@ fn is_lawful(report: &[u8]) -> bool {
 }
 
 #[test]
-fn an_image_fails_at_each_call_in_turn(rt: HostRuntime) -> Result<(), Fail> {
-    let whole = run_script(rt.alloc(), SCRIPT, None)?;
-    let calls = whole.opener.returned().ok_or("not handed back")?.calls();
-    assert!(rt; calls > 20);
-    for call in 1..calls.saturating_add(1) {
+fn an_image_fails_at_each_call_of_a_press(rt: HostRuntime) -> Result<(), Fail> {
+    let whole = run_script(rt.alloc(), "press 1 1 4\n", None)?;
+    assert!(rt; calls_made(&whole) > 4);
+    for call in 1..calls_made(&whole).saturating_add(1) {
         let failure = Failure {
             of: Outside::Image,
             call,
         };
-        let ran = run_script(rt.alloc(), SCRIPT, Some(failure))?;
+        let ran = run_script(rt.alloc(), "press 1 1 4\n", Some(failure))?;
         assert_eq!(rt; ran.status, Status::ImageFault, "call {call}");
-        assert!(rt; REPORT.as_bytes().starts_with(ran.report.bytes()));
-        let later = run_later(rt.alloc(), &ran)?.ok_or("not handed back")?;
-        assert!(rt; is_lawful(later.report.bytes()), "call {call}");
-        if ran.report.bytes().starts_with(b"1 pressed\n") {
-            assert_eq!(rt; later.status, Status::Done, "call {call}");
+        assert_eq!(rt; ran.report.bytes(), b"".as_slice(), "call {call}");
+        let later = run_over(rt.alloc(), b"power\n", bytes_left(&ran), None)?;
+        if later.status == Status::Done {
+            assert_eq!(rt; later.report.bytes(), b"1 ready 304\nend 1\n".as_slice());
+        } else {
+            assert_eq!(rt; later.status, Status::NotADisc, "call {call}");
+            assert_eq!(rt; later.report.bytes(), b"1 not a disc\n".as_slice());
         }
-        if ran.report.bytes().ends_with(b"5 good\n") {
+    }
+    Ok(())
+}
+
+#[test]
+fn an_image_fails_at_each_call_of_a_write(rt: HostRuntime) -> Result<(), Fail> {
+    let begun = run_script(rt.alloc(), WRITTEN, None)?;
+    let written = bytes_left(&begun);
+    let whole = run_over(rt.alloc(), AGAIN.as_bytes(), written, None)?;
+    assert_eq!(rt; whole.status, Status::Done);
+    assert!(rt; calls_made(&whole) > 16);
+    for call in 1..calls_made(&whole).saturating_add(1) {
+        let failure = Failure {
+            of: Outside::Image,
+            call,
+        };
+        let ran = run_over(rt.alloc(), AGAIN.as_bytes(), written, Some(failure))?;
+        assert_eq!(rt; ran.status, Status::ImageFault, "call {call}");
+        assert!(rt; b"1 ready 304\n2 good\n".starts_with(ran.report.bytes()));
+        let later = run_over(rt.alloc(), LATER.as_bytes(), bytes_left(&ran), None)?;
+        assert_eq!(rt; later.status, Status::Done, "call {call}");
+        assert!(rt; is_lawful(later.report.bytes()), "call {call}");
+        if ran.report.bytes().ends_with(b"2 good\n") {
             assert_eq!(rt; later.report.bytes(), LEFT.as_bytes(), "call {call}");
         }
     }

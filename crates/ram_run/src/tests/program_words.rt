@@ -58,7 +58,11 @@ fn the_texts_are_lines_of_ascii(rt: HostRuntime) {
     assert!(rt; HELP.ends_with(b"\n"));
     let mut width = 0u32;
     for byte in HELP {
-        width = if *byte == b'\n' { 0 } else { width.saturating_add(1) };
+        width = if *byte == b'\n' {
+            0
+        } else {
+            width.saturating_add(1)
+        };
         assert!(rt; width <= 80);
         assert!(rt; *byte == b'\n' || (b' '..=b'~').contains(byte));
     }
