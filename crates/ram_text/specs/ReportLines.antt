@@ -111,20 +111,6 @@ last_text (lasts.LineTooLong line) = numbered line (codes "too long")
 last_text lasts.ScriptTooLong = codes "script too long\n"
 last_text (lasts.NotADisc line) = numbered line (codes "not a disc")
 
--- what one line of the script was answered, by its number: an event, or a command's answer with its reply
-pub data Entry : Type 0 where
-  ToEvent : ℕ → Event → Entry
-  ToCommand : ℕ → Answer → (cdb reply : List ℕ) → Entry
-
-abbrev pub entry_text : Entry → List ℕ
-entry_text (ToEvent number event) = numbered number (event_words event)
-entry_text (ToCommand number answer cdb reply) = answer_text number answer cdb reply
-
--- the report of these answers, the newest of which comes first here (this project's own)
-abbrev pub report_text : List Entry → List ℕ
-report_text [] = []
-report_text (entry ∷ entries) = report_text entries ++ entry_text entry
-
 -- a sense whose parts are in their ranges
 pub record IsInRange (sense : Sense) : Type 0 where
   pub key : sense.key < 16
