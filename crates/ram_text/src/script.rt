@@ -9,8 +9,8 @@ ghost use Rattle.ram_text.specs.declared.script.Line.{Line as Read};
 
 use crate::payload::{command_block, put_payload};
 use crate::words::{last_number, last_word, next_number, next_word, without_return_of};
+use model_medium::Fate;
 use ram_bytes::Cdb;
-use ram_medium::Fate;
 
 /// A line of the script.
 #[derive(Debug, PartialEq, Eq, Drop)]

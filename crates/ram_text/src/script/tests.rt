@@ -1,6 +1,6 @@
 use super::{Line, Unread, parse_line};
 use crate::{LINE_LIMIT, PAYLOAD_ROOM};
-use ram_medium::Fate;
+use model_medium::Fate;
 use std::alloc::Global;
 use std::process::Abort;
 use std::test::Fail;
