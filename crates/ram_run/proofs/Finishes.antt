@@ -2,13 +2,11 @@
 use Rattle.std.specs.Prelude.{◌≡◌, ℕ, Option, None, Some, List, [], ◌++◌, take, drop}
 use Rattle.std.specs.Io.KnownBytes.{append_known, prepend_known}
 use Rattle.std.proofs.Common.{arith, refl, sym, ap, ◌∙◌, inl, inr, subst, append_assoc, append-nil, take-append-drop}
-use Rattle.ram_outside.specs.declared.image.Image.{Ghosts}
 use Rattle.ram_text.proofs.Puts.{append_known-twice}
 use Rattle.ram_text.specs.ReportLines.{last_text}
 use Rattle.ram_text.specs.declared.gathered.Print.TheVariants as prints
 use Rattle.ram_text.specs.declared.printing.LastLine.{LastLine}
 use Rattle.ram_text.specs.declared.printing.LastLine.TheVariants as lasts
-use Rattle.ram_run.specs.declared.held.Held.{Held}
 use Rattle.ram_run.specs.declared.held.Outcome.{Outcome}
 use Rattle.ram_run.specs.declared.held.Outcome.TheVariants as outcomes
 use Rattle.ram_run.specs.declared.serve.Ending.{Ending}
@@ -17,7 +15,7 @@ use Rattle.ram_run.specs.declared.serve.Tally.{Tally}
 use Rattle.ram_run.specs.declared.status.Status.{Status}
 use Rattle.ram_run.specs.declared.status.Status.TheVariants as statuses
 use Rattle.ram_run.specs.Machine.{State}
-use Rattle.ram_run.specs.Held.{Stands, LeavesImage}
+use Rattle.ram_run.specs.Held.{LeavesImage}
 use Rattle.ram_run.specs.Run.{report_text}
 use Rattle.ram_run.specs.Starts.{IsHeldFirst}
 use Rattle.ram_run.specs.Turn.{Beginning, SoFar, Between, IsReported, IsFrontOf, ComesOut, IsLast, last_line, IsLastIfAny, EndsBetween, EndsInLine, Ends}
@@ -74,7 +72,7 @@ not_sink : (ending : Ending) (status : Status) → status ≡ status_of ending �
 not_sink ending status is sink other = other (sym (is ∙ ap status_of sink))
 
 -- the lines begin with nothing read and nothing gathered
-pub begins : {I : Type 0} {d : Ghosts I} (first : Beginning) (held : Held I d) (left written : Option (List ℕ)) (buffered gathered : List ℕ) → buffered ≡ [] → gathered ≡ [] → left ≡ Some first.script → written ≡ Some first.report
+pub begins : (first : Beginning) (held : State → Type 0) (left written : Option (List ℕ)) (buffered gathered : List ℕ) → buffered ≡ [] → gathered ≡ [] → left ≡ Some first.script → written ≡ Some first.report
     → IsHeldFirst first.image held → Between first held (prepend_known buffered left) (append_known written gathered) 0 (record { lines = 0; answered = 0 })
 begins first held left written buffered gathered none empty left_is written_is start = record {
   far = record { start = start.state; events = []; now = start.state; rest = first.script; starts = start.first; run = refl; lines = inl refl };
@@ -109,7 +107,7 @@ failed_at_last due due' written gathered f f' tally endings.SourceFault is rule 
 failed_at_last due due' written gathered f f' tally endings.ImageFault is rule = absurd (let clash : prints.Failed ≡ prints.Done = rule.0 in cc)
 failed_at_last due due' written gathered f f' tally endings.NoMemory is rule = absurd (let clash : prints.Failed ≡ prints.Done = rule.0 in cc)
 
-module _ {I : Type 0} {d : Ghosts I} (first : Beginning) (held : Held I d) (image : Option (List ℕ)) (left : (s : State) → Stands held s → LeavesImage s image) where
+module _ (first : Beginning) (held : State → Type 0) (image : Option (List ℕ)) (left : (s : State) → held s → LeavesImage s image) where
   -- the image is as the line leaves it
   comes_to : (far : SoFar first) (outcome : Outcome) → ComesOut far held outcome → ComesToThis far image outcome
   comes_to far outcome out = record { line = out.line; payload = out.payload; reply = out.reply; state = out.state; next = out.next; step = out.step; image_is = left out.state out.stands }

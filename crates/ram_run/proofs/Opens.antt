@@ -1,5 +1,5 @@
 -- What opening and pressing an image make of it.
-use Rattle.std.specs.Prelude.{◌≡◌, ◌≢◌, ℕ, ◌<◌, ◌≤◌, ◌⊎◌, ◌==◌, if◌then◌else◌, Bool, false, true, Option, Some, None, is_some, IfSome, List, [], ◌∷◌, length, drop, slice_index}
+use Rattle.std.specs.Prelude.{◌≡◌, ◌≢◌, ℕ, ◌<◌, ◌≤◌, ◌⊎◌, ◌==◌, IsTrue, if◌then◌else◌, Bool, false, true, Option, Some, None, is_some, IfSome, List, [], ◌∷◌, length, drop, slice_index}
 use Rattle.std.proofs.Common.{arith, refl, sym, ap, ◌∙◌, inl, inr, subst, length-drop}
 use Rattle.std.proofs.lemmas.Bool.{cases_lt, false≢true}
 use Rattle.std.proofs.lemmas.List.{length-take-le, get_or_past}
@@ -7,29 +7,29 @@ use Rattle.std.proofs.lemmas.List.FromFn.{length-map-range_with_len}
 use Rattle.model_bytes.specs.Told.{WhereTold}
 use Rattle.model_geometry.specs.Geometry.{Shape, IsLawful, total}
 use Rattle.model_medium.specs.Cells.{Blank, Good, Torn, Dead, cell_at}
+use Rattle.model_medium.specs.Machine.{Machine}
 use Rattle.model_image.specs.Cells.{image_len, state_place, data_place, data_in, cell_in, cells_of, cells_told}
 use Rattle.model_image.specs.Image.{HasHeader, IsDiscImage, IsImageOf, IsStoppedPress, IsPressed as IsPressedImage, blank_cells}
 use Rattle.model_image.proofs.Headers.{one_header}
 use Rattle.model_image.proofs.Writes.{cell_at-cells_of}
-use Rattle.model_buffer.specs.Buffer.{numbers_in}
-use Rattle.model_sectors.specs.Discs.{Off, first_disc}
-use Rattle.ram_outside.specs.declared.image.Image.{Ghosts}
+use Rattle.model_sectors.specs.Discs.{Standing, Off, Shown, IsShown, first_disc}
+use Rattle.ram_outside.specs.declared.image.Image.{Ghosts as Images}
 use Rattle.ram_outside.specs.Image.{IsUnchanged}
-use Rattle.ram_image.specs.Medium.{world_of}
+use Rattle.ram_image.specs.Medium.{world_of, machine_in}
+use Rattle.ram_sectors.specs.declared.Sectors.{Ghosts as Drives}
 use Rattle.ram_image.specs.Opening.{IsOpened, IsRefused}
 use Rattle.ram_image.specs.declared.medium.ImageMedium.{ImageMedium}
 use Rattle.ram_image.specs.declared.opening.OpenFault.{OpenFault}
 use Rattle.ram_image.specs.declared.opening.OpenFault.TheVariants as faulty
 use Rattle.ram_text.specs.declared.printing.Event.TheVariants as events
-use Rattle.ram_run.specs.declared.plain.PlainDisc.{PlainDisc}
 use Rattle.ram_run.specs.declared.held.Held.TheVariants as helds
 use Rattle.ram_run.specs.declared.held.Told.TheVariants as tolds
 use Rattle.ram_run.specs.declared.held.Outcome.TheVariants as outcomes
-use Rattle.ram_run.specs.Plain.{plain_homes, shown_by, stands_for, IsStart}
+use Rattle.ram_run.specs.Homes.{plain_homes}
+use Rattle.ram_run.specs.Drive.{IsStart, IsMade, IsOpenedBy, Opens}
 use Rattle.ram_run.specs.Machine.{State, Loaded, Unopened, Disc, IsOpenedOn}
-use Rattle.ram_run.specs.Held.{LeavesImage, IsPressAnswered, outcome_of}
-use Rattle.ram_run.specs.declared.held.Opening.TheVariants as openings
-use Rattle.ram_run.specs.Starts.{IsOpening, IsOpenedBy, IsHeldFirst}
+use Rattle.ram_run.specs.Held.{Stands, LeavesImage, IsPressAnswered, outcome_of}
+use Rattle.ram_run.specs.Starts.{IsHeldFirst}
 
 -- the bytes of a good cell are the block's data
 good_data : (blank good dead : Bool) (whole held : List ℕ) → (if blank then Blank else (if good then Good whole else (if dead then Dead else Torn))) ≡ Good held → held ≡ whole
@@ -60,16 +60,16 @@ whole_cells n bytes long block held good = elim (cases_lt block n) [ inl inside 
     beyond past =
         let e : Dead ≡ Good held = sym (get_or_past (cells_of n bytes) block Dead (omega (arith, past, length-map-range_with_len (cell_in n bytes) 0 n))) ∙ good in cc
 
-module _ {I : Type 0} {d : Ghosts I} (image : I) (disc : PlainDisc I d) (geometry : Shape) (opened : IsOpened image disc.medium geometry) (empty : disc.buffer ≡ [])
-    (starts : IsStart disc.medium → stands_for disc (Off (first_disc (plain_homes geometry) (world_of disc.medium).cells ∷ []))) where
+module _ {I : Type 0} {d : Images I} (image : I) (medium : ImageMedium I d) (geometry : Shape) (opened : IsOpened image medium geometry) (shape : Shape) (shown : Shown) (stands : Standing → Type 0)
+    (made : IsMade geometry (machine_in medium) shape shown stands) (homes_are : shown.homes ≡ plain_homes shape) (agrees : (s : Standing) → stands s → IsShown shown s) where
   module _ (bytes : List ℕ) (told : d.bytes image ≡ Some bytes) where
     disc_there : IsDiscImage geometry bytes
     disc_there = subst (λ o. IfSome o (IsDiscImage geometry)) told opened.disc
 
-    same_cells : (world_of disc.medium).cells ≡ cells_of (total geometry) bytes
+    same_cells : (world_of medium).cells ≡ cells_of (total geometry) bytes
     same_cells = opened.cells_are ∙ ap (cells_told (total geometry)) told
 
-    start : IsStart disc.medium
+    start : IsStart (world_of medium)
     start = record {
       told = opened.as_told ∙ ap is_some told;
       whole = λ block held good. whole_cells (total geometry) bytes disc_there.as_long block held (ap (λ cells. cell_at cells block) (sym same_cells) ∙ good);
@@ -79,30 +79,34 @@ module _ {I : Type 0} {d : Ghosts I} (image : I) (disc : PlainDisc I d) (geometr
     abbrev state : Loaded
     state = record {
       shape = geometry;
-      shown = shown_by disc;
-      standing = Off (first_disc (plain_homes geometry) (world_of disc.medium).cells ∷ []);
-      homes_are = ap plain_homes opened.shape_is;
-      agrees = (starts start).agrees;
+      shown = shown;
+      standing = Off (first_disc (plain_homes geometry) (world_of medium).cells ∷ []);
+      homes_are = homes_are ∙ ap plain_homes made.shape_is;
+      agrees = agrees (Off (first_disc (plain_homes geometry) (world_of medium).cells ∷ [])) (made.starts start);
     }
 
     -- an image that tells its bytes was opened
-    pub opened_by : IsOpenedBy bytes disc
+    opened_by : IsOpenedBy bytes shape shown stands
     opened_by = record {
       state = state;
       image = disc_there;
       opened = record {
         shape_is = refl;
-        cells_are = same_cells;
-        off = start.off;
-        no_uses = opened.no_uses;
-        no_cuts = opened.no_cuts;
-        no_arms = opened.no_arms;
-        no_cut = opened.no_cut;
-        unbuffered = ap numbers_in empty;
+        cells_are = ap (λ (m : Machine). m.world.cells) made.medium_is ∙ same_cells;
+        off = λ on. start.off (subst (λ (m : Machine). IsTrue m.world.power) made.medium_is on);
+        no_uses = ap (λ (m : Machine). m.world.uses) made.medium_is ∙ opened.no_uses;
+        no_cuts = ap (λ (m : Machine). m.world.cuts) made.medium_is ∙ opened.no_cuts;
+        no_arms = ap (λ (m : Machine). m.arms) made.medium_is ∙ opened.no_arms;
+        no_cut = ap (λ (m : Machine). m.cut) made.medium_is ∙ opened.no_cut;
+        unbuffered = made.unbuffered;
         standing_is = ap (λ cells. Off (first_disc (plain_homes geometry) cells ∷ [])) same_cells;
       };
-      stands = record { shape_is = opened.shape_is; shown_is = refl; stands = starts start };
+      is_in = record { shape_is = made.shape_is; shown_is = refl; standing_is = made.starts start };
     }
+
+  -- the same, and no count fell
+  pub opens : Opens (d.bytes image) (d.faults image) shape shown stands
+  opens = record { opened = opened_by; count = subst (λ (m : Machine). d.faults image ≤ m.world.faults) (sym made.medium_is) opened.count }
 
 -- an image that was left and then pressed tells the bytes of a new disc
 pressed_bytes : (s : State) (shape : Shape) (before after : Option (List ℕ)) → LeavesImage s before → WhereTold before after (IsPressedImage shape) → (bytes : List ℕ) × (after ≡ Some bytes) × IsImageOf shape (blank_cells shape) bytes
@@ -110,23 +114,23 @@ pressed_bytes s shape None after left pressed = absurd left
 pressed_bytes s shape (Some before) None left pressed = absurd pressed
 pressed_bytes s shape (Some before) (Some after) left pressed = (after, refl, pressed)
 
-module _ {I : Type 0} (d : Ghosts I) (s : State) (shape : Shape) (lawful : IsLawful shape) where
+module _ {D I : Type 0} (drives : Drives D) (images : Images I) (s : State) (shape : Shape) (lawful : IsLawful shape) where
   -- the image stopped a press
-  pub press_stopped : (before : Option (List ℕ)) (image : I) → LeavesImage s before → WhereTold before (d.bytes image) IsStoppedPress → IsPressAnswered {d = d} s shape (helds.Image image) outcomes.Fault
-  press_stopped before image left stopped = by_bytes before (d.bytes image) left stopped refl
+  pub press_stopped : (before : Option (List ℕ)) (image : I) → LeavesImage s before → WhereTold before (images.bytes image) IsStoppedPress → IsPressAnswered s shape (Stands drives images (helds.Image image)) outcomes.Fault
+  press_stopped before image left stopped = by_bytes before (images.bytes image) left stopped refl
     where
-      by_bytes : (b a : Option (List ℕ)) → LeavesImage s b → WhereTold b a IsStoppedPress → d.bytes image ≡ a → IsPressAnswered {d = d} s shape (helds.Image image) outcomes.Fault
+      by_bytes : (b a : Option (List ℕ)) → LeavesImage s b → WhereTold b a IsStoppedPress → images.bytes image ≡ a → IsPressAnswered s shape (Stands drives images (helds.Image image)) outcomes.Fault
       by_bytes None a l w e = absurd l
       by_bytes (Some held) None l w e = absurd w
       by_bytes (Some held) (Some now) l w e = record { state = Unopened now; step = (lawful, inl (held, l, w)); stands = e }
 
-  module _ (before : Option (List ℕ)) (image : I) (left : LeavesImage s before) (pressed : WhereTold before (d.bytes image) (IsPressedImage shape)) where
-    found : (bytes : List ℕ) × (d.bytes image ≡ Some bytes) × IsImageOf shape (blank_cells shape) bytes
-    found = pressed_bytes s shape before (d.bytes image) left pressed
+  module _ (before : Option (List ℕ)) (image : I) (left : LeavesImage s before) (pressed : WhereTold before (images.bytes image) (IsPressedImage shape)) where
+    found : (bytes : List ℕ) × (images.bytes image ≡ Some bytes) × IsImageOf shape (blank_cells shape) bytes
+    found = pressed_bytes s shape before (images.bytes image) left pressed
 
     -- a disc was pressed and opened
-    pub press_opened : (disc : PlainDisc I d) → ((bytes : List ℕ) → d.bytes image ≡ Some bytes → IsOpenedBy bytes disc) → IsPressAnswered s shape (helds.Disc disc) (outcomes.Told (tolds.Event events.Pressed))
-    press_opened disc opening =
+    pub press_opened : (drive : D) → ((bytes : List ℕ) → images.bytes image ≡ Some bytes → IsOpenedBy bytes (drives.shape drive) (drives.shows drive) (drives.stands drive)) → IsPressAnswered s shape (Stands drives images (helds.Disc drive)) (outcomes.Told (tolds.Event events.Pressed))
+    press_opened drive opening =
         let by = opening found.0 found.1 in
         let one : by.state.shape ≡ shape = one_header by.state.shape shape found.0 by.image.has_header found.2.disc.has_header in
         record {
@@ -135,11 +139,11 @@ module _ {I : Type 0} (d : Ghosts I) (s : State) (shape : Shape) (lawful : IsLaw
             lawful,
             subst (λ cells. IsOpenedOn shape cells by.state) found.2.cells_are (subst (λ (z : Shape). IsOpenedOn z (cells_of (total z) found.0) by.state) one by.opened),
           );
-          stands = by.stands;
+          stands = by.is_in;
         }
 
     -- a pressed image is refused only where it failed, or there was no memory
-    pub press_refused : (image' : I) (faults faults' : ℕ) (fault : OpenFault) → IsRefused (d.bytes image) (d.bytes image') faults faults' fault → IsPressAnswered {d = d} s shape (helds.Image image') (outcome_of fault)
+    pub press_refused : (image' : I) (faults faults' : ℕ) (fault : OpenFault) → IsRefused (images.bytes image) (images.bytes image') faults faults' fault → IsPressAnswered s shape (Stands drives images (helds.Image image')) (outcome_of fault)
     press_refused image' faults faults' faulty.Header refused = absurd (bad.1 shape found.2.disc.has_header)
       where
         bad : (16 ≤ length found.0) × ((z : Shape) → ¬ HasHeader z found.0)
@@ -158,45 +162,34 @@ module _ {I : Type 0} (d : Ghosts I) (s : State) (shape : Shape) (lawful : IsLaw
     press_refused image' faults faults' faulty.Fault refused = record { state = Unopened found.0; step = (lawful, inr found.2); stands = refused.same ∙ found.1 }
     press_refused image' faults faults' faulty.NoMemory refused = record { state = Unopened found.0; step = (lawful, found.2); stands = refused.same ∙ found.1 }
 
-module _ {I : Type 0} {d : Ghosts I} (image : I) where
+module _ {D I : Type 0} (drives : Drives D) (images : Images I) (image : I) where
   -- a disc was opened
-  pub held_opened : (disc : PlainDisc I d) → ((bytes : List ℕ) → d.bytes image ≡ Some bytes → IsOpenedBy bytes disc) → (bytes : List ℕ) → d.bytes image ≡ Some bytes → IsHeldFirst bytes (helds.Disc disc)
-  held_opened disc opening bytes told = let by = opening bytes told in record { state = Disc by.state; first = (by.state.shape, by.image, by.opened); stands = by.stands }
+  pub held_opened : (drive : D) → ((bytes : List ℕ) → images.bytes image ≡ Some bytes → IsOpenedBy bytes (drives.shape drive) (drives.shows drive) (drives.stands drive)) → (bytes : List ℕ) → images.bytes image ≡ Some bytes → IsHeldFirst bytes (Stands drives images (helds.Disc drive))
+  held_opened drive opening bytes told = let by = opening bytes told in record { state = Disc by.state; first = (by.state.shape, by.image, by.opened); stands = by.is_in }
 
   -- an image that holds no disc is left as it is
-  pub held_unopened : (image' : I) (faults faults' : ℕ) (fault : OpenFault) → IsRefused (d.bytes image) (d.bytes image') faults faults' fault → (fault ≡ faulty.Header) ⊎ ((len : ℕ) × (fault ≡ faulty.Length len))
-      → ((bytes : List ℕ) → d.bytes image ≡ Some bytes → IsHeldFirst {d = d} bytes (helds.Image image')) × (faults ≤ faults')
-  held_unopened image' faults faults' fault refused (inl e) = (λ bytes told. without_header bytes told (subst (IsRefused (d.bytes image) (d.bytes image') faults faults') e refused), (subst (IsRefused (d.bytes image) (d.bytes image') faults faults') e refused).0.count)
+  pub held_unopened : (image' : I) (faults faults' : ℕ) (fault : OpenFault) → IsRefused (images.bytes image) (images.bytes image') faults faults' fault → (fault ≡ faulty.Header) ⊎ ((len : ℕ) × (fault ≡ faulty.Length len))
+      → ((bytes : List ℕ) → images.bytes image ≡ Some bytes → IsHeldFirst bytes (Stands drives images (helds.Image image'))) × (faults ≤ faults')
+  held_unopened image' faults faults' fault refused (inl e) = (λ bytes told. without_header bytes told (subst (IsRefused (images.bytes image) (images.bytes image') faults faults') e refused), (subst (IsRefused (images.bytes image) (images.bytes image') faults faults') e refused).0.count)
     where
-      without_header : (bytes : List ℕ) → d.bytes image ≡ Some bytes → IsRefused (d.bytes image) (d.bytes image') faults faults' faulty.Header → IsHeldFirst {d = d} bytes (helds.Image image')
+      without_header : (bytes : List ℕ) → images.bytes image ≡ Some bytes → IsRefused (images.bytes image) (images.bytes image') faults faults' faulty.Header → IsHeldFirst bytes (Stands drives images (helds.Image image'))
       without_header bytes told r =
           let bad : (16 ≤ length bytes) × ((z : Shape) → ¬ HasHeader z bytes) = subst (λ o. IfSome o (λ held. (16 ≤ length held) × ((z : Shape) → ¬ HasHeader z held))) told r.1 in
           record { state = Unopened bytes; first = (refl, λ shape there. bad.1 shape there.has_header); stands = r.0.same ∙ told }
-  held_unopened image' faults faults' fault refused (inr other) = (λ bytes told. of_other_length bytes told (subst (IsRefused (d.bytes image) (d.bytes image') faults faults') other.1 refused), (subst (IsRefused (d.bytes image) (d.bytes image') faults faults') other.1 refused).0.count)
+  held_unopened image' faults faults' fault refused (inr other) = (λ bytes told. of_other_length bytes told (subst (IsRefused (images.bytes image) (images.bytes image') faults faults') other.1 refused), (subst (IsRefused (images.bytes image) (images.bytes image') faults faults') other.1 refused).0.count)
     where
       clash : (bytes : List ℕ) (shape : Shape) → other.0 ≡ length bytes → IsDiscImage shape bytes → (other.0 < 16) ⊎ ((z : Shape) × HasHeader z bytes × (other.0 ≢ image_len (total z))) → ⊥
       clash bytes shape long there (inl short) = let whole = there.as_long in omega (arith, long, whole)
       clash bytes shape long there (inr z) = z.2 (long ∙ there.as_long ∙ ap (λ (y : Shape). image_len (total y)) (one_header shape z.0 bytes there.has_header z.1))
 
-      of_other_length : (bytes : List ℕ) → d.bytes image ≡ Some bytes → IsRefused (d.bytes image) (d.bytes image') faults faults' (faulty.Length other.0) → IsHeldFirst {d = d} bytes (helds.Image image')
+      of_other_length : (bytes : List ℕ) → images.bytes image ≡ Some bytes → IsRefused (images.bytes image) (images.bytes image') faults faults' (faulty.Length other.0) → IsHeldFirst bytes (Stands drives images (helds.Image image'))
       of_other_length bytes told r =
           let bad : (other.0 ≡ length bytes) × ((other.0 < 16) ⊎ ((z : Shape) × HasHeader z bytes × (other.0 ≢ image_len (total z)))) = subst (λ o. IfSome o (λ held. (other.0 ≡ length held) × ((other.0 < 16) ⊎ ((z : Shape) × HasHeader z held × (other.0 ≢ image_len (total z)))))) told r.1 in
           record { state = Unopened bytes; first = (refl, λ shape there. clash bytes shape bad.0 there bad.1); stands = r.0.same ∙ told }
 
-module _ {I : Type 0} {d : Ghosts I} where
-  -- the image was opened as a plain disc
-  pub opened_disc : (image : I) (disc : PlainDisc I d) (medium : ImageMedium I d) (geometry : Shape) → IsOpened image medium geometry → disc.medium ≡ medium → disc.buffer ≡ []
-      → (IsStart medium → stands_for disc (Off (first_disc (plain_homes geometry) (world_of medium).cells ∷ []))) → IsOpening {d = d} image (openings.Disc disc)
-  opened_disc image disc medium geometry opened same empty starts =
-      let there : IsOpened image disc.medium geometry = subst (λ (m : ImageMedium I d). IsOpened image m geometry) (sym same) opened in (
-        λ bytes told. opened_by image disc geometry there empty
-            (subst (λ (m : ImageMedium I d). IsStart m → stands_for disc (Off (first_disc (plain_homes geometry) (world_of m).cells ∷ []))) (sym same) starts) bytes told,
-        there.count,
-      )
-
 -- there was no memory for the disc, and the image is as it was
-pub handed_back_unopened : {I : Type 0} (d : Ghosts I) (image : I) (medium medium' : ImageMedium I d) (geometry : Shape) (image' : I) → IsOpened image medium geometry → medium' ≡ medium → image' ≡ medium'.image
-    → IsUnchanged (d.bytes image) (d.bytes image') (d.faults image) (d.faults image')
-handed_back_unopened {I} d image medium medium' geometry image' opened same handed =
-    let back : image' ≡ medium.image = handed ∙ ap (λ (m : ImageMedium I d). m.image) same in
-    record { same = ap d.bytes back ∙ opened.same_image; count = subst (λ i. d.faults image ≤ d.faults i) (sym back) opened.count }
+pub handed_back_unopened : {I : Type 0} (images : Images I) (image : I) (medium medium' : ImageMedium I images) (geometry : Shape) (image' : I) → IsOpened image medium geometry → medium' ≡ medium → image' ≡ medium'.image
+    → IsUnchanged (images.bytes image) (images.bytes image') (images.faults image) (images.faults image')
+handed_back_unopened {I} images image medium medium' geometry image' opened same handed =
+    let back : image' ≡ medium.image = handed ∙ ap (λ (m : ImageMedium I images). m.image) same in
+    record { same = ap images.bytes back ∙ opened.same_image; count = subst (λ i. images.faults image ≤ images.faults i) (sym back) opened.count }

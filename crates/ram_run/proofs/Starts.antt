@@ -9,10 +9,12 @@ use Rattle.ram_outside.specs.declared.image.Image.{Ghosts}
 use Rattle.ram_image.specs.declared.medium.ImageMedium.{ImageMedium}
 use Rattle.ram_image.specs.Medium.{shape_of_medium, world_of}
 use Rattle.ram_run.specs.declared.plain.PlainDisc.{PlainDisc}
-use Rattle.ram_run.specs.Plain.{shown_by, plain_homes, stands_for, IsStart}
+use Rattle.ram_run.specs.Homes.{plain_homes}
+use Rattle.ram_run.specs.Drive.{IsStart}
+use Rattle.ram_run.specs.Plain.{shown_by, stands_for}
 
 pub starts : {I : Type 0} {d : Ghosts I} (disc : PlainDisc I d) (medium : ImageMedium I d) (shape : Shape) → shape_of_medium medium ≡ shape → disc.medium ≡ medium → disc.buffer ≡ []
-    → IsStart medium → stands_for disc (Off (first_disc (plain_homes shape) (world_of medium).cells ∷ []))
+    → IsStart (world_of medium) → stands_for disc (Off (first_disc (plain_homes shape) (world_of medium).cells ∷ []))
 starts {I} {d} disc medium shape same at empty start = record {
   told = ap (λ (m : ImageMedium I d). (world_of m).told) at ∙ start.told;
   agrees = (

@@ -2,7 +2,6 @@
 use Rattle.std.specs.Prelude.{◌≡◌, ℕ, ◌+◌, ◌-◌, ◌<◌, ◌⊎◌, Option, None, Some, is_some, IfSome, List, [], ◌∷◌, ◌++◌, length, take}
 use Rattle.std.specs.Io.KnownBytes.{IsAtEnd}
 use Rattle.std.proofs.Common.{arith, refl, sym, ap, ◌∙◌, inl, inr, subst, append_assoc, append-nil, length-append}
-use Rattle.ram_outside.specs.declared.image.Image.{Ghosts}
 use Rattle.ram_text.specs.Lines.{line_feed, HasNoFeed, EndsByFeed, EndsByScript, GivesLine, LineIsTooLong, ScriptIsTooLong}
 use Rattle.ram_text.specs.ScriptWords.{words_of, without_return}
 use Rattle.ram_text.specs.Script.{IsForm, Reads}
@@ -10,7 +9,7 @@ use Rattle.ram_text.specs.declared.lines.TheConstants.{LINE_LIMIT, SCRIPT_LIMIT}
 use Rattle.ram_text.specs.declared.printing.LastLine.TheVariants as lasts
 use Rattle.ram_text.specs.declared.script.Line.{Line}
 use Rattle.ram_text.specs.declared.script.Line.TheVariants as lines
-use Rattle.ram_run.specs.declared.held.Held.{Held}
+use Rattle.ram_run.specs.Machine.{State}
 use Rattle.ram_run.specs.declared.serve.Tally.{Tally}
 use Rattle.ram_run.specs.Held.{CountsUses}
 use Rattle.ram_run.specs.Run.{report_text, IsNextLine, PassesLineLimit, PassesScriptLimit}
@@ -41,7 +40,7 @@ follows (Some after) taken taken' rest raw f f' gives = cases gives.ends
       taken_is = omega (arith, last.grew, ap length last.went, length-append raw after);
     }
 
-module _ {I : Type 0} {d : Ghosts I} (first : Beginning) (held : Held I d) (left due : Option (List ℕ)) (taken : ℕ) (tally : Tally) where
+module _ (first : Beginning) (held : State → Type 0) (left due : Option (List ℕ)) (taken : ℕ) (tally : Tally) where
   -- handing answers over leaves what is due
   pub shown : (due' : Option (List ℕ)) → due' ≡ due → Between first held left due taken tally → Between first held left due' taken tally
   shown due' same b = record { far = b.far; stands = b.stands; left_is = b.left_is; taken_is = b.taken_is; tallied = b.tallied; due_is = same ∙ b.due_is }

@@ -2,19 +2,17 @@
 use Rattle.std.specs.Prelude.{◌≡◌, ℕ, ◌+◌, ◌<◌, ◌⊎◌, Option, Some, List, [], ◌∷◌, ◌++◌, length, take, drop}
 use Rattle.std.specs.Io.KnownBytes.{append_known}
 use Rattle.std.proofs.Common.{arith, sym, ap, ◌∙◌, inl, inr, subst, append_assoc, length-append, take-append-drop}
-use Rattle.ram_outside.specs.declared.image.Image.{Ghosts}
 use Rattle.ram_text.specs.Lines.{line_feed}
 use Rattle.ram_text.specs.Writer.{IsPut, IsCutOff}
 use Rattle.ram_text.specs.declared.printing.LastLine.TheVariants as lasts
 use Rattle.ram_text.specs.declared.script.Line.{Line}
-use Rattle.ram_run.specs.declared.held.Held.{Held}
 use Rattle.ram_run.specs.declared.held.Told.{Told}
 use Rattle.ram_run.specs.declared.held.Outcome.{Outcome}
 use Rattle.ram_run.specs.declared.held.Outcome.TheVariants as outcomes
 use Rattle.ram_run.specs.declared.serve.Tally.{Tally}
 use Rattle.ram_run.proofs.Answering.{lacks_same}
 use Rattle.ram_run.specs.Machine.{State}
-use Rattle.ram_run.specs.Held.{Stands, IsAnswered}
+use Rattle.ram_run.specs.Held.{IsAnswered}
 use Rattle.ram_run.specs.Run.{Event, answers_of, script_text, report_text, event_text, told_text, ComesNext}
 use Rattle.ram_run.specs.Turn.{Beginning, SoFar, Between, Taken, EndsBetween, EndsCutOff, EndsInLine}
 
@@ -33,10 +31,10 @@ due_more : (due due' : Option (List ℕ)) (report so_far text : List ℕ) → du
 due_more due due' report so_far text told grew = grew ∙ ap (λ o. append_known o text) told ∙ ap Some (append_assoc report so_far text)
 
 -- an outcome of a line, as it is known
-pub came_out : {I : Type 0} {d : Ghosts I} (s : State) (line : Line) (payload reply : List ℕ) (held : Held I d) (outcome known : Outcome) → outcome ≡ known → IsAnswered s line payload reply held outcome → IsAnswered s line payload reply held known
+pub came_out : (s : State) (line : Line) (payload reply : List ℕ) (held : State → Type 0) (outcome known : Outcome) → outcome ≡ known → IsAnswered s line payload reply held outcome → IsAnswered s line payload reply held known
 came_out s line payload reply held outcome known is answered = subst (λ o. IsAnswered s line payload reply held o) is answered
 
-module _ {I : Type 0} {d : Ghosts I} (first : Beginning) (held : Held I d) (left due : Option (List ℕ)) (taken : ℕ) (tally : Tally) (line : Line) (payload : List ℕ) (t : Taken first held left due taken tally line payload) (held' : Held I d) (reply : List ℕ) where
+module _ (first : Beginning) (held : State → Type 0) (left due : Option (List ℕ)) (taken : ℕ) (tally : Tally) (line : Line) (payload : List ℕ) (t : Taken first held left due taken tally line payload) (held' : State → Type 0) (reply : List ℕ) where
   -- the event of the line that was taken
   abbrev event : Told → Event
   event told = record { raw = t.raw; line = line; payload = payload; told = told; reply = reply }
@@ -97,7 +95,7 @@ module _ {I : Type 0} {d : Ghosts I} (first : Beginning) (held : Held I d) (left
   pub ends_without_disc : IsAnswered t.far.now line payload reply held' outcomes.NotADisc → EndsBetween first held' due (Some (lasts.NotADisc (tally.lines + 1)))
   ends_without_disc answered = record {
     far = t.far;
-    stands = subst (λ s. Stands held' s) (lacks_same t.far.now line payload reply answered.state answered.step) answered.stands;
+    stands = subst held' (lacks_same t.far.now line payload reply answered.state answered.step) answered.stands;
     due_is = t.due_is;
     last_is = ((line, payload, reply, answered.state, comes_next, answered.step), ap (λ n. n + 1) t.tallied.lines);
   }

@@ -1,44 +1,37 @@
 use Rattle.std.specs.Prelude.{◌≡◌, ℕ, ◌≤◌, Option, None, Some, List}
 use Rattle.model_counts.specs.Counts.{Rose}
-use Rattle.ram_outside.specs.declared.image.Image.{Ghosts}
-use Rattle.ram_image.specs.Medium.{shape_of_medium, world_of}
+use Rattle.ram_outside.specs.declared.image.Image.{Ghosts as Images}
+use Rattle.ram_sectors.specs.declared.Sectors.{Ghosts as Drives}
 use Rattle.ram_image.specs.declared.opening.OpenFault.{OpenFault}
 use Rattle.ram_image.specs.declared.opening.OpenFault.TheVariants as faulty
 use Rattle.ram_text.specs.declared.script.Line.{Line}
 use Rattle.ram_text.specs.declared.script.Line.TheVariants as lines
-use Rattle.ram_run.specs.declared.plain.PlainDisc.{PlainDisc}
 use Rattle.ram_run.specs.declared.held.Held.{Held}
 use Rattle.ram_run.specs.declared.held.Held.TheVariants as helds
-use Rattle.model_geometry.specs.Geometry.{Shape, total}
+use Rattle.model_geometry.specs.Geometry.{Shape}
 use Rattle.ram_text.specs.ReportLines.{IsPrinted, IsAddressed}
 use Rattle.ram_run.specs.declared.held.Told.TheVariants as tolds
 use Rattle.ram_run.specs.declared.held.Outcome.{Outcome}
 use Rattle.ram_run.specs.declared.held.Outcome.TheVariants as outcomes
-use Rattle.ram_run.specs.Plain.{shown_by, stands_for}
-use Rattle.ram_run.specs.Machine.{State, Loaded, Unopened, Disc, IsLeft, DiscRule, PressStep, Step}
+use Rattle.ram_run.specs.Machine.{State, Unopened, Disc, IsIn, IsLeft, PressStep, Step}
 
--- a plain disc shows and stands for what this one does
-pub record StandsFor {I : Type 0} {d : Ghosts I} (plain : PlainDisc I d) (s : Loaded) : Type 0 where
-  pub shape_is : shape_of_medium plain.medium ≡ s.shape
-  pub shown_is : shown_by plain ≡ s.shown
-  pub stands : stands_for plain s.standing
+module _ {D I : Type 0} (drives : Drives D) (images : Images I) where
+  -- what is held stands for this state, and its image tells its bytes
+  abbrev pub Stands : Held D I → State → Type 0
+  Stands (helds.Image image) (Unopened bytes) = images.bytes image ≡ Some bytes
+  Stands (helds.Image image) (Disc s) = ⊥
+  Stands (helds.Disc drive) (Unopened bytes) = ⊥
+  Stands (helds.Disc drive) (Disc s) = IsIn (drives.shape drive) (drives.shows drive) (drives.stands drive) s
 
--- what is held stands for this state, and its image tells its bytes
-abbrev pub Stands : {I : Type 0} {d : Ghosts I} → Held I d → State → Type 0
-Stands {I} {d} (helds.Image image) (Unopened bytes) = d.bytes image ≡ Some bytes
-Stands {I} {d} (helds.Image image) (Disc s) = ⊥
-Stands {I} {d} (helds.Disc disc) (Unopened bytes) = ⊥
-Stands {I} {d} (helds.Disc disc) (Disc s) = StandsFor disc s
+  -- how often the image of what is held has failed
+  abbrev pub held_faults : Held D I → ℕ
+  held_faults (helds.Image image) = images.faults image
+  held_faults (helds.Disc drive) = (drives.shows drive).medium.world.faults
 
 -- the image that is left tells its bytes, and they are those of the state
 abbrev pub LeavesImage : State → Option (List ℕ) → Type 0
 LeavesImage s None = ⊥
 LeavesImage s (Some bytes) = IsLeft s bytes
-
--- how often the image of what is held has failed
-abbrev pub held_faults : {I : Type 0} {d : Ghosts I} → Held I d → ℕ
-held_faults {I} {d} (helds.Image image) = d.faults image
-held_faults {I} {d} (helds.Disc disc) = (world_of disc.medium).faults
 
 -- a failure of the image is counted, and no count falls
 abbrev pub OutcomeCount : ℕ → ℕ → Outcome → Type 0
@@ -57,11 +50,11 @@ CountsUses (lines.Wear block n) = 1 ≤ n
 CountsUses (lines.Cut n fate) = 1 ≤ n
 CountsUses _ = Unit {0}
 
--- What became of a line, of which the state before it is s.
-pub record IsAnswered {I : Type 0} {d : Ghosts I} (s : State) (line : Line) (payload reply : List ℕ) (held : Held I d) (outcome : Outcome) : Type 0 where
+-- What became of a line, of which the state before it is s, where what is held then stands for some states.
+pub record IsAnswered (s : State) (line : Line) (payload reply : List ℕ) (after : State → Type 0) (outcome : Outcome) : Type 0 where
   pub state : State
   pub step : Step s line payload outcome reply state
-  pub stands : Stands held state
+  pub stands : after state
 
 -- what is told of a command can be printed, and a read that was done has its address
 abbrev pub IsPrintable : Line → Outcome → Type 0
@@ -74,16 +67,11 @@ abbrev pub IsNoCommand : Outcome → Type 0
 IsNoCommand (outcomes.Told (tolds.Command answer)) = ⊥
 IsNoCommand _ = Unit {0}
 
--- What a line that needs a disc does on a plain disc.
-pub record IsOnDisc {I : Type 0} {d : Ghosts I} (old new : PlainDisc I d) (line : Line) (payload : List ℕ) (outcome : Outcome) (reply : List ℕ) : Type 0 where
-  pub same_shape : shape_of_medium new.medium ≡ shape_of_medium old.medium
-  pub rule : DiscRule (shown_by old) (shown_by new) (stands_for old) (stands_for new) (total (shape_of_medium old.medium)) line payload outcome reply
-
 -- What became of a press of this geometry, of which the state before it is s.
-pub record IsPressAnswered {I : Type 0} {d : Ghosts I} (s : State) (shape : Shape) (held : Held I d) (outcome : Outcome) : Type 0 where
+pub record IsPressAnswered (s : State) (shape : Shape) (after : State → Type 0) (outcome : Outcome) : Type 0 where
   pub state : State
   pub step : PressStep s shape outcome state
-  pub stands : Stands held state
+  pub stands : after state
 
 -- what a refusal to open a pressed image makes of the press
 abbrev pub outcome_of : OpenFault → Outcome

@@ -1,3 +1,4 @@
+pub mod Homes
 pub mod Plain
 pub mod Blocks
 pub mod Reading
@@ -5,6 +6,7 @@ pub mod Control
 pub mod Writing
 pub mod Host
 pub mod Machine
+pub mod Drive
 pub mod Held
 pub mod Run
 pub mod Turn

@@ -22,7 +22,7 @@ use Rattle.ram_text.specs.declared.printing.Event.TheVariants as events
 use Rattle.ram_run.specs.declared.held.Told.TheVariants as tolds
 use Rattle.ram_run.specs.declared.held.Outcome.{Outcome}
 use Rattle.ram_run.specs.declared.held.Outcome.TheVariants as outcomes
-use Rattle.ram_run.specs.Plain.{plain_homes}
+use Rattle.ram_run.specs.Homes.{plain_homes}
 use Rattle.ram_run.specs.Control.{buffer_after_fail, stands_after_fail}
 use Rattle.ram_run.specs.Host.{IsExecuted}
 
@@ -39,6 +39,12 @@ pub record Loaded : Type 0 where
 pub data State : Type 0 where
   Unopened : List ℕ → State
   Disc : Loaded → State
+
+-- a drive of this geometry that shows and stands for these is in this state
+pub record IsIn (shape : Shape) (shown : Shown) (stands : Standing → Type 0) (s : Loaded) : Type 0 where
+  pub shape_is : shape ≡ s.shape
+  pub shown_is : shown ≡ s.shown
+  pub standing_is : stands s.standing
 
 -- an image that is left in this state
 abbrev pub IsLeft : State → List ℕ → Type 0

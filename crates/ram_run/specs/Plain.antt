@@ -1,17 +1,10 @@
-use Rattle.std.specs.Prelude.{◌≡◌, ℕ, true, IsTrue, Some, List, [], drop, length}
-use Rattle.model_geometry.specs.Geometry.{Shape, data_blocks}
-use Rattle.model_medium.specs.Cells.{Good, cell_at}
+use Rattle.std.specs.Prelude.{◌≡◌, ℕ, true, Some, List, []}
 use Rattle.model_buffer.specs.Buffer.{bytes_at, numbers_in}
 use Rattle.model_sectors.specs.Discs.{Standing, On, Off, Shown, block_of, IsShown}
 use Rattle.ram_outside.specs.declared.image.Image.{Ghosts}
-use Rattle.ram_image.specs.declared.medium.ImageMedium.{ImageMedium}
 use Rattle.ram_image.specs.Medium.{shape_of_medium, world_of, machine_in}
 use Rattle.ram_run.specs.declared.plain.PlainDisc.{PlainDisc}
-
--- The homes of the logical blocks of a disc without lists: the data blocks behind the primary spares, in order. (This
--- project's own, as all here.)
-abbrev pub plain_homes : Shape → List ℕ
-plain_homes shape = drop shape.psa (data_blocks shape)
+pub use Rattle.ram_run.specs.Homes.{plain_homes}
 
 -- what a plain disc shows
 abbrev pub shown_by : {I : Type 0} {d : Ghosts I} → PlainDisc I d → Shown
@@ -31,9 +24,3 @@ pub record stands_for {I : Type 0} {d : Ghosts I} (plain : PlainDisc I d) (s : S
   pub told : (world_of plain.medium).told ≡ true
   pub agrees : IsShown (shown_by plain) s
   pub buffered : IsBuffered plain.buffer s
-
--- a medium from which a plain disc may start: it tells its cells, each good one has the bytes of a block, and the power is off
-pub record IsStart {I : Type 0} {d : Ghosts I} (medium : ImageMedium I d) : Type 0 where
-  pub told : (world_of medium).told ≡ true
-  pub whole : (block : ℕ) (bytes : List ℕ) → cell_at (world_of medium).cells block ≡ Good bytes → length bytes ≡ 32768
-  pub off : ¬ IsTrue (world_of medium).power

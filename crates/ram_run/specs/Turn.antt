@@ -1,6 +1,5 @@
 use Rattle.std.specs.Prelude.{◌≡◌, ℕ, ◌+◌, ◌<◌, ◌≤◌, Option, None, Some, List, [], ◌++◌, length}
 use Rattle.model_counts.specs.Counts.{Rose}
-use Rattle.ram_outside.specs.declared.image.Image.{Ghosts}
 use Rattle.ram_text.specs.Script.{Reads}
 use Rattle.ram_text.specs.declared.lines.TheConstants.{SCRIPT_LIMIT}
 use Rattle.ram_text.specs.declared.gathered.Print.{Print}
@@ -8,7 +7,6 @@ use Rattle.ram_text.specs.declared.gathered.Print.TheVariants as prints
 use Rattle.ram_text.specs.declared.printing.LastLine.{LastLine}
 use Rattle.ram_text.specs.declared.printing.LastLine.TheVariants as lasts
 use Rattle.ram_text.specs.declared.script.Line.{Line}
-use Rattle.ram_run.specs.declared.held.Held.{Held}
 use Rattle.ram_run.specs.declared.held.Outcome.{Outcome}
 use Rattle.ram_run.specs.declared.held.Outcome.TheVariants as outcomes
 use Rattle.ram_run.specs.declared.serve.Ending.{Ending}
@@ -17,7 +15,6 @@ use Rattle.ram_run.specs.declared.serve.Turn.{Turn}
 use Rattle.ram_run.specs.declared.serve.Turn.TheVariants as turns
 use Rattle.ram_run.specs.declared.serve.Tally.{Tally}
 use Rattle.ram_run.specs.Machine.{State, IsFirst, Step}
-use Rattle.ram_run.specs.Held.{Stands}
 use Rattle.ram_run.specs.Run.{Event, Run, Reaches, answered_in, report_text, IsNextLine, IsUnread, PassesLineLimit, PassesScriptLimit, ComesNext}
 
 -- What came first: the script, what was written before, and the image's bytes. (This project's own, as all here.)
@@ -48,18 +45,18 @@ pub record IsTallied {first : Beginning} (far : SoFar first) (tally : Tally) : T
 
 -- Between two lines: what is held stands for the state, what is left follows in the script, so many lines were
 -- read, and what is due is the text of their answers.
-pub record Between {I : Type 0} {d : Ghosts I} (first : Beginning) (held : Held I d) (left due : Option (List ℕ)) (taken : ℕ) (tally : Tally) : Type 0 where
+pub record Between (first : Beginning) (held : State → Type 0) (left due : Option (List ℕ)) (taken : ℕ) (tally : Tally) : Type 0 where
   pub far : SoFar first
-  pub stands : Stands held far.now
+  pub stands : held far.now
   pub left_is : left ≡ Some far.rest
   pub taken_is : taken + length far.rest ≡ length first.script
   pub tallied : IsTallied far tally
   pub due_is : IsReported far due
 
 -- A line was taken and reads as this: what is left follows it, and the rest is as before it.
-pub record Taken {I : Type 0} {d : Ghosts I} (first : Beginning) (held : Held I d) (left due : Option (List ℕ)) (taken : ℕ) (tally : Tally) (line : Line) (payload : List ℕ) : Type 0 where
+pub record Taken (first : Beginning) (held : State → Type 0) (left due : Option (List ℕ)) (taken : ℕ) (tally : Tally) (line : Line) (payload : List ℕ) : Type 0 where
   pub far : SoFar first
-  pub stands : Stands held far.now
+  pub stands : held far.now
   pub raw : List ℕ
   pub next : IsNextLine far.rest raw
   pub reads : Reads raw line payload
@@ -76,14 +73,14 @@ pub record IsFrontOf {first : Beginning} (far : SoFar first) (due : Option (List
   pub front : written ++ more ≡ first.report ++ report_text far.events
 
 -- the next line comes out so, and leaves what is held
-pub record ComesOut {I : Type 0} {d : Ghosts I} {first : Beginning} (far : SoFar first) (held : Held I d) (outcome : Outcome) : Type 0 where
+pub record ComesOut {first : Beginning} (far : SoFar first) (held : State → Type 0) (outcome : Outcome) : Type 0 where
   pub line : Line
   pub payload : List ℕ
   pub reply : List ℕ
   pub state : State
   pub next : ComesNext far.rest line payload
   pub step : Step far.now line payload outcome reply state
-  pub stands : Stands held state
+  pub stands : held state
 
 -- why the last line of a report says what it says
 abbrev pub IsLast : {first : Beginning} → SoFar first → LastLine → Type 0
@@ -112,33 +109,33 @@ IsLastIfAny far None = Unit {0}
 IsLastIfAny far (Some last) = IsLast far last
 
 -- the lines end between two of them, with the answers so far, and what is held stands for the state that they lead to
-pub record EndsBetween {I : Type 0} {d : Ghosts I} (first : Beginning) (held : Held I d) (due : Option (List ℕ)) (last : Option LastLine) : Type 0 where
+pub record EndsBetween (first : Beginning) (held : State → Type 0) (due : Option (List ℕ)) (last : Option LastLine) : Type 0 where
   pub far : SoFar first
-  pub stands : Stands held far.now
+  pub stands : held far.now
   pub due_is : IsReported far due
   pub last_is : IsLastIfAny far last
 
 -- the sink failed: a front of the answers is due
-pub record EndsCutOff {I : Type 0} {d : Ghosts I} (first : Beginning) (held : Held I d) (due : Option (List ℕ)) : Type 0 where
+pub record EndsCutOff (first : Beginning) (held : State → Type 0) (due : Option (List ℕ)) : Type 0 where
   pub far : SoFar first
-  pub stands : Stands held far.now
+  pub stands : held far.now
   pub front : IsFrontOf far due
 
 -- the next line was not done whole, and is not told
-pub record EndsInLine {I : Type 0} {d : Ghosts I} (first : Beginning) (held : Held I d) (due : Option (List ℕ)) (outcome : Outcome) : Type 0 where
+pub record EndsInLine (first : Beginning) (held : State → Type 0) (due : Option (List ℕ)) (outcome : Outcome) : Type 0 where
   pub far : SoFar first
   pub due_is : IsReported far due
   pub line : ComesOut far held outcome
 
 -- Why the lines end there, and what is then held and due.
-abbrev pub Ends : {I : Type 0} {d : Ghosts I} → Beginning → Held I d → Option (List ℕ) → Tally → Ending → Type 0
+abbrev pub Ends : Beginning → (State → Type 0) → Option (List ℕ) → Tally → Ending → Type 0
 Ends first held due tally endings.SinkFault = EndsCutOff first held due
 Ends first held due tally endings.ImageFault = EndsInLine first held due outcomes.Fault
 Ends first held due tally endings.NoMemory = EndsInLine first held due outcomes.NoMemory
 Ends first held due tally ending = EndsBetween first held due (last_line tally ending)
 
 -- What one turn makes of what stands between two lines.
-abbrev pub TurnsTo : {I : Type 0} {d : Ghosts I} → Beginning → Held I d → Option (List ℕ) → Option (List ℕ) → ℕ → Tally → Turn → Type 0
+abbrev pub TurnsTo : Beginning → (State → Type 0) → Option (List ℕ) → Option (List ℕ) → ℕ → Tally → Turn → Type 0
 TurnsTo first held left due taken tally (turns.Goes next) = Between first held left due taken next
 TurnsTo first held left due taken tally (turns.Ends ending) = Ends first held due tally ending
 

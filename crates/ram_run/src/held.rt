@@ -1,31 +1,27 @@
 //! What lies in the drive, and what one line does with it.
 ghost use Rattle.std.specs.Prelude.{◌≡◌, ◌≤◌, [], vec_capacity};
-ghost use Rattle.model_geometry.specs.Geometry.{shape_of};
+ghost use Rattle.model_geometry.specs.Geometry.{shape_of, total};
 ghost use Rattle.ram_text.specs.declared.payload.TheConstants.{PAYLOAD_ROOM};
-ghost use Rattle.ram_run.specs.Machine.{State, PressStep};
-ghost use Rattle.ram_run.specs.Held.{Stands, LeavesImage, held_faults, OutcomeCount, NeedsDisc, CountsUses, IsAnswered, IsPressAnswered, IsOnDisc, IsPrintable, IsNoCommand, outcome_of};
+ghost use Rattle.ram_run.specs.Machine.{State, DiscRule};
+ghost use Rattle.ram_run.specs.Held.{Stands, LeavesImage, held_faults, OutcomeCount, NeedsDisc, CountsUses, IsAnswered, IsPressAnswered, IsPrintable, IsNoCommand, outcome_of};
 ghost use Rattle.ram_run.specs.Machine.{power_outcome, fail_outcome, wear_outcome, command_outcome};
-ghost use Rattle.ram_run.specs.Starts.{IsOpening};
-ghost use Rattle.ram_image.specs.Medium.{shape_of_medium};
-ghost use Rattle.ram_run.specs.Plain.{shown_by, stands_for};
 ghost use Rattle.ram_run.specs.Host.{IsExecuted};
 
 use crate::commands::execute;
-use crate::plain::PlainDisc;
+use crate::drive::Drive;
 use ram_bytes::Cdb;
-use ram_image::{OpenFault, PressOut, open, press};
+use ram_image::{OpenFault, PressOut, press};
 use ram_medium::{Arm, FailEnd};
 use ram_mmc::Answer;
-use ram_outside::Image;
-use ram_sectors::{PowerOut, Sectors};
+use ram_sectors::PowerOut;
 use ram_text::{Event, Line};
 use ram_zones::Geometry;
 use std::alloc::Global;
 
-/// What lies in the drive: an image that was not opened as a disc, or a disc.
-pub enum Held<I: Image> {
-    Image(I),
-    Disc(PlainDisc<I>),
+/// What is held: an image that was not opened as a disc, or a drive over one.
+pub enum Held<D: Drive> {
+    Image(D::Image),
+    Disc(D),
 }
 
 /// What is told of a line.
@@ -52,33 +48,33 @@ pub enum Outcome {
     NoMemory,
 }
 
-impl<I: Image> Held<I> {
+impl<D: Drive> Held<D> {
     /// The image, as it is left.
-    pub fn into_image(self) -> I
-        ensures count { I.faults result ≡ held_faults self }
-        ensures left { (s : State) → Stands self s → LeavesImage s (I.bytes result) }
+    pub fn into_image(self) -> D::Image
+        ensures count { D.Image.faults result ≡ held_faults D.Sectors D.Image.Image self }
+        ensures left { (s : State) → Stands D.Sectors D.Image.Image self s → LeavesImage s (D.Image.bytes result) }
     {
         match self {
             Held::Image(image) => image,
-            Held::Disc(disc) => disc.into_medium().into_image(),
+            Held::Disc(disc) => disc.into_image(),
         }
     }
 }
 
 /// What one line does, with its data in `payload`. The reply of a command is then in `reply`.
-pub fn answer_line<I: Image>(
+pub fn answer_line<D: Drive>(
     alloc: Global,
-    held: Held<I>,
+    held: Held<D>,
     line: &Line,
     payload: &[u8],
     reply: &mut Vec<u8>,
-) -> (Held<I>, Outcome)
+) -> (Held<D>, Outcome)
     requires uses { CountsUses line.now }
     requires empty { reply.old.items ≡ [] }
     requires room { PAYLOAD_ROOM ≤ vec_capacity reply.old }
-    ensures step { (s : State) → Stands held s → IsAnswered s line.now payload.now reply.new.items result.0 result.1 }
+    ensures step { (s : State) → Stands D.Sectors D.Image.Image held s → IsAnswered s line.now payload.now reply.new.items (Stands D.Sectors D.Image.Image result.0) result.1 }
     ensures printable { IsPrintable line.now result.1 }
-    ensures count { OutcomeCount (held_faults held) (held_faults result.0) result.1 }
+    ensures count { OutcomeCount (held_faults D.Sectors D.Image.Image held) (held_faults D.Sectors D.Image.Image result.0) result.1 }
     ensures room { vec_capacity reply.old ≤ vec_capacity reply.new }
 {
     match line {
@@ -93,20 +89,20 @@ pub fn answer_line<I: Image>(
 }
 
 /// What a line does that needs a disc.
-fn answer_held<I: Image>(
+fn answer_held<D: Drive>(
     alloc: Global,
-    held: Held<I>,
+    held: Held<D>,
     line: &Line,
     payload: &[u8],
     reply: &mut Vec<u8>,
-) -> (Held<I>, Outcome)
+) -> (Held<D>, Outcome)
     requires needs { NeedsDisc line.now }
     requires uses { CountsUses line.now }
     requires empty { reply.old.items ≡ [] }
     requires room { PAYLOAD_ROOM ≤ vec_capacity reply.old }
-    ensures step { (s : State) → Stands held s → IsAnswered s line.now payload.now reply.new.items result.0 result.1 }
+    ensures step { (s : State) → Stands D.Sectors D.Image.Image held s → IsAnswered s line.now payload.now reply.new.items (Stands D.Sectors D.Image.Image result.0) result.1 }
     ensures printable { IsPrintable line.now result.1 }
-    ensures count { OutcomeCount (held_faults held) (held_faults result.0) result.1 }
+    ensures count { OutcomeCount (held_faults D.Sectors D.Image.Image held) (held_faults D.Sectors D.Image.Image result.0) result.1 }
     ensures room { vec_capacity reply.old ≤ vec_capacity reply.new }
 {
     match held {
@@ -120,9 +116,9 @@ fn answer_held<I: Image>(
 }
 
 /// What a line does on a disc.
-fn answer_on_disc<I: Image>(
+fn answer_on_disc<D: Drive>(
     alloc: Global,
-    disc: &mut PlainDisc<I>,
+    disc: &mut D,
     line: &Line,
     payload: &[u8],
     reply: &mut Vec<u8>,
@@ -131,7 +127,8 @@ fn answer_on_disc<I: Image>(
     requires uses { CountsUses line.now }
     requires empty { reply.old.items ≡ [] }
     requires room { PAYLOAD_ROOM ≤ vec_capacity reply.old }
-    ensures rule { IsOnDisc disc.old disc.new line.now payload.now result reply.new.items }
+    ensures rule { DiscRule (D.shows disc.old) (D.shows disc.new) (D.stands disc.old) (D.stands disc.new) (total (D.shape disc.old)) line.now payload.now result reply.new.items }
+    ensures same_shape { D.shape disc.new ≡ D.shape disc.old }
     ensures room { vec_capacity reply.old ≤ vec_capacity reply.new }
 {
     match line {
@@ -148,16 +145,11 @@ fn answer_on_disc<I: Image>(
 }
 
 /// Executes a command, where the power is on.
-fn execute_if_on<I: Image>(
-    disc: &mut PlainDisc<I>,
-    cdb: &Cdb,
-    payload: &[u8],
-    reply: &mut Vec<u8>,
-) -> Answer
+fn execute_if_on<D: Drive>(disc: &mut D, cdb: &Cdb, payload: &[u8], reply: &mut Vec<u8>) -> Answer
     requires empty { reply.old.items ≡ [] }
     requires room { PAYLOAD_ROOM ≤ vec_capacity reply.old }
-    ensures rule { IsExecuted (shown_by disc.old) (shown_by disc.new) (stands_for disc.old) (stands_for disc.new) cdb.now payload.now result reply.new.items }
-    ensures same_shape { shape_of_medium disc.new.medium ≡ shape_of_medium disc.old.medium }
+    ensures rule { IsExecuted (D.shows disc.old) (D.shows disc.new) (D.stands disc.old) (D.stands disc.new) cdb.now payload.now result reply.new.items }
+    ensures same_shape { D.shape disc.new ≡ D.shape disc.old }
     ensures room { vec_capacity reply.old ≤ vec_capacity reply.new }
 {
     if !disc.powered() {
@@ -214,39 +206,17 @@ fn command_outcome(answer: Answer) -> Outcome
     }
 }
 
-/// What became of the opening of an image.
-pub enum Opening<I: Image> {
-    /// It holds a disc.
-    Disc(PlainDisc<I>),
-    /// It does not, or could not be opened.
-    Refused(I, OpenFault),
-}
-
-/// Opens the disc of an image, where it holds one.
-pub fn open_disc<I: Image>(alloc: Global, image: I) -> Opening<I>
-    ensures { IsOpening image result }
-{
-    let (medium, geometry) = match open(alloc, image) {
-        Ok(opened) => opened,
-        Err((image, fault)) => return Opening::Refused(image, fault),
-    };
-    match PlainDisc::new(alloc, medium, geometry) {
-        Ok(disc) => Opening::Disc(disc),
-        Err((medium, _)) => Opening::Refused(medium.into_image(), OpenFault::NoMemory),
-    }
-}
-
 /// Presses a disc of this geometry on the image, where it is within its limits.
-fn press_disc<I: Image>(
+fn press_disc<D: Drive>(
     alloc: Global,
-    held: Held<I>,
+    held: Held<D>,
     zones: u32,
     scale: u32,
     psa: u32,
-) -> (Held<I>, Outcome)
-    ensures step { (s : State) → Stands held s → IsPressAnswered s (shape_of zones scale psa) result.0 result.1 }
+) -> (Held<D>, Outcome)
+    ensures step { (s : State) → Stands D.Sectors D.Image.Image held s → IsPressAnswered s (shape_of zones scale psa) (Stands D.Sectors D.Image.Image result.0) result.1 }
     ensures printable { IsNoCommand result.1 }
-    ensures count { OutcomeCount (held_faults held) (held_faults result.0) result.1 }
+    ensures count { OutcomeCount (held_faults D.Sectors D.Image.Image held) (held_faults D.Sectors D.Image.Image result.0) result.1 }
 {
     let Ok(geometry) = Geometry::new(zones, scale, psa) else {
         return (held, Outcome::Told(Told::Event(Event::NotPressed)));
@@ -256,9 +226,9 @@ fn press_disc<I: Image>(
         PressOut::Failed => return (Held::Image(image), Outcome::Fault),
         PressOut::Done => {}
     }
-    match open_disc(alloc, image) {
-        Opening::Disc(disc) => (Held::Disc(disc), Outcome::Told(Told::Event(Event::Pressed))),
-        Opening::Refused(image, fault) => (Held::Image(image), not_opened(fault)),
+    match D::open(alloc, image) {
+        Ok(disc) => (Held::Disc(disc), Outcome::Told(Told::Event(Event::Pressed))),
+        Err((image, fault)) => (Held::Image(image), not_opened(fault)),
     }
 }
 

@@ -2,6 +2,7 @@
 #![tactic(auto)]
 
 mod commands;
+mod drive;
 mod ending;
 mod held;
 pub mod help;

@@ -15,7 +15,7 @@ use ram_image::ImageMedium;
 use ram_outside::Image;
 use ram_sectors::{PowerOut, ReadOut, Sectors, WriteOut};
 use ram_zones::Geometry;
-use std::alloc::{AllocError, Global};
+use std::alloc::Global;
 
 /// A disc without lists: its logical blocks lie in the data blocks behind the primary spares, in order, and it is
 /// always formatted. It has no spares.
@@ -26,51 +26,6 @@ pub struct PlainDisc<I: Image> {
     // The block in work.
     block: Block,
     ghost same: { shape_of_medium medium ≡ geometry } by { Prim.hlevel props },
-}
-
-impl<I: Image> PlainDisc<I> {
-    ghost use Rattle.std.specs.Prelude.{[], ◌∷◌, IfOk, MatchResult};
-    ghost use Rattle.model_sectors.specs.Discs.{Off, first_disc};
-    ghost use Rattle.ram_image.specs.Medium.{world_of};
-    ghost use Rattle.ram_run.specs.Plain.{plain_homes, stands_for, IsStart};
-
-    /// The plain disc of this geometry on its medium, whose power is off. It takes room for two blocks.
-    pub fn new(
-        alloc: Global,
-        medium: ImageMedium<I>,
-        geometry: Geometry,
-    ) -> Result<Self, (ImageMedium<I>, AllocError)>
-        requires { shape_of_medium medium ≡ geometry }
-        ensures disc { MatchResult result (λ disc. (disc.medium ≡ medium) × (disc.buffer ≡ [])) (λ refused. refused.0 ≡ medium) }
-        ensures starts { IfOk result (λ disc. IsStart medium → stands_for disc (Off (first_disc (plain_homes geometry) (world_of medium).cells ∷ []))) }
-    {
-        let buffer = match BlockBuffer::new(alloc) {
-            Ok(buffer) => buffer,
-            Err(error) => return Err((medium, error)),
-        };
-        match Block::zeros(alloc) {
-            Ok(block) => Ok(PlainDisc {
-                medium,
-                geometry,
-                buffer,
-                block,
-            }),
-            Err(error) => Err((medium, error)),
-        }
-    }
-
-    /// The medium, as the disc leaves it.
-    pub fn into_medium(self) -> ImageMedium<I>
-        ensures { result ≡ self.medium }
-    {
-        let PlainDisc {
-            medium,
-            geometry: _,
-            buffer: _,
-            block: _,
-        } = self;
-        medium
-    }
 }
 
 impl<I: Image> Sectors for PlainDisc<I> {

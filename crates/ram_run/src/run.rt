@@ -6,6 +6,7 @@ ghost use Rattle.ram_run.specs.Words.{IsRunImage, IsHelp, IsVersion, UsageRule, 
 ghost use Rattle.ram_run.specs.Outcome.{IsTold, IsUnopened, IsNoUsage, Leaves, StatusCounts, bytes_returned};
 
 use crate::help::{HELP, VERSION};
+use crate::plain::PlainDisc;
 use crate::serve::{Desk, serve};
 use crate::status::Status;
 use ram_outside::{Opened, Opener, Sink, Source};
@@ -98,7 +99,9 @@ fn run_image<S: Source, K: Sink, O: Opener>(
     match opener.open(name) {
         Opened::Failed => Status::ImageFault,
         Opened::Image(image) => {
-            let (image, status) = serve(alloc, image, &mut desk, script, report);
+            let (image, status) = serve::<PlainDisc<O::Image>, S, K>(
+                alloc, image, &mut desk, script, report,
+            );
             opener.close(image);
             status
         }

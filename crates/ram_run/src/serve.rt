@@ -2,19 +2,20 @@
 ghost use Rattle.std.specs.Prelude.{◌≡◌, ◌^◌, ◌<◌, ◌≤◌, ◌+◌, ℕ, List, [], Option, IfOk, vec_capacity};
 ghost use Rattle.std.specs.Io.KnownBytes.{prepend_known};
 ghost use Rattle.ram_text.specs.Writer.{due};
-ghost use Rattle.ram_run.specs.Held.{held_faults, CountsUses};
+ghost use Rattle.ram_run.specs.Held.{Stands, held_faults, CountsUses};
 ghost use Rattle.ram_run.specs.Run.{answers_of};
 ghost use Rattle.ram_run.specs.Outcome.{Begins, IsFresh, HasRoom, IsNoUsage, Leaves, StatusCounts};
 ghost use Rattle.ram_run.specs.Starts.{StartRule};
 ghost use Rattle.ram_run.specs.Turn.{Beginning, Between, Taken, TurnsTo, Ends, ShowRule, TakesBytes, GoesByOne, TurnCounts, counts_of};
 ghost use Rattle.ram_text.specs.declared.payload.TheConstants.{PAYLOAD_ROOM};
 
+use crate::drive::Drive;
 use crate::ending::finish;
-use crate::held::{Held, Opening, Outcome, Told, answer_line, open_disc};
+use crate::held::{Held, Outcome, Told, answer_line};
 use crate::printing::print_told;
 use crate::status::Status;
 use ram_image::OpenFault;
-use ram_outside::{Image, Sink, Source};
+use ram_outside::{Sink, Source};
 use ram_text::{Line, LineReader, NextLine, PAYLOAD_ROOM, Print, ReportWriter, parse_line};
 use std::alloc::{AllocError, Global};
 
@@ -113,24 +114,24 @@ fn show_answers<K: Sink>(reader: &LineReader, writer: &mut ReportWriter, report:
 }
 
 /// Answers a line, and prints the answer.
-fn answer_and_print<I: Image, K: Sink>(
+fn answer_and_print<D: Drive, K: Sink>(
     alloc: Global,
-    held: Held<I>,
+    held: Held<D>,
     tally: Tally,
     line: &Line,
     payload: &[u8],
     reply: &mut Vec<u8>,
     writer: &mut ReportWriter,
     report: &mut K,
-) -> (Held<I>, Turn)
+) -> (Held<D>, Turn)
     requires uses { CountsUses line.now }
     requires lines { tally.lines < 2 ^ 63 }
     requires answered { tally.answered < 2 ^ 63 }
     requires empty { reply.old.items ≡ [] }
     requires room { PAYLOAD_ROOM ≤ vec_capacity reply.old }
-    ensures turn { (first : Beginning) (left : Option (List ℕ)) (taken : ℕ) → Taken first held left (due (K.written report.old) writer.old) taken tally line.now payload.now
-        → TurnsTo first result.0 left (due (K.written report.new) writer.new) taken tally result.1 }
-    ensures counts { (source : ℕ) → TurnCounts (counts_of source (K.faults report.old) (held_faults held)) (counts_of source (K.faults report.new) (held_faults result.0)) result.1 }
+    ensures turn { (first : Beginning) (left : Option (List ℕ)) (taken : ℕ) → Taken first (Stands D.Sectors D.Image.Image held) left (due (K.written report.old) writer.old) taken tally line.now payload.now
+        → TurnsTo first (Stands D.Sectors D.Image.Image result.0) left (due (K.written report.new) writer.new) taken tally result.1 }
+    ensures counts { (source : ℕ) → TurnCounts (counts_of source (K.faults report.old) (held_faults D.Sectors D.Image.Image held)) (counts_of source (K.faults report.new) (held_faults D.Sectors D.Image.Image result.0)) result.1 }
     ensures goes { GoesByOne tally result.1 }
     ensures room { vec_capacity reply.old ≤ vec_capacity reply.new }
 {
@@ -149,20 +150,20 @@ fn answer_and_print<I: Image, K: Sink>(
 }
 
 /// One turn: shows the answers so far, takes the next line of the script, and answers it.
-fn take_turn<I: Image, S: Source, K: Sink>(
+fn take_turn<D: Drive, S: Source, K: Sink>(
     alloc: Global,
-    held: Held<I>,
+    held: Held<D>,
     tally: Tally,
     desk: &mut Desk,
     script: &mut S,
     report: &mut K,
-) -> (Held<I>, Turn)
+) -> (Held<D>, Turn)
     requires lines { tally.lines < 2 ^ 63 }
     requires answered { tally.answered < 2 ^ 63 }
     requires room { HasRoom desk.old }
-    ensures turn { (first : Beginning) → Between first held (prepend_known desk.old.reader.buffered (S.left script.old)) (due (K.written report.old) desk.old.writer) desk.old.reader.taken tally
-        → TurnsTo first result.0 (prepend_known desk.new.reader.buffered (S.left script.new)) (due (K.written report.new) desk.new.writer) desk.new.reader.taken tally result.1 }
-    ensures counts { TurnCounts (counts_of (S.faults script.old) (K.faults report.old) (held_faults held)) (counts_of (S.faults script.new) (K.faults report.new) (held_faults result.0)) result.1 }
+    ensures turn { (first : Beginning) → Between first (Stands D.Sectors D.Image.Image held) (prepend_known desk.old.reader.buffered (S.left script.old)) (due (K.written report.old) desk.old.writer) desk.old.reader.taken tally
+        → TurnsTo first (Stands D.Sectors D.Image.Image result.0) (prepend_known desk.new.reader.buffered (S.left script.new)) (due (K.written report.new) desk.new.writer) desk.new.reader.taken tally result.1 }
+    ensures counts { TurnCounts (counts_of (S.faults script.old) (K.faults report.old) (held_faults D.Sectors D.Image.Image held)) (counts_of (S.faults script.new) (K.faults report.new) (held_faults D.Sectors D.Image.Image result.0)) result.1 }
     ensures takes { TakesBytes desk.old.reader.taken desk.new.reader.taken result.1 }
     ensures goes { GoesByOne tally result.1 }
     ensures room { HasRoom desk.new }
@@ -196,18 +197,18 @@ fn take_turn<I: Image, S: Source, K: Sink>(
 }
 
 /// Answers the lines of a script one after another, and tells how many came and why they end.
-pub fn serve_lines<I: Image, S: Source, K: Sink>(
+pub fn serve_lines<D: Drive, S: Source, K: Sink>(
     alloc: Global,
-    held: Held<I>,
+    held: Held<D>,
     desk: &mut Desk,
     script: &mut S,
     report: &mut K,
-) -> (Held<I>, Tally, Ending)
+) -> (Held<D>, Tally, Ending)
     requires taken { desk.old.reader.taken ≡ 0 }
     requires room { HasRoom desk.old }
-    ensures ends { (first : Beginning) → Between first held (prepend_known desk.old.reader.buffered (S.left script.old)) (due (K.written report.old) desk.old.writer) 0 (record { lines = 0; answered = 0 })
-        → Ends first result.0 (due (K.written report.new) desk.new.writer) result.1 result.2 }
-    ensures counts { TurnCounts (counts_of (S.faults script.old) (K.faults report.old) (held_faults held)) (counts_of (S.faults script.new) (K.faults report.new) (held_faults result.0)) (Turn.Ends result.2) }
+    ensures ends { (first : Beginning) → Between first (Stands D.Sectors D.Image.Image held) (prepend_known desk.old.reader.buffered (S.left script.old)) (due (K.written report.old) desk.old.writer) 0 (record { lines = 0; answered = 0 })
+        → Ends first (Stands D.Sectors D.Image.Image result.0) (due (K.written report.new) desk.new.writer) result.1 result.2 }
+    ensures counts { TurnCounts (counts_of (S.faults script.old) (K.faults report.old) (held_faults D.Sectors D.Image.Image held)) (counts_of (S.faults script.new) (K.faults report.new) (held_faults D.Sectors D.Image.Image result.0)) (Turn.Ends result.2) }
     ensures few { result.1.lines < 2 ^ 63 }
 {
     let mut held = held;
@@ -226,20 +227,20 @@ pub fn serve_lines<I: Image, S: Source, K: Sink>(
 }
 
 /// What a run begins with.
-pub enum Start<I: Image> {
+pub enum Start<D: Drive> {
     /// What lies in the drive.
-    Held(Held<I>),
+    Held(Held<D>),
     /// The image could not be opened, or there was no memory.
-    Stopped(I, Status),
+    Stopped(D::Image, Status),
 }
 
 /// Opens the image of a run, where it holds a disc.
-fn begin<I: Image>(alloc: Global, image: I) -> Start<I>
-    ensures { StartRule image result }
+fn begin<D: Drive>(alloc: Global, image: D::Image) -> Start<D>
+    ensures { StartRule D.Sectors D.Image.Image image result }
 {
-    match open_disc(alloc, image) {
-        Opening::Disc(disc) => Start::Held(Held::Disc(disc)),
-        Opening::Refused(image, fault) => match fault {
+    match D::open(alloc, image) {
+        Ok(disc) => Start::Held(Held::Disc(disc)),
+        Err((image, fault)) => match fault {
             OpenFault::Header | OpenFault::Length { .. } => Start::Held(Held::Image(image)),
             OpenFault::Fault => Start::Stopped(image, Status::ImageFault),
             OpenFault::NoMemory => Start::Stopped(image, Status::NoMemory),
@@ -248,21 +249,21 @@ fn begin<I: Image>(alloc: Global, image: I) -> Start<I>
 }
 
 /// Serves a script over an image, and hands the image back as the lines leave it.
-pub fn serve<I: Image, S: Source, K: Sink>(
+pub fn serve<D: Drive, S: Source, K: Sink>(
     alloc: Global,
-    image: I,
+    image: D::Image,
     desk: &mut Desk,
     script: &mut S,
     report: &mut K,
-) -> (I, Status)
+) -> (D::Image, Status)
     requires fresh { IsFresh desk.old }
     requires room { HasRoom desk.old }
     ensures other { IsNoUsage result.1 }
-    ensures leaves { (first : Beginning) → Begins first (S.left script.old) (K.written report.old) (I.bytes image)
-        → Leaves first (K.written report.new) (I.bytes result.0) result.1 }
-    ensures counts { StatusCounts (counts_of (S.faults script.old) (K.faults report.old) (I.faults image)) (counts_of (S.faults script.new) (K.faults report.new) (I.faults result.0)) result.1 }
+    ensures leaves { (first : Beginning) → Begins first (S.left script.old) (K.written report.old) (D.Image.bytes image)
+        → Leaves first (K.written report.new) (D.Image.bytes result.0) result.1 }
+    ensures counts { StatusCounts (counts_of (S.faults script.old) (K.faults report.old) (D.Image.faults image)) (counts_of (S.faults script.new) (K.faults report.new) (D.Image.faults result.0)) result.1 }
 {
-    let held = match begin(alloc, image) {
+    let held = match begin::<D>(alloc, image) {
         Start::Held(held) => held,
         Start::Stopped(image, status) => return (image, status),
     };

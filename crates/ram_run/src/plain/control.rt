@@ -1,23 +1,44 @@
-ghost use Rattle.std.specs.Prelude.{◌≡◌, ◌↔◌, ◌≤◌, IsTrue};
-ghost use Rattle.model_geometry.specs.Geometry.{total};
-ghost use Rattle.model_sectors.specs.Discs.{Standing, IsOn};
+ghost use Rattle.std.specs.Prelude.{◌≡◌, MatchResult, refl};
+ghost use Rattle.model_sectors.specs.Discs.{Standing};
 ghost use Rattle.model_sectors.specs.Calls.{CapacityRule, PowerCause, PowerStep};
 ghost use Rattle.ram_image.specs.Medium.{shape_of_medium, machine_in};
-ghost use Rattle.ram_medium.specs.Control.{FailRule, WearRule, with_armed_cut};
+ghost use Rattle.ram_run.specs.Drive.{IsMade};
 ghost use Rattle.ram_run.specs.Plain.{shown_by, stands_for};
-ghost use Rattle.ram_run.specs.Control.{buffer_after_fail, stands_after_fail};
 
 use super::PlainDisc;
+use crate::drive::Drive;
+use ram_buffer::BlockBuffer;
+use ram_bytes::Block;
+use ram_image::{ImageMedium, OpenFault, open};
 use ram_medium::{Arm, FailEnd, Fate, Medium, MediumControl};
 use ram_outside::Image;
 use ram_sectors::PowerOut;
+use ram_zones::Geometry;
+use std::alloc::{AllocError, Global};
 
 impl<I: Image> PlainDisc<I> {
-    /// Whether the power is on.
-    pub fn powered(&self) -> bool
-        ensures { IsTrue result ↔ IsOn (shown_by self.now) }
+    /// The plain disc of this geometry on its medium. It takes room for two blocks.
+    fn new(
+        alloc: Global,
+        medium: ImageMedium<I>,
+        geometry: Geometry,
+    ) -> Result<Self, (ImageMedium<I>, AllocError)>
+        requires { shape_of_medium medium ≡ geometry }
+        ensures { MatchResult result (λ disc. IsMade geometry (machine_in medium) (shape_of_medium disc.medium) (shown_by disc) (stands_for disc)) (λ refused. refused.0 ≡ medium) }
     {
-        self.medium.powered()
+        let buffer = match BlockBuffer::new(alloc) {
+            Ok(buffer) => buffer,
+            Err(error) => return Err((medium, error)),
+        };
+        match Block::zeros(alloc) {
+            Ok(block) => Ok(PlainDisc {
+                medium,
+                geometry,
+                buffer,
+                block,
+            }),
+            Err(error) => Err((medium, error)),
+        }
     }
 
     /// How many sectors the disc has, as the trait has it.
@@ -43,14 +64,35 @@ impl<I: Image> PlainDisc<I> {
             capacity: self.geometry.formattable(),
         }
     }
+}
 
-    /// Makes a block of the medium dead, with the power on or off. What is buffered stays so, unless the power goes off.
-    pub fn fail(&mut self, block: u32) -> FailEnd
-        ensures rule { FailRule (total (shape_of_medium self.old.medium)) (machine_in self.old.medium) (machine_in self.new.medium) block result }
-        ensures same_shape { shape_of_medium self.new.medium ≡ shape_of_medium self.old.medium }
-        ensures buffer { self.new.buffer ≡ buffer_after_fail self.old.buffer result }
-        ensures stands { (s : Standing) → stands_for self.old s → stands_for self.new (stands_after_fail s result) }
-    {
+impl<I: Image> Drive for PlainDisc<I> {
+    type Image = I;
+
+    // It takes room for two blocks beside that of the medium.
+    fn open(alloc: Global, image: I) -> Result<Self, (I, OpenFault)> {
+        let (medium, geometry) = open(alloc, image)?;
+        match PlainDisc::new(alloc, medium, geometry) {
+            Ok(disc) => Ok(disc),
+            Err((medium, _)) => Err((medium.into_image(), OpenFault::NoMemory)),
+        }
+    }
+
+    fn into_image(self) -> I {
+        let PlainDisc {
+            medium,
+            geometry: _,
+            buffer: _,
+            block: _,
+        } = self;
+        medium.into_image()
+    }
+
+    fn powered(&self) -> bool {
+        self.medium.powered()
+    }
+
+    fn fail(&mut self, block: u32) -> FailEnd {
         match self.medium.fail(block) {
             FailEnd::Done => FailEnd::Done,
             FailEnd::NoBlock { blocks } => FailEnd::NoBlock { blocks },
@@ -61,25 +103,13 @@ impl<I: Image> PlainDisc<I> {
         }
     }
 
-    /// Makes a block of the medium dead at its `n`-th use from now on.
-    pub fn wear(&mut self, block: u32, n: u32) -> Arm
-        requires { 1 ≤ n }
-        ensures rule { WearRule (total (shape_of_medium self.old.medium)) (machine_in self.old.medium) (machine_in self.new.medium) (record { block = block; left = n }) result }
-        ensures same_shape { shape_of_medium self.new.medium ≡ shape_of_medium self.old.medium }
-        ensures buffer { self.new.buffer ≡ self.old.buffer }
-        ensures stands { (s : Standing) → stands_for self.old s → stands_for self.new s }
-    {
+    fn wear(&mut self, block: u32, n: u32) -> Arm {
         self.medium.wear(block, n)
     }
 
-    /// Cuts the power at the `n`-th use of the medium from now on, with this fate of a write that is cut.
-    pub fn arm_cut(&mut self, n: u32, fate: Fate)
-        requires { 1 ≤ n }
-        ensures rule { machine_in self.new.medium ≡ with_armed_cut n fate (machine_in self.old.medium) }
-        ensures same_shape { shape_of_medium self.new.medium ≡ shape_of_medium self.old.medium }
-        ensures buffer { self.new.buffer ≡ self.old.buffer }
-        ensures stands { (s : Standing) → stands_for self.old s → stands_for self.new s }
-    {
+    fn arm_cut(&mut self, n: u32, fate: Fate) {
         self.medium.arm_cut(n, fate);
     }
+
+    ghost drive_laws = { record { homes_are = λ drive. refl } };
 }

@@ -7,20 +7,20 @@ use Rattle.ram_run.proofs.held.press_disc.Goals as goal
 
 pub returns-in-Failed-clause-step : goal.returns-in-Failed-clause-step
 returns-in-Failed-clause-step g c s h =
-    press_stopped g.I.Image s (shape_of c.args.zones c.args.scale c.args.psa) (subst (λ (z : Shape). IsLawful z) c.in-Ok.ensures.0 c.in-Ok.ensures.1)
-    (g.I.Image.bytes c.into_image-image.result) c.press.new.image (c.into_image-image.ensures.left s h) c.in-Failed.ensures.0
+    press_stopped g.D.Sectors g.D.Image.Image s (shape_of c.args.zones c.args.scale c.args.psa) (subst (λ (z : Shape). IsLawful z) c.in-Ok.ensures.0 c.in-Ok.ensures.1)
+    (g.D.Image.Image.bytes c.into_image-image.result) c.press.new.image (c.into_image-image.ensures.left s h) c.in-Failed.ensures.0
 
-pub returns-in-Disc-clause-step : goal.returns-in-Disc-clause-step
-returns-in-Disc-clause-step g c s h =
-    press_opened g.I.Image s (shape_of c.args.zones c.args.scale c.args.psa) (subst (λ (z : Shape). IsLawful z) c.in-Ok.ensures.0 c.in-Ok.ensures.1)
-    (g.I.Image.bytes c.into_image-image.result) c.press.new.image (c.into_image-image.ensures.left s h)
-    (subst (λ (z : Shape). WhereTold (g.I.Image.bytes c.into_image-image.result) (g.I.Image.bytes c.press.new.image) (IsPressed z)) c.in-Ok.ensures.0 c.in-Done.ensures.0)
-    c.in-Disc.disc c.in-Disc.ensures.0
+pub returns-in-Ok-open-clause-step : goal.returns-in-Ok-open-clause-step
+returns-in-Ok-open-clause-step g c s h =
+    press_opened g.D.Sectors g.D.Image.Image s (shape_of c.args.zones c.args.scale c.args.psa) (subst (λ (z : Shape). IsLawful z) c.in-Ok.ensures.0 c.in-Ok.ensures.1)
+    (g.D.Image.Image.bytes c.into_image-image.result) c.press.new.image (c.into_image-image.ensures.left s h)
+    (subst (λ (z : Shape). WhereTold (g.D.Image.Image.bytes c.into_image-image.result) (g.D.Image.Image.bytes c.press.new.image) (IsPressed z)) c.in-Ok.ensures.0 c.in-Done.ensures.0)
+    c.in-Ok-open.disc c.in-Ok-open.ensures.opened
 
-pub returns-in-Refused-clause-step : goal.returns-in-Refused-clause-step
-returns-in-Refused-clause-step g c s h =
+pub returns-in-Err-clause-step : goal.returns-in-Err-clause-step
+returns-in-Err-clause-step g c s h =
     rw c.not_opened.ensures
-    (press_refused g.I.Image s (shape_of c.args.zones c.args.scale c.args.psa) (subst (λ (z : Shape). IsLawful z) c.in-Ok.ensures.0 c.in-Ok.ensures.1)
-    (g.I.Image.bytes c.into_image-image.result) c.press.new.image (c.into_image-image.ensures.left s h)
-    (subst (λ (z : Shape). WhereTold (g.I.Image.bytes c.into_image-image.result) (g.I.Image.bytes c.press.new.image) (IsPressed z)) c.in-Ok.ensures.0 c.in-Done.ensures.0)
-    c.in-Refused.image (g.I.Image.faults c.press.new.image) (g.I.Image.faults c.in-Refused.image) c.in-Refused.fault c.in-Refused.ensures)
+    (press_refused g.D.Sectors g.D.Image.Image s (shape_of c.args.zones c.args.scale c.args.psa) (subst (λ (z : Shape). IsLawful z) c.in-Ok.ensures.0 c.in-Ok.ensures.1)
+    (g.D.Image.Image.bytes c.into_image-image.result) c.press.new.image (c.into_image-image.ensures.left s h)
+    (subst (λ (z : Shape). WhereTold (g.D.Image.Image.bytes c.into_image-image.result) (g.D.Image.Image.bytes c.press.new.image) (IsPressed z)) c.in-Ok.ensures.0 c.in-Done.ensures.0)
+    c.in-Err.image (g.D.Image.Image.faults c.press.new.image) (g.D.Image.Image.faults c.in-Err.image) c.in-Err.fault c.in-Err.ensures)

@@ -10,9 +10,9 @@ loop-more-preserved g c =
     let goes = rw c.in-Goes.is at c.take_turn-next.ensures.goes in
     record {
       between = λ first b. rw c.in-Goes.is at (c.take_turn-next.ensures.turn first (c.loop-more.invariant.between first b));
-      counts = none_fell (counts_of (g.S.Source.faults c.args.script.now) (g.K.Sink.faults c.args.report.now) (held_faults c.args.held))
-          (counts_of (g.S.Source.faults c.loop-more.script) (g.K.Sink.faults c.loop-more.report) (held_faults c.loop-more.held))
-          (counts_of (g.S.Source.faults c.take_turn-next.new.script) (g.K.Sink.faults c.take_turn-next.new.report) (held_faults c.take_turn-next.result.0))
+      counts = none_fell (counts_of (g.S.Source.faults c.args.script.now) (g.K.Sink.faults c.args.report.now) (held_faults g.D.Sectors g.D.Image.Image c.args.held))
+          (counts_of (g.S.Source.faults c.loop-more.script) (g.K.Sink.faults c.loop-more.report) (held_faults g.D.Sectors g.D.Image.Image c.loop-more.held))
+          (counts_of (g.S.Source.faults c.take_turn-next.new.script) (g.K.Sink.faults c.take_turn-next.new.report) (held_faults g.D.Sectors g.D.Image.Image c.take_turn-next.result.0))
           c.loop-more.invariant.counts (rw c.in-Goes.is at c.take_turn-next.ensures.counts);
       room = c.take_turn-next.ensures.room;
       few = omega (arith, takes.0, goes.0, c.loop-more.invariant.few);

@@ -1,7 +1,7 @@
 use Rattle.std.proofs.Common.{refl, ap}
 use Rattle.model_medium.specs.Machine.{Machine}
 use Rattle.ram_run.proofs.Controls.{stands_armed}
-use Rattle.ram_run.proofs.plain.PlainDisc.arm_cut.Goals as goal
+use Rattle.ram_run.proofs.plain.control.PlainDiscDrive.arm_cut.Goals as goal
 
 pub returns-clause-stands : goal.returns-clause-stands
 returns-clause-stands g c s stands = stands_armed c.args.self.now _ c.arm_cut.ensures.same_shape (ap (λ (m : Machine). m.world) c.arm_cut.ensures.rule) refl s stands
