@@ -170,13 +170,13 @@ module _ {D I : Type 0} (drives : Drives D) (images : Images I) (image : I) wher
   -- an image that holds no disc is left as it is
   pub held_unopened : (image' : I) (faults faults' : ℕ) (fault : OpenFault) → IsRefused (images.bytes image) (images.bytes image') faults faults' fault → (fault ≡ faulty.Header) ⊎ ((len : ℕ) × (fault ≡ faulty.Length len))
       → ((bytes : List ℕ) → images.bytes image ≡ Some bytes → IsHeldFirst bytes (Stands drives images (helds.Image image'))) × (faults ≤ faults')
-  held_unopened image' faults faults' fault refused (inl e) = (λ bytes told. without_header bytes told (subst (IsRefused (images.bytes image) (images.bytes image') faults faults') e refused), (subst (IsRefused (images.bytes image) (images.bytes image') faults faults') e refused).0.count)
+  held_unopened image' faults faults' why refused (inl e) = (λ bytes told. without_header bytes told (subst (IsRefused (images.bytes image) (images.bytes image') faults faults') e refused), (subst (IsRefused (images.bytes image) (images.bytes image') faults faults') e refused).0.count)
     where
       without_header : (bytes : List ℕ) → images.bytes image ≡ Some bytes → IsRefused (images.bytes image) (images.bytes image') faults faults' faulty.Header → IsHeldFirst bytes (Stands drives images (helds.Image image'))
       without_header bytes told r =
           let bad : (16 ≤ length bytes) × ((z : Shape) → ¬ HasHeader z bytes) = subst (λ o. IfSome o (λ held. (16 ≤ length held) × ((z : Shape) → ¬ HasHeader z held))) told r.1 in
           record { state = Unopened bytes; first = (refl, λ shape there. bad.1 shape there.has_header); stands = r.0.same ∙ told }
-  held_unopened image' faults faults' fault refused (inr other) = (λ bytes told. of_other_length bytes told (subst (IsRefused (images.bytes image) (images.bytes image') faults faults') other.1 refused), (subst (IsRefused (images.bytes image) (images.bytes image') faults faults') other.1 refused).0.count)
+  held_unopened image' faults faults' why refused (inr other) = (λ bytes told. of_other_length bytes told (subst (IsRefused (images.bytes image) (images.bytes image') faults faults') other.1 refused), (subst (IsRefused (images.bytes image) (images.bytes image') faults faults') other.1 refused).0.count)
     where
       clash : (bytes : List ℕ) (shape : Shape) → other.0 ≡ length bytes → IsDiscImage shape bytes → (other.0 < 16) ⊎ ((z : Shape) × HasHeader z bytes × (other.0 ≢ image_len (total z))) → ⊥
       clash bytes shape long there (inl short) = let whole = there.as_long in omega (arith, long, whole)

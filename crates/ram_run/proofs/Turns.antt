@@ -13,18 +13,18 @@ use Rattle.ram_run.specs.declared.serve.Tally.{Tally}
 use Rattle.ram_run.proofs.Answering.{lacks_same}
 use Rattle.ram_run.specs.Machine.{State}
 use Rattle.ram_run.specs.Held.{IsAnswered}
-use Rattle.ram_run.specs.Run.{Event, answers_of, script_text, report_text, event_text, told_text, ComesNext}
+use Rattle.ram_run.specs.Run.{Event, EndsWithBytes, answers_of, script_text, report_text, event_text, told_text, ComesNext}
 use Rattle.ram_run.specs.Turn.{Beginning, SoFar, Between, Taken, EndsBetween, EndsCutOff, EndsInLine}
 
 -- the script after one line more
-reaches_more : (script text rest raw after : List ℕ) → (script ≡ text ++ rest) ⊎ ((rest ≡ []) × (script ++ line_feed ∷ [] ≡ text)) → (rest ≡ raw ++ (line_feed ∷ after)) ⊎ ((rest ≡ raw) × (0 < length raw) × (after ≡ []))
-    → (script ≡ (text ++ (raw ++ line_feed ∷ [])) ++ after) ⊎ ((after ≡ []) × (script ++ line_feed ∷ [] ≡ text ++ (raw ++ line_feed ∷ [])))
-reaches_more script text rest raw after (inl whole) (inl parts) =
+reaches_more : (ends : Type 0) (script text rest raw after : List ℕ) → (script ≡ text ++ rest) ⊎ ((rest ≡ []) × ends × (script ++ line_feed ∷ [] ≡ text)) → (rest ≡ raw ++ (line_feed ∷ after)) ⊎ ((rest ≡ raw) × (0 < length raw) × (after ≡ []))
+    → (script ≡ (text ++ (raw ++ line_feed ∷ [])) ++ after) ⊎ ((after ≡ []) × (0 < length raw) × (script ++ line_feed ∷ [] ≡ text ++ (raw ++ line_feed ∷ [])))
+reaches_more ends script text rest raw after (inl whole) (inl parts) =
     inl (whole ∙ ap (λ l. text ++ l) (parts ∙ sym (append_assoc raw (line_feed ∷ []) after)) ∙ sym (append_assoc text (raw ++ line_feed ∷ []) after))
-reaches_more script text rest raw after (inl whole) (inr last) =
-    inr (last.2, ap (λ l. l ++ line_feed ∷ []) (whole ∙ ap (λ l. text ++ l) last.0) ∙ append_assoc text raw (line_feed ∷ []))
-reaches_more script text rest raw after (inr ended) (inl parts) = absurd (omega (arith, ap length (sym ended.0 ∙ parts), length-append raw (line_feed ∷ after)))
-reaches_more script text rest raw after (inr ended) (inr last) = absurd (omega (arith, ap length (sym ended.0 ∙ last.0), last.1))
+reaches_more ends script text rest raw after (inl whole) (inr last) =
+    inr (last.2, last.1, ap (λ l. l ++ line_feed ∷ []) (whole ∙ ap (λ l. text ++ l) last.0) ∙ append_assoc text raw (line_feed ∷ []))
+reaches_more ends script text rest raw after (inr ended) (inl parts) = absurd (omega (arith, ap length (sym ended.0 ∙ parts), length-append raw (line_feed ∷ after)))
+reaches_more ends script text rest raw after (inr ended) (inr last) = absurd (omega (arith, ap length (sym ended.0 ∙ last.0), last.1))
 
 -- what is due after one text more
 due_more : (due due' : Option (List ℕ)) (report so_far text : List ℕ) → due ≡ Some (report ++ so_far) → due' ≡ append_known due text → due' ≡ Some (report ++ (so_far ++ text))
@@ -48,7 +48,7 @@ module _ (first : Beginning) (held : State → Type 0) (left due : Option (List 
     rest = t.next.after;
     starts = t.far.starts;
     run = (t.far.now, t.far.run, record { line = t.next.line; reads = t.reads; step = answered.step });
-    lines = reaches_more first.script (script_text t.far.events) t.far.rest t.raw t.next.after t.far.lines t.next.parts;
+    lines = reaches_more (EndsWithBytes t.far.events) first.script (script_text t.far.events) t.far.rest t.raw t.next.after t.far.lines t.next.parts;
   }
 
   -- the line was answered, and the answer is due

@@ -1,4 +1,4 @@
--- What control of the plain disc's medium leaves of what it stands for.
+-- What a failure of a block leaves of what a drive stands for.
 use Rattle.std.specs.Prelude.{List, []}
 use Rattle.model_sectors.specs.Discs.{Standing, Off, candidates}
 use Rattle.ram_medium.specs.declared.control.FailEnd.{FailEnd}

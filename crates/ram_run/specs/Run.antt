@@ -66,9 +66,15 @@ abbrev pub answered_in : List Event → ℕ
 answered_in [] = 0
 answered_in (event ∷ events) = answered_in events + answers_of event.told
 
--- The events took the front of the script, and rest is what follows; the last line may lack its line feed.
+-- the newest of the events took some bytes beside a line feed
+abbrev pub EndsWithBytes : List Event → Type 0
+EndsWithBytes [] = ⊥
+EndsWithBytes (event ∷ events) = 0 < length event.raw
+
+-- The events took the front of the script, and rest is what follows. A last line that is not empty may lack its line
+-- feed.
 abbrev pub Reaches : List ℕ → List Event → List ℕ → Type 0
-Reaches script events rest = (script ≡ script_text events ++ rest) ⊎ ((rest ≡ []) × (script ++ line_feed ∷ [] ≡ script_text events))
+Reaches script events rest = (script ≡ script_text events ++ rest) ⊎ ((rest ≡ []) × EndsWithBytes events × (script ++ line_feed ∷ [] ≡ script_text events))
 
 -- the next line of what is left: it ends with a line feed, or with the script and is not empty then
 pub record IsNextLine (rest raw : List ℕ) : Type 0 where
