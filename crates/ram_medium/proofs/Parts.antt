@@ -1,9 +1,8 @@
 -- Parts of the work on a medium, one after another.
-use Rattle.std.specs.Prelude.{◌≡◌, ℕ, ◌+◌, ◌≤◌, ◌⊎◌, IsTrue, List}
-use Rattle.std.proofs.Common.{sym, ap, ◌∙◌, inl, inr, subst, arith}
+use Rattle.std.specs.Prelude.{◌≡◌, ℕ, ◌+◌, ◌≤◌, IsTrue, List}
+use Rattle.std.proofs.Common.{sym, ap, ◌∙◌, inl, inr, arith}
 use Rattle.model_counts.specs.Counts.{counted}
-use Rattle.model_medium.specs.Cells.{Cell, Torn, Dead, cell_at, IsGood, MayLeave}
-use Rattle.model_medium.specs.World.{World, FailsInRead, FailsInWrite}
+use Rattle.model_medium.specs.World.{World, HasFailed, FailsInRead, FailsInWrite}
 use Rattle.ram_medium.specs.Laws.{MediumLaws}
 use Rattle.ram_medium.specs.Stops.{FailsInUse, Goes, Stops}
 use Rattle.ram_medium.specs.declared.stops.Stop.{Stop}
@@ -11,16 +10,15 @@ use Rattle.ram_medium.specs.declared.stops.Stop.TheVariants as stops
 
 -- a failed read and a failed write are failed uses
 pub read_fails : (old new : World) (block : ℕ) (into into' : List ℕ) → FailsInRead old new block into into' → FailsInUse old new block
-read_fails old new block into into' fails = record { one = fails.one; failed = fails.failed; left = elim fails.left [ inl same ↦ inl same | inr dead ↦ inr (inr (inr dead)) ] }
+read_fails old new block into into' fails = inl (into, into', fails)
 
 pub write_fails : (old new : World) (block : ℕ) (bytes : List ℕ) → FailsInWrite old new block bytes → FailsInUse old new block
-write_fails old new block bytes fails = record { one = fails.one; failed = fails.failed; left = left_by (cell_at new.cells block) fails.left }
-  where
-    left_by : (cell : Cell) → MayLeave (cell_at old.cells block) bytes cell → (cell ≡ cell_at old.cells block) ⊎ IsGood cell ⊎ (cell ≡ Torn) ⊎ (cell ≡ Dead)
-    left_by cell (inl same) = inl same
-    left_by cell (inr (inl good)) = inr (inl (subst IsGood (sym good) tt))
-    left_by cell (inr (inr (inl torn))) = inr (inr (inl torn))
-    left_by cell (inr (inr (inr dead))) = inr (inr (inr dead))
+write_fails old new block bytes fails = inr (bytes, fails)
+
+-- what the medium lies on failed in a use that failed
+pub use_failed : (old new : World) (block : ℕ) → FailsInUse old new block → HasFailed old new
+use_failed old new block (inl read) = read.2.failed
+use_failed old new block (inr write) = write.1.failed
 
 module _ {M : Type 0} (world : M → World) (block_count : M → ℕ) (reaches : M → M → ℕ → Type 0) (laws : MediumLaws world block_count reaches) where
   -- no part at all
@@ -36,6 +34,10 @@ module _ {M : Type 0} (world : M → World) (block_count : M → ℕ) (reaches :
     | inl kept ↦ (sym kept.power_same ∙ one.is_on, kept.no_cut)
     | inr fell ↦ absurd (fell.goes_off one.is_on)
   ]
+
+  -- a use that failed, with none before it
+  pub stops_at_once : (a b : M) (block : ℕ) → FailsInUse (world a) (world b) block → Stops world reaches a b 1 stops.Fault
+  stops_at_once a b block fails = record { mid = a; before = 0; few = omega arith; reach = laws.none a; block = block; fails = fails }
 
   -- a stop after a part that went to its end
   pub stops_later : (a b c : M) (j most : ℕ) (why : Stop) → Goes world reaches a b j → Stops world reaches b c most why → Stops world reaches a c (j + most) why

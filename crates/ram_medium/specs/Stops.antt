@@ -1,6 +1,5 @@
 use Rattle.std.specs.Prelude.{◌≡◌, ℕ, ◌<◌, ◌≤◌, ◌⊎◌, Bool, true, false, IsTrue, MatchBool, Result, Ok, Err, List}
-use Rattle.model_medium.specs.Cells.{Torn, Dead, IsGood, cell_at}
-use Rattle.model_medium.specs.World.{World, IsUse, HasFailed, IsCut, IsOff, ReadsCell, FindsNoBytes, IsCutInRead, FailsInRead, IsCutInWrite, FailsInWrite}
+use Rattle.model_medium.specs.World.{World, IsCut, IsOff, ReadsCell, FindsNoBytes, IsCutInRead, FailsInRead, IsCutInWrite, FailsInWrite}
 use Rattle.model_medium.specs.declared.ReadEnd.{ReadEnd}
 use Rattle.model_medium.specs.declared.ReadEnd.TheVariants as reads
 use Rattle.model_medium.specs.declared.WriteEnd.{WriteEnd}
@@ -8,12 +7,10 @@ use Rattle.model_medium.specs.declared.WriteEnd.TheVariants as writes
 use Rattle.ram_medium.specs.declared.stops.Stop.{Stop}
 use Rattle.ram_medium.specs.declared.stops.Stop.TheVariants as stops
 
--- A use of a block failed, whatever it was: the block's cell is as it was, has whole bytes, or is torn or dead. (This
--- project's own, as all here.)
-pub record FailsInUse (old new : World) (block : ℕ) : Type 0 where
-  pub one : IsUse old new block
-  pub failed : HasFailed old new
-  pub left : (cell_at new.cells block ≡ cell_at old.cells block) ⊎ IsGood (cell_at new.cells block) ⊎ (cell_at new.cells block ≡ Torn) ⊎ (cell_at new.cells block ≡ Dead)
+-- A use of a block failed, by the medium's rule for it: a read of the block, or a write of some bytes. (This project's
+-- own, as all here.)
+abbrev pub FailsInUse : World → World → ℕ → Type 0
+FailsInUse old new block = ((into : List ℕ) × (into' : List ℕ) × FailsInRead old new block into into') ⊎ ((bytes : List ℕ) × FailsInWrite old new block bytes)
 
 -- What a part of the work on a medium did, where `reaches` says what can follow by so many uses that did not fail.
 module _ {M : Type 0} (world : M → World) (reaches : M → M → ℕ → Type 0) where

@@ -19,6 +19,7 @@ use Rattle.ram_medium.specs.declared.control.FailEnd.TheVariants as fails
 use Rattle.ram_medium.specs.declared.control.Arm.{Arm}
 use Rattle.ram_medium.specs.declared.control.Arm.TheVariants as arming
 use Rattle.ram_medium.specs.Control.{FailRule, WearRule}
+use Rattle.ram_medium.proofs.Parts.{use_failed}
 use Rattle.model_medium.specs.declared.WornBlock.{WornBlock}
 use Rattle.ram_mmc.specs.declared.Answer.{Answer}
 use Rattle.ram_mmc.specs.declared.Answer.TheVariants as answers
@@ -166,7 +167,8 @@ module _ (old new : Shown) where
 
   fault_counts : (most : ℕ) → IsStopped old new most stops.Fault → Rose old.medium.world.faults new.medium.world.faults
   fault_counts most stopped =
-      rose_later old.medium.world.faults stopped.stops.mid.world.faults new.medium.world.faults stopped.stops.reach.lasts.never_falls stopped.stops.fails.failed.fault
+      rose_later old.medium.world.faults stopped.stops.mid.world.faults new.medium.world.faults stopped.stops.reach.lasts.never_falls
+      (use_failed stopped.stops.mid.world new.medium.world stopped.stops.block stopped.stops.fails).fault
 
   same_counts : new ≡ old → old.medium.world.faults ≤ new.medium.world.faults
   same_counts same = omega (arith, ap (λ (x : Shown). x.medium.world.faults) same)
@@ -194,7 +196,9 @@ module _ (old new : Shown) where
   power_counts (powers.Ready told) p = p.0.reach.lasts.never_falls
   power_counts powers.NotFormatted p = p.0.reach.lasts.never_falls
   power_counts powers.Cut p = p.stops.reach.lasts.never_falls
-  power_counts powers.Fault p = rose_later old.medium.world.faults p.stops.mid.world.faults new.medium.world.faults p.stops.reach.lasts.never_falls p.stops.fails.failed.fault
+  power_counts powers.Fault p =
+      rose_later old.medium.world.faults p.stops.mid.world.faults new.medium.world.faults p.stops.reach.lasts.never_falls
+      (use_failed p.stops.mid.world new.medium.world p.stops.block p.stops.fails).fault
   power_counts powers.NoMemory p = p.reach.lasts.never_falls
 
   fail_counts : (total block : ℕ) (end : FailEnd) → FailRule total old.medium new.medium block end → OutcomeCount old.medium.world.faults new.medium.world.faults (fail_outcome end)

@@ -20,9 +20,9 @@ use Rattle.ram_run.specs.Blocks.{Stays, OthersSame, IsPut, IsLost, HaltsWriting}
 use Rattle.ram_run.specs.Writing.{rest_uses, laid_in, with_part, IsReady, HaltsAsWas, HasDied, IsPlaced, HaltsPlacing}
 use Rattle.ram_run.proofs.ImageLaws.{image_laws}
 use Rattle.ram_run.proofs.PartBytes.{length_with_part, block_of-with_part, other_block-with_part, laid_whole}
-use Rattle.ram_run.proofs.Reading.{stays_then}
+use Rattle.ram_run.proofs.Reading.{where_told, stays_then}
 use Rattle.ram_run.proofs.ReadEnds.{same_homes}
-use Rattle.ram_run.proofs.Standings.{where_told, buffer_more, home_same, fits_with, fits_still, stops_then}
+use Rattle.ram_run.proofs.Standings.{buffer_more, home_same, fits_with, fits_still, stops_then}
 use Rattle.ram_run.proofs.TouchedTwice.{touched_twice}
 
 good_is_good : (cell : Cell) (bytes : List ℕ) → cell ≡ Good bytes → IsGood cell

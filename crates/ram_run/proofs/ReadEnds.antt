@@ -19,7 +19,7 @@ use Rattle.model_sectors.proofs.Fitting.{fits_kept}
 use Rattle.ram_medium.specs.Stops.{Stops}
 use Rattle.ram_medium.specs.declared.stops.Stop.{Stop}
 use Rattle.ram_medium.specs.declared.stops.Stop.TheVariants as stops
-use Rattle.ram_medium.proofs.Parts.{stops_later, stops_within}
+use Rattle.ram_medium.proofs.Parts.{use_failed, stops_later, stops_within}
 use Rattle.ram_outside.specs.declared.image.Image.{Ghosts}
 use Rattle.ram_image.specs.declared.medium.ImageMedium.{ImageMedium}
 use Rattle.ram_image.specs.Medium.{shape_of_medium, world_of, machine_in, ImageReaches}
@@ -46,7 +46,7 @@ one_more_use b first count k covered not_hand =
     subst (λ (m : ℕ). read_uses b first k + m ≤ read_uses b first count) (cond-false (is_at_hand b first k) 0 1 (false_from_ne_true (is_at_hand b first k) not_hand)) rise
 
 -- a cell that is as it was or dead is as it was or has no whole bytes
-same_or_bad : (old new : Cell) → IsSameOrDead old new → (new ≡ old) ⊎ ¬ IsGood new
+pub same_or_bad : (old new : Cell) → IsSameOrDead old new → (new ≡ old) ⊎ ¬ IsGood new
 same_or_bad old new (inl same) = inl same
 same_or_bad old new (inr dead) = inr (λ good. subst IsGood dead good)
 
@@ -231,10 +231,10 @@ module _ {I : Type 0} {d : Ghosts I} where
   }
 
   -- after a stop with the power on before, it is off
-  stop_off : (a b : ImageMedium I d) (most : ℕ) (why : Stop) → IsTrue (world_of a).power → Stops (λ (m : ImageMedium I d). world_of m) ImageReaches a b most why → ¬ IsTrue (world_of b).power
+  pub stop_off : (a b : ImageMedium I d) (most : ℕ) (why : Stop) → IsTrue (world_of a).power → Stops (λ (m : ImageMedium I d). world_of m) ImageReaches a b most why → ¬ IsTrue (world_of b).power
   stop_off a b most stops.Cut on stop = stop.cut.goes_off
   stop_off a b most stops.Off on stop = absurd (stop.was_off on)
-  stop_off a b most stops.Fault on stop = stop.fails.failed.goes_off
+  stop_off a b most stops.Fault on stop = (use_failed (world_of stop.mid) (world_of b) stop.block stop.fails).goes_off
 
   -- or its read was stopped
   module _ (old mid new last : PlainDisc I d) (lba n k : ℕ) (into into' : List ℕ) (so_far : ReadSoFar old mid lba n k into) (covered : k < blocks_covered lba n)

@@ -2,7 +2,7 @@
 use Rattle.std.specs.Prelude.{◌≡◌, ℕ, ◌-◌, ◌<◌, ◌⊎◌, ◌&&◌, not, nat_lt, if◌then◌else◌, Bool, true, false, IsTrue, Some, List, length}
 use Rattle.std.proofs.Common.{refl, sym, ap, ◌∙◌, inl, inr, subst}
 use Rattle.std.proofs.lemmas.Bool.{both_ways, cond-true, cond-false}
-use Rattle.model_medium.specs.Cells.{Cell, Good, IsGood, IsSameOrDead, cell_at}
+use Rattle.model_medium.specs.Cells.{Cell, Good, cell_at}
 use Rattle.model_buffer.specs.Buffer.{bytes_at, numbers_in, touched_one}
 use Rattle.model_sectors.specs.Discs.{On, Agrees, block_of, home, home_cell}
 use Rattle.model_sectors.specs.Uses.{is_partly, is_buffered, start_in}
@@ -18,7 +18,9 @@ use Rattle.ram_run.specs.Plain.{shown_by, stands_for}
 use Rattle.ram_run.specs.Blocks.{Stays, IsFetched, FromBuffer, FromHome, IsUnread, HaltsReading}
 use Rattle.ram_run.specs.Writing.{IsPart, rest_uses, IsReady, LacksItsRest, HaltsAsWas}
 use Rattle.ram_run.proofs.ImageLaws.{image_laws}
-use Rattle.ram_run.proofs.Standings.{where_told, buffer_more, home_cell_now, fits_still, stays_none}
+use Rattle.ram_run.proofs.Reading.{where_told}
+use Rattle.ram_run.proofs.ReadEnds.{same_or_bad}
+use Rattle.ram_run.proofs.Standings.{buffer_more, home_cell_now, fits_still, stays_none}
 
 -- whether a part is less than its block
 pub partly_is : (lba n : ℕ) (part : Part) (b : Bool) → IsPart lba n part → b ≡ nat_lt (part.end - part.start) 16 → is_partly lba n part.block ≡ b
@@ -38,10 +40,6 @@ rest_missing : (p b : Bool) → p ≡ true → ¬ IsTrue b → ◌≡◌ {A = �
 rest_missing true false e missing = refl
 rest_missing true true e missing = absurd (missing refl)
 rest_missing false b e missing = absurd (both_ways false refl e)
-
-not_good_by : (old new : Cell) → IsSameOrDead old new → (new ≡ old) ⊎ ¬ IsGood new
-not_good_by old new (inl same) = inl same
-not_good_by old new (inr dead) = inr (λ good. subst IsGood dead good)
 
 module _ {I : Type 0} {d : Ghosts I} (old : PlainDisc I d) (lba n block : ℕ) where
   -- a block that the request covers wholly needs no rest
@@ -124,5 +122,5 @@ module _ {I : Type 0} {d : Ghosts I} (old : PlainDisc I d) (lba n block : ℕ) w
           (sym (rest_missing (is_partly lba n block) (is_buffered (numbers_in old.buffer) block) partly halted.not_buffered)) halted.stops;
       others = halted.others;
       keeps = λ disc stands. inl (fits_still old new halted.same_shape block inside halted.others disc
-          (not_good_by (home_cell (shown_by old) block) (home_cell (shown_by new) block) halted.left) stands.agrees.1);
+          (same_or_bad (home_cell (shown_by old) block) (home_cell (shown_by new) block) halted.left) stands.agrees.1);
     }

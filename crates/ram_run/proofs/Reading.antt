@@ -109,9 +109,9 @@ plus_one_some a b e none = omega arith
 agrees_good : (cell : Cell) (held bytes : List ℕ) → cell ≡ Good held → Agrees cell bytes → held ≡ bytes
 agrees_good cell held bytes e agrees = subst (λ (c : Cell). Agrees c bytes) e agrees
 
--- what holds where cells are told
-gives_told : (told : Bool) (P : Type 0) → told ≡ true → OnTrue told P → P
-gives_told told P e gives = subst (λ b. OnTrue b P) e gives
+-- what is so where a medium tells its cells
+pub where_told : (told : Bool) (P : Type 0) → told ≡ true → OnTrue told P → P
+where_told told P e h = subst (λ (b : Bool). OnTrue b P) e h
 
 module _ {I : Type 0} {d : Ghosts I} where
   -- a cell of a home is as it was, where no cell changed
@@ -225,7 +225,7 @@ module _ {I : Type 0} {d : Ghosts I} where
         let hand : is_at_hand (numbers_in old.buffer) (block_with lba) k ≡ false = false_from_ne_true (is_at_hand (numbers_in old.buffer) (block_with lba) k) (not_at_hand from.not_buffered) in
         let one : (if is_at_hand (numbers_in old.buffer) (block_with lba) k then 0 else 1) ≡ 1 = cond-false (is_at_hand (numbers_in old.buffer) (block_with lba) k) 0 1 hand in
         let here : (world_of old.medium).told ≡ true → home_cell (shown_by new) (block_with lba + k) ≡ Good new.block =
-        λ told. gives_told (world_of mid.medium).told (home_cell (shown_by new) (block_with lba + k) ≡ Good new.block) (so_far.stays.as_told ∙ told) from.gives in
+        λ told. where_told (world_of mid.medium).told (home_cell (shown_by new) (block_with lba + k) ≡ Good new.block) (so_far.stays.as_told ∙ told) from.gives in
         record {
           stays = subst (λ (m : ℕ). Stays old new (uses k + m)) (sym one) (stays_then old mid new (uses k) 1 so_far.stays from.stays);
           same_cells = from.same_cells;

@@ -1,6 +1,5 @@
 -- What a plain disc stands for when one home changed.
-use Rattle.std.specs.Prelude.{◌≡◌, ◌≢◌, ℕ, ◌+◌, ◌*◌, ◌<◌, ◌⊎◌, Bool, true, IsTrue, Some, List, length, slice_index}
-use Rattle.std.specs.Bool.{OnTrue}
+use Rattle.std.specs.Prelude.{◌≡◌, ◌≢◌, ℕ, ◌+◌, ◌*◌, ◌<◌, ◌⊎◌, IsTrue, Some, List, length, slice_index}
 use Rattle.std.proofs.Common.{refl, sym, ap, ◌∙◌, inl, inr, subst}
 use Rattle.std.proofs.lemmas.Bool.{cases_eq}
 use Rattle.model_geometry.specs.Geometry.{Shape}
@@ -21,10 +20,6 @@ use Rattle.ram_run.specs.Plain.{shown_by, plain_homes, BufferAgrees}
 use Rattle.ram_run.specs.Blocks.{Stays, OthersSame}
 use Rattle.ram_run.proofs.ImageLaws.{image_laws}
 use Rattle.ram_run.proofs.ReadEnds.{same_homes, other_home_cell}
-
--- what is so where a medium tells its cells
-pub where_told : (told : Bool) (P : Type 0) → told ≡ true → OnTrue told P → P
-where_told told P e h = subst (λ (b : Bool). OnTrue b P) e h
 
 -- the same something is the same inside
 same_inside : (x y : List ℕ) → Some x ≡ Some y → x ≡ y

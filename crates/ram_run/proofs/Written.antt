@@ -27,15 +27,8 @@ use Rattle.ram_run.proofs.Homes.{homes_differ}
 use Rattle.ram_run.proofs.ImageLaws.{image_laws}
 use Rattle.ram_run.proofs.PartBytes.{replaced-with_part}
 use Rattle.ram_run.proofs.Reading.{stays_then}
-use Rattle.ram_run.proofs.ReadEnds.{machine_stops, same_homes, other_home_cell}
+use Rattle.ram_run.proofs.ReadEnds.{machine_stops, same_homes, other_home_cell, stop_off}
 use Rattle.ram_run.proofs.Standings.{home_same, home_cell_now, stays_none, stops_then}
-
--- a stop leaves the power off
-pub stopped_off : {I : Type 0} {d : Ghosts I} (a b : ImageMedium I d) (most : ℕ) (stop : Stop) → Stops (λ (m : ImageMedium I d). world_of m) ImageReaches a b most stop → IsTrue (world_of a).power
-    → ¬ IsTrue (world_of b).power
-stopped_off a b most stops.Cut h on = h.cut.goes_off
-stopped_off a b most stops.Off h on = absurd (h.was_off on)
-stopped_off a b most stops.Fault h on = h.fails.failed.goes_off
 
 -- more blocks take no fewer uses
 pub uses_rise : (b : List ℕ) (lba n k m : ℕ) → k ≤ m → write_uses b lba n k ≤ write_uses b lba n m
@@ -220,7 +213,7 @@ module _ {I : Type 0} {d : Ghosts I} (old : PlainDisc I d) (lba n : ℕ) (bytes 
       is_stopped = record { stops = machine_stops old.medium new.medium (write_uses (numbers_in old.buffer) lba n (blocks_covered lba n)) stop stops_all; dropped = ap numbers_in dropped }
 
       power_off : ¬ IsTrue (world_of new.medium).power
-      power_off = stopped_off old.medium new.medium (write_uses (numbers_in old.buffer) lba n (blocks_covered lba n)) stop stops_all inside.on
+      power_off = stop_off old.medium new.medium (write_uses (numbers_in old.buffer) lba n (blocks_covered lba n)) stop inside.on stops_all
 
       either : (disc : List ℕ) → stands_for old (On disc) → SomeFits (shown_by new) (replaced disc lba bytes (block_with lba + k) ∷ replaced disc lba bytes (block_with lba + k + 1) ∷ [])
       either disc stands =
