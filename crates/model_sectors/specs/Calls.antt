@@ -1,4 +1,4 @@
-use Rattle.std.specs.Prelude.{◌≡◌, ◌≢◌, ℕ, ◌+◌, ◌-◌, ◌<◌, ◌≤◌, ◌⊎◌, true, IsTrue, Option, Some, None, List, [], ◌∷◌, length}
+use Rattle.std.specs.Prelude.{◌≡◌, ◌≢◌, ℕ, ◌+◌, ◌-◌, ◌*◌, ◌<◌, ◌≤◌, ◌⊎◌, true, IsTrue, Option, Some, None, List, [], ◌∷◌, length}
 use Rattle.model_medium.specs.Cells.{Dead, IsGood, IsSameOrDead, cell_at}
 use Rattle.model_medium.specs.Machine.{Machine}
 use Rattle.model_medium.specs.Reach.{Reach}
@@ -6,7 +6,7 @@ use Rattle.ram_medium.specs.Stops.{Stops}
 use Rattle.ram_medium.specs.declared.stops.Stop.{Stop}
 use Rattle.ram_medium.specs.declared.stops.Stop.TheVariants as stops
 use Rattle.model_sectors.specs.Discs.{Standing, On, Off, Shown, sectors_of, replaced, capacity, IsOn, home, home_cell, IsFirstFit, candidates}
-use Rattle.model_sectors.specs.Uses.{block_with, blocks_covered, touched_from, is_buffered, is_at_hand, read_uses, reads_rest, write_uses, touched_refused, IsNamed, mount_uses}
+use Rattle.model_sectors.specs.Uses.{block_with, blocks_covered, start_in, end_in, touched_from, is_buffered, is_at_hand, read_uses, reads_rest, write_uses, touched_refused, IsNamed, mount_uses}
 use Rattle.model_sectors.specs.declared.ReadOut.{ReadOut}
 use Rattle.model_sectors.specs.declared.ReadOut.TheVariants as reads
 use Rattle.model_sectors.specs.declared.WriteOut.{WriteOut}
@@ -92,19 +92,28 @@ abbrev pub OnlyCovered : Shown → Shown → (first : ℕ) → ℕ → Type 0
 OnlyCovered old new first count =
     (block : ℕ) → ((k : ℕ) → k < count → block ≢ home old (first + k)) → cell_at new.medium.world.cells block ≡ cell_at old.medium.world.cells block
 
+-- each cell is as it was, or dead
+abbrev pub OnlyDies : Shown → Shown → Type 0
+OnlyDies old new = (block : ℕ) → IsSameOrDead (cell_at old.medium.world.cells block) (cell_at new.medium.world.cells block)
+
+-- no cell changed but to dead, and none but those of the homes of these logical blocks
+pub record KillsAtMost (old new : Shown) (first count : ℕ) : Type 0 where
+  pub covered : OnlyCovered old new first count
+  pub dies : OnlyDies old new
+
 -- What a read of the disc gives, by its answer, and what the drive stands for then.
 abbrev pub ReadOn : Shown → Shown → (Standing → Type 0) → List ℕ → (lba n : ℕ) → List ℕ → ReadOut → Type 0
 ReadOn old new stands disc lba n into reads.Good =
     (into ≡ sectors_of disc lba n) × AreReadable old new (block_with lba) (blocks_covered lba n)
-    × OnlyCovered old new (block_with lba) (blocks_covered lba n) × stands (On disc)
+    × KillsAtMost old new (block_with lba) (blocks_covered lba n) × stands (On disc)
 ReadOn old new stands disc lba n into reads.NotFormatted = stands (On disc)
 ReadOn old new stands disc lba n into (reads.Range told) = stands (On disc)
 ReadOn old new stands disc lba n into (reads.Unread named block) =
     ¬ IsGood (cell_at new.medium.world.cells block) × AreReadable old new (block_with lba) (block_with named - block_with lba)
-    × OnlyCovered old new (block_with lba) (blocks_covered lba n) × stands (On disc)
-ReadOn old new stands disc lba n into reads.Cut = OnlyCovered old new (block_with lba) (blocks_covered lba n) × stands (Off (disc ∷ []))
+    × KillsAtMost old new (block_with lba) (block_with named - block_with lba + 1) × stands (On disc)
+ReadOn old new stands disc lba n into reads.Cut = KillsAtMost old new (block_with lba) (blocks_covered lba n) × stands (Off (disc ∷ []))
 ReadOn old new stands disc lba n into reads.Off = ⊥
-ReadOn old new stands disc lba n into reads.Fault = OnlyCovered old new (block_with lba) (blocks_covered lba n) × stands (Off (disc ∷ []))
+ReadOn old new stands disc lba n into reads.Fault = KillsAtMost old new (block_with lba) (blocks_covered lba n) × stands (Off (disc ∷ []))
 
 -- What a read does with the power off: it answers so.
 abbrev pub ReadOff : (Standing → Type 0) → List (List ℕ) → ReadOut → Type 0
@@ -170,6 +179,24 @@ pub record StopsInBlock (stands : Standing → Type 0) (disc : List ℕ) (lba n 
   pub covered : block < blocks_covered lba n
   pub either : stands (Off (replaced disc lba bytes (block_with lba + block) ∷ replaced disc lba bytes (block_with lba + block + 1) ∷ []))
 
+-- Two discs, told by runs of their sectors, so many from this one on: they differ in the sectors of the request in this
+-- block, which are as before in the first disc and written in the second. Those in earlier blocks are written in both,
+-- and all others are as before.
+pub record DifferInBlock (disc : List ℕ) (lba n : ℕ) (bytes : List ℕ) (block : ℕ) (old new : List ℕ) : Type 0 where
+  pub as_long : (length old ≡ length disc) × (length new ≡ length disc)
+  pub earlier : (at m : ℕ) → lba ≤ at → at + m ≤ 16 * block → (sectors_of old at m ≡ sectors_of bytes (at - lba) m) × (sectors_of new at m ≡ sectors_of bytes (at - lba) m)
+  pub in_block : (at m : ℕ) → start_in lba block ≤ at → at + m ≤ end_in lba n block → (sectors_of old at m ≡ sectors_of disc at m) × (sectors_of new at m ≡ sectors_of bytes (at - lba) m)
+  pub elsewhere : (at m : ℕ) → (at + m ≤ lba) ⊎ (end_in lba n block ≤ at) → (sectors_of old at m ≡ sectors_of disc at m) × (sectors_of new at m ≡ sectors_of disc at m)
+
+-- What a drive stands for is two discs that differ in one block of the request: the old one first, then the new one.
+pub record IsOldOrNew (standing : Standing) (disc : List ℕ) (lba n : ℕ) (bytes : List ℕ) : Type 0 where
+  pub block : ℕ
+  pub covered : block < blocks_covered lba n
+  pub old : List ℕ
+  pub new : List ℕ
+  pub either : Off (old ∷ new ∷ []) ≡ standing
+  pub differ : DifferInBlock disc lba n bytes (block_with lba + block) old new
+
 -- What a write of these bytes makes of the disc, by its answer.
 abbrev pub WriteOn : Shown → Shown → (Standing → Type 0) → List ℕ → (lba n : ℕ) → List ℕ → WriteOut → Type 0
 WriteOn old new stands disc lba n bytes writes.Good =
@@ -179,12 +206,12 @@ WriteOn old new stands disc lba n bytes writes.NotFormatted = stands (On disc)
 WriteOn old new stands disc lba n bytes (writes.Range told) = stands (On disc)
 WriteOn old new stands disc lba n bytes (writes.Unread named block) =
     ¬ IsGood (cell_at new.medium.world.cells block) × IsSameOrDead (cell_at old.medium.world.cells block) (cell_at new.medium.world.cells block)
-    × OnlyCovered old new (block_with lba) (blocks_covered lba n) × stands (On (replaced disc lba bytes (block_with named)))
+    × OnlyCovered old new (block_with lba) (block_with named - block_with lba + 1) × stands (On (replaced disc lba bytes (block_with named)))
 WriteOn old new stands disc lba n bytes (writes.NoSpare named) =
-    (home_cell new (block_with named) ≡ Dead) × OnlyCovered old new (block_with lba) (blocks_covered lba n) × stands (On (replaced disc lba bytes (block_with named)))
-WriteOn old new stands disc lba n bytes writes.Cut = OnlyCovered old new (block_with lba) (blocks_covered lba n) × StopsInBlock stands disc lba n bytes
+    (home_cell new (block_with named) ≡ Dead) × OnlyCovered old new (block_with lba) (block_with named - block_with lba + 1) × stands (On (replaced disc lba bytes (block_with named)))
+WriteOn old new stands disc lba n bytes writes.Cut = (stopped : StopsInBlock stands disc lba n bytes) × OnlyCovered old new (block_with lba) (stopped.block + 1)
 WriteOn old new stands disc lba n bytes writes.Off = ⊥
-WriteOn old new stands disc lba n bytes writes.Fault = OnlyCovered old new (block_with lba) (blocks_covered lba n) × StopsInBlock stands disc lba n bytes
+WriteOn old new stands disc lba n bytes writes.Fault = (stopped : StopsInBlock stands disc lba n bytes) × OnlyCovered old new (block_with lba) (stopped.block + 1)
 
 -- What a write does with the power off: it answers so.
 abbrev pub WriteOff : (Standing → Type 0) → List (List ℕ) → WriteOut → Type 0

@@ -58,9 +58,9 @@ module _ (old new : Shown) (after : Standing → Type 0) where
   write_found (On disc) lba n bytes (writes.Range told) p = (On disc, p, refl)
   write_found (On disc) lba n bytes (writes.Unread named block) p = (_, p.3, (p.0, p.1, p.2, refl))
   write_found (On disc) lba n bytes (writes.NoSpare named) p = (_, p.2, (p.0, p.1, refl))
-  write_found (On disc) lba n bytes writes.Cut p = (_, p.1.either, (p.0, record { block = p.1.block; covered = p.1.covered; either = refl }))
+  write_found (On disc) lba n bytes writes.Cut p = (_, p.0.either, (record { block = p.0.block; covered = p.0.covered; either = refl }, p.1))
   write_found (On disc) lba n bytes writes.Off p = absurd p
-  write_found (On disc) lba n bytes writes.Fault p = (_, p.1.either, (p.0, record { block = p.1.block; covered = p.1.covered; either = refl }))
+  write_found (On disc) lba n bytes writes.Fault p = (_, p.0.either, (record { block = p.0.block; covered = p.0.covered; either = refl }, p.1))
   write_found (Off discs) lba n bytes writes.Good p = absurd p
   write_found (Off discs) lba n bytes writes.NotFormatted p = absurd p
   write_found (Off discs) lba n bytes (writes.Range told) p = absurd p

@@ -1,5 +1,5 @@
 -- How a write of a request goes, block after block.
-use Rattle.std.specs.Prelude.{◌≡◌, ℕ, zero, suc, ◌+◌, ◌*◌, ◌<◌, ◌≤◌, ◌&&◌, not, if◌then◌else◌, Bool, true, false, IsTrue, List, [], ◌∷◌, length, slice_index}
+use Rattle.std.specs.Prelude.{◌≡◌, ℕ, zero, suc, ◌+◌, ◌-◌, ◌*◌, ◌<◌, ◌≤◌, ◌&&◌, not, if◌then◌else◌, Bool, true, false, IsTrue, List, [], ◌∷◌, length, slice_index}
 use Rattle.std.proofs.Common.{refl, sym, ap, ◌∙◌, inl, inr, subst, arith, add-one}
 use Rattle.std.proofs.lemmas.Bool.{cases_eq, both_ways}
 use Rattle.model_geometry.specs.Geometry.{total}
@@ -108,16 +108,16 @@ module _ {I : Type 0} {d : Ghosts I} (old : PlainDisc I d) (lba n : ℕ) (bytes 
         apart : (j : ℕ) → j < k → block_with lba + k ≡ block_with lba + j → ⊥
         apart j h e = omega arith
 
-    -- no cell changed but those of the homes of the covered blocks
-    only_next : (new : PlainDisc I d) → OthersSame mid new (block_with lba + k) → OnlyCovered (shown_by old) (shown_by new) (block_with lba) (blocks_covered lba n)
-    only_next new others = λ block apart. (others block (λ e. apart k covered (e ∙ home_mid)) ∙ w.others block (λ j h. apart j (omega arith)))
+    -- no cell changed but those of the homes of these blocks and the next one
+    only_next : (new : PlainDisc I d) → OthersSame mid new (block_with lba + k) → OnlyCovered (shown_by old) (shown_by new) (block_with lba) (k + 1)
+    only_next new others = λ block apart. (others block (λ e. apart k (omega arith) (e ∙ home_mid)) ∙ w.others block (λ j h. apart j (omega arith)))
 
     -- the next block was written
     pub written_more : (new : PlainDisc I d) → IsPlaced mid new lba n bytes (block_with lba + k) → HasWritten old new lba n bytes (k + 1)
     written_more new p = record {
       stays = subst (Stays old new) uses_next (stays_then old mid new (write_uses (numbers_in old.buffer) lba n k) (rest_uses (numbers_in mid.buffer) lba n (block_with lba + k) + 2) w.stays p.stays);
       buffered = p.buffered ∙ ap (λ b. touched_one b (block_with lba + k)) w.buffered ∙ ap (touched_from (numbers_in old.buffer) (block_with lba)) (sym (add-one k));
-      others = λ block apart. (p.others block (λ e. apart k (omega arith) (e ∙ home_mid)) ∙ w.others block (λ j h. apart j (omega arith)));
+      others = only_next new p.others;
       good = λ told j h. elim (cases_eq j k) [
         | inl e ↦ subst (λ (i : ℕ). IsGood (home_cell (shown_by new) (block_with lba + i))) (sym e) (p.good (w.stays.as_told ∙ told))
         | inr ne ↦
@@ -139,6 +139,11 @@ module _ {I : Type 0} {d : Ghosts I} (old : PlainDisc I d) (lba n : ℕ) (bytes 
     module _ (named : ℕ) (named_is : named ≡ start_in lba (block_with lba + k)) (new : PlainDisc I d) where
       named_block : block_with named ≡ block_with lba + k
       named_block = ap block_with named_is ∙ block_with_start lba n k covered
+
+      only_named : OthersSame mid new (block_with lba + k) → OnlyCovered (shown_by old) (shown_by new) (block_with lba) (block_with named - block_with lba + 1)
+      only_named others =
+          let many : block_with named - block_with lba + 1 ≡ k + 1 = omega (arith, named_block) in
+          subst (OnlyCovered (shown_by old) (shown_by new) (block_with lba)) (sym many) (only_next new others)
 
       -- the rest of the next block cannot be read
       module _ (p : LacksItsRest mid new lba n (block_with lba + k)) (block : ℕ) (block_is : block ≡ home (shown_by new) (block_with lba + k)) where
@@ -171,7 +176,7 @@ module _ {I : Type 0} {d : Ghosts I} (old : PlainDisc I d) (lba n : ℕ) (bytes 
           subst (λ (cell : Cell). ¬ IsGood cell) (sym cell_new) p.not_good,
           subst (λ (cell : Cell). IsSameOrDead (cell_at (world_of old.medium).cells block) cell) (sym cell_new)
               (subst (λ (cell : Cell). IsSameOrDead cell (home_cell (shown_by new) (block_with lba + k))) (sym cell_old) p.left),
-          only_next new p.others,
+          only_named p.others,
           subst (λ (b : ℕ). stands_for new (On (replaced disc lba bytes b))) (sym named_block) (p.keeps (replaced disc lba bytes (block_with lba + k)) (w.makes disc stands)),
         ))
 
@@ -195,7 +200,7 @@ module _ {I : Type 0} {d : Ghosts I} (old : PlainDisc I d) (lba n : ℕ) (bytes 
         pub died_step : (s : Standing) → stands_for old s → WriteStep (shown_by old) (shown_by new) (stands_for new) s lba n bytes (writes.NoSpare named)
         died_step = step_by new (writes.NoSpare named) (λ disc stands. (
           ap (home_cell (shown_by new)) named_block ∙ p.dead,
-          only_next new p.others,
+          only_named p.others,
           subst (λ (b : ℕ). stands_for new (On (replaced disc lba bytes b))) (sym named_block) (p.keeps (replaced disc lba bytes (block_with lba + k)) (w.makes disc stands)),
         ))
 
@@ -223,19 +228,22 @@ module _ {I : Type 0} {d : Ghosts I} (old : PlainDisc I d) (lba n : ℕ) (bytes 
           (λ i h. inl (ap (λ (m : ImageMedium I d). cell_at (world_of m).cells (slice_index (plain_homes (shape_of_medium m)) i)) same))
           (p.leaves (replaced disc lba bytes (block_with lba + k)) (w.makes disc stands)))
 
-      only_new : OnlyCovered (shown_by old) (shown_by new) (block_with lba) (blocks_covered lba n)
+      only_new : OnlyCovered (shown_by old) (shown_by new) (block_with lba) (k + 1)
       only_new = λ block apart. (ap (λ (m : ImageMedium I d). cell_at (world_of m).cells block) same ∙ only_next halted p.others block apart)
 
-      in_block : (disc : List ℕ) → stands_for old (On disc) → StopsInBlock (stands_for new) disc lba n bytes
-      in_block disc stands = record {
-        block = k;
-        covered = covered;
-        either = record {
-          told = ap (λ (m : ImageMedium I d). (world_of m).told) same ∙ p.as_told ∙ w.stays.as_told ∙ stands.told;
-          agrees = (power_off, either disc stands);
-          buffered = dropped;
-        };
-      }
+      in_block : (disc : List ℕ) → stands_for old (On disc) → (stopped : StopsInBlock (stands_for new) disc lba n bytes) × OnlyCovered (shown_by old) (shown_by new) (block_with lba) (stopped.block + 1)
+      in_block disc stands = (
+        record {
+          block = k;
+          covered = covered;
+          either = record {
+            told = ap (λ (m : ImageMedium I d). (world_of m).told) same ∙ p.as_told ∙ w.stays.as_told ∙ stands.told;
+            agrees = (power_off, either disc stands);
+            buffered = dropped;
+          };
+        },
+        only_new,
+      )
 
     pub halted_cause : (halted new : PlainDisc I d) (stop : Stop) → HaltsPlacing mid halted lba n bytes (block_with lba + k) stop → new.medium ≡ halted.medium → new.buffer ≡ []
         → WriteCause (shown_by old) (shown_by new) lba n (write_stopped_by stop)
@@ -245,6 +253,6 @@ module _ {I : Type 0} {d : Ghosts I} (old : PlainDisc I d) (lba n : ℕ) (bytes 
 
     pub halted_step : (halted new : PlainDisc I d) (stop : Stop) → HaltsPlacing mid halted lba n bytes (block_with lba + k) stop → new.medium ≡ halted.medium → new.buffer ≡ []
         → (s : Standing) → stands_for old s → WriteStep (shown_by old) (shown_by new) (stands_for new) s lba n bytes (write_stopped_by stop)
-    halted_step halted new stops.Cut p same dropped = step_by new writes.Cut (λ disc stands. (only_new halted new stops.Cut p same dropped, in_block halted new stops.Cut p same dropped disc stands))
+    halted_step halted new stops.Cut p same dropped = step_by new writes.Cut (in_block halted new stops.Cut p same dropped)
     halted_step halted new stops.Off p same dropped = absurd (p.stops.was_off w.stays.on)
-    halted_step halted new stops.Fault p same dropped = step_by new writes.Fault (λ disc stands. (only_new halted new stops.Fault p same dropped, in_block halted new stops.Fault p same dropped disc stands))
+    halted_step halted new stops.Fault p same dropped = step_by new writes.Fault (in_block halted new stops.Fault p same dropped)
