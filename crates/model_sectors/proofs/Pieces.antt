@@ -6,6 +6,7 @@ use Rattle.model_bytes.specs.Bytes.{put_at}
 use Rattle.model_bytes.proofs.Laws.{length-put_at, drop-put_at, range-put_at, other_range-put_at, take-put_at-end, drop-put_at-start}
 use Rattle.model_sectors.specs.Discs.{sectors_of, block_of, replaced}
 use Rattle.model_sectors.specs.Uses.{start_in, end_in}
+use Rattle.model_sectors.specs.Calls.{DifferInBlock}
 
 -- a piece of a piece is a piece
 pub piece_of_piece : (place many low n : ℕ) (d : List ℕ) → low + n ≤ many → take n (drop low (take many (drop place d))) ≡ take n (drop (place + low) d)
@@ -282,3 +283,26 @@ other_sectors_replaced d blocks lba n bytes block at m whole inside long apart =
           ])
       | inr none ↦ ap (λ (l : List ℕ). take (2048 * m) (drop (2048 * at) l)) (replaced_none d lba bytes block none)
     ]
+
+-- what is written before a block, and what is written up to its end, differ in that block
+pub differ_in_block : (d : List ℕ) (blocks lba n : ℕ) (bytes : List ℕ) (block : ℕ) → length bytes ≡ 2048 * n → lba + n ≤ 16 * blocks → length d ≡ 32768 * blocks
+    → start_in lba block < end_in lba n block → DifferInBlock d lba n bytes block (replaced d lba bytes block) (replaced d lba bytes (block + 1))
+unfolding sectors_of
+differ_in_block d blocks lba n bytes block whole inside long covered = record {
+  as_long = (length_replaced d blocks lba n bytes block whole inside long, length_replaced d blocks lba n bytes (block + 1) whole inside long);
+  earlier = λ at m from before. (written block at m from before (omega arith), written (block + 1) at m from (omega arith) (omega arith));
+  in_block = λ at m from within. (as_before block at m (inr (inr (omega arith))), written (block + 1) at m (omega arith) (omega arith) (omega arith));
+  elsewhere = λ at m apart. elim apart [
+    | inl below ↦ (as_before block at m (inl below), as_before (block + 1) at m (inl below))
+    | inr above ↦ elim (cases_lt at (lba + n)) [
+      | inl within ↦ (as_before block at m (inr (inr (omega arith))), as_before (block + 1) at m (inr (inr (omega arith))))
+      | inr past ↦ (as_before block at m (inr (inl past)), as_before (block + 1) at m (inr (inl past)))
+    ]
+  ];
+}
+  where
+    written : (past at m : ℕ) → lba ≤ at → at + m ≤ 16 * past → at + m ≤ lba + n → sectors_of (replaced d lba bytes past) at m ≡ sectors_of bytes (at - lba) m
+    written past at m from before within = sectors_replaced d blocks lba n bytes past at m whole inside long from before within
+
+    as_before : (past at m : ℕ) → (at + m ≤ lba) ⊎ (lba + n ≤ at) ⊎ (16 * past ≤ at) → sectors_of (replaced d lba bytes past) at m ≡ sectors_of d at m
+    as_before past at m apart = other_sectors_replaced d blocks lba n bytes past at m whole inside long apart

@@ -1,9 +1,9 @@
 ghost use Rattle.std.specs.Prelude.{◌≡◌, ℕ, ◌+◌, ◌-◌, ◌*◌, ◌<◌, ◌≤◌, ◌⊎◌, List, length, take, drop};
 ghost use Rattle.model_buffer.specs.declared.TheConstants.{BUFFERED_BLOCKS};
-ghost use Rattle.model_sectors.specs.Discs.{Shown, home, home_cell, sectors_of, replaced, Fits, SomeFits, IsFirstFit};
+ghost use Rattle.model_sectors.specs.Discs.{Standing, Shown, home, home_cell, sectors_of, replaced, Fits, SomeFits, IsFirstFit};
 ghost use Rattle.model_sectors.specs.Uses.{block_with, blocks_covered, read_uses};
 ghost use Rattle.model_medium.specs.Cells.{cell_at};
-ghost use Rattle.model_sectors.specs.Calls.{AreBuffered, OnlyCovered};
+ghost use Rattle.model_sectors.specs.Calls.{AreBuffered, OnlyCovered, StopsInBlock, IsOldOrNew};
 
 /// The sectors that are replaced read back as the bytes that were written, and the others as before.
 pub fn what_is_replaced_reads_back()
@@ -21,6 +21,13 @@ pub fn what_is_replaced_reads_back()
 pub fn some_disc_fits_first()
     ensures found { (shown : Shown) (discs : List (List ℕ)) → SomeFits shown discs → (disc : List ℕ) × IsFirstFit shown discs disc × Fits shown disc }
     ensures alone { (shown : Shown) (discs : List (List ℕ)) (disc other : List ℕ) → IsFirstFit shown discs disc → IsFirstFit shown discs other → disc ≡ other }
+{}
+
+/// A write that was stopped leaves two discs: in one block of the request the first is as before and the second as
+/// written. Both are as written in the blocks before it, and as before elsewhere.
+pub fn a_stopped_write_leaves_two_discs()
+    ensures { (after : Standing) (disc : List ℕ) (blocks lba n : ℕ) (bytes : List ℕ) → length bytes ≡ 2048 * n → lba + n ≤ 16 * blocks
+        → length disc ≡ 32768 * blocks → StopsInBlock (λ standing. standing ≡ after) disc lba n bytes → IsOldOrNew after disc lba n bytes }
 {}
 
 /// A read of blocks that are all buffered takes no use of the medium.

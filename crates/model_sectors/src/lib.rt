@@ -4,7 +4,10 @@
 
 mod laws;
 
-pub use laws::{buffered_blocks_take_no_use, some_disc_fits_first, what_is_replaced_reads_back};
+pub use laws::{
+    a_stopped_write_leaves_two_discs, buffered_blocks_take_no_use, some_disc_fits_first,
+    uncovered_homes_stay, what_is_replaced_reads_back,
+};
 
 /// How a read of sectors ended.
 #[derive(Clone, Copy, Debug, PartialEq, Eq)]
