@@ -1,7 +1,8 @@
 -- The bytes of a request that lie in one block, in the block and in the disc.
-use Rattle.std.specs.Prelude.{◌≡◌, ◌≢◌, ℕ, ◌+◌, ◌-◌, ◌*◌, ◌<◌, ◌≤◌, ◌⊎◌, IsTrue, List, length, take, drop}
+use Rattle.std.specs.Prelude.{◌≡◌, ◌≢◌, ℕ, ◌+◌, ◌-◌, ◌*◌, ◌<◌, ◌≤◌, ◌⊎◌, IsTrue, List, ◌++◌, length, take, drop}
 use Rattle.std.proofs.Common.{sym, ap, ◌∙◌, inl, inr, arith}
 use Rattle.std.proofs.lemmas.Bool.{cases_lt}
+use Rattle.std.proofs.Math.Seq.{take-append_seam}
 use Rattle.model_bytes.specs.Bytes.{put_at}
 use Rattle.model_bytes.proofs.Laws.{length-put_at, other_range-put_at}
 use Rattle.model_sectors.specs.Discs.{block_of, replaced}
@@ -63,6 +64,11 @@ pub replaced-with_part : (disc : List ℕ) (blocks lba n : ℕ) (bytes : List �
     → length disc ≡ 32768 * blocks → replaced disc lba bytes (block + 1) ≡ with_part lba n bytes block (replaced disc lba bytes block)
 unfolding with_part part_of
 replaced-with_part disc blocks lba n bytes block covered whole inside long = replaced_step disc blocks lba n bytes block covered whole inside long
+
+-- bytes as many as a list has, written over it, are what it has then
+pub written_back : (held written : List ℕ) → length written ≡ length held → take (length held) (written ++ drop (length written) held) ≡ written
+written_back held written whole =
+    ap (λ (n : ℕ). take n (written ++ drop (length written) held)) (sym whole) ∙ take-append_seam written (drop (length written) held)
 
 -- the same by the numbers of a part
 pub laid_by : (lba n : ℕ) (bytes : List ℕ) (part : Part) (held new : List ℕ) → IsPart lba n part

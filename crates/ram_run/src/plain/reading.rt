@@ -16,7 +16,7 @@ use ram_outside::Image;
 use ram_sectors::ReadOut;
 
 /// Puts bytes among others, from byte `at` on.
-fn put_bytes(into: &mut [u8], at: usize, from: &[u8])
+pub(super) fn put_bytes(into: &mut [u8], at: usize, from: &[u8])
     requires { at + length from.now ≤ length into.old }
     ensures { into.new ≡ put_at at from.now into.old }
 {

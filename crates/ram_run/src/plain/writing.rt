@@ -1,5 +1,4 @@
 ghost use Rattle.std.specs.Prelude.{◌≡◌, ◌*◌, ◌+◌, ◌^◌, ◌≤◌, [], length, MatchResult};
-ghost use Rattle.model_bytes.specs.Bytes.{put_at};
 ghost use Rattle.model_sectors.specs.Discs.{Standing, IsOn, capacity};
 ghost use Rattle.model_sectors.specs.Calls.{IsInRange, WriteCause, WriteStep};
 ghost use Rattle.ram_bytes.specs.declared.block.TheConstants.{BLOCK_BYTES};
@@ -8,6 +7,7 @@ ghost use Rattle.ram_run.specs.Plain.{shown_by, stands_for};
 ghost use Rattle.ram_run.specs.Writing.{IsPart, laid_in, MakesReady, HaltsAsWas, Places, HaltsPlacing, write_stopped_by};
 
 use super::PlainDisc;
+use super::reading::put_bytes;
 use super::request::{Part, Request};
 use ram_bytes::{Block, SECTOR_BYTES, SECTORS_PER_BLOCK};
 use ram_medium::{Medium, Stop};
@@ -25,16 +25,6 @@ pub enum Placed {
     Dead,
 }
 
-/// Puts bytes into a block, from byte `at` on.
-fn put_bytes(block: &mut Block, at: usize, from: &[u8])
-    requires { at + length from.now ≤ 32768 }
-    ensures put { block.new ≡ put_at at from.now block.old }
-    ensures len { length block.old ≡ BLOCK_BYTES }
-{
-    let bytes = block.bytes_mut();
-    bytes[at..at + from.len()].copy_from_slice(from);
-}
-
 /// Lays a part of a request into its block.
 fn lay(block: &mut Block, request: Request, part: Part, from: &[u8])
     requires few { request.n ≤ 1024 }
@@ -46,7 +36,8 @@ fn lay(block: &mut Block, request: Request, part: Part, from: &[u8])
     let at = SECTOR_BYTES * (part.start - SECTORS_PER_BLOCK as u32 * part.block) as usize;
     let first = SECTOR_BYTES * (part.start - request.lba) as usize;
     let len = SECTOR_BYTES * (part.end - part.start) as usize;
-    put_bytes(block, at, &from[first..first + len]);
+    let bytes = block.bytes_mut();
+    put_bytes(bytes, at, &from[first..first + len]);
 }
 
 impl<I: Image> PlainDisc<I> {
