@@ -21,7 +21,8 @@ use Rattle.ram_medium.specs.declared.control.Arm.TheVariants as arming
 use Rattle.ram_outside.specs.declared.image.Image.{Ghosts}
 use Rattle.ram_image.specs.Medium.{shape_of_medium, world_of, machine_in}
 use Rattle.ram_run.specs.declared.plain.PlainDisc.{PlainDisc}
-use Rattle.ram_run.specs.Plain.{shown_by, plain_homes, BufferAgrees, stands_for}
+use Rattle.ram_run.specs.Homes.{plain_homes}
+use Rattle.ram_run.specs.Plain.{shown_by, BufferAgrees, stands_for}
 use Rattle.ram_run.specs.Control.{buffer_after_fail, stands_after_fail}
 use Rattle.ram_run.proofs.ImageLaws.{image_laws}
 

@@ -15,7 +15,8 @@ use Rattle.ram_medium.specs.declared.stops.Stop.TheVariants as stops
 use Rattle.ram_outside.specs.declared.image.Image.{Ghosts}
 use Rattle.ram_image.specs.Medium.{shape_of_medium, world_of, ImageReaches}
 use Rattle.ram_run.specs.declared.plain.PlainDisc.{PlainDisc}
-use Rattle.ram_run.specs.Plain.{shown_by, plain_homes}
+use Rattle.ram_run.specs.Homes.{plain_homes}
+use Rattle.ram_run.specs.Plain.{shown_by}
 use Rattle.ram_run.specs.Blocks.{Stays, OthersSame, IsFetched, IsUnread, HaltsReading}
 
 module _ {I : Type 0} {d : Ghosts I} (old new : PlainDisc I d) (i block : ℕ) (place : block ≡ home (shown_by old) i) (same : shape_of_medium new.medium ≡ shape_of_medium old.medium)

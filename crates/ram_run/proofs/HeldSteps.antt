@@ -12,7 +12,7 @@ use Rattle.ram_run.specs.declared.held.Outcome.{Outcome}
 use Rattle.ram_run.specs.Drive.{DriveLaws}
 use Rattle.ram_run.specs.Machine.{State, Loaded, Unopened, Disc, IsIn, DiscRule, DiscStep, OnDisc, Step}
 use Rattle.ram_run.specs.Held.{Stands, NeedsDisc, IsAnswered}
-use Rattle.ram_run.proofs.Founds.{rule_found}
+use Rattle.ram_run.proofs.StatesAfter.{rule_found}
 
 module _ {D I : Type 0} (drives : Drives D) (images : Images I) (laws : SectorsLaws drives.shows drives.stands) (drive_laws : DriveLaws drives.shape drives.shows) (old new : D) (line : Line) (payload : List ℕ) (outcome : Outcome) (reply : List ℕ)
     (rule : DiscRule (drives.shows old) (drives.shows new) (drives.stands old) (drives.stands new) (total (drives.shape old)) line payload outcome reply) (same_shape : drives.shape new ≡ drives.shape old) where

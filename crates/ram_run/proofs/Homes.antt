@@ -8,7 +8,7 @@ use Rattle.model_geometry.specs.Geometry.{Shape, IsLawful, data_blocks, formatta
 use Rattle.model_geometry.proofs.Zones.{total_most}
 use Rattle.model_geometry.proofs.DataBlocks.{Contains-slice_get, no_data_block_outside, data_blocks_rise, length-data_blocks}
 use Rattle.model_sectors.proofs.Apart.{apart_behind}
-use Rattle.ram_run.specs.Plain.{plain_homes}
+use Rattle.ram_run.specs.Homes.{plain_homes}
 
 -- a logical block has a data block behind the primary spares
 pub home_place : (shape : Shape) (i : ℕ) → i < length (plain_homes shape) → shape.psa + i < length (data_blocks shape)

@@ -12,13 +12,13 @@ pub mod Readies
 pub mod TouchedTwice
 pub mod Placing
 pub mod Written
-pub mod Founds
+pub mod StatesAfter
 pub mod HeldSteps
 pub mod Opens
 pub mod Answering
 pub mod Completes
 pub mod Turns
-pub mod Takings
+pub mod LinesTaken
 pub mod CountsRise
 pub mod Finishes
 pub mod Few

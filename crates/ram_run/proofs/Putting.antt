@@ -15,7 +15,8 @@ use Rattle.ram_medium.proofs.Parts.{goes_then, stops_later, stops_within}
 use Rattle.ram_image.specs.declared.medium.ImageMedium.{ImageMedium}
 use Rattle.ram_image.specs.Medium.{shape_of_medium, world_of, ImageReaches}
 use Rattle.ram_run.specs.declared.plain.PlainDisc.{PlainDisc}
-use Rattle.ram_run.specs.Plain.{shown_by, plain_homes}
+use Rattle.ram_run.specs.Homes.{plain_homes}
+use Rattle.ram_run.specs.Plain.{shown_by}
 use Rattle.ram_run.specs.Blocks.{OthersSame, IsPut, IsLost, HaltsWriting}
 use Rattle.ram_run.proofs.ImageLaws.{image_laws}
 

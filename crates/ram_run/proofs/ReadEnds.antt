@@ -24,7 +24,8 @@ use Rattle.ram_outside.specs.declared.image.Image.{Ghosts}
 use Rattle.ram_image.specs.declared.medium.ImageMedium.{ImageMedium}
 use Rattle.ram_image.specs.Medium.{shape_of_medium, world_of, machine_in, ImageReaches}
 use Rattle.ram_run.specs.declared.plain.PlainDisc.{PlainDisc}
-use Rattle.ram_run.specs.Plain.{shown_by, plain_homes, BufferAgrees, stands_for}
+use Rattle.ram_run.specs.Homes.{plain_homes}
+use Rattle.ram_run.specs.Plain.{shown_by, BufferAgrees, stands_for}
 use Rattle.ram_run.specs.Blocks.{OthersSame, IsUnread, HaltsReading}
 use Rattle.ram_run.specs.Reading.{unread_at, read_stopped_by}
 use Rattle.ram_run.proofs.Homes.{homes_differ}

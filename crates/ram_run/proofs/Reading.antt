@@ -20,7 +20,8 @@ use Rattle.ram_image.specs.declared.medium.ImageMedium.{ImageMedium}
 use Rattle.ram_image.specs.Medium.{shape_of_medium, world_of, ImageReaches}
 use Rattle.ram_run.specs.declared.plain.PlainDisc.{PlainDisc}
 use Rattle.ram_run.specs.declared.plain.request.Part.{Part}
-use Rattle.ram_run.specs.Plain.{shown_by, plain_homes, BufferAgrees, stands_for}
+use Rattle.ram_run.specs.Homes.{plain_homes}
+use Rattle.ram_run.specs.Plain.{shown_by, BufferAgrees, stands_for}
 use Rattle.ram_run.specs.Blocks.{Stays, FromBuffer, FromHome, IsFetched}
 use Rattle.ram_run.specs.Reading.{taken_from, filled_by, IsCopied}
 use Rattle.ram_run.proofs.ImageLaws.{image_laws}

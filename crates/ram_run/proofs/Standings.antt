@@ -16,7 +16,8 @@ use Rattle.model_geometry.specs.Geometry.{total}
 use Rattle.ram_image.specs.declared.medium.ImageMedium.{ImageMedium}
 use Rattle.ram_image.specs.Medium.{shape_of_medium, world_of, ImageReaches}
 use Rattle.ram_run.specs.declared.plain.PlainDisc.{PlainDisc}
-use Rattle.ram_run.specs.Plain.{shown_by, plain_homes, BufferAgrees}
+use Rattle.ram_run.specs.Homes.{plain_homes}
+use Rattle.ram_run.specs.Plain.{shown_by, BufferAgrees}
 use Rattle.ram_run.specs.Blocks.{Stays, OthersSame}
 use Rattle.ram_run.proofs.ImageLaws.{image_laws}
 use Rattle.ram_run.proofs.ReadEnds.{same_homes, other_home_cell}

@@ -20,7 +20,8 @@ use Rattle.ram_medium.proofs.Parts.{stops_within}
 use Rattle.ram_image.specs.declared.medium.ImageMedium.{ImageMedium}
 use Rattle.ram_image.specs.Medium.{shape_of_medium, world_of, ImageReaches}
 use Rattle.ram_run.specs.declared.plain.PlainDisc.{PlainDisc}
-use Rattle.ram_run.specs.Plain.{shown_by, stands_for, plain_homes}
+use Rattle.ram_run.specs.Homes.{plain_homes}
+use Rattle.ram_run.specs.Plain.{shown_by, stands_for}
 use Rattle.ram_run.specs.Blocks.{Stays, OthersSame}
 use Rattle.ram_run.specs.Writing.{rest_uses, touched_rest, with_part, LacksItsRest, HasDied, IsPlaced, HaltsPlacing, HasWritten, write_stopped_by}
 use Rattle.ram_run.proofs.Homes.{homes_differ}

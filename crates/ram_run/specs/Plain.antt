@@ -4,7 +4,7 @@ use Rattle.model_sectors.specs.Discs.{Standing, On, Off, Shown, block_of, IsShow
 use Rattle.ram_outside.specs.declared.image.Image.{Ghosts}
 use Rattle.ram_image.specs.Medium.{shape_of_medium, world_of, machine_in}
 use Rattle.ram_run.specs.declared.plain.PlainDisc.{PlainDisc}
-pub use Rattle.ram_run.specs.Homes.{plain_homes}
+use Rattle.ram_run.specs.Homes.{plain_homes}
 
 -- what a plain disc shows
 abbrev pub shown_by : {I : Type 0} {d : Ghosts I} → PlainDisc I d → Shown

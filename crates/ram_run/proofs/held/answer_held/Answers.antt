@@ -1,5 +1,5 @@
 use Rattle.ram_run.proofs.HeldSteps.{held_left}
-use Rattle.ram_run.proofs.Founds.{rule_counts}
+use Rattle.ram_run.proofs.StatesAfter.{rule_counts}
 use Rattle.model_geometry.specs.Geometry.{total}
 use Rattle.ram_run.proofs.held.answer_held.Goals as goal
 

@@ -4,7 +4,7 @@ use Rattle.ram_text.specs.Writer.{due}
 use Rattle.ram_run.specs.Held.{Stands, held_faults}
 use Rattle.ram_run.specs.Turn.{counts_of}
 use Rattle.ram_run.proofs.CountsRise.{turn_counts}
-use Rattle.ram_run.proofs.Takings.{shown, takes_line, ends_unread, ends_done, ends_by_line, ends_by_script, ends_by_source, ends_by_sink, read_uses}
+use Rattle.ram_run.proofs.LinesTaken.{shown, takes_line, ends_unread, ends_done, ends_by_line, ends_by_script, ends_by_source, ends_by_sink, read_uses}
 use Rattle.ram_run.proofs.serve.take_turn.Goals as goal
 
 pub returns-in-Failed-clause-turn : goal.returns-in-Failed-clause-turn

@@ -1,6 +1,6 @@
 use Rattle.std.proofs.Common.{◌<◌, sym, arith, length, subst}
 use Rattle.model_geometry.specs.Geometry.{Shape}
-use Rattle.ram_run.specs.Plain.{plain_homes}
+use Rattle.ram_run.specs.Homes.{plain_homes}
 use Rattle.ram_run.proofs.Homes.{homes_few, home_missing, home_is, home_inside}
 use Rattle.ram_run.proofs.plain.PlainDisc.home.Goals as goal
 
