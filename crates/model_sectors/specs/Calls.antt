@@ -101,6 +101,12 @@ pub record KillsAtMost (old new : Shown) (first count : ℕ) : Type 0 where
   pub covered : OnlyCovered old new first count
   pub dies : OnlyDies old new
 
+-- a read was stopped in one block of the request: no cell changed but to dead, and none of a block behind it
+pub record StopsInRead (old new : Shown) (lba n : ℕ) : Type 0 where
+  pub block : ℕ
+  pub covered : block < blocks_covered lba n
+  pub kills : KillsAtMost old new (block_with lba) (block + 1)
+
 -- What a read of the disc gives, by its answer, and what the drive stands for then.
 abbrev pub ReadOn : Shown → Shown → (Standing → Type 0) → List ℕ → (lba n : ℕ) → List ℕ → ReadOut → Type 0
 ReadOn old new stands disc lba n into reads.Good =
@@ -111,9 +117,9 @@ ReadOn old new stands disc lba n into (reads.Range told) = stands (On disc)
 ReadOn old new stands disc lba n into (reads.Unread named block) =
     ¬ IsGood (cell_at new.medium.world.cells block) × AreReadable old new (block_with lba) (block_with named - block_with lba)
     × KillsAtMost old new (block_with lba) (block_with named - block_with lba + 1) × stands (On disc)
-ReadOn old new stands disc lba n into reads.Cut = KillsAtMost old new (block_with lba) (blocks_covered lba n) × stands (Off (disc ∷ []))
+ReadOn old new stands disc lba n into reads.Cut = StopsInRead old new lba n × stands (Off (disc ∷ []))
 ReadOn old new stands disc lba n into reads.Off = ⊥
-ReadOn old new stands disc lba n into reads.Fault = KillsAtMost old new (block_with lba) (blocks_covered lba n) × stands (Off (disc ∷ []))
+ReadOn old new stands disc lba n into reads.Fault = StopsInRead old new lba n × stands (Off (disc ∷ []))
 
 -- What a read does with the power off: it answers so.
 abbrev pub ReadOff : (Standing → Type 0) → List (List ℕ) → ReadOut → Type 0
@@ -172,6 +178,12 @@ WriteCause old new lba n writes.Fault = IsInRange old lba n × IsStopped old new
 abbrev pub AreGood : Shown → (first : ℕ) → ℕ → Type 0
 AreGood shown first count = (k : ℕ) → k < count → IsGood (home_cell shown (first + k))
 
+-- the first so many blocks were written: each has whole bytes in its home, and no cell changed but those of their homes
+-- and of the next one's
+pub record WroteUpTo (old new : Shown) (first count : ℕ) : Type 0 where
+  pub good : AreGood new first count
+  pub covered : OnlyCovered old new first (count + 1)
+
 -- What the drive stands for after a write that was stopped in one block: that block is wholly old or wholly new in the
 -- sectors that are covered, and those before it are new.
 pub record StopsInBlock (stands : Standing → Type 0) (disc : List ℕ) (lba n : ℕ) (bytes : List ℕ) : Type 0 where
@@ -206,12 +218,12 @@ WriteOn old new stands disc lba n bytes writes.NotFormatted = stands (On disc)
 WriteOn old new stands disc lba n bytes (writes.Range told) = stands (On disc)
 WriteOn old new stands disc lba n bytes (writes.Unread named block) =
     ¬ IsGood (cell_at new.medium.world.cells block) × IsSameOrDead (cell_at old.medium.world.cells block) (cell_at new.medium.world.cells block)
-    × OnlyCovered old new (block_with lba) (block_with named - block_with lba + 1) × stands (On (replaced disc lba bytes (block_with named)))
+    × WroteUpTo old new (block_with lba) (block_with named - block_with lba) × stands (On (replaced disc lba bytes (block_with named)))
 WriteOn old new stands disc lba n bytes (writes.NoSpare named) =
-    (home_cell new (block_with named) ≡ Dead) × OnlyCovered old new (block_with lba) (block_with named - block_with lba + 1) × stands (On (replaced disc lba bytes (block_with named)))
-WriteOn old new stands disc lba n bytes writes.Cut = (stopped : StopsInBlock stands disc lba n bytes) × OnlyCovered old new (block_with lba) (stopped.block + 1)
+    (home_cell new (block_with named) ≡ Dead) × WroteUpTo old new (block_with lba) (block_with named - block_with lba) × stands (On (replaced disc lba bytes (block_with named)))
+WriteOn old new stands disc lba n bytes writes.Cut = (stopped : StopsInBlock stands disc lba n bytes) × WroteUpTo old new (block_with lba) stopped.block
 WriteOn old new stands disc lba n bytes writes.Off = ⊥
-WriteOn old new stands disc lba n bytes writes.Fault = (stopped : StopsInBlock stands disc lba n bytes) × OnlyCovered old new (block_with lba) (stopped.block + 1)
+WriteOn old new stands disc lba n bytes writes.Fault = (stopped : StopsInBlock stands disc lba n bytes) × WroteUpTo old new (block_with lba) stopped.block
 
 -- What a write does with the power off: it answers so.
 abbrev pub WriteOff : (Standing → Type 0) → List (List ℕ) → WriteOut → Type 0

@@ -11,7 +11,7 @@ use Rattle.model_buffer.specs.Buffer.{numbers_in}
 use Rattle.model_buffer.specs.declared.TheConstants.{BUFFERED_BLOCKS}
 use Rattle.model_sectors.specs.Discs.{Standing, On, Off, sectors_of, home, home_cell, Fits}
 use Rattle.model_sectors.specs.Uses.{block_with, blocks_covered, start_in, is_buffered, is_at_hand, read_uses}
-use Rattle.model_sectors.specs.Calls.{AreReadable, KillsAtMost, AreBuffered, ReadsBuffered, ReadsAll, ReadCause, ReadStep}
+use Rattle.model_sectors.specs.Calls.{AreReadable, KillsAtMost, StopsInRead, AreBuffered, ReadsBuffered, ReadsAll, ReadCause, ReadStep}
 use Rattle.model_sectors.specs.declared.ReadOut.{ReadOut}
 use Rattle.model_sectors.specs.declared.ReadOut.TheVariants as reads
 use Rattle.model_sectors.proofs.Covering.{covered_inside, block_with_start, all_at_hand, no_uses_buffered}
@@ -279,8 +279,8 @@ module _ {I : Type 0} {d : Ghosts I} where
         buffered = dropped;
       }
 
-    killed : (why : Stop) → HaltsReading mid last (block_with lba + k) why → KillsAtMost (shown_by old) (shown_by last) (block_with lba) (blocks_covered lba n)
-    killed why did = kills_next old mid last lba n k (blocks_covered lba n) into so_far covered did.same_shape did.others did.left
+    killed : (why : Stop) → HaltsReading mid last (block_with lba + k) why → StopsInRead (shown_by old) (shown_by last) lba n
+    killed why did = record { block = k; covered = covered; kills = kills_next old mid last lba n k (k + 1) into so_far (omega arith) did.same_shape did.others did.left }
 
     halted_cause_by : (why : Stop) → HaltsReading mid last (block_with lba + k) why → ReadCause (shown_by old) (shown_by last) lba n (read_stopped_by why)
     halted_cause_by stops.Cut did = (so_far.inside, record { stops = stops_all stops.Cut did; dropped = ap numbers_in dropped })

@@ -7,7 +7,7 @@ use Rattle.model_medium.specs.Cells.{Cell, IsGood, IsSameOrDead, cell_at}
 use Rattle.model_buffer.specs.Buffer.{numbers_in, touched_one}
 use Rattle.model_sectors.specs.Discs.{Standing, On, Off, SomeFits, replaced, home, home_cell}
 use Rattle.model_sectors.specs.Uses.{block_with, blocks_covered, start_in, is_partly, touched_from, is_buffered, is_at_hand, write_uses}
-use Rattle.model_sectors.specs.Calls.{IsInRange, IsStopped, KeepsHomes, WriteCause, OnlyCovered, StopsInBlock, WriteOn, WriteStep}
+use Rattle.model_sectors.specs.Calls.{IsInRange, IsStopped, KeepsHomes, WriteCause, AreGood, OnlyCovered, StopsInBlock, WroteUpTo, WriteOn, WriteStep}
 use Rattle.model_sectors.specs.declared.WriteOut.{WriteOut}
 use Rattle.model_sectors.specs.declared.WriteOut.TheVariants as writes
 use Rattle.model_sectors.proofs.Covering.{covered_part, covered_inside, block_with_start, replaced_first}
@@ -113,6 +113,13 @@ module _ {I : Type 0} {d : Ghosts I} (old : PlainDisc I d) (lba n : ℕ) (bytes 
     only_next : (new : PlainDisc I d) → OthersSame mid new (block_with lba + k) → OnlyCovered (shown_by old) (shown_by new) (block_with lba) (k + 1)
     only_next new others = λ block apart. (others block (λ e. apart k (omega arith) (e ∙ home_mid)) ∙ w.others block (λ j h. apart j (omega arith)))
 
+    -- the blocks before the next one keep whole bytes
+    still_good : (new : PlainDisc I d) → shape_of_medium new.medium ≡ shape_of_medium mid.medium → OthersSame mid new (block_with lba + k) → (world_of old.medium).told ≡ true → AreGood (shown_by new) (block_with lba) k
+    still_good new same others told j h =
+        let here = subst (λ (homes : List ℕ). block_with lba + k < length homes) (sym (same_homes old mid w.stays.same_shape)) (block_inside k covered) in
+        let there = subst (λ (homes : List ℕ). block_with lba + j < length homes) (sym (same_homes old mid w.stays.same_shape)) (block_inside j (omega arith)) in
+        subst IsGood (sym (other_home_cell mid new (block_with lba + k) (block_with lba + j) same others here there (λ e. (omega arith)))) (w.good told j h)
+
     -- the next block was written
     pub written_more : (new : PlainDisc I d) → IsPlaced mid new lba n bytes (block_with lba + k) → HasWritten old new lba n bytes (k + 1)
     written_more new p = record {
@@ -122,18 +129,11 @@ module _ {I : Type 0} {d : Ghosts I} (old : PlainDisc I d) (lba n : ℕ) (bytes 
       good = λ told j h. elim (cases_eq j k) [
         | inl e ↦ subst (λ (i : ℕ). IsGood (home_cell (shown_by new) (block_with lba + i))) (sym e) (p.good (w.stays.as_told ∙ told))
         | inr ne ↦
-            let early : j < k = omega arith in
-            subst IsGood (sym (unchanged j early)) (w.good told j early)
+            let early : j < k = omega arith in still_good new p.stays.same_shape p.others told j early
       ];
       makes = λ disc stands. subst (λ (e : List ℕ). stands_for new (On e)) (sym (more disc stands)) (p.makes (replaced disc lba bytes (block_with lba + k)) (w.makes disc stands));
     }
       where
-        unchanged : (j : ℕ) → j < k → home_cell (shown_by new) (block_with lba + j) ≡ home_cell (shown_by mid) (block_with lba + j)
-        unchanged j h =
-            let here = subst (λ (homes : List ℕ). block_with lba + k < length homes) (sym (same_homes old mid w.stays.same_shape)) (block_inside k covered) in
-            let there = subst (λ (homes : List ℕ). block_with lba + j < length homes) (sym (same_homes old mid w.stays.same_shape)) (block_inside j (omega arith)) in
-            other_home_cell mid new (block_with lba + k) (block_with lba + j) p.stays.same_shape p.others here there (λ e. (omega arith))
-
         more : (disc : List ℕ) → stands_for old (On disc) → replaced disc lba bytes (block_with lba + (k + 1)) ≡ with_part lba n bytes (block_with lba + k) (replaced disc lba bytes (block_with lba + k))
         more disc stands = let there : block_with lba + (k + 1) ≡ block_with lba + k + 1 = omega arith in ap (replaced disc lba bytes) there ∙ next disc k covered stands
 
@@ -141,10 +141,10 @@ module _ {I : Type 0} {d : Ghosts I} (old : PlainDisc I d) (lba n : ℕ) (bytes 
       named_block : block_with named ≡ block_with lba + k
       named_block = ap block_with named_is ∙ block_with_start lba n k covered
 
-      only_named : OthersSame mid new (block_with lba + k) → OnlyCovered (shown_by old) (shown_by new) (block_with lba) (block_with named - block_with lba + 1)
-      only_named others =
-          let many : block_with named - block_with lba + 1 ≡ k + 1 = omega (arith, named_block) in
-          subst (OnlyCovered (shown_by old) (shown_by new) (block_with lba)) (sym many) (only_next new others)
+      wrote_named : shape_of_medium new.medium ≡ shape_of_medium mid.medium → OthersSame mid new (block_with lba + k) → (world_of old.medium).told ≡ true → WroteUpTo (shown_by old) (shown_by new) (block_with lba) (block_with named - block_with lba)
+      wrote_named same others told =
+          let many : block_with named - block_with lba ≡ k = omega (arith, named_block) in
+          subst (WroteUpTo (shown_by old) (shown_by new) (block_with lba)) (sym many) (record { good = still_good new same others told; covered = only_next new others })
 
       -- the rest of the next block cannot be read
       module _ (p : LacksItsRest mid new lba n (block_with lba + k)) (block : ℕ) (block_is : block ≡ home (shown_by new) (block_with lba + k)) where
@@ -177,7 +177,7 @@ module _ {I : Type 0} {d : Ghosts I} (old : PlainDisc I d) (lba n : ℕ) (bytes 
           subst (λ (cell : Cell). ¬ IsGood cell) (sym cell_new) p.not_good,
           subst (λ (cell : Cell). IsSameOrDead (cell_at (world_of old.medium).cells block) cell) (sym cell_new)
               (subst (λ (cell : Cell). IsSameOrDead cell (home_cell (shown_by new) (block_with lba + k))) (sym cell_old) p.left),
-          only_named p.others,
+          wrote_named p.stays.same_shape p.others stands.told,
           subst (λ (b : ℕ). stands_for new (On (replaced disc lba bytes b))) (sym named_block) (p.keeps (replaced disc lba bytes (block_with lba + k)) (w.makes disc stands)),
         ))
 
@@ -201,7 +201,7 @@ module _ {I : Type 0} {d : Ghosts I} (old : PlainDisc I d) (lba n : ℕ) (bytes 
         pub died_step : (s : Standing) → stands_for old s → WriteStep (shown_by old) (shown_by new) (stands_for new) s lba n bytes (writes.NoSpare named)
         died_step = step_by new (writes.NoSpare named) (λ disc stands. (
           ap (home_cell (shown_by new)) named_block ∙ p.dead,
-          only_named p.others,
+          wrote_named p.stays.same_shape p.others stands.told,
           subst (λ (b : ℕ). stands_for new (On (replaced disc lba bytes b))) (sym named_block) (p.keeps (replaced disc lba bytes (block_with lba + k)) (w.makes disc stands)),
         ))
 
@@ -229,10 +229,13 @@ module _ {I : Type 0} {d : Ghosts I} (old : PlainDisc I d) (lba n : ℕ) (bytes 
           (λ i h. inl (ap (λ (m : ImageMedium I d). cell_at (world_of m).cells (slice_index (plain_homes (shape_of_medium m)) i)) same))
           (p.leaves (replaced disc lba bytes (block_with lba + k)) (w.makes disc stands)))
 
-      only_new : OnlyCovered (shown_by old) (shown_by new) (block_with lba) (k + 1)
-      only_new = λ block apart. (ap (λ (m : ImageMedium I d). cell_at (world_of m).cells block) same ∙ only_next halted p.others block apart)
+      wrote : (world_of old.medium).told ≡ true → WroteUpTo (shown_by old) (shown_by new) (block_with lba) k
+      wrote told = record {
+        good = subst (λ (m : ImageMedium I d). (j : ℕ) → j < k → IsGood (cell_at (world_of m).cells (slice_index (plain_homes (shape_of_medium m)) (block_with lba + j)))) (sym same) (still_good halted p.same_shape p.others told);
+        covered = λ block apart. (ap (λ (m : ImageMedium I d). cell_at (world_of m).cells block) same ∙ only_next halted p.others block apart);
+      }
 
-      in_block : (disc : List ℕ) → stands_for old (On disc) → (stopped : StopsInBlock (stands_for new) disc lba n bytes) × OnlyCovered (shown_by old) (shown_by new) (block_with lba) (stopped.block + 1)
+      in_block : (disc : List ℕ) → stands_for old (On disc) → (stopped : StopsInBlock (stands_for new) disc lba n bytes) × WroteUpTo (shown_by old) (shown_by new) (block_with lba) stopped.block
       in_block disc stands = (
         record {
           block = k;
@@ -243,7 +246,7 @@ module _ {I : Type 0} {d : Ghosts I} (old : PlainDisc I d) (lba n : ℕ) (bytes 
             buffered = dropped;
           };
         },
-        only_new,
+        wrote stands.told,
       )
 
     pub halted_cause : (halted new : PlainDisc I d) (stop : Stop) → HaltsPlacing mid halted lba n bytes (block_with lba + k) stop → new.medium ≡ halted.medium → new.buffer ≡ []
