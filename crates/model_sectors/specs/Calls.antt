@@ -87,36 +87,31 @@ ReadCause old new lba n reads.Fault = IsInRange old lba n × IsStopped old new (
 abbrev pub AreReadable : Shown → Shown → (first : ℕ) → ℕ → Type 0
 AreReadable old new first count = (k : ℕ) → k < count → IsGood (home_cell new (first + k)) ⊎ IsTrue (is_buffered old.buffered (first + k))
 
--- no cell changed but those of the homes of these logical blocks
-abbrev pub OnlyCovered : Shown → Shown → (first : ℕ) → ℕ → Type 0
-OnlyCovered old new first count =
-    (block : ℕ) → ((k : ℕ) → k < count → block ≢ home old (first + k)) → cell_at new.medium.world.cells block ≡ cell_at old.medium.world.cells block
+-- no cell changed
+abbrev pub SameCells : Shown → Shown → Type 0
+SameCells old new = (block : ℕ) → cell_at new.medium.world.cells block ≡ cell_at old.medium.world.cells block
 
--- each cell is as it was, or dead
-abbrev pub OnlyDies : Shown → Shown → Type 0
-OnlyDies old new = (block : ℕ) → IsSameOrDead (cell_at old.medium.world.cells block) (cell_at new.medium.world.cells block)
+-- no cell changed but that of the home of this logical block, which is as it was or dead
+pub record OnlyDies (old new : Shown) (i : ℕ) : Type 0 where
+  pub others : (block : ℕ) → block ≢ home old i → cell_at new.medium.world.cells block ≡ cell_at old.medium.world.cells block
+  pub left : IsSameOrDead (home_cell old i) (cell_at new.medium.world.cells (home old i))
 
--- no cell changed but to dead, and none but those of the homes of these logical blocks
-pub record KillsAtMost (old new : Shown) (first count : ℕ) : Type 0 where
-  pub covered : OnlyCovered old new first count
-  pub dies : OnlyDies old new
-
--- a read was stopped in one block of the request: no cell changed but to dead, and none of a block behind it
+-- a read was stopped in one block of the request
 pub record StopsInRead (old new : Shown) (lba n : ℕ) : Type 0 where
   pub block : ℕ
   pub covered : block < blocks_covered lba n
-  pub kills : KillsAtMost old new (block_with lba) (block + 1)
+  pub dies : OnlyDies old new (block_with lba + block)
 
 -- What a read of the disc gives, by its answer, and what the drive stands for then.
 abbrev pub ReadOn : Shown → Shown → (Standing → Type 0) → List ℕ → (lba n : ℕ) → List ℕ → ReadOut → Type 0
 ReadOn old new stands disc lba n into reads.Good =
     (into ≡ sectors_of disc lba n) × AreReadable old new (block_with lba) (blocks_covered lba n)
-    × KillsAtMost old new (block_with lba) (blocks_covered lba n) × stands (On disc)
+    × SameCells old new × stands (On disc)
 ReadOn old new stands disc lba n into reads.NotFormatted = stands (On disc)
 ReadOn old new stands disc lba n into (reads.Range told) = stands (On disc)
 ReadOn old new stands disc lba n into (reads.Unread named block) =
     ¬ IsGood (cell_at new.medium.world.cells block) × AreReadable old new (block_with lba) (block_with named - block_with lba)
-    × KillsAtMost old new (block_with lba) (block_with named - block_with lba + 1) × stands (On disc)
+    × OnlyDies old new (block_with named) × stands (On disc)
 ReadOn old new stands disc lba n into reads.Cut = StopsInRead old new lba n × stands (Off (disc ∷ []))
 ReadOn old new stands disc lba n into reads.Off = ⊥
 ReadOn old new stands disc lba n into reads.Fault = StopsInRead old new lba n × stands (Off (disc ∷ []))
@@ -177,6 +172,11 @@ WriteCause old new lba n writes.Fault = IsInRange old lba n × IsStopped old new
 -- each of the first so many blocks has whole bytes in its home
 abbrev pub AreGood : Shown → (first : ℕ) → ℕ → Type 0
 AreGood shown first count = (k : ℕ) → k < count → IsGood (home_cell shown (first + k))
+
+-- no cell changed but those of the homes of these logical blocks
+abbrev pub OnlyCovered : Shown → Shown → (first : ℕ) → ℕ → Type 0
+OnlyCovered old new first count =
+    (block : ℕ) → ((k : ℕ) → k < count → block ≢ home old (first + k)) → cell_at new.medium.world.cells block ≡ cell_at old.medium.world.cells block
 
 -- the first so many blocks were written: each has whole bytes in its home, and no cell changed but those of their homes
 -- and of the next one's
@@ -244,7 +244,7 @@ pub record IsPowered (old new : Shown) : Type 0 where
   pub on : IsOn new
   pub reach : Reach (turned_on old.medium) new.medium mount_uses
   pub dropped : new.buffered ≡ []
-  pub same_cells : (block : ℕ) → cell_at new.medium.world.cells block ≡ cell_at old.medium.world.cells block
+  pub same_cells : SameCells old new
 
 -- Memory was refused after at most so many uses, and the power is off again.
 pub record RunsOutOfMemory (old new : Shown) (most : ℕ) : Type 0 where

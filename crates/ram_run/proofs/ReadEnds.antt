@@ -11,7 +11,7 @@ use Rattle.model_buffer.specs.Buffer.{numbers_in}
 use Rattle.model_buffer.specs.declared.TheConstants.{BUFFERED_BLOCKS}
 use Rattle.model_sectors.specs.Discs.{Standing, On, Off, sectors_of, home, home_cell, Fits}
 use Rattle.model_sectors.specs.Uses.{block_with, blocks_covered, start_in, is_buffered, is_at_hand, read_uses}
-use Rattle.model_sectors.specs.Calls.{AreReadable, KillsAtMost, StopsInRead, AreBuffered, ReadsBuffered, ReadsAll, ReadCause, ReadStep}
+use Rattle.model_sectors.specs.Calls.{AreReadable, OnlyDies, StopsInRead, AreBuffered, ReadsBuffered, ReadsAll, ReadCause, ReadStep}
 use Rattle.model_sectors.specs.declared.ReadOut.{ReadOut}
 use Rattle.model_sectors.specs.declared.ReadOut.TheVariants as reads
 use Rattle.model_sectors.proofs.Covering.{covered_inside, block_with_start, all_at_hand, no_uses_buffered}
@@ -122,10 +122,7 @@ module _ {I : Type 0} {d : Ghosts I} where
     all_step (On disc) stands = (
       all_into disc stands,
       (ended.discs disc stands).readable,
-      record {
-        covered = λ block apart. ap (λ (l : List Cell). cell_at l block) so_far.same_cells;
-        dies = λ block. inl (ap (λ (l : List Cell). cell_at l block) so_far.same_cells);
-      },
+      λ block. ap (λ (l : List Cell). cell_at l block) so_far.same_cells,
       all_stands disc stands,
     )
     all_step (Off discs) stands = absurd (stands.agrees.0 so_far.inside.on)
@@ -155,25 +152,15 @@ module _ {I : Type 0} {d : Ghosts I} where
     within : block_with lba + k < length (shown_by old).homes
     within = covered_inside lba n k (length (shown_by old).homes) so_far.inside.inside covered
 
-  -- no cell changed but to dead, and none but those of the homes of so many covered blocks, where after k blocks one
-  -- home alone changed so
-  kills_next : (old mid new : PlainDisc I d) (lba n k count : ℕ) (into : List ℕ) → ReadSoFar old mid lba n k into → k < count → shape_of_medium new.medium ≡ shape_of_medium mid.medium
+  -- after k blocks that were read, no cell changed but that of the next one's home
+  next_dies : (old mid new : PlainDisc I d) (lba n k : ℕ) (into : List ℕ) → ReadSoFar old mid lba n k into → shape_of_medium new.medium ≡ shape_of_medium mid.medium
       → OthersSame mid new (block_with lba + k) → IsSameOrDead (home_cell (shown_by mid) (block_with lba + k)) (home_cell (shown_by new) (block_with lba + k))
-      → KillsAtMost (shown_by old) (shown_by new) (block_with lba) count
-  kills_next old mid new lba n k count into so_far covered shape others left = record {
-    covered = λ block apart. (others block (λ e. apart k covered (e ∙ ap (λ (s : Shape). slice_index (plain_homes s) (block_with lba + k)) so_far.stays.same_shape)) ∙ same_in block);
-    dies = λ block. elim (cases_eq block (home (shown_by mid) (block_with lba + k))) [
-      | inl e ↦
-          let now : IsSameOrDead (home_cell (shown_by mid) (block_with lba + k)) (cell_at (world_of new.medium).cells (home (shown_by mid) (block_with lba + k))) =
-          subst (λ (s : Shape). IsSameOrDead (home_cell (shown_by mid) (block_with lba + k)) (cell_at (world_of new.medium).cells (slice_index (plain_homes s) (block_with lba + k)))) shape left in
-          subst (λ (cell : Cell). IsSameOrDead cell (cell_at (world_of new.medium).cells block)) (same_in block)
-          (subst (λ (b : ℕ). IsSameOrDead (cell_at (world_of mid.medium).cells b) (cell_at (world_of new.medium).cells b)) (sym e) now)
-      | inr ne ↦ inl (others block ne ∙ same_in block)
-    ];
+      → OnlyDies (shown_by old) (shown_by new) (block_with lba + k)
+  next_dies old mid new lba n k into so_far shape others left = record {
+    others = λ block apart. (others block (λ e. apart (e ∙ ap (λ (s : Shape). slice_index (plain_homes s) (block_with lba + k)) so_far.stays.same_shape)) ∙ ap (λ (l : List Cell). cell_at l block) so_far.same_cells);
+    left = subst (λ (cell : Cell). IsSameOrDead cell (cell_at (world_of new.medium).cells (home (shown_by old) (block_with lba + k)))) (same_home_cell old mid (block_with lba + k) so_far.stays.same_shape so_far.same_cells)
+        (subst (λ (s : Shape). IsSameOrDead (home_cell (shown_by mid) (block_with lba + k)) (cell_at (world_of new.medium).cells (slice_index (plain_homes s) (block_with lba + k)))) (shape ∙ so_far.stays.same_shape) left);
   }
-    where
-      same_in : (block : ℕ) → cell_at (world_of mid.medium).cells block ≡ cell_at (world_of old.medium).cells block
-      same_in block = ap (λ (l : List Cell). cell_at l block) so_far.same_cells
 
   -- and it cannot be read
   module _ (old mid new : PlainDisc I d) (lba n k : ℕ) (into into' : List ℕ) (so_far : ReadSoFar old mid lba n k into) (covered : k < blocks_covered lba n)
@@ -227,8 +214,7 @@ module _ {I : Type 0} {d : Ghosts I} where
     unread_step (On disc) stands = (
       did.not_good,
       subst (AreReadable (shown_by old) (shown_by new) (block_with lba)) (sym unread_named) (unread_readable disc stands),
-      subst (λ (m : ℕ). KillsAtMost (shown_by old) (shown_by new) (block_with lba) (m + 1)) (sym unread_named)
-          (kills_next old mid new lba n k (k + 1) into so_far (omega arith) did.stays.same_shape did.others did.left),
+      subst (OnlyDies (shown_by old) (shown_by new)) (sym (block_with_start lba n k covered)) (next_dies old mid new lba n k into so_far did.stays.same_shape did.others did.left),
       unread_stands disc stands,
     )
     unread_step (Off discs) stands = absurd (stands.agrees.0 so_far.inside.on)
@@ -280,7 +266,7 @@ module _ {I : Type 0} {d : Ghosts I} where
       }
 
     killed : (why : Stop) → HaltsReading mid last (block_with lba + k) why → StopsInRead (shown_by old) (shown_by last) lba n
-    killed why did = record { block = k; covered = covered; kills = kills_next old mid last lba n k (k + 1) into so_far (omega arith) did.same_shape did.others did.left }
+    killed why did = record { block = k; covered = covered; dies = next_dies old mid last lba n k into so_far did.same_shape did.others did.left }
 
     halted_cause_by : (why : Stop) → HaltsReading mid last (block_with lba + k) why → ReadCause (shown_by old) (shown_by last) lba n (read_stopped_by why)
     halted_cause_by stops.Cut did = (so_far.inside, record { stops = stops_all stops.Cut did; dropped = ap numbers_in dropped })
