@@ -5,9 +5,10 @@ ghost use Rattle.ram_dds.specs.Dds.{dds_of, IsDecoded};
 
 use crate::entries::PdlEntries;
 use crate::front::{begin_bytes, front_of, list_begin_bytes};
-use crate::list::{entries_of, put_entries};
+use crate::list::PdlLayout;
 use model_lists::DdsState;
 use ram_bytes::Block;
+use ram_entries::{entries_of, put_entries};
 use std::alloc::{AllocError, Global};
 
 /// A disc definition structure with its primary defect list.
@@ -35,7 +36,7 @@ impl DdsPdl {
         gap.fill(0);
         let (list_begin, list) = others.split_at_mut(4);
         list_begin.copy_from_slice(&list_begin_bytes(self.entries.len()));
-        put_entries(self.entries.as_slice(), list);
+        put_entries::<PdlLayout>(self.entries.as_slice(), list);
     }
 
     /// The value whose text this block is, or none where it is the text of no value.
@@ -46,7 +47,7 @@ impl DdsPdl {
         let Some(front) = front_of(bytes) else {
             return Ok(None);
         };
-        let Some(entries) = entries_of(alloc, &bytes[2_052..], front.count)? else {
+        let Some(entries) = entries_of::<PdlLayout>(alloc, &bytes[2_052..], front.count)? else {
             return Ok(None);
         };
         Ok(Some(DdsPdl {

@@ -1,14 +1,9 @@
-ghost use Rattle.std.specs.Prelude.{◌≡◌, ℕ, ◌+◌, ◌*◌, ◌<◌, ◌≤◌, ◌↔◌, List, length, IsTrue, MatchOption, IfOk, slice_index};
-ghost use Rattle.model_lists.specs.declared.sdl.SdlEntry.{SdlEntry};
-ghost use Rattle.model_lists.specs.Values.{IsLawfulList, HasNumbers, defectives};
-ghost use Rattle.model_lists.specs.Texts.{Spells, sdl_entry_bytes};
+ghost use Rattle.std.specs.Prelude.{◌≡◌};
+ghost use Rattle.model_lists.specs.Texts.{sdl_entry_bytes};
 
 use model_lists::SdlEntry;
-use ram_bytes::{get_u24, is_zero};
-use std::alloc::{AllocError, Global};
-
-/// How many bytes an entry has.
-const ENTRY_BYTES: usize = 8;
+use ram_bytes::get_u24;
+use ram_entries::EntryLayout;
 
 /// The bytes of an entry.
 fn entry_bytes(entry: &SdlEntry) -> [u8; 8]
@@ -24,83 +19,60 @@ fn entry_bytes(entry: &SdlEntry) -> [u8; 8]
     }
 }
 
-/// The entry whose bytes these are.
-fn entry_of(bytes: &[u8]) -> Option<SdlEntry>
-    requires { length bytes.now ≡ 8 }
-    ensures { MatchOption result
-        ((entry : SdlEntry) → bytes.now ≡ sdl_entry_bytes entry → ⊥)
-        (λ entry. (bytes.now ≡ sdl_entry_bytes entry) × HasNumbers entry) }
-{
-    let defective = get_u24(bytes, 1);
-    let replacement = get_u24(bytes, 5);
-    let kind = bytes[0];
-    let between = bytes[4];
-    if between != 0 {
-        return None;
-    }
-    if kind == 0 {
-        return Some(SdlEntry {
-            defective,
-            replacement: Some(replacement),
-        });
-    }
-    if kind != 1 {
-        return None;
-    }
-    if replacement != 0 {
-        return None;
-    }
-    Some(SdlEntry {
-        defective,
-        replacement: None,
-    })
-}
+/// The entries of a secondary defect list, in bytes.
+pub struct SdlLayout;
 
-/// Whether this defective block may follow the entries so far.
-fn may_follow(entries: &[SdlEntry], defective: u32) -> bool
-    ensures { IsTrue result
-        ↔ ((k : ℕ) → k + 1 ≡ length entries.now → slice_index (defectives entries.now) k < defective) }
-{
-    match entries.last() {
-        None => true,
-        Some(last) => last.defective < defective,
-    }
-}
+impl EntryLayout for SdlLayout {
+    ghost use Rattle.model_lists.specs.declared.sdl.SdlEntry.{SdlEntry};
+    ghost use Rattle.model_lists.specs.Values.{HasNumbers};
+    ghost use Rattle.model_lists.specs.Texts.{sdl_entry_bytes};
+    ghost use Rattle.model_lists.proofs.Numbers.{length-sdl_entry_bytes, sdl_entry_bytes-injective};
 
-/// Writes the entries one after another, and zeros after them.
-pub fn put_entries(entries: &[SdlEntry], into: &mut [u8])
-    requires { 8 * length entries.now ≤ length into.old }
-    ensures { Spells sdl_entry_bytes 8 entries.now into.new }
-{
-    for (k, entry) in entries.iter().enumerate() {
-        into[ENTRY_BYTES * k..ENTRY_BYTES * (k + 1)].copy_from_slice(&entry_bytes(entry));
-    }
-    into[ENTRY_BYTES * entries.len()..].fill(0);
-}
+    type Entry = SdlEntry;
 
-/// The entries that the bytes spell: so many, rising, and nothing but zeros after them.
-pub fn entries_of(
-    alloc: Global,
-    bytes: &[u8],
-    count: usize,
-) -> Result<Option<Vec<SdlEntry>>, AllocError>
-    requires { 8 * count ≤ length bytes.now }
-    ensures { IfOk result (λ found. MatchOption found
-        ((entries : List SdlEntry) → length entries ≡ count → IsLawfulList entries → Spells sdl_entry_bytes 8 entries bytes.now → ⊥)
-        (λ v. (length v.items ≡ count) × IsLawfulList v.items × Spells sdl_entry_bytes 8 v.items bytes.now)) }
-{
-    if !is_zero(&bytes[ENTRY_BYTES * count..]) {
-        return Ok(None);
+    const BYTES: usize = 8;
+
+    ghost BYTES = { 8 };
+
+    ghost spelled = { sdl_entry_bytes };
+
+    ghost fits = { HasNumbers };
+
+    ghost key = { λ (entry : SdlEntry). entry.defective };
+
+    fn key(entry: &SdlEntry) -> u32 {
+        entry.defective
     }
-    let mut entries = Vec::with_capacity(alloc, count)?;
-    for k in 0..count {
-        let Some(entry) = entry_of(&bytes[ENTRY_BYTES * k..ENTRY_BYTES * (k + 1)]) else {
-            return Ok(None);
-        };
-        if !may_follow(&entries, entry.defective) {
-            return Ok(None);
+
+    fn put(entry: &SdlEntry, into: &mut [u8]) {
+        into.copy_from_slice(&entry_bytes(entry));
+    }
+
+    fn entry_of(bytes: &[u8]) -> Option<SdlEntry> {
+        let defective = get_u24(bytes, 1);
+        let replacement = get_u24(bytes, 5);
+        let kind = bytes[0];
+        let between = bytes[4];
+        if between != 0 {
+            return None;
         }
-        entries.push(entry)?;
+        if kind == 0 {
+            return Some(SdlEntry {
+                defective,
+                replacement: Some(replacement),
+            });
+        }
+        if kind != 1 {
+            return None;
+        }
+        if replacement != 0 {
+            return None;
+        }
+        Some(SdlEntry {
+            defective,
+            replacement: None,
+        })
     }
-    Ok(Some(entries))
+
+    ghost laws = { record { long = length-sdl_entry_bytes; one_value = sdl_entry_bytes-injective } };
 }

@@ -7,10 +7,11 @@ ghost use Rattle.ram_sdl.specs.Sdl.{sdl_of, IsDecoded};
 
 use crate::entries::SdlEntries;
 use crate::front::{Front, begin_bytes, front_of};
-use crate::list::{entries_of, put_entries};
+use crate::list::SdlLayout;
 use crate::places::entry_of;
 use model_lists::SdlEntry;
 use ram_bytes::Block;
+use ram_entries::{entries_of, put_entries};
 use std::alloc::{AllocError, Global};
 
 /// A secondary defect list. Its entries rise by their defective blocks.
@@ -42,7 +43,7 @@ impl Sdl {
         begin.copy_from_slice(&begin_bytes(&front));
         let (gap, list) = others.split_at_mut(16);
         gap.fill(0);
-        put_entries(self.entries.as_slice(), list);
+        put_entries::<SdlLayout>(self.entries.as_slice(), list);
     }
 
     /// The value whose text this block is, or none where it is the text of no value.
@@ -53,7 +54,7 @@ impl Sdl {
         let Some(front) = front_of(bytes) else {
             return Ok(None);
         };
-        let Some(entries) = entries_of(alloc, &bytes[32..], front.count)? else {
+        let Some(entries) = entries_of::<SdlLayout>(alloc, &bytes[32..], front.count)? else {
             return Ok(None);
         };
         Ok(Some(Sdl {

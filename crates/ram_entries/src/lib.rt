@@ -1,0 +1,11 @@
+//! Entries of a list of defects, one after another in bytes, written and read: over any kind of entry.
+#![tactic(auto)]
+
+mod layout;
+mod list;
+
+pub use layout::EntryLayout;
+pub use list::{entries_of, put_entries};
+
+#[cfg(test)]
+mod tests;

@@ -1,0 +1,58 @@
+ghost use Rattle.std.specs.Prelude.{◌≡◌, ℕ, ◌+◌, ◌*◌, ◌<◌, ◌≤◌, ◌↔◌, List, length, map, IsTrue, MatchOption, IfOk, slice_index};
+ghost use Rattle.model_lists.specs.Texts.{Spells};
+ghost use Rattle.ram_entries.specs.Layouts.{AreLawful};
+
+use crate::layout::EntryLayout;
+use ram_bytes::is_zero;
+use std::alloc::{AllocError, Global};
+
+/// Whether an entry of this key may follow the entries so far.
+fn may_follow<L: EntryLayout>(entries: &[L::Entry], key: u32) -> bool
+    ensures { IsTrue result
+        ↔ ((k : ℕ) → k + 1 ≡ length entries.now → slice_index (map L.key entries.now) k < key) }
+{
+    match entries.last() {
+        None => true,
+        Some(last) => L::key(last) < key,
+    }
+}
+
+/// Writes the entries one after another, and zeros after them.
+pub fn put_entries<L: EntryLayout>(entries: &[L::Entry], into: &mut [u8])
+    requires { L.BYTES * length entries.now ≤ length into.old }
+    ensures { Spells L.spelled L.BYTES entries.now into.new }
+{
+    for (k, entry) in entries.iter().enumerate() {
+        L::put(entry, &mut into[L::BYTES * k..L::BYTES * (k + 1)]);
+    }
+    into[L::BYTES * entries.len()..].fill(0);
+}
+
+/// The entries that the bytes spell: so many, rising, and nothing but zeros after them.
+pub fn entries_of<L: EntryLayout>(
+    alloc: Global,
+    bytes: &[u8],
+    count: usize,
+) -> Result<Option<Vec<L::Entry>>, AllocError>
+    requires { L.BYTES * count ≤ length bytes.now }
+    ensures { IfOk result (λ found. MatchOption found
+        ((entries : List L.Entry) → length entries ≡ count → AreLawful L.key L.fits entries
+        → Spells L.spelled L.BYTES entries bytes.now → ⊥)
+        (λ v. (length v.items ≡ count) × AreLawful L.key L.fits v.items
+        × Spells L.spelled L.BYTES v.items bytes.now)) }
+{
+    if !is_zero(&bytes[L::BYTES * count..]) {
+        return Ok(None);
+    }
+    let mut entries = Vec::with_capacity(alloc, count)?;
+    for k in 0..count {
+        let Some(entry) = L::entry_of(&bytes[L::BYTES * k..L::BYTES * (k + 1)]) else {
+            return Ok(None);
+        };
+        if !may_follow::<L>(&entries, L::key(&entry)) {
+            return Ok(None);
+        }
+        entries.push(entry)?;
+    }
+    Ok(Some(entries))
+}
