@@ -1,15 +1,15 @@
 use Rattle.std.specs.Prelude.{◌≡◌, ℕ, ◌≤◌, Option, None, Some, List}
 use Rattle.model_counts.specs.Counts.{Rose}
+use Rattle.model_geometry.specs.Geometry.{Shape}
 use Rattle.ram_outside.specs.declared.image.Image.{Ghosts as Images}
 use Rattle.ram_sectors.specs.declared.Sectors.{Ghosts as Drives}
 use Rattle.ram_image.specs.declared.opening.OpenFault.{OpenFault}
 use Rattle.ram_image.specs.declared.opening.OpenFault.TheVariants as faulty
 use Rattle.ram_text.specs.declared.script.Line.{Line}
 use Rattle.ram_text.specs.declared.script.Line.TheVariants as lines
+use Rattle.ram_text.specs.ReportLines.{IsPrinted, IsAddressed}
 use Rattle.ram_run.specs.declared.held.Held.{Held}
 use Rattle.ram_run.specs.declared.held.Held.TheVariants as helds
-use Rattle.model_geometry.specs.Geometry.{Shape}
-use Rattle.ram_text.specs.ReportLines.{IsPrinted, IsAddressed}
 use Rattle.ram_run.specs.declared.held.Told.TheVariants as tolds
 use Rattle.ram_run.specs.declared.held.Outcome.{Outcome}
 use Rattle.ram_run.specs.declared.held.Outcome.TheVariants as outcomes

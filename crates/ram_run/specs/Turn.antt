@@ -44,7 +44,7 @@ pub record IsTallied {first : Beginning} (far : SoFar first) (tally : Tally) : T
   pub answered : tally.answered ≡ answered_in far.events
 
 -- Between two lines: what is held stands for the state, what is left follows in the script, so many lines were
--- read, and what is due is the text of their answers.
+-- read, and what is due is the text of their answers. (From here on, held tells which states that is.)
 pub record Between (first : Beginning) (held : State → Type 0) (left due : Option (List ℕ)) (taken : ℕ) (tally : Tally) : Type 0 where
   pub far : SoFar first
   pub stands : held far.now
