@@ -2,9 +2,9 @@ use Rattle.std.specs.Prelude.{◌≡◌, ◌≢◌, ℕ, ◌+◌, ◌-◌, ◌*�
 use Rattle.model_medium.specs.Cells.{Dead, IsGood, IsSameOrDead, cell_at}
 use Rattle.model_medium.specs.Machine.{Machine}
 use Rattle.model_medium.specs.Reach.{Reach}
-use Rattle.ram_medium.specs.Stops.{Stops}
-use Rattle.ram_medium.specs.declared.stops.Stop.{Stop}
-use Rattle.ram_medium.specs.declared.stops.Stop.TheVariants as stops
+use Rattle.model_stops.specs.Stops.{Stops}
+use Rattle.model_stops.specs.declared.Stop.{Stop}
+use Rattle.model_stops.specs.declared.Stop.TheVariants as stops
 use Rattle.model_sectors.specs.Discs.{Standing, On, Off, Shown, sectors_of, replaced, capacity, IsOn, home, home_cell, IsFirstFit, candidates}
 use Rattle.model_sectors.specs.Uses.{block_with, blocks_covered, start_in, end_in, touched_from, is_buffered, is_at_hand, read_uses, reads_rest, write_uses, touched_refused, IsNamed, mount_uses}
 use Rattle.model_sectors.specs.declared.ReadOut.{ReadOut}

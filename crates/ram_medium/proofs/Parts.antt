@@ -4,9 +4,9 @@ use Rattle.std.proofs.Common.{sym, ap, ◌∙◌, inl, inr, arith}
 use Rattle.model_counts.specs.Counts.{counted}
 use Rattle.model_medium.specs.World.{World, HasFailed, FailsInRead, FailsInWrite}
 use Rattle.ram_medium.specs.Laws.{MediumLaws}
-use Rattle.ram_medium.specs.Stops.{FailsInUse, Goes, Stops}
-use Rattle.ram_medium.specs.declared.stops.Stop.{Stop}
-use Rattle.ram_medium.specs.declared.stops.Stop.TheVariants as stops
+use Rattle.model_stops.specs.Stops.{FailsInUse, Goes, Stops}
+use Rattle.model_stops.specs.declared.Stop.{Stop}
+use Rattle.model_stops.specs.declared.Stop.TheVariants as stops
 
 -- a failed read and a failed write are failed uses
 pub read_fails : (old new : World) (block : ℕ) (into into' : List ℕ) → FailsInRead old new block into into' → FailsInUse old new block

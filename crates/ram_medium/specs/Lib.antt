@@ -4,4 +4,4 @@ pub mod Countdown
 pub mod Slots
 pub mod Memory
 pub mod Begun
-pub mod Stops
+pub mod WholeBlocks

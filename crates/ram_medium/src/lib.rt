@@ -6,11 +6,12 @@ mod control;
 mod countdown;
 mod memory;
 mod slots;
-mod stops;
+mod whole_blocks;
 
 pub use blocks::Medium;
 pub use control::{Arm, FailEnd, MediumControl};
 pub use countdown::{Armed, Due, MOST_ARMS};
 pub use memory::MemMedium;
 pub use model_medium::{ArmedCut, Fate, ReadEnd, WornBlock, WriteEnd};
-pub use stops::{Stop, read_whole, write_whole};
+pub use model_stops::Stop;
+pub use whole_blocks::{read_whole, write_whole};

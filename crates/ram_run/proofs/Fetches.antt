@@ -9,9 +9,10 @@ use Rattle.model_buffer.specs.Buffer.{bytes_at, with_front}
 use Rattle.model_buffer.specs.declared.TheConstants.{BUFFERED_BLOCKS}
 use Rattle.model_sectors.specs.Discs.{home, home_cell}
 use Rattle.model_sectors.proofs.Covering.{bytes_at_none}
-use Rattle.ram_medium.specs.Stops.{Goes, Stops, EndedRead, StoppedRead}
-use Rattle.ram_medium.specs.declared.stops.Stop.{Stop}
-use Rattle.ram_medium.specs.declared.stops.Stop.TheVariants as stops
+use Rattle.model_stops.specs.Stops.{Goes, Stops}
+use Rattle.ram_medium.specs.WholeBlocks.{EndedRead, StoppedRead}
+use Rattle.model_stops.specs.declared.Stop.{Stop}
+use Rattle.model_stops.specs.declared.Stop.TheVariants as stops
 use Rattle.ram_outside.specs.declared.image.Image.{Ghosts}
 use Rattle.ram_image.specs.Medium.{shape_of_medium, world_of, ImageReaches}
 use Rattle.ram_run.specs.declared.plain.PlainDisc.{PlainDisc}

@@ -9,7 +9,7 @@ use Rattle.model_sectors.specs.Uses.{is_partly, start_in, end_in}
 use Rattle.model_sectors.proofs.Covering.{numbers_in-with_front}
 use Rattle.model_sectors.proofs.Pieces.{length_block}
 use Rattle.ram_outside.specs.declared.image.Image.{Ghosts}
-use Rattle.ram_medium.specs.declared.stops.Stop.{Stop}
+use Rattle.model_stops.specs.declared.Stop.{Stop}
 use Rattle.ram_medium.proofs.Parts.{stops_within}
 use Rattle.model_geometry.specs.Geometry.{total}
 use Rattle.ram_image.specs.declared.medium.ImageMedium.{ImageMedium}

@@ -8,9 +8,10 @@ use Rattle.model_medium.specs.World.{World, IsUse, ReadsCell, FindsNoBytes, Writ
 use Rattle.model_buffer.specs.Buffer.{with_front}
 use Rattle.model_sectors.specs.Discs.{IsOn, home, home_cell}
 use Rattle.ram_outside.specs.declared.image.Image.{Ghosts}
-use Rattle.ram_medium.specs.Stops.{Goes, Stops, StoppedRead, StoppedWrite}
-use Rattle.ram_medium.specs.declared.stops.Stop.{Stop}
-use Rattle.ram_medium.specs.declared.stops.Stop.TheVariants as stops
+use Rattle.model_stops.specs.Stops.{Goes, Stops}
+use Rattle.ram_medium.specs.WholeBlocks.{StoppedRead, StoppedWrite}
+use Rattle.model_stops.specs.declared.Stop.{Stop}
+use Rattle.model_stops.specs.declared.Stop.TheVariants as stops
 use Rattle.ram_medium.proofs.Parts.{goes_then, stops_later, stops_within}
 use Rattle.ram_image.specs.declared.medium.ImageMedium.{ImageMedium}
 use Rattle.ram_image.specs.Medium.{shape_of_medium, world_of, ImageReaches}

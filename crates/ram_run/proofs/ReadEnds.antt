@@ -16,9 +16,9 @@ use Rattle.model_sectors.specs.declared.ReadOut.{ReadOut}
 use Rattle.model_sectors.specs.declared.ReadOut.TheVariants as reads
 use Rattle.model_sectors.proofs.Covering.{covered_inside, block_with_start, all_at_hand, no_uses_buffered}
 use Rattle.model_sectors.proofs.Fitting.{fits_kept}
-use Rattle.ram_medium.specs.Stops.{Stops}
-use Rattle.ram_medium.specs.declared.stops.Stop.{Stop}
-use Rattle.ram_medium.specs.declared.stops.Stop.TheVariants as stops
+use Rattle.model_stops.specs.Stops.{Stops}
+use Rattle.model_stops.specs.declared.Stop.{Stop}
+use Rattle.model_stops.specs.declared.Stop.TheVariants as stops
 use Rattle.ram_medium.proofs.Parts.{use_failed, stops_later, stops_within}
 use Rattle.ram_outside.specs.declared.image.Image.{Ghosts}
 use Rattle.ram_image.specs.declared.medium.ImageMedium.{ImageMedium}

@@ -8,8 +8,8 @@ use Rattle.model_sectors.specs.Discs.{On, Agrees, block_of, home, home_cell}
 use Rattle.model_sectors.specs.Uses.{is_partly, is_buffered, start_in}
 use Rattle.model_sectors.proofs.Covering.{bytes_at_some, numbers_in-with_front}
 use Rattle.ram_outside.specs.declared.image.Image.{Ghosts}
-use Rattle.ram_medium.specs.Stops.{Stops}
-use Rattle.ram_medium.specs.declared.stops.Stop.{Stop}
+use Rattle.model_stops.specs.Stops.{Stops}
+use Rattle.model_stops.specs.declared.Stop.{Stop}
 use Rattle.ram_image.specs.declared.medium.ImageMedium.{ImageMedium}
 use Rattle.ram_image.specs.Medium.{shape_of_medium, world_of, ImageReaches}
 use Rattle.ram_run.specs.declared.plain.PlainDisc.{PlainDisc}

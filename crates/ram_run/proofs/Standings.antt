@@ -9,8 +9,8 @@ use Rattle.model_sectors.specs.Discs.{Agrees, Fits, block_of, home, home_cell}
 use Rattle.model_sectors.proofs.Covering.{bytes_at-with_front, bytes_at_used}
 use Rattle.model_sectors.proofs.Fitting.{agrees_not_good}
 use Rattle.ram_outside.specs.declared.image.Image.{Ghosts}
-use Rattle.ram_medium.specs.Stops.{Stops}
-use Rattle.ram_medium.specs.declared.stops.Stop.{Stop}
+use Rattle.model_stops.specs.Stops.{Stops}
+use Rattle.model_stops.specs.declared.Stop.{Stop}
 use Rattle.ram_medium.proofs.Parts.{stops_later}
 use Rattle.model_geometry.specs.Geometry.{total}
 use Rattle.ram_image.specs.declared.medium.ImageMedium.{ImageMedium}

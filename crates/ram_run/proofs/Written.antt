@@ -13,9 +13,9 @@ use Rattle.model_sectors.specs.declared.WriteOut.TheVariants as writes
 use Rattle.model_sectors.proofs.Covering.{covered_part, covered_inside, block_with_start, replaced_first}
 use Rattle.model_sectors.proofs.Fitting.{some_fits_kept}
 use Rattle.ram_outside.specs.declared.image.Image.{Ghosts}
-use Rattle.ram_medium.specs.Stops.{Stops}
-use Rattle.ram_medium.specs.declared.stops.Stop.{Stop}
-use Rattle.ram_medium.specs.declared.stops.Stop.TheVariants as stops
+use Rattle.model_stops.specs.Stops.{Stops}
+use Rattle.model_stops.specs.declared.Stop.{Stop}
+use Rattle.model_stops.specs.declared.Stop.TheVariants as stops
 use Rattle.ram_medium.proofs.Parts.{stops_within}
 use Rattle.ram_image.specs.declared.medium.ImageMedium.{ImageMedium}
 use Rattle.ram_image.specs.Medium.{shape_of_medium, world_of, ImageReaches}

@@ -6,8 +6,8 @@ use Rattle.model_buffer.specs.Buffer.{bytes_at, with_front, numbers_in}
 use Rattle.model_buffer.specs.declared.TheConstants.{BUFFERED_BLOCKS}
 use Rattle.model_sectors.specs.Discs.{IsOn, home, home_cell}
 use Rattle.model_sectors.specs.Uses.{is_buffered}
-use Rattle.ram_medium.specs.Stops.{Stops}
-use Rattle.ram_medium.specs.declared.stops.Stop.{Stop}
+use Rattle.model_stops.specs.Stops.{Stops}
+use Rattle.model_stops.specs.declared.Stop.{Stop}
 use Rattle.ram_outside.specs.declared.image.Image.{Ghosts}
 use Rattle.ram_image.specs.Medium.{shape_of_medium, world_of, ImageReaches}
 use Rattle.ram_run.specs.declared.plain.PlainDisc.{PlainDisc}

@@ -5,8 +5,8 @@ use Rattle.model_sectors.specs.Discs.{Shown, home}
 use Rattle.model_sectors.specs.Uses.{block_with, start_in, end_in}
 use Rattle.model_sectors.specs.declared.ReadOut.{ReadOut}
 use Rattle.model_sectors.specs.declared.ReadOut.TheVariants as reads
-use Rattle.ram_medium.specs.declared.stops.Stop.{Stop}
-use Rattle.ram_medium.specs.declared.stops.Stop.TheVariants as stops
+use Rattle.model_stops.specs.declared.Stop.{Stop}
+use Rattle.model_stops.specs.declared.Stop.TheVariants as stops
 use Rattle.ram_outside.specs.declared.image.Image.{Ghosts}
 use Rattle.ram_run.specs.declared.plain.PlainDisc.{PlainDisc}
 use Rattle.ram_run.specs.Blocks.{IsFetched, IsUnread}

@@ -8,9 +8,9 @@ use Rattle.model_sectors.specs.Uses.{block_with, start_in, end_in, is_partly, is
 use Rattle.model_sectors.specs.Calls.{AreGood}
 use Rattle.model_sectors.specs.declared.WriteOut.{WriteOut}
 use Rattle.model_sectors.specs.declared.WriteOut.TheVariants as writes
-use Rattle.ram_medium.specs.Stops.{Stops}
-use Rattle.ram_medium.specs.declared.stops.Stop.{Stop}
-use Rattle.ram_medium.specs.declared.stops.Stop.TheVariants as stops
+use Rattle.model_stops.specs.Stops.{Stops}
+use Rattle.model_stops.specs.declared.Stop.{Stop}
+use Rattle.model_stops.specs.declared.Stop.TheVariants as stops
 use Rattle.ram_outside.specs.declared.image.Image.{Ghosts}
 use Rattle.ram_image.specs.Medium.{shape_of_medium, world_of, ImageReaches}
 use Rattle.ram_run.specs.declared.plain.PlainDisc.{PlainDisc}

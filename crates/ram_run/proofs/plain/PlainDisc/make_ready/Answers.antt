@@ -2,7 +2,7 @@ use Rattle.std.specs.Prelude.{◌≡◌, ◌<◌, Bool, true, false, Result, Ok,
 use Rattle.std.proofs.Common.{◌∙◌, arith}
 use Rattle.model_sectors.specs.Discs.{IsOn}
 use Rattle.model_sectors.specs.Uses.{is_partly}
-use Rattle.ram_medium.specs.declared.stops.Stop.{Stop}
+use Rattle.model_stops.specs.declared.Stop.{Stop}
 use Rattle.ram_outside.specs.declared.image.Image.{Ghosts}
 use Rattle.ram_run.specs.declared.plain.PlainDisc.{PlainDisc}
 use Rattle.ram_run.specs.Plain.{shown_by}

@@ -1,22 +1,13 @@
 ghost use Rattle.std.specs.Prelude.{◌≡◌, ◌<◌, MatchResult};
 ghost use Rattle.model_medium.specs.World.{WritesCell};
 ghost use Rattle.model_medium.specs.Exact.{Read, Write};
-ghost use Rattle.ram_medium.specs.Stops.{Goes, Stops, StoppedRead, EndedRead, StoppedWrite, read_end, write_end};
+ghost use Rattle.model_stops.specs.Stops.{Goes, Stops};
+ghost use Rattle.ram_medium.specs.WholeBlocks.{StoppedRead, EndedRead, StoppedWrite, read_end, write_end};
 
 use crate::blocks::Medium;
 use model_medium::{ReadEnd, WriteEnd};
+use model_stops::Stop;
 use ram_bytes::Block;
-
-/// Why work on a medium was stopped. The power is off.
-#[derive(Clone, Copy, Debug, PartialEq, Eq)]
-pub enum Stop {
-    /// The power was cut.
-    Cut,
-    /// The power was off already, and nothing was done.
-    Off,
-    /// What the medium lies on failed, and counted it.
-    Fault,
-}
 
 /// Reads a block. Whether it has whole bytes, or why the read was stopped; `into` changes only where it has.
 pub fn read_whole<M: Medium>(medium: &mut M, block: u32, into: &mut Block) -> Result<bool, Stop>

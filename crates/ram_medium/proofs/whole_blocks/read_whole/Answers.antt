@@ -1,5 +1,5 @@
 use Rattle.ram_medium.proofs.Parts.{read_fails, stops_at_once}
-use Rattle.ram_medium.proofs.stops.read_whole.Goals as goal
+use Rattle.ram_medium.proofs.whole_blocks.read_whole.Goals as goal
 
 pub returns-in-Failed-clause-goes : goal.returns-in-Failed-clause-goes
 returns-in-Failed-clause-goes g c =

@@ -1,5 +1,5 @@
 use Rattle.ram_medium.proofs.Parts.{write_fails, stops_at_once}
-use Rattle.ram_medium.proofs.stops.write_whole.Goals as goal
+use Rattle.ram_medium.proofs.whole_blocks.write_whole.Goals as goal
 
 pub returns-in-Failed-clause-goes : goal.returns-in-Failed-clause-goes
 returns-in-Failed-clause-goes g c =
