@@ -1,6 +1,7 @@
 //! The words that the program is called with.
-use super::{Failure, Outside, PIECE, Status, run_words};
-use crate::help::{HELP, VERSION};
+use crate::runs::{Failure, Outside, PIECE, run_words};
+use ram_run::help::{HELP, VERSION};
+use ram_run::status::Status;
 use std::alloc::{AllocError, Global};
 use std::test::Fail;
 

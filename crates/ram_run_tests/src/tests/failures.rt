@@ -1,15 +1,17 @@
 //! Sources, sinks, openers and images that fail.
-use super::{Failure, Outside, Ran, Status, run_over, run_script};
+use super::{run_lines, run_over};
+use crate::runs::{Failure, Outside, Ran};
+use ram_run::status::Status;
 use std::test::Fail;
 
 /// A disc is pressed, two blocks of it are written, both again in part, and a block fails.
 const SCRIPT: &str = "press 1 1 4
 power
-cdb 2a000000000000002000 fill aa
+W 0 32 fill aa
 power
-cdb 2a000000000c00000800 fill cc
+W 12 8 fill cc
 fail 15
-cdb 28000000001000000100
+R 16 1
 ";
 
 const REPORT: &str = "1 pressed
@@ -26,21 +28,21 @@ end 7
 /// Writes two blocks of a new disc.
 const WRITTEN: &str = "press 1 1 4
 power
-cdb 2a000000000000002000 fill aa
+W 0 32 fill aa
 ";
 
 /// Writes both again in part, and makes a third one fail.
 const AGAIN: &str = "power
-cdb 2a000000000c00000800 fill cc
+W 12 8 fill cc
 fail 15
 ";
 
 /// Reads what that left.
 const LATER: &str = "power
-cdb 28000000000b00000100
-cdb 28000000000c00000100
-cdb 28000000001300000100
-cdb 28000000001400000100
+R 11 1
+R 12 1
+R 19 1
+R 20 1
 ";
 
 /// What it left.
@@ -84,7 +86,7 @@ fn each_first_failure_has_its_status(rt: HostRuntime) -> Result<(), Fail> {
         (Outside::Source, Status::SourceFault),
         (Outside::Sink, Status::SinkFault),
     ] {
-        let ran = run_script(rt.alloc(), SCRIPT, Some(Failure { of, call: 1 }))?;
+        let ran = run_lines(rt.alloc(), SCRIPT, b"", Some(Failure { of, call: 1 }))?;
         assert_eq!(rt; ran.status, status, "{of:?}");
         assert_eq!(rt; ran.report.bytes(), b"".as_slice(), "{of:?}");
     }
@@ -93,7 +95,7 @@ fn each_first_failure_has_its_status(rt: HostRuntime) -> Result<(), Fail> {
 
 #[test]
 fn source_and_sink_fail_at_each_call_in_turn(rt: HostRuntime) -> Result<(), Fail> {
-    let whole = run_script(rt.alloc(), SCRIPT, None)?;
+    let whole = run_lines(rt.alloc(), SCRIPT, b"", None)?;
     assert_eq!(rt; whole.status, Status::Done);
     assert_eq!(rt; whole.report.bytes(), REPORT.as_bytes());
     for (of, calls, status) in [
@@ -101,7 +103,7 @@ fn source_and_sink_fail_at_each_call_in_turn(rt: HostRuntime) -> Result<(), Fail
         (Outside::Sink, whole.report.calls(), Status::SinkFault),
     ] {
         for call in 1..calls.saturating_add(2) {
-            let ran = run_script(rt.alloc(), SCRIPT, Some(Failure { of, call }))?;
+            let ran = run_lines(rt.alloc(), SCRIPT, b"", Some(Failure { of, call }))?;
             let wanted = if call > calls { Status::Done } else { status };
             assert_eq!(rt; ran.status, wanted, "{of:?} {call}");
             assert!(rt; REPORT.as_bytes().starts_with(ran.report.bytes()));
@@ -109,14 +111,6 @@ fn source_and_sink_fail_at_each_call_in_turn(rt: HostRuntime) -> Result<(), Fail
         }
     }
     Ok(())
-}
-
-/// The bytes of the image that a run handed back.
-fn bytes_left(ran: &Ran) -> &[u8] {
-    match ran.opener.returned() {
-        Some(image) => image.bytes(),
-        None => b"",
-    }
 }
 
 /// How many calls a run made that the image may fail.
@@ -142,17 +136,17 @@ fn is_lawful(report: &[u8]) -> bool {
 
 #[test]
 fn an_image_fails_at_each_call_of_a_press(rt: HostRuntime) -> Result<(), Fail> {
-    let whole = run_script(rt.alloc(), "press 1 1 4\n", None)?;
+    let whole = run_lines(rt.alloc(), "press 1 1 4\n", b"", None)?;
     assert!(rt; calls_made(&whole) > 4);
     for call in 1..calls_made(&whole).saturating_add(1) {
         let failure = Failure {
             of: Outside::Image,
             call,
         };
-        let ran = run_script(rt.alloc(), "press 1 1 4\n", Some(failure))?;
+        let ran = run_lines(rt.alloc(), "press 1 1 4\n", b"", Some(failure))?;
         assert_eq!(rt; ran.status, Status::ImageFault, "call {call}");
         assert_eq!(rt; ran.report.bytes(), b"".as_slice(), "call {call}");
-        let later = run_over(rt.alloc(), b"power\n", bytes_left(&ran), None)?;
+        let later = run_over(rt.alloc(), b"power\n", ran.image_bytes(), None)?;
         if later.status == Status::Done {
             assert_eq!(rt; later.report.bytes(), b"1 ready 304\nend 1\n".as_slice());
         } else {
@@ -165,9 +159,9 @@ fn an_image_fails_at_each_call_of_a_press(rt: HostRuntime) -> Result<(), Fail> {
 
 #[test]
 fn an_image_fails_at_each_call_of_a_write(rt: HostRuntime) -> Result<(), Fail> {
-    let begun = run_script(rt.alloc(), WRITTEN, None)?;
-    let written = bytes_left(&begun);
-    let whole = run_over(rt.alloc(), AGAIN.as_bytes(), written, None)?;
+    let begun = run_lines(rt.alloc(), WRITTEN, b"", None)?;
+    let written = begun.image_bytes();
+    let whole = run_lines(rt.alloc(), AGAIN, written, None)?;
     assert_eq!(rt; whole.status, Status::Done);
     assert!(rt; calls_made(&whole) > 16);
     for call in 1..calls_made(&whole).saturating_add(1) {
@@ -175,10 +169,10 @@ fn an_image_fails_at_each_call_of_a_write(rt: HostRuntime) -> Result<(), Fail> {
             of: Outside::Image,
             call,
         };
-        let ran = run_over(rt.alloc(), AGAIN.as_bytes(), written, Some(failure))?;
+        let ran = run_lines(rt.alloc(), AGAIN, written, Some(failure))?;
         assert_eq!(rt; ran.status, Status::ImageFault, "call {call}");
         assert!(rt; b"1 ready 304\n2 good\n".starts_with(ran.report.bytes()));
-        let later = run_over(rt.alloc(), LATER.as_bytes(), bytes_left(&ran), None)?;
+        let later = run_lines(rt.alloc(), LATER, ran.image_bytes(), None)?;
         assert_eq!(rt; later.status, Status::Done, "call {call}");
         assert!(rt; is_lawful(later.report.bytes()), "call {call}");
         if ran.report.bytes().ends_with(b"2 good\n") {
