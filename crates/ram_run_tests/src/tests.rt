@@ -1,10 +1,8 @@
-//! Whole runs that no row can tell: scripts cut at any use, failures at each call, long scripts, other images and words.
-mod cuts;
+//! Whole runs that no row can tell: scripts at their limits, failures at each call, the bytes of images, exact data.
 mod endings;
 mod failures;
 mod images;
 mod payloads;
-mod program_words;
 
 use crate::runs::{Failure, PIECE, Ran, run_words};
 use crate::shorthand::add_line;

@@ -164,7 +164,7 @@ fn a_script_has_its_limit(rt: HostRuntime) -> Result<(), Fail> {
 }
 
 #[test]
-fn a_long_script_takes_few_calls(rt: HostRuntime) -> Result<(), Fail> {
+fn a_long_script_takes_few_calls_and_no_answer_is_kept_back(rt: HostRuntime) -> Result<(), Fail> {
     let mut script = String::new(rt.alloc());
     script.push_str("press 1 1 4\n")?;
     for _ in 0..50_000u32 {
@@ -178,18 +178,10 @@ fn a_long_script_takes_few_calls(rt: HostRuntime) -> Result<(), Fail> {
     assert!(rt; ran.script.calls() <= takes.saturating_add(2));
     let puts = ran.report.bytes().len().div_ceil(PIECE) as u64;
     assert!(rt; ran.report.calls() <= puts.saturating_add(ran.script.calls()));
-    Ok(())
-}
 
-#[test]
-fn answers_are_handed_over_before_more_is_asked(rt: HostRuntime) -> Result<(), Fail> {
-    let mut script = b"press 1 1 4\n".to_vec(rt.alloc())?;
-    for _ in 0..20u32 {
-        script.extend_from_slice(b"power\n")?;
-    }
+    let few = b"press 1 1 4\npower\npower\npower\npower\npower\npower\n";
     let words = ["run", "disc"];
-    let ran = run_words(rt.alloc(), &words, script.as_slice(), b"", 6, None)?;
-    assert_eq!(rt; ran.status, Status::Done);
-    assert!(rt; ran.report.calls() >= 21, "an answer was kept back");
+    let ran = run_words(rt.alloc(), &words, few, b"", 6, None)?;
+    assert!(rt; ran.report.calls() >= 7, "an answer was kept back");
     Ok(())
 }

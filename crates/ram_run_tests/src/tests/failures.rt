@@ -79,35 +79,20 @@ const LAWFUL: [&str; 16] = [
 ];
 
 #[test]
-fn each_first_failure_has_its_status(rt: HostRuntime) -> Result<(), Fail> {
-    for (of, status) in [
-        (Outside::Opener, Status::ImageFault),
-        (Outside::Image, Status::ImageFault),
-        (Outside::Source, Status::SourceFault),
-        (Outside::Sink, Status::SinkFault),
-    ] {
-        let ran = run_lines(rt.alloc(), SCRIPT, b"", Some(Failure { of, call: 1 }))?;
-        assert_eq!(rt; ran.status, status, "{of:?}");
-        assert_eq!(rt; ran.report.bytes(), b"".as_slice(), "{of:?}");
-    }
-    Ok(())
-}
-
-#[test]
-fn source_and_sink_fail_at_each_call_in_turn(rt: HostRuntime) -> Result<(), Fail> {
+fn source_sink_and_opener_fail_at_each_call_in_turn(rt: HostRuntime) -> Result<(), Fail> {
     let whole = run_lines(rt.alloc(), SCRIPT, b"", None)?;
     assert_eq!(rt; whole.status, Status::Done);
     assert_eq!(rt; whole.report.bytes(), REPORT.as_bytes());
     for (of, calls, status) in [
         (Outside::Source, whole.script.calls(), Status::SourceFault),
         (Outside::Sink, whole.report.calls(), Status::SinkFault),
+        (Outside::Opener, 1, Status::ImageFault),
     ] {
         for call in 1..calls.saturating_add(2) {
             let ran = run_lines(rt.alloc(), SCRIPT, b"", Some(Failure { of, call }))?;
             let wanted = if call > calls { Status::Done } else { status };
             assert_eq!(rt; ran.status, wanted, "{of:?} {call}");
             assert!(rt; REPORT.as_bytes().starts_with(ran.report.bytes()));
-            assert!(rt; ran.opener.returned().is_some());
         }
     }
     Ok(())
