@@ -11,5 +11,3 @@ mod printing;
 pub mod run;
 mod serve;
 pub mod status;
-#[cfg(test)]
-mod tests;

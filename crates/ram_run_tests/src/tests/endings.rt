@@ -1,16 +1,17 @@
 //! How a run ends: the last line of the report, and the status.
 ghost use Rattle.std.specs.Prelude.{None};
 
-use super::{PIECE, REPORT_BYTES, Status, run_script, run_words};
-use crate::run::run;
+use super::run_over;
+use crate::runs::{PIECE, REPORT_BYTES, run_words};
 use ram_outside::{MemImage, MemOpener, MemSink, Source, Take};
+use ram_run::run::run;
+use ram_run::status::Status;
 use std::alloc::{AllocError, Global};
 use std::test::Fail;
 
-/// Scripts over an image that is no disc, with their statuses and reports.
-const ENDINGS: [(&str, Status, &str); 18] = [
+/// Scripts with a carriage return, a tab or no line feed at their end, with their statuses and reports.
+const ENDINGS: [(&str, Status, &str); 9] = [
     ("", Status::Done, "end 0\n"),
-    ("\n", Status::Done, "end 0\n"),
     ("# nothing\n\n   \n\r\n#\n", Status::Done, "end 0\n"),
     ("press 1 1 4", Status::Done, "1 pressed\nend 1\n"),
     ("press 1 1 4\r", Status::Done, "1 pressed\nend 1\n"),
@@ -18,16 +19,6 @@ const ENDINGS: [(&str, Status, &str); 18] = [
         "press 1 1 4\r\npower\r\n",
         Status::Done,
         "1 pressed\n2 ready 304\nend 2\n",
-    ),
-    (
-        "press 1 1 4\n\n# on\n  power  \n\n",
-        Status::Done,
-        "1 pressed\n4 ready 304\nend 2\n",
-    ),
-    (
-        "press 1 1 4\n\n # on\n",
-        Status::Script,
-        "1 pressed\n3 not in the script language\n",
     ),
     (
         "press 1 1 4\r\r\n",
@@ -45,30 +36,16 @@ const ENDINGS: [(&str, Status, &str); 18] = [
         "1 pressed\n2 off\n3 not in the script language\n",
     ),
     (
-        "Press 1 1 4\npower\n",
-        Status::Script,
-        "1 not in the script language\n",
-    ),
-    ("power\n", Status::NotADisc, "1 not a disc\n"),
-    (
         "# first\n\ncdb 000000000000",
         Status::NotADisc,
         "3 not a disc\n",
     ),
-    ("fail 1\n", Status::NotADisc, "1 not a disc\n"),
-    ("wear 1 1\n", Status::NotADisc, "1 not a disc\n"),
-    ("cut 1 old\n", Status::NotADisc, "1 not a disc\n"),
-    (
-        "press 0 1 4\npress 1 1 4294967295\npower\n",
-        Status::NotADisc,
-        "1 not pressed\n2 not pressed\n3 not a disc\n",
-    ),
 ];
 
 #[test]
-fn each_last_line_has_its_status(rt: HostRuntime) -> Result<(), Fail> {
+fn a_script_may_end_anyhow(rt: HostRuntime) -> Result<(), Fail> {
     for (script, status, report) in ENDINGS {
-        let ran = run_script(rt.alloc(), script, None)?;
+        let ran = run_over(rt.alloc(), script.as_bytes(), b"", None)?;
         assert_eq!(rt; ran.report.bytes(), report.as_bytes(), "{script}");
         assert_eq!(rt; ran.status, status, "{script}");
     }
@@ -187,13 +164,13 @@ fn a_script_has_its_limit(rt: HostRuntime) -> Result<(), Fail> {
 }
 
 #[test]
-fn a_long_script_takes_few_calls(rt: HostRuntime) -> Result<(), Fail> {
+fn a_long_script_takes_few_calls_and_no_answer_is_kept_back(rt: HostRuntime) -> Result<(), Fail> {
     let mut script = String::new(rt.alloc());
     script.push_str("press 1 1 4\n")?;
     for _ in 0..50_000u32 {
         script.push_str("power\n")?;
     }
-    let ran = run_script(rt.alloc(), script.as_str(), None)?;
+    let ran = run_over(rt.alloc(), script.as_bytes(), b"", None)?;
     assert_eq!(rt; ran.status, Status::Done);
     let end = b"\n50001 ready 304\nend 50001\n";
     assert!(rt; ran.report.bytes().ends_with(end));
@@ -201,5 +178,10 @@ fn a_long_script_takes_few_calls(rt: HostRuntime) -> Result<(), Fail> {
     assert!(rt; ran.script.calls() <= takes.saturating_add(2));
     let puts = ran.report.bytes().len().div_ceil(PIECE) as u64;
     assert!(rt; ran.report.calls() <= puts.saturating_add(ran.script.calls()));
+
+    let few = b"press 1 1 4\npower\npower\npower\npower\npower\npower\n";
+    let words = ["run", "disc"];
+    let ran = run_words(rt.alloc(), &words, few, b"", 6, None)?;
+    assert!(rt; ran.report.calls() >= 7, "an answer was kept back");
     Ok(())
 }

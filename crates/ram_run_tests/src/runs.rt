@@ -1,31 +1,23 @@
-//! Whole runs over memory: the report, the status and the image that is handed back.
+//! One run over objects in memory, and what it leaves.
 ghost use Rattle.std.specs.Prelude.{◌<◌};
 
-mod answers;
-mod cuts;
-mod endings;
-mod examples;
-mod failures;
-mod images;
-mod program_words;
-
-use crate::run::run;
-use crate::status::Status;
 use ram_outside::{MemImage, MemOpener, MemSink, MemSource};
+use ram_run::run::run;
+use ram_run::status::Status;
 use std::alloc::{AllocError, Global};
 
 /// How many bytes the image of a disc of one zone, scale 1 and four primary spares has.
-const IMAGE_BYTES: usize = 1_343_545;
+pub const IMAGE_BYTES: usize = 1_343_545;
 
 /// Room for the longest report.
-const REPORT_BYTES: usize = 1_000_000;
+pub const REPORT_BYTES: usize = 1_000_000;
 
-/// How many bytes source and sink move at once, where a test does not say it.
-const PIECE: usize = 65_536;
+/// How many bytes source and sink move at once, where nothing else is said.
+pub const PIECE: usize = 65_536;
 
-/// What fails in a test.
+/// What fails in a run.
 #[derive(Clone, Copy, Debug, PartialEq, Eq)]
-enum Outside {
+pub enum Outside {
     Source,
     Sink,
     Opener,
@@ -34,33 +26,32 @@ enum Outside {
 
 /// The call, counted from 1 on, at which something fails.
 #[derive(Clone, Copy, Debug, PartialEq, Eq)]
-struct Failure {
-    of: Outside,
-    call: u64,
+pub struct Failure {
+    pub of: Outside,
+    pub call: u64,
 }
 
 /// How a run ended, and what it leaves.
 #[derive(Drop)]
-struct Ran {
-    status: Status,
-    script: MemSource,
-    report: MemSink,
-    opener: MemOpener,
+pub struct Ran {
+    pub status: Status,
+    pub script: MemSource,
+    pub report: MemSink,
+    pub opener: MemOpener,
 }
 
-/// The numbers of the calls that fail.
-fn failing(alloc: Global, failure: Option<Failure>, of: Outside) -> Result<Vec<u64>, AllocError> {
-    let mut calls = Vec::new(alloc);
-    if let Some(failure) = failure {
-        if failure.of == of {
-            calls.push(failure.call)?;
+impl Ran {
+    /// The bytes of the image that was handed back; none where no image was.
+    pub fn image_bytes(&self) -> &[u8] {
+        match self.opener.returned() {
+            Some(image) => image.bytes(),
+            None => b"",
         }
     }
-    Ok(calls)
 }
 
-/// Runs these words over an image of these bytes. Source and sink move at most `piece` bytes at once.
-fn run_words(
+/// Runs these words over a script and an image of these bytes. Source and sink move at most `piece` bytes at once.
+pub fn run_words(
     alloc: Global,
     words: &[&str],
     script: &[u8],
@@ -90,17 +81,13 @@ fn run_words(
     })
 }
 
-/// Runs a script over an image of these bytes.
-fn run_over(
-    alloc: Global,
-    script: &[u8],
-    image: &[u8],
-    failure: Option<Failure>,
-) -> Result<Ran, AllocError> {
-    run_words(alloc, &["run", "disc"], script, image, PIECE, failure)
-}
-
-/// Runs a script over an empty image.
-fn run_script(alloc: Global, script: &str, failure: Option<Failure>) -> Result<Ran, AllocError> {
-    run_over(alloc, script.as_bytes(), b"", failure)
+/// The numbers of the calls of this object that fail.
+fn failing(alloc: Global, failure: Option<Failure>, of: Outside) -> Result<Vec<u64>, AllocError> {
+    let mut calls = Vec::new(alloc);
+    if let Some(failure) = failure {
+        if failure.of == of {
+            calls.push(failure.call)?;
+        }
+    }
+    Ok(calls)
 }

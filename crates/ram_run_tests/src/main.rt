@@ -1,0 +1,55 @@
+//! Runs whole scripts over images in memory, where no proof reaches: which bytes the answers are. The rows stand in
+//! `stdin`, and what they must be answered in `stdout`. What no row can tell is in `tests`.
+//!
+//! A row begins with `== TITLE`. Its script runs over an empty image, or, where the title begins with `then`, over the
+//! image that the row before left. Rows have the short forms of `shorthand`.
+#![tactic(auto)]
+
+mod runs;
+mod shorthand;
+#[cfg(test)]
+mod tests;
+
+use crate::runs::{PIECE, run_words};
+use crate::shorthand::add_line;
+use ram_run::status::Status;
+use std::io;
+
+fn main(rt: HostRuntime) -> io::Result<()> {
+    let mut script = String::new(rt.alloc());
+    let mut image = Vec::new(rt.alloc());
+    let mut begun = false;
+    for line in rt.lines(rt.alloc()) {
+        let line = line?;
+        match line.strip_prefix("== ") {
+            None => add_line(&mut script, line.as_str())?,
+            Some(title) => {
+                if begun {
+                    image = end_row(&rt, script.as_bytes(), image)?;
+                }
+                begun = true;
+                script.clear();
+                if !title.starts_with("then") {
+                    image.clear();
+                }
+                println!(rt; "== {title}")?;
+            }
+        }
+    }
+    if begun {
+        end_row(&rt, script.as_bytes(), image)?;
+    }
+    Ok(())
+}
+
+/// Runs the script of a row, prints its report and its exit status, and gives the image that it leaves.
+fn end_row<R: Print + AllocGlobal>(rt: &R, script: &[u8], image: Vec<u8>) -> io::Result<Vec<u8>> {
+    let words = ["run", "disc"];
+    let ran = run_words(rt.alloc(), &words, script, image.as_slice(), PIECE, None)?;
+    print!(rt;
+        "{}",
+        str::from_utf8(ran.report.bytes()).unwrap_or("no text\n")
+    )?;
+    println!(rt; "exit status {}", ran.status as u8)?;
+    Ok(ran.image_bytes().to_vec(rt.alloc())?)
+}
