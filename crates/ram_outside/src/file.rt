@@ -1,4 +1,4 @@
-//! Disc images that are files. They tell no bytes; what the system does is trusted.
+//! Disc images that are files. No bytes of them are known; what the system does is trusted.
 ghost use Rattle.std.specs.Prelude.{◌≡◌, ℕ, false, None};
 ghost use Rattle.model_counts.specs.Counts.{counted};
 ghost use Rattle.ram_outside.specs.Image.{LenRule, ReadAtRule, WriteAtRule, SetLenRule};

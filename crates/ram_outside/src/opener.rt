@@ -1,3 +1,4 @@
+//! The trait `Opener`: opens images by name, and takes them back. Definitions alone.
 ghost use Rattle.std.specs.Prelude.{ℕ, Bool, Option, List};
 ghost use Rattle.ram_outside.specs.Opener.{OpenRule, CloseRule, opener_view};
 
@@ -15,13 +16,13 @@ pub enum Opened<I> {
 pub trait Opener {
     type Image: Image;
 
-    /// Whether openers of this kind tell what was handed back.
+    /// Whether of openers of this kind it is known what was handed back.
     ghost tells: { Bool };
 
-    /// The image that the next `open` gives, where it is told.
+    /// The image that the next `open` gives, where it is known.
     ghost next: { Self → Option Self.Image };
 
-    /// The image that was handed back last, where there was one and it is told.
+    /// The image that was handed back last, where there was one and it is known.
     ghost returned: { Self → Option Self.Image };
 
     /// The names that were asked for so far, in order, where they are known.
@@ -30,7 +31,8 @@ pub trait Opener {
     /// How often the opener has failed, or an image that it took back. It never falls, and stands still at 2^64 - 1.
     ghost faults: { Self → ℕ };
 
-    /// Opens the image of this name. Its count of failures begins at 0.
+    /// Opens the image of this name. Its count of failures begins at 0. `Failed` says that no image is open, and one
+    /// failure more is counted.
     fn open(&mut self, name: &str) -> Opened<Self::Image>
         ensures { OpenRule Self.Image.faults name.now
             (opener_view (next self.old) (returned self.old) (asked self.old) (faults self.old))

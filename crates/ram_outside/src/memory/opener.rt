@@ -1,3 +1,4 @@
+//! An opener in memory: one image, which it gives once, and the names that it was asked for.
 ghost use Rattle.std.specs.Prelude.{◌≡◌, true, Some, None, [], if◌then◌else◌};
 ghost use Rattle.std.specs.Option.{option_copied};
 ghost use Rattle.ram_outside.specs.Opener.{OpenRule, CloseRule};
