@@ -1,46 +1,20 @@
--- What a host is answered by a disc that knows two commands, READ(10) and WRITE(10).
-use Rattle.std.specs.Prelude.{◌≡◌, ℕ, ◌⊎◌, ◌==◌, ◌||◌, not, nat_lt, if◌then◌else◌, Option, Some, None, Result, Ok, Err, List, [], length}
-use Rattle.model_commands.specs.Commands.{operation_of, field, out_length_of, transfer_limit}
-use Rattle.model_commands.specs.declared.Operation.{Operation}
-use Rattle.model_commands.specs.declared.Operation.TheVariants.{Read10, Write10}
+-- What a command does on a drive of sectors, and how it is answered. For whoever executes commands, and for whoever says
+-- what a line of a script does.
+use Rattle.std.specs.Prelude.{◌≡◌, ℕ, ◌⊎◌, Result, Ok, Err, List, [], length}
+use Rattle.ram_sense.specs.Sense.{sense, sense_at}
 use Rattle.ram_sense.specs.declared.sense.Sense.{Sense}
-use Rattle.ram_mmc.specs.declared.Answer.{Answer}
-use Rattle.ram_mmc.specs.declared.Answer.TheVariants as answers
+use Rattle.ram_sense.specs.declared.answer.Answer.{Answer}
+use Rattle.ram_sense.specs.declared.answer.Answer.TheVariants as answers
 use Rattle.model_sectors.specs.Discs.{Standing, Shown, IsOn}
 use Rattle.model_sectors.specs.Calls.{ReadCause, ReadStep, IsInRange, AreBuffered, ReadsBuffered, WriteCause, WriteStep}
 use Rattle.model_sectors.specs.declared.ReadOut.{ReadOut}
 use Rattle.model_sectors.specs.declared.ReadOut.TheVariants as reads
 use Rattle.model_sectors.specs.declared.WriteOut.{WriteOut}
 use Rattle.model_sectors.specs.declared.WriteOut.TheVariants as writes
-use Rattle.ram_run.specs.declared.commands.Transfer.{Transfer}
-use Rattle.ram_run.specs.declared.commands.Transfer.TheVariants as transfers
-
--- sense without information: its key, code and qualifier (after INCITS MMC)
-abbrev pub sense : (key asc ascq : ℕ) → Sense
-sense key asc ascq = record { key = key; asc = asc; ascq = ascq; info = None }
-
--- sense with the first sector that is concerned
-abbrev pub sense_at : (key asc ascq lba : ℕ) → Sense
-sense_at key asc ascq lba = record { key = key; asc = asc; ascq = ascq; info = Some lba }
-
--- A transfer, or the first refusal that applies: 5/24/00 where the command block has fewer than 10 bytes or more
--- sectors are named than a command moves, then 5/1A/00 where the data have another length than the command takes.
--- (After INCITS MMC; the order is this project's own.)
-abbrev pub checked : List ℕ → (given : ℕ) → Transfer → Result Transfer Sense
-checked cdb given transfer =
-    if nat_lt (length cdb) 10 || nat_lt transfer_limit (field 7 2 cdb) then Err (sense 0x5 0x24 0x00)
-    else if not (given == out_length_of cdb) then Err (sense 0x5 0x1a 0x00)
-    else Ok transfer
-
--- What a command asks for, which comes with so many bytes of data. Every other operation code is 5/20/00. (This
--- project's own.)
-abbrev pub asked_by : Option Operation → List ℕ → (given : ℕ) → Result Transfer Sense
-asked_by (Some Read10) cdb given = checked cdb given (transfers.Read (field 2 4 cdb) (field 7 2 cdb))
-asked_by (Some Write10) cdb given = checked cdb given (transfers.Write (field 2 4 cdb) (field 7 2 cdb))
-asked_by _ cdb given = Err (sense 0x5 0x20 0x00)
-
-abbrev pub asked : List ℕ → (given : ℕ) → Result Transfer Sense
-asked cdb given = asked_by (operation_of cdb) cdb given
+use Rattle.ram_sectors.specs.declared.Sectors.{Ghosts as Drives}
+use Rattle.ram_mmc.specs.declared.commands.Transfer.{Transfer}
+use Rattle.ram_mmc.specs.declared.commands.Transfer.TheVariants as transfers
+use Rattle.ram_mmc.specs.Asked.{asked}
 
 -- how each end of a read is answered (after INCITS MMC)
 abbrev pub read_answer : ReadOut → Answer
@@ -88,21 +62,48 @@ module _ (old new : Shown) (before after : Standing → Type 0) where
     pub answer_is : answer ≡ write_answer out
     pub no_reply : reply ≡ []
 
-  -- nothing was done, and the answer is this one
-  pub record IsRefused (answer due : Answer) (reply : List ℕ) : Type 0 where
-    pub answer_is : answer ≡ due
-    pub no_reply : reply ≡ []
+  -- nothing was done
+  pub record Untouched : Type 0 where
     pub same : new ≡ old
     pub stands : (s : Standing) → before s → after s
+
+  -- nothing was done, and the answer is this one
+  pub record IsAnsweredAlone (answer due : Answer) (reply : List ℕ) : Type 0 where
+    pub answer_is : answer ≡ due
+    pub no_reply : reply ≡ []
+    pub untouched : Untouched
 
   -- what a transfer was answered, or why there was none
   abbrev pub IsTransferred : List ℕ → Answer → List ℕ → Result Transfer Sense → Type 0
   IsTransferred payload answer reply (Ok (transfers.Read lba n)) = IsRead lba n answer reply
   IsTransferred payload answer reply (Ok (transfers.Write lba n)) = IsWritten lba n payload answer reply
-  IsTransferred payload answer reply (Err why) = IsRefused answer (answers.Check why) reply
+  IsTransferred payload answer reply (Err why) = IsAnsweredAlone answer (answers.Check why) reply
 
   -- What a command does, and how it is answered, with its reply: while the power is off nothing is done. (This
   -- project's own.)
   abbrev pub IsExecuted : List ℕ → List ℕ → Answer → List ℕ → Type 0
   IsExecuted cdb payload answer reply =
-      (¬ IsOn old × IsRefused answer answers.Off reply) ⊎ (IsOn old × IsTransferred payload answer reply (asked cdb (length payload)))
+      (¬ IsOn old × IsAnsweredAlone answer answers.Off reply)
+      ⊎ (IsOn old × IsTransferred payload answer reply (asked cdb (length payload)))
+
+  -- What comes of a command that asks for this transfer, or is refused so: where it is refused nothing is done, whether
+  -- the power is on or not.
+  abbrev pub TransferRule : List ℕ → Result Answer Sense → List ℕ → Result Transfer Sense → Type 0
+  TransferRule payload (Ok answer) reply (Ok (transfers.Read lba n)) = IsRead lba n answer reply
+  TransferRule payload (Ok answer) reply (Ok (transfers.Write lba n)) = IsWritten lba n payload answer reply
+  TransferRule payload (Err why) reply (Err due) = (why ≡ due) × (reply ≡ []) × Untouched
+  TransferRule payload _ reply _ = ⊥
+
+-- The same of a drive, before and after.
+module _ {D : Type 0} (drives : Drives D) (old new : D) where
+  abbrev pub Reads : (lba n : ℕ) → Answer → List ℕ → Type 0
+  Reads lba n answer reply =
+      IsRead (drives.shows old) (drives.shows new) (drives.stands old) (drives.stands new) lba n answer reply
+
+  abbrev pub Transfers : List ℕ → Result Answer Sense → List ℕ → Result Transfer Sense → Type 0
+  Transfers payload result reply wanted =
+      TransferRule (drives.shows old) (drives.shows new) (drives.stands old) (drives.stands new) payload result reply wanted
+
+  abbrev pub Executes : List ℕ → List ℕ → Answer → List ℕ → Type 0
+  Executes cdb payload answer reply =
+      IsExecuted (drives.shows old) (drives.shows new) (drives.stands old) (drives.stands new) cdb payload answer reply
