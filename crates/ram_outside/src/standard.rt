@@ -109,8 +109,6 @@ fn write_some(rt: &impl Print, piece: &[u8]) -> io::Result<usize>
 
 #[cfg(test)]
 mod tests {
-    ghost use Rattle.std.specs.Prelude.{◌<◌, length};
-
     use super::{StdSink, StdSource};
     use crate::sink::{Put, Sink};
     use crate::source::{Source, Take};
