@@ -70,12 +70,12 @@ pub record TookLast (before after : Reading) : Type 0 where
   pub grew : after.taken ≡ before.taken + length before.buffered
 
 -- what the end of the source makes of what is buffered
-abbrev pub LastRule : Reading → Reading → NextLine → Type 0
-LastRule before after Line = TookLast before after
-LastRule before after End = (before.buffered ≡ []) × (after ≡ without_line before)
-LastRule before after LineTooLong = ⊥
-LastRule before after ScriptTooLong = ⊥
-LastRule before after Failed = ⊥
+abbrev pub LastLineBytes : Reading → Reading → NextLine → Type 0
+LastLineBytes before after Line = TookLast before after
+LastLineBytes before after End = (before.buffered ≡ []) × (after ≡ without_line before)
+LastLineBytes before after LineTooLong = ⊥
+LastLineBytes before after ScriptTooLong = ⊥
+LastLineBytes before after Failed = ⊥
 
 -- which limit is passed first, where a line without an end passes one of them
 abbrev pub PassedFirst : ℕ → NextLine → Type 0

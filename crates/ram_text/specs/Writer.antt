@@ -16,7 +16,7 @@ pub record IsPut (before after : Option (List ℕ)) (faults faults' : ℕ) (text
   pub count : faults' ≡ faults
 
 -- a front of the text went to the end of what is due, and the sink failed and counted it
-pub record IsCutOff (before after : Option (List ℕ)) (faults faults' : ℕ) (text : List ℕ) : Type 0 where
+pub record IsCutShort (before after : Option (List ℕ)) (faults faults' : ℕ) (text : List ℕ) : Type 0 where
   pub n : ℕ
   pub grew : after ≡ append_known before (take n text)
   pub count : Rose faults faults'
@@ -25,7 +25,7 @@ pub record IsCutOff (before after : Option (List ℕ)) (faults faults' : ℕ) (t
 -- and after. (This project's own.)
 abbrev pub PrintRule : Option (List ℕ) → Option (List ℕ) → ℕ → ℕ → List ℕ → Print → Type 0
 PrintRule before after faults faults' text Done = IsPut before after faults faults' text
-PrintRule before after faults faults' text Failed = IsCutOff before after faults faults' text
+PrintRule before after faults faults' text Failed = IsCutShort before after faults faults' text
 
 -- What handing over what is gathered may do, by its answer: what is due stays as it was; where it is done nothing is
 -- gathered any more, and else the sink failed and counted it. (This project's own.)

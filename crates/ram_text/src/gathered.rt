@@ -1,3 +1,4 @@
+//! Text that is gathered on its way to a sink. It touches its own bytes, and the sink's by `put` alone.
 ghost use Rattle.std.specs.Prelude.{◌≡◌, ◌+◌, ◌<◌, ◌≤◌, ℕ, List, [], ◌++◌, length, IfOk, MatchBool};
 ghost use Rattle.ram_text.specs.Writer.{Prints, HandsOver, HandOverRule};
 

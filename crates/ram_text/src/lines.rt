@@ -1,7 +1,9 @@
+//! The lines of a script, one after another, from any source. It touches its own bytes, and the source by `take`
+//! alone.
 ghost use Rattle.std.specs.Prelude.{◌≡◌, ◌↔◌, ℕ, ◌+◌, ◌-◌, ◌<◌, ◌≤◌, ◌⊎◌, Option, List, [], length, take, IfOk, IsTrue, vec_len, slice_range};
 ghost use Rattle.ram_outside.specs.Source.{TakeRule};
 ghost use Rattle.ram_text.specs.Lines.{Reading, HoldsLine, NextLineRule, HasNoFeed, IsFirstFeed};
-ghost use Rattle.ram_text.specs.Steps.{IsOpen, CutRule, FillRule, LastRule, PassedFirst};
+ghost use Rattle.ram_text.specs.Steps.{IsOpen, CutRule, FillRule, LastLineBytes, PassedFirst};
 ghost use Rattle.ram_text.specs.declared.lines.TheConstants.{LINE_LIMIT, SCRIPT_LIMIT, PIECE, ROOM};
 
 use crate::report::ReportWriter;
@@ -178,7 +180,7 @@ impl LineReader {
     // What is buffered when the source has ended is the last line, unless nothing is.
     fn last_line(&mut self) -> NextLine
         requires { IsOpen self.old }
-        ensures { LastRule self.old self.new result }
+        ensures { LastLineBytes self.old self.new result }
     {
         self.line_start = self.start;
         self.line_end = self.end;

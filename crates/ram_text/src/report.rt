@@ -1,3 +1,5 @@
+//! The writer of a report: texts, numbers and hexadecimal digits, behind what is due. It touches what is gathered,
+//! and the sink by `put` alone.
 ghost use Rattle.std.specs.Prelude.{◌≡◌, ◌*◌, ◌≤◌, [], decimal, length, IfOk};
 ghost use Rattle.hex.specs.Hex.{encode_lower};
 ghost use Rattle.ram_text.specs.Writer.{Prints, HandsOver};

@@ -1,3 +1,4 @@
+//! Lines in pieces of each size, and at their limits.
 ghost use Rattle.std.specs.Prelude.{◌≡◌, ◌+◌, ◌<◌, ◌≤◌, None};
 
 use super::*;

@@ -1,3 +1,4 @@
+//! The text of each answer, byte for byte.
 ghost use Rattle.std.specs.Prelude.{None};
 
 use super::{Event, LastLine, print_answer, print_event, print_last, print_line};
