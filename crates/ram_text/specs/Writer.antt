@@ -3,6 +3,7 @@ use Rattle.std.specs.Prelude.{◌≡◌, ℕ, ◌<◌, Option, List, [], length,
 use Rattle.std.specs.Io.KnownBytes.{append_known}
 use Rattle.model_counts.specs.Counts.{Rose}
 use Rattle.ram_outside.specs.declared.sink.Sink.{Ghosts as Sinks}
+use Rattle.ram_text.specs.declared.gathered.SinkFailed.{SinkFailed}
 use Rattle.ram_text.specs.declared.gathered.Print.{Print}
 use Rattle.ram_text.specs.declared.gathered.Print.TheVariants.{Done, Failed}
 
@@ -27,6 +28,11 @@ abbrev pub PrintRule : Option (List ℕ) → Option (List ℕ) → ℕ → ℕ �
 PrintRule before after faults faults' text Done = IsPut before after faults faults' text
 PrintRule before after faults faults' text Failed = IsCutShort before after faults faults' text
 
+-- What a call inside that prints a text may do, by how it went, as `PrintRule` has it. (This project's own.)
+abbrev pub TextRule : Option (List ℕ) → Option (List ℕ) → ℕ → ℕ → List ℕ → Result (Unit {0}) SinkFailed → Type 0
+TextRule before after faults faults' text (Ok done) = IsPut before after faults faults' text
+TextRule before after faults faults' text (Err failed) = IsCutShort before after faults faults' text
+
 -- What handing over what is gathered may do, by its answer: what is due stays as it was; where it is done nothing is
 -- gathered any more, and else the sink failed and counted it. (This project's own.)
 abbrev pub FlushRule : Option (List ℕ) → Option (List ℕ) → List ℕ → ℕ → ℕ → Print → Type 0
@@ -47,6 +53,10 @@ module _ {K : Type 0} (sinks : Sinks K) where
   -- (This project's own.)
   abbrev pub Prints : List ℕ → K → List ℕ → K → List ℕ → Print → Type 0
   Prints w s w' s' text answer = PrintRule (due_of w s) (due_of w' s') (sinks.faults s) (sinks.faults s') text answer
+
+  -- the same of a call inside, by how it went (this project's own)
+  abbrev pub PutsText : List ℕ → K → List ℕ → K → List ℕ → Result (Unit {0}) SinkFailed → Type 0
+  PutsText w s w' s' text outcome = TextRule (due_of w s) (due_of w' s') (sinks.faults s) (sinks.faults s') text outcome
 
   -- What is gathered is handed over, or a front of it and the sink failed: what is gathered and the sink, before and
   -- after. (This project's own.)
