@@ -113,7 +113,8 @@ impl Gathered {
 
 /// Hands the sink the whole text, or tells how many bytes it took before it failed, and counted it.
 pub fn hand_over<K: Sink>(sink: &mut K, text: &[u8]) -> Result<(), usize>
-    ensures { HandOverRule (K.written sink.old) (K.written sink.new) (K.faults sink.old) (K.faults sink.new) text.now result }
+    ensures { HandOverRule (K.written sink.old) (K.written sink.new)
+        (K.faults sink.old) (K.faults sink.new) text.now result }
 {
     let mut sent = 0;
     while sent < text.len() {

@@ -25,7 +25,8 @@ pub fn print_answer<K: Sink>(
 ) -> Print
     requires printed { IsPrinted answer.now }
     requires addressed { IsAddressed answer.now cdb.now }
-    ensures { Prints K.Sink writer.old sink.old writer.new sink.new (answer_text number answer.now cdb.now reply.now) result }
+    ensures { Prints K.Sink writer.old sink.old writer.new sink.new
+        (answer_text number answer.now cdb.now reply.now) result }
 {
     printed(put_answer(writer, sink, number, answer, cdb, reply))
 }
@@ -41,7 +42,8 @@ fn put_answer<K: Sink>(
 ) -> Result<(), SinkFailed>
     requires printed { IsPrinted answer.now }
     requires addressed { IsAddressed answer.now cdb.now }
-    ensures { PutsText K.Sink writer.old sink.old writer.new sink.new (answer_text number answer.now cdb.now reply.now) result }
+    ensures { PutsText K.Sink writer.old sink.old writer.new sink.new
+        (answer_text number answer.now cdb.now reply.now) result }
 {
     print_words_of(writer, sink, number, answer)?;
     print_reply(writer, sink, answer, cdb, reply)
@@ -55,7 +57,8 @@ fn print_words_of<K: Sink>(
     answer: &Answer,
 ) -> Result<(), SinkFailed>
     requires { IsPrinted answer.now }
-    ensures { PutsText K.Sink writer.old sink.old writer.new sink.new (numbered number (answer_words answer.now)) result }
+    ensures { PutsText K.Sink writer.old sink.old writer.new sink.new
+        (numbered number (answer_words answer.now)) result }
 {
     writer.put_number(sink, number)?;
     print_words(writer, sink, answer)
@@ -68,7 +71,8 @@ fn print_words<K: Sink>(
     answer: &Answer,
 ) -> Result<(), SinkFailed>
     requires { IsPrinted answer.now }
-    ensures { PutsText K.Sink writer.old sink.old writer.new sink.new (codes " " ++ answer_words answer.now ++ codes "\n") result }
+    ensures { PutsText K.Sink writer.old sink.old writer.new sink.new
+        (codes " " ++ answer_words answer.now ++ codes "\n") result }
 {
     match answer {
         Answer::Good => writer.put(sink, b" good\n"),
@@ -85,7 +89,8 @@ fn print_check<K: Sink>(
     sink: &mut K,
     sense: &Sense,
 ) -> Result<(), SinkFailed>
-    ensures { PutsText K.Sink writer.old sink.old writer.new sink.new (codes " check " ++ (sense_code sense.now ++ (info_words sense.now.info ++ codes "\n"))) result }
+    ensures { PutsText K.Sink writer.old sink.old writer.new sink.new
+        (codes " check " ++ (sense_code sense.now ++ (info_words sense.now.info ++ codes "\n"))) result }
 {
     writer.put(sink, b" check ")?;
     print_sense(writer, sink, sense)
@@ -97,7 +102,8 @@ fn print_sense<K: Sink>(
     sink: &mut K,
     sense: &Sense,
 ) -> Result<(), SinkFailed>
-    ensures { PutsText K.Sink writer.old sink.old writer.new sink.new (sense_code sense.now ++ (info_words sense.now.info ++ codes "\n")) result }
+    ensures { PutsText K.Sink writer.old sink.old writer.new sink.new
+        (sense_code sense.now ++ (info_words sense.now.info ++ codes "\n")) result }
 {
     writer.put(sink, &digits_of(sense))?;
     print_info(writer, sink, sense.info)

@@ -23,7 +23,8 @@ pub(crate) fn print_reply<K: Sink>(
     reply: &[u8],
 ) -> Result<(), SinkFailed>
     requires { IsAddressed answer.now cdb.now }
-    ensures { PutsText K.Sink writer.old sink.old writer.new sink.new (reply_text answer.now cdb.now reply.now) result }
+    ensures { PutsText K.Sink writer.old sink.old writer.new sink.new
+        (reply_text answer.now cdb.now reply.now) result }
 {
     match answer {
         Answer::Good => {}
@@ -55,7 +56,8 @@ fn print_sectors<K: Sink>(
     lba: u32,
     sectors: &[u8],
 ) -> Result<(), SinkFailed>
-    ensures { PutsText K.Sink writer.old sink.old writer.new sink.new (sectors_text lba sectors.now (length sectors.now / 2048)) result }
+    ensures { PutsText K.Sink writer.old sink.old writer.new sink.new
+        (sectors_text lba sectors.now (length sectors.now / 2048)) result }
 {
     for k in 0..sectors.len() / SECTOR_BYTES {
         let sector = &sectors[SECTOR_BYTES * k..SECTOR_BYTES * (k + 1)];
@@ -99,7 +101,8 @@ fn print_bytes<K: Sink>(
     bytes: &[u8],
 ) -> Result<(), SinkFailed>
     requires { length bytes.now ≤ SECTOR_BYTES }
-    ensures { PutsText K.Sink writer.old sink.old writer.new sink.new (codes "sector " ++ decimal lba ++ words.now ++ encode_lower bytes.now ++ codes "\n") result }
+    ensures { PutsText K.Sink writer.old sink.old writer.new sink.new
+        (codes "sector " ++ decimal lba ++ words.now ++ encode_lower bytes.now ++ codes "\n") result }
 {
     print_labelled(writer, sink, b"sector ", lba)?;
     writer.put(sink, words)?;
@@ -128,7 +131,8 @@ fn print_data_digits<K: Sink>(
     sink: &mut K,
     reply: &[u8],
 ) -> Result<(), SinkFailed>
-    ensures { PutsText K.Sink writer.old sink.old writer.new sink.new (codes " " ++ encode_lower reply.now ++ codes "\n") result }
+    ensures { PutsText K.Sink writer.old sink.old writer.new sink.new
+        (codes " " ++ encode_lower reply.now ++ codes "\n") result }
 {
     writer.put(sink, b" ")?;
     print_digits(writer, sink, reply)?;

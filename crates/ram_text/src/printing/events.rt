@@ -16,7 +16,8 @@ pub fn print_event<K: Sink>(
     number: u64,
     event: &Event,
 ) -> Print
-    ensures { Prints K.Sink writer.old sink.old writer.new sink.new (numbered number (event_words event.now)) result }
+    ensures { Prints K.Sink writer.old sink.old writer.new sink.new
+        (numbered number (event_words event.now)) result }
 {
     printed(put_event(writer, sink, number, event))
 }
@@ -28,7 +29,8 @@ fn put_event<K: Sink>(
     number: u64,
     event: &Event,
 ) -> Result<(), SinkFailed>
-    ensures { PutsText K.Sink writer.old sink.old writer.new sink.new (numbered number (event_words event.now)) result }
+    ensures { PutsText K.Sink writer.old sink.old writer.new sink.new
+        (numbered number (event_words event.now)) result }
 {
     writer.put_number(sink, number)?;
     print_event_words(writer, sink, event)
@@ -40,7 +42,8 @@ fn print_event_words<K: Sink>(
     sink: &mut K,
     event: &Event,
 ) -> Result<(), SinkFailed>
-    ensures { PutsText K.Sink writer.old sink.old writer.new sink.new (codes " " ++ event_words event.now ++ codes "\n") result }
+    ensures { PutsText K.Sink writer.old sink.old writer.new sink.new
+        (codes " " ++ event_words event.now ++ codes "\n") result }
 {
     match event {
         Event::Pressed => writer.put(sink, b" pressed\n"),

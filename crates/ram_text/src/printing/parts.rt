@@ -41,7 +41,8 @@ pub(crate) fn print_counted<K: Sink>(
     words: &[u8],
     number: u64,
 ) -> Result<(), SinkFailed>
-    ensures { PutsText K.Sink writer.old sink.old writer.new sink.new (words.now ++ decimal number ++ codes "\n") result }
+    ensures { PutsText K.Sink writer.old sink.old writer.new sink.new
+        (words.now ++ decimal number ++ codes "\n") result }
 {
     print_labelled(writer, sink, words, number)?;
     writer.put(sink, b"\n")
