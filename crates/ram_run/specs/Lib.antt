@@ -4,7 +4,6 @@ pub mod Blocks
 pub mod Reading
 pub mod Control
 pub mod Writing
-pub mod Host
 pub mod Machine
 pub mod Drive
 pub mod Held

@@ -1,9 +1,10 @@
+-- What the fields of a reader of lines stand for, and what every reader keeps: for the functions of the reader alone.
 use Rattle.std.specs.Prelude.{◌≡◌, ◌≤◌, vec_len, slice_range}
 use Rattle.ram_text.specs.Lines.{Reading, IsFirstFeed}
 use Rattle.ram_text.specs.declared.lines.TheConstants.{ROOM, SCRIPT_LIMIT}
 use Rattle.ram_text.specs.declared.lines.LineReader.TheInside.{Inside}
 
--- what the reader's fields stand for
+-- what the reader's fields stand for (this project's own)
 abbrev pub reading_of : Inside → Reading
 reading_of r = record {
   line = slice_range r.bytes.items r.line_start r.line_end;
@@ -11,7 +12,7 @@ reading_of r = record {
   taken = r.taken;
 }
 
--- what every reader keeps
+-- what every reader keeps (this project's own)
 pub record IsWhole (r : Inside) : Type 0 where
   pub room : vec_len r.bytes ≡ ROOM
   pub line_ordered : r.line_start ≤ r.line_end

@@ -1,3 +1,4 @@
+-- The text of each answer and of each last line: for the functions that print them, and for the run that says what is due.
 use Rattle.std.specs.Prelude.{◌≡◌, ℕ, ◌+◌, ◌*◌, ◌/◌, ◌%◌, ◌^◌, ◌<◌, ◌≤◌, ◌==◌, Bool, true, false, if◌then◌else◌, Option, Some, None, IfSome, List, [], ◌∷◌, ◌++◌, length, take, drop, slice_index, codes, decimal}
 use Rattle.std.specs.List.{list_all, flat_map, range_with_len}
 use Rattle.hex.specs.Hex.{encode_lower, lower_digits}
@@ -5,8 +6,8 @@ use Rattle.model_commands.specs.Commands.{operation_of, field}
 use Rattle.model_commands.specs.declared.Operation.{Operation}
 use Rattle.model_commands.specs.declared.Operation.TheVariants.{Read10, Read12}
 use Rattle.ram_sense.specs.declared.sense.Sense.{Sense}
-use Rattle.ram_mmc.specs.declared.Answer.{Answer}
-use Rattle.ram_mmc.specs.declared.Answer.TheVariants as answers
+use Rattle.ram_sense.specs.declared.answer.Answer.{Answer}
+use Rattle.ram_sense.specs.declared.answer.Answer.TheVariants as answers
 use Rattle.ram_text.specs.declared.printing.Event.{Event}
 use Rattle.ram_text.specs.declared.printing.Event.TheVariants as events
 use Rattle.ram_text.specs.declared.printing.LastLine.{LastLine}
@@ -48,7 +49,7 @@ answer_words answers.Off = codes "off"
 answer_words answers.Fault = []
 answer_words answers.NoMemory = []
 
--- the answer does not stop the run
+-- the answer does not stop the run (this project's own)
 abbrev pub IsPrinted : Answer → Type 0
 IsPrinted answers.Good = Unit {0}
 IsPrinted (answers.Check sense) = Unit {0}
@@ -57,18 +58,18 @@ IsPrinted answers.Off = Unit {0}
 IsPrinted answers.Fault = ⊥
 IsPrinted answers.NoMemory = ⊥
 
--- whether the command reads sectors
+-- whether the command reads sectors (this project's own)
 abbrev pub is_read : Option Operation → Bool
 is_read (Some Read10) = true
 is_read (Some Read12) = true
 is_read _ = false
 
--- the command block of a read that was done has the bytes of its address
+-- the command block of a read that was done has the bytes of its address (this project's own)
 abbrev pub IsAddressed : Answer → List ℕ → Type 0
 IsAddressed answers.Good cdb = is_read (operation_of cdb) ≡ true → 6 ≤ length cdb
 IsAddressed _ cdb = Unit {0}
 
--- whether each byte is as the first one
+-- whether each byte is as the first one (this project's own)
 abbrev pub is_one_byte : List ℕ → Bool
 is_one_byte bytes = list_all (λ byte. byte == slice_index bytes 0) bytes
 
@@ -78,7 +79,7 @@ sector_text lba sector =
     if is_one_byte sector then codes "sector " ++ decimal lba ++ codes " fill " ++ encode_lower (slice_index sector 0 ∷ []) ++ codes "\n"
     else codes "sector " ++ decimal lba ++ codes " hex " ++ encode_lower sector ++ codes "\n"
 
--- sector k of these bytes
+-- sector k of these bytes (this project's own)
 abbrev pub sector_at : List ℕ → ℕ → List ℕ
 sector_at bytes k = take 2048 (drop (2048 * k) bytes)
 
@@ -111,17 +112,17 @@ last_text (lasts.LineTooLong line) = numbered line (codes "too long")
 last_text lasts.ScriptTooLong = codes "script too long\n"
 last_text (lasts.NotADisc line) = numbered line (codes "not a disc")
 
--- a sense whose parts are in their ranges
-pub record IsInRange (sense : Sense) : Type 0 where
+-- a sense whose parts are in their ranges (this project's own)
+pub record SenseFits (sense : Sense) : Type 0 where
   pub key : sense.key < 16
   pub asc : sense.asc < 256
   pub ascq : sense.ascq < 256
   pub info : IfSome sense.info (λ info. info < 2 ^ 32)
 
--- an answer that is printed, and whose sense is in range
+-- an answer that is printed, and whose sense is in range (this project's own)
 abbrev pub IsTold : Answer → Type 0
 IsTold answers.Good = Unit {0}
-IsTold (answers.Check sense) = IsInRange sense
+IsTold (answers.Check sense) = SenseFits sense
 IsTold answers.Cut = Unit {0}
 IsTold answers.Off = Unit {0}
 IsTold answers.Fault = ⊥

@@ -1,10 +1,12 @@
-ghost use Rattle.std.specs.Prelude.{◌≡◌, ◌↔◌, ℕ, ◌+◌, ◌-◌, ◌<◌, ◌≤◌, Option, List, [], length, take, IfOk, IsTrue, vec_len, slice_range};
-ghost use Rattle.std.specs.Io.KnownBytes.{prepend_known};
+//! The lines of a script, one after another, from any source. It touches its own bytes, and the source by `take`
+//! alone.
+ghost use Rattle.std.specs.Prelude.{◌≡◌, ◌↔◌, ℕ, ◌+◌, ◌-◌, ◌<◌, ◌≤◌, ◌⊎◌, Option, List, [], length, take, IfOk, IsTrue, vec_len, slice_range};
 ghost use Rattle.ram_outside.specs.Source.{TakeRule};
 ghost use Rattle.ram_text.specs.Lines.{Reading, HoldsLine, NextLineRule, HasNoFeed, IsFirstFeed};
-ghost use Rattle.ram_text.specs.Steps.{IsOpen, CutRule, FillRule, LastRule, PassedFirst};
+ghost use Rattle.ram_text.specs.Steps.{IsOpen, CutRule, FillRule, LastLineBytes, PassedFirst};
 ghost use Rattle.ram_text.specs.declared.lines.TheConstants.{LINE_LIMIT, SCRIPT_LIMIT, PIECE, ROOM};
 
+use crate::report::ReportWriter;
 use memchr::memchr;
 use ram_outside::{Source, Take};
 use std::alloc::{AllocError, Global};
@@ -105,9 +107,11 @@ impl LineReader {
 
     /// Looks for the next line, and asks the source only where what is buffered does not decide the answer.
     /// Of the limits of a line and of the script the one that is passed by the earlier byte decides, and where
-    /// one byte passes both, it is the script's.
-    pub fn next_line<S: Source>(&mut self, source: &mut S) -> NextLine
-        ensures rule { NextLineRule (prepend_known self.old.buffered (S.left source.old)) (prepend_known self.new.buffered (S.left source.new)) self.old.taken self.new.taken self.new.line (S.faults source.old) (S.faults source.new) result }
+    /// one byte passes both, it is the script's. More is asked of the source only where all of the report is
+    /// handed over.
+    pub fn next_line<S: Source>(&mut self, source: &mut S, _report: &ReportWriter) -> NextLine
+        requires shown { HoldsLine self.old ⊎ (_report.now ≡ []) }
+        ensures rule { NextLineRule S.Source self.old self.new source.old source.new result }
         ensures asks_nothing { HoldsLine self.old → (result ≡ NextLine.Line) × (source.new ≡ source.old) }
     {
         loop {
@@ -155,7 +159,8 @@ impl LineReader {
     // Asks the source for one more piece.
     fn fill<S: Source>(&mut self, source: &mut S) -> Take
         requires { IsOpen self.old }
-        ensures { FillRule self.old self.new (S.left source.old) (S.left source.new) (S.faults source.old) (S.faults source.new) result }
+        ensures { FillRule self.old self.new (S.left source.old) (S.left source.new)
+            (S.faults source.old) (S.faults source.new) result }
     {
         let held = self.end - self.start;
         self.line_start = 0;
@@ -176,7 +181,7 @@ impl LineReader {
     // What is buffered when the source has ended is the last line, unless nothing is.
     fn last_line(&mut self) -> NextLine
         requires { IsOpen self.old }
-        ensures { LastRule self.old self.new result }
+        ensures { LastLineBytes self.old self.new result }
     {
         self.line_start = self.start;
         self.line_end = self.end;
@@ -207,7 +212,8 @@ fn read_piece<S: Source>(bytes: &mut Vec<u8>, at: usize, source: &mut S) -> Take
     requires room { at ≤ LINE_LIMIT }
     ensures whole { vec_len bytes.new ≡ ROOM }
     ensures before { take at bytes.new.items ≡ take at bytes.old.items }
-    ensures rule { TakeRule (S.left source.old) (S.left source.new) (S.faults source.old) (S.faults source.new) (slice_range bytes.new.items at (at + PIECE)) result }
+    ensures rule { TakeRule (S.left source.old) (S.left source.new)
+        (S.faults source.old) (S.faults source.new) (slice_range bytes.new.items at (at + PIECE)) result }
 {
     source.take(&mut bytes[at..at + PIECE])
 }
@@ -232,7 +238,8 @@ fn make_room(bytes: &mut Vec<u8>, start: usize, end: usize) -> usize
     requires inside { end ≤ ROOM }
     requires short { end - start ≤ LINE_LIMIT }
     ensures whole { vec_len bytes.new ≡ ROOM }
-    ensures kept { slice_range bytes.new.items result (result + (end - start)) ≡ slice_range bytes.old.items start end }
+    ensures kept { slice_range bytes.new.items result (result + (end - start))
+        ≡ slice_range bytes.old.items start end }
     ensures room { result + (end - start) ≤ LINE_LIMIT }
 {
     if end <= LINE_LIMIT {
