@@ -2,7 +2,6 @@ use Rattle.std.specs.Prelude.{◌≡◌, ◌≢◌, ℕ, ◌<◌, ◌≤◌, IsT
 use Rattle.model_counts.specs.Counts.{Rose}
 use Rattle.model_medium.specs.Cells.{Dead, cell_at, IsSameOrDead}
 use Rattle.model_medium.specs.Machine.{Machine}
-use Rattle.model_medium.specs.Exact.{IsExactly}
 use Rattle.model_medium.specs.declared.WornBlock.{WornBlock}
 use Rattle.model_medium.specs.declared.Fate.{Fate}
 use Rattle.ram_medium.specs.declared.control.FailEnd.{FailEnd}
@@ -29,7 +28,7 @@ pub record FailsInFail (old new : Machine) (block : ℕ) : Type 0 where
 
 -- What the failure of a block does on a medium of so many blocks, by its answer. (This project's own.)
 abbrev pub FailRule : ℕ → Machine → Machine → ℕ → FailEnd → Type 0
-FailRule total old new block fails.Done = (block < total) × IsExactly (with_dead block old) new
+FailRule total old new block fails.Done = (block < total) × (new ≡ with_dead block old)
 FailRule total old new block (fails.NoBlock blocks) = (total ≤ block) × (blocks ≡ total) × (new ≡ old)
 FailRule total old new block fails.Failed = (block < total) × FailsInFail old new block
 
