@@ -83,14 +83,14 @@ module _ (total block : ℕ) (inside : block < total) (bytes : List ℕ) where
         (subst (λ o. WhereTold o after (SetsCell total block cell)) unchanged.same told)
 
     pub left_new : (fate : Fate) → fate ≡ fates.New → (r : Moved) → WriteCellRule mid after f1 f2 total block bytes r → LeaveCellRule before after f f2 total block bytes fate r
-    left_new fate e moves.Done rule = subst (λ fate. LeaveCellRule before after f f2 total block bytes fate moves.Done) (sym e) (sets (Good bytes) fates.New (λ old. refl) rule.0, omega (arith, unchanged.count, rule.1))
+    left_new fate e moves.Done rule = subst (λ fate. LeaveCellRule before after f f2 total block bytes fate moves.Done) (sym e) (sets (Good bytes) fates.New (λ old. refl) rule.0, rule.1 ∙ unchanged.count)
     left_new fate e moves.Failed rule = stops rule.0 rule.1
 
     torn_stops : (held held' : List ℕ) → StopsInState total block Torn held held' → StopsInCell total block bytes held held'
     torn_stops held held' r = record { cell = r.left; may = elim r.may [ inl e ↦ inl e | inr e ↦ inr (inr (inl e)) ]; sets = r.sets }
 
     pub left_torn : (fate : Fate) → fate ≡ fates.Torn → (r : Moved) → WriteStateRule mid after f1 f2 total block Torn r → LeaveCellRule before after f f2 total block bytes fate r
-    left_torn fate e moves.Done rule = subst (λ fate. LeaveCellRule before after f f2 total block bytes fate moves.Done) (sym e) (sets Torn fates.Torn (λ old. refl) rule.0, omega (arith, unchanged.count, rule.1))
+    left_torn fate e moves.Done rule = subst (λ fate. LeaveCellRule before after f f2 total block bytes fate moves.Done) (sym e) (sets Torn fates.Torn (λ old. refl) rule.0, rule.1 ∙ unchanged.count)
     left_torn fate e moves.Failed rule =
         stops (told_more (StopsInState total block Torn) (StopsInCell total block bytes) (λ held. Unit {0}) (λ held held' p r. torn_stops held held' r) mid after (any mid) rule.0) rule.1
       where

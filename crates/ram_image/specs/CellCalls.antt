@@ -1,4 +1,4 @@
-use Rattle.std.specs.Prelude.{◌≡◌, ℕ, ◌≤◌, Bool, MatchBool, Option, IfSome, List, take, drop}
+use Rattle.std.specs.Prelude.{◌≡◌, ℕ, Bool, MatchBool, Option, IfSome, List, take, drop}
 use Rattle.model_counts.specs.Counts.{Rose}
 use Rattle.model_bytes.specs.Told.{WhereTold}
 use Rattle.model_medium.specs.Cells.{Cell, Good, Dead, IsGood, cell_at, cut_short}
@@ -26,7 +26,7 @@ ReadCellRule before after faults faults' total block into reads.Failed = HasFail
 
 -- What a write of a block's cell may do, by its answer. (This project's own.)
 abbrev pub WriteCellRule : Option (List ℕ) → Option (List ℕ) → ℕ → ℕ → ℕ → ℕ → List ℕ → Moved → Type 0
-WriteCellRule before after faults faults' total block from moves.Done = WhereTold before after (SetsCell total block (Good from)) × (faults ≤ faults')
+WriteCellRule before after faults faults' total block from moves.Done = WhereTold before after (SetsCell total block (Good from)) × (faults' ≡ faults)
 WriteCellRule before after faults faults' total block from moves.Failed = WhereTold before after (StopsInCell total block from) × Rose faults faults'
 
 -- What a read of a block's state byte may do, by its answer. (This project's own.)
@@ -37,12 +37,12 @@ ReadStateRule before after faults faults' total block states.Failed = HasFailed 
 
 -- What a write of a block's state byte may do that makes this cell, by its answer. (This project's own.)
 abbrev pub WriteStateRule : Option (List ℕ) → Option (List ℕ) → ℕ → ℕ → ℕ → ℕ → Cell → Moved → Type 0
-WriteStateRule before after faults faults' total block cell moves.Done = WhereTold before after (SetsCell total block cell) × (faults ≤ faults')
+WriteStateRule before after faults faults' total block cell moves.Done = WhereTold before after (SetsCell total block cell) × (faults' ≡ faults)
 WriteStateRule before after faults faults' total block cell moves.Failed = WhereTold before after (StopsInState total block cell) × Rose faults faults'
 
 -- What making a block dead where it is to die may do, by its answer. (This project's own.)
 abbrev pub KillWhereRule : Option (List ℕ) → Option (List ℕ) → ℕ → ℕ → ℕ → ℕ → Bool → Moved → Type 0
-KillWhereRule before after faults faults' total block dies moves.Done = MatchBool dies (WhereTold before after (SetsCell total block Dead)) (after ≡ before) × (faults ≤ faults')
+KillWhereRule before after faults faults' total block dies moves.Done = MatchBool dies (WhereTold before after (SetsCell total block Dead)) (after ≡ before) × (faults' ≡ faults)
 KillWhereRule before after faults faults' total block dies moves.Failed = WhereTold before after (StopsInState total block Dead) × Rose faults faults'
 
 -- A write of these bytes to a block was stopped, and the block is dead now if it was.
@@ -56,5 +56,5 @@ Leaves total block bytes fate before after = SetsCell total block (cut_short fat
 
 -- What such a write may do, by its answer. (This project's own.)
 abbrev pub LeaveCellRule : Option (List ℕ) → Option (List ℕ) → ℕ → ℕ → ℕ → ℕ → List ℕ → Fate → Moved → Type 0
-LeaveCellRule before after faults faults' total block bytes fate moves.Done = WhereTold before after (Leaves total block bytes fate) × (faults ≤ faults')
+LeaveCellRule before after faults faults' total block bytes fate moves.Done = WhereTold before after (Leaves total block bytes fate) × (faults' ≡ faults)
 LeaveCellRule before after faults faults' total block bytes fate moves.Failed = WhereTold before after (StopsInLeaving total block bytes) × Rose faults faults'

@@ -23,7 +23,7 @@ pub record IsOpened {I : Type 0} {d : Ghosts I} (image : I) (medium : ImageMediu
   pub off : (world_of medium).power ≡ false
   pub no_uses : (world_of medium).uses ≡ 0
   pub no_cuts : (world_of medium).cuts ≡ 0
-  pub count : d.faults image ≤ (world_of medium).faults
+  pub count : (world_of medium).faults ≡ d.faults image
   pub no_arms : (machine_in medium).arms ≡ []
   pub no_cut : (machine_in medium).cut ≡ None
 

@@ -1,4 +1,4 @@
-use Rattle.std.specs.Prelude.{◌≡◌, ℕ, ◌≤◌, ◌⊎◌, Option, IfSome, MatchOption, List, length, take, drop}
+use Rattle.std.specs.Prelude.{◌≡◌, ℕ, ◌⊎◌, Option, IfSome, MatchOption, List, length, take, drop}
 use Rattle.std.specs.Option.{option_map}
 use Rattle.model_bytes.specs.Bytes.{put_at, resized, PartlyPut}
 use Rattle.model_counts.specs.Counts.{Rose}
@@ -7,20 +7,20 @@ use Rattle.ram_outside.specs.declared.image.Length.TheVariants as lengths
 use Rattle.ram_outside.specs.declared.image.Moved.{Moved}
 use Rattle.ram_outside.specs.declared.image.Moved.TheVariants as moves
 
--- the image has the bytes that it had, and no count fell
+-- the image has the bytes and the count that it had
 pub record IsUnchanged (before after : Option (List ℕ)) (faults faults' : ℕ) : Type 0 where
   pub same : after ≡ before
-  pub count : faults ≤ faults'
+  pub count : faults' ≡ faults
 
 -- the image failed and counted it, and has the bytes that it had
 pub record HasFailed (before after : Option (List ℕ)) (faults faults' : ℕ) : Type 0 where
   pub same : after ≡ before
   pub count : Rose faults faults'
 
--- the whole change was made
+-- the whole change was made, and the count is as it was
 pub record IsChanged (change : List ℕ → List ℕ) (before after : Option (List ℕ)) (faults faults' : ℕ) : Type 0 where
   pub changed : after ≡ option_map change before
-  pub count : faults ≤ faults'
+  pub count : faults' ≡ faults
 
 -- What `len` may do, by its answer. (This project's own.)
 abbrev pub LenRule : Option (List ℕ) → Option (List ℕ) → ℕ → ℕ → Length → Type 0

@@ -35,4 +35,4 @@ returns g c =
     (g.I.Image.bytes c.write_at-3.new.self) c.args.from.now c.requires.whole (ap length (sym c.bytes-bytes.ensures.same) ∙ c.bytes-bytes.ensures.len)
     (rw c.state_place.ensures at c.in-Done.ensures.changed) (rw (c.data_place.ensures, c.bytes-bytes.ensures.same) at c.in-Done-write_at.ensures.changed)
     (g.I.Image.faults c.args.image.now) (g.I.Image.faults c.write_at-2.new.self) (g.I.Image.faults c.write_at-3.new.self)
-    (omega (arith, c.in-Done.ensures.count, c.in-Done-write_at.ensures.count)) c.write_at-3.result (rw c.state_place-2.ensures at c.write_at-3.ensures)
+    (c.in-Done-write_at.ensures.count ∙ c.in-Done.ensures.count) c.write_at-3.result (rw c.state_place-2.ensures at c.write_at-3.ensures)
