@@ -1,5 +1,6 @@
 pub mod BlockReads
 pub mod CellSteps
+pub mod ByteSteps
 pub mod TellsCells
 pub mod Leaving
 pub mod Events
