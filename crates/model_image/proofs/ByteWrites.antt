@@ -1,16 +1,14 @@
 -- Which bytes the writes of a block's state byte and of its data change, whole or in part, one after another.
-use Rattle.std.specs.Prelude.{◌≡◌, ◌≢◌, ℕ, ◌+◌, ◌-◌, ◌<◌, ◌≤◌, ◌⊎◌, ◌==◌, Bool, true, false, if◌then◌else◌, List, [], ◌∷◌, length, slice_index, Option, Some, None, MatchOption}
-use Rattle.std.specs.Option.{option_map, ForSome}
-use Rattle.std.proofs.Common.{arith, refl, sym, ap, ◌∙◌, inl, inr, subst}
+use Rattle.std.specs.Prelude.{◌≡◌, ◌≢◌, ℕ, ◌+◌, ◌-◌, ◌<◌, ◌≤◌, ◌⊎◌, ◌==◌, Bool, true, false, if◌then◌else◌, List, [], ◌∷◌, length, slice_index}
+use Rattle.std.proofs.Common.{arith, refl, sym, ap, ◌∙◌, inl, inr}
 use Rattle.std.proofs.lemmas.Bool.{cases_eq, cases_lt, eqb-true, eq-eqb}
 use Rattle.std.proofs.lemmas.List.{ext_get_or}
 use Rattle.model_bytes.specs.Bytes.{put_at, PartlyPut}
-use Rattle.model_bytes.specs.Told.{WhereTold}
 use Rattle.model_bytes.proofs.Laws.{length-put_at, get_or-put_at-below, get_or-put_at-past, get_or-put_at-inside}
 use Rattle.model_medium.specs.Cells.{Blank, Good, Torn, Dead}
 use Rattle.model_medium.specs.declared.Fate.{Fate}
 use Rattle.model_image.specs.Cells.{state_place, data_place, image_len, cell_of}
-use Rattle.model_image.specs.Writes.{torn_state, good_state, dead_state, with_state, with_block, bytes_by, bytes_left, PutsInBlock, StopsInBlock, IsOldOrNew}
+use Rattle.model_image.specs.Writes.{torn_state, good_state, dead_state, with_state, with_block, bytes_by, bytes_left, PutsInBlock, IsOldOrNew}
 
 -- one written byte, and all others
 byte_there : (at byte : ℕ) (held : List ℕ) → at < length held → slice_index (put_at at (byte ∷ []) held) at ≡ byte
@@ -43,7 +41,7 @@ module _ (at byte : ℕ) (before after : List ℕ) (inside : at < length before)
         (byte_there at byte before inside) (λ k ne. byte_elsewhere at byte before k inside ne))
   ]
 
-module _ (total block : ℕ) (inside : block < total) (from : List ℕ) where
+module _ (total block : ℕ) (from : List ℕ) where
   -- a byte was put by a write of the block
   abbrev New : List ℕ → ℕ → Type 0
   New l k = ((k ≡ state_place block) × ((slice_index l k ≡ torn_state) ⊎ (slice_index l k ≡ good_state)))
@@ -91,8 +89,12 @@ put_at-partly at from held fits = record { as_long = length-put_at at from held 
     each k = elim (cases_lt k at) [
       | inl below ↦ inl (get_or-put_at-below k at from held 0 below (omega arith))
       | inr above ↦ elim (cases_lt k (at + length from)) [
-        | inl within ↦ inr (above, within, ap (slice_index (put_at at from held)) (let split : k ≡ at + (k - at) = omega arith in split)
-            ∙ get_or-put_at-inside (k - at) at from held 0 (omega arith) (omega arith))
+        | inl within ↦ inr (
+          above,
+          within,
+          ap (slice_index (put_at at from held)) (let split : k ≡ at + (k - at) = omega arith in split)
+              ∙ get_or-put_at-inside (k - at) at from held 0 (omega arith) (omega arith),
+        )
         | inr past ↦ inl (get_or-put_at-past k at from held 0 past (omega arith))
       ]
     ]
@@ -144,22 +146,22 @@ module _ (total block : ℕ) (inside : block < total) (from held : List ℕ) (wh
       ])
 
   puts_first : PutsInBlock total block from held first
-  puts_first = puts_state total block inside from 2 held first (inl refl) (put_at-partly (state_place block) (2 ∷ []) held (omega arith))
+  puts_first = puts_state total block from 2 held first (inl refl) (put_at-partly (state_place block) (2 ∷ []) held (omega arith))
 
   puts_second : PutsInBlock total block from first second
-  puts_second = puts_data total block inside from first second (put_at-partly (data_place total block) from first (omega (arith, first_long)))
+  puts_second = puts_data total block from first second (put_at-partly (data_place total block) from first (omega (arith, first_long)))
 
   -- each of the three failed half way
   pub puts_till_first : (after : List ℕ) → PartlyPut (state_place block) (2 ∷ []) held after → PutsInBlock total block from held after
-  puts_till_first after put = puts_state total block inside from 2 held after (inl refl) put
+  puts_till_first after put = puts_state total block from 2 held after (inl refl) put
 
   pub puts_till_second : (after : List ℕ) → PartlyPut (data_place total block) from first after → PutsInBlock total block from held after
-  puts_till_second after put = puts_then total block inside from held first after puts_first (puts_data total block inside from first after put)
+  puts_till_second after put = puts_then total block from held first after puts_first (puts_data total block from first after put)
 
   pub puts_till_third : (after : List ℕ) → PartlyPut (state_place block) (1 ∷ []) second after → PutsInBlock total block from held after
   puts_till_third after put =
-      puts_then total block inside from held second after (puts_then total block inside from held first second puts_first puts_second)
-      (puts_state total block inside from 1 second after (inr refl) put)
+      puts_then total block from held second after (puts_then total block from held first second puts_first puts_second)
+      (puts_state total block from 1 second after (inr refl) put)
 
 -- what a state byte says of the cell
 pub dead_state_is : (state : ℕ) (held : List ℕ) → cell_of state held ≡ Dead → state ≡ dead_state

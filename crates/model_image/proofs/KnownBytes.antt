@@ -43,3 +43,10 @@ known_same R here o p e = subst (λ q. WhereTold o q R) (sym e) (cases o)
     cases : (o : Option (List ℕ)) → WhereTold o o R
     cases None = tt
     cases (Some held) = here held
+
+-- what is said less of them
+pub known_weaker : (R S : List ℕ → List ℕ → Type 0) → ((a b : List ℕ) → R a b → S a b) → (o p : Option (List ℕ)) → WhereTold o p R → WhereTold o p S
+known_weaker R S step None None r = tt
+known_weaker R S step None (Some b) r = absurd r
+known_weaker R S step (Some a) None r = absurd r
+known_weaker R S step (Some a) (Some b) r = step a b r

@@ -68,8 +68,8 @@ module _ (total block : ℕ) (inside : block < total) (from : List ℕ) (long : 
       before b2 after (known_filled b1 b2 e1 e2) (known_part (state_place block) (1 ∷ []) b2 after rule.1))
 
 -- a write that ends by a fate
-pub bytes_unread : (total block : ℕ) → block < total → (from : List ℕ) (before after : Option (List ℕ)) → after ≡ before → WhereTold before after (StopsInBlock total block from)
-bytes_unread total block inside from before after e = known_same (StopsInBlock total block from) (λ held. record { puts = puts_none total block inside from held; dead_keeps = λ dead. refl }) before after e
+pub bytes_unread : (total block : ℕ) (from : List ℕ) (before after : Option (List ℕ)) → after ≡ before → WhereTold before after (StopsInBlock total block from)
+bytes_unread total block from before after e = known_same (StopsInBlock total block from) (λ held. record { puts = puts_none total block from held; dead_keeps = λ dead. refl }) before after e
 
 module _ (total block : ℕ) (from : List ℕ) (fate : Fate) where
   abbrev IsLeft : List ℕ → List ℕ → Type 0
@@ -100,20 +100,20 @@ module _ (total block : ℕ) (from : List ℕ) (fate : Fate) where
   pub bytes_old : fate ≡ fates.Old → (before after : Option (List ℕ)) → IfSome before IsAlive → after ≡ before → WhereTold before after IsLeft
   bytes_old e before after alive same = alive_left before after after alive same (subst (λ f. WhereTold after after (λ held held'. held' ≡ bytes_by f total block from held)) (sym e) (known_same (λ held held'. held' ≡ held) (λ held. refl) after after refl))
 
-  pub bytes_new : fate ≡ fates.New → (before mid after : Option (List ℕ)) (f f1 f2 : ℕ) → IfSome before IsAlive → mid ≡ before → (r : Moved) → WriteCellBytes (call_between total block mid after f1 f2) from r
-      → LeaveCellBytes (call_between total block before after f f2) from fate r
-  bytes_new e before mid after f f1 f2 alive same moves.Done told = alive_left before mid after alive same (subst (λ f. WhereTold mid after (λ held held'. held' ≡ bytes_by f total block from held)) (sym e) told)
-  bytes_new e before mid after f f1 f2 alive same moves.Failed told = alive_stops (PutsInBlock total block from) before mid after alive same (λ a b r. r) told
+  pub bytes_new : fate ≡ fates.New → (before mid after : Option (List ℕ)) → IfSome before IsAlive → mid ≡ before → (r : Moved) → WriteCellBytes (call_between total block mid after 0 0) from r
+      → LeaveCellBytes (call_between total block before after 0 0) from fate r
+  bytes_new e before mid after alive same moves.Done told = alive_left before mid after alive same (subst (λ f. WhereTold mid after (λ held held'. held' ≡ bytes_by f total block from held)) (sym e) told)
+  bytes_new e before mid after alive same moves.Failed told = alive_stops (PutsInBlock total block from) before mid after alive same (λ a b r. r) told
 
   module _ (inside : block < total) where
     torn_puts : (held held' : List ℕ) → IsWhole total held → IsOldOrNew held (with_state block torn_state held) held' → PutsInBlock total block from held held'
-    torn_puts held held' whole (inl e) = subst (PutsInBlock total block from held) (sym e) (puts_none total block inside from held)
+    torn_puts held held' whole (inl e) = subst (PutsInBlock total block from held) (sym e) (puts_none total block from held)
     torn_puts held held' whole (inr e) =
-        subst (PutsInBlock total block from held) (sym e) (puts_state total block inside from 2 held (with_state block torn_state held) (inl refl) (put_at-partly (state_place block) (2 ∷ []) held (omega (arith, whole))))
+        subst (PutsInBlock total block from held) (sym e) (puts_state total block from 2 held (with_state block torn_state held) (inl refl) (put_at-partly (state_place block) (2 ∷ []) held (omega (arith, whole))))
 
-    pub bytes_torn : fate ≡ fates.Torn → (before mid after : Option (List ℕ)) (f f1 f2 : ℕ) → ForSome before (IsWhole total) → IfSome before IsAlive → mid ≡ before → (r : Moved)
-        → WriteStateBytes (call_between total block mid after f1 f2) torn_state r → LeaveCellBytes (call_between total block before after f f2) from fate r
-    bytes_torn e before mid after f f1 f2 whole alive same moves.Done told = alive_left before mid after alive same (subst (λ f. WhereTold mid after (λ held held'. held' ≡ bytes_by f total block from held)) (sym e) told)
-    bytes_torn e before mid after f f1 f2 whole alive same moves.Failed told =
+    pub bytes_torn : fate ≡ fates.Torn → (before mid after : Option (List ℕ)) → ForSome before (IsWhole total) → IfSome before IsAlive → mid ≡ before → (r : Moved)
+        → WriteStateBytes (call_between total block mid after 0 0) torn_state r → LeaveCellBytes (call_between total block before after 0 0) from fate r
+    bytes_torn e before mid after whole alive same moves.Done told = alive_left before mid after alive same (subst (λ f. WhereTold mid after (λ held held'. held' ≡ bytes_by f total block from held)) (sym e) told)
+    bytes_torn e before mid after whole alive same moves.Failed told =
         alive_stops (PutsInBlock total block from) before mid after alive same (λ a b r. r)
         (known_with (IsWhole total) (λ held held'. IsOldOrNew held (with_state block torn_state held) held') (PutsInBlock total block from) (λ a b w r. torn_puts a b w r) mid after (subst (λ o. ForSome o (IsWhole total)) (sym same) whole) told)

@@ -4,4 +4,5 @@ pub mod ByteSteps
 pub mod TellsCells
 pub mod Leaving
 pub mod Events
+pub mod EventSteps
 pub mod MachineParts
