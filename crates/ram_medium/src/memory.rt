@@ -1,3 +1,5 @@
+//! A medium in memory: the same events as on a medium over an image, with failures at the uses that were named.
+
 ghost use Rattle.std.specs.Prelude.{◌≡◌, ℕ, ◌+◌, ◌<◌, ◌≤◌, ◌^◌, length, vec_len};
 
 use crate::blocks::Medium;
@@ -201,7 +203,8 @@ impl MediumControl for MemMedium {
 
     fn wear(&mut self, block: u32, n: u32) -> Arm
         requires { 1 ≤ n }
-        ensures rule { WearRule (vec_len self.old.slots) (machine_in self.old) (machine_in self.new) (record { block = block; left = n }) result }
+        ensures rule { WearRule (vec_len self.old.slots) (machine_in self.old) (machine_in self.new)
+            (record { block = block; left = n }) result }
         ensures same_names { failing_of self.new ≡ failing_of self.old }
         ensures as_many { vec_len self.new.slots ≡ vec_len self.old.slots }
     {
