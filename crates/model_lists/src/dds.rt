@@ -1,6 +1,3 @@
-/// The most blocks that a primary spare area has, and a primary defect list names.
-pub const PSA_LIMIT: u32 = 4_092;
-
 /// How far the format of a disc has come.
 #[derive(Clone, Copy, Debug, PartialEq, Eq)]
 pub enum DdsState {

@@ -1,9 +1,3 @@
-/// The most entries that a secondary defect list has.
-pub const SDL_LIMIT: usize = 4_092;
-
-/// The most blocks that a supplementary spare area has.
-pub const SSA_LIMIT: u32 = 4_092;
-
 /// An entry of the secondary defect list: a defective block with the spare that took its place, or a spare that is
 /// no longer used.
 #[derive(Clone, Copy, Debug, PartialEq, Eq)]
