@@ -8,7 +8,7 @@ use Rattle.model_bytes.proofs.Laws.{length-put_at, get_or-put_at-below, get_or-p
 use Rattle.model_medium.specs.Cells.{Blank, Good, Torn, Dead}
 use Rattle.model_medium.specs.declared.Fate.{Fate}
 use Rattle.model_image.specs.Cells.{state_place, data_place, image_len, cell_of}
-use Rattle.model_image.specs.Writes.{torn_state, good_state, dead_state, with_state, with_block, bytes_by, bytes_left, PutsInBlock, IsOldOrNew}
+use Rattle.model_image.specs.Writes.{torn_state, good_state, dead_state, with_state, with_block, bytes_by, bytes_left, PutsInBlock, IsBeforeOrAfter}
 
 -- one written byte, and all others
 byte_there : (at byte : ℕ) (held : List ℕ) → at < length held → slice_index (put_at at (byte ∷ []) held) at ≡ byte
@@ -33,7 +33,7 @@ module _ (at byte : ℕ) (before after : List ℕ) (inside : at < length before)
         | inr ne ↦ others_stay k ne ∙ sym (others k ne)
       ])
 
-  pub one_byte : IsOldOrNew before (put_at at (byte ∷ []) before) after
+  pub one_byte : IsBeforeOrAfter before (put_at at (byte ∷ []) before) after
   one_byte = elim (put.each at) [
     | inl e ↦ inl (from_here (slice_index before at) before refl e refl (λ k ne. refl))
     | inr p ↦ inr (from_here byte (put_at at (byte ∷ []) before) (length-put_at at (byte ∷ []) before (omega arith))

@@ -10,7 +10,7 @@ use Rattle.model_bytes.specs.Told.{WhereTold}
 use Rattle.model_geometry.specs.Geometry.{Shape, IsLawful, total}
 use Rattle.model_medium.specs.Cells.{Blank, Dead}
 use Rattle.model_image.specs.Cells.{state_place, image_len, cell_of, data_in, cell_in, cells_of}
-use Rattle.model_image.specs.Image.{header_of, IsImageOf, pressed_image, IsPressed, blank_cells, IsBlankIfDisc, IsStoppedPress}
+use Rattle.model_image.specs.Image.{header_of, IsImageOf, pressed_image, PressesImage, blank_cells, IsBlankIfDisc, IsStoppedPress}
 use Rattle.model_image.proofs.Changes.{SameBut}
 use Rattle.model_image.proofs.Writes.{SameBut-put_at, SameBut-PartlyPut}
 
@@ -91,13 +91,13 @@ module _ (shape : Shape) (header_long : length (header_of shape) ≡ 16) (before
           omega (arith, header_long, ap length (same ∙ resized-anew (image_len (total shape)) first), length-replicate {A = ℕ} (image_len (total shape)) 0)
 
   pub told-pressed : IsLawful shape → (b1 b2 after : Option (List ℕ)) → b1 ≡ option_map (resized 0) before → b2 ≡ option_map (resized (image_len (total shape))) b1 → after ≡ option_map (put_at 0 (header_of shape)) b2
-      → WhereTold before after (IsPressed shape)
+      → WhereTold before after (PressesImage shape)
   told-pressed lawful b1 b2 after e1 e2 e3 =
-      subst (λ o. WhereTold before o (IsPressed shape)) (sym (e3 ∙ ap (option_map (put_at 0 (header_of shape))) (e2 ∙ ap (option_map (resized (image_len (total shape)))) e1))) (cases before)
+      subst (λ o. WhereTold before o (PressesImage shape)) (sym (e3 ∙ ap (option_map (put_at 0 (header_of shape))) (e2 ∙ ap (option_map (resized (image_len (total shape)))) e1))) (cases before)
     where
-      cases : (o : Option (List ℕ)) → WhereTold o (option_map (put_at 0 (header_of shape)) (option_map (resized (image_len (total shape))) (option_map (resized 0) o))) (IsPressed shape)
+      cases : (o : Option (List ℕ)) → WhereTold o (option_map (put_at 0 (header_of shape)) (option_map (resized (image_len (total shape))) (option_map (resized 0) o))) (PressesImage shape)
       cases None = tt
-      cases (Some held) = subst (λ l. IsPressed shape held (put_at 0 (header_of shape) l)) (sym (resized-anew (image_len (total shape)) held)) (record { bytes = pressed_bytes shape header_long; image = pressed shape header_long lawful })
+      cases (Some held) = subst (λ l. PressesImage shape held (put_at 0 (header_of shape) l)) (sym (resized-anew (image_len (total shape)) held)) (record { bytes = pressed_bytes shape header_long; image = pressed shape header_long lawful })
 
 -- what a failed last step leaves, as the image's rule says it
 module _ (shape : Shape) (header_long : length (header_of shape) ≡ 16) (before : Option (List ℕ)) where

@@ -43,6 +43,6 @@ pressed_image shape = header_of shape ++ replicate (image_len (total shape) - 16
 
 -- A press of this geometry: the image has these bytes whatever it had before, and all its cells are blank. (This
 -- project's own.)
-pub record IsPressed (shape : Shape) (before after : List ℕ) : Type 0 where
+pub record PressesImage (shape : Shape) (before after : List ℕ) : Type 0 where
   pub bytes : after ≡ pressed_image shape
   pub image : IsImageOf shape (blank_cells shape) after

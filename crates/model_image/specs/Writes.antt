@@ -47,10 +47,10 @@ pub record PutsInBlock (total block : ℕ) (block_data before after : List ℕ) 
 
 -- The image failed in a write of these data to a block: so much of it may have been done, and under a dead block
 -- nothing.
-pub record StopsInBlock (total block : ℕ) (block_data before after : List ℕ) : Type 0 where
+pub record StopsInBytes (total block : ℕ) (block_data before after : List ℕ) : Type 0 where
   pub puts : PutsInBlock total block block_data before after
   pub dead_keeps : slice_index before (state_place block) ≡ dead_state → after ≡ before
 
 -- The image is as before, or as after the whole change: a change of one byte failed.
-abbrev pub IsOldOrNew : List ℕ → List ℕ → List ℕ → Type 0
-IsOldOrNew old new after = (after ≡ old) ⊎ (after ≡ new)
+abbrev pub IsBeforeOrAfter : List ℕ → List ℕ → List ℕ → Type 0
+IsBeforeOrAfter old new after = (after ≡ old) ⊎ (after ≡ new)

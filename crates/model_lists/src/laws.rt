@@ -1,3 +1,5 @@
+//! The laws about the values and texts of the lists: functions with an empty body, of which the contract is the law.
+
 ghost use Rattle.std.specs.Prelude.{◌≡◌, ◌≢◌, ℕ, ◌+◌, ◌≤◌, List, Option, Some, length};
 ghost use Rattle.std.specs.List.Sorted.{IsStrictlyIncreasing};
 ghost use Rattle.model_lists.specs.declared.sdl.SdlEntry.{SdlEntry};

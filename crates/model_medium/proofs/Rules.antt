@@ -7,7 +7,7 @@ use Rattle.std.proofs.lemmas.Bool.{cases_Bool, false≢true}
 use Rattle.std.proofs.lemmas.List.{set-get_or}
 use Rattle.model_counts.specs.Counts.{counted}
 use Rattle.model_medium.specs.Cells.{Cell, Good, Dead, cell_at, IsSameOrDead, MayLeave, written, cut_short}
-use Rattle.model_medium.specs.World.{ShowsNoneUntold, IsUse, GoesOn, IsCut, ReadRule, WriteRule, ReadGoes, WriteGoes}
+use Rattle.model_medium.specs.World.{ShowsNoneUntold, IsUse, UseContinues, IsCut, ReadRule, WriteRule, ReadGoes, WriteGoes}
 use Rattle.model_medium.specs.Machine.{Machine, is_killed, cells_worn, fate_due, IsToCome, begun, cut_off, with_cell, after_read, after_write}
 use Rattle.model_medium.specs.Exact.{ReadExactly, WriteExactly}
 use Rattle.model_medium.specs.Reach.{Reach}
@@ -136,7 +136,7 @@ module _ (old new : Machine) (block : ℕ) where
   ]
   unchanged false hidden into' used gives e = e ∙ worn_none (is_killed block old.arms) old.world.cells hidden
 
-  stays_on : IsTrue old.world.power → new ≡ begun block old → GoesOn old.world new.world
+  stays_on : IsTrue old.world.power → new ≡ begun block old → UseContinues old.world new.world
   stays_on was_on x = record { stays_on = ap (λ m. m.world.power) x ∙ was_on; no_cut = ap (λ m. m.world.cuts) x; no_fault = ap (λ m. m.world.faults) x }
 
   is_cut : new ≡ cut_off (begun block old) → IsCut old.world new.world

@@ -15,7 +15,7 @@ pub record HasCountedDown (old new : Machine) (block : ℕ) : Type 0 where
   pub cut : new.cut ≡ cut_after old.cut
 
 -- the power was on, no cut was due, and the cell is good with these bytes
-pub record ReadsExactly (old new : Machine) (block : ℕ) (into' : List ℕ) : Type 0 where
+pub record ReadsCellExactly (old new : Machine) (block : ℕ) (into' : List ℕ) : Type 0 where
   pub was_on : IsTrue old.world.power
   pub not_due : fate_due old.cut ≡ None
   pub exactly : new ≡ after_read block old
@@ -42,21 +42,21 @@ pub record IsOffExactly (old new : Machine) : Type 0 where
 
 -- What a read does on a controllable medium, by its answer. (This project's own.)
 abbrev pub ReadExactly : Machine → Machine → ℕ → List ℕ → List ℕ → ReadEnd → Type 0
-ReadExactly old new block into into' reads.Done = ReadsExactly old new block into'
+ReadExactly old new block into into' reads.Done = ReadsCellExactly old new block into'
 ReadExactly old new block into into' reads.Unreadable = FindsNothingExactly old new block into into'
 ReadExactly old new block into into' reads.Cut = IsCutExactly old (after_read block old) new × (into' ≡ into)
 ReadExactly old new block into into' reads.Off = IsOffExactly old new × (into' ≡ into)
 ReadExactly old new block into into' reads.Failed = FailsInRead old.world new.world block into into' × HasCountedDown old new block
 
 -- the power was on, no cut was due, and the bytes were written
-pub record WritesExactly (old new : Machine) (block : ℕ) (bytes : List ℕ) : Type 0 where
+pub record WritesCellExactly (old new : Machine) (block : ℕ) (bytes : List ℕ) : Type 0 where
   pub was_on : IsTrue old.world.power
   pub not_due : fate_due old.cut ≡ None
   pub exactly : new ≡ after_write block bytes old
 
 -- What a write does on a controllable medium, by its answer. (This project's own.)
 abbrev pub WriteExactly : Machine → Machine → ℕ → List ℕ → WriteEnd → Type 0
-WriteExactly old new block bytes writes.Done = WritesExactly old new block bytes
+WriteExactly old new block bytes writes.Done = WritesCellExactly old new block bytes
 WriteExactly old new block bytes writes.Cut = IsCutExactly old (after_write block bytes old) new
 WriteExactly old new block bytes writes.Off = IsOffExactly old new
 WriteExactly old new block bytes writes.Failed = FailsInWrite old.world new.world block bytes × HasCountedDown old new block

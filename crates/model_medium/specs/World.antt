@@ -33,7 +33,7 @@ pub record IsUse (old new : World) (block : ℕ) : Type 0 where
   pub stays_dead : cell_at old.cells block ≡ Dead → cell_at new.cells block ≡ Dead
 
 -- the use went to its end: the power is on, and neither a cut nor a fault is counted
-pub record GoesOn (old new : World) : Type 0 where
+pub record UseContinues (old new : World) : Type 0 where
   pub stays_on : IsTrue new.power
   pub no_cut : new.cuts ≡ old.cuts
   pub no_fault : new.faults ≡ old.faults
@@ -58,14 +58,14 @@ pub record IsOff (old new : World) : Type 0 where
 -- the read gave the bytes of a good cell, and no cell changed
 pub record ReadsCell (old new : World) (block : ℕ) (into' : List ℕ) : Type 0 where
   pub one : IsUse old new block
-  pub goes_on : GoesOn old new
+  pub goes_on : UseContinues old new
   pub same : new.cells ≡ old.cells
   pub gives : OnTrue old.told (cell_at new.cells block ≡ Good into')
 
 -- the read found no good cell there
 pub record FindsNoBytes (old new : World) (block : ℕ) (into into' : List ℕ) : Type 0 where
   pub one : IsUse old new block
-  pub goes_on : GoesOn old new
+  pub goes_on : UseContinues old new
   pub left : IsSameOrDead (cell_at old.cells block) (cell_at new.cells block)
   pub not_good : ¬ IsGood (cell_at new.cells block)
   pub kept : into' ≡ into
@@ -96,7 +96,7 @@ ReadRule old new block into into' reads.Failed = FailsInRead old new block into 
 -- the write put its bytes, unless the cell is dead
 pub record WritesCell (old new : World) (block : ℕ) (bytes : List ℕ) : Type 0 where
   pub one : IsUse old new block
-  pub goes_on : GoesOn old new
+  pub goes_on : UseContinues old new
   pub left : (cell_at new.cells block ≡ Good bytes) ⊎ (cell_at new.cells block ≡ Dead)
 
 -- the power was cut in the write

@@ -1,3 +1,5 @@
+//! The laws about media: functions with an empty body, of which the contract is the law.
+
 ghost use Rattle.std.specs.Prelude.{◌≡◌, ℕ, ◌+◌, List};
 ghost use Rattle.model_medium.specs.declared.ReadEnd.{ReadEnd};
 ghost use Rattle.model_medium.specs.declared.WriteEnd.{WriteEnd};

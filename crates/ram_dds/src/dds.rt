@@ -1,3 +1,5 @@
+//! The structure and its block, both ways. It touches the caller's block alone.
+
 ghost use Rattle.std.specs.Prelude.{IfOk};
 ghost use Rattle.model_lists.specs.Values.{IsLawfulDds};
 ghost use Rattle.model_lists.specs.Texts.{IsDdsText};

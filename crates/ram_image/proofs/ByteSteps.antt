@@ -8,7 +8,7 @@ use Rattle.model_medium.specs.Cells.{Dead}
 use Rattle.model_medium.specs.declared.Fate.{Fate}
 use Rattle.model_medium.specs.declared.Fate.TheVariants as fates
 use Rattle.model_image.specs.Cells.{state_place, data_place, image_len, cell_in, data_in}
-use Rattle.model_image.specs.Writes.{with_state, with_block, torn_state, dead_state, bytes_by, bytes_left, PutsInBlock, StopsInBlock, IsOldOrNew}
+use Rattle.model_image.specs.Writes.{with_state, with_block, torn_state, dead_state, bytes_by, bytes_left, PutsInBlock, StopsInBytes, IsBeforeOrAfter}
 use Rattle.model_image.proofs.ByteWrites.{one_byte, puts_none, three_writes, puts_till_first, puts_till_second, puts_till_third, put_at-partly, puts_state, dead_state_is, dead_cell_of, bytes_left-dead, bytes_left-alive}
 use Rattle.model_image.proofs.KnownBytes.{known_then, known_change, known_part, known_with, known_same}
 use Rattle.model_image.proofs.ToldCells.{told_more, told_same}
@@ -26,7 +26,7 @@ pub state_bytes : (total block : ℕ) → block < total → (state : ℕ) (befor
     → WriteAtRule before after f f' (state_place block) (state ∷ []) r → WriteStateBytes (call_between total block before after f f') state r
 state_bytes total block inside state before after whole f f' moves.Done rule = known_change (with_state block state) before after rule.changed
 state_bytes total block inside state before after whole f f' moves.Failed rule =
-    known_with (IsWhole total) (PartlyPut (state_place block) (state ∷ [])) (λ held held'. IsOldOrNew held (with_state block state held) held')
+    known_with (IsWhole total) (PartlyPut (state_place block) (state ∷ [])) (λ held held'. IsBeforeOrAfter held (with_state block state held) held')
     (λ a b long put. one_byte (state_place block) state a b (omega (arith, long)) put) before after whole (known_part (state_place block) (state ∷ []) before after rule.1)
 
 -- the three writes of a block
@@ -68,8 +68,8 @@ module _ (total block : ℕ) (inside : block < total) (from : List ℕ) (long : 
       before b2 after (known_filled b1 b2 e1 e2) (known_part (state_place block) (1 ∷ []) b2 after rule.1))
 
 -- a write that ends by a fate
-pub bytes_unread : (total block : ℕ) (from : List ℕ) (before after : Option (List ℕ)) → after ≡ before → WhereTold before after (StopsInBlock total block from)
-bytes_unread total block from before after e = known_same (StopsInBlock total block from) (λ held. record { puts = puts_none total block from held; dead_keeps = λ dead. refl }) before after e
+pub bytes_unread : (total block : ℕ) (from : List ℕ) (before after : Option (List ℕ)) → after ≡ before → WhereTold before after (StopsInBytes total block from)
+bytes_unread total block from before after e = known_same (StopsInBytes total block from) (λ held. record { puts = puts_none total block from held; dead_keeps = λ dead. refl }) before after e
 
 module _ (total block : ℕ) (from : List ℕ) (fate : Fate) where
   abbrev IsLeft : List ℕ → List ℕ → Type 0
@@ -92,9 +92,9 @@ module _ (total block : ℕ) (from : List ℕ) (fate : Fate) where
       (subst (λ o. WhereTold o after (λ held held'. held' ≡ bytes_by fate total block from held)) e told)
 
   alive_stops : (R : List ℕ → List ℕ → Type 0) (before mid after : Option (List ℕ)) → IfSome before IsAlive → mid ≡ before → ((a b : List ℕ) → R a b → PutsInBlock total block from a b) → WhereTold mid after R
-      → WhereTold before after (StopsInBlock total block from)
+      → WhereTold before after (StopsInBytes total block from)
   alive_stops R before mid after alive e puts told =
-      told_more R (StopsInBlock total block from) IsAlive (λ held held' lives r. record { puts = puts held held' r; dead_keeps = λ dead. absurd (not_dead held lives dead) }) before after alive
+      told_more R (StopsInBytes total block from) IsAlive (λ held held' lives r. record { puts = puts held held' r; dead_keeps = λ dead. absurd (not_dead held lives dead) }) before after alive
       (subst (λ o. WhereTold o after R) e told)
 
   pub bytes_old : fate ≡ fates.Old → (before after : Option (List ℕ)) → IfSome before IsAlive → after ≡ before → WhereTold before after IsLeft
@@ -106,7 +106,7 @@ module _ (total block : ℕ) (from : List ℕ) (fate : Fate) where
   bytes_new e before mid after alive same moves.Failed told = alive_stops (PutsInBlock total block from) before mid after alive same (λ a b r. r) told
 
   module _ (inside : block < total) where
-    torn_puts : (held held' : List ℕ) → IsWhole total held → IsOldOrNew held (with_state block torn_state held) held' → PutsInBlock total block from held held'
+    torn_puts : (held held' : List ℕ) → IsWhole total held → IsBeforeOrAfter held (with_state block torn_state held) held' → PutsInBlock total block from held held'
     torn_puts held held' whole (inl e) = subst (PutsInBlock total block from held) (sym e) (puts_none total block from held)
     torn_puts held held' whole (inr e) =
         subst (PutsInBlock total block from held) (sym e) (puts_state total block from 2 held (with_state block torn_state held) (inl refl) (put_at-partly (state_place block) (2 ∷ []) held (omega (arith, whole))))
@@ -116,4 +116,4 @@ module _ (total block : ℕ) (from : List ℕ) (fate : Fate) where
     bytes_torn e before mid after whole alive same moves.Done told = alive_left before mid after alive same (subst (λ f. WhereTold mid after (λ held held'. held' ≡ bytes_by f total block from held)) (sym e) told)
     bytes_torn e before mid after whole alive same moves.Failed told =
         alive_stops (PutsInBlock total block from) before mid after alive same (λ a b r. r)
-        (known_with (IsWhole total) (λ held held'. IsOldOrNew held (with_state block torn_state held) held') (PutsInBlock total block from) (λ a b w r. torn_puts a b w r) mid after (subst (λ o. ForSome o (IsWhole total)) (sym same) whole) told)
+        (known_with (IsWhole total) (λ held held'. IsBeforeOrAfter held (with_state block torn_state held) held') (PutsInBlock total block from) (λ a b w r. torn_puts a b w r) mid after (subst (λ o. ForSome o (IsWhole total)) (sym same) whole) told)

@@ -8,7 +8,7 @@ use Rattle.model_medium.specs.declared.ReadEnd.{ReadEnd}
 use Rattle.model_medium.specs.declared.ReadEnd.TheVariants as reads
 use Rattle.model_medium.specs.declared.WriteEnd.{WriteEnd}
 use Rattle.model_medium.specs.declared.WriteEnd.TheVariants as writes
-use Rattle.model_image.specs.Writes.{bytes_left, StopsInBlock}
+use Rattle.model_image.specs.Writes.{bytes_left, StopsInBytes}
 use Rattle.model_image.proofs.KnownBytes.{known_then, known_weaker}
 use Rattle.ram_image.specs.EventBytes.{WearsBytes, MayWearBytes, LeavesBytes, MayLeaveBytes, ReadBytes, WriteBytes}
 use Rattle.ram_image.specs.Begun.{ReadOnRule, WriteCutRule, WriteCutBytes}
@@ -31,10 +31,10 @@ module _ (dies : Bool) (block : ℕ) (before mid after : Option (List ℕ)) (wea
         known_then (WearsBytes dies block) (λ held held'. held' ≡ bytes_left fate total block from held) (LeavesBytes dies fate total block from)
         (λ a b c e e'. e' ∙ ap (bytes_left fate total block from) e) before mid after wears left
 
-    pub stops_then : WhereTold mid after (StopsInBlock total block from) → WhereTold before after (MayLeaveBytes dies total block from)
+    pub stops_then : WhereTold mid after (StopsInBytes total block from) → WhereTold before after (MayLeaveBytes dies total block from)
     stops_then stops =
-        known_then (WearsBytes dies block) (StopsInBlock total block from) (MayLeaveBytes dies total block from)
-        (λ a b c e s. inr (subst (λ l. StopsInBlock total block from l c) e s)) before mid after wears stops
+        known_then (WearsBytes dies block) (StopsInBytes total block from) (MayLeaveBytes dies total block from)
+        (λ a b c e s. inr (subst (λ l. StopsInBytes total block from l c) e s)) before mid after wears stops
 
     pub cut_bytes : (due : Option Fate) (fate : Fate) → due ≡ Some fate → (old new : Machine) (how : WriteEnd) → WriteCutRule old new block from fate how → WriteCutBytes total block from fate mid after how
         → WriteBytes dies due total block from before after how

@@ -14,7 +14,7 @@ use Rattle.model_image.proofs.ToldCells.{told_more, told_same, sets_same}
 use Rattle.ram_outside.specs.Image.{IsUnchanged, ImageFails, WriteAtRule}
 use Rattle.ram_outside.specs.declared.image.Moved.{Moved}
 use Rattle.ram_outside.specs.declared.image.Moved.TheVariants as moves
-use Rattle.ram_image.specs.CellCalls.{call_between, WriteStateRule, WriteCellRule, StopsInLeaving, Leaves, LeaveCellRule}
+use Rattle.ram_image.specs.CellCalls.{call_between, WriteStateRule, WriteCellRule, StopsInLeaving, LeavesByFate, LeaveCellRule}
 
 -- a write of a state byte
 pub state_written : (total block : ℕ) → block < total → (byte : ℕ) (cell : Cell) → ((bytes : List ℕ) → cell_of byte bytes ≡ cell) → (before after : Option (List ℕ)) → ForSome before (λ held. length held ≡ image_len total)
@@ -46,13 +46,13 @@ module _ (total block : ℕ) (inside : block < total) (bytes : List ℕ) where
   here : (held : List ℕ) → cell_at (cells_of total held) block ≡ cell_in total held block
   here held = cell_at-cells_of total held block inside
 
-  pub left_dead : (fate : Fate) (before after : Option (List ℕ)) → IfSome before (λ held. cell_in total held block ≡ Dead) → after ≡ before → WhereTold before after (Leaves total block bytes fate)
+  pub left_dead : (fate : Fate) (before after : Option (List ℕ)) → IfSome before (λ held. cell_in total held block ≡ Dead) → after ≡ before → WhereTold before after (LeavesByFate total block bytes fate)
   left_dead fate before after dead e =
-      told_same (Leaves total block bytes fate) (λ held. cell_in total held block ≡ Dead)
+      told_same (LeavesByFate total block bytes fate) (λ held. cell_in total held block ≡ Dead)
       (λ held d. let is : cell_at (cells_of total held) block ≡ Dead = here held ∙ d in sets_same total block held _ (ap (cut_short fate bytes) is ∙ dead_left fate ∙ sym is)) before after dead e
 
-  pub left_old : (before after : Option (List ℕ)) → after ≡ before → WhereTold before after (Leaves total block bytes fates.Old)
-  left_old before after e = told_same (Leaves total block bytes fates.Old) (λ held. Unit {0}) (λ held p. sets_same total block held _ refl) before after (any before) e
+  pub left_old : (before after : Option (List ℕ)) → after ≡ before → WhereTold before after (LeavesByFate total block bytes fates.Old)
+  left_old before after e = told_same (LeavesByFate total block bytes fates.Old) (λ held. Unit {0}) (λ held p. sets_same total block held _ refl) before after (any before) e
     where
       any : (o : Option (List ℕ)) → IfSome o (λ held. Unit {0})
       any None = tt
@@ -76,9 +76,9 @@ module _ (total block : ℕ) (inside : block < total) (bytes : List ℕ) where
       omega (arith, unchanged.count, rose),
     )
 
-    sets : (cell : Cell) (fate : Fate) → ((old : Cell) → cut_short fate bytes old ≡ unless_dead old cell) → WhereTold mid after (SetsCell total block cell) → WhereTold before after (Leaves total block bytes fate)
+    sets : (cell : Cell) (fate : Fate) → ((old : Cell) → cut_short fate bytes old ≡ unless_dead old cell) → WhereTold mid after (SetsCell total block cell) → WhereTold before after (LeavesByFate total block bytes fate)
     sets cell fate is told =
-        told_more (SetsCell total block cell) (Leaves total block bytes fate) IsAlive
+        told_more (SetsCell total block cell) (LeavesByFate total block bytes fate) IsAlive
         (λ held held' p r. subst (λ c. SetsCell total block c held held') (sym (is (cell_at (cells_of total held) block) ∙ alive (cell_at (cells_of total held) block) cell (λ e. p (sym (here held) ∙ e)))) r) before after lives
         (subst (λ o. WhereTold o after (SetsCell total block cell)) unchanged.same told)
 

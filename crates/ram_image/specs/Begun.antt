@@ -14,7 +14,7 @@ use Rattle.model_medium.specs.Machine.{Machine, fate_due, begun, cut_off, with_c
 use Rattle.model_medium.specs.Exact.{HasCountedDown}
 use Rattle.model_bytes.specs.Told.{WhereTold}
 use Rattle.model_image.specs.Cells.{cells_told}
-use Rattle.model_image.specs.Writes.{bytes_left, StopsInBlock}
+use Rattle.model_image.specs.Writes.{bytes_left, StopsInBytes}
 use Rattle.ram_outside.specs.declared.image.Image.{Ghosts}
 use Rattle.ram_outside.specs.declared.image.Moved.{Moved}
 use Rattle.ram_outside.specs.declared.image.Moved.TheVariants as moves
@@ -43,10 +43,10 @@ pub record BeginFails (old new : Machine) (block : ℕ) : Type 0 where
   pub counted : HasCountedDown old new block
 
 -- How a use of a block begins, with the power on. (This project's own.)
-abbrev pub BeginRule : Machine → Machine → ℕ → Begun → Type 0
-BeginRule old new block begins.On = (fate_due old.cut ≡ None) × (new ≡ begun block old)
-BeginRule old new block (begins.Cut fate) = (fate_due old.cut ≡ Some fate) × (new ≡ begun block old)
-BeginRule old new block begins.Failed = BeginFails old new block
+abbrev pub ImageBeginRule : Machine → Machine → ℕ → Begun → Type 0
+ImageBeginRule old new block begins.On = (fate_due old.cut ≡ None) × (new ≡ begun block old)
+ImageBeginRule old new block (begins.Cut fate) = (fate_due old.cut ≡ Some fate) × (new ≡ begun block old)
+ImageBeginRule old new block begins.Failed = BeginFails old new block
 
 -- the image failed in a use that had begun: it is counted, the power is off, and all else is as it was but for the
 -- block's cell, of which a dead one stays dead
@@ -91,11 +91,11 @@ BeginBytes dies block before after begins.Failed = WhereTold before after (MayWe
 -- Which bytes a write with this fate changes in a use that had begun, by its answer.
 abbrev pub LeaveBytes : ℕ → ℕ → List ℕ → Fate → Option (List ℕ) → Option (List ℕ) → Moved → Type 0
 LeaveBytes total block bytes fate before after moves.Done = WhereTold before after (λ held held'. held' ≡ bytes_left fate total block bytes held)
-LeaveBytes total block bytes fate before after moves.Failed = WhereTold before after (StopsInBlock total block bytes)
+LeaveBytes total block bytes fate before after moves.Failed = WhereTold before after (StopsInBytes total block bytes)
 
 -- The same where the power is cut in it.
 abbrev pub WriteCutBytes : ℕ → ℕ → List ℕ → Fate → Option (List ℕ) → Option (List ℕ) → WriteEnd → Type 0
 WriteCutBytes total block bytes fate before after writes.Done = Unit {0}
 WriteCutBytes total block bytes fate before after writes.Cut = WhereTold before after (λ held held'. held' ≡ bytes_left fate total block bytes held)
 WriteCutBytes total block bytes fate before after writes.Off = Unit {0}
-WriteCutBytes total block bytes fate before after writes.Failed = WhereTold before after (StopsInBlock total block bytes)
+WriteCutBytes total block bytes fate before after writes.Failed = WhereTold before after (StopsInBytes total block bytes)

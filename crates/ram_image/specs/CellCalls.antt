@@ -5,7 +5,7 @@ use Rattle.model_bytes.specs.Told.{WhereTold}
 use Rattle.model_medium.specs.Cells.{Cell, Good, Dead, IsGood, cell_at, cut_short}
 use Rattle.model_medium.specs.declared.Fate.{Fate}
 use Rattle.model_image.specs.Cells.{cell_in, cells_of, SetsCell, StopsInCell, StopsInState}
-use Rattle.model_image.specs.Writes.{with_state, with_block, worn_bytes, bytes_left, PutsInBlock, StopsInBlock, IsOldOrNew}
+use Rattle.model_image.specs.Writes.{with_state, with_block, worn_bytes, bytes_left, PutsInBlock, StopsInBytes, IsBeforeOrAfter}
 use Rattle.ram_outside.specs.Image.{IsUnchanged, ImageFails}
 use Rattle.ram_outside.specs.declared.image.Image.{Ghosts as Images}
 use Rattle.ram_outside.specs.declared.image.Moved.{Moved}
@@ -89,7 +89,7 @@ WriteStateRule call cell moves.Failed = FailsLeaving call (StopsInState call.tot
 
 -- Which bytes it changes: the state byte alone, to this one.
 abbrev pub WriteStateBytes : CellCall → ℕ → Moved → Type 0
-WriteStateBytes call state = BytesRule call (λ held held'. held' ≡ with_state call.block state held) (λ held held'. IsOldOrNew held (with_state call.block state held) held')
+WriteStateBytes call state = BytesRule call (λ held held'. held' ≡ with_state call.block state held) (λ held held'. IsBeforeOrAfter held (with_state call.block state held) held')
 
 -- What making a block dead where it is to die may do, by its answer.
 abbrev pub KillWhereRule : CellCall → Bool → Moved → Type 0
@@ -98,7 +98,7 @@ KillWhereRule call dies moves.Failed = FailsLeaving call (StopsInState call.tota
 
 -- Which bytes it changes.
 abbrev pub KillWhereBytes : CellCall → Bool → Moved → Type 0
-KillWhereBytes call dies = BytesRule call (λ held held'. held' ≡ worn_bytes dies call.block held) (λ held held'. IsOldOrNew held (worn_bytes dies call.block held) held')
+KillWhereBytes call dies = BytesRule call (λ held held'. held' ≡ worn_bytes dies call.block held) (λ held held'. IsBeforeOrAfter held (worn_bytes dies call.block held) held')
 
 -- A write of these bytes to a block was stopped, and the block is dead now if it was.
 pub record StopsInLeaving (total block : ℕ) (bytes before after : List ℕ) : Type 0 where
@@ -106,14 +106,14 @@ pub record StopsInLeaving (total block : ℕ) (bytes before after : List ℕ) : 
   pub stays_dead : cell_at (cells_of total before) block ≡ Dead → cell_at (cells_of total after) block ≡ Dead
 
 -- A write of these bytes to a block that ends by this fate: the block's cell is what the fate leaves of it.
-abbrev pub Leaves : ℕ → ℕ → List ℕ → Fate → List ℕ → List ℕ → Type 0
-Leaves total block bytes fate before after = SetsCell total block (cut_short fate bytes (cell_at (cells_of total before) block)) before after
+abbrev pub LeavesByFate : ℕ → ℕ → List ℕ → Fate → List ℕ → List ℕ → Type 0
+LeavesByFate total block bytes fate before after = SetsCell total block (cut_short fate bytes (cell_at (cells_of total before) block)) before after
 
 -- What such a write may do, by its answer.
 abbrev pub LeaveCellRule : CellCall → List ℕ → Fate → Moved → Type 0
-LeaveCellRule call bytes fate moves.Done = IsDone call (Leaves call.total call.block bytes fate)
+LeaveCellRule call bytes fate moves.Done = IsDone call (LeavesByFate call.total call.block bytes fate)
 LeaveCellRule call bytes fate moves.Failed = FailsLeaving call (StopsInLeaving call.total call.block bytes)
 
 -- Which bytes it changes.
 abbrev pub LeaveCellBytes : CellCall → List ℕ → Fate → Moved → Type 0
-LeaveCellBytes call bytes fate = BytesRule call (λ held held'. held' ≡ bytes_left fate call.total call.block bytes held) (StopsInBlock call.total call.block bytes)
+LeaveCellBytes call bytes fate = BytesRule call (λ held held'. held' ≡ bytes_left fate call.total call.block bytes held) (StopsInBytes call.total call.block bytes)

@@ -9,7 +9,7 @@ use Rattle.model_medium.specs.declared.ReadEnd.{ReadEnd}
 use Rattle.model_medium.specs.declared.ReadEnd.TheVariants as reads
 use Rattle.model_medium.specs.declared.WriteEnd.{WriteEnd}
 use Rattle.model_medium.specs.declared.WriteEnd.TheVariants as writes
-use Rattle.model_image.specs.Writes.{with_state, dead_state, worn_bytes, bytes_left, StopsInBlock, IsOldOrNew}
+use Rattle.model_image.specs.Writes.{with_state, dead_state, worn_bytes, bytes_left, StopsInBytes, IsBeforeOrAfter}
 use Rattle.ram_medium.specs.declared.control.FailEnd.{FailEnd}
 use Rattle.ram_medium.specs.declared.control.FailEnd.TheVariants as fails
 
@@ -20,7 +20,7 @@ WearsBytes dies block held held' = held' ≡ worn_bytes dies block held
 
 -- The image failed while an arm killed the block: nothing changed, or just that.
 abbrev pub MayWearBytes : Bool → ℕ → List ℕ → List ℕ → Type 0
-MayWearBytes dies block held held' = IsOldOrNew held (worn_bytes dies block held) held'
+MayWearBytes dies block held held' = IsBeforeOrAfter held (worn_bytes dies block held) held'
 
 -- What a read makes of the bytes, by its answer: it changes none but by an arm.
 abbrev pub ReadBytes : Bool → ℕ → Option (List ℕ) → Option (List ℕ) → ReadEnd → Type 0
@@ -36,7 +36,7 @@ LeavesBytes dies fate total block block_data held held' = held' ≡ bytes_left f
 
 -- The image failed in a write of these data: nothing changed, or bytes of the block alone, behind its arms.
 abbrev pub MayLeaveBytes : Bool → ℕ → ℕ → List ℕ → List ℕ → List ℕ → Type 0
-MayLeaveBytes dies total block block_data held held' = (held' ≡ held) ⊎ StopsInBlock total block block_data (worn_bytes dies block held) held'
+MayLeaveBytes dies total block block_data held held' = (held' ≡ held) ⊎ StopsInBytes total block block_data (worn_bytes dies block held) held'
 
 -- What a write makes of the bytes, by its answer; `due` is the fate of the cut that is due in it.
 abbrev pub WriteBytes : Bool → Option Fate → ℕ → ℕ → List ℕ → Option (List ℕ) → Option (List ℕ) → WriteEnd → Type 0
@@ -56,4 +56,4 @@ BytesAt old total before after PowerOff = after ≡ before
 abbrev pub FailBytes : ℕ → Option (List ℕ) → Option (List ℕ) → FailEnd → Type 0
 FailBytes block before after fails.Done = WhereTold before after (λ held held'. held' ≡ with_state block dead_state held)
 FailBytes block before after (fails.NoBlock blocks) = after ≡ before
-FailBytes block before after fails.Failed = WhereTold before after (λ held held'. IsOldOrNew held (with_state block dead_state held) held')
+FailBytes block before after fails.Failed = WhereTold before after (λ held held'. IsBeforeOrAfter held (with_state block dead_state held) held')

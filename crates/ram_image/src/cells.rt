@@ -1,3 +1,6 @@
+//! The cells of blocks in an image's bytes: the one place that writes state bytes and data. It knows no power and
+//! no arms.
+
 ghost use Rattle.std.specs.Prelude.{◌≡◌, ◌+◌, ◌*◌, ◌<◌, ◌≤◌, length};
 ghost use Rattle.std.specs.Option.{ForSome};
 ghost use Rattle.model_image.specs.Cells.{image_len};
@@ -145,7 +148,7 @@ pub fn kill_where<I: Image>(image: &mut I, total: u32, block: u32, dies: bool) -
     Moved::Done
 }
 
-/// Leaves a block as a write of these bytes does that is cut with this fate: an old one ends before the first of its
+/// LeavesByFate a block as a write of these bytes does that is cut with this fate: an old one ends before the first of its
 /// three writes, a torn one after it, and a new one after the last, as a write does that is not cut. A dead block is
 /// left as it is.
 pub fn leave_cell<I: Image>(

@@ -1,5 +1,5 @@
 -- What failing a block, wearing it and arming a cut do: for the trait `MediumControl`, and for the drives of a run.
-use Rattle.std.specs.Prelude.{◌≡◌, ◌≢◌, ℕ, ◌<◌, ◌≤◌, IsTrue, Some, [], ◌∷◌, ◌++◌, length, set}
+use Rattle.std.specs.Prelude.{◌≡◌, ◌≢◌, ℕ, ◌<◌, ◌≤◌, IsTrue, Some, List, [], ◌∷◌, ◌++◌, length, set}
 use Rattle.model_counts.specs.Counts.{Rose}
 use Rattle.model_medium.specs.Cells.{Dead, cell_at, IsSameOrDead}
 use Rattle.model_medium.specs.Machine.{Machine}
@@ -38,7 +38,13 @@ FailRule total old new block fails.Failed = (block < total) × FailsInFail old n
 abbrev pub with_arm : WornBlock → Machine → Machine
 with_arm worn machine = record machine { arms = machine.arms ++ worn ∷ [] }
 
--- What the arming of a block does on a medium of so many blocks, by its answer. (This project's own.)
+-- What the arming of a block does to the arms of a medium of so many blocks, by its answer. (This project's own.)
+abbrev pub ArmsRule : ℕ → List WornBlock → List WornBlock → WornBlock → Arm → Type 0
+ArmsRule total old new worn arming.Set = (worn.block < total) × (length old < MOST_ARMS) × (new ≡ old ++ worn ∷ [])
+ArmsRule total old new worn (arming.NoBlock blocks) = (total ≤ worn.block) × (blocks ≡ total) × (new ≡ old)
+ArmsRule total old new worn arming.Full = (worn.block < total) × (length old ≡ MOST_ARMS) × (new ≡ old)
+
+-- What it does to the whole medium. (This project's own.)
 abbrev pub WearRule : ℕ → Machine → Machine → WornBlock → Arm → Type 0
 WearRule total old new worn arming.Set = (worn.block < total) × (length old.arms < MOST_ARMS) × (new ≡ with_arm worn old)
 WearRule total old new worn (arming.NoBlock blocks) = (total ≤ worn.block) × (blocks ≡ total) × (new ≡ old)

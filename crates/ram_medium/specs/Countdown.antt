@@ -9,5 +9,5 @@ abbrev pub arms_of : Armed → List WornBlock
 arms_of armed = armed.worn.items
 
 -- the armed cut
-abbrev pub cut_of : Armed → Option ArmedCut
-cut_of armed = armed.cut
+abbrev pub armed_cut_of : Armed → Option ArmedCut
+armed_cut_of armed = armed.cut

@@ -8,17 +8,17 @@ use Rattle.model_medium.specs.Reach.{Reach}
 use Rattle.model_medium.specs.declared.ReadEnd.TheVariants as reads
 use Rattle.model_medium.specs.declared.WriteEnd.TheVariants as writes
 use Rattle.ram_medium.specs.Laws.{machine_of}
-use Rattle.ram_medium.specs.Countdown.{arms_of, cut_of}
-use Rattle.ram_medium.specs.Slots.{cells_of}
+use Rattle.ram_medium.specs.Countdown.{arms_of, armed_cut_of}
+use Rattle.ram_medium.specs.Slots.{slot_cells}
 use Rattle.ram_medium.specs.declared.memory.MemMedium.{MemMedium}
 
 -- what a medium in memory shows
-abbrev pub world_of : MemMedium → World
-world_of medium = record { told = true; cells = cells_of medium.slots.items; power = medium.powered; uses = medium.uses; cuts = medium.cuts; faults = medium.faults }
+abbrev pub mem_world : MemMedium → World
+mem_world medium = record { told = true; cells = slot_cells medium.slots.items; power = medium.powered; uses = medium.uses; cuts = medium.cuts; faults = medium.faults }
 
 -- the same with what is armed on it
-abbrev pub machine_in : MemMedium → Machine
-machine_in medium = machine_of (world_of medium) (arms_of medium.armed) (cut_of medium.armed)
+abbrev pub mem_machine : MemMedium → Machine
+mem_machine medium = machine_of (mem_world medium) (arms_of medium.armed) (armed_cut_of medium.armed)
 
 -- the numbers of the uses that fail, from 1 on
 abbrev pub failing_of : MemMedium → List ℕ
@@ -26,7 +26,7 @@ failing_of medium = medium.failing.items
 
 -- what can follow on a medium in memory
 abbrev pub MemReaches : MemMedium → MemMedium → ℕ → Type 0
-MemReaches old new k = Reach (machine_in old) (machine_in new) k
+MemReaches old new k = Reach (mem_machine old) (mem_machine new) k
 
 -- The next use has a number that fails. The number of uses stands still at its type's end. (This project's own.)
 abbrev pub IsNamedUse : MemMedium → Type 0
@@ -60,7 +60,7 @@ FailsAsNamed old PowerOff = Unit {0}
 -- What an event does on a medium in memory: exactly what it does on a controllable medium. It fails just where it is
 -- to, and then nothing but the failure happens. (This project's own.)
 pub record MemTakes (old new : MemMedium) (event : Event) : Type 0 where
-  pub exactly : Exactly (machine_in old) (machine_in new) event
+  pub exactly : Exactly (mem_machine old) (mem_machine new) event
   pub fails : FailsAsNamed old event
-  pub fails_exactly : FailsExactly (machine_in old) (machine_in new) event
+  pub fails_exactly : FailsExactly (mem_machine old) (mem_machine new) event
   pub same_names : failing_of new ≡ failing_of old

@@ -13,13 +13,13 @@ cell_by states.Torn bytes = Torn
 cell_by states.Dead bytes = Dead
 
 -- the cell of a slot
-abbrev pub cell_of : Slot → Cell
-cell_of slot = cell_by slot.state slot.block
+abbrev pub slot_cell : Slot → Cell
+slot_cell slot = cell_by slot.state slot.block
 
 -- the cells of all slots
-abbrev pub cells_of : List Slot → List Cell
-cells_of slots = map cell_of slots
+abbrev pub slot_cells : List Slot → List Cell
+slot_cells slots = map slot_cell slots
 
 -- the cell of one slot was changed so, and no other
 abbrev pub ChangesSlot : List Slot → List Slot → ℕ → (Cell → Cell) → Type 0
-ChangesSlot old new block change = cells_of new ≡ set (cells_of old) block (change (cell_at (cells_of old) block))
+ChangesSlot old new block change = slot_cells new ≡ set (slot_cells old) block (change (cell_at (slot_cells old) block))

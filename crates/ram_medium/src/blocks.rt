@@ -1,3 +1,5 @@
+//! The trait of any medium.
+
 ghost use Rattle.std.specs.Prelude.{◌≡◌, ℕ, ◌<◌, true, false};
 ghost use Rattle.model_medium.specs.World.{World, ReadRule, WriteRule, ReadGoes, WriteGoes};
 ghost use Rattle.model_medium.specs.Exact.{Event, Read, Write, PowerOn, PowerOff};

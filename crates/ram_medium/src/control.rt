@@ -1,3 +1,5 @@
+//! The trait of a medium that is told when it fails.
+
 ghost use Rattle.std.specs.Prelude.{◌≡◌, ℕ, ◌≤◌, Option, List};
 ghost use Rattle.model_medium.specs.declared.WornBlock.{WornBlock};
 ghost use Rattle.model_medium.specs.declared.ArmedCut.{ArmedCut};

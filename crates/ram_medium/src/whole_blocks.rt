@@ -1,3 +1,5 @@
+//! Reads and writes over any medium, with the ways to stop as an error.
+
 ghost use Rattle.std.specs.Prelude.{◌≡◌, ◌<◌, MatchResult};
 ghost use Rattle.model_medium.specs.World.{WritesCell};
 ghost use Rattle.model_medium.specs.Exact.{Read, Write};

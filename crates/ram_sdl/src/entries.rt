@@ -1,3 +1,5 @@
+//! The entries of a secondary defect list in their room: kept in order, without taking memory.
+
 ghost use Rattle.std.specs.Prelude.{◌≡◌, ◌==◌, ◌≤◌, ◌<◌, ◌+◌, [], length, OnOk, OnErr, vec_capacity};
 ghost use Rattle.std.specs.List.Sorted.{IsStrictlyIncreasing};
 ghost use Rattle.model_lists.specs.Values.{defectives, with_entry};

@@ -1,3 +1,5 @@
+//! The list and its block, both ways; finding and setting an entry.
+
 ghost use Rattle.std.specs.Prelude.{◌≡◌, ◌≤◌, length, IfOk, OnOk, OnErr};
 ghost use Rattle.std.specs.List.Sorted.{IsStrictlyIncreasing};
 ghost use Rattle.model_lists.specs.Values.{IsLawfulSdl, IsEntryOf, defectives, with_entry};

@@ -1,3 +1,5 @@
+//! The geometry in three numbers, and what follows from them by sums.
+
 ghost use Rattle.std.specs.Prelude.{◌≡◌, ◌+◌, ◌*◌, ◌/◌, ◌<◌, ◌≤◌, length, slice_get, MatchResult, IsTrue, ◌↔◌};
 ghost use Rattle.model_geometry.specs.declared.TheConstants.{MOST_ZONES, MOST_SCALE};
 ghost use Rattle.model_geometry.specs.Geometry.{IsLawful, IsInZone, IsDataIndex, IsZoneOf, shape_of, lead_out, total};
