@@ -131,7 +131,8 @@ pub fn worked_supplementary_spares()
     ensures down { free_spares (shape_of 1 1 4) [] 2 [] ≡ 12 ∷ 11 ∷ 10 ∷ 9 ∷ 31 ∷ 30 ∷ [] }
     ensures after_primary { free_spare_after (shape_of 1 1 4) [] 2 [] 9 ≡ Some 31 }
     ensures after_last { free_spare_after (shape_of 1 1 4) [] 2 [] 30 ≡ None }
-    ensures free { free_spares (shape_of 1 1 4) [] 2 ((9, None) ∷ (10, None) ∷ (11, None) ∷ (12, None) ∷ []) ≡ 31 ∷ 30 ∷ [] }
+    ensures free { free_spares (shape_of 1 1 4) [] 2 ((9, None) ∷ (10, None) ∷ (11, None) ∷ (12, None) ∷ [])
+        ≡ 31 ∷ 30 ∷ [] }
     ensures number { free_supplementary_count (shape_of 1 1 4) [] 2
         ((9, None) ∷ (10, None) ∷ (11, None) ∷ (12, None) ∷ (13, Some 31) ∷ []) ≡ 1 }
     ensures capacity { capacity (shape_of 1 1 4) 2 ≡ 272 }

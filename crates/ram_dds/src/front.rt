@@ -77,7 +77,8 @@ fn is_within_limits(state: DdsState, psa: u32, count: usize) -> bool
 pub fn front_of(bytes: &[u8]) -> Option<Front>
     requires { 2052 ≤ length bytes.now }
     ensures { MatchOption result
-        ((state : DdsState) (counter psa count : ℕ) → IsWithinDdsLimits state psa count → IsDdsFront state counter psa count bytes.now → ⊥)
+        ((state : DdsState) (counter psa count : ℕ) → IsWithinDdsLimits state psa count
+        → IsDdsFront state counter psa count bytes.now → ⊥)
         (λ front. (front.counter < 2 ^ 32) × IsWithinDdsLimits front.state front.psa front.count
         × IsDdsFront front.state front.counter front.psa front.count bytes.now) }
 {

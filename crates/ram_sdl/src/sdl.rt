@@ -89,7 +89,8 @@ impl Sdl {
     pub fn set(&mut self, entry: SdlEntry)
         requires rise { IsStrictlyIncreasing (defectives self.old.entries.list) }
         requires room { HasRoomFor entry.defective self.old.entries }
-        ensures value { sdl_of self.new ≡ record (sdl_of self.old) { entries = with_entry entry self.old.entries.list } }
+        ensures value { sdl_of self.new
+            ≡ record (sdl_of self.old) { entries = with_entry entry self.old.entries.list } }
         ensures rise { IsStrictlyIncreasing (defectives self.new.entries.list) }
         ensures room { self.new.entries.room ≡ self.old.entries.room }
     {
