@@ -68,7 +68,8 @@ impl Armed {
     /// Makes a block of so many dead at its `n`-th use from now on, unless there is no such block or as many arms stand
     /// as can.
     pub fn wear(&mut self, blocks: u32, block: u32, n: u32) -> Arm
-        ensures arms { ArmsRule blocks (arms_of self.old) (arms_of self.new) (record { block = block; left = n }) result }
+        ensures arms { ArmsRule blocks (arms_of self.old) (arms_of self.new)
+            (record { block = block; left = n }) result }
         ensures cut { armed_cut_of self.new ≡ armed_cut_of self.old }
     {
         if block >= blocks {
