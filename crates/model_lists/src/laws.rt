@@ -1,3 +1,5 @@
+//! The laws about the values and texts of the lists, each the contract of a function with an empty body.
+
 ghost use Rattle.std.specs.Prelude.{◌≡◌, ◌≢◌, ℕ, ◌+◌, ◌≤◌, List, Option, Some, length};
 ghost use Rattle.std.specs.List.Sorted.{IsStrictlyIncreasing};
 ghost use Rattle.model_lists.specs.declared.sdl.SdlEntry.{SdlEntry};
@@ -25,10 +27,13 @@ pub fn sdl_texts_are_exact()
 pub fn entries_are_put_in_their_place()
     ensures rise { (new : SdlEntry) (entries : List SdlEntry) → IsStrictlyIncreasing (defectives entries)
         → IsStrictlyIncreasing (defectives (with_entry new entries)) }
-    ensures there { (new : SdlEntry) (entries : List SdlEntry) → IsEntryOf (with_entry new entries) new.defective (Some new) }
-    ensures others { (new : SdlEntry) (entries : List SdlEntry) (block : ℕ) (found : Option SdlEntry) → block ≢ new.defective
+    ensures there { (new : SdlEntry) (entries : List SdlEntry)
+        → IsEntryOf (with_entry new entries) new.defective (Some new) }
+    ensures others { (new : SdlEntry) (entries : List SdlEntry) (block : ℕ) (found : Option SdlEntry)
+        → block ≢ new.defective
         → IsEntryOf entries block found → IsEntryOf (with_entry new entries) block found }
     ensures lawful { (new : SdlEntry) (entries : List SdlEntry) → IsLawfulList entries → HasNumbers new
         → IsLawfulList (with_entry new entries) }
-    ensures few { (new : SdlEntry) (entries : List SdlEntry) → length (with_entry new entries) ≤ length entries + 1 }
+    ensures few { (new : SdlEntry) (entries : List SdlEntry)
+        → length (with_entry new entries) ≤ length entries + 1 }
 {}

@@ -1,4 +1,5 @@
-use Rattle.std.specs.Prelude.{◌≡◌, ◌≢◌, ℕ, ◌≤◌, ◌⊎◌, Bool, IsTrue, List, []}
+-- All that any medium shows, and what one use of it may do by its answer: for the trait `Medium` and all above it.
+use Rattle.std.specs.Prelude.{◌≡◌, ◌≢◌, ℕ, ◌⊎◌, Bool, IsTrue, List, []}
 use Rattle.std.specs.Bool.{OnTrue, OnFalse}
 use Rattle.model_counts.specs.Counts.{counted, Rose}
 use Rattle.model_medium.specs.Cells.{Cell, Good, Dead, IsGood, cell_at, MayLeave, IsSameOrDead}
@@ -28,19 +29,20 @@ pub record IsUse (old new : World) (block : ℕ) : Type 0 where
   pub was_on : IsTrue old.power
   pub as_told : new.told ≡ old.told
   pub counts : new.uses ≡ counted old.uses 1
-  pub never_falls : old.faults ≤ new.faults
   pub others : (other : ℕ) → other ≢ block → cell_at new.cells other ≡ cell_at old.cells other
   pub stays_dead : cell_at old.cells block ≡ Dead → cell_at new.cells block ≡ Dead
 
--- the use went to its end: the power is on, and no cut is counted
-pub record GoesOn (old new : World) : Type 0 where
+-- the use went to its end: the power is on, and neither a cut nor a fault is counted
+pub record UseContinues (old new : World) : Type 0 where
   pub stays_on : IsTrue new.power
   pub no_cut : new.cuts ≡ old.cuts
+  pub no_fault : new.faults ≡ old.faults
 
--- the power was cut in the use: it is off, and the cut is counted
+-- the power was cut in the use: it is off, and the cut alone is counted
 pub record IsCut (old new : World) : Type 0 where
   pub goes_off : ¬ IsTrue new.power
   pub one_cut : new.cuts ≡ counted old.cuts 1
+  pub no_fault : new.faults ≡ old.faults
 
 -- what the medium lies on failed in the use: the power is off, and the fault is counted
 pub record HasFailed (old new : World) : Type 0 where
@@ -56,14 +58,14 @@ pub record IsOff (old new : World) : Type 0 where
 -- the read gave the bytes of a good cell, and no cell changed
 pub record ReadsCell (old new : World) (block : ℕ) (into' : List ℕ) : Type 0 where
   pub one : IsUse old new block
-  pub goes_on : GoesOn old new
+  pub goes_on : UseContinues old new
   pub same : new.cells ≡ old.cells
   pub gives : OnTrue old.told (cell_at new.cells block ≡ Good into')
 
 -- the read found no good cell there
 pub record FindsNoBytes (old new : World) (block : ℕ) (into into' : List ℕ) : Type 0 where
   pub one : IsUse old new block
-  pub goes_on : GoesOn old new
+  pub goes_on : UseContinues old new
   pub left : IsSameOrDead (cell_at old.cells block) (cell_at new.cells block)
   pub not_good : ¬ IsGood (cell_at new.cells block)
   pub kept : into' ≡ into
@@ -94,7 +96,7 @@ ReadRule old new block into into' reads.Failed = FailsInRead old new block into 
 -- the write put its bytes, unless the cell is dead
 pub record WritesCell (old new : World) (block : ℕ) (bytes : List ℕ) : Type 0 where
   pub one : IsUse old new block
-  pub goes_on : GoesOn old new
+  pub goes_on : UseContinues old new
   pub left : (cell_at new.cells block ≡ Good bytes) ⊎ (cell_at new.cells block ≡ Dead)
 
 -- the power was cut in the write

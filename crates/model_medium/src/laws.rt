@@ -1,3 +1,5 @@
+//! The laws about media: functions with an empty body, of which the contract is the law.
+
 ghost use Rattle.std.specs.Prelude.{◌≡◌, ℕ, ◌+◌, List};
 ghost use Rattle.model_medium.specs.declared.ReadEnd.{ReadEnd};
 ghost use Rattle.model_medium.specs.declared.WriteEnd.{WriteEnd};
@@ -31,12 +33,14 @@ pub fn composes()
     ensures machine { (a b c : Machine) (j k : ℕ) → Reach a b j → Reach b c k → Reach a c (j + k) }
     ensures world { (a b c : World) (j k : ℕ) → Follows a b j → Follows b c k → Follows a c (j + k) }
     ensures of_machines { (a b : Machine) (k : ℕ) → Reach a b k → Follows a.world b.world k }
-    ensures dead_stays_dead { (a b : World) (k block : ℕ) → Follows a b k → cell_at a.cells block ≡ Dead → cell_at b.cells block ≡ Dead }
+    ensures dead_stays_dead { (a b : World) (k block : ℕ) → Follows a b k
+        → cell_at a.cells block ≡ Dead → cell_at b.cells block ≡ Dead }
 {}
 
 /// The exact steps of a controllable medium are among what any medium may do.
 pub fn steps_obey_the_rules()
-    ensures read { (old new : Machine) (block : ℕ) (into after : List ℕ) (how : ReadEnd) → ShowsNoneUntold old.world
+    ensures read { (old new : Machine) (block : ℕ) (into after : List ℕ) (how : ReadEnd)
+        → ShowsNoneUntold old.world
         → ReadExactly old new block into after how → ReadRule old.world new.world block into after how }
     ensures write { (old new : Machine) (block : ℕ) (bytes : List ℕ) (how : WriteEnd)
         → WriteExactly old new block bytes how → WriteRule old.world new.world block bytes how }

@@ -1,3 +1,4 @@
+-- What a part of the work on a medium did: it continued, or was stopped by a cut, by a power that was off, or by a fault.
 use Rattle.std.specs.Prelude.{ℕ, ◌<◌, ◌≤◌, ◌⊎◌, IsTrue, List}
 use Rattle.model_medium.specs.World.{World, IsCut, IsOff, FailsInRead, FailsInWrite}
 use Rattle.model_stops.specs.declared.Stop.{Stop}
@@ -15,14 +16,14 @@ module _ {M : Type 0} (world : M → World) (reaches : M → M → ℕ → Type 
     pub reach : reaches old new k
     pub is_on : IsTrue (world new).power
 
-  -- the power was cut in the last of at most so many uses
+  -- the power was cut in the last of at most so many uses, and no fault is counted
   pub record StopsByCut (old new : M) (most : ℕ) : Type 0 where
     pub uses : ℕ
     pub few : uses ≤ most
     pub reach : reaches old new uses
     pub cut : IsCut (world old) (world new)
 
-  -- the last of at most so many uses failed, and those before did not
+  -- the last of at most so many uses failed and counted it, and those before did not
   pub record StopsByFault (old new : M) (most : ℕ) : Type 0 where
     pub mid : M
     pub before : ℕ

@@ -1,3 +1,5 @@
+//! The bytes of one block, whole and by sectors.
+
 ghost use Rattle.std.specs.Prelude.{◌≡◌, ℕ, ◌+◌, ◌*◌, ◌<◌, ◌≤◌, ◌↔◌, List, length, take, drop, replicate, IfOk, IsTrue, ◌++◌};
 ghost use Rattle.std.specs.Borrow.{sem};
 ghost use Rattle.model_bytes.specs.Bytes.{put_at};

@@ -1,3 +1,5 @@
+//! The bytes of a command block, of any command.
+
 ghost use Rattle.std.specs.Prelude.{◌≡◌, ◌<◌, ◌≤◌, length, slice_index};
 ghost use Rattle.std.specs.Option.{SomeIff};
 ghost use Rattle.ram_bytes.specs.declared.cdb.TheConstants.{CDB_LIMIT};

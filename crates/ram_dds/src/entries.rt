@@ -1,3 +1,5 @@
+//! The entries of a primary defect list, of which no more stand than the list may have.
+
 ghost use Rattle.std.specs.Prelude.{◌≡◌, ◌==◌, length};
 
 use model_lists::PdlEntry;

@@ -1,10 +1,12 @@
+//! The bytes before the entries, and the limits of what they say.
+
 ghost use Rattle.std.specs.Prelude.{◌≡◌, ℕ, ◌+◌, ◌<◌, ◌≤◌, ◌^◌, ◌↔◌, [], ◌∷◌, ◌++◌, length, take, IsTrue, MatchOption};
 ghost use Rattle.byteorder.specs.Endian.{big_bytes};
 ghost use Rattle.model_lists.specs.declared.dds.DdsState.{DdsState};
 ghost use Rattle.model_lists.specs.Values.{IsWithinDdsLimits};
 ghost use Rattle.model_lists.specs.Texts.{IsDdsFront, state_byte};
 
-use model_lists::{DdsState, PSA_LIMIT};
+use model_lists::{DdsState, MOST_SPARES};
 use ram_bytes::{get_u16, get_u32, is_zero};
 
 /// What the bytes before the entries say.
@@ -68,14 +70,15 @@ fn is_within_limits(state: DdsState, psa: u32, count: usize) -> bool
         DdsState::Formatting => count == 0,
         DdsState::Formatted => true,
     };
-    0 < psa && psa <= PSA_LIMIT && count <= psa as usize && fits_state
+    0 < psa && psa <= MOST_SPARES && count <= psa as usize && fits_state
 }
 
 /// What the bytes before the entries say, where they are within the limits.
 pub fn front_of(bytes: &[u8]) -> Option<Front>
     requires { 2052 ≤ length bytes.now }
     ensures { MatchOption result
-        ((state : DdsState) (counter psa count : ℕ) → IsWithinDdsLimits state psa count → IsDdsFront state counter psa count bytes.now → ⊥)
+        ((state : DdsState) (counter psa count : ℕ) → IsWithinDdsLimits state psa count
+        → IsDdsFront state counter psa count bytes.now → ⊥)
         (λ front. (front.counter < 2 ^ 32) × IsWithinDdsLimits front.state front.psa front.count
         × IsDdsFront front.state front.counter front.psa front.count bytes.now) }
 {

@@ -1,3 +1,5 @@
+//! How an entry of the primary defect list lies in bytes, and the list in the second sector of its block.
+
 ghost use Rattle.std.specs.Prelude.{◌≡◌};
 ghost use Rattle.model_lists.specs.Texts.{pdl_entry_bytes};
 

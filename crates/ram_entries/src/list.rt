@@ -1,3 +1,5 @@
+//! Entries one after another, written and read over any layout.
+
 ghost use Rattle.std.specs.Prelude.{◌≡◌, ℕ, ◌+◌, ◌*◌, ◌<◌, ◌≤◌, ◌↔◌, List, length, map, IsTrue, MatchOption, IfOk, slice_index};
 ghost use Rattle.model_lists.specs.Texts.{Spells};
 ghost use Rattle.ram_entries.specs.Layouts.{AreLawful};

@@ -1,13 +1,17 @@
-use Rattle.std.specs.Prelude.{ℕ, ◌≤◌, Option, List}
+-- What a press may do, by its answer: for `press`.
+use Rattle.std.specs.Prelude.{◌≡◌}
 use Rattle.model_counts.specs.Counts.{Rose}
 use Rattle.model_bytes.specs.Told.{WhereTold}
 use Rattle.model_geometry.specs.Geometry.{Shape}
-use Rattle.model_image.specs.Image.{IsPressed, IsStoppedPress}
+use Rattle.model_image.specs.Image.{PressesImage, IsStoppedPress}
+use Rattle.ram_outside.specs.declared.image.Image.{Ghosts as Images}
 use Rattle.ram_image.specs.declared.pressing.PressOut.{PressOut}
 use Rattle.ram_image.specs.declared.pressing.PressOut.TheVariants as presses
 
--- What a press may do, by its answer: the image's bytes and counts before and after, and the geometry. (This
--- project's own.)
-abbrev pub PressRule : Option (List ℕ) → Option (List ℕ) → ℕ → ℕ → Shape → PressOut → Type 0
-PressRule before after faults faults' shape presses.Done = WhereTold before after (IsPressed shape) × (faults ≤ faults')
-PressRule before after faults faults' shape presses.Failed = WhereTold before after IsStoppedPress × Rose faults faults'
+-- What a press of this geometry may do to an image, by its answer. (This project's own.)
+module _ {I : Type 0} (images : Images I) where
+  abbrev pub PressRule : I → I → Shape → PressOut → Type 0
+  PressRule old new shape presses.Done = WhereTold (images.bytes old) (images.bytes new) (PressesImage shape)
+      × (images.faults new ≡ images.faults old)
+  PressRule old new shape presses.Failed = WhereTold (images.bytes old) (images.bytes new) IsStoppedPress
+      × Rose (images.faults old) (images.faults new)

@@ -1,3 +1,5 @@
+//! The header of an image, both ways, and the image's length.
+
 ghost use Rattle.std.specs.Prelude.{◌≡◌, MatchOption};
 ghost use Rattle.model_geometry.specs.Geometry.{Shape, IsLawful, total};
 ghost use Rattle.model_image.specs.Cells.{image_len};

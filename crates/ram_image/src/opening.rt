@@ -1,3 +1,5 @@
+//! Opening an image that is there. It reads the image, and changes none of its bytes.
+
 ghost use Rattle.std.specs.Prelude.{◌≡◌, ◌≤◌, MatchResult, IfSome, length, take};
 ghost use Rattle.ram_image.specs.Opening.{HeaderRule, IsOpened, IsRefused};
 

@@ -1,3 +1,5 @@
+//! Pressing an image: all of its bytes are made anew.
+
 ghost use Rattle.std.specs.Prelude.{◌≡◌};
 ghost use Rattle.ram_image.specs.Press.{PressRule};
 
@@ -17,7 +19,7 @@ pub enum PressOut {
 /// Makes the image anew: a disc of this geometry with blank cells. Its length is set to 0, then to the full number,
 /// and then the header is written.
 pub fn press<I: Image>(image: &mut I, geometry: &Geometry) -> PressOut
-    ensures { PressRule (I.bytes image.old) (I.bytes image.new) (I.faults image.old) (I.faults image.new) geometry.now result }
+    ensures { PressRule I.Image image.old image.new geometry.now result }
 {
     let len = image_len(geometry);
     let header = header(geometry);

@@ -1,3 +1,4 @@
 pub mod Retained
 pub mod SlotCells
 pub mod Parts
+pub mod Arming

@@ -3,18 +3,18 @@ use Rattle.std.specs.Prelude.{◌≡◌, ℕ, ◌+◌, ◌<◌, List, [], ◌∷
 use Rattle.std.proofs.Common.{sym, ap, ◌∙◌}
 use Rattle.std.proofs.lemmas.List.{map-set, get_or-map, map_push, replicate_more}
 use Rattle.model_medium.specs.Cells.{Cell, Blank, Dead, cell_at}
-use Rattle.ram_medium.specs.Slots.{cell_of, cells_of}
+use Rattle.ram_medium.specs.Slots.{slot_cell, slot_cells}
 use Rattle.ram_medium.specs.declared.slots.Slot.{Slot}
 
 -- a slot is changed to one with this cell
-pub cells_of-set : (slots : List Slot) (block : ℕ) (slot : Slot) (cell : Cell) → cell_of slot ≡ cell → cells_of (set slots block slot) ≡ set (cells_of slots) block cell
-cells_of-set slots block slot cell is = map-set cell_of slots block slot ∙ ap (set (cells_of slots) block) is
+pub slot_cells-set : (slots : List Slot) (block : ℕ) (slot : Slot) (cell : Cell) → slot_cell slot ≡ cell → slot_cells (set slots block slot) ≡ set (slot_cells slots) block cell
+slot_cells-set slots block slot cell is = map-set slot_cell slots block slot ∙ ap (set (slot_cells slots) block) is
 
 -- a slot is changed, and its cell is what this makes of it
-pub cells_of-change : (slots : List Slot) (block : ℕ) (before after : Slot) (change : Cell → Cell) → block < length slots → before ≡ get_or slots block before → cell_of after ≡ change (cell_of before)
-    → cells_of (set slots block after) ≡ set (cells_of slots) block (change (cell_at (cells_of slots) block))
-cells_of-change slots block before after change inside was is = cells_of-set slots block after (change (cell_at (cells_of slots) block)) (is ∙ ap change (ap cell_of was ∙ sym (get_or-map cell_of slots block before Dead inside)))
+pub slot_cells-change : (slots : List Slot) (block : ℕ) (before after : Slot) (change : Cell → Cell) → block < length slots → before ≡ get_or slots block before → slot_cell after ≡ change (slot_cell before)
+    → slot_cells (set slots block after) ≡ set (slot_cells slots) block (change (cell_at (slot_cells slots) block))
+slot_cells-change slots block before after change inside was is = slot_cells-set slots block after (change (cell_at (slot_cells slots) block)) (is ∙ ap change (ap slot_cell was ∙ sym (get_or-map slot_cell slots block before Dead inside)))
 
 -- one blank slot more
-pub cells_of-push : (slots : List Slot) (n : ℕ) (slot : Slot) → cells_of slots ≡ replicate n Blank → cell_of slot ≡ Blank → cells_of (slots ++ slot ∷ []) ≡ replicate (n + 1) Blank
-cells_of-push slots n slot before blank = map_push cell_of slots slot ∙ ap (λ cells. cells ++ cell_of slot ∷ []) before ∙ ap (λ cell. replicate n Blank ++ cell ∷ []) blank ∙ replicate_more n Blank
+pub slot_cells-push : (slots : List Slot) (n : ℕ) (slot : Slot) → slot_cells slots ≡ replicate n Blank → slot_cell slot ≡ Blank → slot_cells (slots ++ slot ∷ []) ≡ replicate (n + 1) Blank
+slot_cells-push slots n slot before blank = map_push slot_cell slots slot ∙ ap (λ cells. cells ++ slot_cell slot ∷ []) before ∙ ap (λ cell. replicate n Blank ++ cell ∷ []) blank ∙ replicate_more n Blank

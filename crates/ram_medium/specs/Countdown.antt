@@ -1,3 +1,4 @@
+-- The arms and the armed cut of an `Armed`, as contracts speak of them.
 use Rattle.std.specs.Prelude.{Option, List}
 use Rattle.model_medium.specs.declared.WornBlock.{WornBlock}
 use Rattle.model_medium.specs.declared.ArmedCut.{ArmedCut}
@@ -8,5 +9,5 @@ abbrev pub arms_of : Armed → List WornBlock
 arms_of armed = armed.worn.items
 
 -- the armed cut
-abbrev pub cut_of : Armed → Option ArmedCut
-cut_of armed = armed.cut
+abbrev pub armed_cut_of : Armed → Option ArmedCut
+armed_cut_of armed = armed.cut

@@ -1,18 +1,27 @@
+//! What is armed on a medium, and how it counts down at each use. It knows no blocks.
+
 ghost use Rattle.std.specs.Prelude.{◌≡◌, ℕ, ◌+◌, ◌<◌, ◌≤◌, length, if◌then◌else◌, Some, None};
 ghost use Rattle.model_medium.specs.Machine.{IsToCome, worn_down};
+ghost use Rattle.ram_medium.specs.declared.countdown.TheConstants.{MOST_ARMS};
 
+use crate::control::Arm;
 use arrayvec::ArrayVec;
 use model_medium::{ArmedCut, Fate, WornBlock};
 
 /// How many arms stand at most.
 pub const MOST_ARMS: usize = 64;
 
+/// The number that contracts share with the code.
+pub fn limits_are_these()
+    ensures arms { MOST_ARMS ≡ 64 }
+{}
+
 /// What is armed on a medium: blocks that become dead at one of their next uses, and at most one cut of the power.
 #[derive(Drop)]
 pub struct Armed {
     worn: ArrayVec<WornBlock, MOST_ARMS>,
     cut: Option<ArmedCut>,
-    ghost few: { length worn.items ≤ 64 },
+    ghost few: { length worn.items ≤ MOST_ARMS },
     ghost to_come: { IsToCome cut },
 }
 
@@ -40,14 +49,15 @@ fn stands(worn: &mut WornBlock, block: u32) -> bool
 }
 
 impl Armed {
-    ghost use Rattle.std.specs.Prelude.{[], ◌∷◌, ◌++◌, MatchBool};
+    ghost use Rattle.std.specs.Prelude.{[]};
+    ghost use Rattle.ram_medium.specs.Control.{ArmsRule};
     ghost use Rattle.model_medium.specs.Machine.{is_killed, arms_after, fate_due, cut_after};
-    ghost use Rattle.ram_medium.specs.Countdown.{arms_of, cut_of};
+    ghost use Rattle.ram_medium.specs.Countdown.{arms_of, armed_cut_of};
 
     /// Nothing is armed.
     pub fn new() -> Armed
         ensures arms { arms_of result ≡ [] }
-        ensures cut { cut_of result ≡ None }
+        ensures cut { armed_cut_of result ≡ None }
     {
         Armed {
             worn: ArrayVec::new(),
@@ -55,25 +65,28 @@ impl Armed {
         }
     }
 
-    /// Makes a block dead at its `n`-th use from now on, unless as many arms stand as can. Whether it was armed.
-    pub fn wear(&mut self, block: u32, n: u32) -> bool
-        ensures arms { MatchBool result
-            ((length (arms_of self.old) < 64) × (arms_of self.new ≡ arms_of self.old ++ record { block = block; left = n } ∷ []))
-            ((length (arms_of self.old) ≡ 64) × (arms_of self.new ≡ arms_of self.old)) }
-        ensures cut { cut_of self.new ≡ cut_of self.old }
+    /// Makes a block of so many dead at its `n`-th use from now on, unless there is no such block or as many arms stand
+    /// as can.
+    pub fn wear(&mut self, blocks: u32, block: u32, n: u32) -> Arm
+        ensures arms { ArmsRule blocks (arms_of self.old) (arms_of self.new)
+            (record { block = block; left = n }) result }
+        ensures cut { armed_cut_of self.new ≡ armed_cut_of self.old }
     {
+        if block >= blocks {
+            return Arm::NoBlock { blocks };
+        }
         if self.worn.is_full() {
-            return false;
+            return Arm::Full;
         }
         self.worn.push(WornBlock { block, left: n });
-        true
+        Arm::Set
     }
 
     /// Cuts the power at the `n`-th use from now on, in place of a cut that was armed.
     pub fn arm_cut(&mut self, n: u32, fate: Fate)
         requires { 1 ≤ n }
         ensures arms { arms_of self.new ≡ arms_of self.old }
-        ensures cut { cut_of self.new ≡ Some (record { left = n; fate = fate }) }
+        ensures cut { armed_cut_of self.new ≡ Some (record { left = n; fate = fate }) }
     {
         self.cut = Some(ArmedCut { left: n, fate });
     }
@@ -81,9 +94,9 @@ impl Armed {
     /// Counts a use of the block: first its arms count down, and then the armed cut does. What is due.
     pub fn count(&mut self, block: u32) -> Due
         ensures dies { result.dies ≡ is_killed block (arms_of self.old) }
-        ensures due { result.cut ≡ fate_due (cut_of self.old) }
+        ensures due { result.cut ≡ fate_due (armed_cut_of self.old) }
         ensures arms { arms_of self.new ≡ arms_after block (arms_of self.old) }
-        ensures cut { cut_of self.new ≡ cut_after (cut_of self.old) }
+        ensures cut { armed_cut_of self.new ≡ cut_after (armed_cut_of self.old) }
     {
         let dies = self.count_arms(block);
         let cut = self.count_cut();
@@ -94,7 +107,7 @@ impl Armed {
     fn count_arms(&mut self, block: u32) -> bool
         ensures dies { result ≡ is_killed block (arms_of self.old) }
         ensures arms { arms_of self.new ≡ arms_after block (arms_of self.old) }
-        ensures cut { cut_of self.new ≡ cut_of self.old }
+        ensures cut { armed_cut_of self.new ≡ armed_cut_of self.old }
     {
         let dies = self
             .worn
@@ -107,9 +120,9 @@ impl Armed {
 
     /// Counts the armed cut down, and drops it where it reaches 0. Its fate is then due.
     fn count_cut(&mut self) -> Option<Fate>
-        ensures due { result ≡ fate_due (cut_of self.old) }
+        ensures due { result ≡ fate_due (armed_cut_of self.old) }
         ensures arms { arms_of self.new ≡ arms_of self.old }
-        ensures cut { cut_of self.new ≡ cut_after (cut_of self.old) }
+        ensures cut { armed_cut_of self.new ≡ cut_after (armed_cut_of self.old) }
     {
         let armed = self.cut?;
         if armed.left <= 1 {

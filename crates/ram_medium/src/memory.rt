@@ -1,3 +1,5 @@
+//! A medium in memory: the same events as on a medium over an image, with failures at the uses that were named.
+
 ghost use Rattle.std.specs.Prelude.{◌≡◌, ℕ, ◌+◌, ◌<◌, ◌≤◌, ◌^◌, length, vec_len};
 
 use crate::blocks::Medium;
@@ -8,7 +10,8 @@ use model_medium::{Fate, ReadEnd, WriteEnd};
 use ram_bytes::Block;
 use std::alloc::{AllocError, Global};
 
-/// A controllable medium whose blocks lie in memory. All its room is taken when it is made.
+/// A controllable medium whose blocks lie in memory. All its room is taken when it is made. It lies on nothing that can
+/// fail: a use fails only where `new` was told its number.
 #[derive(Drop)]
 pub struct MemMedium {
     slots: Vec<Slot>,
@@ -35,13 +38,13 @@ impl MemMedium {
     ghost use Rattle.std.specs.Prelude.{[], IfOk, replicate, false, true};
     ghost use Rattle.model_medium.specs.Cells.{Blank};
     ghost use Rattle.model_medium.specs.Exact.{Read, Write};
-    ghost use Rattle.ram_medium.specs.Memory.{world_of, machine_in, failing_of, MemTakes};
-    ghost use Rattle.ram_medium.specs.Begun.{IsNew, BeginRule};
+    ghost use Rattle.ram_medium.specs.Memory.{mem_world, mem_machine, failing_of, MemTakes};
+    ghost use Rattle.ram_medium.specs.Begun.{IsNewInMemory, MemBeginRule};
 
     /// A medium of so many blank blocks, with the power off. `failing` has the numbers, from 1 on, of the uses that
     /// fail.
     pub fn new(alloc: Global, blocks: u32, failing: Vec<u64>) -> Result<MemMedium, AllocError>
-        ensures { IfOk result (IsNew blocks failing.items) }
+        ensures { IfOk result (IsNewInMemory blocks failing.items) }
     {
         Ok(MemMedium {
             slots: blank_slots(alloc, blocks)?,
@@ -58,7 +61,7 @@ impl MemMedium {
     /// use that fails changes no block.
     fn begin(&mut self, block: u32) -> Begun
         requires { block < vec_len self.old.slots }
-        ensures rule { BeginRule self.old self.new block result }
+        ensures rule { MemBeginRule self.old self.new block result }
         ensures same_names { failing_of self.new ≡ failing_of self.old }
         ensures len { vec_len self.new.slots ≡ vec_len self.old.slots }
     {
@@ -127,13 +130,13 @@ impl MemMedium {
 
 impl Medium for MemMedium {
     ghost use Rattle.std.specs.Prelude.{vec_len};
-    ghost use Rattle.ram_medium.specs.Memory.{world_of, MemReaches, MemTakes, machine_in};
+    ghost use Rattle.ram_medium.specs.Memory.{mem_world, MemReaches, MemTakes, mem_machine};
     ghost use Rattle.std.proofs.Common.{arith};
     ghost use Rattle.std.proofs.lemmas.List.{length-map};
     ghost use Rattle.model_medium.proofs.Compose.{reach_none, reach_then, follows-reach};
-    ghost use Rattle.ram_medium.specs.Slots.{cell_of};
+    ghost use Rattle.ram_medium.specs.Slots.{slot_cell};
 
-    ghost world = { world_of };
+    ghost world = { mem_world };
 
     ghost block_count = { λ medium. vec_len medium.slots };
 
@@ -166,22 +169,30 @@ impl Medium for MemMedium {
     }
 
     ghost laws = { record {
-      none = λ medium. reach_none (machine_in medium) medium.armed.to_come;
-      adds_up = λ a b c j k one two. reach_then (machine_in a) (machine_in b) (machine_in c) j k one two;
-      follows = λ a b k reach. follows-reach (machine_in a) (machine_in b) k reach;
+      none = λ medium. reach_none (mem_machine medium) medium.armed.to_come;
+      adds_up = λ a b c j k one two. reach_then (mem_machine a) (mem_machine b) (mem_machine c) j k one two;
+      follows = λ a b k reach. follows-reach (mem_machine a) (mem_machine b) k reach;
       untold = λ medium. tt;
-      as_many = λ medium. Prim.omega (arith, length-map medium.slots.items cell_of, medium.slots.ok.0);
+      as_many = λ medium. Prim.omega (arith, length-map medium.slots.items slot_cell, medium.slots.ok.0);
     } };
 }
 
 impl MediumControl for MemMedium {
-    ghost use Rattle.ram_medium.specs.Countdown.{arms_of, cut_of};
+    ghost use Rattle.std.specs.Prelude.{◌≢◌, vec_len};
+    ghost use Rattle.ram_medium.specs.Control.{FailRule, WearRule, with_armed_cut};
+    ghost use Rattle.ram_medium.specs.Countdown.{arms_of, armed_cut_of};
+    ghost use Rattle.ram_medium.specs.Memory.{mem_machine, failing_of};
 
     ghost arms = { λ medium. arms_of medium.armed };
 
-    ghost armed_cut = { λ medium. cut_of medium.armed };
+    ghost armed_cut = { λ medium. armed_cut_of medium.armed };
 
-    fn fail(&mut self, block: u32) -> FailEnd {
+    fn fail(&mut self, block: u32) -> FailEnd
+        ensures rule { FailRule (vec_len self.old.slots) (mem_machine self.old) (mem_machine self.new) block result }
+        ensures never_fails { result ≢ FailEnd.Failed }
+        ensures same_names { failing_of self.new ≡ failing_of self.old }
+        ensures as_many { vec_len self.new.slots ≡ vec_len self.old.slots }
+    {
         let blocks = self.blocks();
         if block >= blocks {
             return FailEnd::NoBlock { blocks };
@@ -190,19 +201,23 @@ impl MediumControl for MemMedium {
         FailEnd::Done
     }
 
-    fn wear(&mut self, block: u32, n: u32) -> Arm {
+    fn wear(&mut self, block: u32, n: u32) -> Arm
+        requires { 1 ≤ n }
+        ensures rule { WearRule (vec_len self.old.slots) (mem_machine self.old) (mem_machine self.new)
+            (record { block = block; left = n }) result }
+        ensures same_names { failing_of self.new ≡ failing_of self.old }
+        ensures as_many { vec_len self.new.slots ≡ vec_len self.old.slots }
+    {
         let blocks = self.blocks();
-        if block >= blocks {
-            return Arm::NoBlock { blocks };
-        }
-        if self.armed.wear(block, n) {
-            Arm::Set
-        } else {
-            Arm::Full
-        }
+        self.armed.wear(blocks, block, n)
     }
 
-    fn arm_cut(&mut self, n: u32, fate: Fate) {
+    fn arm_cut(&mut self, n: u32, fate: Fate)
+        requires { 1 ≤ n }
+        ensures rule { mem_machine self.new ≡ with_armed_cut n fate (mem_machine self.old) }
+        ensures same_names { failing_of self.new ≡ failing_of self.old }
+        ensures as_many { vec_len self.new.slots ≡ vec_len self.old.slots }
+    {
         self.armed.arm_cut(n, fate);
     }
 

@@ -1,3 +1,5 @@
+//! How an entry of the secondary defect list lies in bytes, and the list in its block.
+
 ghost use Rattle.std.specs.Prelude.{◌≡◌};
 ghost use Rattle.model_lists.specs.Texts.{sdl_entry_bytes};
 

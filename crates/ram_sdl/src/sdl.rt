@@ -1,9 +1,11 @@
+//! The list and its block, both ways; finding and setting an entry.
+
 ghost use Rattle.std.specs.Prelude.{◌≡◌, ◌≤◌, length, IfOk, OnOk, OnErr};
 ghost use Rattle.std.specs.List.Sorted.{IsStrictlyIncreasing};
 ghost use Rattle.model_lists.specs.Values.{IsLawfulSdl, IsEntryOf, defectives, with_entry};
 ghost use Rattle.model_lists.specs.Texts.{IsSdlText};
-ghost use Rattle.ram_sdl.specs.Held.{HasRoomFor};
-ghost use Rattle.ram_sdl.specs.Sdl.{sdl_of, IsDecoded};
+ghost use Rattle.ram_sdl.specs.EntriesAndRoom.{HasRoomFor};
+ghost use Rattle.ram_sdl.specs.Sdl.{sdl_of, IsDecodedSdl};
 
 use crate::entries::SdlEntries;
 use crate::front::{Front, begin_bytes, front_of};
@@ -23,7 +25,7 @@ pub struct Sdl {
     pub dds_counter: u32,
     /// The size of the supplementary spare area in blocks, at most 4,092.
     pub ssa: u32,
-    /// The defective blocks with what took their place, at most [`SDL_LIMIT`](crate::SDL_LIMIT).
+    /// The defective blocks with what took their place, at most [`MOST_SPARES`](crate::MOST_SPARES).
     pub entries: SdlEntries,
 }
 
@@ -48,7 +50,7 @@ impl Sdl {
 
     /// The value whose text this block is, or none where it is the text of no value.
     pub fn decode(alloc: Global, from: &Block) -> Result<Option<Sdl>, AllocError>
-        ensures { IfOk result (λ found. IsDecoded found from.now) }
+        ensures { IfOk result (λ found. IsDecodedSdl found from.now) }
     {
         let bytes = from.bytes();
         let Some(front) = front_of(bytes) else {
@@ -87,7 +89,8 @@ impl Sdl {
     pub fn set(&mut self, entry: SdlEntry)
         requires rise { IsStrictlyIncreasing (defectives self.old.entries.list) }
         requires room { HasRoomFor entry.defective self.old.entries }
-        ensures value { sdl_of self.new ≡ record (sdl_of self.old) { entries = with_entry entry self.old.entries.list } }
+        ensures value { sdl_of self.new
+            ≡ record (sdl_of self.old) { entries = with_entry entry self.old.entries.list } }
         ensures rise { IsStrictlyIncreasing (defectives self.new.entries.list) }
         ensures room { self.new.entries.room ≡ self.old.entries.room }
     {

@@ -1,3 +1,5 @@
+//! Which of its two lists an area is asked for.
+
 /// The lists of which each of the four areas has a copy.
 #[derive(Clone, Copy, Debug, PartialEq, Eq)]
 pub enum ListKind {

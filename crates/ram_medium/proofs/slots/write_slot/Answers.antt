@@ -1,8 +1,8 @@
 use Rattle.std.proofs.Common.{arith}
 use Rattle.model_medium.specs.Cells.{written}
-use Rattle.ram_medium.proofs.SlotCells.{cells_of-change}
+use Rattle.ram_medium.proofs.SlotCells.{slot_cells-change}
 use Rattle.ram_medium.proofs.slots.write_slot.Goals as goal
 
 pub returns-clause-cells : goal.returns-clause-cells
 returns-clause-cells c =
-    cells_of-change c.args.slots.now.items c.args.block _ _ (written c.args.from.now) (omega (arith, c.args.slots.now.ok.0)) c.index_mut-slot.ensures.value c.write.ensures
+    slot_cells-change c.args.slots.now.items c.args.block _ _ (written c.args.from.now) (omega (arith, c.args.slots.now.ok.0)) c.index_mut-slot.ensures.value c.write.ensures

@@ -1,0 +1,10 @@
+use Rattle.model_geometry.specs.Geometry.{total}
+use Rattle.ram_image.specs.Medium.{world_of}
+use Rattle.ram_medium.specs.Countdown.{arms_of, armed_cut_of}
+use Rattle.ram_medium.proofs.Arming.{wears_by_arms}
+use Rattle.ram_image.proofs.medium.ImageMediumMediumControl.wear.Goals as goal
+
+pub returns-clause-rule : goal.returns-clause-rule
+returns-clause-rule g c =
+    wears_by_arms (total c.args.self.now.geometry) (world_of c.args.self.now) (arms_of c.args.self.now.armed) (arms_of c.wear.new.self) (armed_cut_of c.args.self.now.armed) (armed_cut_of c.wear.new.self) _ c.wear.result
+    c.wear.ensures.cut (rw c.total-blocks.ensures.blocks at c.wear.ensures.arms)
