@@ -11,7 +11,7 @@ use Rattle.model_medium.specs.declared.WornBlock.{WornBlock}
 use Rattle.model_medium.proofs.CellFacts.{cell_at-set_other, cell_at-set_dead}
 use Rattle.model_buffer.specs.Buffer.{bytes_at, numbers_in}
 use Rattle.model_sectors.specs.Discs.{Standing, On, Off, home, home_cell, Fits, SomeFits, IsFirstFit, candidates}
-use Rattle.model_sectors.specs.Calls.{turned_on, IsPowered}
+use Rattle.model_sectors.specs.Power.{turned_on, IsPowered}
 use Rattle.model_sectors.proofs.Fitting.{fits_kept, some_fits_kept, first_fit}
 use Rattle.ram_medium.specs.Control.{FailRule, WearRule}
 use Rattle.ram_medium.specs.declared.control.FailEnd.{FailEnd}

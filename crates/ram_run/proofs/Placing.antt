@@ -5,7 +5,7 @@ use Rattle.std.proofs.lemmas.Bool.{cases_Bool, both_ways}
 use Rattle.model_medium.specs.Cells.{Cell, Good, Torn, Dead, IsGood, MayLeave, cell_at}
 use Rattle.model_buffer.specs.Buffer.{bytes_at, numbers_in, touched_one}
 use Rattle.model_sectors.specs.Discs.{On, Agrees, Fits, SomeFits, block_of, home_cell}
-use Rattle.model_sectors.specs.Uses.{is_partly, start_in, end_in}
+use Rattle.model_sectors.specs.Requests.{is_partly, start_in, end_in}
 use Rattle.model_sectors.proofs.Covering.{numbers_in-with_front}
 use Rattle.model_sectors.proofs.Pieces.{length_block}
 use Rattle.ram_outside.specs.declared.image.Image.{Ghosts}

@@ -10,8 +10,10 @@ use Rattle.model_medium.specs.Reach.{Reach}
 use Rattle.model_buffer.specs.Buffer.{numbers_in}
 use Rattle.model_buffer.specs.declared.TheConstants.{BUFFERED_BLOCKS}
 use Rattle.model_sectors.specs.Discs.{Standing, On, Off, sectors_of, home, home_cell, Fits}
-use Rattle.model_sectors.specs.Uses.{block_with, blocks_covered, start_in, is_buffered, is_at_hand, read_uses}
-use Rattle.model_sectors.specs.Calls.{AreReadable, OnlyDies, StopsInRead, AreBuffered, ReadsBuffered, ReadsAll, ReadCause, ReadStep}
+use Rattle.model_sectors.specs.Requests.{block_with, blocks_covered, start_in}
+use Rattle.model_sectors.specs.Uses.{is_buffered, is_at_hand, read_uses}
+use Rattle.model_sectors.specs.Parts.{OnlyDies}
+use Rattle.model_sectors.specs.Reads.{AreReadable, StopsInRead, AreBuffered, ReadsBuffered, ReadsAll, ReadCause, ReadStep}
 use Rattle.model_sectors.specs.declared.ReadOut.{ReadOut}
 use Rattle.model_sectors.specs.declared.ReadOut.TheVariants as reads
 use Rattle.model_sectors.proofs.Covering.{covered_inside, block_with_start, all_at_hand, no_uses_buffered}

@@ -5,7 +5,8 @@ use Rattle.std.proofs.lemmas.Bool.{both_ways, cond-true, cond-false}
 use Rattle.model_medium.specs.Cells.{Cell, Good, cell_at}
 use Rattle.model_buffer.specs.Buffer.{bytes_at, numbers_in, touched_one}
 use Rattle.model_sectors.specs.Discs.{On, Agrees, block_of, home, home_cell}
-use Rattle.model_sectors.specs.Uses.{is_partly, is_buffered, start_in}
+use Rattle.model_sectors.specs.Requests.{is_partly, start_in}
+use Rattle.model_sectors.specs.Uses.{is_buffered}
 use Rattle.model_sectors.proofs.Covering.{bytes_at_some, numbers_in-with_front}
 use Rattle.ram_outside.specs.declared.image.Image.{Ghosts}
 use Rattle.model_stops.specs.Stops.{Stops}

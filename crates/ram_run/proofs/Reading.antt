@@ -11,8 +11,10 @@ use Rattle.model_medium.specs.Cells.{Cell, Good, IsGood, cell_at}
 use Rattle.model_buffer.specs.Buffer.{bytes_at, numbers_in, touched_one}
 use Rattle.model_buffer.specs.declared.TheConstants.{BUFFERED_BLOCKS}
 use Rattle.model_sectors.specs.Discs.{On, sectors_of, block_of, home, home_cell, Agrees}
-use Rattle.model_sectors.specs.Uses.{block_with, blocks_covered, start_in, end_in, touched_from, is_buffered, is_at_hand, read_uses}
-use Rattle.model_sectors.specs.Calls.{IsInRange, AreReadable}
+use Rattle.model_sectors.specs.Requests.{block_with, blocks_covered, start_in, end_in}
+use Rattle.model_sectors.specs.Uses.{touched_from, is_buffered, is_at_hand, read_uses}
+use Rattle.model_sectors.specs.Parts.{IsInRange}
+use Rattle.model_sectors.specs.Reads.{AreReadable}
 use Rattle.model_sectors.proofs.Pieces.{sectors_in_block, sectors_more, sectors_none, length_sectors}
 use Rattle.model_sectors.proofs.Covering.{covered_part, covered_after, covered_all, covered_inside, at_hand_was_buffered, bytes_at_some, numbers_in-with_front, bytes_at-with_front}
 use Rattle.ram_outside.specs.declared.image.Image.{Ghosts}

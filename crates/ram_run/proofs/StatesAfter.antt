@@ -5,7 +5,10 @@ use Rattle.model_counts.specs.Counts.{Rose}
 use Rattle.model_medium.specs.Machine.{Machine}
 use Rattle.model_medium.specs.Reach.{Reach}
 use Rattle.model_sectors.specs.Discs.{Standing, On, Off, Shown, candidates}
-use Rattle.model_sectors.specs.Calls.{ReadCause, ReadStep, WriteCause, WriteStep, PowerCause, PowerStep, IsStopped}
+use Rattle.model_sectors.specs.Parts.{IsStopped}
+use Rattle.model_sectors.specs.Reads.{ReadCause, ReadStep}
+use Rattle.model_sectors.specs.Writes.{WriteCause, WriteStep}
+use Rattle.model_sectors.specs.Power.{PowerCause, PowerStep}
 use Rattle.model_sectors.specs.declared.ReadOut.{ReadOut}
 use Rattle.model_sectors.specs.declared.ReadOut.TheVariants as reads
 use Rattle.model_sectors.specs.declared.WriteOut.{WriteOut}

@@ -6,8 +6,10 @@ use Rattle.model_geometry.specs.Geometry.{total}
 use Rattle.model_medium.specs.Cells.{Cell, IsGood, IsSameOrDead, cell_at}
 use Rattle.model_buffer.specs.Buffer.{numbers_in, touched_one}
 use Rattle.model_sectors.specs.Discs.{Standing, On, Off, SomeFits, replaced, home, home_cell}
-use Rattle.model_sectors.specs.Uses.{block_with, blocks_covered, start_in, is_partly, touched_from, is_buffered, is_at_hand, write_uses}
-use Rattle.model_sectors.specs.Calls.{IsInRange, IsStopped, KeepsHomes, WriteCause, AreGood, OnlyCovered, StopsInBlock, WroteUpTo, WriteOn, WriteStep}
+use Rattle.model_sectors.specs.Requests.{block_with, blocks_covered, start_in, is_partly}
+use Rattle.model_sectors.specs.Uses.{touched_from, is_buffered, is_at_hand, write_uses}
+use Rattle.model_sectors.specs.Parts.{IsInRange, IsStopped, KeepsHomes, AreGood}
+use Rattle.model_sectors.specs.Writes.{WriteCause, OnlyCovered, StopsInBlock, WroteUpTo, WriteOn, WriteStep}
 use Rattle.model_sectors.specs.declared.WriteOut.{WriteOut}
 use Rattle.model_sectors.specs.declared.WriteOut.TheVariants as writes
 use Rattle.model_sectors.proofs.Covering.{covered_part, covered_inside, block_with_start, replaced_first}

@@ -7,7 +7,9 @@ use Rattle.ram_sense.specs.declared.sense.Sense.{Sense}
 use Rattle.ram_mmc.specs.declared.Answer.{Answer}
 use Rattle.ram_mmc.specs.declared.Answer.TheVariants as answers
 use Rattle.model_sectors.specs.Discs.{Standing, Shown, IsOn}
-use Rattle.model_sectors.specs.Calls.{ReadCause, ReadStep, IsInRange, AreBuffered, ReadsBuffered, WriteCause, WriteStep}
+use Rattle.model_sectors.specs.Parts.{IsInRange}
+use Rattle.model_sectors.specs.Reads.{ReadCause, ReadStep, AreBuffered, ReadsBuffered}
+use Rattle.model_sectors.specs.Writes.{WriteCause, WriteStep}
 use Rattle.model_sectors.specs.declared.ReadOut.{ReadOut}
 use Rattle.model_sectors.specs.declared.ReadOut.TheVariants as reads
 use Rattle.model_sectors.specs.declared.WriteOut.{WriteOut}

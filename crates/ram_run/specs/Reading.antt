@@ -2,7 +2,7 @@
 use Rattle.std.specs.Prelude.{◌≡◌, ℕ, ◌-◌, ◌*◌, ◌+◌, Bool, MatchBool, List, take, drop}
 use Rattle.model_bytes.specs.Bytes.{put_at}
 use Rattle.model_sectors.specs.Discs.{Shown, home}
-use Rattle.model_sectors.specs.Uses.{block_with, start_in, end_in}
+use Rattle.model_sectors.specs.Requests.{block_with, start_in, end_in}
 use Rattle.model_sectors.specs.declared.ReadOut.{ReadOut}
 use Rattle.model_sectors.specs.declared.ReadOut.TheVariants as reads
 use Rattle.model_stops.specs.declared.Stop.{Stop}

@@ -4,8 +4,9 @@ use Rattle.model_bytes.specs.Bytes.{put_at}
 use Rattle.model_buffer.specs.Buffer.{numbers_in, touched_one}
 use Rattle.model_medium.specs.Cells.{Dead, IsGood, IsSameOrDead, cell_at}
 use Rattle.model_sectors.specs.Discs.{On, block_of, SomeFits, replaced, home, home_cell}
-use Rattle.model_sectors.specs.Uses.{block_with, start_in, end_in, is_partly, is_buffered, touched_from, write_uses}
-use Rattle.model_sectors.specs.Calls.{AreGood}
+use Rattle.model_sectors.specs.Requests.{block_with, start_in, end_in, is_partly}
+use Rattle.model_sectors.specs.Uses.{is_buffered, touched_from, write_uses}
+use Rattle.model_sectors.specs.Parts.{AreGood}
 use Rattle.model_sectors.specs.declared.WriteOut.{WriteOut}
 use Rattle.model_sectors.specs.declared.WriteOut.TheVariants as writes
 use Rattle.model_stops.specs.Stops.{Stops}

@@ -4,7 +4,11 @@
 ghost use Rattle.std.specs.Prelude.{◌≡◌, ◌*◌, ◌≤◌, List, length};
 ghost use Rattle.model_geometry.specs.Geometry.{Shape};
 ghost use Rattle.model_sectors.specs.Discs.{Standing, Shown};
-ghost use Rattle.model_sectors.specs.Calls.{CapacityRule, ReadCause, ReadStep, IsInRange, AreBuffered, ReadsBuffered, WriteCause, WriteStep, PowerCause, PowerStep};
+ghost use Rattle.model_sectors.specs.Parts.{IsInRange};
+ghost use Rattle.model_sectors.specs.Tells.{CapacityRule};
+ghost use Rattle.model_sectors.specs.Reads.{ReadCause, ReadStep, AreBuffered, ReadsBuffered};
+ghost use Rattle.model_sectors.specs.Writes.{WriteCause, WriteStep};
+ghost use Rattle.model_sectors.specs.Power.{PowerCause, PowerStep};
 ghost use Rattle.ram_sectors.specs.Laws.{SectorsLaws};
 
 pub use model_sectors::{PowerOut, ReadOut, WriteOut};

@@ -1,6 +1,7 @@
 ghost use Rattle.std.specs.Prelude.{◌≡◌, MatchResult, refl};
 ghost use Rattle.model_sectors.specs.Discs.{Standing};
-ghost use Rattle.model_sectors.specs.Calls.{CapacityRule, PowerCause, PowerStep};
+ghost use Rattle.model_sectors.specs.Tells.{CapacityRule};
+ghost use Rattle.model_sectors.specs.Power.{PowerCause, PowerStep};
 ghost use Rattle.ram_image.specs.Medium.{shape_of_medium, machine_in};
 ghost use Rattle.ram_run.specs.Drive.{IsMade};
 ghost use Rattle.ram_run.specs.Plain.{shown_by, stands_for};

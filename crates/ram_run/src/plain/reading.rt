@@ -1,8 +1,9 @@
 ghost use Rattle.std.specs.Prelude.{◌≡◌, ◌*◌, ◌+◌, ◌^◌, ◌<◌, ◌≤◌, [], length, MatchResult};
 ghost use Rattle.model_bytes.specs.Bytes.{put_at};
 ghost use Rattle.model_sectors.specs.Discs.{Standing};
-ghost use Rattle.model_sectors.specs.Uses.{block_with, blocks_covered};
-ghost use Rattle.model_sectors.specs.Calls.{IsInRange, AreBuffered, ReadsBuffered, ReadCause, ReadStep};
+ghost use Rattle.model_sectors.specs.Requests.{block_with, blocks_covered};
+ghost use Rattle.model_sectors.specs.Parts.{IsInRange};
+ghost use Rattle.model_sectors.specs.Reads.{AreBuffered, ReadsBuffered, ReadCause, ReadStep};
 ghost use Rattle.ram_image.specs.Medium.{shape_of_medium};
 ghost use Rattle.ram_run.specs.Plain.{shown_by, stands_for};
 ghost use Rattle.ram_run.specs.Blocks.{HaltsReading};

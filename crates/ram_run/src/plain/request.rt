@@ -1,5 +1,5 @@
 ghost use Rattle.std.specs.Prelude.{◌≡◌, ◌+◌, ◌-◌, ◌^◌, ◌<◌, ◌≤◌, nat_lt};
-ghost use Rattle.model_sectors.specs.Uses.{block_with, blocks_covered, start_in, end_in, is_partly};
+ghost use Rattle.model_sectors.specs.Requests.{block_with, blocks_covered, start_in, end_in, is_partly};
 
 use ram_bytes::SECTORS_PER_BLOCK;
 

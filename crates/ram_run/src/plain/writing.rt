@@ -1,6 +1,7 @@
 ghost use Rattle.std.specs.Prelude.{◌≡◌, ◌*◌, ◌+◌, ◌^◌, ◌≤◌, [], length, MatchResult};
 ghost use Rattle.model_sectors.specs.Discs.{Standing, IsOn, capacity};
-ghost use Rattle.model_sectors.specs.Calls.{IsInRange, WriteCause, WriteStep};
+ghost use Rattle.model_sectors.specs.Parts.{IsInRange};
+ghost use Rattle.model_sectors.specs.Writes.{WriteCause, WriteStep};
 ghost use Rattle.ram_bytes.specs.declared.block.TheConstants.{BLOCK_BYTES};
 ghost use Rattle.ram_image.specs.Medium.{shape_of_medium};
 ghost use Rattle.ram_run.specs.Plain.{shown_by, stands_for};

@@ -1,7 +1,7 @@
 use Rattle.std.specs.Prelude.{◌≡◌, ◌<◌, Bool, true, false, Result, Ok, Err, MatchResult, length, ℕ}
 use Rattle.std.proofs.Common.{◌∙◌, arith}
 use Rattle.model_sectors.specs.Discs.{IsOn}
-use Rattle.model_sectors.specs.Uses.{is_partly}
+use Rattle.model_sectors.specs.Requests.{is_partly}
 use Rattle.model_stops.specs.declared.Stop.{Stop}
 use Rattle.ram_outside.specs.declared.image.Image.{Ghosts}
 use Rattle.ram_run.specs.declared.plain.PlainDisc.{PlainDisc}

@@ -1,5 +1,5 @@
 use Rattle.std.proofs.Common.{◌≡◌, ◌<◌, ◌∙◌, arith}
-use Rattle.model_sectors.specs.Uses.{blocks_covered}
+use Rattle.model_sectors.specs.Requests.{blocks_covered}
 use Rattle.ram_run.proofs.Reading.{read_none, read_more}
 use Rattle.ram_run.proofs.ReadEnds.{all_cause, all_step, all_buffered, unread_cause, unread_step, unread_buffered, halted_cause, halted_step, halted_buffered}
 use Rattle.ram_run.proofs.plain.PlainDisc.read_parts.Goals as goal

@@ -1,5 +1,5 @@
 use Rattle.std.proofs.Common.{◌≡◌, ℕ, ap, ◌∙◌, subst, arith}
-use Rattle.model_sectors.specs.Uses.{blocks_covered}
+use Rattle.model_sectors.specs.Requests.{blocks_covered}
 use Rattle.ram_run.specs.declared.plain.request.Part.{Part}
 use Rattle.ram_run.specs.Writing.{HasWritten, IsPlaced, LacksItsRest, HasDied, HaltsPlacing}
 use Rattle.ram_run.specs.Plain.{shown_by}

@@ -1,4 +1,4 @@
-use Rattle.model_sectors.specs.Uses.{block_with}
+use Rattle.model_sectors.specs.Requests.{block_with}
 use Rattle.std.proofs.Common.{◌+◌}
 use Rattle.ram_run.proofs.Reading.{filled}
 use Rattle.ram_run.proofs.plain.request.Request.copy_part.Goals as goal

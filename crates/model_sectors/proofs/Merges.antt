@@ -1,16 +1,13 @@
--- The bytes of a request that lie in one block, in the block and in the disc.
-use Rattle.std.specs.Prelude.{◌≡◌, ◌≢◌, ℕ, ◌+◌, ◌-◌, ◌*◌, ◌<◌, ◌≤◌, ◌⊎◌, IsTrue, List, ◌++◌, length, take, drop}
+-- The bytes of a request that lie in one block, merged into the block and into the disc.
+use Rattle.std.specs.Prelude.{◌≡◌, ◌≢◌, ℕ, ◌+◌, ◌-◌, ◌*◌, ◌<◌, ◌≤◌, ◌⊎◌, IsTrue, List, length, take, drop}
 use Rattle.std.proofs.Common.{sym, ap, ◌∙◌, inl, inr, arith}
 use Rattle.std.proofs.lemmas.Bool.{cases_lt}
-use Rattle.std.proofs.Math.Seq.{take-append_seam}
 use Rattle.model_bytes.specs.Bytes.{put_at}
 use Rattle.model_bytes.proofs.Laws.{length-put_at, other_range-put_at}
 use Rattle.model_sectors.specs.Discs.{block_of, replaced}
-use Rattle.model_sectors.specs.Uses.{start_in, end_in, is_partly}
+use Rattle.model_sectors.specs.Requests.{start_in, end_in, is_partly, part_of, merged_in, with_part}
 use Rattle.model_sectors.proofs.Pieces.{piece-put_at, put_at-whole, length_part_in, replaced_step}
 use Rattle.model_sectors.proofs.Covering.{wholly_start, wholly_end}
-use Rattle.ram_run.specs.declared.plain.request.Part.{Part}
-use Rattle.ram_run.specs.Writing.{IsPart, part_of, laid_in, with_part}
 
 -- they are as many as its sectors there
 pub length_part_of : (lba n : ℕ) (bytes : List ℕ) (block : ℕ) → length bytes ≡ 2048 * n → length (part_of lba n bytes block) ≡ 2048 * (end_in lba n block - start_in lba block)
@@ -25,8 +22,8 @@ module _ (disc : List ℕ) (blocks lba n : ℕ) (bytes : List ℕ) (block : ℕ)
   length_with_part = length-put_at (2048 * start_in lba block) (part_of lba n bytes block) disc (omega (arith, length_part_of lba n bytes block whole))
 
   -- the block has them in their places
-  pub block_of-with_part : block_of (with_part lba n bytes block disc) block ≡ laid_in lba n bytes block (block_of disc block)
-  unfolding with_part laid_in block_of
+  pub block_of-with_part : block_of (with_part lba n bytes block disc) block ≡ merged_in lba n bytes block (block_of disc block)
+  unfolding with_part merged_in block_of
   block_of-with_part =
       let there : 2048 * start_in lba block ≡ 32768 * block + 2048 * (start_in lba block - 16 * block) = omega arith in
       ap (λ (m : ℕ). take 32768 (drop (32768 * block) (put_at m (part_of lba n bytes block) disc))) there
@@ -46,10 +43,10 @@ module _ (disc : List ℕ) (blocks lba n : ℕ) (bytes : List ℕ) (block : ℕ)
       ]
 
 -- a block that the request covers wholly is the same whatever was there
-pub laid_whole : (lba n : ℕ) (bytes : List ℕ) (block : ℕ) (held other : List ℕ) → ¬ IsTrue (is_partly lba n block) → length bytes ≡ 2048 * n → length held ≡ 32768 → length other ≡ 32768
-    → laid_in lba n bytes block held ≡ laid_in lba n bytes block other
-unfolding laid_in
-laid_whole lba n bytes block held other wholly whole long long' =
+pub merged_whole : (lba n : ℕ) (bytes : List ℕ) (block : ℕ) (held other : List ℕ) → ¬ IsTrue (is_partly lba n block) → length bytes ≡ 2048 * n → length held ≡ 32768 → length other ≡ 32768
+    → merged_in lba n bytes block held ≡ merged_in lba n bytes block other
+unfolding merged_in
+merged_whole lba n bytes block held other wholly whole long long' =
     let start = wholly_start lba n block wholly in
     let end = wholly_end lba n block wholly in
     let none : 2048 * (start_in lba block - 16 * block) ≡ 0 = omega arith in
@@ -64,20 +61,3 @@ pub replaced-with_part : (disc : List ℕ) (blocks lba n : ℕ) (bytes : List �
     → length disc ≡ 32768 * blocks → replaced disc lba bytes (block + 1) ≡ with_part lba n bytes block (replaced disc lba bytes block)
 unfolding with_part part_of
 replaced-with_part disc blocks lba n bytes block covered whole inside long = replaced_step disc blocks lba n bytes block covered whole inside long
-
--- bytes as many as a list has, written over it, are what it has then
-pub written_back : (held written : List ℕ) → length written ≡ length held → take (length held) (written ++ drop (length written) held) ≡ written
-written_back held written whole =
-    ap (λ (n : ℕ). take n (written ++ drop (length written) held)) (sym whole) ∙ take-append_seam written (drop (length written) held)
-
--- the same by the numbers of a part
-pub laid_by : (lba n : ℕ) (bytes : List ℕ) (part : Part) (held new : List ℕ) → IsPart lba n part
-    → new ≡ put_at (2048 * (part.start - 16 * part.block)) (take ((2048 * (part.start - lba) + 2048 * (part.end - part.start)) - 2048 * (part.start - lba)) (drop (2048 * (part.start - lba)) bytes)) held
-    → new ≡ laid_in lba n bytes part.block held
-unfolding laid_in part_of
-laid_by lba n bytes part held new is_part put =
-    let few : (2048 * (part.start - lba) + 2048 * (part.end - part.start)) - 2048 * (part.start - lba) ≡ 2048 * (part.end - part.start) = omega arith in
-    put
-    ∙ ap (λ (m : ℕ). put_at (2048 * (part.start - 16 * part.block)) (take m (drop (2048 * (part.start - lba)) bytes)) held) few
-    ∙ ap (λ (end : ℕ). put_at (2048 * (part.start - 16 * part.block)) (take (2048 * (end - part.start)) (drop (2048 * (part.start - lba)) bytes)) held) is_part.end_is
-    ∙ ap (λ (start : ℕ). put_at (2048 * (start - 16 * part.block)) (take (2048 * (end_in lba n part.block - start)) (drop (2048 * (start - lba)) bytes)) held) is_part.start_is
