@@ -13,7 +13,7 @@ module _ (lba n block start end : ℕ) (start_is : start ≡ start_in lba block)
   -- what was copied out is what the request covers of the block
   pub filled : (held bytes into into' : List ℕ) → held ≡ bytes
       → into' ≡ put_at (2048 * (start - lba))
-          (take (2048 * (start - 16 * block) + 2048 * (end - start) - 2048 * (start - 16 * block)) (drop (2048 * (start - 16 * block)) held)) into
+      (take (2048 * (start - 16 * block) + 2048 * (end - start) - 2048 * (start - 16 * block)) (drop (2048 * (start - 16 * block)) held)) into
       → into' ≡ filled_by lba n block bytes into
   unfolding filled_by taken_from
   filled held bytes into into' same put =
@@ -26,7 +26,7 @@ module _ (lba n block start end : ℕ) (start_is : start ≡ start_in lba block)
   -- and what was merged into the block are the bytes of the request in their places
   pub merged : (bytes held new : List ℕ)
       → new ≡ put_at (2048 * (start - 16 * block))
-          (take (2048 * (start - lba) + 2048 * (end - start) - 2048 * (start - lba)) (drop (2048 * (start - lba)) bytes)) held
+      (take (2048 * (start - lba) + 2048 * (end - start) - 2048 * (start - lba)) (drop (2048 * (start - lba)) bytes)) held
       → new ≡ merged_in lba n bytes block held
   unfolding merged_in part_of
   merged bytes held new put =
