@@ -88,8 +88,8 @@ pub fn command_bytes(operation: Operation) -> usize
     }
 }
 
-// How many bytes of data the command takes, by a command block that is long enough.
-fn data_bytes(operation: Operation, cdb: &[u8]) -> usize
+/// How many bytes of data the command takes, by a command block that is long enough.
+pub fn data_bytes(operation: Operation, cdb: &[u8]) -> usize
     requires { (command operation).bytes ≤ length cdb.now }
     ensures exact { result ≡ data_length (command operation).taken cdb.now }
     ensures bound { result ≤ 2097152 }

@@ -1,21 +1,7 @@
-//! The drive as a target of commands: how a command was answered.
+//! The drive as a target of commands: what a command block asks for, what is done for it, and how it is answered.
 #![tactic(auto)]
 
-use ram_sense::Sense;
+pub mod commands;
 
-/// How a command was answered.
-#[derive(Clone, Copy, Debug, PartialEq, Eq)]
-pub enum Answer {
-    /// It was done.
-    Good,
-    /// It was refused, or not done whole, for the reason that the sense data give.
-    Check(Sense),
-    /// The power was cut in this command.
-    Cut,
-    /// The power was off already, and nothing was done.
-    Off,
-    /// What the medium lies on failed, and counted it. The power is off.
-    Fault,
-    /// Memory was refused.
-    NoMemory,
-}
+pub use commands::execute;
+pub use ram_sense::Answer;

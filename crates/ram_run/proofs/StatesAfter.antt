@@ -1,14 +1,15 @@
 -- What a call leaves a drive standing for, found in its clause, and that no count falls.
-use Rattle.std.specs.Prelude.{◌≡◌, ℕ, ◌≤◌, Result, Ok, Err, List, [], ◌∷◌, length}
-use Rattle.std.proofs.Common.{arith, refl, sym, ap, inl, inr, subst}
+use Rattle.std.specs.Prelude.{◌≡◌, ℕ, ◌≤◌, Result, Ok, Err, List, length}
+use Rattle.std.proofs.Common.{arith, sym, ap, inl, inr, subst}
 use Rattle.model_counts.specs.Counts.{Rose}
 use Rattle.model_medium.specs.Machine.{Machine}
 use Rattle.model_medium.specs.Reach.{Reach}
-use Rattle.model_sectors.specs.Discs.{Standing, On, Off, Shown, candidates}
+use Rattle.model_sectors.specs.Discs.{Standing, Shown}
 use Rattle.model_sectors.specs.Parts.{IsStopped}
-use Rattle.model_sectors.specs.Reads.{ReadCause, ReadStep}
-use Rattle.model_sectors.specs.Writes.{WriteCause, WriteStep}
+use Rattle.model_sectors.specs.Reads.{ReadCause}
+use Rattle.model_sectors.specs.Writes.{WriteCause}
 use Rattle.model_sectors.specs.Power.{PowerCause, PowerStep}
+use Rattle.model_sectors.proofs.Found.{power_found}
 use Rattle.model_sectors.specs.declared.ReadOut.{ReadOut}
 use Rattle.model_sectors.specs.declared.ReadOut.TheVariants as reads
 use Rattle.model_sectors.specs.declared.WriteOut.{WriteOut}
@@ -24,106 +25,20 @@ use Rattle.ram_medium.specs.declared.control.Arm.TheVariants as arming
 use Rattle.ram_medium.specs.Control.{FailRule, WearRule}
 use Rattle.ram_medium.proofs.Parts.{use_failed}
 use Rattle.model_medium.specs.declared.WornBlock.{WornBlock}
-use Rattle.ram_mmc.specs.declared.Answer.{Answer}
-use Rattle.ram_mmc.specs.declared.Answer.TheVariants as answers
+use Rattle.ram_sense.specs.declared.answer.Answer.{Answer}
 use Rattle.ram_text.specs.declared.script.Line.{Line}
 use Rattle.ram_text.specs.declared.script.Line.TheVariants.{Empty, Press, Power, Fail, Wear, Cut, Command}
-use Rattle.ram_run.specs.declared.commands.Transfer.{Transfer}
-use Rattle.ram_run.specs.declared.commands.Transfer.TheVariants as transfers
+use Rattle.ram_mmc.specs.declared.commands.Transfer.{Transfer}
+use Rattle.ram_mmc.specs.declared.commands.Transfer.TheVariants as transfers
 use Rattle.ram_run.specs.declared.held.Outcome.{Outcome}
-use Rattle.ram_run.specs.Host.{asked, read_answer, write_answer, IsTransferred, IsExecuted, IsRefused}
+use Rattle.ram_mmc.proofs.Found.{Found, executed_found}
+use Rattle.ram_mmc.specs.Asked.{asked}
+use Rattle.ram_mmc.specs.Commands.{read_answer, write_answer, IsTransferred, IsExecuted}
 use Rattle.ram_run.specs.Machine.{KeepsRest, DiscRule, power_outcome, fail_outcome, wear_outcome, command_outcome}
 use Rattle.ram_run.specs.Control.{stands_after_fail}
 use Rattle.ram_run.specs.Held.{OutcomeCount}
 
-module _ (old new : Shown) (after : Standing → Type 0) where
-  -- what a read leaves
-  read_found : (s : Standing) (lba n : ℕ) (into : List ℕ) (out : ReadOut) → ReadStep old new after s lba n into out → (t : Standing) × after t × ReadStep old new (λ x. x ≡ t) s lba n into out
-  read_found (On disc) lba n into reads.Good p = (On disc, p.3, (p.0, p.1, p.2, refl))
-  read_found (On disc) lba n into reads.NotFormatted p = (On disc, p, refl)
-  read_found (On disc) lba n into (reads.Range told) p = (On disc, p, refl)
-  read_found (On disc) lba n into (reads.Unread named block) p = (On disc, p.3, (p.0, p.1, p.2, refl))
-  read_found (On disc) lba n into reads.Cut p = (Off (disc ∷ []), p.1, (p.0, refl))
-  read_found (On disc) lba n into reads.Off p = absurd p
-  read_found (On disc) lba n into reads.Fault p = (Off (disc ∷ []), p.1, (p.0, refl))
-  read_found (Off discs) lba n into reads.Good p = absurd p
-  read_found (Off discs) lba n into reads.NotFormatted p = absurd p
-  read_found (Off discs) lba n into (reads.Range told) p = absurd p
-  read_found (Off discs) lba n into (reads.Unread named block) p = absurd p
-  read_found (Off discs) lba n into reads.Cut p = absurd p
-  read_found (Off discs) lba n into reads.Off p = (Off discs, p, refl)
-  read_found (Off discs) lba n into reads.Fault p = absurd p
-
-  -- what a write leaves
-  write_found : (s : Standing) (lba n : ℕ) (bytes : List ℕ) (out : WriteOut) → WriteStep old new after s lba n bytes out → (t : Standing) × after t × WriteStep old new (λ x. x ≡ t) s lba n bytes out
-  write_found (On disc) lba n bytes writes.Good p = (_, p.2, (p.0, p.1, refl))
-  write_found (On disc) lba n bytes writes.NotFormatted p = (On disc, p, refl)
-  write_found (On disc) lba n bytes (writes.Range told) p = (On disc, p, refl)
-  write_found (On disc) lba n bytes (writes.Unread named block) p = (_, p.3, (p.0, p.1, p.2, refl))
-  write_found (On disc) lba n bytes (writes.NoSpare named) p = (_, p.2, (p.0, p.1, refl))
-  write_found (On disc) lba n bytes writes.Cut p = (_, p.0.either, (record { block = p.0.block; covered = p.0.covered; either = refl }, p.1))
-  write_found (On disc) lba n bytes writes.Off p = absurd p
-  write_found (On disc) lba n bytes writes.Fault p = (_, p.0.either, (record { block = p.0.block; covered = p.0.covered; either = refl }, p.1))
-  write_found (Off discs) lba n bytes writes.Good p = absurd p
-  write_found (Off discs) lba n bytes writes.NotFormatted p = absurd p
-  write_found (Off discs) lba n bytes (writes.Range told) p = absurd p
-  write_found (Off discs) lba n bytes (writes.Unread named block) p = absurd p
-  write_found (Off discs) lba n bytes (writes.NoSpare named) p = absurd p
-  write_found (Off discs) lba n bytes writes.Cut p = absurd p
-  write_found (Off discs) lba n bytes writes.Off p = (Off discs, p, refl)
-  write_found (Off discs) lba n bytes writes.Fault p = absurd p
-
-  -- what the turning on of the power leaves
-  power_found : (s : Standing) (out : PowerOut) → PowerStep new after s out → (t : Standing) × after t × PowerStep new (λ x. x ≡ t) s out
-  power_found s (powers.Ready told) p = (On p.0, p.2, (p.0, p.1, refl))
-  power_found s powers.NotFormatted p = (On [], p, refl)
-  power_found s powers.Cut p = (Off (candidates s), p, refl)
-  power_found s powers.Fault p = (Off (candidates s), p, refl)
-  power_found s powers.NoMemory p = (Off (candidates s), p, refl)
-
--- what a drive stands for after a call, where it stood for this before
-abbrev Found : (Standing → Type 0) → (Standing → Type 0) → Type 0
-Found after Rule = (t : Standing) × after t × Rule t
-
 module _ (old new : Shown) (before after : Standing → Type 0) (s : Standing) (stood : before s) where
-  refused_found : (answer due : Answer) (reply : List ℕ) → IsRefused old new before after answer due reply → Found after (λ t. IsRefused old new (λ x. x ≡ s) (λ x. x ≡ t) answer due reply)
-  refused_found answer due reply p = (s, p.stands s stood, record { answer_is = p.answer_is; no_reply = p.no_reply; same = p.same; stands = λ x e. e })
-
-  transfer_found : (payload : List ℕ) (answer : Answer) (reply : List ℕ) (wanted : Result Transfer Sense) → IsTransferred old new before after payload answer reply wanted
-      → Found after (λ t. IsTransferred old new (λ x. x ≡ s) (λ x. x ≡ t) payload answer reply wanted)
-  transfer_found payload answer reply (Ok (transfers.Read lba n)) p =
-      let found = read_found old new after s lba n p.bytes p.out (p.step s stood) in (
-        found.0,
-        found.1,
-        record {
-          out = p.out;
-          bytes = p.bytes;
-          cause = p.cause;
-          step = λ x e. subst (λ y. ReadStep old new (λ z. z ≡ found.0) y lba n p.bytes p.out) (sym e) found.2;
-          buffered = p.buffered;
-          answer_is = p.answer_is;
-          reply_is = p.reply_is;
-        },
-      )
-  transfer_found payload answer reply (Ok (transfers.Write lba n)) p =
-      let found = write_found old new after s lba n payload p.out (p.step s stood) in (
-        found.0,
-        found.1,
-        record {
-          out = p.out;
-          cause = p.cause;
-          step = λ x e. subst (λ y. WriteStep old new (λ z. z ≡ found.0) y lba n payload p.out) (sym e) found.2;
-          answer_is = p.answer_is;
-          no_reply = p.no_reply;
-        },
-      )
-  transfer_found payload answer reply (Err why) p = refused_found answer (answers.Check why) reply p
-
-  executed_found : (cdb payload : List ℕ) (answer : Answer) (reply : List ℕ) → IsExecuted old new before after cdb payload answer reply
-      → Found after (λ t. IsExecuted old new (λ x. x ≡ s) (λ x. x ≡ t) cdb payload answer reply)
-  executed_found cdb payload answer reply (inl off) = let found = refused_found answer answers.Off reply off.1 in (found.0, found.1, inl (off.0, found.2))
-  executed_found cdb payload answer reply (inr on) = let found = transfer_found payload answer reply (asked cdb (length payload)) on.1 in (found.0, found.1, inr (on.0, found.2))
-
   keeps_found : KeepsRest old new before after → Found after (λ t. KeepsRest old new (λ x. x ≡ s) (λ x. x ≡ t))
   keeps_found p = (s, p.stands s stood, record { buffered = p.buffered; stands = λ x e. e })
 
@@ -153,7 +68,7 @@ module _ (old new : Shown) (before after : Standing → Type 0) (s : Standing) (
       let found = keeps_found p.0.keeps in
       (found.0, found.1, (record { armed = p.0.armed; keeps = found.2; outcome_is = p.0.outcome_is }, p.1))
   rule_found total (Command cdb) payload outcome reply p =
-      let found = executed_found cdb payload p.answer reply p.executed in
+      let found = executed_found old new before after s stood cdb payload p.answer reply p.executed in
       (found.0, found.1, record { answer = p.answer; executed = found.2; outcome_is = p.outcome_is })
 
 -- a count that rose later rose over all
@@ -222,12 +137,12 @@ module _ (old new : Shown) where
     transfer_counts payload answer reply (Ok (transfers.Write lba n)) p =
         subst (λ a. OutcomeCount old.medium.world.faults new.medium.world.faults (command_outcome a)) (sym p.answer_is) (write_counts lba n p.out p.cause)
     transfer_counts payload answer reply (Err why) p =
-        subst (λ a. OutcomeCount old.medium.world.faults new.medium.world.faults (command_outcome a)) (sym p.answer_is) (same_counts p.same)
+        subst (λ a. OutcomeCount old.medium.world.faults new.medium.world.faults (command_outcome a)) (sym p.answer_is) (same_counts p.untouched.same)
 
     command_counts : (cdb payload : List ℕ) (answer : Answer) (reply : List ℕ) → IsExecuted old new before after cdb payload answer reply
         → OutcomeCount old.medium.world.faults new.medium.world.faults (command_outcome answer)
     command_counts cdb payload answer reply (inl off) =
-        subst (λ a. OutcomeCount old.medium.world.faults new.medium.world.faults (command_outcome a)) (sym off.1.answer_is) (same_counts off.1.same)
+        subst (λ a. OutcomeCount old.medium.world.faults new.medium.world.faults (command_outcome a)) (sym off.1.answer_is) (same_counts off.1.untouched.same)
     command_counts cdb payload answer reply (inr on) = transfer_counts payload answer reply (asked cdb (length payload)) on.1
 
     -- no count falls in a line, and a failure of the image is counted

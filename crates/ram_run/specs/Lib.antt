@@ -1,7 +1,6 @@
 pub mod Homes
 pub mod Plain
 pub mod Control
-pub mod Host
 pub mod Machine
 pub mod Drive
 pub mod Held

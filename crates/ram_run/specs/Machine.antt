@@ -13,8 +13,8 @@ use Rattle.ram_medium.specs.declared.control.FailEnd.{FailEnd}
 use Rattle.ram_medium.specs.declared.control.FailEnd.TheVariants as fails
 use Rattle.ram_medium.specs.declared.control.Arm.{Arm}
 use Rattle.ram_medium.specs.declared.control.Arm.TheVariants as arming
-use Rattle.ram_mmc.specs.declared.Answer.{Answer}
-use Rattle.ram_mmc.specs.declared.Answer.TheVariants as answers
+use Rattle.ram_sense.specs.declared.answer.Answer.{Answer}
+use Rattle.ram_sense.specs.declared.answer.Answer.TheVariants as answers
 use Rattle.ram_text.specs.declared.script.Line.{Line}
 use Rattle.ram_text.specs.declared.script.Line.TheVariants.{Empty, Press, Power, Fail, Wear, Cut, Command}
 use Rattle.ram_text.specs.declared.printing.Event.{Event}
@@ -24,7 +24,7 @@ use Rattle.ram_run.specs.declared.held.Outcome.{Outcome}
 use Rattle.ram_run.specs.declared.held.Outcome.TheVariants as outcomes
 use Rattle.ram_run.specs.Homes.{plain_homes}
 use Rattle.ram_run.specs.Control.{buffer_after_fail, stands_after_fail}
-use Rattle.ram_run.specs.Host.{IsExecuted}
+use Rattle.ram_mmc.specs.Commands.{IsExecuted}
 
 -- A disc in the drive: its geometry, what the drive shows, and what it stands for, which agree. (This project's own, as
 -- all here.)

@@ -5,14 +5,13 @@ ghost use Rattle.ram_text.specs.declared.payload.TheConstants.{PAYLOAD_ROOM};
 ghost use Rattle.ram_run.specs.Machine.{State, DiscRule};
 ghost use Rattle.ram_run.specs.Held.{Stands, LeavesImage, held_faults, OutcomeCount, NeedsDisc, CountsUses, IsAnswered, IsPressAnswered, IsPrintable, IsNoCommand, outcome_of};
 ghost use Rattle.ram_run.specs.Machine.{power_outcome, fail_outcome, wear_outcome, command_outcome};
-ghost use Rattle.ram_run.specs.Host.{IsExecuted};
+ghost use Rattle.ram_mmc.specs.Commands.{IsExecuted, Executes};
 
-use crate::commands::execute;
 use crate::drive::Drive;
 use ram_bytes::Cdb;
 use ram_image::{OpenFault, PressOut, press};
 use ram_medium::{Arm, FailEnd};
-use ram_mmc::Answer;
+use ram_mmc::{Answer, execute};
 use ram_sectors::PowerOut;
 use ram_text::{Event, Line};
 use ram_zones::Geometry;
@@ -140,22 +139,28 @@ fn answer_on_disc<D: Drive>(
             disc.arm_cut(*n, *fate);
             Outcome::Told(Told::Event(Event::Armed))
         }
-        Line::Command { cdb } => command_outcome(execute_if_on(disc, cdb, payload, reply)),
+        Line::Command { cdb } => command_outcome(execute_powered(disc, cdb, payload, reply)),
     }
 }
 
-/// Executes a command, where the power is on.
-fn execute_if_on<D: Drive>(disc: &mut D, cdb: &Cdb, payload: &[u8], reply: &mut Vec<u8>) -> Answer
+/// Executes a command. While the power is off nothing is done: a transfer tells so itself.
+fn execute_powered<D: Drive>(disc: &mut D, cdb: &Cdb, payload: &[u8], reply: &mut Vec<u8>) -> Answer
     requires empty { reply.old.items ≡ [] }
     requires room { PAYLOAD_ROOM ≤ vec_capacity reply.old }
-    ensures rule { IsExecuted (D.shows disc.old) (D.shows disc.new) (D.stands disc.old) (D.stands disc.new) cdb.now payload.now result reply.new.items }
+    ensures rule { Executes D.Sectors disc.old disc.new cdb.now payload.now result reply.new.items }
     ensures same_shape { D.shape disc.new ≡ D.shape disc.old }
     ensures room { vec_capacity reply.old ≤ vec_capacity reply.new }
 {
-    if !disc.powered() {
-        return Answer::Off;
+    match execute(disc, cdb, payload, reply) {
+        Ok(answer) => answer,
+        Err(sense) => {
+            if disc.powered() {
+                Answer::Check(sense)
+            } else {
+                Answer::Off
+            }
+        }
     }
-    execute(disc, cdb, payload, reply)
 }
 
 /// How the turning on of the power comes out.

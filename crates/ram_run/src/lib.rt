@@ -1,7 +1,6 @@
 //! Runs a script of commands over a disc image, and reports every answer.
 #![tactic(auto)]
 
-mod commands;
 mod drive;
 mod ending;
 mod held;

@@ -1,3 +1,4 @@
+-- Sense: what it is, and its bytes as a host is given them. For whoever refuses a command or tells of a refusal.
 use Rattle.std.specs.Prelude.{ℕ, Option, Some, None, List, [], ◌∷◌, ◌++◌}
 use Rattle.byteorder.specs.Endian.{big_bytes}
 use Rattle.ram_sense.specs.declared.sense.Sense.{Sense}
@@ -17,3 +18,11 @@ information (Some info) = big_bytes 4 info
 abbrev pub sense_data : Sense → List ℕ
 sense_data sense =
     response_code sense.info ∷ 0 ∷ sense.key ∷ [] ++ information sense.info ++ 10 ∷ 0 ∷ 0 ∷ 0 ∷ 0 ∷ sense.asc ∷ sense.ascq ∷ 0 ∷ 0 ∷ 0 ∷ 0 ∷ []
+
+-- sense without information: its key, code and qualifier (after INCITS MMC)
+abbrev pub sense : (key asc ascq : ℕ) → Sense
+sense key asc ascq = record { key = key; asc = asc; ascq = ascq; info = None }
+
+-- sense with the first sector that is concerned (after INCITS MMC)
+abbrev pub sense_at : (key asc ascq lba : ℕ) → Sense
+sense_at key asc ascq lba = record { key = key; asc = asc; ascq = ascq; info = Some lba }

@@ -1,5 +1,7 @@
 //! The sense that the drive gives, under the names that INCITS MMC has for it.
 ghost use Rattle.std.specs.Prelude.{◌≡◌};
+ghost use Rattle.ram_sense.specs.Sense.{sense, sense_at};
+ghost use Rattle.ram_sense.specs.declared.codes.TheConstants.{NO_SENSE, MEDIUM_NOT_PRESENT, MEDIUM_FORMAT_CORRUPTED, FORMAT_COMMAND_FAILED, DEFECT_LIST_UPDATE_FAILURE, PARAMETER_LIST_LENGTH_ERROR, INVALID_OPERATION_CODE, ADDRESS_OUT_OF_RANGE, INVALID_FIELD_IN_COMMAND, INVALID_FIELD_IN_PARAMETERS, SAVING_NOT_SUPPORTED, REMOVAL_PREVENTED, POWER_ON_OCCURRED};
 
 use crate::Sense;
 
@@ -107,9 +109,26 @@ pub const POWER_ON_OCCURRED: Sense = Sense {
     info: None,
 };
 
+/// The key, the code and its qualifier of each sense that has no information.
+pub fn senses_are_these()
+    ensures no_sense { NO_SENSE ≡ sense 0x0 0x00 0x00 }
+    ensures medium_not_present { MEDIUM_NOT_PRESENT ≡ sense 0x2 0x3a 0x00 }
+    ensures medium_format_corrupted { MEDIUM_FORMAT_CORRUPTED ≡ sense 0x3 0x31 0x00 }
+    ensures format_command_failed { FORMAT_COMMAND_FAILED ≡ sense 0x3 0x31 0x01 }
+    ensures defect_list_update_failure { DEFECT_LIST_UPDATE_FAILURE ≡ sense 0x3 0x32 0x01 }
+    ensures parameter_list_length_error { PARAMETER_LIST_LENGTH_ERROR ≡ sense 0x5 0x1a 0x00 }
+    ensures invalid_operation_code { INVALID_OPERATION_CODE ≡ sense 0x5 0x20 0x00 }
+    ensures address_out_of_range { ADDRESS_OUT_OF_RANGE ≡ sense 0x5 0x21 0x00 }
+    ensures invalid_field_in_command { INVALID_FIELD_IN_COMMAND ≡ sense 0x5 0x24 0x00 }
+    ensures invalid_field_in_parameters { INVALID_FIELD_IN_PARAMETERS ≡ sense 0x5 0x26 0x00 }
+    ensures saving_not_supported { SAVING_NOT_SUPPORTED ≡ sense 0x5 0x39 0x00 }
+    ensures removal_prevented { REMOVAL_PREVENTED ≡ sense 0x5 0x53 0x02 }
+    ensures power_on_occurred { POWER_ON_OCCURRED ≡ sense 0x6 0x29 0x00 }
+{}
+
 /// 3/11/00: sector `lba` is the first that cannot be read.
 pub fn unrecovered_read_error(lba: u32) -> Sense
-    ensures { result ≡ record { key = 0x3; asc = 0x11; ascq = 0; info = Some lba } }
+    ensures { result ≡ sense_at 0x3 0x11 0x00 lba }
 {
     Sense {
         key: 0x3,
@@ -121,7 +140,7 @@ pub fn unrecovered_read_error(lba: u32) -> Sense
 
 /// 3/32/00: the block of sector `lba` cannot be written, and no spare is left for it.
 pub fn no_spare_location(lba: u32) -> Sense
-    ensures { result ≡ record { key = 0x3; asc = 0x32; ascq = 0; info = Some lba } }
+    ensures { result ≡ sense_at 0x3 0x32 0x00 lba }
 {
     Sense {
         key: 0x3,

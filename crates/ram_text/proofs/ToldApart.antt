@@ -6,8 +6,8 @@ use Rattle.std.proofs.lemmas.List.{append_cancel_left, take_at, drop_at}
 use Rattle.hex.specs.Hex.{encode_with, lower_digits, hex_digit_value}
 use Rattle.hex.proofs.HexLemmas.{IsDigits-lower_digits}
 use Rattle.ram_sense.specs.declared.sense.Sense.{Sense}
-use Rattle.ram_mmc.specs.declared.Answer.{Answer}
-use Rattle.ram_mmc.specs.declared.Answer.TheVariants.{Good, Check, Cut, Off, Fault, NoMemory}
+use Rattle.ram_sense.specs.declared.answer.Answer.{Answer}
+use Rattle.ram_sense.specs.declared.answer.Answer.TheVariants.{Good, Check, Cut, Off, Fault, NoMemory}
 use Rattle.ram_text.specs.ReportLines.{answer_words, sense_code, info_words, IsInRange, IsTold}
 
 digit_same : (a b : ℕ) → a < 16 → b < 16 → get_or lower_digits a 0 ≡ get_or lower_digits b 0 → a ≡ b

@@ -4,7 +4,7 @@ ghost use Rattle.ram_text.specs.ScriptWords.{words_of, space};
 ghost use Rattle.ram_text.specs.Script.{Reads};
 ghost use Rattle.ram_text.specs.ReportLines.{answer_words, IsTold};
 ghost use Rattle.ram_text.specs.declared.script.Line.{Line as Read};
-ghost use Rattle.ram_mmc.specs.declared.Answer.{Answer as Told};
+ghost use Rattle.ram_sense.specs.declared.answer.Answer.{Answer as Told};
 
 /// A line has at most one meaning, and the data that go with it are determined too.
 pub fn a_line_has_one_reading()

@@ -10,9 +10,8 @@ use crate::report::ReportWriter;
 use model_commands::Operation;
 use ram_bytes::{Cdb, SECTOR_BYTES, get_u32};
 use ram_cdb::operation;
-use ram_mmc::Answer;
 use ram_outside::Sink;
-use ram_sense::Sense;
+use ram_sense::{Answer, Sense};
 
 /// The answer to a line of the script that is no command.
 #[derive(Clone, Copy, Debug, PartialEq, Eq)]

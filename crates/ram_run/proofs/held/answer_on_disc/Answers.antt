@@ -6,4 +6,4 @@ returns-in-Power-clause-rule g c =
 
 pub returns-in-Command-clause-rule : goal.returns-in-Command-clause-rule
 returns-in-Command-clause-rule g c =
-    rw c.in-Command.is (record { answer = c.execute_if_on.result; executed = c.execute_if_on.ensures.rule; outcome_is = c.command_outcome.ensures })
+    rw c.in-Command.is (record { answer = c.execute_powered.result; executed = c.execute_powered.ensures.rule; outcome_is = c.command_outcome.ensures })

@@ -1,45 +1,58 @@
 //! The commands that a disc without lists knows, READ(10) and WRITE(10), over any drive of sectors.
-ghost use Rattle.std.specs.Prelude.{◌≡◌, ◌≤◌, [], length, vec_capacity};
-ghost use Rattle.ram_text.specs.declared.payload.TheConstants.{PAYLOAD_ROOM};
-ghost use Rattle.ram_run.specs.Host.{asked, read_answer, write_answer, IsTransferred, IsRead};
+ghost use Rattle.std.specs.Prelude.{◌≡◌, ◌*◌, ◌≤◌, [], length, vec_capacity};
+ghost use Rattle.model_commands.specs.Commands.{transfer_limit};
+ghost use Rattle.ram_mmc.specs.Asked.{asked};
+ghost use Rattle.ram_mmc.specs.Commands.{read_answer, write_answer, Reads, Transfers};
 
 use model_commands::Operation;
 use ram_bytes::{Cdb, SECTOR_BYTES, get_u16, get_u32};
-use ram_cdb::{TRANSFER_LIMIT, operation, out_length};
-use ram_mmc::Answer;
+use ram_cdb::{TRANSFER_LIMIT, command_bytes, data_bytes, operation};
 use ram_sectors::{ReadOut, Sectors, WriteOut};
-use ram_sense::Sense;
 use ram_sense::codes::{
     ADDRESS_OUT_OF_RANGE, INVALID_FIELD_IN_COMMAND, INVALID_OPERATION_CODE,
     MEDIUM_FORMAT_CORRUPTED, PARAMETER_LIST_LENGTH_ERROR, no_spare_location,
     unrecovered_read_error,
 };
-
-/// How many bytes the command block of a transfer has at least.
-const TRANSFER_BYTES: usize = 10;
+use ram_sense::{Answer, Sense};
 
 /// What a command asks of the disc.
 #[derive(Clone, Copy, Debug, PartialEq, Eq)]
 pub enum Transfer {
     /// Read so many sectors from this one on.
-    Read { lba: u32, n: u32 },
+    Read {
+        /// The first sector.
+        lba: u32,
+        /// How many sectors, at most [`TRANSFER_LIMIT`].
+        n: u32,
+    },
     /// Write so many sectors from this one on.
-    Write { lba: u32, n: u32 },
+    Write {
+        /// The first sector.
+        lba: u32,
+        /// How many sectors, at most [`TRANSFER_LIMIT`].
+        n: u32,
+    },
 }
 
-/// Executes a command on a drive whose power is on, with the command's data in `payload`. The reply is then in `reply`,
-/// which stays empty on every answer but Good.
-pub fn execute<D: Sectors>(disc: &mut D, cdb: &Cdb, payload: &[u8], reply: &mut Vec<u8>) -> Answer
+/// Executes a command, with the command's data in `payload`, or tells why it is refused; then nothing was done, and it
+/// was not looked whether the power is on. The reply of a command that was done is then in `reply`, whose room is taken
+/// before; it stays empty on every other answer.
+pub fn execute<D: Sectors>(
+    disc: &mut D,
+    cdb: &Cdb,
+    payload: &[u8],
+    reply: &mut Vec<u8>,
+) -> Result<Answer, Sense>
     requires empty { reply.old.items ≡ [] }
-    requires room { PAYLOAD_ROOM ≤ vec_capacity reply.old }
-    ensures rule { IsTransferred (D.shows disc.old) (D.shows disc.new) (D.stands disc.old) (D.stands disc.new) payload.now result reply.new.items (asked cdb.now (length payload.now)) }
+    requires room { 2048 * transfer_limit ≤ vec_capacity reply.old }
+    ensures rule { Transfers D.Sectors disc.old disc.new payload.now result reply.new.items (asked cdb.now (length payload.now)) }
     ensures same_shape { D.shape disc.new ≡ D.shape disc.old }
     ensures room { vec_capacity reply.old ≤ vec_capacity reply.new }
 {
     match asked(cdb, payload.len()) {
-        Err(sense) => Answer::Check(sense),
-        Ok(Transfer::Read { lba, n }) => read(disc, lba, n, reply),
-        Ok(Transfer::Write { lba, n }) => write_answer(disc.write(lba, n, payload)),
+        Ok(Transfer::Read { lba, n }) => Ok(read(disc, lba, n, reply)),
+        Ok(Transfer::Write { lba, n }) => Ok(write_answer(disc.write(lba, n, payload))),
+        Err(sense) => Err(sense),
     }
 }
 
@@ -47,12 +60,12 @@ pub fn execute<D: Sectors>(disc: &mut D, cdb: &Cdb, payload: &[u8], reply: &mut 
 fn asked(cdb: &Cdb, given: usize) -> Result<Transfer, Sense>
     ensures { result ≡ asked cdb.now given }
 {
-    let writes = match operation(cdb.operation_code()) {
-        Some(Operation::Read10) => false,
-        Some(Operation::Write10) => true,
+    let (operation, writes) = match operation(cdb.operation_code()) {
+        Some(Operation::Read10) => (Operation::Read10, false),
+        Some(Operation::Write10) => (Operation::Write10, true),
         _ => return Err(INVALID_OPERATION_CODE),
     };
-    if cdb.len() < TRANSFER_BYTES {
+    if cdb.len() < command_bytes(operation) {
         return Err(INVALID_FIELD_IN_COMMAND);
     }
     let lba = get_u32(cdb.bytes(), 2);
@@ -60,7 +73,7 @@ fn asked(cdb: &Cdb, given: usize) -> Result<Transfer, Sense>
     if n > TRANSFER_LIMIT {
         return Err(INVALID_FIELD_IN_COMMAND);
     }
-    if given != out_length(cdb) {
+    if given != data_bytes(operation, cdb.bytes()) {
         return Err(PARAMETER_LIST_LENGTH_ERROR);
     }
     if writes {
@@ -72,10 +85,10 @@ fn asked(cdb: &Cdb, given: usize) -> Result<Transfer, Sense>
 
 /// Reads sectors into the reply.
 fn read<D: Sectors>(disc: &mut D, lba: u32, n: u32, reply: &mut Vec<u8>) -> Answer
-    requires few { n ≤ 1024 }
+    requires few { n ≤ transfer_limit }
     requires empty { reply.old.items ≡ [] }
-    requires room { PAYLOAD_ROOM ≤ vec_capacity reply.old }
-    ensures rule { IsRead (D.shows disc.old) (D.shows disc.new) (D.stands disc.old) (D.stands disc.new) lba n result reply.new.items }
+    requires room { 2048 * transfer_limit ≤ vec_capacity reply.old }
+    ensures rule { Reads D.Sectors disc.old disc.new lba n result reply.new.items }
     ensures same_shape { D.shape disc.new ≡ D.shape disc.old }
     ensures room { vec_capacity reply.old ≤ vec_capacity reply.new }
 {
