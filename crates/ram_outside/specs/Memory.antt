@@ -1,6 +1,7 @@
-use Rattle.std.specs.Prelude.{◌≡◌, ℕ, ◌+◌, ◌<◌, ◌≤◌, ◌⊎◌, min, Option, Some, None, List, [], ◌++◌, length, take, drop}
+use Rattle.std.specs.Prelude.{◌≡◌, ℕ, ◌+◌, ◌<◌, ◌≤◌, ◌⊎◌, min, Option, Some, None, List, [], ◌∷◌, ◌++◌, length, take, drop}
 use Rattle.model_bytes.specs.Bytes.{put_at, resized}
 use Rattle.ram_outside.specs.Calls.{CallLog, IsNamed, with_call, with_faults, with_failed_call}
+use Rattle.ram_outside.specs.Opener.{OpenerView, opener_view}
 use Rattle.ram_outside.specs.declared.source.Take.{Take}
 use Rattle.ram_outside.specs.declared.source.Take.TheVariants as takes
 use Rattle.ram_outside.specs.declared.sink.Put.{Put}
@@ -32,11 +33,12 @@ pub record ImageState : Type 0 where
   pub room : ℕ
   pub calls : CallLog
 
--- an opener in memory: the image that it still has, the image that was handed back last, and its calls of `open`
--- (this project's own)
+-- an opener in memory: the image that it still has, the image that was handed back last, the names that it was asked
+-- for, in order, and its calls of `open` (this project's own)
 pub record OpenerState : Type 0 where
   pub next : Option ImageState
   pub returned : Option ImageState
+  pub asked : List (List ℕ)
   pub calls : CallLog
 
 -- the next n bytes, as many as fit the slice and one piece
@@ -109,12 +111,21 @@ ResizesExactly old new len moves.Failed = (IsNamed old.calls ⊎ (old.room < len
 abbrev pub unfailed : ImageState → ImageState
 unfailed image = record image { calls = record image.calls { faults = 0 } }
 
--- Exactly what `open` of an opener in memory does, by its answer: it fails where the call is one that fails, or where
--- the image was given before. (This project's own.)
-abbrev pub OpensExactly : OpenerState → OpenerState → Opened ImageState → Type 0
-OpensExactly old new (openings.Image image) = (¬ IsNamed old.calls) × (old.next ≡ Some image) × (new ≡ record old { next = None; calls = with_call old.calls })
-OpensExactly old new openings.Failed = (IsNamed old.calls ⊎ (old.next ≡ None)) × (new ≡ record old { calls = with_failed_call old.calls })
+-- the opener after it was asked for this name too (this project's own)
+abbrev pub and_asked_now : List ℕ → OpenerState → OpenerState
+and_asked_now name opener = record opener { asked = opener.asked ++ name ∷ [] }
+
+-- Exactly what `open` of this name does of an opener in memory, by its answer: it fails where the call is one that fails,
+-- or where the image was given before; or where memory for the name was refused, and then it asked for nothing.
+-- (This project's own.)
+abbrev pub OpensExactly : List ℕ → OpenerState → OpenerState → Opened ImageState → Type 0
+OpensExactly name old new (openings.Image image) = (¬ IsNamed old.calls) × (old.next ≡ Some image) × (new ≡ record (and_asked_now name old) { next = None; calls = with_call old.calls })
+OpensExactly name old new openings.Failed = ((IsNamed old.calls ⊎ (old.next ≡ None)) × (new ≡ record (and_asked_now name old) { calls = with_failed_call old.calls })) ⊎ (new ≡ record old { calls = with_failed_call old.calls })
 
 -- the opener after it took this image back (this project's own)
 abbrev pub after_close : ImageState → OpenerState → OpenerState
 after_close image opener = record opener { returned = Some image; calls = with_faults image.calls.faults opener.calls }
+
+-- what is known of an opener in memory, which is all of it (this project's own)
+abbrev pub view_of : OpenerState → OpenerView ImageState
+view_of opener = opener_view opener.next opener.returned (Some opener.asked) opener.calls.faults

@@ -1,5 +1,5 @@
-ghost use Rattle.std.specs.Prelude.{ℕ, Bool, Option};
-ghost use Rattle.ram_outside.specs.Opener.{OpenRule, CloseRule};
+ghost use Rattle.std.specs.Prelude.{ℕ, Bool, Option, List};
+ghost use Rattle.ram_outside.specs.Opener.{OpenRule, CloseRule, opener_view};
 
 use crate::image::Image;
 
@@ -24,16 +24,22 @@ pub trait Opener {
     /// The image that was handed back last, where there was one and it is told.
     ghost returned: { Self → Option Self.Image };
 
+    /// The names that were asked for so far, in order, where they are known.
+    ghost asked: { Self → Option (List (List ℕ)) };
+
     /// How often the opener has failed, or an image that it took back. It never falls, and stands still at 2^64 - 1.
     ghost faults: { Self → ℕ };
 
     /// Opens the image of this name. Its count of failures begins at 0.
     fn open(&mut self, name: &str) -> Opened<Self::Image>
-        ensures { OpenRule Self.Image.faults (next self.old) (next self.new)
-            (returned self.old) (returned self.new) (faults self.old) (faults self.new) result };
+        ensures { OpenRule Self.Image.faults name.now
+            (opener_view (next self.old) (returned self.old) (asked self.old) (faults self.old))
+            (opener_view (next self.new) (returned self.new) (asked self.new) (faults self.new)) result };
 
-    /// Takes an image back, and adds its failures to the opener's.
+    /// Takes an image back, and adds its failures to the opener's; they alone are counted. What the next `open`
+    /// gives stays.
     fn close(&mut self, image: Self::Image)
-        ensures { CloseRule tells (Self.Image.faults image) image (returned self.new)
-            (faults self.old) (faults self.new) };
+        ensures { CloseRule tells Self.Image.faults image
+            (opener_view (next self.old) (returned self.old) (asked self.old) (faults self.old))
+            (opener_view (next self.new) (returned self.new) (asked self.new) (faults self.new)) };
 }

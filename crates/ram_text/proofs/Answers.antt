@@ -21,7 +21,7 @@ told_alike : (held after : List ℕ) (rest : Option (List ℕ)) → is_some (pre
 told_alike held after None = refl
 told_alike held after (Some ys) = refl
 
-answered : (before after : Reading) (rest : Option (List ℕ)) (first faults : ℕ) → first ≤ faults → (answer : NextLine) → CutRule before after (Some answer)
+answered : (before after : Reading) (rest : Option (List ℕ)) (first faults : ℕ) → faults ≡ first → (answer : NextLine) → CutRule before after (Some answer)
     → NextLineRule (prepend_known before.buffered rest) (prepend_known after.buffered rest) before.taken after.taken after.line first faults answer
 answered before after rest first faults count Line cut = record {
   ends = inl (record { went = line_left before.buffered after.line after.buffered rest cut.parts; grew = cut.grew });
@@ -54,7 +54,7 @@ answered before after rest first faults count Failed cut = elim cut [ ]
 
 -- the same, said of what was left at first
 pub answered_at_first : (held : List ℕ) (taken : ℕ) (before after : Reading) (left rest : Option (List ℕ)) (first faults : ℕ)
-    → prepend_known before.buffered rest ≡ prepend_known held left → before.taken ≡ taken → first ≤ faults → (answer : NextLine) → CutRule before after (Some answer)
+    → prepend_known before.buffered rest ≡ prepend_known held left → before.taken ≡ taken → faults ≡ first → (answer : NextLine) → CutRule before after (Some answer)
     → NextLineRule (prepend_known held left) (prepend_known after.buffered rest) taken after.taken after.line first faults answer
 answered_at_first held taken before after left rest first faults same stood count answer cut =
     subst (λ (all : Option (List ℕ)). NextLineRule all (prepend_known after.buffered rest) taken after.taken after.line first faults answer) same

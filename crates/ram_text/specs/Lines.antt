@@ -57,7 +57,7 @@ pub record GivesLine (left left' : Option (List ℕ)) (taken taken' : ℕ) (line
   pub short : length line ≤ LINE_LIMIT
   pub within : taken' ≤ SCRIPT_LIMIT
   pub told : is_some left' ≡ is_some left
-  pub count : faults ≤ faults'
+  pub count : faults' ≡ faults
 
 -- nothing went, and there is no line
 pub record NothingWent (left left' : Option (List ℕ)) (taken taken' : ℕ) (line : List ℕ) : Type 0 where
@@ -80,7 +80,7 @@ pub record ScriptIsTooLong (left : Option (List ℕ)) (taken : ℕ) : Type 0 whe
 -- before and after, the line, and the source's counts before and after. (This project's own.)
 abbrev pub NextLineRule : Option (List ℕ) → Option (List ℕ) → ℕ → ℕ → List ℕ → ℕ → ℕ → NextLine → Type 0
 NextLineRule left left' taken taken' line faults faults' Line = GivesLine left left' taken taken' line faults faults'
-NextLineRule left left' taken taken' line faults faults' End = NothingWent left left' taken taken' line × IsAtEnd left × (faults ≤ faults')
-NextLineRule left left' taken taken' line faults faults' LineTooLong = NothingWent left left' taken taken' line × LineIsTooLong left taken × (faults ≤ faults')
-NextLineRule left left' taken taken' line faults faults' ScriptTooLong = NothingWent left left' taken taken' line × ScriptIsTooLong left taken × (faults ≤ faults')
+NextLineRule left left' taken taken' line faults faults' End = NothingWent left left' taken taken' line × IsAtEnd left × (faults' ≡ faults)
+NextLineRule left left' taken taken' line faults faults' LineTooLong = NothingWent left left' taken taken' line × LineIsTooLong left taken × (faults' ≡ faults)
+NextLineRule left left' taken taken' line faults faults' ScriptTooLong = NothingWent left left' taken taken' line × ScriptIsTooLong left taken × (faults' ≡ faults)
 NextLineRule left left' taken taken' line faults faults' Failed = NothingWent left left' taken taken' line × Rose faults faults'

@@ -54,12 +54,12 @@ pub record Refilled (before after : Reading) (rest rest' : Option (List ℕ)) (f
   pub longer : length after.buffered ≡ length before.buffered + n
   pub same : prepend_known after.buffered rest' ≡ prepend_known before.buffered rest
   pub stood : after.taken ≡ before.taken
-  pub count : faults ≤ faults'
+  pub count : faults' ≡ faults
 
 -- what one more piece of the source brings
 abbrev pub FillRule : Reading → Reading → Option (List ℕ) → Option (List ℕ) → ℕ → ℕ → Take → Type 0
 FillRule before after rest rest' faults faults' (takes.Got n) = Refilled before after rest rest' faults faults' n
-FillRule before after rest rest' faults faults' takes.End = (after ≡ without_line before) × IsAtEnd rest × (rest' ≡ rest) × (faults ≤ faults')
+FillRule before after rest rest' faults faults' takes.End = (after ≡ without_line before) × IsAtEnd rest × (rest' ≡ rest) × (faults' ≡ faults)
 FillRule before after rest rest' faults faults' takes.Failed = (after ≡ without_line before) × (rest' ≡ rest) × Rose faults faults'
 
 -- what is buffered is the last line, unless nothing is

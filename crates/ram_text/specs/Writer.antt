@@ -1,4 +1,4 @@
-use Rattle.std.specs.Prelude.{◌≡◌, ℕ, ◌≤◌, ◌<◌, Option, List, [], length, take, Result, Ok, Err}
+use Rattle.std.specs.Prelude.{◌≡◌, ℕ, ◌<◌, Option, List, [], length, take, Result, Ok, Err}
 use Rattle.std.specs.Io.KnownBytes.{append_known}
 use Rattle.model_counts.specs.Counts.{Rose}
 use Rattle.ram_text.specs.declared.gathered.Print.{Print}
@@ -8,10 +8,10 @@ use Rattle.ram_text.specs.declared.gathered.Print.TheVariants.{Done, Failed}
 abbrev pub due : Option (List ℕ) → List ℕ → Option (List ℕ)
 due written gathered = append_known written gathered
 
--- the text went to the end of what is due
+-- the text went to the end of what is due, and the sink counted nothing
 pub record IsPut (before after : Option (List ℕ)) (faults faults' : ℕ) (text : List ℕ) : Type 0 where
   pub grew : after ≡ append_known before text
-  pub count : faults ≤ faults'
+  pub count : faults' ≡ faults
 
 -- a front of the text went to the end of what is due, and the sink failed and counted it
 pub record IsCutOff (before after : Option (List ℕ)) (faults faults' : ℕ) (text : List ℕ) : Type 0 where
@@ -28,10 +28,10 @@ PrintRule before after faults faults' text Failed = IsCutOff before after faults
 -- What handing over what is gathered may do, by its answer: what is due stays as it was; where it is done nothing is
 -- gathered any more, and else the sink failed and counted it. (This project's own.)
 abbrev pub FlushRule : Option (List ℕ) → Option (List ℕ) → List ℕ → ℕ → ℕ → Print → Type 0
-FlushRule before after gathered faults faults' Done = (after ≡ before) × (gathered ≡ []) × (faults ≤ faults')
+FlushRule before after gathered faults faults' Done = (after ≡ before) × (gathered ≡ []) × (faults' ≡ faults)
 FlushRule before after gathered faults faults' Failed = (after ≡ before) × Rose faults faults'
 
 -- What handing over a text at once may do: all of it is written, or a front of so many bytes and the sink failed.
 abbrev pub HandOverRule : Option (List ℕ) → Option (List ℕ) → ℕ → ℕ → List ℕ → Result (Unit {0}) ℕ → Type 0
-HandOverRule written written' faults faults' text (Ok done) = (written' ≡ append_known written text) × (faults ≤ faults')
+HandOverRule written written' faults faults' text (Ok done) = (written' ≡ append_known written text) × (faults' ≡ faults)
 HandOverRule written written' faults faults' text (Err n) = (n < length text) × (written' ≡ append_known written (take n text)) × Rose faults faults'
