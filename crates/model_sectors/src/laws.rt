@@ -5,8 +5,13 @@ ghost use Rattle.model_sectors.specs.Requests.{block_with, blocks_covered, IsCov
 ghost use Rattle.model_sectors.specs.declared.TheConstants.{TRANSFER_SECTORS, MOST_SECTORS};
 ghost use Rattle.model_sectors.specs.Uses.{read_uses};
 ghost use Rattle.model_medium.specs.Cells.{cell_at};
-ghost use Rattle.model_sectors.specs.Reads.{AreBuffered};
-ghost use Rattle.model_sectors.specs.Writes.{OnlyCovered, StopsInBlock, IsOldOrNew};
+ghost use Rattle.model_sectors.specs.Faults.{ReadFaults, WriteFaults, PowerFaults};
+ghost use Rattle.model_sectors.specs.Power.{PowerCause};
+ghost use Rattle.model_sectors.specs.Reads.{AreBuffered, ReadCause};
+ghost use Rattle.model_sectors.specs.declared.PowerOut.{PowerOut};
+ghost use Rattle.model_sectors.specs.declared.ReadOut.{ReadOut};
+ghost use Rattle.model_sectors.specs.declared.WriteOut.{WriteOut};
+ghost use Rattle.model_sectors.specs.Writes.{OnlyCovered, StopsInBlock, IsOldOrNew, WriteCause};
 
 /// The limits of a request, in sectors.
 pub fn limits_of_requests_are_these()
@@ -60,4 +65,11 @@ pub fn uncovered_homes_stay()
         → ((j k : ℕ) → j < length old.homes → k < length old.homes → home old j ≡ home old k → j ≡ k)
         → ((k : ℕ) → k < count → first + k < length old.homes) → i < length old.homes → (i < first) ⊎ (first + count ≤ i)
         → cell_at new.medium.world.cells (home old i) ≡ home_cell old i }
+{}
+
+/// A call that fails counts it, and no other call counts a fault.
+pub fn a_fault_alone_is_counted()
+    ensures read { (old new : Shown) (lba n : ℕ) (out : ReadOut) → ReadCause old new lba n out → ReadFaults old new out }
+    ensures write { (old new : Shown) (lba n : ℕ) (out : WriteOut) → WriteCause old new lba n out → WriteFaults old new out }
+    ensures power { (old new : Shown) (out : PowerOut) → PowerCause old new out → PowerFaults old new out }
 {}
