@@ -2,7 +2,7 @@ ghost use Rattle.std.specs.Prelude.{◌≡◌, ℕ, ◌+◌, ◌-◌, ◌*◌, �
 ghost use Rattle.model_buffer.specs.declared.TheConstants.{BUFFERED_BLOCKS};
 ghost use Rattle.model_sectors.specs.Discs.{Standing, Shown, home, home_cell, sectors_of, replaced, Fits, SomeFits, IsFirstFit};
 ghost use Rattle.model_sectors.specs.Requests.{block_with, blocks_covered, IsCovered, HoldsSector};
-ghost use Rattle.model_sectors.specs.declared.TheConstants.{TRANSFER_SECTORS, MOST_SECTORS};
+ghost use Rattle.model_sectors.specs.declared.TheConstants.{MOST_SECTORS};
 ghost use Rattle.model_sectors.specs.Uses.{read_uses};
 ghost use Rattle.model_medium.specs.Cells.{cell_at};
 ghost use Rattle.model_sectors.specs.Faults.{ReadFaults, WriteFaults, PowerFaults};
@@ -13,10 +13,9 @@ ghost use Rattle.model_sectors.specs.declared.ReadOut.{ReadOut};
 ghost use Rattle.model_sectors.specs.declared.WriteOut.{WriteOut};
 ghost use Rattle.model_sectors.specs.Writes.{OnlyCovered, StopsInBlock, IsOldOrNew, WriteCause};
 
-/// The limits of a request, in sectors.
+/// The most sectors of a disc.
 pub fn limits_of_requests_are_these()
-    ensures transfer { TRANSFER_SECTORS ≡ 1024 }
-    ensures most { MOST_SECTORS ≡ 2 ^ 28 }
+    ensures { MOST_SECTORS ≡ 2 ^ 28 }
 {}
 
 /// A sector lies in one of the blocks of sixteen sectors, and a request covers the blocks that hold a sector of it, and

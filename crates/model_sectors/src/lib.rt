@@ -10,9 +10,6 @@ pub use laws::{
     some_disc_fits_first, uncovered_homes_stay, what_is_replaced_reads_back,
 };
 
-/// How many sectors one call of a drive reads or writes at most.
-pub const TRANSFER_SECTORS: u32 = 1_024;
-
 /// How many sectors a disc has at most, so that the numbers of its bytes fit into 64 bits and those of its sectors into
 /// 32, with room to spare.
 pub const MOST_SECTORS: u32 = 268_435_456;
