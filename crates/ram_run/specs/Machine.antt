@@ -4,7 +4,7 @@ use Rattle.model_medium.specs.Cells.{Cell}
 use Rattle.model_image.specs.Cells.{cells_of}
 use Rattle.model_image.specs.Image.{IsDiscImage, IsImageOf, IsStoppedPress, blank_cells}
 use Rattle.model_sectors.specs.Discs.{Standing, Off, Shown, IsOn, IsShown, first_disc}
-use Rattle.model_sectors.specs.Calls.{PowerCause, PowerStep}
+use Rattle.model_sectors.specs.Power.{PowerCause, PowerStep}
 use Rattle.model_sectors.specs.declared.PowerOut.{PowerOut}
 use Rattle.model_sectors.specs.declared.PowerOut.TheVariants as powers
 use Rattle.ram_medium.specs.Control.{FailRule, WearRule, with_armed_cut}
