@@ -15,8 +15,10 @@ pub fn limits_of_buffers_are_these()
 
 /// A block that was used is in the buffer with its bytes, and the numbers of the blocks follow from the numbers before.
 pub fn a_used_block_is_buffered()
-    ensures found { (block : ℕ) (bytes : List ℕ) (buffer : List (ℕ × List ℕ)) → bytes_at block (with_front block bytes buffer) ≡ Some bytes }
+    ensures found { (block : ℕ) (bytes : List ℕ) (buffer : List (ℕ × List ℕ))
+        → bytes_at block (with_front block bytes buffer) ≡ Some bytes }
     ensures numbers { (block : ℕ) (bytes : List ℕ) (buffer : List (ℕ × List ℕ))
         → numbers_in (with_front block bytes buffer) ≡ touched_one (numbers_in buffer) block }
-    ensures few { (block : ℕ) (bytes : List ℕ) (buffer : List (ℕ × List ℕ)) → length (with_front block bytes buffer) ≤ BUFFERED_BLOCKS }
+    ensures few { (block : ℕ) (bytes : List ℕ) (buffer : List (ℕ × List ℕ))
+        → length (with_front block bytes buffer) ≤ BUFFERED_BLOCKS }
 {}

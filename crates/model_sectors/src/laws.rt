@@ -69,7 +69,8 @@ pub fn buffered_blocks_take_no_use()
 pub fn uncovered_homes_stay()
     ensures { (old new : Shown) (first count i : ℕ) → OnlyCovered old new first count
         → ((j k : ℕ) → j < length old.homes → k < length old.homes → home old j ≡ home old k → j ≡ k)
-        → ((k : ℕ) → k < count → first + k < length old.homes) → i < length old.homes → (i < first) ⊎ (first + count ≤ i)
+        → ((k : ℕ) → k < count → first + k < length old.homes)
+        → i < length old.homes → (i < first) ⊎ (first + count ≤ i)
         → cell_at new.medium.world.cells (home old i) ≡ home_cell old i }
 {}
 

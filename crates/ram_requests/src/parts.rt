@@ -1,3 +1,4 @@
+//! The part that a request covers of one logical block, and how its bytes go between that block and the request's.
 ghost use Rattle.std.specs.Prelude.{◌≡◌, ◌+◌, ◌-◌, ◌*◌, ◌<◌, ◌≤◌, length};
 ghost use Rattle.model_bytes.specs.Bytes.{put_at};
 ghost use Rattle.model_sectors.specs.Requests.{start_in, end_in, is_partly, merged_in, filled_by};

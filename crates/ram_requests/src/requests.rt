@@ -1,3 +1,4 @@
+//! A request for sectors, which keeps that it is no longer than a transfer, and which logical blocks it covers.
 ghost use Rattle.std.specs.Prelude.{◌≡◌, ◌+◌, ◌<◌, ◌≤◌, MatchOption};
 ghost use Rattle.model_sectors.specs.Requests.{block_with, blocks_covered, start_in, end_in};
 ghost use Rattle.model_commands.specs.declared.TheConstants.{TRANSFER_LIMIT};
