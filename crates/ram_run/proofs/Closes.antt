@@ -3,15 +3,16 @@ use Rattle.std.specs.Prelude.{◌≡◌, ℕ, Bool, true, Option, Some, IfSome, 
 use Rattle.std.specs.Bool.{OnTrue}
 use Rattle.std.proofs.Common.{sym, ap, subst}
 use Rattle.ram_run.specs.declared.status.Status.{Status}
-use Rattle.ram_run.specs.Turn.{Beginning}
-use Rattle.ram_run.specs.Outcome.{Begins, IsTold, Leaves, bytes_returned}
+use Rattle.ram_run.specs.Progress.{Beginning}
+use Rattle.ram_run.specs.Endings.{Begins, IsBeginning, StandsWith, aftermath, bytes_returned}
 
 -- the same where the image was handed back
-pub leaves_there : (first : Beginning) (written image image' : Option (List ℕ)) (status : Status) → image' ≡ image → Leaves first written image status → Leaves first written image' status
-leaves_there first written image image' status same leaves = subst (λ o. Leaves first written o status) (sym same) leaves
+pub leaves_there : (first : Beginning) (left written image image' : Option (List ℕ)) (status : Status) → image' ≡ image → StandsWith first (aftermath left written image) status
+    → StandsWith first (aftermath left written image') status
+leaves_there first left written image image' status same leaves = subst (λ o. StandsWith first (aftermath left written o) status) (sym same) leaves
 
 -- what is told, of the image that was opened
-pub begins_told : {X : Type 0} (bytes_of : X → Option (List ℕ)) (first : Beginning) (left written : Option (List ℕ)) (next : Option X) (tells : Bool) (image : X) → IsTold bytes_of first left written next tells → IfSome next (λ told. image ≡ told)
+pub begins_told : {X : Type 0} (bytes_of : X → Option (List ℕ)) (first : Beginning) (left written : Option (List ℕ)) (next : Option X) (tells : Bool) (image : X) → IsBeginning bytes_of first left written next tells → IfSome next (λ told. image ≡ told)
     → Begins first left written (bytes_of image)
 begins_told bytes_of first left written next tells image told is =
     subst (λ i. Begins first left written (bytes_of i)) (sym (subst (λ o. IfSome o (λ due. image ≡ due)) told.next_is is)) told.begins

@@ -13,7 +13,7 @@ pub mod TouchedTwice
 pub mod Placing
 pub mod Written
 pub mod StatesAfter
-pub mod HeldSteps
+pub mod InsertedSteps
 pub mod Opens
 pub mod Answering
 pub mod Completes

@@ -8,7 +8,7 @@ use Rattle.model_image.specs.Cells.{cells_of}
 use Rattle.model_image.specs.Image.{IsDiscImage, IsImageOf}
 use Rattle.model_sectors.specs.Discs.{Standing, Off, Shown, first_disc}
 use Rattle.ram_run.specs.Homes.{plain_homes}
-use Rattle.ram_run.specs.Machine.{Loaded, IsOpenedOn, IsIn}
+use Rattle.ram_run.specs.States.{Loaded, IsOpenedOn, IsIn}
 
 -- A medium from which a drive may start: it tells its cells, each good one has the bytes of a block, and the power is
 -- off. (This project's own, as all here.)

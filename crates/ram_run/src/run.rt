@@ -1,13 +1,15 @@
 ghost use Rattle.std.specs.Prelude.{ℕ, ◌⊎◌, map};
 ghost use Rattle.ram_run.specs.declared.help.TheConstants.{HELP, VERSION};
-ghost use Rattle.ram_run.specs.Turn.{Beginning, counts_of};
+ghost use Rattle.ram_run.specs.Progress.{Beginning};
+ghost use Rattle.ram_run.specs.RunCounts.{counts_of};
 ghost use Rattle.ram_run.specs.Completes.{IsInLanguage, BeginsWithDisc, NoneRose, IsComplete};
-ghost use Rattle.ram_run.specs.Words.{IsRunImage, IsHelp, IsVersion, UsageRule, IsUnread, IsUntouched, UntouchedByUsage, WritesText, FormRule};
-ghost use Rattle.ram_run.specs.Outcome.{IsTold, IsUnopened, IsNoUsage, Leaves, StatusCounts, bytes_returned};
+ghost use Rattle.ram_run.specs.Words.{IsRunImage, IsHelp, IsVersion, UsageRule, IsUnused, IsUntouched, UntouchedByUsage, WritesText, FormRule};
+ghost use Rattle.ram_run.specs.Endings.{IsBeginning, IsUnopened, IsNoUsage, StandsWith, StatusCounts, aftermath, bytes_returned};
 
 use crate::help::{HELP, VERSION};
 use crate::plain::PlainDisc;
-use crate::serve::{Desk, serve};
+use crate::serve::serve;
+use crate::state::RunState;
 use crate::status::Status;
 use ram_outside::{Opened, Opener, Sink, Source};
 use ram_text::hand_over;
@@ -36,12 +38,12 @@ pub fn run<S: Source, K: Sink, O: Opener>(
     ensures usage { UsageRule (map (λ word. word.now) words.now) result }
     ensures untouched { UntouchedByUsage (S.left script.old) (S.left script.new) (K.written report.old) (K.written report.new) (O.returned opener.old) (O.returned opener.new) result }
     ensures causes { StatusCounts (counts_of (S.faults script.old) (K.faults report.old) (O.faults opener.old)) (counts_of (S.faults script.new) (K.faults report.new) (O.faults opener.new)) result }
-    ensures help { IsHelp (map (λ word. word.now) words.now) → IsUnread (S.left script.old) (S.left script.new) (O.returned opener.old) (O.returned opener.new) × WritesText (K.written report.old) (K.written report.new) HELP.now result }
-    ensures version { IsVersion (map (λ word. word.now) words.now) → IsUnread (S.left script.old) (S.left script.new) (O.returned opener.old) (O.returned opener.new) × WritesText (K.written report.old) (K.written report.new) VERSION.now result }
-    ensures run { (first : Beginning) → IsRunImage (map (λ word. word.now) words.now) → IsTold O.Image.bytes first (S.left script.old) (K.written report.old) (O.next opener.old) O.tells
-        → Leaves first (K.written report.new) (bytes_returned O.Image.bytes (O.returned opener.new)) result
+    ensures help { IsHelp (map (λ word. word.now) words.now) → IsUnused (S.left script.old) (S.left script.new) (O.returned opener.old) (O.returned opener.new) × WritesText (K.written report.old) (K.written report.new) HELP.now result }
+    ensures version { IsVersion (map (λ word. word.now) words.now) → IsUnused (S.left script.old) (S.left script.new) (O.returned opener.old) (O.returned opener.new) × WritesText (K.written report.old) (K.written report.new) VERSION.now result }
+    ensures run { (first : Beginning) → IsRunImage (map (λ word. word.now) words.now) → IsBeginning O.Image.bytes first (S.left script.old) (K.written report.old) (O.next opener.old) O.tells
+        → StandsWith first (aftermath (S.left script.new) (K.written report.new) (bytes_returned O.Image.bytes (O.returned opener.new))) result
         ⊎ (IsUnopened result × IsUntouched (S.left script.old) (S.left script.new) (K.written report.old) (K.written report.new) (O.returned opener.old) (O.returned opener.new)) }
-    ensures completes { (first : Beginning) → IsRunImage (map (λ word. word.now) words.now) → IsTold O.Image.bytes first (S.left script.old) (K.written report.old) (O.next opener.old) O.tells
+    ensures completes { (first : Beginning) → IsRunImage (map (λ word. word.now) words.now) → IsBeginning O.Image.bytes first (S.left script.old) (K.written report.old) (O.next opener.old) O.tells
         → IsInLanguage first.script → BeginsWithDisc first
         → NoneRose (counts_of (S.faults script.old) (K.faults report.old) (O.faults opener.old)) (counts_of (S.faults script.new) (K.faults report.new) (O.faults opener.new))
         → IsComplete result }
@@ -88,19 +90,19 @@ fn run_image<S: Source, K: Sink, O: Opener>(
 ) -> Status
     ensures other { IsNoUsage result }
     ensures causes { StatusCounts (counts_of (S.faults script.old) (K.faults report.old) (O.faults opener.old)) (counts_of (S.faults script.new) (K.faults report.new) (O.faults opener.new)) result }
-    ensures run { (first : Beginning) → IsTold O.Image.bytes first (S.left script.old) (K.written report.old) (O.next opener.old) O.tells
-        → Leaves first (K.written report.new) (bytes_returned O.Image.bytes (O.returned opener.new)) result
+    ensures run { (first : Beginning) → IsBeginning O.Image.bytes first (S.left script.old) (K.written report.old) (O.next opener.old) O.tells
+        → StandsWith first (aftermath (S.left script.new) (K.written report.new) (bytes_returned O.Image.bytes (O.returned opener.new))) result
         ⊎ (IsUnopened result × IsUntouched (S.left script.old) (S.left script.new) (K.written report.old) (K.written report.new) (O.returned opener.old) (O.returned opener.new)) }
 {
-    let Ok(desk) = Desk::new(alloc) else {
+    let Ok(state) = RunState::new(alloc) else {
         return Status::NoMemory;
     };
-    let mut desk = desk;
+    let mut state = state;
     match opener.open(name) {
         Opened::Failed => Status::ImageFault,
         Opened::Image(image) => {
             let (image, status) = serve::<PlainDisc<O::Image>, S, K>(
-                alloc, image, &mut desk, script, report,
+                alloc, image, &mut state, script, report,
             );
             opener.close(image);
             status
