@@ -5,20 +5,48 @@
 use ram_outside::{FileOpener, StdSink, StdSource};
 use ram_run::run::run;
 use ram_run::status::Status;
+use std::fs::File;
 use std::process::ExitCode;
 use std::rt::{Env, Files};
 use std::{env, io};
 
 fn main(rt: HostRuntime) -> ExitCode {
-    let status = match answer(&rt) {
-        Ok(status) => status,
-        Err(error) => refusal(&error),
+    let status = match hold_places(&rt) {
+        Ok(_places) => answer(&rt),
+        Err(_) => Status::ImageFault,
     };
     ExitCode::from(status as u8)
 }
 
+/// The places of the standard streams that were closed when the program began, each held by the null device.
+#[derive(Drop)]
+struct Places<F: Drop> {
+    input: F,
+    output: F,
+    errors: F,
+}
+
+/// Opens the null device for reading, once for each standard stream. The system gives each file the lowest number that is
+/// free, so that no image comes to stand in the place of a closed stream: a closed input is then an empty script, and
+/// a closed output takes nothing.
+fn hold_places<R: Files>(rt: &R) -> io::Result<Places<R::File>> {
+    Ok(Places {
+        input: File::open(rt, "/dev/null")?,
+        output: File::open(rt, "/dev/null")?,
+        errors: File::open(rt, "/dev/null")?,
+    })
+}
+
 /// Runs the program's words over the standard streams and files.
-fn answer<R: Input + Print + Files + Env + AllocGlobal>(rt: &R) -> io::Result<Status> {
+fn answer<R: Input + Print + Files + Env + AllocGlobal>(rt: &R) -> Status {
+    match run_words(rt) {
+        Ok(status) => status,
+        Err(error) => refusal(&error),
+    }
+}
+
+/// Takes the program's words, and runs them.
+fn run_words<R: Input + Print + Files + Env + AllocGlobal>(rt: &R) -> io::Result<Status> {
     let words: Vec<String> = env::args(rt)?.skip(1).collect(rt.alloc())?;
     let mut texts = Vec::with_capacity(rt.alloc(), words.len())?;
     for word in &words {

@@ -1,3 +1,4 @@
+-- What becomes of the outcome of a call of the system: for the adapters over standard streams and files.
 use Rattle.std.specs.Prelude.{◌≡◌, ℕ, Option, Some, None, Result, MatchResult}
 use Rattle.model_counts.specs.Counts.{counted}
 use Rattle.ram_outside.specs.declared.source.Take.{Take}

@@ -1,3 +1,4 @@
+-- The calls of an object in memory, and which of them fail: for the exact clauses of those objects.
 use Rattle.std.specs.Prelude.{ℕ, List, Contains}
 use Rattle.model_counts.specs.Counts.{counted}
 
@@ -14,8 +15,8 @@ no_calls numbers = record { failing = numbers; made = 0; faults = 0 }
 
 -- The next call is one that fails. Calls are numbered from 1 on, and the number stands still at its type's end.
 -- (This project's own.)
-abbrev pub IsNamed : CallLog → Type 0
-IsNamed log = Contains log.failing (counted log.made 1)
+abbrev pub NextCallFails : CallLog → Type 0
+NextCallFails log = Contains log.failing (counted log.made 1)
 
 -- one call more, and no failure (this project's own)
 abbrev pub with_call : CallLog → CallLog

@@ -1,6 +1,8 @@
-use Rattle.std.specs.Prelude.{◌≡◌, ℕ, ◌+◌, ◌<◌, ◌≤◌, ◌⊎◌, min, Option, Some, None, List, [], ◌++◌, length, take, drop}
+-- Exactly what the objects in memory do at each call: for the forms in memory, and for whoever brings their bytes.
+use Rattle.std.specs.Prelude.{◌≡◌, ℕ, ◌+◌, ◌<◌, ◌≤◌, ◌⊎◌, min, Option, Some, None, List, [], ◌∷◌, ◌++◌, length, take, drop}
 use Rattle.model_bytes.specs.Bytes.{put_at, resized}
-use Rattle.ram_outside.specs.Calls.{CallLog, IsNamed, with_call, with_faults, with_failed_call}
+use Rattle.ram_outside.specs.Calls.{CallLog, NextCallFails, with_call, with_faults, with_failed_call}
+use Rattle.ram_outside.specs.Opener.{OpenerView, opener_view}
 use Rattle.ram_outside.specs.declared.source.Take.{Take}
 use Rattle.ram_outside.specs.declared.source.Take.TheVariants as takes
 use Rattle.ram_outside.specs.declared.sink.Put.{Put}
@@ -32,31 +34,47 @@ pub record ImageState : Type 0 where
   pub room : ℕ
   pub calls : CallLog
 
--- an opener in memory: the image that it still has, the image that was handed back last, and its calls of `open`
--- (this project's own)
+-- an opener in memory: the image that it still has, the image that was handed back last, the names that it was asked
+-- for, in order, and its calls of `open` (this project's own)
 pub record OpenerState : Type 0 where
   pub next : Option ImageState
   pub returned : Option ImageState
+  pub asked : List (List ℕ)
   pub calls : CallLog
 
--- the next n bytes, as many as fit the slice and one piece
-pub record GivesPiece (old new : SourceState) (into : List ℕ) (n : ℕ) : Type 0 where
-  pub unnamed : ¬ IsNamed old.calls
+-- The next n bytes came, as many as fit the slice and one piece; what the slice held behind them stays in it. (This
+-- project's own.)
+pub record GivesPiece (old new : SourceState) (into into' : List ℕ) (n : ℕ) : Type 0 where
+  pub no_failure : ¬ NextCallFails old.calls
   pub some : 0 < n
   pub many : n ≡ min (min old.piece (length into)) (length old.left)
-  pub next : take n into ≡ take n old.left
+  pub next : take n into' ≡ take n old.left
+  pub behind : drop n into' ≡ drop n into
   pub new_state : new ≡ record old { left = drop n old.left; calls = with_call old.calls }
 
--- Exactly what `take` of a source in memory does, by its answer; `into` is what the slice then holds.
--- (This project's own.)
-abbrev pub TakesExactly : SourceState → SourceState → List ℕ → Take → Type 0
-TakesExactly old new into (takes.Got n) = GivesPiece old new into n
-TakesExactly old new into takes.End = (¬ IsNamed old.calls) × (old.left ≡ []) × (new ≡ record old { calls = with_call old.calls })
-TakesExactly old new into takes.Failed = IsNamed old.calls × (new ≡ record old { calls = with_failed_call old.calls })
+-- nothing was left, and nothing but the number of calls changed, the slice neither (this project's own)
+pub record GivesNothing (old new : SourceState) (into into' : List ℕ) : Type 0 where
+  pub no_failure : ¬ NextCallFails old.calls
+  pub ended : old.left ≡ []
+  pub new_state : new ≡ record old { calls = with_call old.calls }
+  pub slice : into' ≡ into
+
+-- the call is one that fails, and nothing but the calls changed, the slice neither (this project's own)
+pub record FailsToGive (old new : SourceState) (into into' : List ℕ) : Type 0 where
+  pub fails : NextCallFails old.calls
+  pub new_state : new ≡ record old { calls = with_failed_call old.calls }
+  pub slice : into' ≡ into
+
+-- Exactly what `take` of a source in memory does, by its answer: the source before and after, and the slice before and
+-- after. (This project's own.)
+abbrev pub TakesExactly : SourceState → SourceState → List ℕ → List ℕ → Take → Type 0
+TakesExactly old new into into' (takes.Got n) = GivesPiece old new into into' n
+TakesExactly old new into into' takes.End = GivesNothing old new into into'
+TakesExactly old new into into' takes.Failed = FailsToGive old new into into'
 
 -- the first n bytes of the piece were written, as many as the sink takes at once
 pub record TakesPiece (old new : SinkState) (piece : List ℕ) (n : ℕ) : Type 0 where
-  pub unnamed : ¬ IsNamed old.calls
+  pub no_failure : ¬ NextCallFails old.calls
   pub many : n ≡ min old.piece (length piece)
   pub written : new.written ≡ old.written ++ take n piece
   pub room : old.room ≤ new.room
@@ -65,7 +83,7 @@ pub record TakesPiece (old new : SinkState) (piece : List ℕ) (n : ℕ) : Type 
 
 -- nothing was written, since the call is one that fails, or room was refused
 pub record RefusesPiece (old new : SinkState) (piece : List ℕ) : Type 0 where
-  pub cause : IsNamed old.calls ⊎ (old.room < length old.written + min old.piece (length piece))
+  pub cause : NextCallFails old.calls ⊎ (old.room < length old.written + min old.piece (length piece))
   pub written : new.written ≡ old.written
   pub room : old.room ≤ new.room
   pub piece_stays : new.piece ≡ old.piece
@@ -77,21 +95,33 @@ PutsExactly old new piece (puts.Took n) = TakesPiece old new piece n
 PutsExactly old new piece puts.Failed = RefusesPiece old new piece
 
 -- Exactly what `len` of an image in memory does, by its answer. (This project's own.)
-abbrev pub TellsLengthExactly : ImageState → ImageState → Length → Type 0
-TellsLengthExactly old new (lengths.Is n) = (¬ IsNamed old.calls) × (n ≡ length old.bytes) × (new ≡ record old { calls = with_call old.calls })
-TellsLengthExactly old new lengths.Failed = IsNamed old.calls × (new ≡ record old { calls = with_failed_call old.calls })
+abbrev pub GivesLengthExactly : ImageState → ImageState → Length → Type 0
+GivesLengthExactly old new (lengths.Is n) = (¬ NextCallFails old.calls) × (n ≡ length old.bytes) × (new ≡ record old { calls = with_call old.calls })
+GivesLengthExactly old new lengths.Failed = NextCallFails old.calls × (new ≡ record old { calls = with_failed_call old.calls })
 
--- Exactly what `read_at` of an image in memory does, by its answer; `into` is what the slice then holds.
--- (This project's own.)
-abbrev pub ReadsExactly : ImageState → ImageState → ℕ → List ℕ → Moved → Type 0
-ReadsExactly old new at into moves.Done = (¬ IsNamed old.calls) × (into ≡ take (length into) (drop at old.bytes)) × (new ≡ record old { calls = with_call old.calls })
-ReadsExactly old new at into moves.Failed = IsNamed old.calls × (new ≡ record old { calls = with_failed_call old.calls })
+-- the slice has the bytes from here on, and nothing but the number of calls changed (this project's own)
+pub record ReadsBytes (old new : ImageState) (at : ℕ) (into' : List ℕ) : Type 0 where
+  pub no_failure : ¬ NextCallFails old.calls
+  pub read : into' ≡ take (length into') (drop at old.bytes)
+  pub new_state : new ≡ record old { calls = with_call old.calls }
+
+-- the call is one that fails, and nothing but the calls changed, the slice neither (this project's own)
+pub record FailsToRead (old new : ImageState) (into into' : List ℕ) : Type 0 where
+  pub fails : NextCallFails old.calls
+  pub new_state : new ≡ record old { calls = with_failed_call old.calls }
+  pub slice : into' ≡ into
+
+-- Exactly what `read_at` of an image in memory does, by its answer: the image before and after, and the slice before
+-- and after. (This project's own.)
+abbrev pub ReadsImageExactly : ImageState → ImageState → ℕ → List ℕ → List ℕ → Moved → Type 0
+ReadsImageExactly old new at into into' moves.Done = ReadsBytes old new at into'
+ReadsImageExactly old new at into into' moves.Failed = FailsToRead old new into into'
 
 -- Exactly what `write_at` of an image in memory does, by its answer: a call that fails writes nothing.
 -- (This project's own.)
 abbrev pub WritesExactly : ImageState → ImageState → ℕ → List ℕ → Moved → Type 0
-WritesExactly old new at from moves.Done = (¬ IsNamed old.calls) × (new ≡ record old { bytes = put_at at from old.bytes; calls = with_call old.calls })
-WritesExactly old new at from moves.Failed = IsNamed old.calls × (new ≡ record old { calls = with_failed_call old.calls })
+WritesExactly old new at from moves.Done = (¬ NextCallFails old.calls) × (new ≡ record old { bytes = put_at at from old.bytes; calls = with_call old.calls })
+WritesExactly old new at from moves.Failed = NextCallFails old.calls × (new ≡ record old { calls = with_failed_call old.calls })
 
 -- the image has these bytes now, no less room, and these calls
 pub record HasBytes (old new : ImageState) (bytes : List ℕ) (calls : CallLog) : Type 0 where
@@ -102,19 +132,28 @@ pub record HasBytes (old new : ImageState) (bytes : List ℕ) (calls : CallLog) 
 -- Exactly what `set_len` of an image in memory does, by its answer: it fails where the call is one that fails, or
 -- where room was refused, and then no byte changes. (This project's own.)
 abbrev pub ResizesExactly : ImageState → ImageState → ℕ → Moved → Type 0
-ResizesExactly old new len moves.Done = (¬ IsNamed old.calls) × HasBytes old new (resized len old.bytes) (with_call old.calls)
-ResizesExactly old new len moves.Failed = (IsNamed old.calls ⊎ (old.room < len)) × HasBytes old new old.bytes (with_failed_call old.calls)
+ResizesExactly old new len moves.Done = (¬ NextCallFails old.calls) × HasBytes old new (resized len old.bytes) (with_call old.calls)
+ResizesExactly old new len moves.Failed = (NextCallFails old.calls ⊎ (old.room < len)) × HasBytes old new old.bytes (with_failed_call old.calls)
 
 -- this image, with no failure counted (this project's own)
 abbrev pub unfailed : ImageState → ImageState
 unfailed image = record image { calls = record image.calls { faults = 0 } }
 
--- Exactly what `open` of an opener in memory does, by its answer: it fails where the call is one that fails, or where
--- the image was given before. (This project's own.)
-abbrev pub OpensExactly : OpenerState → OpenerState → Opened ImageState → Type 0
-OpensExactly old new (openings.Image image) = (¬ IsNamed old.calls) × (old.next ≡ Some image) × (new ≡ record old { next = None; calls = with_call old.calls })
-OpensExactly old new openings.Failed = (IsNamed old.calls ⊎ (old.next ≡ None)) × (new ≡ record old { calls = with_failed_call old.calls })
+-- the opener after it was asked for this name too (this project's own)
+abbrev pub and_asked_now : List ℕ → OpenerState → OpenerState
+and_asked_now name opener = record opener { asked = opener.asked ++ name ∷ [] }
+
+-- Exactly what `open` of this name does of an opener in memory, by its answer: it fails where the call is one that fails,
+-- or where the image was given before; or where memory for the name was refused, and then it asked for nothing.
+-- (This project's own.)
+abbrev pub OpensExactly : List ℕ → OpenerState → OpenerState → Opened ImageState → Type 0
+OpensExactly name old new (openings.Image image) = (¬ NextCallFails old.calls) × (old.next ≡ Some image) × (new ≡ record (and_asked_now name old) { next = None; calls = with_call old.calls })
+OpensExactly name old new openings.Failed = ((NextCallFails old.calls ⊎ (old.next ≡ None)) × (new ≡ record (and_asked_now name old) { calls = with_failed_call old.calls })) ⊎ (new ≡ record old { calls = with_failed_call old.calls })
 
 -- the opener after it took this image back (this project's own)
 abbrev pub after_close : ImageState → OpenerState → OpenerState
 after_close image opener = record opener { returned = Some image; calls = with_faults image.calls.faults opener.calls }
+
+-- what is known of an opener in memory, which is all of it (this project's own)
+abbrev pub view_of : OpenerState → OpenerView ImageState
+view_of opener = opener_view opener.next opener.returned (Some opener.asked) opener.calls.faults

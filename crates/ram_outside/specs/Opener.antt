@@ -1,30 +1,53 @@
-use Rattle.std.specs.Prelude.{◌≡◌, ℕ, ◌≤◌, Bool, Option, Some, IfSome}
+-- What opening an image and taking it back may do: for the trait `Opener`, and for the run that opens the image that it was told.
+use Rattle.std.specs.Prelude.{◌≡◌, ℕ, ◌⊎◌, Bool, Option, Some, IfSome, List, [], ◌∷◌, ◌++◌}
+use Rattle.std.specs.Option.{option_map}
 use Rattle.std.specs.Bool.{OnTrue}
 use Rattle.model_counts.specs.Counts.{Rose, counted}
 use Rattle.ram_outside.specs.declared.opener.Opened.{Opened}
 use Rattle.ram_outside.specs.declared.opener.Opened.TheVariants.{Image, Failed}
 
--- the image that was next is open, and has not failed yet
-pub record Opens {I : Type 0} (faults_of : I → ℕ) (due returned returned' : Option I) (faults faults' : ℕ) (image : I) : Type 0 where
-  pub next : IfSome due (λ told. image ≡ told)
+-- What is known of an opener at one time: the image that it gives next, the one that was handed back last, the names
+-- that it was asked for so far, in order, and how many failures it counted. (This project's own.)
+pub record OpenerView (I : Type 0) : Type 0 where
+  pub next : Option I
+  pub returned : Option I
+  pub asked : Option (List (List ℕ))
+  pub faults : ℕ
+
+-- the opener seen so: next, returned, asked, faults (this project's own)
+abbrev pub opener_view : {I : Type 0} → Option I → Option I → Option (List (List ℕ)) → ℕ → OpenerView I
+opener_view next returned asked faults = record { next = next; returned = returned; asked = asked; faults = faults }
+
+-- the names that were asked for, and then this one (this project's own)
+abbrev pub and_asked : List ℕ → Option (List (List ℕ)) → Option (List (List ℕ))
+and_asked name asked = option_map (λ names. names ++ name ∷ []) asked
+
+-- the image that was next is open and has not failed yet, and the opener was asked for its name and counted nothing
+-- (this project's own)
+pub record Opens {I : Type 0} (faults_of : I → ℕ) (name : List ℕ) (old new : OpenerView I) (image : I) : Type 0 where
+  pub next : IfSome old.next (λ known. image ≡ known)
   pub unfailed : faults_of image ≡ 0
-  pub same : returned' ≡ returned
-  pub count : faults ≤ faults'
+  pub same : new.returned ≡ old.returned
+  pub asked : new.asked ≡ and_asked name old.asked
+  pub count : new.faults ≡ old.faults
 
--- the opener failed and counted it, gives the same image next, and nothing was handed back
-pub record HasFailed {I : Type 0} (next next' returned returned' : Option I) (faults faults' : ℕ) : Type 0 where
-  pub same_next : next' ≡ next
-  pub same : returned' ≡ returned
-  pub count : Rose faults faults'
+-- The opener failed and counted it, gives the same image next, and nothing was handed back. It was asked for the name,
+-- or, where it failed before that, for nothing. (This project's own.)
+pub record OpenerFails {I : Type 0} (name : List ℕ) (old new : OpenerView I) : Type 0 where
+  pub same_next : new.next ≡ old.next
+  pub same : new.returned ≡ old.returned
+  pub asked : (new.asked ≡ and_asked name old.asked) ⊎ (new.asked ≡ old.asked)
+  pub count : Rose old.faults new.faults
 
--- What `open` may do, by its answer: the image that is next, the one handed back last, and the counts, each before
--- and after. (This project's own.)
-abbrev pub OpenRule : {I : Type 0} → (I → ℕ) → Option I → Option I → Option I → Option I → ℕ → ℕ → Opened I → Type 0
-OpenRule faults_of next next' returned returned' faults faults' (Image image) = Opens faults_of next returned returned' faults faults' image
-OpenRule faults_of next next' returned returned' faults faults' Failed = HasFailed next next' returned returned' faults faults'
+-- What `open` of this name may do, by its answer: the opener before and after. (This project's own.)
+abbrev pub OpenRule : {I : Type 0} → (I → ℕ) → List ℕ → OpenerView I → OpenerView I → Opened I → Type 0
+OpenRule faults_of name old new (Image image) = Opens faults_of name old new image
+OpenRule faults_of name old new Failed = OpenerFails name old new
 
--- What `close` does: the image is the one handed back last, and its failures are counted with the opener's.
--- (This project's own.)
-pub record CloseRule {I : Type 0} (tells : Bool) (image_faults : ℕ) (image : I) (returned' : Option I) (faults faults' : ℕ) : Type 0 where
-  pub returned : OnTrue tells (returned' ≡ Some image)
-  pub count : counted faults image_faults ≤ faults'
+-- What `close` does: the image is the one handed back last, where that is known; exactly its failures are counted with
+-- the opener's; and what is given next and what was asked for stay. (This project's own.)
+pub record CloseRule {I : Type 0} (knows : Bool) (faults_of : I → ℕ) (image : I) (old new : OpenerView I) : Type 0 where
+  pub returned : OnTrue knows (new.returned ≡ Some image)
+  pub same_next : new.next ≡ old.next
+  pub same_asked : new.asked ≡ old.asked
+  pub count : new.faults ≡ counted old.faults (faults_of image)

@@ -1,25 +1,26 @@
+-- What a `take` may do, by its answer: for the trait `Source`, and for the reader of lines above it.
 use Rattle.std.specs.Prelude.{◌≡◌, ℕ, ◌<◌, ◌≤◌, Option, is_some, List, length, take}
 use Rattle.std.specs.Io.KnownBytes.{Consumes, IsAtEnd}
 use Rattle.model_counts.specs.Counts.{Rose}
 use Rattle.ram_outside.specs.declared.source.Take.{Take}
 use Rattle.ram_outside.specs.declared.source.Take.TheVariants.{Got, End, Failed}
 
--- n bytes came, at least one: the next of those that were left
+-- n bytes came, at least one: the next of those that were left; nothing was counted
 pub record GivesNext (before after : Option (List ℕ)) (faults faults' : ℕ) (into : List ℕ) (n : ℕ) : Type 0 where
   pub some : 0 < n
   pub within : n ≤ length into
   pub next : Consumes before after (take n into)
   pub told : is_some after ≡ is_some before
-  pub count : faults ≤ faults'
+  pub count : faults' ≡ faults
 
--- nothing was left, and nothing changed
+-- nothing was left, and nothing changed, the count neither
 pub record HasEnded (before after : Option (List ℕ)) (faults faults' : ℕ) : Type 0 where
   pub ended : IsAtEnd before
   pub same : after ≡ before
-  pub count : faults ≤ faults'
+  pub count : faults' ≡ faults
 
 -- the source failed and counted it, and as much is left as before
-pub record HasFailed (before after : Option (List ℕ)) (faults faults' : ℕ) : Type 0 where
+pub record SourceFails (before after : Option (List ℕ)) (faults faults' : ℕ) : Type 0 where
   pub same : after ≡ before
   pub count : Rose faults faults'
 
@@ -28,4 +29,4 @@ pub record HasFailed (before after : Option (List ℕ)) (faults faults' : ℕ) :
 abbrev pub TakeRule : Option (List ℕ) → Option (List ℕ) → ℕ → ℕ → List ℕ → Take → Type 0
 TakeRule before after faults faults' into (Got n) = GivesNext before after faults faults' into n
 TakeRule before after faults faults' into End = HasEnded before after faults faults'
-TakeRule before after faults faults' into Failed = HasFailed before after faults faults'
+TakeRule before after faults faults' into Failed = SourceFails before after faults faults'

@@ -1,3 +1,4 @@
+//! How an error of the system becomes one failure more in a count. It touches that count alone.
 ghost use Rattle.ram_outside.specs.Adapters.{CountsError};
 
 use std::io;

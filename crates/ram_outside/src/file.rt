@@ -1,8 +1,8 @@
-//! Disc images that are files. They tell no bytes; what the system does is trusted.
+//! Disc images that are files. No bytes of them are known; what the system does is trusted.
 ghost use Rattle.std.specs.Prelude.{◌≡◌, ℕ, false, None};
 ghost use Rattle.model_counts.specs.Counts.{counted};
 ghost use Rattle.ram_outside.specs.Image.{LenRule, ReadAtRule, WriteAtRule, SetLenRule};
-ghost use Rattle.ram_outside.specs.Opener.{OpenRule, CloseRule};
+ghost use Rattle.ram_outside.specs.Opener.{OpenRule, CloseRule, opener_view};
 ghost use Rattle.ram_outside.specs.Adapters.{count_after_len, count_after_move, count_after_open};
 
 use crate::errors::count_error;
@@ -124,12 +124,15 @@ impl<R: Files> Opener for FileOpener<R> {
 
     ghost returned = { λ _. None };
 
+    ghost asked = { λ _. None };
+
     ghost faults = { λ o. o };
 
     /// Opens the file of this path to be read and written. It is made, empty, where there is none; what it holds
     /// stays.
     fn open(&mut self, name: &str) -> Opened<FileImage<R::File>>
-        ensures rule { OpenRule (λ i. i) None None None None self.old self.new result }
+        ensures rule { OpenRule (λ i. i) name.now
+            (opener_view None None None self.old) (opener_view None None None self.new) result }
         ensures count { self.new ≡ count_after_open result self.old }
     {
         let mut options = OpenOptions::new();
@@ -141,7 +144,8 @@ impl<R: Files> Opener for FileOpener<R> {
     }
 
     fn close(&mut self, image: FileImage<R::File>)
-        ensures rule { CloseRule false image image None self.old self.new }
+        ensures rule { CloseRule false (λ i. i) image
+            (opener_view None None None self.old) (opener_view None None None self.new) }
         ensures count { self.new ≡ counted self.old image }
     {
         self.faults = self.faults.saturating_add(image.faults);

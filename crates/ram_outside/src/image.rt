@@ -1,3 +1,4 @@
+//! The trait `Image`: the bytes of a disc image, read and written at places. Definitions alone.
 ghost use Rattle.std.specs.Prelude.{ℕ, ◌+◌, ◌≤◌, Option, List, length};
 ghost use Rattle.std.specs.Option.{ForSome};
 ghost use Rattle.ram_outside.specs.Image.{LenRule, ReadAtRule, WriteAtRule, SetLenRule};
@@ -22,29 +23,30 @@ pub enum Moved {
 
 /// The bytes of a disc image, such as a file's.
 pub trait Image {
-    /// The bytes, where they are told.
+    /// The bytes, where they are known.
     ghost bytes: { Self → Option (List ℕ) };
 
     /// How often the image has failed. It never falls, and stands still at 2^64 - 1.
     ghost faults: { Self → ℕ };
 
-    /// The number of bytes. It changes none.
+    /// The number of bytes, from 0 to 2^64 - 1. It changes none.
     fn len(&mut self) -> Length
         ensures { LenRule (bytes self.old) (bytes self.new) (faults self.old) (faults self.new) result };
 
-    /// Reads the bytes from `at` on into the whole of `into`. It changes no byte of the image.
+    /// Reads the bytes from byte `at` on into the whole of `into`; the range lies inside the image. It changes no byte
+    /// of the image. `Failed` says nothing of what `into` then holds.
     fn read_at(&mut self, at: u64, into: &mut [u8]) -> Moved
         requires { ForSome (bytes self.old) (λ held. at + length into.old ≤ length held) }
         ensures { ReadAtRule (bytes self.old) (bytes self.new) (faults self.old) (faults self.new) at into.new result };
 
-    /// Writes all of `from` at `at` and on. Where it fails, each byte of that range is the old or the new one,
-    /// and nothing else differs.
+    /// Writes all of `from` from byte `at` on; the range lies inside the image. Where it fails, each byte of that range
+    /// is the old or the new one, and nothing else differs.
     fn write_at(&mut self, at: u64, from: &[u8]) -> Moved
         requires { ForSome (bytes self.old) (λ held. at + length from.now ≤ length held) }
         ensures { WriteAtRule (bytes self.old) (bytes self.new)
             (faults self.old) (faults self.new) at from.now result };
 
-    /// Keeps the bytes below both lengths, and grows with zeros. Where it fails, the image is as it was or as
+    /// Makes the image `len` bytes long: keeps the bytes below both lengths, and grows with zeros. Where it fails, the image is as it was or as
     /// after a call that is done.
     fn set_len(&mut self, len: u64) -> Moved
         ensures { SetLenRule (bytes self.old) (bytes self.new) (faults self.old) (faults self.new) len result };

@@ -1,5 +1,5 @@
-//! The outside held in memory, for tests and for callers that bring their bytes. Each form tells its bytes, fails
-//! at the calls that it is told to, and is proved against its trait.
+//! The outside held in memory, for tests and for callers that bring their bytes. Of each form all bytes are known; it
+//! fails at the calls that it was given, and is proved against its trait.
 
 mod calls;
 pub mod image;

@@ -1,5 +1,6 @@
-ghost use Rattle.std.specs.Prelude.{ℕ, Bool, Option};
-ghost use Rattle.ram_outside.specs.Opener.{OpenRule, CloseRule};
+//! The trait `Opener`: opens images by name, and takes them back. Definitions alone.
+ghost use Rattle.std.specs.Prelude.{ℕ, Bool, Option, List};
+ghost use Rattle.ram_outside.specs.Opener.{OpenRule, CloseRule, opener_view};
 
 use crate::image::Image;
 
@@ -15,25 +16,32 @@ pub enum Opened<I> {
 pub trait Opener {
     type Image: Image;
 
-    /// Whether openers of this kind tell what was handed back.
+    /// Whether of openers of this kind it is known what was handed back.
     ghost tells: { Bool };
 
-    /// The image that the next `open` gives, where it is told.
+    /// The image that the next `open` gives, where it is known.
     ghost next: { Self → Option Self.Image };
 
-    /// The image that was handed back last, where there was one and it is told.
+    /// The image that was handed back last, where there was one and it is known.
     ghost returned: { Self → Option Self.Image };
+
+    /// The names that were asked for so far, in order, where they are known.
+    ghost asked: { Self → Option (List (List ℕ)) };
 
     /// How often the opener has failed, or an image that it took back. It never falls, and stands still at 2^64 - 1.
     ghost faults: { Self → ℕ };
 
-    /// Opens the image of this name. Its count of failures begins at 0.
+    /// Opens the image of this name. Its count of failures begins at 0. `Failed` says that no image is open, and one
+    /// failure more is counted.
     fn open(&mut self, name: &str) -> Opened<Self::Image>
-        ensures { OpenRule Self.Image.faults (next self.old) (next self.new)
-            (returned self.old) (returned self.new) (faults self.old) (faults self.new) result };
+        ensures { OpenRule Self.Image.faults name.now
+            (opener_view (next self.old) (returned self.old) (asked self.old) (faults self.old))
+            (opener_view (next self.new) (returned self.new) (asked self.new) (faults self.new)) result };
 
-    /// Takes an image back, and adds its failures to the opener's.
+    /// Takes an image back, and adds its failures to the opener's; they alone are counted. What the next `open`
+    /// gives stays.
     fn close(&mut self, image: Self::Image)
-        ensures { CloseRule tells (Self.Image.faults image) image (returned self.new)
-            (faults self.old) (faults self.new) };
+        ensures { CloseRule tells Self.Image.faults image
+            (opener_view (next self.old) (returned self.old) (asked self.old) (faults self.old))
+            (opener_view (next self.new) (returned self.new) (asked self.new) (faults self.new)) };
 }

@@ -1,10 +1,11 @@
+//! The trait `Sink`: bytes that go out in pieces. Definitions alone.
 ghost use Rattle.std.specs.Prelude.{ℕ, ◌<◌, Option, List, length};
 ghost use Rattle.ram_outside.specs.Sink.{PutRule};
 
 /// What a call of [`Sink::put`] took.
 #[derive(Clone, Copy, Debug, PartialEq, Eq)]
 pub enum Put {
-    /// So many bytes, at least one, from the front of the piece.
+    /// So many bytes, at least one, from the beginning of the piece.
     Took(usize),
     /// The sink took nothing, failed, and counted it.
     Failed,
@@ -12,13 +13,14 @@ pub enum Put {
 
 /// Where bytes are written one after another, such as a report.
 pub trait Sink {
-    /// The bytes that were written, where they are told.
+    /// The bytes that were written, where they are known.
     ghost written: { Self → Option (List ℕ) };
 
     /// How often the sink has failed. It never falls, and stands still at 2^64 - 1.
     ghost faults: { Self → ℕ };
 
-    /// Writes a front of `piece`, as many bytes as the sink takes at once.
+    /// Writes the first bytes of `piece`, which has one byte at least: as many as the sink takes at once, from 1 to
+    /// all. `Took` says how many. `Failed` says that nothing was written, and one failure more is counted.
     fn put(&mut self, piece: &[u8]) -> Put
         requires { 0 < length piece.now }
         ensures { PutRule (written self.old) (written self.new) (faults self.old) (faults self.new) piece.now result };

@@ -1,4 +1,4 @@
-//! Standard input and standard output. They tell no bytes; what the system does is trusted.
+//! Standard input and standard output. No bytes of them are known; what the system does is trusted.
 ghost use Rattle.std.specs.Prelude.{◌≡◌, ℕ, ◌<◌, ◌≤◌, None, IfOk, length};
 ghost use Rattle.ram_outside.specs.Source.{TakeRule};
 ghost use Rattle.ram_outside.specs.Sink.{PutRule};
@@ -97,7 +97,7 @@ impl<R: Print> Sink for StdSink<R> {
     }
 }
 
-/// Writes a front of the piece, at least one byte of it.
+/// Writes the first bytes of the piece, at least one.
 fn write_some(rt: &impl Print, piece: &[u8]) -> io::Result<usize>
     ensures { IfOk result (λ count. (0 < count) × (count ≤ length piece.now)) }
 {
@@ -112,15 +112,17 @@ mod tests {
     use super::{StdSink, StdSource};
     use crate::sink::{Put, Sink};
     use crate::source::{Source, Take};
-    use std::alloc::Allocator;
+    use std::alloc::{AllocError, Allocator};
     use std::io;
     use std::io::{BufRead, Lines};
+    use std::test::Fail;
 
-    /// What a person typed.
-    struct Typed(&'static [u8]);
+    /// What a person typed, or what came through a pipe.
+    #[derive(Clone, Copy)]
+    struct Typed<'a>(&'a [u8]);
 
-    impl Input for Typed {
-        type Reader = &'static [u8];
+    impl<'a> Input for Typed<'a> {
+        type Reader = &'a [u8];
 
         fn read_line<A: Allocator + Clone>(&self, buf: &mut String<A>) -> io::Result<usize> {
             self.reader().read_line(buf)
@@ -133,6 +135,37 @@ mod tests {
         fn reader(&self) -> Self::Reader {
             self.0
         }
+    }
+
+    /// Puts all that the source gives behind what came before, a piece at a time.
+    fn take_all<S: Source>(
+        source: &mut S,
+        into: &mut [u8],
+        came: &mut Vec<u8>,
+    ) -> Result<(), AllocError>
+        requires { 0 < length into.old }
+    {
+        for _ in 0..100 {
+            let Take::Got(count) = source.take(into) else {
+                break;
+            };
+            came.extend_from_slice(&into[..count])?;
+        }
+        Ok(())
+    }
+
+    #[test]
+    fn every_byte_of_a_piece_comes(rt: HostRuntime) -> Result<(), Fail> {
+        let mut typed = Vec::new(rt.alloc());
+        for number in 0..5_000u32 {
+            typed.extend_from_slice(&number.to_be_bytes())?;
+        }
+        let mut source = StdSource::new(&Typed(typed.as_slice()));
+        let mut into = vec![in rt.alloc(); 0; 7_000]?;
+        let mut came = Vec::new(rt.alloc());
+        take_all(&mut source, &mut into, &mut came)?;
+        assert!(rt; came.as_slice() == typed.as_slice(), "a byte is missing");
+        Ok(())
     }
 
     #[test]

@@ -4,7 +4,8 @@ use Rattle.std.proofs.lemmas.List.{take-append-le}
 use Rattle.std.specs.Io.KnownBytes.{prepend_known, Consumes}
 use Rattle.ram_text.specs.declared.lines.NextLine.{NextLine}
 use Rattle.ram_text.specs.declared.lines.NextLine.TheVariants.{Line, End, LineTooLong, ScriptTooLong, Failed}
-use Rattle.ram_text.specs.Lines.{Reading, HasNoFeed, NextLineRule}
+use Rattle.ram_outside.specs.declared.source.Source.{Ghosts as Sources}
+use Rattle.ram_text.specs.Lines.{Reading, HasNoFeed, GivesLine, NothingWent, LineIsTooLong, ScriptIsTooLong, left_of, NextLineRule}
 use Rattle.ram_text.specs.Steps.{CutRule}
 
 -- a front of what is buffered is the same front of what is left
@@ -21,8 +22,16 @@ told_alike : (held after : List ℕ) (rest : Option (List ℕ)) → is_some (pre
 told_alike held after None = refl
 told_alike held after (Some ys) = refl
 
-answered : (before after : Reading) (rest : Option (List ℕ)) (first faults : ℕ) → first ≤ faults → (answer : NextLine) → CutRule before after (Some answer)
-    → NextLineRule (prepend_known before.buffered rest) (prepend_known after.buffered rest) before.taken after.taken after.line first faults answer
+-- what an answer that the buffered bytes decide says
+abbrev pub Answered : Option (List ℕ) → Option (List ℕ) → ℕ → ℕ → List ℕ → ℕ → ℕ → NextLine → Type 0
+Answered left left' taken taken' line faults faults' Line = GivesLine left left' taken taken' line faults faults'
+Answered left left' taken taken' line faults faults' LineTooLong = NothingWent left left' taken taken' line × LineIsTooLong left taken × (faults' ≡ faults)
+Answered left left' taken taken' line faults faults' ScriptTooLong = NothingWent left left' taken taken' line × ScriptIsTooLong left taken × (faults' ≡ faults)
+Answered left left' taken taken' line faults faults' End = ⊥
+Answered left left' taken taken' line faults faults' Failed = ⊥
+
+answered : (before after : Reading) (rest : Option (List ℕ)) (first faults : ℕ) → faults ≡ first → (answer : NextLine) → CutRule before after (Some answer)
+    → Answered (prepend_known before.buffered rest) (prepend_known after.buffered rest) before.taken after.taken after.line first faults answer
 answered before after rest first faults count Line cut = record {
   ends = inl (record { went = line_left before.buffered after.line after.buffered rest cut.parts; grew = cut.grew });
   one = cut.one;
@@ -54,8 +63,16 @@ answered before after rest first faults count Failed cut = elim cut [ ]
 
 -- the same, said of what was left at first
 pub answered_at_first : (held : List ℕ) (taken : ℕ) (before after : Reading) (left rest : Option (List ℕ)) (first faults : ℕ)
-    → prepend_known before.buffered rest ≡ prepend_known held left → before.taken ≡ taken → first ≤ faults → (answer : NextLine) → CutRule before after (Some answer)
-    → NextLineRule (prepend_known held left) (prepend_known after.buffered rest) taken after.taken after.line first faults answer
+    → prepend_known before.buffered rest ≡ prepend_known held left → before.taken ≡ taken → faults ≡ first → (answer : NextLine) → CutRule before after (Some answer)
+    → Answered (prepend_known held left) (prepend_known after.buffered rest) taken after.taken after.line first faults answer
 answered_at_first held taken before after left rest first faults same stood count answer cut =
-    subst (λ (all : Option (List ℕ)). NextLineRule all (prepend_known after.buffered rest) taken after.taken after.line first faults answer) same
-    (subst (λ (t : ℕ). NextLineRule (prepend_known before.buffered rest) (prepend_known after.buffered rest) t after.taken after.line first faults answer) stood (answered before after rest first faults count answer cut))
+    subst (λ (all : Option (List ℕ)). Answered all (prepend_known after.buffered rest) taken after.taken after.line first faults answer) same
+    (subst (λ (t : ℕ). Answered (prepend_known before.buffered rest) (prepend_known after.buffered rest) t after.taken after.line first faults answer) stood (answered before after rest first faults count answer cut))
+
+-- it is what the rule says of it
+pub rule_of : {S : Type 0} (sources : Sources S) (r r' : Reading) (s s' : S) (answer : NextLine) → Answered (left_of sources r s) (left_of sources r' s') r.taken r'.taken r'.line (sources.faults s) (sources.faults s') answer → NextLineRule sources r r' s s' answer
+rule_of sources r r' s s' Line says = says
+rule_of sources r r' s s' LineTooLong says = says
+rule_of sources r r' s s' ScriptTooLong says = says
+rule_of sources r r' s s' End says = elim says [ ]
+rule_of sources r r' s s' Failed says = elim says [ ]

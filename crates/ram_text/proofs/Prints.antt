@@ -5,7 +5,7 @@ use Rattle.std.proofs.Math.Seq.{take-append-add}
 use Rattle.std.specs.Io.KnownBytes.{append_known}
 use Rattle.ram_text.specs.declared.gathered.Print.{Print}
 use Rattle.ram_text.specs.declared.gathered.Print.TheVariants.{Done, Failed}
-use Rattle.ram_text.specs.Writer.{IsPut, IsCutOff, PrintRule}
+use Rattle.ram_text.specs.Writer.{IsPut, IsCutShort, PrintRule}
 use Rattle.ram_text.proofs.Puts.{append_known-twice}
 
 -- both texts were put
@@ -16,7 +16,7 @@ put_both a b c f g h s t first second = record {
 }
 
 -- the first was put, and the second was cut off
-pub put_cut : (a b c : Option (List ℕ)) (f g h : ℕ) (s t : List ℕ) → IsPut a b f g s → IsCutOff b c g h t → IsCutOff a c f h (s ++ t)
+pub put_cut : (a b c : Option (List ℕ)) (f g h : ℕ) (s t : List ℕ) → IsPut a b f g s → IsCutShort b c g h t → IsCutShort a c f h (s ++ t)
 put_cut a b c f g h s t first second = record {
   n = length s + second.n;
   grew = second.grew ∙ ap (λ (x : Option (List ℕ)). append_known x (take second.n t)) first.grew ∙ append_known-twice a s (take second.n t) ∙ ap (append_known a) (sym (take-append-add s t second.n));
@@ -24,7 +24,7 @@ put_cut a b c f g h s t first second = record {
 }
 
 -- the first was cut off, and nothing of the second came
-pub cut_first : (a b : Option (List ℕ)) (f g : ℕ) (s t : List ℕ) → IsCutOff a b f g s → IsCutOff a b f g (s ++ t)
+pub cut_first : (a b : Option (List ℕ)) (f g : ℕ) (s t : List ℕ) → IsCutShort a b f g s → IsCutShort a b f g (s ++ t)
 cut_first a b f g s t first = record {
   n = min first.n (length s);
   grew = first.grew ∙ ap (append_known a) (sym (take_min first.n s) ∙ sym (take-append-le (min first.n (length s)) s t (omega arith)));

@@ -8,7 +8,7 @@ use Rattle.hex.proofs.HexLemmas.{IsDigits-lower_digits}
 use Rattle.ram_sense.specs.declared.sense.Sense.{Sense}
 use Rattle.ram_sense.specs.declared.answer.Answer.{Answer}
 use Rattle.ram_sense.specs.declared.answer.Answer.TheVariants.{Good, Check, Cut, Off, Fault, NoMemory}
-use Rattle.ram_text.specs.ReportLines.{answer_words, sense_code, info_words, IsInRange, IsTold}
+use Rattle.ram_text.specs.ReportLines.{answer_words, sense_code, info_words, SenseFits, IsTold}
 
 digit_same : (a b : ℕ) → a < 16 → b < 16 → get_or lower_digits a 0 ≡ get_or lower_digits b 0 → a ≡ b
 digit_same a b low low' h =
@@ -25,7 +25,7 @@ pub record SameCode (s t : Sense) : Type 0 where
   pub asc : s.asc ≡ t.asc
   pub ascq : s.ascq ≡ t.ascq
 
-code_same : (s t : Sense) → IsInRange s → IsInRange t → sense_code s ≡ sense_code t → SameCode s t
+code_same : (s t : Sense) → SenseFits s → SenseFits t → sense_code s ≡ sense_code t → SameCode s t
 unfolding encode_with
 code_same s t r q h =
     let key : s.key % 16 ≡ t.key % 16 = digit_same (s.key % 16) (t.key % 16) (omega arith) (omega arith) (ap (λ xs. get_or xs 0 0) h) in
@@ -53,7 +53,7 @@ sense_same s t code info =
     ap (λ k. make k s.asc s.ascq s.info) code.key ∙ ap (λ c. make t.key c s.ascq s.info) code.asc
     ∙ ap (λ q. make t.key t.asc q s.info) code.ascq ∙ ap (λ i. make t.key t.asc t.ascq i) info
 
-check_same : (s t : Sense) → IsInRange s → IsInRange t → answer_words (Check s) ≡ answer_words (Check t) → s ≡ t
+check_same : (s t : Sense) → SenseFits s → SenseFits t → answer_words (Check s) ≡ answer_words (Check t) → s ≡ t
 check_same s t r q h =
     let behind : sense_code s ++ info_words s.info ≡ sense_code t ++ info_words t.info = append_cancel_left (codes "check ") (sense_code s ++ info_words s.info) (sense_code t ++ info_words t.info) h in
     let code : sense_code s ≡ sense_code t =

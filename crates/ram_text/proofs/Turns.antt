@@ -6,7 +6,7 @@ use Rattle.std.proofs.lemmas.List.{append-nil, map-id, flat_map_more, take_all}
 use Rattle.std.proofs.lemmas.List.FromFn.{map-range_with_len_more}
 use Rattle.hex.specs.Hex.{encode_lower, encode_with, lower_digits}
 use Rattle.ram_text.specs.declared.gathered.Print.{Print}
-use Rattle.ram_text.specs.Writer.{IsPut, IsCutOff, PrintRule}
+use Rattle.ram_text.specs.Writer.{IsPut, IsCutShort, PrintRule}
 use Rattle.ram_text.specs.ReportLines.{sectors_text, sector_text, sector_at}
 use Rattle.ram_text.proofs.Prints.{put_both, put_cut, cut_first}
 
@@ -31,12 +31,12 @@ front T more k (suc n) =
     (before.0 ++ one.0, ap T (let e : k + suc n ≡ k + n + 1 = omega arith in e) ∙ one.1 ∙ ap (λ xs. xs ++ one.0) before.1 ∙ append_assoc (T k) before.0 one.0)
 
 -- a piece was cut off
-pub piece_cut : (T : ℕ → List ℕ) → ((k : ℕ) → (rest : List ℕ) × (T (k + 1) ≡ T k ++ rest)) → (a b c : Option (List ℕ)) (f g h k n : ℕ) (piece : List ℕ) → k < n → IsPut a b f g (T k) → IsCutOff b c g h piece → T (k + 1) ≡ T k ++ piece → IsCutOff a c f h (T n)
+pub piece_cut : (T : ℕ → List ℕ) → ((k : ℕ) → (rest : List ℕ) × (T (k + 1) ≡ T k ++ rest)) → (a b c : Option (List ℕ)) (f g h k n : ℕ) (piece : List ℕ) → k < n → IsPut a b f g (T k) → IsCutShort b c g h piece → T (k + 1) ≡ T k ++ piece → IsCutShort a c f h (T n)
 piece_cut T every a b c f g h k n piece below so_far cut more =
     let all = front T every (k + 1) (n - (k + 1)) in
     let whole : T n ≡ T (k + 1) ++ all.0 = ap T (let e : n ≡ k + 1 + (n - (k + 1)) = omega arith in e) ∙ all.1 in
-    subst (IsCutOff a c f h) (sym whole)
-    (cut_first a c f h (T (k + 1)) all.0 (subst (IsCutOff a c f h) (sym more) (put_cut a b c f g h (T k) piece so_far cut)))
+    subst (IsCutShort a c f h) (sym whole)
+    (cut_first a c f h (T (k + 1)) all.0 (subst (IsCutShort a c f h) (sym more) (put_cut a b c f g h (T k) piece so_far cut)))
 
 -- one sector more
 range_more : (n : ℕ) → range_with_len 0 (n + 1) ≡ range_with_len 0 n ++ n ∷ []
@@ -103,11 +103,11 @@ no_digits_put a f bytes = subst (IsPut a a f f) (digits_none bytes) (nothing_put
 pub renamed : (a b : Option (List ℕ)) (f g : ℕ) (s s' t : List ℕ) (answer : Print) → s ≡ s' → PrintRule a b f g (s ++ t) answer → PrintRule a b f g (s' ++ t) answer
 renamed a b f g s s' t answer is rule = subst (λ (x : List ℕ). PrintRule a b f g (x ++ t) answer) is rule
 
-pub renamed_cut : (a b : Option (List ℕ)) (f g : ℕ) (s s' t : List ℕ) → s ≡ s' → IsCutOff a b f g (s ++ t) → IsCutOff a b f g (s' ++ t)
-renamed_cut a b f g s s' t is cut = subst (λ (x : List ℕ). IsCutOff a b f g (x ++ t)) is cut
+pub renamed_cut : (a b : Option (List ℕ)) (f g : ℕ) (s s' t : List ℕ) → s ≡ s' → IsCutShort a b f g (s ++ t) → IsCutShort a b f g (s' ++ t)
+renamed_cut a b f g s s' t is cut = subst (λ (x : List ℕ). IsCutShort a b f g (x ++ t)) is cut
 
 pub regrouped : (a b : Option (List ℕ)) (f g : ℕ) (s t u v : List ℕ) (answer : Print) → PrintRule a b f g (s ++ (t ++ (u ++ v))) answer → PrintRule a b f g (s ++ (t ++ u ++ v)) answer
 regrouped a b f g s t u v answer rule = subst (λ (x : List ℕ). PrintRule a b f g (s ++ x) answer) (sym (append_assoc t u v)) rule
 
-pub all_cut : (a b : Option (List ℕ)) (f g : ℕ) (s t : List ℕ) → s ≡ t → IsCutOff a b f g s → IsCutOff a b f g t
-all_cut a b f g s t is cut = subst (IsCutOff a b f g) is cut
+pub all_cut : (a b : Option (List ℕ)) (f g : ℕ) (s t : List ℕ) → s ≡ t → IsCutShort a b f g s → IsCutShort a b f g t
+all_cut a b f g s t is cut = subst (IsCutShort a b f g) is cut

@@ -1,3 +1,4 @@
+-- What the fields of a reader of lines stand for, and what every reader keeps: for the functions of the reader alone.
 use Rattle.std.specs.Prelude.{◌≡◌, ◌≤◌, vec_len, slice_range}
 use Rattle.ram_text.specs.Lines.{Reading, IsFirstFeed}
 use Rattle.ram_text.specs.declared.lines.TheConstants.{ROOM, SCRIPT_LIMIT}

@@ -1,6 +1,8 @@
+-- What is left of a script, and what the next line of it is: for the reader of lines, and for the run that answers them.
 use Rattle.std.specs.Prelude.{◌≡◌, ◌≢◌, ℕ, ◌+◌, ◌-◌, ◌<◌, ◌≤◌, ◌⊎◌, Option, None, Some, is_some, IfSome, List, [], ◌∷◌, ◌++◌, length, take, slice_index, All}
-use Rattle.std.specs.Io.KnownBytes.{Consumes, IsAtEnd}
+use Rattle.std.specs.Io.KnownBytes.{Consumes, IsAtEnd, prepend_known}
 use Rattle.model_counts.specs.Counts.{Rose}
+use Rattle.ram_outside.specs.declared.source.Source.{Ghosts as Sources}
 use Rattle.ram_text.specs.declared.lines.TheConstants.{LINE_LIMIT, SCRIPT_LIMIT}
 use Rattle.ram_text.specs.declared.lines.NextLine.{NextLine}
 use Rattle.ram_text.specs.declared.lines.NextLine.TheVariants.{Line, End, LineTooLong, ScriptTooLong, Failed}
@@ -57,7 +59,7 @@ pub record GivesLine (left left' : Option (List ℕ)) (taken taken' : ℕ) (line
   pub short : length line ≤ LINE_LIMIT
   pub within : taken' ≤ SCRIPT_LIMIT
   pub told : is_some left' ≡ is_some left
-  pub count : faults ≤ faults'
+  pub count : faults' ≡ faults
 
 -- nothing went, and there is no line
 pub record NothingWent (left left' : Option (List ℕ)) (taken taken' : ℕ) (line : List ℕ) : Type 0 where
@@ -76,11 +78,23 @@ pub record ScriptIsTooLong (left : Option (List ℕ)) (taken : ℕ) : Type 0 whe
   pub bytes : IfSome left (λ held. (SCRIPT_LIMIT - taken < length held) × HasNoFeed (take (SCRIPT_LIMIT - taken) held))
   pub first : SCRIPT_LIMIT ≤ taken + LINE_LIMIT
 
--- What the search for the next line may do, by its answer: what is left before and after, how much the lines took
--- before and after, the line, and the source's counts before and after. (This project's own.)
-abbrev pub NextLineRule : Option (List ℕ) → Option (List ℕ) → ℕ → ℕ → List ℕ → ℕ → ℕ → NextLine → Type 0
-NextLineRule left left' taken taken' line faults faults' Line = GivesLine left left' taken taken' line faults faults'
-NextLineRule left left' taken taken' line faults faults' End = NothingWent left left' taken taken' line × IsAtEnd left × (faults ≤ faults')
-NextLineRule left left' taken taken' line faults faults' LineTooLong = NothingWent left left' taken taken' line × LineIsTooLong left taken × (faults ≤ faults')
-NextLineRule left left' taken taken' line faults faults' ScriptTooLong = NothingWent left left' taken taken' line × ScriptIsTooLong left taken × (faults ≤ faults')
-NextLineRule left left' taken taken' line faults faults' Failed = NothingWent left left' taken taken' line × Rose faults faults'
+-- nothing went, what is buffered has no line feed in it, and the source failed and counted it: so of what the source
+-- gave no whole line is left (this project's own)
+pub record LineFails (left left' : Option (List ℕ)) (taken taken' : ℕ) (line buffered' : List ℕ) (faults faults' : ℕ) : Type 0 where
+  pub nothing : NothingWent left left' taken taken' line
+  pub clear : HasNoFeed buffered'
+  pub count : Rose faults faults'
+
+module _ {S : Type 0} (sources : Sources S) where
+  -- what is left of the script: what is buffered, and then what the source has left (this project's own)
+  abbrev pub left_of : Reading → S → Option (List ℕ)
+  left_of reading source = prepend_known reading.buffered (sources.left source)
+
+  -- What the search for the next line may do, by its answer: the reader and the source before and after. (This
+  -- project's own.)
+  abbrev pub NextLineRule : Reading → Reading → S → S → NextLine → Type 0
+  NextLineRule r r' s s' Line = GivesLine (left_of r s) (left_of r' s') r.taken r'.taken r'.line (sources.faults s) (sources.faults s')
+  NextLineRule r r' s s' End = NothingWent (left_of r s) (left_of r' s') r.taken r'.taken r'.line × IsAtEnd (left_of r s) × (sources.faults s' ≡ sources.faults s)
+  NextLineRule r r' s s' LineTooLong = NothingWent (left_of r s) (left_of r' s') r.taken r'.taken r'.line × LineIsTooLong (left_of r s) r.taken × (sources.faults s' ≡ sources.faults s)
+  NextLineRule r r' s s' ScriptTooLong = NothingWent (left_of r s) (left_of r' s') r.taken r'.taken r'.line × ScriptIsTooLong (left_of r s) r.taken × (sources.faults s' ≡ sources.faults s)
+  NextLineRule r r' s s' Failed = LineFails (left_of r s) (left_of r' s') r.taken r'.taken r'.line r'.buffered (sources.faults s) (sources.faults s')

@@ -1,3 +1,4 @@
+-- The text of each answer and of each last line: for the functions that print them, and for the run that says what is due.
 use Rattle.std.specs.Prelude.{◌≡◌, ℕ, ◌+◌, ◌*◌, ◌/◌, ◌%◌, ◌^◌, ◌<◌, ◌≤◌, ◌==◌, Bool, true, false, if◌then◌else◌, Option, Some, None, IfSome, List, [], ◌∷◌, ◌++◌, length, take, drop, slice_index, codes, decimal}
 use Rattle.std.specs.List.{list_all, flat_map, range_with_len}
 use Rattle.hex.specs.Hex.{encode_lower, lower_digits}
@@ -112,7 +113,7 @@ last_text lasts.ScriptTooLong = codes "script too long\n"
 last_text (lasts.NotADisc line) = numbered line (codes "not a disc")
 
 -- a sense whose parts are in their ranges
-pub record IsInRange (sense : Sense) : Type 0 where
+pub record SenseFits (sense : Sense) : Type 0 where
   pub key : sense.key < 16
   pub asc : sense.asc < 256
   pub ascq : sense.ascq < 256
@@ -121,7 +122,7 @@ pub record IsInRange (sense : Sense) : Type 0 where
 -- an answer that is printed, and whose sense is in range
 abbrev pub IsTold : Answer → Type 0
 IsTold answers.Good = Unit {0}
-IsTold (answers.Check sense) = IsInRange sense
+IsTold (answers.Check sense) = SenseFits sense
 IsTold answers.Cut = Unit {0}
 IsTold answers.Off = Unit {0}
 IsTold answers.Fault = ⊥

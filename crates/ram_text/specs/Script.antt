@@ -1,3 +1,4 @@
+-- What a line of a script reads as, with its data: for the parser, and for the run that answers lines.
 use Rattle.std.specs.Prelude.{◌≡◌, ℕ, ◌+◌, ◌/◌, ◌%◌, ◌<◌, ◌≤◌, ◌⊎◌, List, [], ◌∷◌, length, slice_index, map, replicate, codes}
 use Rattle.std.specs.List.{range_with_len}
 use Rattle.model_commands.specs.Commands.{out_length_of}

@@ -54,12 +54,12 @@ pub record Refilled (before after : Reading) (rest rest' : Option (List ℕ)) (f
   pub longer : length after.buffered ≡ length before.buffered + n
   pub same : prepend_known after.buffered rest' ≡ prepend_known before.buffered rest
   pub stood : after.taken ≡ before.taken
-  pub count : faults ≤ faults'
+  pub count : faults' ≡ faults
 
 -- what one more piece of the source brings
 abbrev pub FillRule : Reading → Reading → Option (List ℕ) → Option (List ℕ) → ℕ → ℕ → Take → Type 0
 FillRule before after rest rest' faults faults' (takes.Got n) = Refilled before after rest rest' faults faults' n
-FillRule before after rest rest' faults faults' takes.End = (after ≡ without_line before) × IsAtEnd rest × (rest' ≡ rest) × (faults ≤ faults')
+FillRule before after rest rest' faults faults' takes.End = (after ≡ without_line before) × IsAtEnd rest × (rest' ≡ rest) × (faults' ≡ faults)
 FillRule before after rest rest' faults faults' takes.Failed = (after ≡ without_line before) × (rest' ≡ rest) × Rose faults faults'
 
 -- what is buffered is the last line, unless nothing is
@@ -70,12 +70,12 @@ pub record TookLast (before after : Reading) : Type 0 where
   pub grew : after.taken ≡ before.taken + length before.buffered
 
 -- what the end of the source makes of what is buffered
-abbrev pub LastRule : Reading → Reading → NextLine → Type 0
-LastRule before after Line = TookLast before after
-LastRule before after End = (before.buffered ≡ []) × (after ≡ without_line before)
-LastRule before after LineTooLong = ⊥
-LastRule before after ScriptTooLong = ⊥
-LastRule before after Failed = ⊥
+abbrev pub LastLineBytes : Reading → Reading → NextLine → Type 0
+LastLineBytes before after Line = TookLast before after
+LastLineBytes before after End = (before.buffered ≡ []) × (after ≡ without_line before)
+LastLineBytes before after LineTooLong = ⊥
+LastLineBytes before after ScriptTooLong = ⊥
+LastLineBytes before after Failed = ⊥
 
 -- which limit is passed first, where a line without an end passes one of them
 abbrev pub PassedFirst : ℕ → NextLine → Type 0

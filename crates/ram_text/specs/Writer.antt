@@ -1,6 +1,8 @@
-use Rattle.std.specs.Prelude.{◌≡◌, ℕ, ◌≤◌, ◌<◌, Option, List, [], length, take, Result, Ok, Err}
+-- What printing, gathering and handing over a text may do: for the writer of reports, and for the run that answers lines.
+use Rattle.std.specs.Prelude.{◌≡◌, ℕ, ◌<◌, Option, List, [], length, take, Result, Ok, Err}
 use Rattle.std.specs.Io.KnownBytes.{append_known}
 use Rattle.model_counts.specs.Counts.{Rose}
+use Rattle.ram_outside.specs.declared.sink.Sink.{Ghosts as Sinks}
 use Rattle.ram_text.specs.declared.gathered.Print.{Print}
 use Rattle.ram_text.specs.declared.gathered.Print.TheVariants.{Done, Failed}
 
@@ -8,13 +10,13 @@ use Rattle.ram_text.specs.declared.gathered.Print.TheVariants.{Done, Failed}
 abbrev pub due : Option (List ℕ) → List ℕ → Option (List ℕ)
 due written gathered = append_known written gathered
 
--- the text went to the end of what is due
+-- the text went to the end of what is due, and the sink counted nothing
 pub record IsPut (before after : Option (List ℕ)) (faults faults' : ℕ) (text : List ℕ) : Type 0 where
   pub grew : after ≡ append_known before text
-  pub count : faults ≤ faults'
+  pub count : faults' ≡ faults
 
 -- a front of the text went to the end of what is due, and the sink failed and counted it
-pub record IsCutOff (before after : Option (List ℕ)) (faults faults' : ℕ) (text : List ℕ) : Type 0 where
+pub record IsCutShort (before after : Option (List ℕ)) (faults faults' : ℕ) (text : List ℕ) : Type 0 where
   pub n : ℕ
   pub grew : after ≡ append_known before (take n text)
   pub count : Rose faults faults'
@@ -23,15 +25,30 @@ pub record IsCutOff (before after : Option (List ℕ)) (faults faults' : ℕ) (t
 -- and after. (This project's own.)
 abbrev pub PrintRule : Option (List ℕ) → Option (List ℕ) → ℕ → ℕ → List ℕ → Print → Type 0
 PrintRule before after faults faults' text Done = IsPut before after faults faults' text
-PrintRule before after faults faults' text Failed = IsCutOff before after faults faults' text
+PrintRule before after faults faults' text Failed = IsCutShort before after faults faults' text
 
 -- What handing over what is gathered may do, by its answer: what is due stays as it was; where it is done nothing is
 -- gathered any more, and else the sink failed and counted it. (This project's own.)
 abbrev pub FlushRule : Option (List ℕ) → Option (List ℕ) → List ℕ → ℕ → ℕ → Print → Type 0
-FlushRule before after gathered faults faults' Done = (after ≡ before) × (gathered ≡ []) × (faults ≤ faults')
+FlushRule before after gathered faults faults' Done = (after ≡ before) × (gathered ≡ []) × (faults' ≡ faults)
 FlushRule before after gathered faults faults' Failed = (after ≡ before) × Rose faults faults'
 
 -- What handing over a text at once may do: all of it is written, or a front of so many bytes and the sink failed.
 abbrev pub HandOverRule : Option (List ℕ) → Option (List ℕ) → ℕ → ℕ → List ℕ → Result (Unit {0}) ℕ → Type 0
-HandOverRule written written' faults faults' text (Ok done) = (written' ≡ append_known written text) × (faults ≤ faults')
+HandOverRule written written' faults faults' text (Ok done) = (written' ≡ append_known written text) × (faults' ≡ faults)
 HandOverRule written written' faults faults' text (Err n) = (n < length text) × (written' ≡ append_known written (take n text)) × Rose faults faults'
+
+module _ {K : Type 0} (sinks : Sinks K) where
+  -- What is due of a report: what its sink has written, and what is gathered for it. (This project's own.)
+  abbrev pub due_of : List ℕ → K → Option (List ℕ)
+  due_of gathered sink = due (sinks.written sink) gathered
+
+  -- The text is printed, or cut off by a failure of the sink: what is gathered and the sink, before and after.
+  -- (This project's own.)
+  abbrev pub Prints : List ℕ → K → List ℕ → K → List ℕ → Print → Type 0
+  Prints w s w' s' text answer = PrintRule (due_of w s) (due_of w' s') (sinks.faults s) (sinks.faults s') text answer
+
+  -- What is gathered is handed over, or a front of it and the sink failed: what is gathered and the sink, before and
+  -- after. (This project's own.)
+  abbrev pub HandsOver : List ℕ → K → List ℕ → K → Print → Type 0
+  HandsOver w s w' s' answer = FlushRule (due_of w s) (due_of w' s') w' (sinks.faults s) (sinks.faults s') answer

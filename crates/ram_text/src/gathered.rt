@@ -1,5 +1,6 @@
+//! Text that is gathered on its way to a sink. It touches its own bytes, and the sink's by `put` alone.
 ghost use Rattle.std.specs.Prelude.{◌≡◌, ◌+◌, ◌<◌, ◌≤◌, ℕ, List, [], ◌++◌, length, IfOk, MatchBool};
-ghost use Rattle.ram_text.specs.Writer.{due, PrintRule, FlushRule, HandOverRule};
+ghost use Rattle.ram_text.specs.Writer.{Prints, HandsOver, HandOverRule};
 
 use ram_outside::{Put, Sink};
 use std::alloc::{AllocError, Global};
@@ -49,7 +50,7 @@ impl Gathered {
     /// Puts a text behind what is gathered; where it does not fit, what is gathered goes to the sink first. A text
     /// longer than the room goes to the sink at once.
     pub fn put<K: Sink>(&mut self, sink: &mut K, text: &[u8]) -> Print
-        ensures { PrintRule (due (K.written sink.old) self.old) (due (K.written sink.new) self.new) (K.faults sink.old) (K.faults sink.new) text.now result }
+        ensures { Prints K.Sink self.old sink.old self.new sink.new text.now result }
     {
         if self.gather(text) {
             return Print::Done;
@@ -69,7 +70,7 @@ impl Gathered {
 
     /// Hands over what is gathered.
     pub fn flush<K: Sink>(&mut self, sink: &mut K) -> Print
-        ensures { FlushRule (due (K.written sink.old) self.old) (due (K.written sink.new) self.new) self.new (K.faults sink.old) (K.faults sink.new) result }
+        ensures { HandsOver K.Sink self.old sink.old self.new sink.new result }
     {
         match hand_over(sink, &self.bytes[self.sent..]) {
             Ok(()) => {

@@ -1,3 +1,4 @@
+//! Bytes as hexadecimal digits, into room that is there already.
 ghost use Rattle.std.specs.Prelude.{◌≡◌, ◌*◌, ◌≤◌, length, take};
 ghost use Rattle.hex.specs.Hex.{encode_lower};
 

@@ -3,8 +3,17 @@ ghost use Rattle.std.specs.Prelude.{◌≡◌, ◌≢◌, ◌<◌, ℕ, List, []
 ghost use Rattle.ram_text.specs.ScriptWords.{words_of, space};
 ghost use Rattle.ram_text.specs.Script.{Reads};
 ghost use Rattle.ram_text.specs.ReportLines.{answer_words, IsTold};
+ghost use Rattle.ram_text.specs.declared.lines.TheConstants.{LINE_LIMIT, SCRIPT_LIMIT};
+ghost use Rattle.ram_text.specs.declared.payload.TheConstants.{PAYLOAD_ROOM};
 ghost use Rattle.ram_text.specs.declared.script.Line.{Line as Read};
 ghost use Rattle.ram_sense.specs.declared.answer.Answer.{Answer as Told};
+
+/// How many bytes a line has at most, a script, and the data of a command.
+pub fn limits_are_these()
+    ensures line { LINE_LIMIT ≡ 70000 }
+    ensures script { SCRIPT_LIMIT ≡ 67108864 }
+    ensures payload { PAYLOAD_ROOM ≡ 2097152 }
+{}
 
 /// A line has at most one meaning, and the data that go with it are determined too.
 pub fn a_line_has_one_reading()

@@ -1,10 +1,12 @@
-ghost use Rattle.std.specs.Prelude.{◌≡◌, ◌↔◌, ℕ, ◌+◌, ◌-◌, ◌<◌, ◌≤◌, Option, List, [], length, take, IfOk, IsTrue, vec_len, slice_range};
-ghost use Rattle.std.specs.Io.KnownBytes.{prepend_known};
+//! The lines of a script, one after another, from any source. It touches its own bytes, and the source by `take`
+//! alone.
+ghost use Rattle.std.specs.Prelude.{◌≡◌, ◌↔◌, ℕ, ◌+◌, ◌-◌, ◌<◌, ◌≤◌, ◌⊎◌, Option, List, [], length, take, IfOk, IsTrue, vec_len, slice_range};
 ghost use Rattle.ram_outside.specs.Source.{TakeRule};
 ghost use Rattle.ram_text.specs.Lines.{Reading, HoldsLine, NextLineRule, HasNoFeed, IsFirstFeed};
-ghost use Rattle.ram_text.specs.Steps.{IsOpen, CutRule, FillRule, LastRule, PassedFirst};
+ghost use Rattle.ram_text.specs.Steps.{IsOpen, CutRule, FillRule, LastLineBytes, PassedFirst};
 ghost use Rattle.ram_text.specs.declared.lines.TheConstants.{LINE_LIMIT, SCRIPT_LIMIT, PIECE, ROOM};
 
+use crate::report::ReportWriter;
 use memchr::memchr;
 use ram_outside::{Source, Take};
 use std::alloc::{AllocError, Global};
@@ -105,9 +107,11 @@ impl LineReader {
 
     /// Looks for the next line, and asks the source only where what is buffered does not decide the answer.
     /// Of the limits of a line and of the script the one that is passed by the earlier byte decides, and where
-    /// one byte passes both, it is the script's.
-    pub fn next_line<S: Source>(&mut self, source: &mut S) -> NextLine
-        ensures rule { NextLineRule (prepend_known self.old.buffered (S.left source.old)) (prepend_known self.new.buffered (S.left source.new)) self.old.taken self.new.taken self.new.line (S.faults source.old) (S.faults source.new) result }
+    /// one byte passes both, it is the script's. More is asked of the source only where all of the report is
+    /// handed over.
+    pub fn next_line<S: Source>(&mut self, source: &mut S, _report: &ReportWriter) -> NextLine
+        requires shown { HoldsLine self.old ⊎ (_report.now ≡ []) }
+        ensures rule { NextLineRule S.Source self.old self.new source.old source.new result }
         ensures asks_nothing { HoldsLine self.old → (result ≡ NextLine.Line) × (source.new ≡ source.old) }
     {
         loop {
@@ -176,7 +180,7 @@ impl LineReader {
     // What is buffered when the source has ended is the last line, unless nothing is.
     fn last_line(&mut self) -> NextLine
         requires { IsOpen self.old }
-        ensures { LastRule self.old self.new result }
+        ensures { LastLineBytes self.old self.new result }
     {
         self.line_start = self.start;
         self.line_end = self.end;

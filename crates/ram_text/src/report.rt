@@ -1,6 +1,8 @@
+//! The writer of a report: texts, numbers and hexadecimal digits, behind what is due. It touches what is gathered,
+//! and the sink by `put` alone.
 ghost use Rattle.std.specs.Prelude.{◌≡◌, ◌*◌, ◌≤◌, [], decimal, length, IfOk};
 ghost use Rattle.hex.specs.Hex.{encode_lower};
-ghost use Rattle.ram_text.specs.Writer.{due, PrintRule, FlushRule};
+ghost use Rattle.ram_text.specs.Writer.{Prints, HandsOver};
 
 use crate::gathered::{Gathered, Print};
 use crate::hexadecimal::encode_front;
@@ -41,21 +43,21 @@ impl ReportWriter {
 
     /// Puts a text behind what is due. Where the sink fails, a front of the text is.
     pub fn put<K: Sink>(&mut self, sink: &mut K, text: &[u8]) -> Print
-        ensures { PrintRule (due (K.written sink.old) self.old) (due (K.written sink.new) self.new) (K.faults sink.old) (K.faults sink.new) text.now result }
+        ensures { Prints K.Sink self.old sink.old self.new sink.new text.now result }
     {
         self.gathered.put(sink, text)
     }
 
     /// Hands the sink what is gathered.
     pub fn flush<K: Sink>(&mut self, sink: &mut K) -> Print
-        ensures { FlushRule (due (K.written sink.old) self.old) (due (K.written sink.new) self.new) self.new (K.faults sink.old) (K.faults sink.new) result }
+        ensures { HandsOver K.Sink self.old sink.old self.new sink.new result }
     {
         self.gathered.flush(sink)
     }
 
     /// Puts a number in decimal digits behind what is due.
     pub fn put_number<K: Sink>(&mut self, sink: &mut K, number: u64) -> Print
-        ensures { PrintRule (due (K.written sink.old) self.old) (due (K.written sink.new) self.new) (K.faults sink.old) (K.faults sink.new) (decimal number) result }
+        ensures { Prints K.Sink self.old sink.old self.new sink.new (decimal number) result }
     {
         let mut buffer = Buffer::new();
         self.gathered.put(sink, buffer.format(number).as_bytes())
@@ -64,7 +66,7 @@ impl ReportWriter {
     /// Puts bytes in lower-case hexadecimal digits behind what is due, at most a sector's.
     pub fn put_hex<K: Sink>(&mut self, sink: &mut K, bytes: &[u8]) -> Print
         requires { length bytes.now ≤ SECTOR_BYTES }
-        ensures { PrintRule (due (K.written sink.old) self.old) (due (K.written sink.new) self.new) (K.faults sink.old) (K.faults sink.new) (encode_lower bytes.now) result }
+        ensures { Prints K.Sink self.old sink.old self.new sink.new (encode_lower bytes.now) result }
     {
         let len = 2 * bytes.len();
         encode_front(bytes, &mut self.digits);

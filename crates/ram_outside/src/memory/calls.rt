@@ -1,5 +1,6 @@
+//! The calls of an object in memory: which of them fail, and how many did. It touches no bytes.
 ghost use Rattle.std.specs.Prelude.{◌≡◌, ◌↔◌, IsTrue, if◌then◌else◌};
-ghost use Rattle.ram_outside.specs.Calls.{no_calls, IsNamed, with_call, with_faults, with_failed_call};
+ghost use Rattle.ram_outside.specs.Calls.{no_calls, NextCallFails, with_call, with_faults, with_failed_call};
 
 use std::marker::Model;
 
@@ -47,7 +48,7 @@ impl Calls {
 
     /// Counts one call more, and its failure where it is one that fails. Whether it is.
     pub(crate) fn next_fails(&mut self) -> bool
-        ensures named { IsTrue result ↔ IsNamed self.old }
+        ensures named { IsTrue result ↔ NextCallFails self.old }
         ensures log { self.new ≡ (if result then with_failed_call self.old else with_call self.old) }
     {
         self.made = self.made.saturating_add(1);

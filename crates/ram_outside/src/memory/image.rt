@@ -1,7 +1,8 @@
+//! An image in memory. It touches its own bytes, and the slice of a read that is done.
 ghost use Rattle.std.specs.Prelude.{◌≡◌, ◌+◌, ◌≤◌, Some, IsOk, OnOk, length, vec_capacity};
 ghost use Rattle.ram_outside.specs.Image.{LenRule, ReadAtRule, WriteAtRule, SetLenRule};
 ghost use Rattle.ram_outside.specs.Calls.{no_calls};
-ghost use Rattle.ram_outside.specs.Memory.{TellsLengthExactly, ReadsExactly, WritesExactly, ResizesExactly, unfailed};
+ghost use Rattle.ram_outside.specs.Memory.{GivesLengthExactly, ReadsImageExactly, WritesExactly, ResizesExactly, unfailed};
 
 use crate::image::{Image, Length, Moved};
 use crate::memory::calls::Calls;
@@ -86,7 +87,7 @@ impl Image for MemImage {
     fn len(&mut self) -> Length
         ensures rule { LenRule (Some self.old.bytes) (Some self.new.bytes)
             self.old.calls.faults self.new.calls.faults result }
-        ensures exactly { TellsLengthExactly self.old self.new result }
+        ensures exactly { GivesLengthExactly self.old self.new result }
     {
         if self.calls.next_fails() {
             return Length::Failed;
@@ -98,7 +99,7 @@ impl Image for MemImage {
         requires { at + length into.old ≤ length self.old.bytes }
         ensures rule { ReadAtRule (Some self.old.bytes) (Some self.new.bytes)
             self.old.calls.faults self.new.calls.faults at into.new result }
-        ensures exactly { ReadsExactly self.old self.new at into.new result }
+        ensures exactly { ReadsImageExactly self.old self.new at into.old into.new result }
     {
         if self.calls.next_fails() {
             return Moved::Failed;

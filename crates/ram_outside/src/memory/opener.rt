@@ -1,29 +1,37 @@
-ghost use Rattle.std.specs.Prelude.{◌≡◌, true, Some, None};
+//! An opener in memory: one image, which it gives once, and the names that it was asked for.
+ghost use Rattle.std.specs.Prelude.{◌≡◌, true, Some, None, [], if◌then◌else◌};
 ghost use Rattle.std.specs.Option.{option_copied};
 ghost use Rattle.ram_outside.specs.Opener.{OpenRule, CloseRule};
 ghost use Rattle.ram_outside.specs.Calls.{no_calls};
-ghost use Rattle.ram_outside.specs.Memory.{OpensExactly, after_close, unfailed};
+ghost use Rattle.ram_outside.specs.Memory.{OpensExactly, after_close, and_asked_now, unfailed, view_of};
 
 use crate::memory::calls::Calls;
 use crate::memory::image::MemImage;
 use crate::opener::{Opened, Opener};
 use std::marker::Model;
 
-/// An opener that has one image, in memory, whatever the name.
+/// An opener that has one image, in memory, whatever the name. It keeps the names that it was asked for.
 #[derive(Debug, Drop)]
 pub struct MemOpener {
     image: Option<MemImage>,
     returned: Option<MemImage>,
+    asked: Vec<Vec<u8>>,
     calls: Calls,
 }
 
 impl Model for MemOpener {
+    ghost use Rattle.std.specs.Prelude.{map};
     ghost use Rattle.std.specs.Option.{option_map};
     ghost use Rattle.ram_outside.specs.Memory.{OpenerState, unfailed};
 
     ghost Value = { OpenerState };
 
-    ghost view = { λ o. record { next = option_map unfailed o.image; returned = o.returned; calls = o.calls } };
+    ghost view = { λ o. record {
+      next = option_map unfailed o.image;
+      returned = o.returned;
+      asked = map (λ name. name.items) o.asked.items;
+      calls = o.calls;
+    } };
 }
 
 impl MemOpener {
@@ -33,12 +41,14 @@ impl MemOpener {
         ensures { result ≡ record {
           next = Some (unfailed image);
           returned = None;
+          asked = [];
           calls = no_calls failing.items;
         } }
     {
         MemOpener {
             image: Some(image),
             returned: None,
+            asked: Vec::new(*failing.allocator()),
             calls: Calls::new(failing),
         }
     }
@@ -48,6 +58,16 @@ impl MemOpener {
         ensures { option_copied result ≡ self.now.returned }
     {
         self.returned.as_ref()
+    }
+
+    /// Keeps a name that was asked for. Where memory is refused, none is kept.
+    fn keep_name(&mut self, name: &str) -> bool
+        ensures { self.new ≡ (if result then and_asked_now name.now self.old else self.old) }
+    {
+        match Vec::from_slice(*self.asked.allocator(), name.as_bytes()) {
+            Ok(name) => self.asked.push(name).is_ok(),
+            Err(_) => false,
+        }
     }
 }
 
@@ -60,14 +80,22 @@ impl Opener for MemOpener {
 
     ghost returned = { λ o. o.returned };
 
+    ghost asked = { λ o. Some o.asked };
+
     ghost faults = { λ o. o.calls.faults };
 
-    fn open(&mut self, _name: &str) -> Opened<MemImage>
-        ensures rule { OpenRule (λ i. i.calls.faults) self.old.next self.new.next self.old.returned self.new.returned
-            self.old.calls.faults self.new.calls.faults result }
-        ensures exactly { OpensExactly self.old self.new result }
+    fn open(&mut self, name: &str) -> Opened<MemImage>
+        ensures rule { OpenRule (λ i. i.calls.faults) name.now (view_of self.old) (view_of self.new) result }
+        ensures exactly { OpensExactly name.now self.old self.new result }
     {
-        if self.calls.next_fails() {
+        let fails = self.calls.next_fails();
+        if !self.keep_name(name) {
+            if !fails {
+                self.calls.add_faults(1);
+            }
+            return Opened::Failed;
+        }
+        if fails {
             return Opened::Failed;
         }
         match self.image.take() {
@@ -83,8 +111,7 @@ impl Opener for MemOpener {
     }
 
     fn close(&mut self, image: MemImage)
-        ensures rule { CloseRule true image.calls.faults image self.new.returned
-            self.old.calls.faults self.new.calls.faults }
+        ensures rule { CloseRule true (λ i. i.calls.faults) image (view_of self.old) (view_of self.new) }
         ensures exactly { self.new ≡ after_close image self.old }
     {
         self.calls.add_faults(image.faults());

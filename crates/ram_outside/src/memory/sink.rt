@@ -1,3 +1,4 @@
+//! A sink in memory. It touches its own bytes alone.
 ghost use Rattle.std.specs.Prelude.{◌≡◌, ℕ, ◌<◌, ◌≤◌, [], Some, IsOk, OnOk, length};
 ghost use Rattle.ram_outside.specs.Sink.{PutRule};
 ghost use Rattle.ram_outside.specs.Calls.{no_calls};

@@ -1,3 +1,4 @@
+//! A source in memory. It touches its own bytes, and of a slice only what a call gives.
 ghost use Rattle.std.specs.Prelude.{◌≡◌, ℕ, ◌<◌, Some, length};
 ghost use Rattle.ram_outside.specs.Source.{TakeRule};
 ghost use Rattle.ram_outside.specs.Calls.{no_calls};
@@ -59,7 +60,7 @@ impl Source for MemSource {
         requires { 0 < length into.old }
         ensures rule { TakeRule (Some self.old.left) (Some self.new.left)
             self.old.calls.faults self.new.calls.faults into.new result }
-        ensures exactly { TakesExactly self.old self.new into.new result }
+        ensures exactly { TakesExactly self.old self.new into.old into.new result }
     {
         if self.calls.next_fails() {
             return Take::Failed;

@@ -1,3 +1,4 @@
+//! Lines in pieces of each size, and at their limits.
 ghost use Rattle.std.specs.Prelude.{◌≡◌, ◌+◌, ◌<◌, ◌≤◌, None};
 
 use super::*;
@@ -77,10 +78,11 @@ fn joined(
         calls: 0,
         faults: 0,
     };
+    let report = ReportWriter::new(alloc)?;
     let mut reader = LineReader::new(alloc)?;
     let mut text = Vec::new(alloc);
     for _ in 0..1_000 {
-        let answer = reader.next_line(&mut source);
+        let answer = reader.next_line(&mut source, &report);
         if answer != NextLine::Line {
             return Ok((text, answer));
         }
@@ -128,8 +130,9 @@ fn answer_at(
         calls: 0,
         faults: 0,
     };
+    let report = ReportWriter::new(alloc)?;
     let mut reader = LineReader::new(alloc)?;
-    let answer = reader.next_line(&mut source);
+    let answer = reader.next_line(&mut source, &report);
     if answer == NextLine::Line {
         assert_eq!(rt; reader.line().len(), len);
     }
@@ -161,10 +164,11 @@ fn a_script_has_its_limit(rt: HostRuntime) -> Result<(), Fail> {
         (SCRIPT_LIMIT + 1, NextLine::ScriptTooLong),
     ] {
         let mut source = Made { at: 0, end };
+        let report = ReportWriter::new(rt.alloc())?;
         let mut reader = LineReader::new(rt.alloc())?;
         let mut count = 0u32;
         for _ in 0..2_000u32 {
-            let answer = reader.next_line(&mut source);
+            let answer = reader.next_line(&mut source, &report);
             if answer != NextLine::Line {
                 assert_eq!(rt; answer, last);
                 break;
@@ -195,17 +199,18 @@ fn what_is_buffered_is_known(rt: HostRuntime) -> Result<(), Fail> {
         calls: 0,
         faults: 0,
     };
+    let report = ReportWriter::new(rt.alloc())?;
     let mut reader = LineReader::new(rt.alloc())?;
     assert!(rt; !reader.has_line());
-    assert_eq!(rt; reader.next_line(&mut source), NextLine::Line);
+    assert_eq!(rt; reader.next_line(&mut source, &report), NextLine::Line);
     assert!(rt; reader.has_line());
-    assert_eq!(rt; reader.next_line(&mut source), NextLine::Line);
+    assert_eq!(rt; reader.next_line(&mut source, &report), NextLine::Line);
     assert_eq!(rt; reader.taken(), 8);
     assert!(rt; !reader.has_line());
     assert_eq!(rt; source.calls, 1);
-    assert_eq!(rt; reader.next_line(&mut source), NextLine::Line);
+    assert_eq!(rt; reader.next_line(&mut source, &report), NextLine::Line);
     assert_eq!(rt; reader.line(), b"three".as_slice());
-    assert_eq!(rt; reader.next_line(&mut source), NextLine::End);
+    assert_eq!(rt; reader.next_line(&mut source, &report), NextLine::End);
     assert_eq!(rt; reader.taken(), 13);
     assert_eq!(rt; reader.line(), b"".as_slice());
     Ok(())

@@ -1,8 +1,13 @@
+//! The text of each answer, byte for byte.
 ghost use Rattle.std.specs.Prelude.{None};
 
-use super::*;
-use ram_outside::Put;
+use super::{Event, LastLine, print_answer, print_event, print_last, print_line};
+use crate::gathered::Print;
+use crate::report::ReportWriter;
+use ram_bytes::{Cdb, SECTOR_BYTES};
+use ram_outside::{Put, Sink};
 use ram_sense::codes::{INVALID_FIELD_IN_PARAMETERS, POWER_ON_OCCURRED, unrecovered_read_error};
+use ram_sense::{Answer, Sense};
 use std::test::Fail;
 
 // A sink that keeps what it is given.

@@ -1,3 +1,4 @@
+//! Lines of each form, and near misses.
 use super::{Line, Unread, parse_line};
 use crate::{LINE_LIMIT, PAYLOAD_ROOM};
 use model_medium::Fate;

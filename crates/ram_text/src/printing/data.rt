@@ -1,0 +1,156 @@
+//! What goes out behind `good`: a line for each sector that was read, or one line of data. Text alone.
+ghost use Rattle.std.specs.Prelude.{◌≡◌, ◌<◌, ◌≤◌, ◌/◌, ◌++◌, length, codes, decimal};
+ghost use Rattle.hex.specs.Hex.{encode_lower};
+ghost use Rattle.model_commands.specs.Commands.{operation_of};
+ghost use Rattle.ram_text.specs.Writer.{Prints};
+ghost use Rattle.ram_text.specs.ReportLines.{reply_text, IsAddressed, is_read, is_one_byte, sector_text, sectors_text, data_text};
+
+use crate::gathered::Print;
+use crate::printing::parts::print_labelled;
+use crate::report::ReportWriter;
+use model_commands::Operation;
+use ram_bytes::{Cdb, SECTOR_BYTES, get_u32};
+use ram_cdb::operation;
+use ram_outside::Sink;
+use ram_sense::Answer;
+
+/// Prints the reply of a command that was done.
+pub(crate) fn print_reply<K: Sink>(
+    writer: &mut ReportWriter,
+    sink: &mut K,
+    answer: &Answer,
+    cdb: &Cdb,
+    reply: &[u8],
+) -> Print
+    requires { IsAddressed answer.now cdb.now }
+    ensures { Prints K.Sink writer.old sink.old writer.new sink.new (reply_text answer.now cdb.now reply.now) result }
+{
+    match answer {
+        Answer::Good => {}
+        Answer::Check(_) | Answer::Cut | Answer::Off | Answer::Fault | Answer::NoMemory => {
+            return Print::Done;
+        }
+    }
+    if reads(cdb) {
+        print_sectors(writer, sink, get_u32(cdb.bytes(), 2), reply)
+    } else {
+        print_data(writer, sink, reply)
+    }
+}
+
+/// Whether the command reads sectors.
+fn reads(cdb: &Cdb) -> bool
+    ensures { result ≡ is_read (operation_of cdb.now) }
+{
+    match operation(cdb.operation_code()) {
+        Some(Operation::Read10) | Some(Operation::Read12) => true,
+        _ => false,
+    }
+}
+
+/// Prints a line for each whole sector of these, the first of which is sector `lba`.
+fn print_sectors<K: Sink>(
+    writer: &mut ReportWriter,
+    sink: &mut K,
+    lba: u32,
+    sectors: &[u8],
+) -> Print
+    ensures { Prints K.Sink writer.old sink.old writer.new sink.new (sectors_text lba sectors.now (length sectors.now / 2048)) result }
+{
+    for k in 0..sectors.len() / SECTOR_BYTES {
+        let sector = &sectors[SECTOR_BYTES * k..SECTOR_BYTES * (k + 1)];
+        match print_sector(writer, sink, lba as u64 + k as u64, sector) {
+            Print::Done => {}
+            Print::Failed => return Print::Failed,
+        }
+    }
+    Print::Done
+}
+
+/// Prints the line of a sector that was read.
+fn print_sector<K: Sink>(writer: &mut ReportWriter, sink: &mut K, lba: u64, sector: &[u8]) -> Print
+    requires { length sector.now ≡ SECTOR_BYTES }
+    ensures { Prints K.Sink writer.old sink.old writer.new sink.new (sector_text lba sector.now) result }
+{
+    if is_fill(sector) {
+        print_bytes(writer, sink, lba, b" fill ", &sector[..1])
+    } else {
+        print_bytes(writer, sink, lba, b" hex ", sector)
+    }
+}
+
+/// Whether all bytes of the sector are equal.
+fn is_fill(sector: &[u8]) -> bool
+    requires { 0 < length sector.now }
+    ensures { result ≡ is_one_byte sector.now }
+{
+    let first = sector[0];
+    sector.iter().all(|byte| *byte == first)
+}
+
+/// Prints a sector's line, with the bytes in hexadecimal digits after the words.
+fn print_bytes<K: Sink>(
+    writer: &mut ReportWriter,
+    sink: &mut K,
+    lba: u64,
+    words: &[u8],
+    bytes: &[u8],
+) -> Print
+    requires { length bytes.now ≤ SECTOR_BYTES }
+    ensures { Prints K.Sink writer.old sink.old writer.new sink.new (codes "sector " ++ decimal lba ++ words.now ++ encode_lower bytes.now ++ codes "\n") result }
+{
+    match print_labelled(writer, sink, b"sector ", lba) {
+        Print::Done => {}
+        Print::Failed => return Print::Failed,
+    }
+    match writer.put(sink, words) {
+        Print::Done => {}
+        Print::Failed => return Print::Failed,
+    }
+    match writer.put_hex(sink, bytes) {
+        Print::Done => writer.put(sink, b"\n"),
+        Print::Failed => Print::Failed,
+    }
+}
+
+/// Prints the line of a reply, where there is one.
+fn print_data<K: Sink>(writer: &mut ReportWriter, sink: &mut K, reply: &[u8]) -> Print
+    ensures { Prints K.Sink writer.old sink.old writer.new sink.new (data_text reply.now) result }
+{
+    if reply.is_empty() {
+        return Print::Done;
+    }
+    match print_labelled(writer, sink, b"data ", reply.len() as u64) {
+        Print::Done => print_data_digits(writer, sink, reply),
+        Print::Failed => Print::Failed,
+    }
+}
+
+/// Prints the bytes in hexadecimal digits, after a space, and ends the line.
+fn print_data_digits<K: Sink>(writer: &mut ReportWriter, sink: &mut K, reply: &[u8]) -> Print
+    ensures { Prints K.Sink writer.old sink.old writer.new sink.new (codes " " ++ encode_lower reply.now ++ codes "\n") result }
+{
+    match writer.put(sink, b" ") {
+        Print::Done => {}
+        Print::Failed => return Print::Failed,
+    }
+    match print_digits(writer, sink, reply) {
+        Print::Done => writer.put(sink, b"\n"),
+        Print::Failed => Print::Failed,
+    }
+}
+
+/// Prints the bytes in hexadecimal digits, 2,048 bytes at a time.
+fn print_digits<K: Sink>(writer: &mut ReportWriter, sink: &mut K, bytes: &[u8]) -> Print
+    ensures { Prints K.Sink writer.old sink.old writer.new sink.new (encode_lower bytes.now) result }
+{
+    for k in 0..bytes.len().div_ceil(SECTOR_BYTES) {
+        let start = SECTOR_BYTES * k;
+        let end = bytes.len().min(start + SECTOR_BYTES);
+        match writer.put_hex(sink, &bytes[start..end]) {
+            Print::Done => {}
+            Print::Failed => return Print::Failed,
+        }
+    }
+    Print::Done
+}
