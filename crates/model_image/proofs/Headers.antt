@@ -1,9 +1,8 @@
 -- A header is that of one geometry.
-use Rattle.std.specs.Prelude.{◌≡◌, ℕ, ◌+◌, ◌*◌, ◌/◌, ◌%◌, ◌<◌, ◌≤◌, List, length, take, slice_index}
-use Rattle.std.proofs.Common.{arith, refl, sym, ap, ◌∙◌}
-use Rattle.model_geometry.specs.Geometry.{Shape, IsLawful, shape_of, total}
-use Rattle.model_image.specs.Cells.{image_len}
-use Rattle.model_image.specs.Image.{header_of, HasHeader, IsDiscImage, IsImageOf}
+use Rattle.std.specs.Prelude.{◌≡◌, ℕ, ◌/◌, ◌%◌, ◌<◌, List, slice_index}
+use Rattle.std.proofs.Common.{arith, sym, ap, ◌∙◌}
+use Rattle.model_geometry.specs.Geometry.{Shape, IsLawful, shape_of}
+use Rattle.model_image.specs.Image.{header_of, HasHeader}
 
 -- a number below 65,536 by its two bytes
 two_bytes : (m n : ℕ) → m < 65536 → n < 65536 → m / 256 % 256 ≡ n / 256 % 256 → m % 256 ≡ n % 256 → m ≡ n

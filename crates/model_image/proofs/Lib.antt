@@ -1,3 +1,5 @@
+pub mod ByteWrites
+pub mod KnownBytes
 pub mod Changes
 pub mod Writes
 pub mod CellWrites

@@ -3,14 +3,14 @@ use Rattle.std.specs.Prelude.{◌≡◌, ℕ, ◌+◌, ◌-◌, ◌≤◌, List,
 use Rattle.std.specs.Option.{option_map, ForSome}
 use Rattle.std.proofs.Common.{arith, refl, sym, ap, ◌∙◌, inl, inr, subst, length-take}
 use Rattle.std.proofs.lemmas.Bool.{cases_lt}
-use Rattle.std.proofs.lemmas.List.{nil_from_length, length-replicate, get_or-replicate, get_or_past, take_at}
+use Rattle.std.proofs.lemmas.List.{nil_from_length, length-replicate, get_or-replicate, get_or_past, take_at, drop-replicate}
 use Rattle.std.proofs.lemmas.List.FromFn.{fill_by_all}
 use Rattle.model_bytes.specs.Bytes.{put_at, resized, PartlyPut}
 use Rattle.model_bytes.specs.Told.{WhereTold}
 use Rattle.model_geometry.specs.Geometry.{Shape, IsLawful, total}
 use Rattle.model_medium.specs.Cells.{Blank, Dead}
 use Rattle.model_image.specs.Cells.{state_place, image_len, cell_of, data_in, cell_in, cells_of}
-use Rattle.model_image.specs.Image.{header_of, IsImageOf, blank_cells, IsBlankIfDisc, IsStoppedPress}
+use Rattle.model_image.specs.Image.{header_of, IsImageOf, pressed_image, IsPressed, blank_cells, IsBlankIfDisc, IsStoppedPress}
 use Rattle.model_image.proofs.Changes.{SameBut}
 use Rattle.model_image.proofs.Writes.{SameBut-put_at, SameBut-PartlyPut}
 
@@ -49,6 +49,13 @@ module _ (shape : Shape) (header_long : length (header_of shape) ≡ 16) where
   behind : (after : List ℕ) → SameBut 0 (length (header_of shape)) zeros after → IsZeroBehindHeader after
   behind after change k h = change.same k (inr (omega (arith, header_long))) ∙ zeros_at new_len k
 
+  -- the bytes of a press: the header, and zeros behind it
+  zeros_behind : (n m : ℕ) (header : List ℕ) → length header ≡ m → put_at 0 header (replicate n 0) ≡ header ++ replicate (n - m) 0
+  zeros_behind n m header long = ap (λ l. header ++ l) (drop-replicate (0 + length header) n 0 ∙ ap (λ k. replicate (n - k) 0) (omega (arith, long)))
+
+  pub pressed_bytes : put_at 0 (header_of shape) zeros ≡ pressed_image shape
+  pressed_bytes = zeros_behind new_len 16 (header_of shape) header_long
+
   pub pressed : IsLawful shape → IsImageOf shape (blank_cells shape) (put_at 0 (header_of shape) zeros)
   pressed lawful = record {
     disc = record {
@@ -84,13 +91,13 @@ module _ (shape : Shape) (header_long : length (header_of shape) ≡ 16) (before
           omega (arith, header_long, ap length (same ∙ resized-anew (image_len (total shape)) first), length-replicate {A = ℕ} (image_len (total shape)) 0)
 
   pub told-pressed : IsLawful shape → (b1 b2 after : Option (List ℕ)) → b1 ≡ option_map (resized 0) before → b2 ≡ option_map (resized (image_len (total shape))) b1 → after ≡ option_map (put_at 0 (header_of shape)) b2
-      → WhereTold before after (λ held held'. IsImageOf shape (blank_cells shape) held')
+      → WhereTold before after (IsPressed shape)
   told-pressed lawful b1 b2 after e1 e2 e3 =
-      subst (λ o. WhereTold before o (λ held held'. IsImageOf shape (blank_cells shape) held')) (sym (e3 ∙ ap (option_map (put_at 0 (header_of shape))) (e2 ∙ ap (option_map (resized (image_len (total shape)))) e1))) (cases before)
+      subst (λ o. WhereTold before o (IsPressed shape)) (sym (e3 ∙ ap (option_map (put_at 0 (header_of shape))) (e2 ∙ ap (option_map (resized (image_len (total shape)))) e1))) (cases before)
     where
-      cases : (o : Option (List ℕ)) → WhereTold o (option_map (put_at 0 (header_of shape)) (option_map (resized (image_len (total shape))) (option_map (resized 0) o))) (λ held held'. IsImageOf shape (blank_cells shape) held')
+      cases : (o : Option (List ℕ)) → WhereTold o (option_map (put_at 0 (header_of shape)) (option_map (resized (image_len (total shape))) (option_map (resized 0) o))) (IsPressed shape)
       cases None = tt
-      cases (Some held) = subst (λ l. IsImageOf shape (blank_cells shape) (put_at 0 (header_of shape) l)) (sym (resized-anew (image_len (total shape)) held)) (pressed shape header_long lawful)
+      cases (Some held) = subst (λ l. IsPressed shape held (put_at 0 (header_of shape) l)) (sym (resized-anew (image_len (total shape)) held)) (record { bytes = pressed_bytes shape header_long; image = pressed shape header_long lawful })
 
 -- what a failed last step leaves, as the image's rule says it
 module _ (shape : Shape) (header_long : length (header_of shape) ≡ 16) (before : Option (List ℕ)) where

@@ -1,3 +1,4 @@
+-- Where the cells of a disc stand in an image's bytes, and what a change of one does to all: for `ram_image` and a run.
 use Rattle.std.specs.Prelude.{◌≡◌, ℕ, ◌+◌, ◌*◌, ◌⊎◌, ◌==◌, if◌then◌else◌, Option, Some, None, List, [], length, take, drop, map, set, slice_index}
 use Rattle.std.specs.List.{range_with_len}
 use Rattle.model_medium.specs.Cells.{Cell, Blank, Good, Torn, Dead, cell_at, MayLeave}

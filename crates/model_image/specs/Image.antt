@@ -1,4 +1,5 @@
-use Rattle.std.specs.Prelude.{◌≡◌, ℕ, ◌⊎◌, List, [], ◌∷◌, ◌++◌, codes, length, take, replicate}
+-- Which bytes are the image of a disc, and what a press makes: for pressing and opening an image, and for a run.
+use Rattle.std.specs.Prelude.{◌≡◌, ℕ, ◌-◌, ◌⊎◌, List, [], ◌∷◌, ◌++◌, codes, length, take, replicate}
 use Rattle.byteorder.specs.Endian.{big_bytes}
 use Rattle.model_geometry.specs.Geometry.{Shape, IsLawful, total}
 use Rattle.model_medium.specs.Cells.{Cell, Blank}
@@ -36,6 +37,12 @@ IsBlankIfDisc bytes = (shape : Shape) → IsDiscImage shape bytes → cells_of (
 abbrev pub IsStoppedPress : List ℕ → List ℕ → Type 0
 IsStoppedPress before after = (after ≡ before) ⊎ IsBlankIfDisc after
 
--- A press of this geometry: all cells are blank. (This project's own.)
-abbrev pub IsPressed : Shape → List ℕ → List ℕ → Type 0
-IsPressed shape before after = IsImageOf shape (blank_cells shape) after
+-- the whole image of a disc that was pressed: its header, and zeros behind it (this project's own)
+abbrev pub pressed_image : Shape → List ℕ
+pressed_image shape = header_of shape ++ replicate (image_len (total shape) - 16) 0
+
+-- A press of this geometry: the image has these bytes whatever it had before, and all its cells are blank. (This
+-- project's own.)
+pub record IsPressed (shape : Shape) (before after : List ℕ) : Type 0 where
+  pub bytes : after ≡ pressed_image shape
+  pub image : IsImageOf shape (blank_cells shape) after

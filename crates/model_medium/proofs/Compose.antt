@@ -16,7 +16,7 @@ counted-then : (n j k : ℕ) → counted (counted n j) k ≡ counted n (j + k)
 counted-then n j k = omega arith
 
 lasts_none : (world : World) → Lasts world world 0
-lasts_none world = record { as_told = refl; counts = sym (counted-none world.uses); never_falls = omega arith; stays_dead = λ block e. e }
+lasts_none world = record { as_told = refl; counts = sym (counted-none world.uses); no_fault = refl; stays_dead = λ block e. e }
 
 no_cut_none : (world : World) → NoCutCame world world
 no_cut_none world = record { power_same = refl; no_cut = refl; stays_good = λ block h. good_or_dead-good (cell_at world.cells block) h }
@@ -37,7 +37,7 @@ lasts_then : (a b c : World) (j k : ℕ) → Lasts a b j → Lasts b c k → Las
 lasts_then a b c j k one two = record {
   as_told = two.as_told ∙ one.as_told;
   counts = two.counts ∙ ap (λ n. counted n k) one.counts ∙ counted-then a.uses j k;
-  never_falls = omega (arith, one.never_falls, two.never_falls);
+  no_fault = two.no_fault ∙ one.no_fault;
   stays_dead = λ block e. two.stays_dead block (one.stays_dead block e);
 }
 

@@ -5,10 +5,11 @@ use Rattle.std.specs.Option.{option_map_or}
 use Rattle.std.proofs.Common.{refl, sym, ap, ◌∙◌, inl, inr, subst}
 use Rattle.std.proofs.lemmas.Bool.{cases_Bool, false≢true}
 use Rattle.std.proofs.lemmas.List.{set-get_or}
+use Rattle.model_counts.specs.Counts.{counted}
 use Rattle.model_medium.specs.Cells.{Cell, Good, Dead, cell_at, IsSameOrDead, MayLeave, written, cut_short}
 use Rattle.model_medium.specs.World.{ShowsNoneUntold, IsUse, GoesOn, IsCut, ReadRule, WriteRule, ReadGoes, WriteGoes}
 use Rattle.model_medium.specs.Machine.{Machine, is_killed, cells_worn, fate_due, IsToCome, begun, cut_off, with_cell, after_read, after_write}
-use Rattle.model_medium.specs.Exact.{IsExactly, ReadExactly, WriteExactly}
+use Rattle.model_medium.specs.Exact.{ReadExactly, WriteExactly}
 use Rattle.model_medium.specs.Reach.{Reach}
 use Rattle.model_medium.specs.declared.Fate.{Fate}
 use Rattle.model_medium.specs.declared.ReadEnd.{ReadEnd}
@@ -25,11 +26,11 @@ fate_of_due (Some fate) e = (fate, refl)
 
 module _ (old new : Machine) (block : ℕ) where
   -- what a use is exactly, where no cut is due and where one is
-  read_on : fate_due old.cut ≡ None → IsExactly (after_read block old) new → IsExactly (begun block old) new
-  read_on e exactly = subst (λ m. IsExactly m new) (ap (λ due. option_map_or (λ fate. cut_off (begun block old)) due (begun block old)) e) exactly
+  read_on : fate_due old.cut ≡ None → new ≡ after_read block old → new ≡ begun block old
+  read_on e exactly = exactly ∙ ap (λ due. option_map_or (λ fate. cut_off (begun block old)) due (begun block old)) e
 
-  read_off : (fate : Fate) → fate_due old.cut ≡ Some fate → IsExactly (after_read block old) new → IsExactly (cut_off (begun block old)) new
-  read_off fate e exactly = subst (λ m. IsExactly m new) (ap (λ due. option_map_or (λ fate. cut_off (begun block old)) due (begun block old)) e) exactly
+  read_off : (fate : Fate) → fate_due old.cut ≡ Some fate → new ≡ after_read block old → new ≡ cut_off (begun block old)
+  read_off fate e exactly = exactly ∙ ap (λ due. option_map_or (λ fate. cut_off (begun block old)) due (begun block old)) e
 
   abbrev cut_write : List ℕ → Fate → Machine
   cut_write bytes fate = cut_off (with_cell block (cut_short fate bytes) (begun block old))
@@ -37,69 +38,47 @@ module _ (old new : Machine) (block : ℕ) where
   abbrev done_write : List ℕ → Machine
   done_write bytes = with_cell block (written bytes) (begun block old)
 
-  write_on : (bytes : List ℕ) → fate_due old.cut ≡ None → IsExactly (after_write block bytes old) new → IsExactly (done_write bytes) new
-  write_on bytes e exactly = subst (λ m. IsExactly m new) (ap (λ due. option_map_or (cut_write bytes) due (done_write bytes)) e) exactly
+  write_on : (bytes : List ℕ) → fate_due old.cut ≡ None → new ≡ after_write block bytes old → new ≡ done_write bytes
+  write_on bytes e exactly = exactly ∙ ap (λ due. option_map_or (cut_write bytes) due (done_write bytes)) e
 
-  write_off : (bytes : List ℕ) (fate : Fate) → fate_due old.cut ≡ Some fate → IsExactly (after_write block bytes old) new → IsExactly (cut_write bytes fate) new
-  write_off bytes fate e exactly = subst (λ m. IsExactly m new) (ap (λ due. option_map_or (cut_write bytes) due (done_write bytes)) e) exactly
+  write_off : (bytes : List ℕ) (fate : Fate) → fate_due old.cut ≡ Some fate → new ≡ after_write block bytes old → new ≡ cut_write bytes fate
+  write_off bytes fate e exactly = exactly ∙ ap (λ due. option_map_or (cut_write bytes) due (done_write bytes)) e
 
   module _ (was_on : IsTrue old.world.power) where
     abbrev worn : List Cell
     worn = cells_worn block old.arms old.world.cells
 
-    pub used_read : IsExactly (begun block old) new → Used old new block (λ cell. cell)
-    used_read x = record {
+    -- a use that left these cells, this power and this many cuts
+    used_by : (change : Cell → Cell) (cells : List Cell) (power : Bool) (cuts : ℕ) → cells ≡ set worn block (change (cell_at worn block))
+        → new ≡ record (begun block old) { world = record (begun block old).world { cells = cells; power = power; cuts = cuts } } → Used old new block change
+    used_by change cells power cuts is x = record {
       was_on = was_on;
-      as_told = ap (λ m. m.world.told) x.same;
-      counts = ap (λ m. m.world.uses) x.same;
-      never_falls = x.never_falls;
-      cells = ap (λ m. m.world.cells) x.same ∙ sym (set-get_or worn block Dead);
-      arms = ap (λ m. m.arms) x.same;
-      cut = ap (λ m. m.cut) x.same;
+      as_told = ap (λ m. m.world.told) x;
+      counts = ap (λ m. m.world.uses) x;
+      no_fault = ap (λ m. m.world.faults) x;
+      cells = ap (λ m. m.world.cells) x ∙ is;
+      arms = ap (λ m. m.arms) x;
+      cut = ap (λ m. m.cut) x;
     }
 
-    used_cut_read : IsExactly (cut_off (begun block old)) new → Used old new block (λ cell. cell)
-    used_cut_read x = record {
-      was_on = was_on;
-      as_told = ap (λ m. m.world.told) x.same;
-      counts = ap (λ m. m.world.uses) x.same;
-      never_falls = x.never_falls;
-      cells = ap (λ m. m.world.cells) x.same ∙ sym (set-get_or worn block Dead);
-      arms = ap (λ m. m.arms) x.same;
-      cut = ap (λ m. m.cut) x.same;
-    }
+    pub used_read : new ≡ begun block old → Used old new block (λ cell. cell)
+    used_read x = used_by (λ cell. cell) worn old.world.power old.world.cuts (sym (set-get_or worn block Dead)) x
 
-    used_write : (bytes : List ℕ) → IsExactly (done_write bytes) new → Used old new block (written bytes)
-    used_write bytes x = record {
-      was_on = was_on;
-      as_told = ap (λ m. m.world.told) x.same;
-      counts = ap (λ m. m.world.uses) x.same;
-      never_falls = x.never_falls;
-      cells = ap (λ m. m.world.cells) x.same;
-      arms = ap (λ m. m.arms) x.same;
-      cut = ap (λ m. m.cut) x.same;
-    }
+    used_cut_read : new ≡ cut_off (begun block old) → Used old new block (λ cell. cell)
+    used_cut_read x = used_by (λ cell. cell) worn false (counted old.world.cuts 1) (sym (set-get_or worn block Dead)) x
 
-    used_cut_write : (bytes : List ℕ) (fate : Fate) → IsExactly (cut_write bytes fate) new → Used old new block (cut_short fate bytes)
-    used_cut_write bytes fate x = record {
-      was_on = was_on;
-      as_told = ap (λ m. m.world.told) x.same;
-      counts = ap (λ m. m.world.uses) x.same;
-      never_falls = x.never_falls;
-      cells = ap (λ m. m.world.cells) x.same;
-      arms = ap (λ m. m.arms) x.same;
-      cut = ap (λ m. m.cut) x.same;
-    }
+    used_write : (bytes : List ℕ) → new ≡ done_write bytes → Used old new block (written bytes)
+    used_write bytes x = used_by (written bytes) (done_write bytes).world.cells old.world.power old.world.cuts refl x
+
+    used_cut_write : (bytes : List ℕ) (fate : Fate) → new ≡ cut_write bytes fate → Used old new block (cut_short fate bytes)
+    used_cut_write bytes fate x = used_by (cut_short fate bytes) (cut_write bytes fate).world.cells false (counted old.world.cuts 1) refl x
 
   -- one use reaches one use further
-  goes_on : fate_due old.cut ≡ None → IsTrue old.world.power → IsExactly (begun block old) new → Reach old new 1
-  goes_on due was_on x = reach_on old new block (λ cell. cell) (used_read was_on x) same_is_kind due (ap (λ m. m.world.power) x.same) (ap (λ m. m.world.cuts) x.same)
+  goes_on : fate_due old.cut ≡ None → IsTrue old.world.power → new ≡ begun block old → Reach old new 1
+  goes_on due was_on x = reach_on old new block (λ cell. cell) (used_read was_on x) same_is_kind due (ap (λ m. m.world.power) x) (ap (λ m. m.world.cuts) x)
 
-  off_now : (x : IsExactly (cut_off (begun block old)) new) → ¬ IsTrue new.world.power
-  off_now x on = false≢true (sym (ap (λ m. m.world.power) x.same) ∙ on)
-
-  off_now_write : (bytes : List ℕ) (fate : Fate) → IsExactly (cut_write bytes fate) new → ¬ IsTrue new.world.power
-  off_now_write bytes fate x on = false≢true (sym (ap (λ m. m.world.power) x.same) ∙ on)
+  off_now : new.world.power ≡ false → ¬ IsTrue new.world.power
+  off_now e on = false≢true (sym e ∙ on)
 
   pub read_goes : (into into' : List ℕ) (end : ReadEnd) → IsToCome old.cut → ReadExactly old new block into into' end → ReadGoes (Reach old new) end
   read_goes into into' reads.Done to_come rule = goes_on rule.not_due rule.was_on (read_on rule.not_due rule.exactly)
@@ -107,19 +86,19 @@ module _ (old new : Machine) (block : ℕ) where
   read_goes into into' reads.Cut to_come rule =
       let due = fate_of_due (fate_due old.cut) rule.0.due in
       let x = read_off due.0 due.1 rule.0.exactly in
-      reach_off old new block (λ cell. cell) due.0 (used_cut_read rule.0.was_on x) (record { tame = same_is_kind.tame; may_tear = λ cell h. inl (same_is_kind.stays_good cell h) }) to_come due.1 (off_now x)
-      (ap (λ m. m.world.cuts) x.same)
+      reach_off old new block (λ cell. cell) due.0 (used_cut_read rule.0.was_on x) (record { tame = same_is_kind.tame; may_tear = λ cell h. inl (same_is_kind.stays_good cell h) }) to_come due.1 (off_now (ap (λ m. m.world.power) x))
+      (ap (λ m. m.world.cuts) x)
   read_goes into into' reads.Off to_come rule = subst (λ m. Reach old m 0) (sym rule.0.nothing) (reach_none old to_come)
   read_goes into into' reads.Failed to_come rule = tt
 
   pub write_goes : (bytes : List ℕ) (end : WriteEnd) → IsToCome old.cut → WriteExactly old new block bytes end → WriteGoes (Reach old new) end
   write_goes bytes writes.Done to_come rule =
       let x = write_on bytes rule.not_due rule.exactly in
-      reach_on old new block (written bytes) (used_write rule.was_on bytes x) (written_is_kind bytes) rule.not_due (ap (λ m. m.world.power) x.same) (ap (λ m. m.world.cuts) x.same)
+      reach_on old new block (written bytes) (used_write rule.was_on bytes x) (written_is_kind bytes) rule.not_due (ap (λ m. m.world.power) x) (ap (λ m. m.world.cuts) x)
   write_goes bytes writes.Cut to_come rule =
       let due = fate_of_due (fate_due old.cut) rule.due in
       let x = write_off bytes due.0 due.1 rule.exactly in
-      reach_off old new block (cut_short due.0 bytes) due.0 (used_cut_write rule.was_on bytes due.0 x) (cut_short_is_harsh due.0 bytes) to_come due.1 (off_now_write bytes due.0 x) (ap (λ m. m.world.cuts) x.same)
+      reach_off old new block (cut_short due.0 bytes) due.0 (used_cut_write rule.was_on bytes due.0 x) (cut_short_is_harsh due.0 bytes) to_come due.1 (off_now (ap (λ m. m.world.power) x)) (ap (λ m. m.world.cuts) x)
   write_goes bytes writes.Off to_come rule = subst (λ m. Reach old m 0) (sym rule.nothing) (reach_none old to_come)
   write_goes bytes writes.Failed to_come rule = tt
 
@@ -130,7 +109,6 @@ module _ (old new : Machine) (block : ℕ) where
       was_on = used.was_on;
       as_told = used.as_told;
       counts = used.counts;
-      never_falls = used.never_falls;
       others = cell_other old new block change used tame;
       stays_dead = dead_here old new block change used tame;
     }
@@ -158,11 +136,11 @@ module _ (old new : Machine) (block : ℕ) where
   ]
   unchanged false hidden into' used gives e = e ∙ worn_none (is_killed block old.arms) old.world.cells hidden
 
-  stays_on : IsTrue old.world.power → IsExactly (begun block old) new → GoesOn old.world new.world
-  stays_on was_on x = record { stays_on = ap (λ m. m.world.power) x.same ∙ was_on; no_cut = ap (λ m. m.world.cuts) x.same }
+  stays_on : IsTrue old.world.power → new ≡ begun block old → GoesOn old.world new.world
+  stays_on was_on x = record { stays_on = ap (λ m. m.world.power) x ∙ was_on; no_cut = ap (λ m. m.world.cuts) x; no_fault = ap (λ m. m.world.faults) x }
 
-  is_cut : IsExactly (cut_off (begun block old)) new → IsCut old.world new.world
-  is_cut x = record { goes_off = off_now x; one_cut = ap (λ m. m.world.cuts) x.same }
+  is_cut : new ≡ cut_off (begun block old) → IsCut old.world new.world
+  is_cut x = record { goes_off = off_now (ap (λ m. m.world.power) x); one_cut = ap (λ m. m.world.cuts) x; no_fault = ap (λ m. m.world.faults) x }
 
   pub read_rule : (into into' : List ℕ) (end : ReadEnd) → ShowsNoneUntold old.world → ReadExactly old new block into into' end → ReadRule old.world new.world block into into' end
   read_rule into into' reads.Done hidden rule =
@@ -171,7 +149,7 @@ module _ (old new : Machine) (block : ℕ) where
       record {
         one = is_use (λ cell. cell) same_is_kind.tame used;
         goes_on = stays_on rule.was_on x;
-        same = unchanged old.world.told hidden into' used rule.gives (ap (λ m. m.world.cells) x.same);
+        same = unchanged old.world.told hidden into' used rule.gives (ap (λ m. m.world.cells) x);
         gives = rule.gives;
       }
   read_rule into into' reads.Unreadable hidden rule =
@@ -204,7 +182,7 @@ module _ (old new : Machine) (block : ℕ) where
       let used = used_write rule.was_on bytes x in
       record {
         one = is_use (written bytes) (written_is_kind bytes).tame used;
-        goes_on = record { stays_on = ap (λ m. m.world.power) x.same ∙ rule.was_on; no_cut = ap (λ m. m.world.cuts) x.same };
+        goes_on = record { stays_on = ap (λ m. m.world.power) x ∙ rule.was_on; no_cut = ap (λ m. m.world.cuts) x; no_fault = ap (λ m. m.world.faults) x };
         left = left_by_write bytes used;
       }
   write_rule bytes writes.Cut rule =
@@ -213,7 +191,7 @@ module _ (old new : Machine) (block : ℕ) where
       let used = used_cut_write rule.was_on bytes due.0 x in
       record {
         one = is_use (cut_short due.0 bytes) (cut_short_is_harsh due.0 bytes).tame used;
-        cut = record { goes_off = off_now_write bytes due.0 x; one_cut = ap (λ m. m.world.cuts) x.same };
+        cut = record { goes_off = off_now (ap (λ m. m.world.power) x); one_cut = ap (λ m. m.world.cuts) x; no_fault = ap (λ m. m.world.faults) x };
         left = left_by_cut bytes due.0 used;
       }
   write_rule bytes writes.Off rule = record { was_off = rule.was_off; nothing = ap (λ m. m.world) rule.nothing }

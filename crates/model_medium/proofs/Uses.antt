@@ -1,5 +1,5 @@
 -- What one use of a controllable medium makes of it, whatever it makes of the cell of its block.
-use Rattle.std.specs.Prelude.{◌≡◌, ◌≢◌, ℕ, ◌≤◌, ◌⊎◌, Bool, true, false, IsTrue, if◌then◌else◌, Some, None, List, set}
+use Rattle.std.specs.Prelude.{◌≡◌, ◌≢◌, ℕ, ◌⊎◌, Bool, true, false, IsTrue, if◌then◌else◌, Some, None, List, set}
 use Rattle.std.proofs.Common.{refl, sym, ap, ◌∙◌, inl, inr, subst}
 use Rattle.std.proofs.lemmas.Bool.{cases_eq, cases_Bool}
 use Rattle.model_counts.specs.Counts.{counted}
@@ -15,7 +15,7 @@ pub record Used (old new : Machine) (block : ℕ) (change : Cell → Cell) : Typ
   pub was_on : IsTrue old.world.power
   pub as_told : new.world.told ≡ old.world.told
   pub counts : new.world.uses ≡ counted old.world.uses 1
-  pub never_falls : old.world.faults ≤ new.world.faults
+  pub no_fault : new.world.faults ≡ old.world.faults
   pub cells : new.world.cells ≡ set (cells_worn block old.arms old.world.cells) block (change (cell_at (cells_worn block old.arms old.world.cells) block))
   pub arms : new.arms ≡ arms_after block old.arms
   pub cut : new.cut ≡ cut_after old.cut
@@ -77,7 +77,7 @@ module _ (old new : Machine) (block : ℕ) (change : Cell → Cell) (used : Used
   ]
 
   lasts_one : Lasts old.world new.world 1
-  lasts_one = record { as_told = used.as_told; counts = used.counts; never_falls = used.never_falls; stays_dead = dead_stays }
+  lasts_one = record { as_told = used.as_told; counts = used.counts; no_fault = used.no_fault; stays_dead = dead_stays }
 
   arms_one : WornBy 1 new.world.cells old.arms new.arms
   arms_one = subst (WornBy 1 new.world.cells old.arms) (sym used.arms) (worn_by-one block new.world.cells old.arms killed_here)

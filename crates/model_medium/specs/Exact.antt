@@ -1,4 +1,4 @@
-use Rattle.std.specs.Prelude.{◌≡◌, ℕ, ◌≤◌, true, false, IsTrue, None, IsSome, List}
+use Rattle.std.specs.Prelude.{◌≡◌, ℕ, true, false, IsTrue, None, IsSome, List}
 use Rattle.std.specs.Bool.{OnTrue}
 use Rattle.model_medium.specs.Cells.{Good, IsGood, cell_at}
 use Rattle.model_medium.specs.World.{FailsInRead, FailsInWrite}
@@ -7,12 +7,6 @@ use Rattle.model_medium.specs.declared.ReadEnd.{ReadEnd}
 use Rattle.model_medium.specs.declared.ReadEnd.TheVariants as reads
 use Rattle.model_medium.specs.declared.WriteEnd.{WriteEnd}
 use Rattle.model_medium.specs.declared.WriteEnd.TheVariants as writes
-
--- The medium is exactly this, but that what it lies on may have counted more faults than it told. (This project's
--- own.)
-pub record IsExactly (machine new : Machine) : Type 0 where
-  pub same : new ≡ record machine { world = record machine.world { faults = new.world.faults } }
-  pub never_falls : machine.world.faults ≤ new.world.faults
 
 -- the arms and the armed cut have counted down at a use of the block
 pub record HasCountedDown (old new : Machine) (block : ℕ) : Type 0 where
@@ -23,14 +17,14 @@ pub record HasCountedDown (old new : Machine) (block : ℕ) : Type 0 where
 pub record ReadsExactly (old new : Machine) (block : ℕ) (into' : List ℕ) : Type 0 where
   pub was_on : IsTrue old.world.power
   pub not_due : fate_due old.cut ≡ None
-  pub exactly : IsExactly (after_read block old) new
+  pub exactly : new ≡ after_read block old
   pub gives : OnTrue old.world.told (cell_at new.world.cells block ≡ Good into')
 
 -- the power was on, no cut was due, and the cell is not good
 pub record FindsNothingExactly (old new : Machine) (block : ℕ) (into into' : List ℕ) : Type 0 where
   pub was_on : IsTrue old.world.power
   pub not_due : fate_due old.cut ≡ None
-  pub exactly : IsExactly (after_read block old) new
+  pub exactly : new ≡ after_read block old
   pub not_good : ¬ IsGood (cell_at new.world.cells block)
   pub kept : into' ≡ into
 
@@ -38,7 +32,7 @@ pub record FindsNothingExactly (old new : Machine) (block : ℕ) (into into' : L
 pub record IsCutExactly (old after new : Machine) : Type 0 where
   pub was_on : IsTrue old.world.power
   pub due : IsSome (fate_due old.cut)
-  pub exactly : IsExactly after new
+  pub exactly : new ≡ after
 
 -- the power was off, and nothing changed
 pub record IsOffExactly (old new : Machine) : Type 0 where
@@ -57,7 +51,7 @@ ReadExactly old new block into into' reads.Failed = FailsInRead old.world new.wo
 pub record WritesExactly (old new : Machine) (block : ℕ) (bytes : List ℕ) : Type 0 where
   pub was_on : IsTrue old.world.power
   pub not_due : fate_due old.cut ≡ None
-  pub exactly : IsExactly (after_write block bytes old) new
+  pub exactly : new ≡ after_write block bytes old
 
 -- What a write does on a controllable medium, by its answer. (This project's own.)
 abbrev pub WriteExactly : Machine → Machine → ℕ → List ℕ → WriteEnd → Type 0

@@ -6,12 +6,12 @@ use Rattle.model_medium.specs.Machine.{Machine}
 use Rattle.model_medium.specs.declared.WornBlock.{WornBlock}
 use Rattle.model_medium.specs.declared.ArmedCut.{ArmedCut}
 
--- What k uses of any medium keep, none of which failed: they are counted, what is told stays told, no count falls, and
--- a dead cell stays dead. (This project's own, as all here.)
+-- What k uses of any medium keep, none of which failed: they are counted, what is told stays told, no fault is counted,
+-- and a dead cell stays dead. (This project's own, as all here.)
 pub record Lasts (old new : World) (k : ℕ) : Type 0 where
   pub as_told : new.told ≡ old.told
   pub counts : new.uses ≡ counted old.uses k
-  pub never_falls : old.faults ≤ new.faults
+  pub no_fault : new.faults ≡ old.faults
   pub stays_dead : (block : ℕ) → cell_at old.cells block ≡ Dead → cell_at new.cells block ≡ Dead
 
 -- no cut came: the power is as it was, and each good cell is good or dead

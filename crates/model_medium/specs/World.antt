@@ -1,4 +1,4 @@
-use Rattle.std.specs.Prelude.{◌≡◌, ◌≢◌, ℕ, ◌≤◌, ◌⊎◌, Bool, IsTrue, List, []}
+use Rattle.std.specs.Prelude.{◌≡◌, ◌≢◌, ℕ, ◌⊎◌, Bool, IsTrue, List, []}
 use Rattle.std.specs.Bool.{OnTrue, OnFalse}
 use Rattle.model_counts.specs.Counts.{counted, Rose}
 use Rattle.model_medium.specs.Cells.{Cell, Good, Dead, IsGood, cell_at, MayLeave, IsSameOrDead}
@@ -28,19 +28,20 @@ pub record IsUse (old new : World) (block : ℕ) : Type 0 where
   pub was_on : IsTrue old.power
   pub as_told : new.told ≡ old.told
   pub counts : new.uses ≡ counted old.uses 1
-  pub never_falls : old.faults ≤ new.faults
   pub others : (other : ℕ) → other ≢ block → cell_at new.cells other ≡ cell_at old.cells other
   pub stays_dead : cell_at old.cells block ≡ Dead → cell_at new.cells block ≡ Dead
 
--- the use went to its end: the power is on, and no cut is counted
+-- the use went to its end: the power is on, and neither a cut nor a fault is counted
 pub record GoesOn (old new : World) : Type 0 where
   pub stays_on : IsTrue new.power
   pub no_cut : new.cuts ≡ old.cuts
+  pub no_fault : new.faults ≡ old.faults
 
--- the power was cut in the use: it is off, and the cut is counted
+-- the power was cut in the use: it is off, and the cut alone is counted
 pub record IsCut (old new : World) : Type 0 where
   pub goes_off : ¬ IsTrue new.power
   pub one_cut : new.cuts ≡ counted old.cuts 1
+  pub no_fault : new.faults ≡ old.faults
 
 -- what the medium lies on failed in the use: the power is off, and the fault is counted
 pub record HasFailed (old new : World) : Type 0 where

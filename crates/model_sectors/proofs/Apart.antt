@@ -7,7 +7,7 @@ use Rattle.std.proofs.lemmas.List.{get_or-drop}
 use Rattle.std.proofs.lemmas.List.Kept.{AllPairs-from_increasing}
 use Rattle.model_medium.specs.Cells.{cell_at}
 use Rattle.model_sectors.specs.Discs.{Shown, home, home_cell}
-use Rattle.model_sectors.specs.Calls.{OnlyCovered}
+use Rattle.model_sectors.specs.Writes.{OnlyCovered}
 
 -- a block before the covered ones, or behind them, is none of them
 outside_differs : (first count i k : ℕ) → (i < first) ⊎ (first + count ≤ i) → k < count → i ≡ first + k → ⊥

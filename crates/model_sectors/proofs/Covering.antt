@@ -9,7 +9,8 @@ use Rattle.model_buffer.specs.Buffer.{bytes_at, with_front, numbers_in, touched_
 use Rattle.model_buffer.specs.declared.TheConstants.{BUFFERED_BLOCKS}
 use Rattle.model_bytes.specs.Bytes.{put_at}
 use Rattle.model_sectors.specs.Discs.{replaced}
-use Rattle.model_sectors.specs.Uses.{block_with, blocks_covered, start_in, end_in, is_partly, touched_from, is_buffered, is_at_hand, read_uses}
+use Rattle.model_sectors.specs.Requests.{block_with, blocks_covered, start_in, end_in, is_partly, HoldsSector}
+use Rattle.model_sectors.specs.Uses.{touched_from, is_buffered, is_at_hand, read_uses}
 use Rattle.model_sectors.proofs.Pieces.{replaced_none, replaced_all, replaced_empty}
 
 -- a request for nothing covers no block
@@ -73,6 +74,12 @@ covered_inside lba n k blocks inside covered =
 pub block_with_start : (lba n k : ℕ) → k < blocks_covered lba n → block_with (start_in lba (block_with lba + k)) ≡ block_with lba + k
 block_with_start lba n k covered =
     let after = covered_after lba n k covered in omega arith
+
+-- and is a sector of the request
+pub covered_holds : (lba n k : ℕ) → k < blocks_covered lba n → HoldsSector lba n (block_with lba + k)
+covered_holds lba n k covered =
+    let some = covered_part lba n k covered in
+    (start_in lba (block_with lba + k), omega arith, omega arith, block_with_start lba n k covered)
 
 -- in the first covered block the request begins at its first sector
 pub start_first : (lba : ℕ) → start_in lba (block_with lba) ≡ lba

@@ -5,8 +5,8 @@ use Rattle.std.proofs.lemmas.List.{length-take-le, take-take, drop-drop, drop-ta
 use Rattle.model_bytes.specs.Bytes.{put_at}
 use Rattle.model_bytes.proofs.Laws.{length-put_at, drop-put_at, range-put_at, other_range-put_at, take-put_at-end, drop-put_at-start}
 use Rattle.model_sectors.specs.Discs.{sectors_of, block_of, replaced}
-use Rattle.model_sectors.specs.Uses.{start_in, end_in}
-use Rattle.model_sectors.specs.Calls.{DifferInBlock}
+use Rattle.model_sectors.specs.Requests.{start_in, end_in}
+use Rattle.model_sectors.specs.Writes.{DifferInBlock}
 
 -- a piece of a piece is a piece
 pub piece_of_piece : (place many low n : ℕ) (d : List ℕ) → low + n ≤ many → take n (drop low (take many (drop place d))) ≡ take n (drop (place + low) d)

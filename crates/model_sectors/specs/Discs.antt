@@ -1,3 +1,4 @@
+-- What a drive stands for and what it shows beside it: discs as lists of bytes. For all clauses of the trait of sectors.
 use Rattle.std.specs.Prelude.{◌≡◌, ℕ, ◌-◌, ◌*◌, ◌<◌, ◌⊎◌, IsTrue, List, [], ◌∷◌, length, take, drop, replicate, slice_index, flat_map}
 use Rattle.model_bytes.specs.Bytes.{put_at}
 use Rattle.model_medium.specs.Cells.{Cell, Blank, Good, Torn, Dead, cell_at}

@@ -1,3 +1,8 @@
 pub mod Discs
+pub mod Requests
 pub mod Uses
-pub mod Calls
+pub mod Parts
+pub mod Tells
+pub mod Reads
+pub mod Writes
+pub mod Power

@@ -1,27 +1,9 @@
-use Rattle.std.specs.Prelude.{◌≡◌, ℕ, zero, suc, ◌+◌, ◌-◌, ◌*◌, ◌/◌, ◌<◌, ◌==◌, ◌&&◌, not, nat_lt, min, max, Bool, if◌then◌else◌, List}
+-- How many uses of the medium the calls of a drive take, and which blocks are buffered after them. For the causes of
+-- reads, writes and power. (This project's own, as all here.)
+use Rattle.std.specs.Prelude.{ℕ, zero, suc, ◌+◌, ◌==◌, ◌&&◌, not, Bool, if◌then◌else◌, List}
 use Rattle.std.specs.List.{list_any}
 use Rattle.model_buffer.specs.Buffer.{touched_one}
-
--- the logical block in which a sector lies (this project's own, as all here)
-abbrev pub block_with : ℕ → ℕ
-block_with lba = lba / 16
-
--- How many logical blocks a request for so many sectors from this one on covers, whole or in part. They are numbered
--- from that of the first sector on.
-abbrev pub blocks_covered : (lba n : ℕ) → ℕ
-blocks_covered lba n = if n == 0 then 0 else (lba + n - 1) / 16 + 1 - lba / 16
-
--- the first sector of the request in a block that it covers
-abbrev pub start_in : (lba block : ℕ) → ℕ
-start_in lba block = max lba (16 * block)
-
--- the end of the request in a block that it covers
-abbrev pub end_in : (lba n block : ℕ) → ℕ
-end_in lba n block = min (lba + n) (16 * block + 16)
-
--- whether the request covers less than all of the block
-abbrev pub is_partly : (lba n block : ℕ) → Bool
-is_partly lba n block = nat_lt (end_in lba n block - start_in lba block) 16
+use Rattle.model_sectors.specs.Requests.{block_with, is_partly}
 
 -- the buffered blocks after uses of so many blocks, in order from this one on
 abbrev pub touched_from : List ℕ → (first : ℕ) → ℕ → List ℕ
@@ -55,11 +37,6 @@ write_uses buffered lba n (suc k) = write_uses buffered lba n k + ((if reads_res
 abbrev pub touched_refused : List ℕ → (lba n k : ℕ) → List ℕ
 touched_refused buffered lba n k =
     if is_partly lba n (block_with lba + k) then touched_from buffered (block_with lba) (suc k) else touched_from buffered (block_with lba) k
-
--- so many blocks of the request come before the one in which this is its first sector
-pub record IsNamed (lba n named k : ℕ) : Type 0 where
-  pub covered : k < blocks_covered lba n
-  pub first : named ≡ start_in lba (block_with lba + k)
 
 -- how many uses of the medium it takes to turn the power on: none, as there are no lists to read
 abbrev pub mount_uses : ℕ

@@ -1,9 +1,26 @@
-ghost use Rattle.std.specs.Prelude.{◌≡◌, ℕ, ◌+◌, ◌-◌, ◌*◌, ◌<◌, ◌≤◌, ◌⊎◌, List, length, take, drop};
+ghost use Rattle.std.specs.Prelude.{◌≡◌, ℕ, ◌+◌, ◌-◌, ◌*◌, ◌^◌, ◌<◌, ◌≤◌, ◌⊎◌, List, length, take, drop};
 ghost use Rattle.model_buffer.specs.declared.TheConstants.{BUFFERED_BLOCKS};
 ghost use Rattle.model_sectors.specs.Discs.{Standing, Shown, home, home_cell, sectors_of, replaced, Fits, SomeFits, IsFirstFit};
-ghost use Rattle.model_sectors.specs.Uses.{block_with, blocks_covered, read_uses};
+ghost use Rattle.model_sectors.specs.Requests.{block_with, blocks_covered, IsCovered, HoldsSector};
+ghost use Rattle.model_sectors.specs.declared.TheConstants.{TRANSFER_SECTORS, MOST_SECTORS};
+ghost use Rattle.model_sectors.specs.Uses.{read_uses};
 ghost use Rattle.model_medium.specs.Cells.{cell_at};
-ghost use Rattle.model_sectors.specs.Calls.{AreBuffered, OnlyCovered, StopsInBlock, IsOldOrNew};
+ghost use Rattle.model_sectors.specs.Reads.{AreBuffered};
+ghost use Rattle.model_sectors.specs.Writes.{OnlyCovered, StopsInBlock, IsOldOrNew};
+
+/// The limits of a request, in sectors.
+pub fn limits_of_requests_are_these()
+    ensures transfer { TRANSFER_SECTORS ≡ 1024 }
+    ensures most { MOST_SECTORS ≡ 2 ^ 28 }
+{}
+
+/// A sector lies in one of the blocks of sixteen sectors, and a request covers the blocks that hold a sector of it, and
+/// no others.
+pub fn a_block_is_covered_where_it_holds_a_sector()
+    ensures lies { (sector : ℕ) → (16 * block_with sector ≤ sector) × (sector < 16 * block_with sector + 16) }
+    ensures covered { (lba n block : ℕ) → IsCovered lba n block → HoldsSector lba n block }
+    ensures no_other { (lba n block : ℕ) → HoldsSector lba n block → IsCovered lba n block }
+{}
 
 /// The sectors that are replaced read back as the bytes that were written, and the others as before.
 pub fn what_is_replaced_reads_back()

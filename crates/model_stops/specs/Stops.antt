@@ -15,14 +15,14 @@ module _ {M : Type 0} (world : M → World) (reaches : M → M → ℕ → Type 
     pub reach : reaches old new k
     pub is_on : IsTrue (world new).power
 
-  -- the power was cut in the last of at most so many uses
+  -- the power was cut in the last of at most so many uses, and no fault is counted
   pub record StopsByCut (old new : M) (most : ℕ) : Type 0 where
     pub uses : ℕ
     pub few : uses ≤ most
     pub reach : reaches old new uses
     pub cut : IsCut (world old) (world new)
 
-  -- the last of at most so many uses failed, and those before did not
+  -- the last of at most so many uses failed and counted it, and those before did not
   pub record StopsByFault (old new : M) (most : ℕ) : Type 0 where
     pub mid : M
     pub before : ℕ

@@ -6,7 +6,7 @@ use Rattle.std.proofs.Common.{sym, ap, ◌∙◌, inl, inr, subst, arith}
 use Rattle.model_medium.specs.Cells.{Good, cell_at, IsSameOrDead, MayLeave, written, cut_short}
 use Rattle.model_medium.specs.World.{IsUse, HasFailed}
 use Rattle.model_medium.specs.Machine.{Machine, fate_due, begun, cut_off, with_cell, after_read}
-use Rattle.model_medium.specs.Exact.{IsExactly, HasCountedDown, ReadExactly, WriteExactly}
+use Rattle.model_medium.specs.Exact.{HasCountedDown, ReadExactly, WriteExactly}
 use Rattle.model_medium.specs.declared.Fate.{Fate}
 use Rattle.model_medium.specs.declared.ReadEnd.{ReadEnd}
 use Rattle.model_medium.specs.declared.ReadEnd.TheVariants as reads
@@ -17,20 +17,10 @@ use Rattle.model_medium.proofs.CellFacts.{same_is_kind}
 use Rattle.model_medium.proofs.Rules.{used_read, left_by_read}
 use Rattle.ram_image.specs.Begun.{FailsWithin, ReadOnRule, WriteCutRule}
 
--- the machine with so many faults counted
-abbrev counting : ℕ → Machine → Machine
-counting faults machine = record machine { world = record machine.world { faults = faults } }
-
-pub exactly_then : (a b c : Machine) → IsExactly a b → IsExactly b c → IsExactly a c
-exactly_then a b c one two = record {
-  same = two.same ∙ ap (counting c.world.faults) one.same;
-  never_falls = omega (arith, one.never_falls, two.never_falls);
-}
-
 some_due : (due : Option Fate) (fate : Fate) → due ≡ Some fate → IsSome due
 some_due due fate e = ap is_some e
 
-module _ (old mid new : Machine) (block : ℕ) (was_on : IsTrue old.world.power) (begins : IsExactly (begun block old) mid) where
+module _ (old mid new : Machine) (block : ℕ) (was_on : IsTrue old.world.power) (begins : mid ≡ begun block old) where
   used : Used old mid block (λ cell. cell)
   used = used_read old mid block was_on begins
 
@@ -39,7 +29,6 @@ module _ (old mid new : Machine) (block : ℕ) (was_on : IsTrue old.world.power)
     was_on = was_on;
     as_told = fails.as_told ∙ used.as_told;
     counts = fails.uses_same ∙ used.counts;
-    never_falls = omega (arith, used.never_falls, fails.fault);
     others = λ other ne. fails.others other ne ∙ cell_other old mid block (λ cell. cell) used same_is_kind.tame other ne;
     stays_dead = λ e. fails.stays_dead (dead_here old mid block (λ cell. cell) used same_is_kind.tame e);
   }
@@ -47,8 +36,8 @@ module _ (old mid new : Machine) (block : ℕ) (was_on : IsTrue old.world.power)
   has_failed : FailsWithin mid new block → HasFailed old.world new.world
   has_failed fails = record {
     goes_off = fails.goes_off;
-    no_cut = fails.cuts_same ∙ ap (λ m. m.world.cuts) begins.same;
-    fault = omega (arith, used.never_falls, fails.fault);
+    no_cut = fails.cuts_same ∙ ap (λ m. m.world.cuts) begins;
+    fault = omega (arith, used.no_fault, fails.fault);
   }
 
   counted_down : FailsWithin mid new block → HasCountedDown old new block
@@ -65,8 +54,8 @@ module _ (old mid new : Machine) (block : ℕ) (was_on : IsTrue old.world.power)
 
   -- no cut is due
   module _ (not_due : fate_due old.cut ≡ None) where
-    read_now : IsExactly mid new → IsExactly (after_read block old) new
-    read_now x = subst (λ m. IsExactly m new) (sym (ap (λ due. option_map_or (λ fate. cut_off (begun block old)) due (begun block old)) not_due)) (exactly_then (begun block old) mid new begins x)
+    read_now : new ≡ mid → new ≡ after_read block old
+    read_now x = x ∙ begins ∙ sym (ap (λ due. option_map_or (λ fate. cut_off (begun block old)) due (begun block old)) not_due)
 
     pub event_read : (into into' : List ℕ) (how : ReadEnd) → ReadOnRule mid new block into into' how → ReadExactly old new block into into' how
     event_read into into' reads.Done rule = record { was_on = was_on; not_due = not_due; exactly = read_now rule.0; gives = subst (λ told. OnTrue told (cell_at new.world.cells block ≡ Good into')) used.as_told rule.1 }
@@ -84,10 +73,8 @@ module _ (old mid new : Machine) (block : ℕ) (was_on : IsTrue old.world.power)
   event_cut_write bytes fate due writes.Cut rule = record {
     was_on = was_on;
     due = some_due (fate_due old.cut) fate due;
-    exactly = subst (λ m. IsExactly m new)
-        (sym (ap (λ due. option_map_or (λ fate. cut_off (with_cell block (cut_short fate bytes) (begun block old))) due (with_cell block (written bytes) (begun block old))) due))
-        (exactly_then (cut_off (with_cell block (cut_short fate bytes) (begun block old))) (cut_off (with_cell block (cut_short fate bytes) mid)) new
-        (record { same = ap (λ m. cut_off (with_cell block (cut_short fate bytes) m)) begins.same; never_falls = begins.never_falls }) rule);
+    exactly = rule ∙ ap (λ m. cut_off (with_cell block (cut_short fate bytes) m)) begins
+        ∙ sym (ap (λ due. option_map_or (λ fate. cut_off (with_cell block (cut_short fate bytes) (begun block old))) due (with_cell block (written bytes) (begun block old))) due);
   }
   event_cut_write bytes fate due writes.Off rule = absurd rule
   event_cut_write bytes fate due writes.Failed rule = failed_write bytes rule

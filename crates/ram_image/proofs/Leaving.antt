@@ -11,14 +11,14 @@ use Rattle.model_image.specs.Cells.{state_place, image_len, cell_of, cell_in, ce
 use Rattle.model_image.proofs.Writes.{cell_at-cells_of}
 use Rattle.model_image.proofs.StateWrites.{told-put_state, told-stopped_state}
 use Rattle.model_image.proofs.ToldCells.{told_more, told_same, sets_same}
-use Rattle.ram_outside.specs.Image.{IsUnchanged, HasFailed, WriteAtRule}
+use Rattle.ram_outside.specs.Image.{IsUnchanged, ImageFails, WriteAtRule}
 use Rattle.ram_outside.specs.declared.image.Moved.{Moved}
 use Rattle.ram_outside.specs.declared.image.Moved.TheVariants as moves
-use Rattle.ram_image.specs.CellCalls.{WriteStateRule, WriteCellRule, StopsInLeaving, Leaves, LeaveCellRule}
+use Rattle.ram_image.specs.CellCalls.{call_between, WriteStateRule, WriteCellRule, StopsInLeaving, Leaves, LeaveCellRule}
 
 -- a write of a state byte
 pub state_written : (total block : ℕ) → block < total → (byte : ℕ) (cell : Cell) → ((bytes : List ℕ) → cell_of byte bytes ≡ cell) → (before after : Option (List ℕ)) → ForSome before (λ held. length held ≡ image_len total)
-    → (f f' : ℕ) (r : Moved) → WriteAtRule before after f f' (state_place block) (byte ∷ []) r → WriteStateRule before after f f' total block cell r
+    → (f f' : ℕ) (r : Moved) → WriteAtRule before after f f' (state_place block) (byte ∷ []) r → WriteStateRule (call_between total block before after f f') cell r
 state_written total block inside byte cell always before after whole f f' moves.Done rule = (told-put_state total block inside byte cell always before after whole rule.changed, rule.count)
 state_written total block inside byte cell always before after whole f f' moves.Failed rule = (told-stopped_state total block inside byte cell always before after whole rule.1, rule.0)
 
@@ -30,7 +30,7 @@ module _ (total block : ℕ) (inside : block < total) (bytes : List ℕ) where
     stays_dead = λ e. e;
   }
 
-  pub left_unread : (before after : Option (List ℕ)) (f f' : ℕ) → HasFailed before after f f' → WhereTold before after (StopsInLeaving total block bytes) × Rose f f'
+  pub left_unread : (before after : Option (List ℕ)) (f f' : ℕ) → ImageFails before after f f' → WhereTold before after (StopsInLeaving total block bytes) × Rose f f'
   left_unread before after f f' failed = (told_same (StopsInLeaving total block bytes) (λ held. Unit {0}) (λ held p. none_left held) before after (any before) failed.same, failed.count)
     where
       any : (o : Option (List ℕ)) → IfSome o (λ held. Unit {0})
@@ -82,15 +82,15 @@ module _ (total block : ℕ) (inside : block < total) (bytes : List ℕ) where
         (λ held held' p r. subst (λ c. SetsCell total block c held held') (sym (is (cell_at (cells_of total held) block) ∙ alive (cell_at (cells_of total held) block) cell (λ e. p (sym (here held) ∙ e)))) r) before after lives
         (subst (λ o. WhereTold o after (SetsCell total block cell)) unchanged.same told)
 
-    pub left_new : (fate : Fate) → fate ≡ fates.New → (r : Moved) → WriteCellRule mid after f1 f2 total block bytes r → LeaveCellRule before after f f2 total block bytes fate r
-    left_new fate e moves.Done rule = subst (λ fate. LeaveCellRule before after f f2 total block bytes fate moves.Done) (sym e) (sets (Good bytes) fates.New (λ old. refl) rule.0, omega (arith, unchanged.count, rule.1))
+    pub left_new : (fate : Fate) → fate ≡ fates.New → (r : Moved) → WriteCellRule (call_between total block mid after f1 f2) bytes r → LeaveCellRule (call_between total block before after f f2) bytes fate r
+    left_new fate e moves.Done rule = subst (λ fate. LeaveCellRule (call_between total block before after f f2) bytes fate moves.Done) (sym e) (sets (Good bytes) fates.New (λ old. refl) rule.0, rule.1 ∙ unchanged.count)
     left_new fate e moves.Failed rule = stops rule.0 rule.1
 
     torn_stops : (held held' : List ℕ) → StopsInState total block Torn held held' → StopsInCell total block bytes held held'
     torn_stops held held' r = record { cell = r.left; may = elim r.may [ inl e ↦ inl e | inr e ↦ inr (inr (inl e)) ]; sets = r.sets }
 
-    pub left_torn : (fate : Fate) → fate ≡ fates.Torn → (r : Moved) → WriteStateRule mid after f1 f2 total block Torn r → LeaveCellRule before after f f2 total block bytes fate r
-    left_torn fate e moves.Done rule = subst (λ fate. LeaveCellRule before after f f2 total block bytes fate moves.Done) (sym e) (sets Torn fates.Torn (λ old. refl) rule.0, omega (arith, unchanged.count, rule.1))
+    pub left_torn : (fate : Fate) → fate ≡ fates.Torn → (r : Moved) → WriteStateRule (call_between total block mid after f1 f2) Torn r → LeaveCellRule (call_between total block before after f f2) bytes fate r
+    left_torn fate e moves.Done rule = subst (λ fate. LeaveCellRule (call_between total block before after f f2) bytes fate moves.Done) (sym e) (sets Torn fates.Torn (λ old. refl) rule.0, rule.1 ∙ unchanged.count)
     left_torn fate e moves.Failed rule =
         stops (told_more (StopsInState total block Torn) (StopsInCell total block bytes) (λ held. Unit {0}) (λ held held' p r. torn_stops held held' r) mid after (any mid) rule.0) rule.1
       where

@@ -1,6 +1,8 @@
 pub mod BlockReads
 pub mod CellSteps
+pub mod ByteSteps
 pub mod TellsCells
 pub mod Leaving
 pub mod Events
+pub mod EventSteps
 pub mod MachineParts

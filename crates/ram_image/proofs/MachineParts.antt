@@ -1,5 +1,5 @@
 -- The machine that a medium over an image shows, of its parts.
-use Rattle.std.specs.Prelude.{◌≡◌, ℕ, ◌<◌, ◌≤◌, Bool, true, false, MatchBool, Option, Some, None, is_some, IfSome, List}
+use Rattle.std.specs.Prelude.{◌≡◌, ℕ, ◌<◌, Bool, true, false, MatchBool, Option, Some, None, is_some, IfSome, List}
 use Rattle.std.specs.Bool.{OnTrue}
 use Rattle.std.specs.Option.{ForSome}
 use Rattle.std.proofs.Common.{refl, sym, ap, ◌∙◌, subst}
@@ -7,7 +7,6 @@ use Rattle.model_bytes.specs.Told.{WhereTold}
 use Rattle.model_geometry.specs.Geometry.{Shape, total}
 use Rattle.model_medium.specs.Cells.{Cell, Dead, IsGood, cell_at}
 use Rattle.model_medium.specs.Machine.{Machine}
-use Rattle.model_medium.specs.Exact.{IsExactly}
 use Rattle.model_medium.specs.declared.WornBlock.{WornBlock}
 use Rattle.model_medium.specs.declared.ArmedCut.{ArmedCut}
 use Rattle.model_image.specs.Cells.{cell_in, cells_told, SetsCell}
@@ -23,9 +22,9 @@ machine_by total bytes power uses cuts faults arms cut = record {
 }
 
 -- the image has the bytes that it had
-pub exactly_same : (total : ℕ) (before after : Option (List ℕ)) (power : Bool) (uses cuts f f' : ℕ) (arms : List WornBlock) (cut : Option ArmedCut) → after ≡ before → f ≤ f'
-    → IsExactly (machine_by total before power uses cuts f arms cut) (machine_by total after power uses cuts f' arms cut)
-exactly_same total before after power uses cuts f f' arms cut e le = record { same = ap (λ o. machine_by total o power uses cuts f' arms cut) e; never_falls = le }
+pub exactly_same : (total : ℕ) (before after : Option (List ℕ)) (power : Bool) (uses cuts f f' : ℕ) (arms : List WornBlock) (cut : Option ArmedCut) → after ≡ before → f' ≡ f
+    → machine_by total after power uses cuts f' arms cut ≡ machine_by total before power uses cuts f arms cut
+exactly_same total before after power uses cuts f f' arms cut e count = ap (λ o. machine_by total o power uses cuts f' arms cut) e ∙ ap (λ n. machine_by total before power uses cuts n arms cut) count
 
 -- a cell that was found, where the image has the bytes that it had
 pub cell_found : (total block : ℕ) (P : Cell → Type 0) → block < total → (before after : Option (List ℕ)) → after ≡ before → IfSome before (λ held. P (cell_in total held block))

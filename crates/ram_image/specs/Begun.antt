@@ -1,4 +1,5 @@
-use Rattle.std.specs.Prelude.{◌≡◌, ◌≢◌, ℕ, false, IsTrue, Some, None, is_some, List, []}
+-- How a use of a medium over an image begins and goes on: for the private calls of `ImageMedium`.
+use Rattle.std.specs.Prelude.{◌≡◌, ◌≢◌, ℕ, Bool, Option, false, IsTrue, Some, None, is_some, List, []}
 use Rattle.std.specs.Bool.{OnTrue}
 use Rattle.model_counts.specs.Counts.{Rose}
 use Rattle.model_geometry.specs.Geometry.{Shape, total}
@@ -10,11 +11,14 @@ use Rattle.model_medium.specs.declared.WriteEnd.{WriteEnd}
 use Rattle.model_medium.specs.declared.WriteEnd.TheVariants as writes
 use Rattle.model_medium.specs.World.{IsUse, HasFailed}
 use Rattle.model_medium.specs.Machine.{Machine, fate_due, begun, cut_off, with_cell}
-use Rattle.model_medium.specs.Exact.{IsExactly, HasCountedDown}
+use Rattle.model_medium.specs.Exact.{HasCountedDown}
+use Rattle.model_bytes.specs.Told.{WhereTold}
 use Rattle.model_image.specs.Cells.{cells_told}
+use Rattle.model_image.specs.Writes.{bytes_left, StopsInBlock}
 use Rattle.ram_outside.specs.declared.image.Image.{Ghosts}
 use Rattle.ram_outside.specs.declared.image.Moved.{Moved}
 use Rattle.ram_outside.specs.declared.image.Moved.TheVariants as moves
+use Rattle.ram_image.specs.EventBytes.{WearsBytes, MayWearBytes}
 use Rattle.ram_image.specs.Medium.{shape_of_medium, machine_in}
 use Rattle.ram_image.specs.declared.medium.ImageMedium.{ImageMedium}
 use Rattle.ram_image.specs.declared.medium.Begun.{Begun}
@@ -40,8 +44,8 @@ pub record BeginFails (old new : Machine) (block : ℕ) : Type 0 where
 
 -- How a use of a block begins, with the power on. (This project's own.)
 abbrev pub BeginRule : Machine → Machine → ℕ → Begun → Type 0
-BeginRule old new block begins.On = (fate_due old.cut ≡ None) × IsExactly (begun block old) new
-BeginRule old new block (begins.Cut fate) = (fate_due old.cut ≡ Some fate) × IsExactly (begun block old) new
+BeginRule old new block begins.On = (fate_due old.cut ≡ None) × (new ≡ begun block old)
+BeginRule old new block (begins.Cut fate) = (fate_due old.cut ≡ Some fate) × (new ≡ begun block old)
 BeginRule old new block begins.Failed = BeginFails old new block
 
 -- the image failed in a use that had begun: it is counted, the power is off, and all else is as it was but for the
@@ -59,8 +63,8 @@ pub record FailsWithin (old new : Machine) (block : ℕ) : Type 0 where
 
 -- What a read does in a use that had begun and goes on, by its answer. (This project's own.)
 abbrev pub ReadOnRule : Machine → Machine → ℕ → List ℕ → List ℕ → ReadEnd → Type 0
-ReadOnRule old new block into into' reads.Done = IsExactly old new × OnTrue old.world.told (cell_at new.world.cells block ≡ Good into')
-ReadOnRule old new block into into' reads.Unreadable = IsExactly old new × (¬ IsGood (cell_at new.world.cells block)) × (into' ≡ into)
+ReadOnRule old new block into into' reads.Done = (new ≡ old) × OnTrue old.world.told (cell_at new.world.cells block ≡ Good into')
+ReadOnRule old new block into into' reads.Unreadable = (new ≡ old) × (¬ IsGood (cell_at new.world.cells block)) × (into' ≡ into)
 ReadOnRule old new block into into' reads.Cut = ⊥
 ReadOnRule old new block into into' reads.Off = ⊥
 ReadOnRule old new block into into' reads.Failed = FailsWithin old new block × (cell_at new.world.cells block ≡ cell_at old.world.cells block) × (into' ≡ into)
@@ -68,12 +72,30 @@ ReadOnRule old new block into into' reads.Failed = FailsWithin old new block × 
 -- What a write of these bytes with this fate makes of the block in a use that had begun, by its answer. (This
 -- project's own.)
 abbrev pub LeaveRule : Machine → Machine → ℕ → List ℕ → Fate → Moved → Type 0
-LeaveRule old new block bytes fate moves.Done = IsExactly (with_cell block (cut_short fate bytes) old) new
+LeaveRule old new block bytes fate moves.Done = (new ≡ with_cell block (cut_short fate bytes) old)
 LeaveRule old new block bytes fate moves.Failed = FailsWithin old new block × MayLeave (cell_at old.world.cells block) bytes (cell_at new.world.cells block)
 
 -- What such a write does where the power is cut in it, by its answer. (This project's own.)
 abbrev pub WriteCutRule : Machine → Machine → ℕ → List ℕ → Fate → WriteEnd → Type 0
 WriteCutRule old new block bytes fate writes.Done = ⊥
-WriteCutRule old new block bytes fate writes.Cut = IsExactly (cut_off (with_cell block (cut_short fate bytes) old)) new
+WriteCutRule old new block bytes fate writes.Cut = (new ≡ cut_off (with_cell block (cut_short fate bytes) old))
 WriteCutRule old new block bytes fate writes.Off = ⊥
 WriteCutRule old new block bytes fate writes.Failed = FailsWithin old new block × MayLeave (cell_at old.world.cells block) bytes (cell_at new.world.cells block)
+
+-- Which bytes the beginning of a use changes, by its answer, where `dies` says whether an arm of the block runs out.
+abbrev pub BeginBytes : Bool → ℕ → Option (List ℕ) → Option (List ℕ) → Begun → Type 0
+BeginBytes dies block before after begins.On = WhereTold before after (WearsBytes dies block)
+BeginBytes dies block before after (begins.Cut fate) = WhereTold before after (WearsBytes dies block)
+BeginBytes dies block before after begins.Failed = WhereTold before after (MayWearBytes dies block)
+
+-- Which bytes a write with this fate changes in a use that had begun, by its answer.
+abbrev pub LeaveBytes : ℕ → ℕ → List ℕ → Fate → Option (List ℕ) → Option (List ℕ) → Moved → Type 0
+LeaveBytes total block bytes fate before after moves.Done = WhereTold before after (λ held held'. held' ≡ bytes_left fate total block bytes held)
+LeaveBytes total block bytes fate before after moves.Failed = WhereTold before after (StopsInBlock total block bytes)
+
+-- The same where the power is cut in it.
+abbrev pub WriteCutBytes : ℕ → ℕ → List ℕ → Fate → Option (List ℕ) → Option (List ℕ) → WriteEnd → Type 0
+WriteCutBytes total block bytes fate before after writes.Done = Unit {0}
+WriteCutBytes total block bytes fate before after writes.Cut = WhereTold before after (λ held held'. held' ≡ bytes_left fate total block bytes held)
+WriteCutBytes total block bytes fate before after writes.Off = Unit {0}
+WriteCutBytes total block bytes fate before after writes.Failed = WhereTold before after (StopsInBlock total block bytes)

@@ -1,10 +1,13 @@
-use Rattle.std.specs.Prelude.{◌≡◌, ℕ, ◌≤◌, Bool, MatchBool, Option, IfSome, List, take, drop}
+-- What each call on the cell of one block of an image may do, by its answer: for the functions of `cells`.
+use Rattle.std.specs.Prelude.{◌≡◌, ℕ, Bool, MatchBool, Option, IfSome, List, take, drop}
 use Rattle.model_counts.specs.Counts.{Rose}
 use Rattle.model_bytes.specs.Told.{WhereTold}
 use Rattle.model_medium.specs.Cells.{Cell, Good, Dead, IsGood, cell_at, cut_short}
 use Rattle.model_medium.specs.declared.Fate.{Fate}
 use Rattle.model_image.specs.Cells.{cell_in, cells_of, SetsCell, StopsInCell, StopsInState}
-use Rattle.ram_outside.specs.Image.{IsUnchanged, HasFailed}
+use Rattle.model_image.specs.Writes.{with_state, with_block, worn_bytes, bytes_left, PutsInBlock, StopsInBlock, IsOldOrNew}
+use Rattle.ram_outside.specs.Image.{IsUnchanged, ImageFails}
+use Rattle.ram_outside.specs.declared.image.Image.{Ghosts as Images}
 use Rattle.ram_outside.specs.declared.image.Moved.{Moved}
 use Rattle.ram_outside.specs.declared.image.Moved.TheVariants as moves
 use Rattle.ram_image.specs.declared.cells.CellRead.{CellRead}
@@ -12,38 +15,90 @@ use Rattle.ram_image.specs.declared.cells.CellRead.TheVariants as reads
 use Rattle.ram_image.specs.declared.cells.StateRead.{StateRead}
 use Rattle.ram_image.specs.declared.cells.StateRead.TheVariants as states
 
--- What a read of a whole block of an image may do, by its answer. (This project's own.)
-abbrev pub ReadBlockRule : Option (List ℕ) → Option (List ℕ) → ℕ → ℕ → ℕ → List ℕ → Moved → Type 0
-ReadBlockRule before after faults faults' at into moves.Done = IsUnchanged before after faults faults' × IfSome before (λ held. into ≡ take 32768 (drop at held))
-ReadBlockRule before after faults faults' at into moves.Failed = HasFailed before after faults faults'
+-- A call on the cell of a block: how many blocks there are and which it is, and the image's bytes, where they are
+-- known, and its count of failures, before and after. (This project's own, as all here.)
+pub record CellCall : Type 0 where
+  pub total : ℕ
+  pub block : ℕ
+  pub before : Option (List ℕ)
+  pub after : Option (List ℕ)
+  pub faults : ℕ
+  pub faults' : ℕ
 
--- What a read of a block's cell may do, by its answer: the image's bytes and counts before and after, and what the
--- block that is read into then holds. (This project's own.)
-abbrev pub ReadCellRule : Option (List ℕ) → Option (List ℕ) → ℕ → ℕ → ℕ → ℕ → List ℕ → CellRead → Type 0
-ReadCellRule before after faults faults' total block into reads.Good = IsUnchanged before after faults faults' × IfSome before (λ held. cell_in total held block ≡ Good into)
-ReadCellRule before after faults faults' total block into reads.NotGood = IsUnchanged before after faults faults' × IfSome before (λ held. ¬ IsGood (cell_in total held block))
-ReadCellRule before after faults faults' total block into reads.Failed = HasFailed before after faults faults'
+abbrev pub call_between : ℕ → ℕ → Option (List ℕ) → Option (List ℕ) → ℕ → ℕ → CellCall
+call_between total block before after faults faults' =
+    record { total = total; block = block; before = before; after = after; faults = faults; faults' = faults' }
 
--- What a write of a block's cell may do, by its answer. (This project's own.)
-abbrev pub WriteCellRule : Option (List ℕ) → Option (List ℕ) → ℕ → ℕ → ℕ → ℕ → List ℕ → Moved → Type 0
-WriteCellRule before after faults faults' total block from moves.Done = WhereTold before after (SetsCell total block (Good from)) × (faults ≤ faults')
-WriteCellRule before after faults faults' total block from moves.Failed = WhereTold before after (StopsInCell total block from) × Rose faults faults'
+-- the call that made the second image of the first
+abbrev pub cell_call : {I : Type 0} → Images I → ℕ → ℕ → I → I → CellCall
+cell_call images total block old new = call_between total block (images.bytes old) (images.bytes new) (images.faults old) (images.faults new)
 
--- What a read of a block's state byte may do, by its answer. (This project's own.)
-abbrev pub ReadStateRule : Option (List ℕ) → Option (List ℕ) → ℕ → ℕ → ℕ → ℕ → StateRead → Type 0
-ReadStateRule before after faults faults' total block states.Dead = IsUnchanged before after faults faults' × IfSome before (λ held. cell_in total held block ≡ Dead)
-ReadStateRule before after faults faults' total block states.Alive = IsUnchanged before after faults faults' × IfSome before (λ held. ¬ (cell_in total held block ≡ Dead))
-ReadStateRule before after faults faults' total block states.Failed = HasFailed before after faults faults'
+-- it changed and counted nothing
+abbrev pub ChangesNothing : CellCall → Type 0
+ChangesNothing call = IsUnchanged call.before call.after call.faults call.faults'
 
--- What a write of a block's state byte may do that makes this cell, by its answer. (This project's own.)
-abbrev pub WriteStateRule : Option (List ℕ) → Option (List ℕ) → ℕ → ℕ → ℕ → ℕ → Cell → Moved → Type 0
-WriteStateRule before after faults faults' total block cell moves.Done = WhereTold before after (SetsCell total block cell) × (faults ≤ faults')
-WriteStateRule before after faults faults' total block cell moves.Failed = WhereTold before after (StopsInState total block cell) × Rose faults faults'
+-- it failed, and changed nothing
+abbrev pub FailsUnchanged : CellCall → Type 0
+FailsUnchanged call = ImageFails call.before call.after call.faults call.faults'
 
--- What making a block dead where it is to die may do, by its answer. (This project's own.)
-abbrev pub KillWhereRule : Option (List ℕ) → Option (List ℕ) → ℕ → ℕ → ℕ → ℕ → Bool → Moved → Type 0
-KillWhereRule before after faults faults' total block dies moves.Done = MatchBool dies (WhereTold before after (SetsCell total block Dead)) (after ≡ before) × (faults ≤ faults')
-KillWhereRule before after faults faults' total block dies moves.Failed = WhereTold before after (StopsInState total block Dead) × Rose faults faults'
+-- it is done, its bytes are so related, and it counted nothing
+abbrev pub IsDone : CellCall → (List ℕ → List ℕ → Type 0) → Type 0
+IsDone call R = WhereTold call.before call.after R × (call.faults' ≡ call.faults)
+
+-- it failed, and what it left of the bytes is so related
+abbrev pub FailsLeaving : CellCall → (List ℕ → List ℕ → Type 0) → Type 0
+FailsLeaving call R = WhereTold call.before call.after R × Rose call.faults call.faults'
+
+-- which bytes a call changes, where it is done and where it fails
+abbrev pub BytesRule : CellCall → (List ℕ → List ℕ → Type 0) → (List ℕ → List ℕ → Type 0) → Moved → Type 0
+BytesRule call done failed moves.Done = WhereTold call.before call.after done
+BytesRule call done failed moves.Failed = WhereTold call.before call.after failed
+
+-- What a read of a whole block's bytes from `at` on may do, by its answer.
+module _ {I : Type 0} (images : Images I) where
+  abbrev pub ReadBlockRule : I → I → ℕ → List ℕ → Moved → Type 0
+  ReadBlockRule old new at into moves.Done = IsUnchanged (images.bytes old) (images.bytes new) (images.faults old) (images.faults new)
+      × IfSome (images.bytes old) (λ held. into ≡ take 32768 (drop at held))
+  ReadBlockRule old new at into moves.Failed = ImageFails (images.bytes old) (images.bytes new) (images.faults old) (images.faults new)
+
+-- What a read of a block's cell may do, by its answer; `into` is what the block that is read into then holds.
+abbrev pub ReadCellRule : CellCall → List ℕ → CellRead → Type 0
+ReadCellRule call into reads.Good = ChangesNothing call × IfSome call.before (λ held. cell_in call.total held call.block ≡ Good into)
+ReadCellRule call into reads.NotGood = ChangesNothing call × IfSome call.before (λ held. ¬ IsGood (cell_in call.total held call.block))
+ReadCellRule call into reads.Failed = FailsUnchanged call
+
+-- What a write of a block's cell may do, by its answer.
+abbrev pub WriteCellRule : CellCall → List ℕ → Moved → Type 0
+WriteCellRule call from moves.Done = IsDone call (SetsCell call.total call.block (Good from))
+WriteCellRule call from moves.Failed = FailsLeaving call (StopsInCell call.total call.block from)
+
+-- Which bytes it changes.
+abbrev pub WriteCellBytes : CellCall → List ℕ → Moved → Type 0
+WriteCellBytes call from = BytesRule call (λ held held'. held' ≡ with_block call.total call.block from held) (PutsInBlock call.total call.block from)
+
+-- What a read of a block's state byte may do, by its answer.
+abbrev pub ReadStateRule : CellCall → StateRead → Type 0
+ReadStateRule call states.Dead = ChangesNothing call × IfSome call.before (λ held. cell_in call.total held call.block ≡ Dead)
+ReadStateRule call states.Alive = ChangesNothing call × IfSome call.before (λ held. ¬ (cell_in call.total held call.block ≡ Dead))
+ReadStateRule call states.Failed = FailsUnchanged call
+
+-- What a write of a block's state byte may do that makes this cell, by its answer.
+abbrev pub WriteStateRule : CellCall → Cell → Moved → Type 0
+WriteStateRule call cell moves.Done = IsDone call (SetsCell call.total call.block cell)
+WriteStateRule call cell moves.Failed = FailsLeaving call (StopsInState call.total call.block cell)
+
+-- Which bytes it changes: the state byte alone, to this one.
+abbrev pub WriteStateBytes : CellCall → ℕ → Moved → Type 0
+WriteStateBytes call state = BytesRule call (λ held held'. held' ≡ with_state call.block state held) (λ held held'. IsOldOrNew held (with_state call.block state held) held')
+
+-- What making a block dead where it is to die may do, by its answer.
+abbrev pub KillWhereRule : CellCall → Bool → Moved → Type 0
+KillWhereRule call dies moves.Done = MatchBool dies (WhereTold call.before call.after (SetsCell call.total call.block Dead)) (call.after ≡ call.before) × (call.faults' ≡ call.faults)
+KillWhereRule call dies moves.Failed = FailsLeaving call (StopsInState call.total call.block Dead)
+
+-- Which bytes it changes.
+abbrev pub KillWhereBytes : CellCall → Bool → Moved → Type 0
+KillWhereBytes call dies = BytesRule call (λ held held'. held' ≡ worn_bytes dies call.block held) (λ held held'. IsOldOrNew held (worn_bytes dies call.block held) held')
 
 -- A write of these bytes to a block was stopped, and the block is dead now if it was.
 pub record StopsInLeaving (total block : ℕ) (bytes before after : List ℕ) : Type 0 where
@@ -54,7 +109,11 @@ pub record StopsInLeaving (total block : ℕ) (bytes before after : List ℕ) : 
 abbrev pub Leaves : ℕ → ℕ → List ℕ → Fate → List ℕ → List ℕ → Type 0
 Leaves total block bytes fate before after = SetsCell total block (cut_short fate bytes (cell_at (cells_of total before) block)) before after
 
--- What such a write may do, by its answer. (This project's own.)
-abbrev pub LeaveCellRule : Option (List ℕ) → Option (List ℕ) → ℕ → ℕ → ℕ → ℕ → List ℕ → Fate → Moved → Type 0
-LeaveCellRule before after faults faults' total block bytes fate moves.Done = WhereTold before after (Leaves total block bytes fate) × (faults ≤ faults')
-LeaveCellRule before after faults faults' total block bytes fate moves.Failed = WhereTold before after (StopsInLeaving total block bytes) × Rose faults faults'
+-- What such a write may do, by its answer.
+abbrev pub LeaveCellRule : CellCall → List ℕ → Fate → Moved → Type 0
+LeaveCellRule call bytes fate moves.Done = IsDone call (Leaves call.total call.block bytes fate)
+LeaveCellRule call bytes fate moves.Failed = FailsLeaving call (StopsInLeaving call.total call.block bytes)
+
+-- Which bytes it changes.
+abbrev pub LeaveCellBytes : CellCall → List ℕ → Fate → Moved → Type 0
+LeaveCellBytes call bytes fate = BytesRule call (λ held held'. held' ≡ bytes_left fate call.total call.block bytes held) (StopsInBlock call.total call.block bytes)

@@ -1,5 +1,6 @@
 pub mod CellCalls
 pub mod Press
+pub mod EventBytes
 pub mod Medium
 pub mod Begun
 pub mod Opening

@@ -1,4 +1,5 @@
-use Rattle.std.specs.Prelude.{◌≡◌, ℕ, is_some}
+-- What a medium over an image shows, and what it does at each event, also to the image's bytes.
+use Rattle.std.specs.Prelude.{◌≡◌, ℕ, is_some, Option, List}
 use Rattle.model_geometry.specs.Geometry.{Shape, total}
 use Rattle.model_medium.specs.World.{World}
 use Rattle.model_medium.specs.Machine.{Machine}
@@ -8,6 +9,7 @@ use Rattle.model_image.specs.Cells.{cells_told}
 use Rattle.ram_outside.specs.declared.image.Image.{Ghosts}
 use Rattle.ram_medium.specs.Laws.{machine_of}
 use Rattle.ram_medium.specs.Countdown.{arms_of, cut_of}
+use Rattle.ram_image.specs.EventBytes.{BytesAt}
 use Rattle.ram_image.specs.declared.medium.ImageMedium.{ImageMedium}
 
 -- the geometry of a medium's disc
@@ -29,11 +31,17 @@ world_of {I} {d} medium = record {
 abbrev pub machine_in : {I : Type 0} {d : Ghosts I} → ImageMedium I d → Machine
 machine_in medium = machine_of (world_of medium) (arms_of medium.armed) (cut_of medium.armed)
 
+-- the bytes of its image, where they are known
+abbrev pub bytes_in : {I : Type 0} {d : Ghosts I} → ImageMedium I d → Option (List ℕ)
+bytes_in {I} {d} medium = d.bytes medium.image
+
 -- what can follow on a medium over an image
 abbrev pub ImageReaches : {I : Type 0} {d : Ghosts I} → ImageMedium I d → ImageMedium I d → ℕ → Type 0
 ImageReaches old new k = Reach (machine_in old) (machine_in new) k
 
--- what an event does on a medium over an image: exactly what it does on a controllable medium, over the same disc
+-- What an event does on a medium over an image: exactly what it does on a controllable medium, over the same disc, and
+-- to these bytes of the image alone. (This project's own.)
 pub record ImageTakes {I : Type 0} {d : Ghosts I} (old new : ImageMedium I d) (event : Event) : Type 0 where
   pub exactly : Exactly (machine_in old) (machine_in new) event
   pub same_shape : shape_of_medium new ≡ shape_of_medium old
+  pub bytes : BytesAt (machine_in old) (total (shape_of_medium old)) (bytes_in old) (bytes_in new) event

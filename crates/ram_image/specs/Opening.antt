@@ -3,7 +3,7 @@ use Rattle.model_geometry.specs.Geometry.{Shape, total}
 use Rattle.model_image.specs.Cells.{image_len, cells_told}
 use Rattle.model_image.specs.Image.{HasHeader, IsDiscImage}
 use Rattle.ram_outside.specs.declared.image.Image.{Ghosts}
-use Rattle.ram_outside.specs.Image.{IsUnchanged, HasFailed}
+use Rattle.ram_outside.specs.Image.{IsUnchanged, ImageFails}
 use Rattle.ram_image.specs.declared.opening.OpenFault.{OpenFault}
 use Rattle.ram_image.specs.declared.opening.OpenFault.TheVariants as faulty
 use Rattle.ram_image.specs.declared.opening.HeaderFound.{HeaderFound}
@@ -23,7 +23,7 @@ pub record IsOpened {I : Type 0} {d : Ghosts I} (image : I) (medium : ImageMediu
   pub off : (world_of medium).power ≡ false
   pub no_uses : (world_of medium).uses ≡ 0
   pub no_cuts : (world_of medium).cuts ≡ 0
-  pub count : d.faults image ≤ (world_of medium).faults
+  pub count : (world_of medium).faults ≡ d.faults image
   pub no_arms : (machine_in medium).arms ≡ []
   pub no_cut : (machine_in medium).cut ≡ None
 
@@ -32,11 +32,11 @@ abbrev pub IsRefused : Option (List ℕ) → Option (List ℕ) → ℕ → ℕ �
 IsRefused before after faults faults' faulty.Header = IsUnchanged before after faults faults' × IfSome before (λ held. (16 ≤ length held) × ((shape : Shape) → ¬ HasHeader shape held))
 IsRefused before after faults faults' (faulty.Length len) = IsUnchanged before after faults faults'
     × IfSome before (λ held. (len ≡ length held) × ((len < 16) ⊎ ((shape : Shape) × HasHeader shape held × (len ≢ image_len (total shape)))))
-IsRefused before after faults faults' faulty.Fault = HasFailed before after faults faults'
+IsRefused before after faults faults' faulty.Fault = ImageFails before after faults faults'
 IsRefused before after faults faults' faulty.NoMemory = IsUnchanged before after faults faults'
 
 -- What the front of an image was found to be. (This project's own.)
 abbrev pub HeaderRule : Option (List ℕ) → Option (List ℕ) → ℕ → ℕ → HeaderFound → Type 0
 HeaderRule before after faults faults' (found.Bytes len header) = IsUnchanged before after faults faults' × IfSome after (λ held. (len ≡ length held) × (16 ≤ length held) × (header ≡ take 16 held))
 HeaderRule before after faults faults' (found.Short len) = IsUnchanged before after faults faults' × IfSome before (λ held. (len ≡ length held) × (len < 16))
-HeaderRule before after faults faults' found.Failed = HasFailed before after faults faults'
+HeaderRule before after faults faults' found.Failed = ImageFails before after faults faults'

@@ -1,9 +1,11 @@
 ghost use Rattle.std.specs.Prelude.{◌≡◌, ◌+◌, ◌*◌, ◌<◌, ◌≤◌, length};
 ghost use Rattle.std.specs.Option.{ForSome};
 ghost use Rattle.model_image.specs.Cells.{image_len};
+ghost use Rattle.model_image.specs.Writes.{torn_state, dead_state};
 ghost use Rattle.model_medium.specs.Cells.{Torn, Dead};
 ghost use Rattle.ram_bytes.specs.declared.block.TheConstants.{BLOCK_BYTES};
-ghost use Rattle.ram_image.specs.CellCalls.{ReadBlockRule, ReadCellRule, ReadStateRule, WriteStateRule, WriteCellRule, KillWhereRule, LeaveCellRule};
+ghost use Rattle.ram_image.specs.CellCalls.{WriteStateRule, WriteStateBytes, WriteCellRule, WriteCellBytes, KillWhereRule, KillWhereBytes};
+ghost use Rattle.ram_image.specs.CellCalls.{cell_call, ReadBlockRule, ReadCellRule, ReadStateRule, LeaveCellRule, LeaveCellBytes};
 
 use crate::header::HEADER_BYTES;
 use ram_bytes::{BLOCK_BYTES, Block};
@@ -34,7 +36,7 @@ pub enum CellRead {
 pub fn read_cell<I: Image>(image: &mut I, total: u32, block: u32, into: &mut Block) -> CellRead
     requires inside { block < total }
     requires whole { ForSome (I.bytes image.old) (λ held. length held ≡ image_len total) }
-    ensures { ReadCellRule (I.bytes image.old) (I.bytes image.new) (I.faults image.old) (I.faults image.new) total block into.new result }
+    ensures { ReadCellRule (cell_call I.Image total block image.old image.new) into.new result }
 {
     let mut state = [0u8; 1];
     match image.read_at(state_place(block), &mut state) {
@@ -53,7 +55,7 @@ pub fn read_cell<I: Image>(image: &mut I, total: u32, block: u32, into: &mut Blo
 /// Reads a whole block from `at` on.
 fn read_block<I: Image>(image: &mut I, at: u64, into: &mut Block) -> Moved
     requires { ForSome (I.bytes image.old) (λ held. at + BLOCK_BYTES ≤ length held) }
-    ensures { ReadBlockRule (I.bytes image.old) (I.bytes image.new) (I.faults image.old) (I.faults image.new) at into.new result }
+    ensures { ReadBlockRule I.Image image.old image.new at into.new result }
 {
     let bytes = into.bytes_mut();
     let moved = image.read_at(at, bytes);
@@ -65,7 +67,8 @@ fn read_block<I: Image>(image: &mut I, at: u64, into: &mut Block) -> Moved
 pub fn write_cell<I: Image>(image: &mut I, total: u32, block: u32, from: &Block) -> Moved
     requires inside { block < total }
     requires whole { ForSome (I.bytes image.old) (λ held. length held ≡ image_len total) }
-    ensures { WriteCellRule (I.bytes image.old) (I.bytes image.new) (I.faults image.old) (I.faults image.new) total block from.now result }
+    ensures rule { WriteCellRule (cell_call I.Image total block image.old image.new) from.now result }
+    ensures bytes { WriteCellBytes (cell_call I.Image total block image.old image.new) from.now result }
 {
     let bytes = from.bytes();
     match image.write_at(state_place(block), &[TORN]) {
@@ -94,7 +97,7 @@ pub enum StateRead {
 fn read_state<I: Image>(image: &mut I, total: u32, block: u32) -> StateRead
     requires inside { block < total }
     requires whole { ForSome (I.bytes image.old) (λ held. length held ≡ image_len total) }
-    ensures { ReadStateRule (I.bytes image.old) (I.bytes image.new) (I.faults image.old) (I.faults image.new) total block result }
+    ensures { ReadStateRule (cell_call I.Image total block image.old image.new) result }
 {
     let mut state = [0u8; 1];
     match image.read_at(state_place(block), &mut state) {
@@ -113,7 +116,8 @@ fn read_state<I: Image>(image: &mut I, total: u32, block: u32) -> StateRead
 pub fn kill_cell<I: Image>(image: &mut I, total: u32, block: u32) -> Moved
     requires inside { block < total }
     requires whole { ForSome (I.bytes image.old) (λ held. length held ≡ image_len total) }
-    ensures { WriteStateRule (I.bytes image.old) (I.bytes image.new) (I.faults image.old) (I.faults image.new) total block Dead result }
+    ensures rule { WriteStateRule (cell_call I.Image total block image.old image.new) Dead result }
+    ensures bytes { WriteStateBytes (cell_call I.Image total block image.old image.new) dead_state result }
 {
     image.write_at(state_place(block), &[DEAD])
 }
@@ -122,7 +126,8 @@ pub fn kill_cell<I: Image>(image: &mut I, total: u32, block: u32) -> Moved
 fn tear_cell<I: Image>(image: &mut I, total: u32, block: u32) -> Moved
     requires inside { block < total }
     requires whole { ForSome (I.bytes image.old) (λ held. length held ≡ image_len total) }
-    ensures { WriteStateRule (I.bytes image.old) (I.bytes image.new) (I.faults image.old) (I.faults image.new) total block Torn result }
+    ensures rule { WriteStateRule (cell_call I.Image total block image.old image.new) Torn result }
+    ensures bytes { WriteStateBytes (cell_call I.Image total block image.old image.new) torn_state result }
 {
     image.write_at(state_place(block), &[TORN])
 }
@@ -131,7 +136,8 @@ fn tear_cell<I: Image>(image: &mut I, total: u32, block: u32) -> Moved
 pub fn kill_where<I: Image>(image: &mut I, total: u32, block: u32, dies: bool) -> Moved
     requires inside { block < total }
     requires whole { ForSome (I.bytes image.old) (λ held. length held ≡ image_len total) }
-    ensures { KillWhereRule (I.bytes image.old) (I.bytes image.new) (I.faults image.old) (I.faults image.new) total block dies result }
+    ensures rule { KillWhereRule (cell_call I.Image total block image.old image.new) dies result }
+    ensures bytes { KillWhereBytes (cell_call I.Image total block image.old image.new) dies result }
 {
     if dies {
         return kill_cell(image, total, block);
@@ -151,7 +157,8 @@ pub fn leave_cell<I: Image>(
 ) -> Moved
     requires inside { block < total }
     requires whole { ForSome (I.bytes image.old) (λ held. length held ≡ image_len total) }
-    ensures { LeaveCellRule (I.bytes image.old) (I.bytes image.new) (I.faults image.old) (I.faults image.new) total block from.now fate result }
+    ensures rule { LeaveCellRule (cell_call I.Image total block image.old image.new) from.now fate result }
+    ensures bytes { LeaveCellBytes (cell_call I.Image total block image.old image.new) from.now fate result }
 {
     match read_state(image, total, block) {
         StateRead::Failed => Moved::Failed,

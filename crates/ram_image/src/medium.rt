@@ -36,10 +36,10 @@ enum Begun {
 impl<I: Image> ImageMedium<I> {
     ghost use Rattle.std.specs.Prelude.{[], None, length};
     ghost use Rattle.model_geometry.specs.Geometry.{total};
-    ghost use Rattle.model_medium.specs.Machine.{cut_off};
+    ghost use Rattle.model_medium.specs.Machine.{is_killed, cut_off};
     ghost use Rattle.model_medium.specs.Exact.{Read, Write};
-    ghost use Rattle.ram_image.specs.Medium.{shape_of_medium, world_of, machine_in, ImageTakes};
-    ghost use Rattle.ram_image.specs.Begun.{IsNew, BeginRule, ReadOnRule, WriteCutRule, LeaveRule};
+    ghost use Rattle.ram_image.specs.Medium.{shape_of_medium, world_of, machine_in, bytes_in, ImageTakes};
+    ghost use Rattle.ram_image.specs.Begun.{IsNew, BeginRule, BeginBytes, ReadOnRule, WriteCutRule, WriteCutBytes, LeaveRule, LeaveBytes};
 
     /// The medium of a disc of this geometry over its image, with the power off, nothing counted and nothing armed.
     pub(crate) fn new(image: I, geometry: Geometry, room: Block) -> Self
@@ -81,6 +81,7 @@ impl<I: Image> ImageMedium<I> {
         requires inside { block < total (shape_of_medium self.old) }
         requires on { IsTrue (world_of self.old).power }
         ensures rule { BeginRule (machine_in self.old) (machine_in self.new) block result }
+        ensures bytes { BeginBytes (is_killed block (machine_in self.old).arms) block (bytes_in self.old) (bytes_in self.new) result }
         ensures same_shape { shape_of_medium self.new ≡ shape_of_medium self.old }
     {
         self.uses = self.uses.saturating_add(1);
@@ -100,6 +101,7 @@ impl<I: Image> ImageMedium<I> {
     /// Cuts the power, and counts it.
     fn cut_power(&mut self)
         ensures machine { machine_in self.new ≡ cut_off (machine_in self.old) }
+        ensures bytes { bytes_in self.new ≡ bytes_in self.old }
         ensures same_shape { shape_of_medium self.new ≡ shape_of_medium self.old }
     {
         self.cuts = self.cuts.saturating_add(1);
@@ -128,6 +130,7 @@ impl<I: Image> ImageMedium<I> {
     fn read_on(&mut self, block: u32, into: &mut Block) -> ReadEnd
         requires { block < total (shape_of_medium self.old) }
         ensures rule { ReadOnRule (machine_in self.old) (machine_in self.new) block into.old into.new result }
+        ensures bytes { bytes_in self.new ≡ bytes_in self.old }
         ensures same_shape { shape_of_medium self.new ≡ shape_of_medium self.old }
     {
         match read_cell(
@@ -170,6 +173,7 @@ impl<I: Image> ImageMedium<I> {
     fn write_cut(&mut self, block: u32, from: &Block, fate: Fate) -> WriteEnd
         requires { block < total (shape_of_medium self.old) }
         ensures rule { WriteCutRule (machine_in self.old) (machine_in self.new) block from.now fate result }
+        ensures bytes { WriteCutBytes (total (shape_of_medium self.old)) block from.now fate (bytes_in self.old) (bytes_in self.new) result }
         ensures same_shape { shape_of_medium self.new ≡ shape_of_medium self.old }
     {
         match self.leave(block, from, fate) {
@@ -185,6 +189,7 @@ impl<I: Image> ImageMedium<I> {
     fn leave(&mut self, block: u32, from: &Block, fate: Fate) -> Moved
         requires { block < total (shape_of_medium self.old) }
         ensures rule { LeaveRule (machine_in self.old) (machine_in self.new) block from.now fate result }
+        ensures bytes { LeaveBytes (total (shape_of_medium self.old)) block from.now fate (bytes_in self.old) (bytes_in self.new) result }
         ensures same_shape { shape_of_medium self.new ≡ shape_of_medium self.old }
     {
         match leave_cell(&mut self.image, self.geometry.total(), block, from, fate) {
@@ -248,7 +253,8 @@ impl<I: Image> MediumControl for ImageMedium<I> {
     ghost use Rattle.model_geometry.specs.Geometry.{total};
     ghost use Rattle.ram_medium.specs.Countdown.{arms_of, cut_of};
     ghost use Rattle.ram_medium.specs.Control.{FailRule, WearRule, with_armed_cut};
-    ghost use Rattle.ram_image.specs.Medium.{shape_of_medium, machine_in};
+    ghost use Rattle.ram_image.specs.EventBytes.{FailBytes};
+    ghost use Rattle.ram_image.specs.Medium.{shape_of_medium, machine_in, bytes_in};
 
     ghost arms = { λ medium. arms_of medium.armed };
 
@@ -256,6 +262,7 @@ impl<I: Image> MediumControl for ImageMedium<I> {
 
     fn fail(&mut self, block: u32) -> FailEnd
         ensures rule { FailRule (total (shape_of_medium self.old)) (machine_in self.old) (machine_in self.new) block result }
+        ensures bytes { FailBytes block (bytes_in self.old) (bytes_in self.new) result }
         ensures as_many { total (shape_of_medium self.new) ≡ total (shape_of_medium self.old) }
         ensures same_shape { shape_of_medium self.new ≡ shape_of_medium self.old }
     {
@@ -275,6 +282,7 @@ impl<I: Image> MediumControl for ImageMedium<I> {
     fn wear(&mut self, block: u32, n: u32) -> Arm
         requires { 1 ≤ n }
         ensures rule { WearRule (total (shape_of_medium self.old)) (machine_in self.old) (machine_in self.new) (record { block = block; left = n }) result }
+        ensures bytes { bytes_in self.new ≡ bytes_in self.old }
         ensures as_many { total (shape_of_medium self.new) ≡ total (shape_of_medium self.old) }
         ensures same_shape { shape_of_medium self.new ≡ shape_of_medium self.old }
     {
@@ -292,6 +300,7 @@ impl<I: Image> MediumControl for ImageMedium<I> {
     fn arm_cut(&mut self, n: u32, fate: Fate)
         requires { 1 ≤ n }
         ensures rule { machine_in self.new ≡ with_armed_cut n fate (machine_in self.old) }
+        ensures bytes { bytes_in self.new ≡ bytes_in self.old }
         ensures as_many { total (shape_of_medium self.new) ≡ total (shape_of_medium self.old) }
         ensures same_shape { shape_of_medium self.new ≡ shape_of_medium self.old }
     {

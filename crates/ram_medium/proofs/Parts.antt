@@ -45,7 +45,7 @@ module _ {M : Type 0} (world : M → World) (block_count : M → ℕ) (reaches :
     uses = j + two.uses;
     few = omega (arith, two.few);
     reach = laws.adds_up a b c j two.uses one.reach two.reach;
-    cut = record { goes_off = two.cut.goes_off; one_cut = two.cut.one_cut ∙ ap (λ n. counted n 1) (goes_quiet a b j one).1 };
+    cut = record { goes_off = two.cut.goes_off; one_cut = two.cut.one_cut ∙ ap (λ n. counted n 1) (goes_quiet a b j one).1; no_fault = two.cut.no_fault ∙ (laws.follows a b j one.reach).lasts.no_fault };
   }
   stops_later a b c j most stops.Off one two = absurd (two.was_off one.is_on)
   stops_later a b c j most stops.Fault one two = record {

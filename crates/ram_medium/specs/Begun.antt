@@ -1,8 +1,8 @@
+-- A new medium in memory, and how one of its uses begins: for the constructor and the private `begin`.
 use Rattle.std.specs.Prelude.{◌≡◌, ℕ, false, true, Some, None, List, [], replicate, vec_len}
-use Rattle.model_counts.specs.Counts.{counted}
 use Rattle.model_medium.specs.Cells.{Blank}
-use Rattle.model_medium.specs.Machine.{Machine, arms_after, cut_after, fate_due, begun, cut_off}
-use Rattle.ram_medium.specs.Memory.{machine_in, failing_of, IsNamedUse}
+use Rattle.model_medium.specs.Machine.{fate_due, begun, cut_off}
+use Rattle.ram_medium.specs.Memory.{machine_in, failing_of, IsNamedUse, after_failed_use}
 use Rattle.ram_medium.specs.declared.memory.MemMedium.{MemMedium}
 use Rattle.ram_medium.specs.declared.memory.Begun.{Begun}
 use Rattle.ram_medium.specs.declared.memory.Begun.TheVariants as begins
@@ -17,16 +17,8 @@ pub record IsNew (blocks : ℕ) (failing : List ℕ) (medium : MemMedium) : Type
     cut = None;
   }
 
--- the use failed: it and the fault are counted, the power is off, and no cell changed
-abbrev pub failed : ℕ → Machine → Machine
-failed block machine = record {
-  world = record machine.world { power = false; uses = counted machine.world.uses 1; faults = counted machine.world.faults 1 };
-  arms = arms_after block machine.arms;
-  cut = cut_after machine.cut;
-}
-
 -- How a use of a block begins. (This project's own.)
 abbrev pub BeginRule : MemMedium → MemMedium → ℕ → Begun → Type 0
 BeginRule old new block begins.On = (¬ IsNamedUse old) × (fate_due (machine_in old).cut ≡ None) × (machine_in new ≡ begun block (machine_in old))
 BeginRule old new block (begins.Cut fate) = (¬ IsNamedUse old) × (fate_due (machine_in old).cut ≡ Some fate) × (machine_in new ≡ cut_off (begun block (machine_in old)))
-BeginRule old new block begins.Failed = IsNamedUse old × (machine_in new ≡ failed block (machine_in old))
+BeginRule old new block begins.Failed = IsNamedUse old × (machine_in new ≡ after_failed_use block (machine_in old))

@@ -1,14 +1,15 @@
+-- What failing a block, wearing it and arming a cut do: for the trait `MediumControl`, and for the drives of a run.
 use Rattle.std.specs.Prelude.{◌≡◌, ◌≢◌, ℕ, ◌<◌, ◌≤◌, IsTrue, Some, [], ◌∷◌, ◌++◌, length, set}
 use Rattle.model_counts.specs.Counts.{Rose}
 use Rattle.model_medium.specs.Cells.{Dead, cell_at, IsSameOrDead}
 use Rattle.model_medium.specs.Machine.{Machine}
-use Rattle.model_medium.specs.Exact.{IsExactly}
 use Rattle.model_medium.specs.declared.WornBlock.{WornBlock}
 use Rattle.model_medium.specs.declared.Fate.{Fate}
 use Rattle.ram_medium.specs.declared.control.FailEnd.{FailEnd}
 use Rattle.ram_medium.specs.declared.control.FailEnd.TheVariants as fails
 use Rattle.ram_medium.specs.declared.control.Arm.{Arm}
 use Rattle.ram_medium.specs.declared.control.Arm.TheVariants as arming
+use Rattle.ram_medium.specs.declared.countdown.TheConstants.{MOST_ARMS}
 
 -- the medium with a dead block more
 abbrev pub with_dead : ℕ → Machine → Machine
@@ -29,7 +30,7 @@ pub record FailsInFail (old new : Machine) (block : ℕ) : Type 0 where
 
 -- What the failure of a block does on a medium of so many blocks, by its answer. (This project's own.)
 abbrev pub FailRule : ℕ → Machine → Machine → ℕ → FailEnd → Type 0
-FailRule total old new block fails.Done = (block < total) × IsExactly (with_dead block old) new
+FailRule total old new block fails.Done = (block < total) × (new ≡ with_dead block old)
 FailRule total old new block (fails.NoBlock blocks) = (total ≤ block) × (blocks ≡ total) × (new ≡ old)
 FailRule total old new block fails.Failed = (block < total) × FailsInFail old new block
 
@@ -39,9 +40,9 @@ with_arm worn machine = record machine { arms = machine.arms ++ worn ∷ [] }
 
 -- What the arming of a block does on a medium of so many blocks, by its answer. (This project's own.)
 abbrev pub WearRule : ℕ → Machine → Machine → WornBlock → Arm → Type 0
-WearRule total old new worn arming.Set = (worn.block < total) × (length old.arms < 64) × (new ≡ with_arm worn old)
+WearRule total old new worn arming.Set = (worn.block < total) × (length old.arms < MOST_ARMS) × (new ≡ with_arm worn old)
 WearRule total old new worn (arming.NoBlock blocks) = (total ≤ worn.block) × (blocks ≡ total) × (new ≡ old)
-WearRule total old new worn arming.Full = (worn.block < total) × (length old.arms ≡ 64) × (new ≡ old)
+WearRule total old new worn arming.Full = (worn.block < total) × (length old.arms ≡ MOST_ARMS) × (new ≡ old)
 
 -- the medium whose power is cut at the n-th use from now on, in place of any cut that was armed
 abbrev pub with_armed_cut : ℕ → Fate → Machine → Machine

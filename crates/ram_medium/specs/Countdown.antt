@@ -1,3 +1,4 @@
+-- The arms and the armed cut of an `Armed`, as contracts speak of them.
 use Rattle.std.specs.Prelude.{Option, List}
 use Rattle.model_medium.specs.declared.WornBlock.{WornBlock}
 use Rattle.model_medium.specs.declared.ArmedCut.{ArmedCut}

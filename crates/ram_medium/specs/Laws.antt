@@ -1,3 +1,4 @@
+-- What holds of any medium and of any controllable one: the laws of the traits `Medium` and `MediumControl`.
 use Rattle.std.specs.Prelude.{◌≡◌, ℕ, ◌+◌, ◌≤◌, Option, List, length}
 use Rattle.std.specs.Bool.{OnTrue}
 use Rattle.model_medium.specs.World.{World, ShowsNoneUntold}
@@ -6,6 +7,7 @@ use Rattle.model_medium.specs.Exact.{Event, Exactly}
 use Rattle.model_medium.specs.Reach.{Follows, Reach}
 use Rattle.model_medium.specs.declared.WornBlock.{WornBlock}
 use Rattle.model_medium.specs.declared.ArmedCut.{ArmedCut}
+use Rattle.ram_medium.specs.declared.countdown.TheConstants.{MOST_ARMS}
 
 -- What holds of `reaches`, which says what can follow by so many uses that did not fail: nothing follows by none, one
 -- part after another adds up, and what follows is what can follow on any medium. A medium that tells its cells shows
@@ -21,10 +23,17 @@ pub record MediumLaws {M : Type 0} (world : M → World) (block_count : M → �
 abbrev pub machine_of : World → List WornBlock → Option ArmedCut → Machine
 machine_of world arms cut = record { world = world; arms = arms; cut = cut }
 
+-- the controllable medium that these three show of a value
+abbrev pub machine_shown : {M : Type 0} → (M → World) → (M → List WornBlock) → (M → Option ArmedCut) → M → Machine
+machine_shown world arms cut m = machine_of (world m) (arms m) (cut m)
+
 -- What holds of a controllable medium: each event does exactly what it is to do, what follows is what can follow with
--- its arms and its armed cut, the armed cut is to come, and at most 64 arms stand. (This project's own.)
-pub record ControlLaws {M : Type 0} (world : M → World) (reaches : M → M → ℕ → Type 0) (takes : M → M → Event → Type 0) (arms : M → List WornBlock) (armed_cut : M → Option ArmedCut) : Type 0 where
-  pub exactly : (a b : M) (event : Event) → takes a b event → Exactly (machine_of (world a) (arms a) (armed_cut a)) (machine_of (world b) (arms b) (armed_cut b)) event
-  pub reach : (a b : M) (k : ℕ) → reaches a b k → Reach (machine_of (world a) (arms a) (armed_cut a)) (machine_of (world b) (arms b) (armed_cut b)) k
+-- its arms and its armed cut, the armed cut is to come, and no more arms stand than may. (This project's own.)
+pub record ControlLaws {M : Type 0} (world : M → World) (reaches : M → M → ℕ → Type 0)
+    (takes : M → M → Event → Type 0) (arms : M → List WornBlock) (armed_cut : M → Option ArmedCut) : Type 0 where
+  pub exactly : (a b : M) (event : Event) → takes a b event
+      → Exactly (machine_shown world arms armed_cut a) (machine_shown world arms armed_cut b) event
+  pub reach : (a b : M) (k : ℕ) → reaches a b k
+      → Reach (machine_shown world arms armed_cut a) (machine_shown world arms armed_cut b) k
   pub to_come : (m : M) → IsToCome (armed_cut m)
-  pub few : (m : M) → length (arms m) ≤ 64
+  pub few : (m : M) → length (arms m) ≤ MOST_ARMS

@@ -1,4 +1,4 @@
--- What a read or write of a whole block did, by how it ended.
+-- What a read or write of a whole block did, by how it ended: for `read_whole` and `write_whole`.
 use Rattle.std.specs.Prelude.{◌≡◌, ℕ, Bool, true, false, MatchBool, Result, Ok, Err, List}
 use Rattle.model_medium.specs.World.{World, IsOff, ReadsCell, FindsNoBytes, IsCutInRead, FailsInRead, IsCutInWrite, FailsInWrite}
 use Rattle.model_medium.specs.declared.ReadEnd.{ReadEnd}

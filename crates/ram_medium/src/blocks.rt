@@ -6,7 +6,8 @@ ghost use Rattle.ram_medium.specs.Laws.{MediumLaws};
 use model_medium::{ReadEnd, WriteEnd};
 use ram_bytes::Block;
 
-/// Blocks that are read and written whole. Each read or write with the power on is one use.
+/// Blocks that are read and written whole, numbered from 0. Each read or write with the power on is one use, however
+/// it ends.
 pub trait Medium {
     /// All that the medium shows.
     ghost world: { Self → World };
@@ -28,7 +29,8 @@ pub trait Medium {
     fn powered(&self) -> bool
         ensures { result ≡ (world self.now).power };
 
-    /// Reads a block. `into` changes only where all of it was read.
+    /// Reads a block. `into` changes only where all of it was read. With the power off nothing happens; where the answer
+    /// is a cut or a failure the power is off afterwards.
     fn read(&mut self, block: u32, into: &mut Block) -> ReadEnd
         requires { block < block_count self.old }
         ensures rule { ReadRule (world self.old) (world self.new) block into.old into.new result }
@@ -36,7 +38,8 @@ pub trait Medium {
         ensures event { takes self.old self.new (Read block into.old into.new result) }
         ensures as_many { block_count self.new ≡ block_count self.old };
 
-    /// Writes a block. A dead one stays dead.
+    /// Writes a block. A dead one stays dead, and the write of one is done all the same: a read tells. With the power off
+    /// nothing happens; where the answer is a cut or a failure the power is off afterwards.
     fn write(&mut self, block: u32, from: &Block) -> WriteEnd
         requires { block < block_count self.old }
         ensures rule { WriteRule (world self.old) (world self.new) block from.now result }

@@ -1,7 +1,7 @@
 ghost use Rattle.std.specs.Prelude.{◌≡◌, ℕ, ◌≤◌, Option, List};
 ghost use Rattle.model_medium.specs.declared.WornBlock.{WornBlock};
 ghost use Rattle.model_medium.specs.declared.ArmedCut.{ArmedCut};
-ghost use Rattle.ram_medium.specs.Laws.{ControlLaws, machine_of};
+ghost use Rattle.ram_medium.specs.Laws.{ControlLaws, machine_shown};
 ghost use Rattle.ram_medium.specs.Control.{FailRule, WearRule, with_armed_cut};
 
 use crate::blocks::Medium;
@@ -44,25 +44,27 @@ pub trait MediumControl: Medium {
     /// The armed cut, if there is one.
     ghost armed_cut: { Self → Option ArmedCut };
 
-    /// Makes a block dead, with the power on or off.
+    /// Makes the block of this number, counted from 0, dead, with the power on or off. It is no use: nothing is counted
+    /// and no arm counts down.
     fn fail(&mut self, block: u32) -> FailEnd
-        ensures rule { FailRule (Self.block_count self.old) (machine_of (Self.world self.old) (arms self.old) (armed_cut self.old))
-            (machine_of (Self.world self.new) (arms self.new) (armed_cut self.new)) block result }
+        ensures rule { FailRule (Self.block_count self.old) (machine_shown Self.world arms armed_cut self.old)
+            (machine_shown Self.world arms armed_cut self.new) block result }
         ensures as_many { Self.block_count self.new ≡ Self.block_count self.old };
 
-    /// Makes a block dead at its `n`-th use from now on. At most 64 arms stand, and a block may have several.
+    /// Makes a block dead at its `n`-th use from now on: 1 is the next. At most [`MOST_ARMS`](crate::MOST_ARMS) arms
+    /// stand, and a block may have several.
     fn wear(&mut self, block: u32, n: u32) -> Arm
         requires { 1 ≤ n }
-        ensures rule { WearRule (Self.block_count self.old) (machine_of (Self.world self.old) (arms self.old) (armed_cut self.old))
-            (machine_of (Self.world self.new) (arms self.new) (armed_cut self.new)) (record { block = block; left = n }) result }
+        ensures rule { WearRule (Self.block_count self.old) (machine_shown Self.world arms armed_cut self.old)
+            (machine_shown Self.world arms armed_cut self.new) (record { block = block; left = n }) result }
         ensures as_many { Self.block_count self.new ≡ Self.block_count self.old };
 
     /// Cuts the power at the `n`-th use from now on, and a write that is then cut leaves its block by the fate. The
     /// cut takes the place of one that was armed.
     fn arm_cut(&mut self, n: u32, fate: Fate)
         requires { 1 ≤ n }
-        ensures rule { machine_of (Self.world self.new) (arms self.new) (armed_cut self.new)
-            ≡ with_armed_cut n fate (machine_of (Self.world self.old) (arms self.old) (armed_cut self.old)) }
+        ensures rule { machine_shown Self.world arms armed_cut self.new
+            ≡ with_armed_cut n fate (machine_shown Self.world arms armed_cut self.old) }
         ensures as_many { Self.block_count self.new ≡ Self.block_count self.old };
 
     ghost control_laws: { ControlLaws Self.world Self.reaches Self.takes arms armed_cut };

@@ -1,5 +1,8 @@
+//! What is armed on a medium, and how it counts down at each use. It knows no blocks.
+
 ghost use Rattle.std.specs.Prelude.{◌≡◌, ℕ, ◌+◌, ◌<◌, ◌≤◌, length, if◌then◌else◌, Some, None};
 ghost use Rattle.model_medium.specs.Machine.{IsToCome, worn_down};
+ghost use Rattle.ram_medium.specs.declared.countdown.TheConstants.{MOST_ARMS};
 
 use arrayvec::ArrayVec;
 use model_medium::{ArmedCut, Fate, WornBlock};
@@ -7,12 +10,17 @@ use model_medium::{ArmedCut, Fate, WornBlock};
 /// How many arms stand at most.
 pub const MOST_ARMS: usize = 64;
 
+/// The number that contracts share with the code.
+pub fn limits_are_these()
+    ensures arms { MOST_ARMS ≡ 64 }
+{}
+
 /// What is armed on a medium: blocks that become dead at one of their next uses, and at most one cut of the power.
 #[derive(Drop)]
 pub struct Armed {
     worn: ArrayVec<WornBlock, MOST_ARMS>,
     cut: Option<ArmedCut>,
-    ghost few: { length worn.items ≤ 64 },
+    ghost few: { length worn.items ≤ MOST_ARMS },
     ghost to_come: { IsToCome cut },
 }
 
@@ -58,8 +66,9 @@ impl Armed {
     /// Makes a block dead at its `n`-th use from now on, unless as many arms stand as can. Whether it was armed.
     pub fn wear(&mut self, block: u32, n: u32) -> bool
         ensures arms { MatchBool result
-            ((length (arms_of self.old) < 64) × (arms_of self.new ≡ arms_of self.old ++ record { block = block; left = n } ∷ []))
-            ((length (arms_of self.old) ≡ 64) × (arms_of self.new ≡ arms_of self.old)) }
+            ((length (arms_of self.old) < MOST_ARMS)
+                × (arms_of self.new ≡ arms_of self.old ++ record { block = block; left = n } ∷ []))
+            ((length (arms_of self.old) ≡ MOST_ARMS) × (arms_of self.new ≡ arms_of self.old)) }
         ensures cut { cut_of self.new ≡ cut_of self.old }
     {
         if self.worn.is_full() {

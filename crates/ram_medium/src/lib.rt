@@ -10,7 +10,7 @@ mod whole_blocks;
 
 pub use blocks::Medium;
 pub use control::{Arm, FailEnd, MediumControl};
-pub use countdown::{Armed, Due, MOST_ARMS};
+pub use countdown::{Armed, Due, MOST_ARMS, limits_are_these};
 pub use memory::MemMedium;
 pub use model_medium::{ArmedCut, Fate, ReadEnd, WornBlock, WriteEnd};
 pub use model_stops::Stop;

@@ -1,3 +1,5 @@
+//! A medium in memory: the same events as on a medium over an image, with failures at the uses that were named.
+
 ghost use Rattle.std.specs.Prelude.{◌≡◌, ℕ, ◌+◌, ◌<◌, ◌≤◌, ◌^◌, length, vec_len};
 
 use crate::blocks::Medium;
@@ -8,7 +10,8 @@ use model_medium::{Fate, ReadEnd, WriteEnd};
 use ram_bytes::Block;
 use std::alloc::{AllocError, Global};
 
-/// A controllable medium whose blocks lie in memory. All its room is taken when it is made.
+/// A controllable medium whose blocks lie in memory. All its room is taken when it is made. It lies on nothing that can
+/// fail: a use fails only where `new` was told its number.
 #[derive(Drop)]
 pub struct MemMedium {
     slots: Vec<Slot>,
@@ -175,13 +178,21 @@ impl Medium for MemMedium {
 }
 
 impl MediumControl for MemMedium {
+    ghost use Rattle.std.specs.Prelude.{◌≢◌, vec_len};
+    ghost use Rattle.ram_medium.specs.Control.{FailRule, WearRule, with_armed_cut};
     ghost use Rattle.ram_medium.specs.Countdown.{arms_of, cut_of};
+    ghost use Rattle.ram_medium.specs.Memory.{machine_in, failing_of};
 
     ghost arms = { λ medium. arms_of medium.armed };
 
     ghost armed_cut = { λ medium. cut_of medium.armed };
 
-    fn fail(&mut self, block: u32) -> FailEnd {
+    fn fail(&mut self, block: u32) -> FailEnd
+        ensures rule { FailRule (vec_len self.old.slots) (machine_in self.old) (machine_in self.new) block result }
+        ensures never_fails { result ≢ FailEnd.Failed }
+        ensures same_names { failing_of self.new ≡ failing_of self.old }
+        ensures as_many { vec_len self.new.slots ≡ vec_len self.old.slots }
+    {
         let blocks = self.blocks();
         if block >= blocks {
             return FailEnd::NoBlock { blocks };
@@ -190,7 +201,13 @@ impl MediumControl for MemMedium {
         FailEnd::Done
     }
 
-    fn wear(&mut self, block: u32, n: u32) -> Arm {
+    fn wear(&mut self, block: u32, n: u32) -> Arm
+        requires { 1 ≤ n }
+        ensures rule { WearRule (vec_len self.old.slots) (machine_in self.old) (machine_in self.new)
+            (record { block = block; left = n }) result }
+        ensures same_names { failing_of self.new ≡ failing_of self.old }
+        ensures as_many { vec_len self.new.slots ≡ vec_len self.old.slots }
+    {
         let blocks = self.blocks();
         if block >= blocks {
             return Arm::NoBlock { blocks };
@@ -202,7 +219,12 @@ impl MediumControl for MemMedium {
         }
     }
 
-    fn arm_cut(&mut self, n: u32, fate: Fate) {
+    fn arm_cut(&mut self, n: u32, fate: Fate)
+        requires { 1 ≤ n }
+        ensures rule { machine_in self.new ≡ with_armed_cut n fate (machine_in self.old) }
+        ensures same_names { failing_of self.new ≡ failing_of self.old }
+        ensures as_many { vec_len self.new.slots ≡ vec_len self.old.slots }
+    {
         self.armed.arm_cut(n, fate);
     }
 

@@ -1,6 +1,8 @@
+//! The blocks of a medium in memory: a state and the bytes of each. It knows neither power nor uses.
+
 ghost use Rattle.std.specs.Prelude.{◌≡◌, ℕ, ◌<◌, IfOk, MatchBool, if◌then◌else◌, map, set, replicate, [], vec_len};
 ghost use Rattle.model_medium.specs.Cells.{Blank, Good, Dead, IsGood, cell_at, written, cut_short};
-ghost use Rattle.ram_medium.specs.Slots.{cell_of, cells_of};
+ghost use Rattle.ram_medium.specs.Slots.{cell_of, cells_of, ChangesSlot};
 
 use model_medium::Fate;
 use ram_bytes::Block;
@@ -24,7 +26,8 @@ pub(crate) struct Slot {
 
 /// So many blank slots.
 pub(crate) fn blank_slots(alloc: Global, blocks: u32) -> Result<Vec<Slot>, AllocError>
-    ensures { IfOk result (λ slots. (vec_len slots ≡ blocks) × (cells_of slots.items ≡ replicate blocks Blank)) }
+    ensures { IfOk result
+        (λ slots. (vec_len slots ≡ blocks) × (cells_of slots.items ≡ replicate blocks Blank)) }
 {
     let mut slots = Vec::with_capacity(alloc, blocks as usize)?;
     for _ in 0..blocks {
@@ -39,7 +42,8 @@ pub(crate) fn blank_slots(alloc: Global, blocks: u32) -> Result<Vec<Slot>, Alloc
 /// Makes the block of a slot dead, where it is to die.
 pub(crate) fn kill_where(slots: &mut Vec<Slot>, block: u32, dies: bool)
     requires { block < vec_len slots.old }
-    ensures cells { cells_of slots.new.items ≡ (if dies then set (cells_of slots.old.items) block Dead else cells_of slots.old.items) }
+    ensures cells { cells_of slots.new.items
+        ≡ (if dies then set (cells_of slots.old.items) block Dead else cells_of slots.old.items) }
     ensures len { vec_len slots.new ≡ vec_len slots.old }
 {
     if dies {
@@ -69,7 +73,7 @@ pub(crate) fn read_slot(slots: &Vec<Slot>, block: u32, into: &mut Block) -> bool
 /// Writes a slot. A dead one stays dead.
 pub(crate) fn write_slot(slots: &mut Vec<Slot>, block: u32, from: &Block)
     requires { block < vec_len slots.old }
-    ensures cells { cells_of slots.new.items ≡ set (cells_of slots.old.items) block (written from.now (cell_at (cells_of slots.old.items) block)) }
+    ensures cells { ChangesSlot slots.old.items slots.new.items block (written from.now) }
     ensures len { vec_len slots.new ≡ vec_len slots.old }
 {
     let slot = &mut slots[block as usize];
@@ -79,7 +83,7 @@ pub(crate) fn write_slot(slots: &mut Vec<Slot>, block: u32, from: &Block)
 /// Leaves a slot as a write in which the power is cut does, by its fate.
 pub(crate) fn cut_slot(slots: &mut Vec<Slot>, block: u32, from: &Block, fate: Fate)
     requires { block < vec_len slots.old }
-    ensures cells { cells_of slots.new.items ≡ set (cells_of slots.old.items) block (cut_short fate from.now (cell_at (cells_of slots.old.items) block)) }
+    ensures cells { ChangesSlot slots.old.items slots.new.items block (cut_short fate from.now) }
     ensures len { vec_len slots.new ≡ vec_len slots.old }
 {
     let slot = &mut slots[block as usize];

@@ -1,12 +1,10 @@
 -- What a command leaves a drive standing for, found in its clause.
-use Rattle.std.specs.Prelude.{◌≡◌, ℕ, Result, Ok, Err, List, [], ◌∷◌, length}
-use Rattle.std.proofs.Common.{refl, sym, inl, inr, subst}
-use Rattle.model_sectors.specs.Discs.{Standing, On, Off, Shown}
-use Rattle.model_sectors.specs.Calls.{ReadStep, WriteStep}
-use Rattle.model_sectors.specs.declared.ReadOut.{ReadOut}
-use Rattle.model_sectors.specs.declared.ReadOut.TheVariants as reads
-use Rattle.model_sectors.specs.declared.WriteOut.{WriteOut}
-use Rattle.model_sectors.specs.declared.WriteOut.TheVariants as writes
+use Rattle.std.specs.Prelude.{◌≡◌, ℕ, Result, Ok, Err, List, length}
+use Rattle.std.proofs.Common.{sym, inl, inr, subst}
+use Rattle.model_sectors.specs.Discs.{Standing, Shown}
+use Rattle.model_sectors.specs.Reads.{ReadStep}
+use Rattle.model_sectors.specs.Writes.{WriteStep}
+use Rattle.model_sectors.proofs.Found.{read_found, write_found}
 use Rattle.ram_sense.specs.declared.sense.Sense.{Sense}
 use Rattle.ram_sense.specs.declared.answer.Answer.{Answer}
 use Rattle.ram_sense.specs.declared.answer.Answer.TheVariants as answers
@@ -14,43 +12,6 @@ use Rattle.ram_mmc.specs.declared.commands.Transfer.{Transfer}
 use Rattle.ram_mmc.specs.declared.commands.Transfer.TheVariants as transfers
 use Rattle.ram_mmc.specs.Asked.{asked}
 use Rattle.ram_mmc.specs.Commands.{IsTransferred, IsExecuted, IsAnsweredAlone}
-
-module _ (old new : Shown) (after : Standing → Type 0) where
-  -- what a read leaves
-  read_found : (s : Standing) (lba n : ℕ) (into : List ℕ) (out : ReadOut) → ReadStep old new after s lba n into out → (t : Standing) × after t × ReadStep old new (λ x. x ≡ t) s lba n into out
-  read_found (On disc) lba n into reads.Good p = (On disc, p.3, (p.0, p.1, p.2, refl))
-  read_found (On disc) lba n into reads.NotFormatted p = (On disc, p, refl)
-  read_found (On disc) lba n into (reads.Range told) p = (On disc, p, refl)
-  read_found (On disc) lba n into (reads.Unread named block) p = (On disc, p.3, (p.0, p.1, p.2, refl))
-  read_found (On disc) lba n into reads.Cut p = (Off (disc ∷ []), p.1, (p.0, refl))
-  read_found (On disc) lba n into reads.Off p = absurd p
-  read_found (On disc) lba n into reads.Fault p = (Off (disc ∷ []), p.1, (p.0, refl))
-  read_found (Off discs) lba n into reads.Good p = absurd p
-  read_found (Off discs) lba n into reads.NotFormatted p = absurd p
-  read_found (Off discs) lba n into (reads.Range told) p = absurd p
-  read_found (Off discs) lba n into (reads.Unread named block) p = absurd p
-  read_found (Off discs) lba n into reads.Cut p = absurd p
-  read_found (Off discs) lba n into reads.Off p = (Off discs, p, refl)
-  read_found (Off discs) lba n into reads.Fault p = absurd p
-
-  -- what a write leaves
-  write_found : (s : Standing) (lba n : ℕ) (bytes : List ℕ) (out : WriteOut) → WriteStep old new after s lba n bytes out → (t : Standing) × after t × WriteStep old new (λ x. x ≡ t) s lba n bytes out
-  write_found (On disc) lba n bytes writes.Good p = (_, p.2, (p.0, p.1, refl))
-  write_found (On disc) lba n bytes writes.NotFormatted p = (On disc, p, refl)
-  write_found (On disc) lba n bytes (writes.Range told) p = (On disc, p, refl)
-  write_found (On disc) lba n bytes (writes.Unread named block) p = (_, p.3, (p.0, p.1, p.2, refl))
-  write_found (On disc) lba n bytes (writes.NoSpare named) p = (_, p.2, (p.0, p.1, refl))
-  write_found (On disc) lba n bytes writes.Cut p = (_, p.0.either, (record { block = p.0.block; covered = p.0.covered; either = refl }, p.1))
-  write_found (On disc) lba n bytes writes.Off p = absurd p
-  write_found (On disc) lba n bytes writes.Fault p = (_, p.0.either, (record { block = p.0.block; covered = p.0.covered; either = refl }, p.1))
-  write_found (Off discs) lba n bytes writes.Good p = absurd p
-  write_found (Off discs) lba n bytes writes.NotFormatted p = absurd p
-  write_found (Off discs) lba n bytes (writes.Range told) p = absurd p
-  write_found (Off discs) lba n bytes (writes.Unread named block) p = absurd p
-  write_found (Off discs) lba n bytes (writes.NoSpare named) p = absurd p
-  write_found (Off discs) lba n bytes writes.Cut p = absurd p
-  write_found (Off discs) lba n bytes writes.Off p = (Off discs, p, refl)
-  write_found (Off discs) lba n bytes writes.Fault p = absurd p
 
 -- what a drive stands for after a call, where it stood for this before
 abbrev pub Found : (Standing → Type 0) → (Standing → Type 0) → Type 0

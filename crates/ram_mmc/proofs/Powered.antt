@@ -2,7 +2,8 @@
 use Rattle.std.specs.Prelude.{◌≡◌, ℕ, ◌⊎◌, Result, Ok, Err, List, []}
 use Rattle.std.proofs.Common.{inl, inr}
 use Rattle.model_sectors.specs.Discs.{Standing, On, Off, Shown, IsOn}
-use Rattle.model_sectors.specs.Calls.{ReadCause, ReadStep, WriteCause, WriteStep}
+use Rattle.model_sectors.specs.Reads.{ReadCause, ReadStep}
+use Rattle.model_sectors.specs.Writes.{WriteCause, WriteStep}
 use Rattle.model_sectors.specs.declared.ReadOut.{ReadOut}
 use Rattle.model_sectors.specs.declared.ReadOut.TheVariants as reads
 use Rattle.model_sectors.specs.declared.WriteOut.{WriteOut}

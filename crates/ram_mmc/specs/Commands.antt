@@ -6,7 +6,8 @@ use Rattle.ram_sense.specs.declared.sense.Sense.{Sense}
 use Rattle.ram_sense.specs.declared.answer.Answer.{Answer}
 use Rattle.ram_sense.specs.declared.answer.Answer.TheVariants as answers
 use Rattle.model_sectors.specs.Discs.{Standing, Shown, IsOn}
-use Rattle.model_sectors.specs.Calls.{ReadCause, ReadStep, IsInRange, AreBuffered, ReadsBuffered, WriteCause, WriteStep}
+use Rattle.model_sectors.specs.Reads.{ReadCause, ReadSteps, ReadIsQuiet}
+use Rattle.model_sectors.specs.Writes.{WriteCause, WriteSteps}
 use Rattle.model_sectors.specs.declared.ReadOut.{ReadOut}
 use Rattle.model_sectors.specs.declared.ReadOut.TheVariants as reads
 use Rattle.model_sectors.specs.declared.WriteOut.{WriteOut}
@@ -49,8 +50,8 @@ module _ (old new : Shown) (before after : Standing → Type 0) where
     pub out : ReadOut
     pub bytes : List ℕ
     pub cause : ReadCause old new lba n out
-    pub step : (s : Standing) → before s → ReadStep old new after s lba n bytes out
-    pub buffered : IsInRange old lba n → AreBuffered old lba n → ReadsBuffered old new out
+    pub step : ReadSteps old new before after lba n bytes out
+    pub buffered : ReadIsQuiet old new lba n out
     pub answer_is : answer ≡ read_answer out
     pub data_is : data_in ≡ data_read out bytes
 
@@ -58,7 +59,7 @@ module _ (old new : Shown) (before after : Standing → Type 0) where
   pub record IsWritten (lba n : ℕ) (payload : List ℕ) (answer : Answer) (data_in : List ℕ) : Type 0 where
     pub out : WriteOut
     pub cause : WriteCause old new lba n out
-    pub step : (s : Standing) → before s → WriteStep old new after s lba n payload out
+    pub step : WriteSteps old new before after lba n payload out
     pub answer_is : answer ≡ write_answer out
     pub no_data : data_in ≡ []
 

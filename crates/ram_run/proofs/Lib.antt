@@ -1,17 +1,3 @@
-pub mod Homes
-pub mod ImageLaws
-pub mod Fetches
-pub mod Putting
-pub mod Starts
-pub mod Reading
-pub mod ReadEnds
-pub mod Controls
-pub mod PartBytes
-pub mod Standings
-pub mod Readies
-pub mod TouchedTwice
-pub mod Placing
-pub mod Written
 pub mod StatesAfter
 pub mod InsertedSteps
 pub mod Opens

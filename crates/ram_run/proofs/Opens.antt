@@ -104,6 +104,14 @@ module _ {I : Type 0} {d : Images I} (image : I) (medium : ImageMedium I d) (geo
       is_in = record { shape_is = made.shape_is; shown_is = refl; standing_is = made.starts start };
     }
 
+  -- where the image tells its bytes, the drive stands for something
+  pub opens_for_some : shown.medium.world.told ≡ true → ¬ ((s : Standing) → ¬ stands s)
+  opens_for_some told none = by_bytes (d.bytes image) refl
+    where
+      by_bytes : (o : Option (List ℕ)) → d.bytes image ≡ o → ⊥
+      by_bytes None e = false≢true (sym (opened.as_told ∙ ap is_some e) ∙ sym (ap (λ (m : Machine). m.world.told) made.medium_is) ∙ told)
+      by_bytes (Some bytes) e = none (Off (first_disc (plain_homes geometry) (world_of medium).cells ∷ [])) (made.starts (start bytes e))
+
   -- the same, and no count fell
   pub opens : Opens (d.bytes image) (d.faults image) shape shown stands
   opens = record { opened = opened_by; count = subst (λ (m : Machine). d.faults image ≤ m.world.faults) (sym made.medium_is) opened.count }

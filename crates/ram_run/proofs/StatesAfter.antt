@@ -1,11 +1,15 @@
 -- What a call leaves a drive standing for, found in its clause, and that no count falls.
-use Rattle.std.specs.Prelude.{◌≡◌, ℕ, ◌≤◌, Result, Ok, Err, List, [], length}
-use Rattle.std.proofs.Common.{arith, refl, sym, ap, inl, inr, subst}
+use Rattle.std.specs.Prelude.{◌≡◌, ℕ, ◌≤◌, Result, Ok, Err, List, length}
+use Rattle.std.proofs.Common.{arith, sym, ap, inl, inr, subst}
 use Rattle.model_counts.specs.Counts.{Rose}
 use Rattle.model_medium.specs.Machine.{Machine}
 use Rattle.model_medium.specs.Reach.{Reach}
-use Rattle.model_sectors.specs.Discs.{Standing, On, Off, Shown, candidates}
-use Rattle.model_sectors.specs.Calls.{ReadCause, WriteCause, PowerCause, PowerStep, IsStopped}
+use Rattle.model_sectors.specs.Discs.{Standing, Shown}
+use Rattle.model_sectors.specs.Parts.{IsStopped}
+use Rattle.model_sectors.specs.Reads.{ReadCause}
+use Rattle.model_sectors.specs.Writes.{WriteCause}
+use Rattle.model_sectors.specs.Power.{PowerCause, PowerStep}
+use Rattle.model_sectors.proofs.Found.{power_found}
 use Rattle.model_sectors.specs.declared.ReadOut.{ReadOut}
 use Rattle.model_sectors.specs.declared.ReadOut.TheVariants as reads
 use Rattle.model_sectors.specs.declared.WriteOut.{WriteOut}
@@ -33,15 +37,6 @@ use Rattle.ram_mmc.specs.Commands.{read_answer, write_answer, IsTransferred, IsE
 use Rattle.ram_run.specs.LineSteps.{KeepsRest, DiscRule}
 use Rattle.ram_run.specs.Control.{stands_after_fail}
 use Rattle.ram_run.specs.Inserted.{LineCount}
-
-module _ (old new : Shown) (after : Standing → Type 0) where
-  -- what the turning on of the power leaves
-  power_found : (s : Standing) (out : PowerOut) → PowerStep new after s out → (t : Standing) × after t × PowerStep new (λ x. x ≡ t) s out
-  power_found s (powers.Ready told) p = (On p.0, p.2, (p.0, p.1, refl))
-  power_found s powers.NotFormatted p = (On [], p, refl)
-  power_found s powers.Cut p = (Off (candidates s), p, refl)
-  power_found s powers.Fault p = (Off (candidates s), p, refl)
-  power_found s powers.NoMemory p = (Off (candidates s), p, refl)
 
 module _ (old new : Shown) (before after : Standing → Type 0) (s : Standing) (stood : before s) where
   keeps_found : KeepsRest old new before after → Found after (λ t. KeepsRest old new (λ x. x ≡ s) (λ x. x ≡ t))

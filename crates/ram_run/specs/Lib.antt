@@ -1,9 +1,6 @@
 pub mod Homes
 pub mod Plain
-pub mod Blocks
-pub mod Reading
 pub mod Control
-pub mod Writing
 pub mod Work
 pub mod Replies
 pub mod States

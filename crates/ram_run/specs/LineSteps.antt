@@ -2,7 +2,7 @@
 use Rattle.std.specs.Prelude.{◌≡◌, ℕ, ◌⊎◌, Ok, Err, List, []}
 use Rattle.model_geometry.specs.Geometry.{Shape, IsLawful, shape_of, total}
 use Rattle.model_sectors.specs.Discs.{Standing, Shown}
-use Rattle.model_sectors.specs.Calls.{PowerCause, PowerStep}
+use Rattle.model_sectors.specs.Power.{PowerCause, PowerStep}
 use Rattle.model_sectors.specs.declared.PowerOut.{PowerOut}
 use Rattle.ram_medium.specs.Control.{FailRule, WearRule, with_armed_cut}
 use Rattle.model_medium.specs.declared.Fate.{Fate}

@@ -1,31 +1,25 @@
-//! The plain disc: a drive without lists, whose logical blocks lie in the data blocks behind the primary spares.
-ghost use Rattle.std.specs.Prelude.{◌≡◌};
+//! The plain disc: a drive without lists, whose logical blocks lie in the data blocks behind the primary spares. It works
+//! on a medium over an image, and knows nothing of lines, commands and reports.
 ghost use Rattle.std.proofs.Props.{props};
-ghost use Rattle.ram_image.specs.Medium.{shape_of_medium};
+ghost use Rattle.ram_run.specs.Plain.Disc.{StandsForSome};
 
 mod control;
 mod fetching;
+mod mechanism;
 mod reading;
-mod request;
 mod writing;
 
-use ram_buffer::BlockBuffer;
-use ram_bytes::Block;
-use ram_image::ImageMedium;
+use mechanism::Mechanism;
 use ram_outside::Image;
 use ram_sectors::{PowerOut, ReadOut, Sectors, WriteOut};
-use ram_zones::Geometry;
 use std::alloc::Global;
 
 /// A disc without lists: its logical blocks lie in the data blocks behind the primary spares, in order, and it is
-/// always formatted. It has no spares.
+/// always formatted. It has no spares. Where its medium tells its cells it stands for some disc; inside a call its
+/// mechanism may stand for none.
 pub struct PlainDisc<I: Image> {
-    medium: ImageMedium<I>,
-    geometry: Geometry,
-    buffer: BlockBuffer,
-    // The block in work.
-    block: Block,
-    ghost same: { shape_of_medium medium ≡ geometry } by { Prim.hlevel props },
+    mechanism: Mechanism<I>,
+    ghost some: { StandsForSome mechanism } by { Prim.hlevel props },
 }
 
 impl<I: Image> Sectors for PlainDisc<I> {
@@ -33,33 +27,37 @@ impl<I: Image> Sectors for PlainDisc<I> {
     ghost use Rattle.model_geometry.proofs.DataBlocks.{data_blocks_rise};
     ghost use Rattle.model_sectors.proofs.Apart.{apart_behind};
     ghost use Rattle.ram_image.specs.Medium.{shape_of_medium};
-    ghost use Rattle.ram_run.specs.Plain.{shown_by, stands_for};
+    ghost use Rattle.ram_run.specs.Plain.Disc.{shown_by, stands_for};
 
-    ghost shape = { λ disc. shape_of_medium disc.medium };
+    ghost shape = { λ disc. shape_of_medium disc.mechanism.medium };
 
-    ghost shows = { shown_by };
+    ghost shows = { λ disc. shown_by disc.mechanism };
 
-    ghost stands = { stands_for };
+    ghost stands = { λ disc. stands_for disc.mechanism };
 
     fn capacity(&self) -> Option<u32> {
-        self.tell_capacity()
+        self.mechanism.capacity()
     }
 
     fn read(&mut self, lba: u32, n: u32, into: &mut [u8]) -> ReadOut {
-        self.read_sectors(lba, n, into)
+        self.mechanism.read(lba, n, into)
     }
 
     fn write(&mut self, lba: u32, n: u32, from: &[u8]) -> WriteOut {
-        self.write_sectors(lba, n, from)
+        self.mechanism.write(lba, n, from)
     }
 
     fn power(&mut self, _alloc: Global) -> PowerOut {
-        self.cycle_power()
+        self.mechanism.cycle_power()
     }
 
     ghost laws = { record {
       told = λ disc s stands. stands.told;
       agrees = λ disc s stands. stands.agrees;
-      apart = λ disc i j h k same. apart_behind (data_blocks (shape_of_medium disc.medium)) (data_blocks_rise (shape_of_medium disc.medium)) (shape_of_medium disc.medium).psa i j h k same;
+      some = λ disc. disc.some;
+      apart = λ disc i j h k same.
+          apart_behind (data_blocks (shape_of_medium disc.mechanism.medium))
+          (data_blocks_rise (shape_of_medium disc.mechanism.medium))
+          (shape_of_medium disc.mechanism.medium).psa i j h k same;
     } };
 }

@@ -1,11 +1,13 @@
+//! How a plain disc is opened and closed, its power, and what a script does to its medium.
 ghost use Rattle.std.specs.Prelude.{◌≡◌, MatchResult, refl};
-ghost use Rattle.model_sectors.specs.Discs.{Standing};
-ghost use Rattle.model_sectors.specs.Calls.{CapacityRule, PowerCause, PowerStep};
+ghost use Rattle.model_sectors.specs.Tells.{CapacityRule};
+ghost use Rattle.model_sectors.specs.Power.{PowerCause, PowerSteps};
 ghost use Rattle.ram_image.specs.Medium.{shape_of_medium, machine_in};
 ghost use Rattle.ram_run.specs.Drive.{IsMade};
-ghost use Rattle.ram_run.specs.Plain.{shown_by, stands_for};
+ghost use Rattle.ram_run.specs.Plain.Disc.{shown_by, stands_for};
 
 use super::PlainDisc;
+use super::mechanism::Mechanism;
 use crate::drive::Drive;
 use ram_buffer::BlockBuffer;
 use ram_bytes::Block;
@@ -16,33 +18,35 @@ use ram_sectors::PowerOut;
 use ram_zones::Geometry;
 use std::alloc::{AllocError, Global};
 
-impl<I: Image> PlainDisc<I> {
-    /// The plain disc of this geometry on its medium. It takes room for two blocks.
+impl<I: Image> Mechanism<I> {
+    /// The mechanism of this geometry over its medium. It takes room for two blocks.
     fn new(
         alloc: Global,
         medium: ImageMedium<I>,
         geometry: Geometry,
     ) -> Result<Self, (ImageMedium<I>, AllocError)>
         requires { shape_of_medium medium ≡ geometry }
-        ensures { MatchResult result (λ disc. IsMade geometry (machine_in medium) (shape_of_medium disc.medium) (shown_by disc) (stands_for disc)) (λ refused. refused.0 ≡ medium) }
+        ensures { MatchResult result
+            (λ new. IsMade geometry (machine_in medium) (shape_of_medium new.medium) (shown_by new) (stands_for new))
+            (λ refused. refused.0 ≡ medium) }
     {
         let buffer = match BlockBuffer::new(alloc) {
             Ok(buffer) => buffer,
             Err(error) => return Err((medium, error)),
         };
         match Block::zeros(alloc) {
-            Ok(block) => Ok(PlainDisc {
+            Ok(scratch) => Ok(Mechanism {
                 medium,
                 geometry,
                 buffer,
-                block,
+                scratch,
             }),
             Err(error) => Err((medium, error)),
         }
     }
 
     /// How many sectors the disc has, as the trait has it.
-    pub(super) fn tell_capacity(&self) -> Option<u32>
+    pub(super) fn capacity(&self) -> Option<u32>
         ensures { CapacityRule (shown_by self.now) result }
     {
         if !self.medium.powered() {
@@ -54,7 +58,7 @@ impl<I: Image> PlainDisc<I> {
     /// Turns the power off and on again, as the trait has it. It takes no memory.
     pub(super) fn cycle_power(&mut self) -> PowerOut
         ensures cause { PowerCause (shown_by self.old) (shown_by self.new) result }
-        ensures step { (s : Standing) → stands_for self.old s → PowerStep (shown_by self.new) (stands_for self.new) s result }
+        ensures step { PowerSteps (shown_by self.new) (stands_for self.old) (stands_for self.new) result }
         ensures same_shape { shape_of_medium self.new.medium ≡ shape_of_medium self.old.medium }
     {
         self.medium.power_off();
@@ -72,43 +76,44 @@ impl<I: Image> Drive for PlainDisc<I> {
     // It takes room for two blocks beside that of the medium.
     fn open(alloc: Global, image: I) -> Result<Self, (I, OpenFault)> {
         let (medium, geometry) = open(alloc, image)?;
-        match PlainDisc::new(alloc, medium, geometry) {
-            Ok(disc) => Ok(disc),
+        match Mechanism::new(alloc, medium, geometry) {
+            Ok(mechanism) => Ok(PlainDisc { mechanism }),
             Err((medium, _)) => Err((medium.into_image(), OpenFault::NoMemory)),
         }
     }
 
     fn into_image(self) -> I {
-        let PlainDisc {
+        let PlainDisc { mechanism } = self;
+        let Mechanism {
             medium,
             geometry: _,
             buffer: _,
-            block: _,
-        } = self;
+            scratch: _,
+        } = mechanism;
         medium.into_image()
     }
 
     fn powered(&self) -> bool {
-        self.medium.powered()
+        self.mechanism.medium.powered()
     }
 
     fn fail(&mut self, block: u32) -> FailEnd {
-        match self.medium.fail(block) {
+        match self.mechanism.medium.fail(block) {
             FailEnd::Done => FailEnd::Done,
             FailEnd::NoBlock { blocks } => FailEnd::NoBlock { blocks },
             FailEnd::Failed => {
-                self.buffer.drop_all();
+                self.mechanism.buffer.drop_all();
                 FailEnd::Failed
             }
         }
     }
 
     fn wear(&mut self, block: u32, n: u32) -> Arm {
-        self.medium.wear(block, n)
+        self.mechanism.medium.wear(block, n)
     }
 
     fn arm_cut(&mut self, n: u32, fate: Fate) {
-        self.medium.arm_cut(n, fate);
+        self.mechanism.medium.arm_cut(n, fate);
     }
 
     ghost drive_laws = { record { homes_are = λ drive. refl } };

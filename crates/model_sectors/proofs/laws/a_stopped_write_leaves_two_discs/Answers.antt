@@ -1,6 +1,6 @@
 use Rattle.std.specs.Prelude.{◌+◌}
 use Rattle.model_sectors.specs.Discs.{replaced}
-use Rattle.model_sectors.specs.Uses.{block_with}
+use Rattle.model_sectors.specs.Requests.{block_with}
 use Rattle.model_sectors.proofs.Covering.{covered_part}
 use Rattle.model_sectors.proofs.Pieces.{differ_in_block}
 use Rattle.model_sectors.proofs.laws.a_stopped_write_leaves_two_discs.Goals as goal

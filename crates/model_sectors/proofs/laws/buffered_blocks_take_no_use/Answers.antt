@@ -1,4 +1,4 @@
-use Rattle.model_sectors.specs.Uses.{block_with, blocks_covered}
+use Rattle.model_sectors.specs.Requests.{block_with, blocks_covered}
 use Rattle.model_sectors.proofs.Covering.{no_uses_buffered}
 use Rattle.model_sectors.proofs.laws.buffered_blocks_take_no_use.Goals as goal
 

@@ -1,6 +1,11 @@
-use Rattle.std.proofs.Common.{◌∙◌}
-use Rattle.ram_image.specs.Medium.{machine_in}
+use Rattle.std.proofs.Common.{◌∙◌, subst}
+use Rattle.model_geometry.specs.Geometry.{Shape, total}
+use Rattle.model_bytes.specs.Told.{WhereTold}
+use Rattle.model_image.specs.Writes.{StopsInBlock}
+use Rattle.ram_image.specs.Medium.{machine_in, bytes_in}
+use Rattle.ram_image.specs.Begun.{WriteCutBytes}
 use Rattle.ram_image.proofs.Events.{event_cut_write, failed_write}
+use Rattle.ram_image.proofs.EventSteps.{cut_bytes, stops_then}
 use Rattle.ram_image.proofs.medium.ImageMedium.write_block.Goals as goal
 
 pub returns-in-Cut : goal.returns-in-Cut
@@ -8,6 +13,10 @@ returns-in-Cut g c = record {
   exactly = event_cut_write (machine_in c.args.self.now) (machine_in c.begin.new.self) (machine_in c.write_cut.new.self) c.args.block c.if-not-self.false c.in-Cut.ensures.rule.1 c.args.from.now c.in-Cut.fate
       c.in-Cut.ensures.rule.0 c.write_cut.result c.write_cut.ensures.rule;
   same_shape = c.write_cut.ensures.same_shape ∙ c.in-Cut.ensures.same_shape;
+  bytes = cut_bytes _ c.args.block _ _ _ c.in-Cut.ensures.bytes (total c.args.self.now.geometry) c.args.from.now _ c.in-Cut.fate c.in-Cut.ensures.rule.0 (machine_in c.begin.new.self)
+      (machine_in c.write_cut.new.self) c.write_cut.result c.write_cut.ensures.rule
+      (subst (λ (s : Shape). WriteCutBytes (total s) c.args.block c.args.from.now c.in-Cut.fate (bytes_in c.begin.new.self) (bytes_in c.write_cut.new.self) c.write_cut.result) c.in-Cut.ensures.same_shape
+      c.write_cut.ensures.bytes);
 }
 
 pub returns-in-Failed-leave : goal.returns-in-Failed-leave
@@ -15,4 +24,6 @@ returns-in-Failed-leave g c = record {
   exactly = failed_write (machine_in c.args.self.now) (machine_in c.begin.new.self) (machine_in c.leave.new.self) c.args.block c.if-not-self.false c.in-On.ensures.rule.1 c.args.from.now
       c.in-Failed-leave.ensures.rule;
   same_shape = c.in-Failed-leave.ensures.same_shape ∙ c.in-On.ensures.same_shape;
+  bytes = stops_then _ c.args.block _ _ _ c.in-On.ensures.bytes (total c.args.self.now.geometry) c.args.from.now (subst (λ (s : Shape). WhereTold (bytes_in c.begin.new.self) (bytes_in c.leave.new.self) (StopsInBlock (total s) c.args.block c.args.from.now)) c.in-On.ensures.same_shape
+      c.in-Failed-leave.ensures.bytes);
 }

@@ -1,0 +1,59 @@
+-- Which bytes of an image the events of a medium over it change: for `ImageTakes` and for `fail`.
+use Rattle.std.specs.Prelude.{◌≡◌, ℕ, ◌⊎◌, Bool, Option, MatchOption, List}
+use Rattle.model_bytes.specs.Told.{WhereTold}
+use Rattle.model_medium.specs.Machine.{Machine, is_killed, fate_due}
+use Rattle.model_medium.specs.Exact.{Event, Read, Write, PowerOn, PowerOff}
+use Rattle.model_medium.specs.declared.Fate.{Fate}
+use Rattle.model_medium.specs.declared.Fate.TheVariants as fates
+use Rattle.model_medium.specs.declared.ReadEnd.{ReadEnd}
+use Rattle.model_medium.specs.declared.ReadEnd.TheVariants as reads
+use Rattle.model_medium.specs.declared.WriteEnd.{WriteEnd}
+use Rattle.model_medium.specs.declared.WriteEnd.TheVariants as writes
+use Rattle.model_image.specs.Writes.{with_state, dead_state, worn_bytes, bytes_left, StopsInBlock, IsOldOrNew}
+use Rattle.ram_medium.specs.declared.control.FailEnd.{FailEnd}
+use Rattle.ram_medium.specs.declared.control.FailEnd.TheVariants as fails
+
+-- The bytes before and after a use of a block in which one of its arms runs out, if `dies` says so: the block's state
+-- byte is then that of a dead block, and no other byte changed. (This project's own, as all here.)
+abbrev pub WearsBytes : Bool → ℕ → List ℕ → List ℕ → Type 0
+WearsBytes dies block held held' = held' ≡ worn_bytes dies block held
+
+-- The image failed while an arm killed the block: nothing changed, or just that.
+abbrev pub MayWearBytes : Bool → ℕ → List ℕ → List ℕ → Type 0
+MayWearBytes dies block held held' = IsOldOrNew held (worn_bytes dies block held) held'
+
+-- What a read makes of the bytes, by its answer: it changes none but by an arm.
+abbrev pub ReadBytes : Bool → ℕ → Option (List ℕ) → Option (List ℕ) → ReadEnd → Type 0
+ReadBytes dies block before after reads.Done = WhereTold before after (WearsBytes dies block)
+ReadBytes dies block before after reads.Unreadable = WhereTold before after (WearsBytes dies block)
+ReadBytes dies block before after reads.Cut = WhereTold before after (WearsBytes dies block)
+ReadBytes dies block before after reads.Off = after ≡ before
+ReadBytes dies block before after reads.Failed = WhereTold before after (MayWearBytes dies block)
+
+-- The bytes before and after a write of these data that ends by this fate, behind the arms of its block.
+abbrev pub LeavesBytes : Bool → Fate → ℕ → ℕ → List ℕ → List ℕ → List ℕ → Type 0
+LeavesBytes dies fate total block block_data held held' = held' ≡ bytes_left fate total block block_data (worn_bytes dies block held)
+
+-- The image failed in a write of these data: nothing changed, or bytes of the block alone, behind its arms.
+abbrev pub MayLeaveBytes : Bool → ℕ → ℕ → List ℕ → List ℕ → List ℕ → Type 0
+MayLeaveBytes dies total block block_data held held' = (held' ≡ held) ⊎ StopsInBlock total block block_data (worn_bytes dies block held) held'
+
+-- What a write makes of the bytes, by its answer; `due` is the fate of the cut that is due in it.
+abbrev pub WriteBytes : Bool → Option Fate → ℕ → ℕ → List ℕ → Option (List ℕ) → Option (List ℕ) → WriteEnd → Type 0
+WriteBytes dies due total block block_data before after writes.Done = WhereTold before after (LeavesBytes dies fates.New total block block_data)
+WriteBytes dies due total block block_data before after writes.Cut = MatchOption due ⊥ (λ fate. WhereTold before after (LeavesBytes dies fate total block block_data))
+WriteBytes dies due total block block_data before after writes.Off = after ≡ before
+WriteBytes dies due total block block_data before after writes.Failed = WhereTold before after (MayLeaveBytes dies total block block_data)
+
+-- What an event makes of the bytes of an image of so many blocks.
+abbrev pub BytesAt : Machine → ℕ → Option (List ℕ) → Option (List ℕ) → Event → Type 0
+BytesAt old total before after (Read block into into' how) = ReadBytes (is_killed block old.arms) block before after how
+BytesAt old total before after (Write block block_data how) = WriteBytes (is_killed block old.arms) (fate_due old.cut) total block block_data before after how
+BytesAt old total before after PowerOn = after ≡ before
+BytesAt old total before after PowerOff = after ≡ before
+
+-- What the failure of a block makes of the bytes, by its answer: its state byte is that of a dead block.
+abbrev pub FailBytes : ℕ → Option (List ℕ) → Option (List ℕ) → FailEnd → Type 0
+FailBytes block before after fails.Done = WhereTold before after (λ held held'. held' ≡ with_state block dead_state held)
+FailBytes block before after (fails.NoBlock blocks) = after ≡ before
+FailBytes block before after fails.Failed = WhereTold before after (λ held held'. IsOldOrNew held (with_state block dead_state held) held')

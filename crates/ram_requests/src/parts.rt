@@ -1,0 +1,64 @@
+ghost use Rattle.std.specs.Prelude.{◌≡◌, ◌+◌, ◌*◌, ◌<◌, ◌≤◌, length};
+ghost use Rattle.model_bytes.specs.Bytes.{put_at};
+ghost use Rattle.model_sectors.specs.Requests.{start_in, end_in, is_partly, merged_in, filled_by};
+ghost use Rattle.ram_bytes.specs.declared.block.TheConstants.{BLOCK_BYTES};
+
+use crate::requests::Request;
+use ram_bytes::{Block, SECTOR_BYTES, SECTORS_PER_BLOCK};
+
+/// The part of a logical block that a request covers: some of its sectors.
+#[derive(Clone, Copy, Debug)]
+pub struct Part {
+    /// The request.
+    pub request: Request,
+    /// The logical block.
+    pub block: u32,
+    /// The first sector of the request in it.
+    pub start: u32,
+    /// The end of the request in it.
+    pub end: u32,
+    ghost start_is: { start ≡ start_in request.lba block },
+    ghost end_is: { end ≡ end_in request.lba request.n block },
+    ghost some: { start < end },
+}
+
+/// Puts bytes among others, from byte `at` on.
+fn put_bytes(into: &mut [u8], at: usize, from: &[u8])
+    requires { at + length from.now ≤ length into.old }
+    ensures { into.new ≡ put_at at from.now into.old }
+{
+    into[at..at + from.len()].copy_from_slice(from);
+}
+
+impl Part {
+    /// Whether it is less than the whole block.
+    pub fn is_partly(self) -> bool
+        ensures { result ≡ is_partly self.request.lba self.request.n self.block }
+    {
+        self.end - self.start < SECTORS_PER_BLOCK as u32
+    }
+
+    /// Copies its sectors out of their block to their places among the bytes of the request.
+    pub fn copy_out(self, block: &Block, into: &mut [u8])
+        requires { length into.old ≡ 2048 * self.request.n }
+        ensures { into.new ≡ filled_by self.request.lba self.request.n self.block block.now into.old }
+    {
+        let from = SECTOR_BYTES * (self.start - SECTORS_PER_BLOCK as u32 * self.block) as usize;
+        let at = SECTOR_BYTES * (self.start - self.request.lba) as usize;
+        let len = SECTOR_BYTES * (self.end - self.start) as usize;
+        put_bytes(into, at, &block.bytes()[from..from + len]);
+    }
+
+    /// Merges its sectors, of the bytes of the request, into their block.
+    pub fn merge(self, from: &[u8], block: &mut Block)
+        requires { length from.now ≡ 2048 * self.request.n }
+        ensures merged { block.new ≡ merged_in self.request.lba self.request.n from.now self.block block.old }
+        ensures len { length block.old ≡ BLOCK_BYTES }
+    {
+        let at = SECTOR_BYTES * (self.start - SECTORS_PER_BLOCK as u32 * self.block) as usize;
+        let first = SECTOR_BYTES * (self.start - self.request.lba) as usize;
+        let len = SECTOR_BYTES * (self.end - self.start) as usize;
+        let bytes = block.bytes_mut();
+        put_bytes(bytes, at, &from[first..first + len]);
+    }
+}

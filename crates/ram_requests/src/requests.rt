@@ -1,0 +1,61 @@
+ghost use Rattle.std.specs.Prelude.{◌≡◌, ◌+◌, ◌<◌, ◌≤◌, MatchOption};
+ghost use Rattle.model_sectors.specs.Requests.{block_with, blocks_covered, start_in, end_in};
+ghost use Rattle.model_sectors.specs.declared.TheConstants.{TRANSFER_SECTORS, MOST_SECTORS};
+
+use crate::parts::Part;
+use ram_bytes::SECTORS_PER_BLOCK;
+
+/// A request for so many sectors from one on. It is at most [`TRANSFER_SECTORS`](crate::TRANSFER_SECTORS) long, and ends
+/// at sector [`MOST_SECTORS`](crate::MOST_SECTORS) at the latest, so that no number of its arithmetic overflows.
+#[derive(Clone, Copy, Debug)]
+pub struct Request {
+    /// The first sector.
+    pub lba: u32,
+    /// How many sectors.
+    pub n: u32,
+    ghost few: { n ≤ TRANSFER_SECTORS },
+    ghost low: { lba + n ≤ MOST_SECTORS },
+}
+
+impl Request {
+    /// The request for `n` sectors from sector `lba` on, of a disc of `capacity` sectors. None exactly where some of them
+    /// are none of the disc's.
+    pub fn within(capacity: u32, lba: u32, n: u32) -> Option<Request>
+        requires few { n ≤ TRANSFER_SECTORS }
+        requires low { capacity ≤ MOST_SECTORS }
+        ensures { MatchOption result (capacity < lba + n)
+            (λ request. (request.lba ≡ lba) × (request.n ≡ n) × (lba + n ≤ capacity)) }
+    {
+        if u64::from(lba) + u64::from(n) > u64::from(capacity) {
+            return None;
+        }
+        Some(Request { lba, n })
+    }
+
+    /// How many logical blocks it covers, whole or in part.
+    pub fn blocks(self) -> u32
+        ensures { result ≡ blocks_covered self.lba self.n }
+    {
+        if self.n == 0 {
+            return 0;
+        }
+        let last = (self.lba + self.n - 1) / SECTORS_PER_BLOCK as u32;
+        last + 1 - self.lba / SECTORS_PER_BLOCK as u32
+    }
+
+    /// The part that it covers of the block after `k` others.
+    pub fn part(self, k: u32) -> Part
+        requires { k < blocks_covered self.lba self.n }
+        ensures request { result.request ≡ self }
+        ensures block { result.block ≡ block_with self.lba + k }
+    {
+        let block = self.lba / SECTORS_PER_BLOCK as u32 + k;
+        let first = block * SECTORS_PER_BLOCK as u32;
+        Part {
+            request: self,
+            block,
+            start: self.lba.max(first),
+            end: (self.lba + self.n).min(first + SECTORS_PER_BLOCK as u32),
+        }
+    }
+}
