@@ -1,7 +1,5 @@
 -- Which lines lack a disc: none where there is one.
 use Rattle.std.specs.Prelude.{◌≡◌, ℕ, Ok, Err, List}
-use Rattle.std.proofs.Common.{sym, subst}
-use Rattle.model_geometry.specs.Geometry.{Shape, shape_of}
 use Rattle.model_sectors.specs.Discs.{Standing, Shown}
 use Rattle.model_sectors.specs.declared.PowerOut.{PowerOut}
 use Rattle.model_sectors.specs.declared.PowerOut.TheVariants as powers
@@ -21,7 +19,7 @@ use Rattle.ram_run.specs.declared.reply.Reply.TheVariants as replies
 use Rattle.ram_run.specs.declared.stopped.Stopped.TheVariants as stopped
 use Rattle.ram_run.specs.Replies.{Outcome, power_outcome, fail_outcome, wear_outcome, command_outcome}
 use Rattle.ram_run.specs.States.{State, Loaded, Unopened, Disc}
-use Rattle.ram_run.specs.LineSteps.{PressStep, DiscRule, OnDisc, Step}
+use Rattle.ram_run.specs.LineSteps.{DiscRule, OnDisc, Step}
 
 -- what a line has that lacks a disc
 abbrev lacks : Outcome
@@ -79,62 +77,3 @@ lacks_same (Disc s) work payload data_in t step = absurd (disc_answers s work pa
 lacks_same (Unopened bytes) works.Nothing payload data_in t step = absurd (told_apart replies.Nothing step.0)
 lacks_same (Unopened bytes) (works.Press zones scale psa) payload data_in t step = absurd step.0
 lacks_same (Unopened bytes) (works.OnDisc line) payload data_in t step = step.2
-
--- what may come of a line: a reply, or one of three reasons why the run ends
-abbrev MayComeOut : Outcome → Type 0
-MayComeOut (Ok reply) = Unit {0}
-MayComeOut (Err stopped.NotADisc) = Unit {0}
-MayComeOut (Err stopped.ImageFault) = Unit {0}
-MayComeOut (Err stopped.NoMemory) = Unit {0}
-MayComeOut (Err why) = ⊥
-
-power_comes_out : (out : PowerOut) → MayComeOut (power_outcome out)
-power_comes_out (powers.Ready capacity) = tt
-power_comes_out powers.NotFormatted = tt
-power_comes_out powers.Cut = tt
-power_comes_out powers.Fault = tt
-power_comes_out powers.NoMemory = tt
-
-fail_comes_out : (end : FailEnd) → MayComeOut (fail_outcome end)
-fail_comes_out fails.Done = tt
-fail_comes_out (fails.NoBlock blocks) = tt
-fail_comes_out fails.Failed = tt
-
-wear_comes_out : (end : Arm) → MayComeOut (wear_outcome end)
-wear_comes_out arming.Set = tt
-wear_comes_out (arming.NoBlock blocks) = tt
-wear_comes_out arming.Full = tt
-
-command_comes_out : (cdb : List ℕ) (answer : Answer) → MayComeOut (command_outcome cdb answer)
-command_comes_out cdb answers.Good = tt
-command_comes_out cdb (answers.Check sense) = tt
-command_comes_out cdb answers.Cut = tt
-command_comes_out cdb answers.Off = tt
-command_comes_out cdb answers.Fault = tt
-command_comes_out cdb answers.NoMemory = tt
-
-rule_stops : (old new : Shown) (before after : Standing → Type 0) (total : ℕ) (line : DiscLine) (payload : List ℕ) (outcome : Outcome) (data_in : List ℕ) → DiscRule old new before after total line payload outcome data_in → MayComeOut outcome
-rule_stops old new before after total lines.Power payload outcome data_in rule = subst MayComeOut (sym rule.0.outcome_is) (power_comes_out rule.0.out)
-rule_stops old new before after total (lines.Fail block) payload outcome data_in rule = subst MayComeOut (sym rule.0.outcome_is) (fail_comes_out rule.0.end)
-rule_stops old new before after total (lines.Wear block n) payload outcome data_in rule = subst MayComeOut (sym rule.0.outcome_is) (wear_comes_out rule.0.end)
-rule_stops old new before after total (lines.Cut n fate) payload outcome data_in rule = subst MayComeOut (sym rule.0.outcome_is) tt
-rule_stops old new before after total (lines.Command cdb) payload outcome data_in rule = subst MayComeOut (sym rule.outcome_is) (command_comes_out cdb rule.answer)
-
-press_stops : (s : State) (shape : Shape) (outcome : Outcome) (t : State) → PressStep s shape outcome t → MayComeOut outcome
-press_stops s shape (Ok reply) t step = tt
-press_stops s shape (Err stopped.NotADisc) t step = tt
-press_stops s shape (Err stopped.ImageFault) t step = tt
-press_stops s shape (Err stopped.NoMemory) t step = tt
-press_stops s shape (Err stopped.NotInLanguage) t step = absurd step
-press_stops s shape (Err stopped.LineTooLong) t step = absurd step
-press_stops s shape (Err stopped.ScriptTooLong) t step = absurd step
-press_stops s shape (Err stopped.SourceFault) t step = absurd step
-press_stops s shape (Err stopped.SinkFault) t step = absurd step
-
--- nothing else comes of a line
-pub step_stops : (s : State) (work : Work) (payload : List ℕ) (outcome : Outcome) (data_in : List ℕ) (t : State) → Step s work payload outcome data_in t → MayComeOut outcome
-step_stops s works.Nothing payload outcome data_in t step = subst MayComeOut (sym step.0) tt
-step_stops s (works.Press zones scale psa) payload outcome data_in t step = press_stops s (shape_of zones scale psa) outcome t step.0
-step_stops (Unopened bytes) (works.OnDisc line) payload outcome data_in t step = subst MayComeOut (sym step.0) tt
-step_stops (Disc s) (works.OnDisc line) payload outcome data_in (Unopened bytes) step = absurd step
-step_stops (Disc s) (works.OnDisc line) payload outcome data_in (Disc t) step = rule_stops s.shown t.shown (λ x. x ≡ s.standing) (λ x. x ≡ t.standing) _ line payload outcome data_in step.rule

@@ -27,7 +27,7 @@ use Rattle.ram_run.specs.LineSteps.{PressStep, OnDisc, Step}
 use Rattle.ram_run.specs.Run.{AnsweredLine, IsStep, Run, Reaches, script_text}
 use Rattle.ram_run.specs.RunCounts.{Counts}
 use Rattle.ram_run.specs.Progress.{Beginning, SoFar, IsLast}
-use Rattle.ram_run.specs.Endings.{IsBeginning, IsUnopened, IsNoUsage, IsOfScript, Aftermath, StandsWith, StatusCounts}
+use Rattle.ram_run.specs.Endings.{IsUnopened, IsOfScript, Aftermath, StandsWith, StatusCounts}
 use Rattle.ram_run.proofs.Answering.{told_apart, disc_answers}
 use Rattle.ram_run.specs.Completes.{BeginsLine, ReadsOn, IsInLanguage, lines_text, AreSilent, IsLawfulPress, BeginsWithPress, BeginsWithDisc, NoneRose, IsComplete}
 
@@ -234,9 +234,9 @@ module _ (first : Beginning) (language : IsInLanguage first.script) (begins : Be
   comes_to_its_end aftermath statuses.Usage counts leaves = absurd leaves
   comes_to_its_end aftermath statuses.Script counts leaves = absurd (well_spelled first leaves.2.far leaves.0 language leaves.1 leaves.2.last_is)
   comes_to_its_end aftermath statuses.NotADisc counts leaves = absurd (never_lacks first begins leaves.1.far leaves.0 leaves.1.last_is)
-  comes_to_its_end aftermath statuses.SourceFault counts leaves = absurd (none.source counts.1)
-  comes_to_its_end aftermath statuses.SinkFault counts leaves = absurd (none.sink counts.1)
-  comes_to_its_end aftermath statuses.ImageFault counts leaves = absurd (none.image counts.1)
+  comes_to_its_end aftermath statuses.SourceFault counts leaves = absurd (none.source counts.source)
+  comes_to_its_end aftermath statuses.SinkFault counts leaves = absurd (none.sink counts.sink)
+  comes_to_its_end aftermath statuses.ImageFault counts leaves = absurd (none.image counts.image)
   comes_to_its_end aftermath statuses.NoMemory counts leaves = tt
 
   unopened : (status : Status) → StatusCounts before after status → IsUnopened status → IsComplete status
@@ -246,15 +246,11 @@ module _ (first : Beginning) (language : IsInLanguage first.script) (begins : Be
   unopened statuses.NotADisc counts un = absurd un
   unopened statuses.SourceFault counts un = absurd un
   unopened statuses.SinkFault counts un = absurd un
-  unopened statuses.ImageFault counts un = absurd (none.image counts.1)
+  unopened statuses.ImageFault counts un = absurd (none.image counts.image)
   unopened statuses.NoMemory counts un = tt
 
 -- such a run comes to its end
-pub completes : {X : Type 0} (bytes_of : X → Option (List ℕ)) (first : Beginning) (left written : Option (List ℕ)) (next : Option X) (tells : Bool) → IsBeginning bytes_of first left written next tells
-    → IsInLanguage first.script → BeginsWithDisc first → (before after : Counts) → NoneRose before after
-    → (aftermath : Aftermath) (untouched : Type 0) (status : Status) → IsNoUsage status → StatusCounts before after status
-    → StandsWith first aftermath status ⊎ (IsUnopened status × untouched) → IsComplete status
-completes bytes_of first left written next tells told language begins before after none aftermath untouched status other counts (inl leaves) =
-    comes_to_its_end first language begins before after none aftermath status counts leaves
-completes bytes_of first left written next tells told language begins before after none aftermath untouched status other counts (inr un) =
-    unopened first language begins before after none status counts un.0
+pub completes : (first : Beginning) → IsInLanguage first.script → BeginsWithDisc first → (before after : Counts) → NoneRose before after
+    → (aftermath : Aftermath) (untouched : Type 0) (status : Status) → StatusCounts before after status → StandsWith first aftermath status ⊎ (IsUnopened status × untouched) → IsComplete status
+completes first language begins before after none aftermath untouched status counts (inl stands) = comes_to_its_end first language begins before after none aftermath status counts stands
+completes first language begins before after none aftermath untouched status counts (inr un) = unopened first language begins before after none status counts un.0

@@ -4,7 +4,7 @@ use Rattle.std.specs.Io.KnownBytes.{append_known, prepend_known}
 use Rattle.std.proofs.Common.{arith, refl, sym, ap, ◌∙◌, inl, inr, subst, append_assoc, append-nil, take-append-drop}
 use Rattle.ram_text.proofs.Puts.{append_known-twice}
 use Rattle.ram_text.specs.ReportLines.{last_text}
-use Rattle.ram_text.specs.Writer.{IsCutOff}
+use Rattle.ram_text.specs.Writer.{IsCutShort}
 use Rattle.ram_text.specs.declared.gathered.Print.TheVariants as prints
 use Rattle.ram_text.specs.declared.printing.LastLine.{LastLine}
 use Rattle.ram_text.specs.declared.printing.LastLine.TheVariants as lasts
@@ -70,7 +70,7 @@ module _ (first : Beginning) (far : SoFar first) (due written : Option (List ℕ
   front_with_any more (Some last) told is front = front_with_last more last told is front
 
 -- a status that is not the sink's is told of another ending
-not_sink : (ending : Ending) (status : Status) → status ≡ status_of ending → ending ≡ Err stopped.SinkFault → (statuses.SinkFault ≡ status → ⊥) → ⊥
+pub not_sink : (ending : Ending) (status : Status) → status ≡ status_of ending → ending ≡ Err stopped.SinkFault → (statuses.SinkFault ≡ status → ⊥) → ⊥
 not_sink ending status is sink other = other (sym (is ∙ ap status_of sink))
 
 -- the lines begin with nothing read and nothing gathered
@@ -95,7 +95,7 @@ at_last_line due due' written gathered text is n grew =
 
 -- the sink failed at the last line, or had failed before
 module _ (due due' before written : Option (List ℕ)) (gathered : List ℕ) (f f' : ℕ) (tally : Tally) (is : due' ≡ append_known written gathered) where
-  while_printing : (ending : Ending) → IsCutOff due due' f f' (last_of tally ending) → EndsAtSink due (sink_view before f) (sink_view written f') tally ending
+  while_printing : (ending : Ending) → IsCutShort due due' f f' (last_of tally ending) → EndsAtSink due (sink_view before f) (sink_view written f') tally ending
   while_printing ending rule = record {
     more = gathered ++ drop rule.n (last_of tally ending);
     prefix = at_last_line due due' written gathered (last_of tally ending) is rule.n rule.grew;
@@ -103,7 +103,7 @@ module _ (due due' before written : Option (List ℕ)) (gathered : List ℕ) (f 
     cause = inr rule.count;
   }
 
-  none_printed : (why : Stopped) → (prints.Failed ≡ prints.Done) × (due' ≡ due) × (f ≤ f') → EndsAtSink due (sink_view before f) (sink_view written f') tally (Err why)
+  none_printed : (why : Stopped) → (prints.Failed ≡ prints.Done) × (due' ≡ due) × (f' ≡ f) → EndsAtSink due (sink_view before f) (sink_view written f') tally (Err why)
   none_printed why rule = absurd (let clash : prints.Failed ≡ prints.Done = rule.0 in cc)
 
   pub failed_at_last : (ending : Ending) → LastLineRule due due' f f' tally ending prints.Failed → EndsAtSink due (sink_view before f) (sink_view written f') tally ending
@@ -112,12 +112,12 @@ module _ (due due' before written : Option (List ℕ)) (gathered : List ℕ) (f 
   failed_at_last (Err stopped.LineTooLong) rule = while_printing (Err stopped.LineTooLong) rule
   failed_at_last (Err stopped.ScriptTooLong) rule = while_printing (Err stopped.ScriptTooLong) rule
   failed_at_last (Err stopped.NotADisc) rule = while_printing (Err stopped.NotADisc) rule
-  failed_at_last (Err stopped.SinkFault) rule = record { more = gathered; prefix = sym is ∙ rule.1 ∙ sym (append_known-nil due); count = rule.2; cause = inl refl }
+  failed_at_last (Err stopped.SinkFault) rule = record { more = gathered; prefix = sym is ∙ rule.1 ∙ sym (append_known-nil due); count = omega (arith, rule.2); cause = inl refl }
   failed_at_last (Err stopped.SourceFault) rule = none_printed stopped.SourceFault rule
   failed_at_last (Err stopped.ImageFault) rule = none_printed stopped.ImageFault rule
   failed_at_last (Err stopped.NoMemory) rule = none_printed stopped.NoMemory rule
 
-module _ (first : Beginning) (stands : State → Type 0) (left image : Option (List ℕ)) (leaves : (s : State) → stands s → LeavesImage s image) where
+module _ (first : Beginning) (stands : State → Type 0) (image : Option (List ℕ)) (leaves : (s : State) → stands s → LeavesImage s image) where
   -- the image is as the line leaves it
   comes_to : (far : SoFar first) (outcome : Outcome) → ComesOut far stands outcome → ComesToThis far image outcome
   comes_to far outcome out = record {
@@ -132,7 +132,7 @@ module _ (first : Beginning) (stands : State → Type 0) (left image : Option (L
 
   module _ (view : View) (written : Option (List ℕ)) where
     -- the sink failed in the end, after lines that ended between two of them
-    sink_between : (ending : Ending) (more : List ℕ) → EndsBetween first stands view ending → append_known written more ≡ append_known view.due (last_of view.tally ending) → IsReportCutOff first (aftermath left written image)
+    sink_between : (ending : Ending) (more : List ℕ) → EndsBetween first stands view ending → append_known written more ≡ append_known view.due (last_of view.tally ending) → IsReportCutOff first (aftermath view.left written image)
     sink_between ending more e front = record {
       far = e.far;
       written_is = front_with_any first e.far view.due written more (last_line view.tally ending) e.stopped_at.due_is e.stopped_at.last_is front;
@@ -140,7 +140,7 @@ module _ (first : Beginning) (stands : State → Type 0) (left image : Option (L
     }
 
     -- the sink failed in the end, whatever the lines ended by
-    at_sink : (ending : Ending) (more : List ℕ) → Ends first stands view ending → append_known written more ≡ append_known view.due (last_of view.tally ending) → IsReportCutOff first (aftermath left written image)
+    at_sink : (ending : Ending) (more : List ℕ) → Ends first stands view ending → append_known written more ≡ append_known view.due (last_of view.tally ending) → IsReportCutOff first (aftermath view.left written image)
     at_sink (Ok done) more e front = sink_between (Ok done) more e front
     at_sink (Err stopped.NotInLanguage) more e front = sink_between (Err stopped.NotInLanguage) more e front
     at_sink (Err stopped.LineTooLong) more e front = sink_between (Err stopped.LineTooLong) more e front
@@ -155,7 +155,7 @@ module _ (first : Beginning) (stands : State → Type 0) (left image : Option (L
         record { far = e.far; written_is = front_of_due first e.far view.due written more e.due_is front; image_is = inr (inr (comes_to e.far (Err stopped.NoMemory) e.line)) }
 
     -- all was written, and there is a last line
-    ended : (last : LastLine) (far : SoFar first) → stands far.now → IsReported far view.due → IsLast far last → written ≡ append_known view.due (last_text last) → IsEnded first (aftermath left written image) last
+    ended : (last : LastLine) (far : SoFar first) → stands far.now → IsReported far view.due → IsLast far last → written ≡ append_known view.due (last_text last) → IsEnded first (aftermath view.left written image) last
     ended last far now due_is last_is whole = record {
       far = far;
       last_is = last_is;
@@ -164,11 +164,11 @@ module _ (first : Beginning) (stands : State → Type 0) (left image : Option (L
     }
 
     -- the next line was not done whole, and is not told
-    stopped_in : (outcome : Outcome) → EndsInLine first stands view outcome → written ≡ append_known view.due [] → IsStoppedInLine first (aftermath left written image) outcome
+    stopped_in : (outcome : Outcome) → EndsInLine first stands view outcome → written ≡ append_known view.due [] → IsStoppedInLine first (aftermath view.left written image) outcome
     stopped_in outcome e whole = record { far = e.far; written_is = written_as_due first e.far view.due written e.due_is whole; line = comes_to e.far outcome e.line }
 
     -- all was written, and the status tells how the lines ended
-    at_end : (ending : Ending) → Ends first stands view ending → (ending ≡ Err stopped.SinkFault → ⊥) → written ≡ append_known view.due (last_of view.tally ending) → StandsWith first (aftermath left written image) (status_of ending)
+    at_end : (ending : Ending) → Ends first stands view ending → (ending ≡ Err stopped.SinkFault → ⊥) → written ≡ append_known view.due (last_of view.tally ending) → StandsWith first (aftermath view.left written image) (status_of ending)
     at_end (Ok done) e other whole = (view.tally.answered, ended (lasts.End view.tally.answered) e.far e.stands_now e.stopped_at.due_is e.stopped_at.last_is whole)
     at_end (Err stopped.NotInLanguage) e other whole =
         (lasts.NotInLanguage (view.tally.lines + 1), tt, ended (lasts.NotInLanguage (view.tally.lines + 1)) e.far e.stands_now e.stopped_at.due_is e.stopped_at.last_is whole)
@@ -178,18 +178,25 @@ module _ (first : Beginning) (stands : State → Type 0) (left image : Option (L
     at_end (Err stopped.NotADisc) e other whole =
         (view.tally.lines + 1, ended (lasts.NotADisc (view.tally.lines + 1)) e.far e.stands_now e.stopped_at.due_is e.stopped_at.last_is whole)
     at_end (Err stopped.SourceFault) e other whole =
-        record { far = e.far; written_is = written_as_due first e.far view.due written e.stopped_at.due_is whole; image_is = leaves e.far.now e.stands_now }
+        record {
+          far = e.far;
+          written_is = written_as_due first e.far view.due written e.stopped_at.due_is whole;
+          image_is = leaves e.far.now e.stands_now;
+          given = view.buffered;
+          unended = e.stopped_at.unended.0;
+          rest_is = e.stopped_at.unended.1;
+        }
     at_end (Err stopped.SinkFault) e other whole = absurd (other refl)
     at_end (Err stopped.ImageFault) e other whole = inr (stopped_in (Err stopped.ImageFault) e whole)
     at_end (Err stopped.NoMemory) e other whole = inr (stopped_in (Err stopped.NoMemory) e whole)
 
     module _ (ending : Ending) (before : Option (List ℕ)) (f f' : ℕ) where
-      by_status : (status : Status) → (statuses.SinkFault ≡ status → ⊥) → Ends first stands view ending → EndsWhole view.due (sink_view before f) (sink_view written f') view.tally ending status → StandsWith first (aftermath left written image) status
+      by_status : (status : Status) → (statuses.SinkFault ≡ status → ⊥) → Ends first stands view ending → EndsWhole view.due (sink_view before f) (sink_view written f') view.tally ending status → StandsWith first (aftermath view.left written image) status
       by_status status other e rule =
-          subst (StandsWith first (aftermath left written image)) (sym rule.status_is) (at_end ending e (λ is. not_sink ending status rule.status_is is other) rule.whole)
+          subst (StandsWith first (aftermath view.left written image)) (sym rule.status_is) (at_end ending e (λ is. not_sink ending status rule.status_is is other) rule.whole)
 
       -- what is left and written, by the status that is told
-      pub left_by : (status : Status) → Ends first stands view ending → FinishRule view.due (sink_view before f) (sink_view written f') view.tally ending status → StandsWith first (aftermath left written image) status
+      pub left_by : (status : Status) → Ends first stands view ending → FinishRule view.due (sink_view before f) (sink_view written f') view.tally ending status → StandsWith first (aftermath view.left written image) status
       left_by statuses.Usage e rule = absurd rule
       left_by statuses.SinkFault e rule = at_sink ending rule.more e rule.prefix
       left_by statuses.Done e rule = by_status statuses.Done (λ x. cc) e rule

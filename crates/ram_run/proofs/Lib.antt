@@ -1,4 +1,5 @@
 pub mod StatesAfter
+pub mod LineCounts
 pub mod InsertedSteps
 pub mod Opens
 pub mod Answering
@@ -6,6 +7,7 @@ pub mod Completes
 pub mod Turns
 pub mod LinesTaken
 pub mod CountsRise
+pub mod FewLines
 pub mod Finishes
 pub mod Few
 pub mod Closes

@@ -112,15 +112,15 @@ module _ {I : Type 0} {d : Images I} (image : I) (medium : ImageMedium I d) (geo
       by_bytes None e = false≢true (sym (opened.as_told ∙ ap is_some e) ∙ sym (ap (λ (m : Machine). m.world.told) made.medium_is) ∙ told)
       by_bytes (Some bytes) e = none (Off (first_disc (plain_homes geometry) (world_of medium).cells ∷ [])) (made.starts (start bytes e))
 
-  -- the same, and no count fell
+  -- the same, and nothing failed
   pub opens : Opens (d.bytes image) (d.faults image) shape shown stands
-  opens = record { opened = opened_by; count = subst (λ (m : Machine). d.faults image ≤ m.world.faults) (sym made.medium_is) opened.count }
+  opens = record { opened = opened_by; count = ap (λ (m : Machine). m.world.faults) made.medium_is ∙ opened.count }
 
 -- an image that was left and then pressed tells the bytes of a new disc
 pressed_bytes : (s : State) (shape : Shape) (before after : Option (List ℕ)) → LeavesImage s before → WhereTold before after (IsPressed shape) → (bytes : List ℕ) × (after ≡ Some bytes) × IsImageOf shape (blank_cells shape) bytes
 pressed_bytes s shape None after left pressed = absurd left
 pressed_bytes s shape (Some before) None left pressed = absurd pressed
-pressed_bytes s shape (Some before) (Some after) left pressed = (after, refl, pressed)
+pressed_bytes s shape (Some before) (Some after) left pressed = (after, refl, pressed.image)
 
 module _ {D I : Type 0} (drives : Drives D) (images : Images I) (s : State) (shape : Shape) (lawful : IsLawful shape) where
   -- the image stopped a press
@@ -177,7 +177,7 @@ module _ {D I : Type 0} (drives : Drives D) (images : Images I) (image : I) wher
 
   -- an image that holds no disc is left as it is
   pub first_unopened : (image' : I) (faults faults' : ℕ) (fault : OpenFault) → IsRefused (images.bytes image) (images.bytes image') faults faults' fault → (fault ≡ faulty.Header) ⊎ ((len : ℕ) × (fault ≡ faulty.Length len))
-      → ((bytes : List ℕ) → images.bytes image ≡ Some bytes → StandsFirst bytes (Stands drives images (inserts.Image image'))) × (faults ≤ faults')
+      → ((bytes : List ℕ) → images.bytes image ≡ Some bytes → StandsFirst bytes (Stands drives images (inserts.Image image'))) × (faults' ≡ faults)
   first_unopened image' faults faults' why refused (inl e) = (λ bytes told. without_header bytes told (subst (IsRefused (images.bytes image) (images.bytes image') faults faults') e refused), (subst (IsRefused (images.bytes image) (images.bytes image') faults faults') e refused).0.count)
     where
       without_header : (bytes : List ℕ) → images.bytes image ≡ Some bytes → IsRefused (images.bytes image) (images.bytes image') faults faults' faulty.Header → StandsFirst bytes (Stands drives images (inserts.Image image'))
@@ -200,4 +200,4 @@ pub handed_back_unopened : {I : Type 0} (images : Images I) (image : I) (medium 
     → IsUnchanged (images.bytes image) (images.bytes image') (images.faults image) (images.faults image')
 handed_back_unopened {I} images image medium medium' geometry image' opened same handed =
     let back : image' ≡ medium.image = handed ∙ ap (λ (m : ImageMedium I images). m.image) same in
-    record { same = ap images.bytes back ∙ opened.same_image; count = subst (λ i. images.faults image ≤ images.faults i) (sym back) opened.count }
+    record { same = ap images.bytes back ∙ opened.same_image; count = ap images.faults back ∙ opened.count }

@@ -1,4 +1,4 @@
--- What a call leaves a drive standing for, found in its clause, and that no count falls.
+-- What a line leaves a drive standing for, found in its clause.
 use Rattle.std.specs.Prelude.{◌≡◌, ℕ, ◌≤◌, Result, Ok, Err, List, length}
 use Rattle.std.proofs.Common.{arith, sym, ap, inl, inr, subst}
 use Rattle.model_counts.specs.Counts.{Rose}
@@ -36,7 +36,7 @@ use Rattle.ram_mmc.specs.Asked.{asked}
 use Rattle.ram_mmc.specs.Commands.{read_answer, write_answer, IsTransferred, IsExecuted}
 use Rattle.ram_run.specs.LineSteps.{KeepsRest, DiscRule}
 use Rattle.ram_run.specs.Control.{stands_after_fail}
-use Rattle.ram_run.specs.Inserted.{LineCount}
+use Rattle.ram_run.specs.RunCounts.{LineCount}
 
 module _ (old new : Shown) (before after : Standing → Type 0) (s : Standing) (stood : before s) where
   keeps_found : KeepsRest old new before after → Found after (λ t. KeepsRest old new (λ x. x ≡ s) (λ x. x ≡ t))
@@ -68,91 +68,3 @@ module _ (old new : Shown) (before after : Standing → Type 0) (s : Standing) (
   rule_found total (Command cdb) payload outcome data_in p =
       let found = executed_found old new before after s stood cdb payload p.answer data_in p.executed in
       (found.0, found.1, record { answer = p.answer; executed = found.2; outcome_is = p.outcome_is })
-
--- a count that rose later rose over all
-rose_later : (a b c : ℕ) → a ≤ b → Rose b c → Rose a c
-rose_later a b c le rose = omega (arith, le, rose)
-
-module _ (old new : Machine) where
-  reach_counts : (k : ℕ) → Reach old new k → old.world.faults ≤ new.world.faults
-  reach_counts k reach = reach.lasts.never_falls
-
-module _ (old new : Shown) where
-  cut_counts : (most : ℕ) → IsStopped old new most stops.Cut → old.medium.world.faults ≤ new.medium.world.faults
-  cut_counts most stopped = stopped.stops.reach.lasts.never_falls
-
-  fault_counts : (most : ℕ) → IsStopped old new most stops.Fault → Rose old.medium.world.faults new.medium.world.faults
-  fault_counts most stopped =
-      rose_later old.medium.world.faults stopped.stops.mid.world.faults new.medium.world.faults stopped.stops.reach.lasts.never_falls
-      (use_failed stopped.stops.mid.world new.medium.world stopped.stops.block stopped.stops.fails).fault
-
-  same_counts : new ≡ old → old.medium.world.faults ≤ new.medium.world.faults
-  same_counts same = omega (arith, ap (λ (x : Shown). x.medium.world.faults) same)
-
-  read_counts : (cdb : List ℕ) (lba n : ℕ) (out : ReadOut) → ReadCause old new lba n out → LineCount old.medium.world.faults new.medium.world.faults (command_outcome cdb (read_answer out))
-  read_counts cdb lba n reads.Good p = p.goes.reach.lasts.never_falls
-  read_counts cdb lba n reads.NotFormatted p = same_counts p.1
-  read_counts cdb lba n (reads.Range told) p = same_counts p.1
-  read_counts cdb lba n (reads.Unread named block) p = p.1.goes.reach.lasts.never_falls
-  read_counts cdb lba n reads.Cut p = cut_counts _ p.1
-  read_counts cdb lba n reads.Off p = same_counts p.1
-  read_counts cdb lba n reads.Fault p = fault_counts _ p.1
-
-  write_counts : (cdb : List ℕ) (lba n : ℕ) (out : WriteOut) → WriteCause old new lba n out → LineCount old.medium.world.faults new.medium.world.faults (command_outcome cdb (write_answer out))
-  write_counts cdb lba n writes.Good p = p.goes.reach.lasts.never_falls
-  write_counts cdb lba n writes.NotFormatted p = same_counts p.1
-  write_counts cdb lba n (writes.Range told) p = same_counts p.1
-  write_counts cdb lba n (writes.Unread named block) p = p.1.goes.reach.lasts.never_falls
-  write_counts cdb lba n (writes.NoSpare named) p = p.1.goes.reach.lasts.never_falls
-  write_counts cdb lba n writes.Cut p = cut_counts _ p.1
-  write_counts cdb lba n writes.Off p = same_counts p.1
-  write_counts cdb lba n writes.Fault p = fault_counts _ p.1
-
-  power_counts : (out : PowerOut) → PowerCause old new out → LineCount old.medium.world.faults new.medium.world.faults (power_outcome out)
-  power_counts (powers.Ready told) p = p.0.reach.lasts.never_falls
-  power_counts powers.NotFormatted p = p.0.reach.lasts.never_falls
-  power_counts powers.Cut p = p.stops.reach.lasts.never_falls
-  power_counts powers.Fault p =
-      rose_later old.medium.world.faults p.stops.mid.world.faults new.medium.world.faults p.stops.reach.lasts.never_falls
-      (use_failed p.stops.mid.world new.medium.world p.stops.block p.stops.fails).fault
-  power_counts powers.NoMemory p = p.reach.lasts.never_falls
-
-  fail_counts : (total block : ℕ) (end : FailEnd) → FailRule total old.medium new.medium block end → LineCount old.medium.world.faults new.medium.world.faults (fail_outcome end)
-  fail_counts total block fails.Done p = p.1.never_falls
-  fail_counts total block (fails.NoBlock blocks) p = omega (arith, ap (λ (m : Machine). m.world.faults) p.2)
-  fail_counts total block fails.Failed p = p.1.fault
-
-  wear_counts : (total : ℕ) (worn : WornBlock) (end : Arm) → WearRule total old.medium new.medium worn end → LineCount old.medium.world.faults new.medium.world.faults (wear_outcome end)
-  wear_counts total worn arming.Set p = omega (arith, ap (λ (m : Machine). m.world.faults) p.2)
-  wear_counts total worn (arming.NoBlock blocks) p = omega (arith, ap (λ (m : Machine). m.world.faults) p.2)
-  wear_counts total worn arming.Full p = omega (arith, ap (λ (m : Machine). m.world.faults) p.2)
-
-  module _ (before after : Standing → Type 0) where
-    transfer_counts : (cdb payload : List ℕ) (answer : Answer) (data_in : List ℕ) (wanted : Result Transfer Sense) → IsTransferred old new before after payload answer data_in wanted
-        → LineCount old.medium.world.faults new.medium.world.faults (command_outcome cdb answer)
-    transfer_counts cdb payload answer data_in (Ok (transfers.Read lba n)) p =
-        subst (λ a. LineCount old.medium.world.faults new.medium.world.faults (command_outcome cdb a)) (sym p.answer_is) (read_counts cdb lba n p.out p.cause)
-    transfer_counts cdb payload answer data_in (Ok (transfers.Write lba n)) p =
-        subst (λ a. LineCount old.medium.world.faults new.medium.world.faults (command_outcome cdb a)) (sym p.answer_is) (write_counts cdb lba n p.out p.cause)
-    transfer_counts cdb payload answer data_in (Err why) p =
-        subst (λ a. LineCount old.medium.world.faults new.medium.world.faults (command_outcome cdb a)) (sym p.answer_is) (same_counts p.untouched.same)
-
-    command_counts : (cdb payload : List ℕ) (answer : Answer) (data_in : List ℕ) → IsExecuted old new before after cdb payload answer data_in
-        → LineCount old.medium.world.faults new.medium.world.faults (command_outcome cdb answer)
-    command_counts cdb payload answer data_in (inl off) =
-        subst (λ a. LineCount old.medium.world.faults new.medium.world.faults (command_outcome cdb a)) (sym off.1.answer_is) (same_counts off.1.untouched.same)
-    command_counts cdb payload answer data_in (inr on) = transfer_counts cdb payload answer data_in (asked cdb (length payload)) on.1
-
-    -- no count falls in a line, and a failure of the image is counted
-    pub rule_counts : (total : ℕ) (line : DiscLine) (payload : List ℕ) (outcome : Outcome) (data_in : List ℕ) → DiscRule old new before after total line payload outcome data_in
-        → LineCount old.medium.world.faults new.medium.world.faults outcome
-    rule_counts total Power payload outcome data_in p =
-        subst (LineCount old.medium.world.faults new.medium.world.faults) (sym p.0.outcome_is) (power_counts p.0.out p.0.cause)
-    rule_counts total (Fail block) payload outcome data_in p =
-        subst (LineCount old.medium.world.faults new.medium.world.faults) (sym p.0.outcome_is) (fail_counts total block p.0.end p.0.rule)
-    rule_counts total (Wear block n) payload outcome data_in p =
-        subst (LineCount old.medium.world.faults new.medium.world.faults) (sym p.0.outcome_is) (wear_counts total (record { block = block; left = n }) p.0.end p.0.rule)
-    rule_counts total (Cut n fate) payload outcome data_in p =
-        subst (LineCount old.medium.world.faults new.medium.world.faults) (sym p.0.outcome_is) (omega (arith, ap (λ (m : Machine). m.world.faults) p.0.armed))
-    rule_counts total (Command cdb) payload outcome data_in p =
-        subst (LineCount old.medium.world.faults new.medium.world.faults) (sym p.outcome_is) (command_counts cdb payload p.answer data_in p.executed)

@@ -1,14 +1,16 @@
 -- How the lines so far go on by one line, and how they end.
 use Rattle.std.specs.Prelude.{◌≡◌, ℕ, ◌+◌, ◌<◌, ◌⊎◌, Option, Some, Ok, Err, List, [], ◌∷◌, ◌++◌, length, take, drop}
 use Rattle.std.specs.Io.KnownBytes.{append_known, prepend_known}
-use Rattle.std.proofs.Common.{arith, sym, ap, ◌∙◌, inl, inr, subst, append_assoc, append-nil, length-append, take-append-drop}
+use Rattle.std.proofs.Common.{arith, refl, sym, ap, ◌∙◌, inl, inr, subst, append_assoc, append-nil, length-append, take-append-drop}
 use Rattle.ram_text.specs.Lines.{line_feed}
 use Rattle.ram_run.specs.declared.line.Work.{Work}
+use Rattle.ram_run.specs.declared.line.Work.TheVariants as works
 use Rattle.ram_run.specs.declared.reply.Reply.{Reply}
+use Rattle.ram_run.specs.declared.reply.Reply.TheVariants as replies
 use Rattle.ram_run.specs.declared.state.Tally.{Tally}
 use Rattle.ram_run.specs.declared.stopped.Stopped.{Stopped}
 use Rattle.ram_run.specs.declared.stopped.Stopped.TheVariants as stopped
-use Rattle.ram_run.proofs.Answering.{lacks_same, step_stops}
+use Rattle.ram_run.proofs.Answering.{lacks_same}
 use Rattle.ram_run.specs.NextLines.{ComesNext}
 use Rattle.ram_run.specs.Work.{work_of}
 use Rattle.ram_run.specs.Replies.{Outcome}
@@ -16,6 +18,7 @@ use Rattle.ram_run.specs.States.{State}
 use Rattle.ram_run.specs.LineSteps.{Step}
 use Rattle.ram_run.specs.Inserted.{IsAnswered}
 use Rattle.ram_run.specs.Run.{AnsweredLine, EndsWithBytes, answers_of, script_text, report_text, line_text}
+use Rattle.ram_run.specs.RunCounts.{LineCount}
 use Rattle.ram_run.specs.Progress.{Beginning, SoFar, View, Between, Taken, Ending, EndsBetween, EndsCutOff, EndsInLine, Ends, TurnsTo, IsStoppedAt, IsStop, IsReplied, TellRule, unread}
 
 -- the script after one line more
@@ -103,6 +106,7 @@ module _ (first : Beginning) (far : SoFar first) (view : View) (work : Work) (pa
     stopped_at = record {
       due_is = t.due_is;
       last_is = ((t.line, payload, data_in, answered.state, comes_next, step_of (Err stopped.NotADisc) answered.state answered.step), ap (λ n. n + 1) t.tallied.lines);
+      unended = tt;
     };
   }
 
@@ -115,27 +119,27 @@ module _ (first : Beginning) (far : SoFar first) (view : View) (work : Work) (pa
   }
 
   -- the outcome of the line was told
-  pub answered_line : (new : View) (outcome : Outcome) (result : Ending) → IsAnswered far.now work payload data_in stands outcome → TellRule view new data_in outcome result → TurnsTo first stands new result
-  answered_line new (Ok reply) (Ok done) answered rule = goes_on new reply answered rule
-  answered_line new (Ok reply) (Err stopped.SinkFault) answered rule = cut_off new reply answered rule
-  answered_line new (Ok reply) (Err stopped.NotInLanguage) answered rule = absurd rule
-  answered_line new (Ok reply) (Err stopped.LineTooLong) answered rule = absurd rule
-  answered_line new (Ok reply) (Err stopped.ScriptTooLong) answered rule = absurd rule
-  answered_line new (Ok reply) (Err stopped.NotADisc) answered rule = absurd rule
-  answered_line new (Ok reply) (Err stopped.SourceFault) answered rule = absurd rule
-  answered_line new (Ok reply) (Err stopped.ImageFault) answered rule = absurd rule
-  answered_line new (Ok reply) (Err stopped.NoMemory) answered rule = absurd rule
-  answered_line new (Err why) result answered rule = subst (TurnsTo first stands new) (sym rule.0) (subst (λ v. Ends first stands v (Err why)) (sym rule.1) (by_why why answered))
+  pub answered_line : (new : View) (f f' : ℕ) (outcome : Outcome) (result : Ending) → IsAnswered far.now work payload data_in stands outcome → LineCount f f' outcome → TellRule view new data_in outcome result → TurnsTo first stands new result
+  answered_line new f f' (Ok reply) (Ok done) answered count rule = goes_on new reply answered rule
+  answered_line new f f' (Ok reply) (Err stopped.SinkFault) answered count rule = cut_off new reply answered rule
+  answered_line new f f' (Ok reply) (Err stopped.NotInLanguage) answered count rule = absurd rule
+  answered_line new f f' (Ok reply) (Err stopped.LineTooLong) answered count rule = absurd rule
+  answered_line new f f' (Ok reply) (Err stopped.ScriptTooLong) answered count rule = absurd rule
+  answered_line new f f' (Ok reply) (Err stopped.NotADisc) answered count rule = absurd rule
+  answered_line new f f' (Ok reply) (Err stopped.SourceFault) answered count rule = absurd rule
+  answered_line new f f' (Ok reply) (Err stopped.ImageFault) answered count rule = absurd rule
+  answered_line new f f' (Ok reply) (Err stopped.NoMemory) answered count rule = absurd rule
+  answered_line new f f' (Err why) result answered count rule = subst (TurnsTo first stands new) (sym rule.0) (subst (λ v. Ends first stands v (Err why)) (sym rule.1) (by_why why count answered))
     where
-      by_why : (stop : Stopped) → IsAnswered far.now work payload data_in stands (Err stop) → Ends first stands view (Err stop)
-      by_why stopped.NotADisc stops = ends_without_disc stops
-      by_why stopped.ImageFault stops = ends_in_line (Err stopped.ImageFault) stops
-      by_why stopped.NoMemory stops = ends_in_line (Err stopped.NoMemory) stops
-      by_why stopped.NotInLanguage stops = absurd (step_stops far.now work payload (Err stopped.NotInLanguage) data_in stops.state stops.step)
-      by_why stopped.LineTooLong stops = absurd (step_stops far.now work payload (Err stopped.LineTooLong) data_in stops.state stops.step)
-      by_why stopped.ScriptTooLong stops = absurd (step_stops far.now work payload (Err stopped.ScriptTooLong) data_in stops.state stops.step)
-      by_why stopped.SourceFault stops = absurd (step_stops far.now work payload (Err stopped.SourceFault) data_in stops.state stops.step)
-      by_why stopped.SinkFault stops = absurd (step_stops far.now work payload (Err stopped.SinkFault) data_in stops.state stops.step)
+      by_why : (stop : Stopped) → LineCount f f' (Err stop) → IsAnswered far.now work payload data_in stands (Err stop) → Ends first stands view (Err stop)
+      by_why stopped.NotADisc counts stops = ends_without_disc stops
+      by_why stopped.ImageFault counts stops = ends_in_line (Err stopped.ImageFault) stops
+      by_why stopped.NoMemory counts stops = ends_in_line (Err stopped.NoMemory) stops
+      by_why stopped.NotInLanguage counts stops = absurd counts
+      by_why stopped.LineTooLong counts stops = absurd counts
+      by_why stopped.ScriptTooLong counts stops = absurd counts
+      by_why stopped.SourceFault counts stops = absurd counts
+      by_why stopped.SinkFault counts stops = absurd counts
 
 -- the lines ended between two of them, and the inserted disc stands for the state that they lead to
 pub ends_between : (first : Beginning) (stands : State → Type 0) (far : SoFar first) (view : View) (why : Stopped) → stands far.now → IsStoppedAt far view (Err why) → IsStop why → Ends first stands view (Err why)
@@ -151,3 +155,9 @@ ends_between first stands far view stopped.SinkFault now at is = record {
 ends_between first stands far view stopped.NotADisc now at is = absurd is
 ends_between first stands far view stopped.ImageFault now at is = absurd is
 ends_between first stands far view stopped.NoMemory now at is = absurd is
+
+-- a line that is to do nothing was passed
+pub nothing_done : (first : Beginning) (stands : State → Type 0) (old new after : View) (b : Between first stands old) (payload data_in : List ℕ) (result : Ending) → Taken b.far new works.Nothing payload → data_in ≡ []
+    → TellRule new after data_in (Ok replies.Nothing) result → TurnsTo first stands after result
+nothing_done first stands old new after b payload data_in result t empty rule =
+    answered_line first b.far new works.Nothing payload t stands data_in after 0 0 (Ok replies.Nothing) result (record { state = b.far.now; step = (refl, empty, refl); stands = b.stands_now }) refl rule

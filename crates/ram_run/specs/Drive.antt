@@ -32,10 +32,10 @@ pub record IsOpenedBy (bytes : List ℕ) (shape : Shape) (shown : Shown) (stands
   pub opened : IsOpenedOn state.shape (cells_of (total state.shape) bytes) state
   pub is_in : IsIn shape shown stands state
 
--- An image that has failed so often was opened as a disc, where it tells its bytes, and no count fell.
+-- An image that has failed so often was opened as a disc, where it tells its bytes, and it did not fail.
 pub record Opens (image : Option (List ℕ)) (faults : ℕ) (shape : Shape) (shown : Shown) (stands : Standing → Type 0) : Type 0 where
   pub opened : (bytes : List ℕ) → image ≡ Some bytes → IsOpenedBy bytes shape shown stands
-  pub count : faults ≤ shown.medium.world.faults
+  pub count : shown.medium.world.faults ≡ faults
 
 -- the image of a drive has the cells that the drive shows, where it tells them
 abbrev pub HasCells : Shape → World → Option (List ℕ) → Type 0

@@ -1,7 +1,8 @@
 -- How a run ends: what stands with each status. For the main clause of the run, and the calls that end a report.
 use Rattle.std.specs.Prelude.{◌≡◌, ℕ, ◌≤◌, ◌⊎◌, Bool, true, Option, None, Some, Ok, Err, List, [], ◌++◌}
-use Rattle.std.specs.Io.KnownBytes.{append_known}
+use Rattle.std.specs.Io.KnownBytes.{append_known, prepend_known}
 use Rattle.model_counts.specs.Counts.{Rose}
+use Rattle.ram_text.specs.Lines.{HasNoFeed}
 use Rattle.ram_text.specs.ReportLines.{last_text}
 use Rattle.ram_text.specs.Writer.{PrintRule}
 use Rattle.ram_text.specs.declared.gathered.Print.{Print}
@@ -13,6 +14,7 @@ use Rattle.ram_run.specs.declared.state.Tally.{Tally}
 use Rattle.ram_run.specs.declared.stopped.Stopped.TheVariants as stopped
 use Rattle.ram_run.specs.declared.status.Status.{Status}
 use Rattle.ram_run.specs.declared.status.Status.TheVariants as statuses
+use Rattle.ram_run.specs.Words.{Surroundings}
 use Rattle.ram_run.specs.NextLines.{ComesNext}
 use Rattle.ram_run.specs.Work.{work_of}
 use Rattle.ram_run.specs.Replies.{Outcome}
@@ -20,7 +22,7 @@ use Rattle.ram_run.specs.States.{State}
 use Rattle.ram_run.specs.LineSteps.{Step}
 use Rattle.ram_run.specs.Inserted.{LeavesImage}
 use Rattle.ram_run.specs.Run.{report_text}
-use Rattle.ram_run.specs.RunCounts.{Counts, NoneFell}
+use Rattle.ram_run.specs.RunCounts.{Counts, SameCounts, OnlySourceRose, OnlyImageRose}
 use Rattle.ram_run.specs.Progress.{Beginning, SoFar, IsReported, IsLast, Ending, last_line}
 
 -- the status that an ending is told by (this project's own, as all here)
@@ -56,11 +58,15 @@ pub record IsEnded (first : Beginning) (after : Aftermath) (last : LastLine) : T
   pub written_is : after.written ≡ Some (whole_text far last)
   pub image_is : LeavesImage far.now after.image
 
--- All answers were written and no last line, and the image is as the lines leave it.
+-- All answers were written and no last line, and the image is as the lines leave it. Every whole line that the source gave
+-- is answered: what follows them is bytes without a line feed, and then what the source has left.
 pub record IsBroken (first : Beginning) (after : Aftermath) : Type 0 where
   pub far : SoFar first
   pub written_is : IsReported far after.written
   pub image_is : LeavesImage far.now after.image
+  pub given : List ℕ
+  pub unended : HasNoFeed given
+  pub rest_is : prepend_known given after.left ≡ Some far.rest
 
 -- the next line came out so, and the image is as it leaves it
 pub record ComesToThis {first : Beginning} (far : SoFar first) (image : Option (List ℕ)) (outcome : Outcome) : Type 0 where
@@ -121,16 +127,18 @@ StandsWith first after statuses.SinkFault = IsReportCutOff first after
 StandsWith first after statuses.NoMemory = IsNotBegun first after ⊎ IsStoppedInLine first after (Err stopped.NoMemory)
 StandsWith first after statuses.NotADisc = (line : ℕ) × IsEnded first after (lasts.NotADisc line)
 
--- the count that a status tells of rose
-abbrev pub StatusRose : Counts → Counts → Status → Type 0
-StatusRose before after statuses.ImageFault = Rose before.image after.image
-StatusRose before after statuses.SourceFault = Rose before.source after.source
-StatusRose before after statuses.SinkFault = Rose before.sink after.sink
-StatusRose before after _ = Unit {0}
+-- The sink failed. What had stopped the lines before may have been counted too.
+pub record SinkRose (before after : Counts) : Type 0 where
+  pub source : before.source ≤ after.source
+  pub sink : Rose before.sink after.sink
+  pub image : before.image ≤ after.image
 
--- no count fell, and the one that the status tells of rose
+-- The count that a status tells of rose, and no other; with every other status nothing failed at all.
 abbrev pub StatusCounts : Counts → Counts → Status → Type 0
-StatusCounts before after status = NoneFell before after × StatusRose before after status
+StatusCounts before after statuses.ImageFault = OnlyImageRose before after
+StatusCounts before after statuses.SourceFault = OnlySourceRose before after
+StatusCounts before after statuses.SinkFault = SinkRose before after
+StatusCounts before after _ = SameCounts before after
 
 -- the text of a last line, if there is one
 abbrev pub text_if_any : Option LastLine → List ℕ
@@ -143,10 +151,10 @@ last_of tally ending = text_if_any (last_line tally ending)
 
 -- what printing the last line makes of what is due; after a failure of the sink nothing is printed
 abbrev pub LastLineRule : Option (List ℕ) → Option (List ℕ) → ℕ → ℕ → Tally → Ending → Print → Type 0
-LastLineRule due due' faults faults' tally (Err stopped.SinkFault) result = (result ≡ prints.Failed) × (due' ≡ due) × (faults ≤ faults')
-LastLineRule due due' faults faults' tally (Err stopped.SourceFault) result = (result ≡ prints.Done) × (due' ≡ due) × (faults ≤ faults')
-LastLineRule due due' faults faults' tally (Err stopped.ImageFault) result = (result ≡ prints.Done) × (due' ≡ due) × (faults ≤ faults')
-LastLineRule due due' faults faults' tally (Err stopped.NoMemory) result = (result ≡ prints.Done) × (due' ≡ due) × (faults ≤ faults')
+LastLineRule due due' faults faults' tally (Err stopped.SinkFault) result = (result ≡ prints.Failed) × (due' ≡ due) × (faults' ≡ faults)
+LastLineRule due due' faults faults' tally (Err stopped.SourceFault) result = (result ≡ prints.Done) × (due' ≡ due) × (faults' ≡ faults)
+LastLineRule due due' faults faults' tally (Err stopped.ImageFault) result = (result ≡ prints.Done) × (due' ≡ due) × (faults' ≡ faults)
+LastLineRule due due' faults faults' tally (Err stopped.NoMemory) result = (result ≡ prints.Done) × (due' ≡ due) × (faults' ≡ faults)
 LastLineRule due due' faults faults' tally ending result = PrintRule due due' faults faults' (last_of tally ending) result
 
 -- the sink's bytes and its count
@@ -169,7 +177,7 @@ pub record EndsAtSink (due : Option (List ℕ)) (old new : SinkView) (tally : Ta
 pub record EndsWhole (due : Option (List ℕ)) (old new : SinkView) (tally : Tally) (ending : Ending) (status : Status) : Type 0 where
   pub status_is : status ≡ status_of ending
   pub whole : new.written ≡ append_known due (last_of tally ending)
-  pub count : old.faults ≤ new.faults
+  pub count : new.faults ≡ old.faults
 
 -- How a report is ended, by the status that is told.
 abbrev pub FinishRule : Option (List ℕ) → SinkView → SinkView → Tally → Ending → Status → Type 0
@@ -183,18 +191,22 @@ pub record Begins (first : Beginning) (left written image : Option (List ℕ)) :
   pub written_is : written ≡ Some first.report
   pub image_is : image ≡ Some first.image
 
--- Source, sink and opener tell what the run begins with: the script that is left, what was written before, and the
--- image that is opened next.
-pub record IsBeginning {X : Type 0} (bytes_of : X → Option (List ℕ)) (first : Beginning) (left written : Option (List ℕ)) (next : Option X) (tells : Bool) : Type 0 where
-  pub image : X
-  pub next_is : next ≡ Some image
-  pub begins : Begins first left written (bytes_of image)
+-- What is known of source, sink and opener is what the run begins with: the script that is left, what was written before,
+-- and the image that is opened next. The opener tells what is handed back.
+pub record IsBeginning {I : Type 0} (bytes_of : I → Option (List ℕ)) (first : Beginning) (before : Surroundings I) (tells : Bool) : Type 0 where
+  pub image : I
+  pub next_is : before.opener.next ≡ Some image
+  pub begins : Begins first before.left before.written (bytes_of image)
   pub tells_is : tells ≡ true
 
 -- the bytes of an image that was handed back, where it tells them
 abbrev pub bytes_returned : {X : Type 0} → (X → Option (List ℕ)) → Option X → Option (List ℕ)
 bytes_returned bytes_of None = None
 bytes_returned bytes_of (Some image) = bytes_of image
+
+-- what is known after a run
+abbrev pub aftermath_of : {I : Type 0} → (I → Option (List ℕ)) → Surroundings I → Aftermath
+aftermath_of bytes_of after = aftermath after.left after.written (bytes_returned bytes_of after.opener.returned)
 
 -- the status of a run that opened no image: the opener failed, or there was no memory
 abbrev pub IsUnopened : Status → Type 0

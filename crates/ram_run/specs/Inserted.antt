@@ -1,13 +1,11 @@
 -- What the inserted disc stands for, and what a line leaves of it. For the loop over the lines and the calls below it.
-use Rattle.std.specs.Prelude.{◌≡◌, ℕ, ◌≤◌, Option, None, Some, Ok, Err, List}
-use Rattle.model_counts.specs.Counts.{Rose}
+use Rattle.std.specs.Prelude.{◌≡◌, ℕ, Option, None, Some, List}
 use Rattle.model_geometry.specs.Geometry.{Shape}
 use Rattle.ram_outside.specs.declared.image.Image.{Ghosts as Images}
 use Rattle.ram_sectors.specs.declared.Sectors.{Ghosts as Drives}
 use Rattle.ram_run.specs.declared.inserted.Inserted.{Inserted}
 use Rattle.ram_run.specs.declared.inserted.Inserted.TheVariants as inserts
 use Rattle.ram_run.specs.declared.line.Work.{Work}
-use Rattle.ram_run.specs.declared.stopped.Stopped.TheVariants as stopped
 use Rattle.ram_run.specs.Replies.{Outcome}
 use Rattle.ram_run.specs.States.{State, Unopened, Disc, IsIn, IsLeft}
 use Rattle.ram_run.specs.LineSteps.{PressStep, Step}
@@ -29,11 +27,6 @@ module _ {D I : Type 0} (drives : Drives D) (images : Images I) where
 abbrev pub LeavesImage : State → Option (List ℕ) → Type 0
 LeavesImage s None = ⊥
 LeavesImage s (Some bytes) = IsLeft s bytes
-
--- the image's count, by what became of a line: where the image failed it rose, and else no count falls
-abbrev pub LineCount : ℕ → ℕ → Outcome → Type 0
-LineCount faults faults' (Err stopped.ImageFault) = Rose faults faults'
-LineCount faults faults' _ = faults ≤ faults'
 
 -- What became of a line, of which the state before it is s, where the inserted disc then stands for some states.
 pub record IsAnswered (s : State) (work : Work) (payload data_in : List ℕ) (after : State → Type 0) (outcome : Outcome) : Type 0 where

@@ -10,9 +10,10 @@ pub mod Inserted
 pub mod NextLines
 pub mod Run
 pub mod RunCounts
+pub mod Words
 pub mod RunState
 pub mod Progress
 pub mod Endings
 pub mod Starts
-pub mod Words
 pub mod Completes
+pub mod Statuses

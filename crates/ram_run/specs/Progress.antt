@@ -3,7 +3,7 @@
 use Rattle.std.specs.Prelude.{◌≡◌, ℕ, ◌+◌, ◌<◌, ◌≤◌, ◌⊎◌, Option, None, Some, Result, Ok, Err, List, [], ◌++◌, length, take}
 use Rattle.std.specs.Io.KnownBytes.{append_known, prepend_known}
 use Rattle.ram_outside.specs.declared.sink.Sink.{Ghosts as Sinks}
-use Rattle.ram_text.specs.Lines.{HoldsLine}
+use Rattle.ram_text.specs.Lines.{HasNoFeed, HoldsLine}
 use Rattle.ram_text.specs.Script.{Reads}
 use Rattle.ram_text.specs.Writer.{due}
 use Rattle.ram_text.specs.declared.lines.TheConstants.{SCRIPT_LIMIT}
@@ -130,10 +130,16 @@ abbrev pub IsLastIfAny : {first : Beginning} → SoFar first → Option LastLine
 IsLastIfAny far None = Unit {0}
 IsLastIfAny far (Some last) = IsLast far last
 
--- the answers so far are due, and where the lines stop between two of them the last line says why
+-- where the source failed, what it gave and was not taken is no whole line, and what it has left follows it
+abbrev pub IsUnended : {first : Beginning} → SoFar first → View → Ending → Type 0
+IsUnended far view (Err stopped.SourceFault) = HasNoFeed view.buffered × (unread view ≡ Some far.rest)
+IsUnended far view _ = Unit {0}
+
+-- The answers so far are due, and where the lines stop between two of them the last line says why.
 pub record IsStoppedAt {first : Beginning} (far : SoFar first) (view : View) (ending : Ending) : Type 0 where
   pub due_is : IsReported far view.due
   pub last_is : IsLastIfAny far (last_line view.tally ending)
+  pub unended : IsUnended far view ending
 
 -- why the search for the next line may stop the run
 abbrev pub IsStop : Stopped → Type 0
@@ -222,7 +228,7 @@ TellRule old new data_in (Ok reply) (Err stopped.SinkFault) =
 TellRule old new data_in (Ok reply) (Err why) = ⊥
 
 -- the answers so far were handed over where the next line has to be asked for, or the sink failed; what is due stays
-abbrev pub HandOverRule : RunState → Ending → Type 0
-HandOverRule state (Ok done) = HoldsLine state.reader ⊎ (state.writer ≡ [])
-HandOverRule state (Err stopped.SinkFault) = Unit {0}
-HandOverRule state (Err why) = ⊥
+abbrev pub ShownRule : RunState → Ending → Type 0
+ShownRule state (Ok done) = HoldsLine state.reader ⊎ (state.writer ≡ [])
+ShownRule state (Err stopped.SinkFault) = Unit {0}
+ShownRule state (Err why) = ⊥

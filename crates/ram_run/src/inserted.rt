@@ -9,7 +9,8 @@ ghost use Rattle.ram_run.specs.Work.{CountsUses};
 ghost use Rattle.ram_run.specs.Replies.{PrintsWhere, power_outcome, fail_outcome, wear_outcome, command_outcome};
 ghost use Rattle.ram_run.specs.States.{State};
 ghost use Rattle.ram_run.specs.LineSteps.{DiscRule};
-ghost use Rattle.ram_run.specs.Inserted.{Stands, LeavesImage, faults_of, LineCount, IsAnswered, IsPressAnswered};
+ghost use Rattle.ram_run.specs.Inserted.{Stands, LeavesImage, faults_of, IsAnswered, IsPressAnswered};
+ghost use Rattle.ram_run.specs.RunCounts.{LineCount};
 
 use crate::drive::Drive;
 use crate::line::DiscLine;

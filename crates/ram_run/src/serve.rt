@@ -5,7 +5,7 @@ ghost use Rattle.ram_run.specs.declared.line.Work.TheVariants as works;
 ghost use Rattle.ram_run.specs.Work.{CountsUses};
 ghost use Rattle.ram_run.specs.Inserted.{Stands, faults_of};
 ghost use Rattle.ram_run.specs.RunCounts.{StopCounts, counts_of};
-ghost use Rattle.ram_run.specs.RunState.{IsFresh, HasRoom};
+ghost use Rattle.ram_run.specs.RunState.{IsFresh, HasRoom, TallyRule};
 ghost use Rattle.ram_run.specs.Progress.{Beginning, SoFar, Between, Taken, TurnsTo, Ends, view_of};
 ghost use Rattle.ram_run.specs.Starts.{StartRule};
 ghost use Rattle.ram_run.specs.Endings.{Begins, IsNoUsage, StandsWith, StatusCounts, aftermath};
@@ -41,6 +41,7 @@ fn answer_line<D: Drive, K: Sink>(
     ensures counts { (source : ℕ)
         → StopCounts (counts_of source (K.faults report.old) (faults_of D.Sectors D.Image.Image inserted.old))
         (counts_of source (K.faults report.new) (faults_of D.Sectors D.Image.Image inserted.new)) result }
+    ensures tally { TallyRule state.old.tally state.new.tally result }
     ensures same_reader { state.new.reader ≡ state.old.reader }
     ensures room { HasRoom state.new }
 {
@@ -68,6 +69,7 @@ fn press_line<D: Drive, K: Sink>(
     ensures counts { (source : ℕ)
         → StopCounts (counts_of source (K.faults report.old) (faults_of D.Sectors D.Image.Image inserted))
         (counts_of source (K.faults report.new) (faults_of D.Sectors D.Image.Image result.0)) result.1 }
+    ensures tally { TallyRule state.old.tally state.new.tally result.1 }
     ensures same_reader { state.new.reader ≡ state.old.reader }
     ensures room { HasRoom state.new }
 {

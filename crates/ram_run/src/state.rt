@@ -5,8 +5,8 @@ ghost use Rattle.ram_text.specs.Writer.{due};
 ghost use Rattle.ram_run.specs.Replies.{Outcome, PrintsWhere};
 ghost use Rattle.ram_run.specs.Run.{answers_of};
 ghost use Rattle.ram_run.specs.RunCounts.{StopCounts, SinkCount, TellCount, counts_of};
-ghost use Rattle.ram_run.specs.RunState.{IsFresh, HasRoom};
-ghost use Rattle.ram_run.specs.Progress.{Beginning, SoFar, IsAt, NextRule, FoundCountsUses, TakesBytes, TellRule, HandOverRule, view_of};
+ghost use Rattle.ram_run.specs.RunState.{IsFresh, HasRoom, TallyRule};
+ghost use Rattle.ram_run.specs.Progress.{Beginning, SoFar, IsAt, NextRule, FoundCountsUses, TakesBytes, TellRule, ShownRule, view_of};
 
 use crate::line::{Work, work_of};
 use crate::reply::{Reply, print_reply};
@@ -78,7 +78,7 @@ impl Tally {
 
 /// Hands over the answers so far, where the next line may have to be waited for.
 fn hand_over<K: Sink>(state: &mut RunState, report: &mut K) -> Result<(), Stopped>
-    ensures handed { HandOverRule state.new result }
+    ensures handed { ShownRule state.new result }
     ensures due { due (K.written report.new) state.new.writer ≡ due (K.written report.old) state.old.writer }
     ensures same_reader { state.new.reader ≡ state.old.reader }
     ensures same_tally { state.new.tally ≡ state.old.tally }
@@ -112,7 +112,7 @@ pub fn next_work<S: Source, K: Sink>(
 {
     state.data_in.clear();
     hand_over(state, report)?;
-    match state.reader.next_line(script) {
+    match state.reader.next_line(script, &state.writer) {
         NextLine::Line => {}
         NextLine::End => return Ok(None),
         NextLine::LineTooLong => return Err(Stopped::LineTooLong),
@@ -138,6 +138,7 @@ pub fn tell<K: Sink>(
     ensures tells { (left : Option (List ℕ)) → TellRule (view_of left (K.written report.old) state.old)
         (view_of left (K.written report.new) state.new) state.old.data_in.items outcome result }
     ensures count { TellCount (K.faults report.old) (K.faults report.new) outcome result }
+    ensures tally { TallyRule state.old.tally state.new.tally result }
     ensures same_reader { state.new.reader ≡ state.old.reader }
     ensures room { HasRoom state.old → HasRoom state.new }
 {
