@@ -1,10 +1,12 @@
+-- Which logical blocks a buffer has, and with which bytes, by its uses: for the buffer, and for the causes of reads and
+-- writes. (This project's own, as all here.)
 use Rattle.std.specs.Prelude.{ℕ, ◌==◌, not, Option, List, [], ◌∷◌, take, map}
 use Rattle.std.specs.Option.{option_map}
 use Rattle.std.specs.List.{filter, find}
 use Rattle.model_buffer.specs.declared.TheConstants.{BUFFERED_BLOCKS}
 
 -- The bytes of a logical block, where the buffer has it. A buffer is the list of its blocks, each a number and its
--- bytes, the one used last first. (This project's own, as all here.)
+-- bytes, the one used last first.
 abbrev pub bytes_at : ℕ → List (ℕ × List ℕ) → Option (List ℕ)
 bytes_at block buffer = option_map (λ held. held.1) (find (λ held. held.0 == block) buffer)
 

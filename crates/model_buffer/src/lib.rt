@@ -8,6 +8,11 @@ ghost use Rattle.model_buffer.specs.declared.TheConstants.{BUFFERED_BLOCKS};
 /// How many blocks a buffer has room for.
 pub const BUFFERED_BLOCKS: usize = 1;
 
+/// The buffer has room for one block.
+pub fn limits_of_buffers_are_these()
+    ensures { BUFFERED_BLOCKS ≡ 1 }
+{}
+
 /// A block that was used is in the buffer with its bytes, and the numbers of the blocks follow from the numbers before.
 pub fn a_used_block_is_buffered()
     ensures found { (block : ℕ) (bytes : List ℕ) (buffer : List (ℕ × List ℕ)) → bytes_at block (with_front block bytes buffer) ≡ Some bytes }

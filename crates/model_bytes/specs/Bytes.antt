@@ -1,3 +1,4 @@
+-- What a write into a list of bytes, whole or in part, and a change of its length make of it: for images and blocks.
 use Rattle.std.specs.Prelude.{◌≡◌, ℕ, ◌+◌, ◌-◌, ◌<◌, ◌≤◌, ◌⊎◌, List, ◌++◌, length, take, drop, replicate, slice_index}
 
 -- the bytes with `from` in place of those at `at` and on (this project's own)

@@ -1,3 +1,4 @@
+-- A relation of bytes before and after that may not be known: for all contracts over an object of the outside.
 use Rattle.std.specs.Prelude.{Option, Some, None, List, ℕ}
 
 -- Bytes that are told are told afterwards too, and are then so related; bytes that are not told stay untold.

@@ -1,5 +1,7 @@
+-- The table of the drive's commands, and how many bytes of data go with each: for the parser of lines and the drive.
 use Rattle.std.specs.Prelude.{ℕ, ◌*◌, nat_lt, nat_le, ◌==◌, if◌then◌else◌, Option, Some, None, List, [], ◌∷◌, length, drop, slice_index, find}
 use Rattle.byteorder.specs.Endian.{big_number}
+use Rattle.model_commands.specs.declared.TheConstants.{TRANSFER_LIMIT}
 use Rattle.model_commands.specs.declared.Operation.{Operation}
 use Rattle.model_commands.specs.declared.Operation.TheVariants.{TestUnitReady, RequestSense, FormatUnit, Inquiry, StartStopUnit, PreventAllowMediumRemoval, ReadFormatCapacities, ReadCapacity10, Read10, Write10, WriteAndVerify10, Verify10, SynchronizeCache, GetConfiguration, ModeSelect10, ModeSense10, Read12, Write12, ReadDvdStructure}
 
@@ -59,7 +61,7 @@ operation_of cdb = operation_with (slice_index cdb 0)
 
 -- how many sectors a command reads or writes at most (this project's own)
 abbrev pub transfer_limit : ℕ
-transfer_limit = 1024
+transfer_limit = TRANSFER_LIMIT
 
 -- the number in this field of a command block: so many bytes from this one on, the highest first
 abbrev pub field : (at width : ℕ) → List ℕ → ℕ

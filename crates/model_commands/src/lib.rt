@@ -3,7 +3,20 @@
 
 ghost use Rattle.std.specs.Prelude.{◌≡◌, Some};
 ghost use Rattle.model_commands.specs.declared.Operation.{Operation as Op};
+ghost use Rattle.model_commands.specs.declared.TheConstants.{TRANSFER_LIMIT, DATA_LIMIT};
 ghost use Rattle.model_commands.specs.Commands.{command, operation_with};
+
+/// How many sectors a command reads or writes at most.
+pub const TRANSFER_LIMIT: u32 = 1_024;
+
+/// How many bytes of data a command takes at most: those of so many sectors.
+pub const DATA_LIMIT: usize = 2_097_152;
+
+/// The numbers that contracts share with the code.
+pub fn limits_are_these()
+    ensures transfer { TRANSFER_LIMIT ≡ 1024 }
+    ensures bytes { DATA_LIMIT ≡ 2097152 }
+{}
 
 /// The commands that the drive knows, under the names of INCITS MMC and SPC.
 #[derive(Clone, Copy, Debug, PartialEq, Eq)]

@@ -1,3 +1,4 @@
+-- When a count of failures, cuts or uses rose: for all contracts that count.
 use Rattle.std.specs.Prelude.{ℕ, ◌+◌, ◌-◌, ◌^◌, ◌≤◌, min, max}
 
 -- A count of 64 bits after more has come: it stands still at its type's end. (This project's own.)

@@ -1,4 +1,6 @@
+-- A disc's geometry: its zones, guards and data blocks, and the blocks of its lists: for all that counts blocks.
 use Rattle.std.specs.Prelude.{◌≡◌, ℕ, zero, suc, ◌+◌, ◌-◌, ◌*◌, ◌<◌, ◌≤◌, Bool, ◌&&◌, nat_lt, ◌==◌, if◌then◌else◌, List, length, Option, Some, MatchOption, slice_get}
+use Rattle.model_geometry.specs.declared.TheConstants.{MOST_ZONES, MOST_SCALE, MOST_SPARES}
 use Rattle.std.specs.List.{range_with_len, filter, list_any, Contains}
 
 -- The three numbers of a geometry: its zones, the scale of their sizes, and its primary spares. (This project's own.)
@@ -60,11 +62,11 @@ IsZoneOf shape block found = MatchOption found ((z : ℕ) → ¬ IsInZone shape 
 -- data blocks. (This project's own.)
 pub record IsLawful (shape : Shape) : Type 0 where
   pub some_zones : 1 ≤ shape.zones
-  pub most_zones : shape.zones ≤ 35
+  pub most_zones : shape.zones ≤ MOST_ZONES
   pub some_scale : 1 ≤ shape.scale
-  pub most_scale : shape.scale ≤ 100
+  pub most_scale : shape.scale ≤ MOST_SCALE
   pub some_spares : 1 ≤ shape.psa
-  pub most_spares : shape.psa ≤ 4092
+  pub most_spares : shape.psa ≤ MOST_SPARES
   pub spares_within : shape.psa < length (data_blocks shape)
 
 -- The sectors that a full format gives: sixteen for each data block that is no primary spare. (This project's own.)

@@ -1,3 +1,4 @@
+-- The text of each defect list, the block that spells its value: for `ram_dds`, `ram_sdl` and `ram_entries`.
 use Rattle.std.specs.Prelude.{◌≡◌, ℕ, ◌-◌, ◌*◌, Option, Some, None, List, [], ◌∷◌, ◌++◌, length, take, drop, replicate}
 use Rattle.std.specs.List.{flat_map}
 use Rattle.byteorder.specs.Endian.{big_bytes}

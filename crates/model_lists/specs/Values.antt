@@ -1,7 +1,7 @@
+-- The values of the two defect lists of a disc, and their limits: for `ram_dds`, `ram_sdl` and the laws on texts.
 use Rattle.std.specs.Prelude.{◌≡◌, ℕ, ◌<◌, ◌≤◌, ◌^◌, ◌++◌, Option, Some, None, IfSome, List, ◌∷◌, length, map, filter, nat_lt, All, Contains}
 use Rattle.std.specs.List.Sorted.{IsStrictlyIncreasing}
-use Rattle.model_lists.specs.declared.dds.TheConstants.{PSA_LIMIT}
-use Rattle.model_lists.specs.declared.sdl.TheConstants.{SDL_LIMIT, SSA_LIMIT}
+use Rattle.model_geometry.specs.declared.TheConstants.{MOST_SPARES}
 use Rattle.model_lists.specs.declared.dds.DdsState.{DdsState}
 use Rattle.model_lists.specs.declared.dds.DdsState.TheVariants.{Formatting, Formatted}
 use Rattle.model_lists.specs.declared.dds.PdlEntry.{PdlEntry}
@@ -56,14 +56,14 @@ FitsState Formatted count = Unit {0}
 -- the limits of a disc definition structure whose list has so many entries (this project's own)
 pub record IsWithinDdsLimits (state : DdsState) (psa count : ℕ) : Type 0 where
   pub some : 1 ≤ psa
-  pub most : psa ≤ PSA_LIMIT
+  pub most : psa ≤ MOST_SPARES
   pub few : count ≤ psa
   pub fits : FitsState state count
 
 -- the limits of a secondary defect list that has so many entries (this project's own)
 pub record IsWithinSdlLimits (ssa count : ℕ) : Type 0 where
-  pub most : ssa ≤ SSA_LIMIT
-  pub few : count ≤ SDL_LIMIT
+  pub most : ssa ≤ MOST_SPARES
+  pub few : count ≤ MOST_SPARES
 
 -- The value is one that a disc definition structure may have. (After ECMA-330; the limits are this project's own.)
 pub record IsLawfulDds (value : Dds) : Type 0 where

@@ -6,5 +6,6 @@ mod dds;
 pub mod laws;
 mod sdl;
 
-pub use dds::{DdsState, PSA_LIMIT, PdlEntry, PdlKind};
-pub use sdl::{SDL_LIMIT, SSA_LIMIT, SdlEntry};
+pub use dds::{DdsState, PdlEntry, PdlKind};
+pub use model_geometry::MOST_SPARES;
+pub use sdl::SdlEntry;

@@ -1,3 +1,4 @@
+-- The cell of a block, and what writes and cuts make of it: for every contract about a medium.
 use Rattle.std.specs.Prelude.{◌≡◌, ℕ, ◌⊎◌, List, get_or}
 use Rattle.model_medium.specs.declared.Fate.{Fate}
 use Rattle.model_medium.specs.declared.Fate.TheVariants as fates

@@ -1,3 +1,4 @@
+-- What each event does exactly on a controllable medium: for `MediumControl` and the media that exist.
 use Rattle.std.specs.Prelude.{◌≡◌, ℕ, true, false, IsTrue, None, IsSome, List}
 use Rattle.std.specs.Bool.{OnTrue}
 use Rattle.model_medium.specs.Cells.{Good, IsGood, cell_at}

@@ -1,3 +1,4 @@
+-- What can follow on a medium by so many uses that did not fail: for work of several uses.
 use Rattle.std.specs.Prelude.{◌≡◌, ◌≢◌, ℕ, ◌+◌, ◌≤◌, ◌⊎◌, IsTrue, Option, Some, None, List, [], ◌∷◌}
 use Rattle.model_counts.specs.Counts.{counted}
 use Rattle.model_medium.specs.Cells.{Cell, Torn, Dead, IsGood, IsGoodOrDead, cell_at}

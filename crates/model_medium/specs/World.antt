@@ -1,3 +1,4 @@
+-- All that any medium shows, and what one use of it may do by its answer: for the trait `Medium` and all above it.
 use Rattle.std.specs.Prelude.{◌≡◌, ◌≢◌, ℕ, ◌⊎◌, Bool, IsTrue, List, []}
 use Rattle.std.specs.Bool.{OnTrue, OnFalse}
 use Rattle.model_counts.specs.Counts.{counted, Rose}

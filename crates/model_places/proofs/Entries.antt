@@ -7,6 +7,7 @@ use Rattle.std.proofs.lemmas.List.{length-map, get_or-map, get_or_default}
 use Rattle.std.proofs.lemmas.List.Elements.{All-contains, recursion_from_All}
 use Rattle.std.proofs.lemmas.Map.Keys.{IsDistinct-tail, IsDistinct-cons}
 use Rattle.std.proofs.lemmas.Map.Made.{length-le_from_is_member}
+use Rattle.model_geometry.specs.declared.TheConstants.{MOST_SPARES}
 use Rattle.model_geometry.specs.Geometry.{Shape}
 use Rattle.model_places.specs.Places.{Entries, unslipped, logical_blocks, spares, defectives, replacements}
 use Rattle.model_places.specs.Valid.{IsValidPdl, IsValidSdl}
@@ -86,6 +87,6 @@ length-entries shape psa pdl ssa entries primary secondary =
     omega (arith, length-map entries used)
 
 -- So it has no more than there may be spares in all.
-pub length-entries_most : (shape : Shape) (psa : ℕ) (pdl : List ℕ) (ssa : ℕ) (entries : Entries) → IsValidPdl shape psa pdl → IsValidSdl shape pdl ssa entries → length entries ≤ 4092
+pub length-entries_most : (shape : Shape) (psa : ℕ) (pdl : List ℕ) (ssa : ℕ) (entries : Entries) → IsValidPdl shape psa pdl → IsValidSdl shape pdl ssa entries → length entries ≤ MOST_SPARES
 length-entries_most shape psa pdl ssa entries primary secondary =
     omega (arith, length-entries shape psa pdl ssa entries primary secondary, length-spares shape psa pdl ssa primary secondary.area, secondary.area.most)

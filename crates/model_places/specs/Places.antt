@@ -1,3 +1,4 @@
+-- How a disc with defect lists is numbered: slipping, logical blocks, spares and homes: for a volume.
 use Rattle.std.specs.Prelude.{ℕ, ◌+◌, ◌-◌, ◌*◌, Bool, not, ◌||◌, ◌==◌, Option, unwrap_or, option_and_then, List, ◌++◌, length, take, drop, map, reverse, slice_index}
 use Rattle.std.specs.List.{count_by, filter, filter_map, find, list_any, after_first}
 use Rattle.model_geometry.specs.Geometry.{Shape, data_blocks}

@@ -1,6 +1,8 @@
+-- Which defect lists are valid for a geometry, and which size of the supplementary spares: for the laws on homes.
 use Rattle.std.specs.Prelude.{◌≡◌, ℕ, ◌+◌, ◌<◌, ◌≤◌, Bool, IsTrue, IsSome, IsNone, nat_eq, List, length}
 use Rattle.std.specs.List.{All, Contains, IsDistinct}
 use Rattle.std.specs.List.Sorted.{IsStrictlyIncreasing}
+use Rattle.model_geometry.specs.declared.TheConstants.{MOST_SPARES}
 use Rattle.model_geometry.specs.Geometry.{Shape, data_blocks}
 use Rattle.model_places.specs.Places.{Entries, unslipped, logical_blocks, spares, defectives, replacements}
 
@@ -12,10 +14,10 @@ pub record IsValidPdl (shape : Shape) (psa : ℕ) (pdl : List ℕ) : Type 0 wher
   pub rising : IsStrictlyIncreasing pdl
   pub few : length pdl ≤ shape.psa
 
--- A size of the supplementary spare area is valid: no more than 4,092 spares in all, and a logical block is left.
+-- A size of the supplementary spare area is valid: no more spares in all than a disc may have, and a logical block is left.
 -- (This project's own.)
 pub record IsValidSsa (shape : Shape) (ssa : ℕ) : Type 0 where
-  pub most : shape.psa + ssa ≤ 4092
+  pub most : shape.psa + ssa ≤ MOST_SPARES
   pub some_logical : shape.psa + ssa < length (data_blocks shape)
 
 -- A secondary defect list is valid under a primary one: its defective blocks are not slipped, and rise; a defective

@@ -5,6 +5,7 @@
 ghost use Rattle.std.specs.Prelude.{◌≡◌, ℕ, ◌+◌, ◌-◌, ◌<◌, ◌≤◌, ◌⊎◌, ◌==◌, nat_lt, Bool, true, false, [], ◌∷◌, ◌++◌, Some, None, List, length, slice_get, slice_index};
 ghost use Rattle.std.specs.List.{All, Contains, filter};
 ghost use Rattle.std.specs.List.Sorted.{IsStrictlyIncreasing};
+ghost use Rattle.model_geometry.specs.declared.TheConstants.{MOST_SPARES};
 ghost use Rattle.model_geometry.specs.Geometry.{Shape, shape_of, data_blocks};
 ghost use Rattle.model_places.specs.Places.{Entries, unslipped, logical_block, logical_blocks, logical_count, primary_count, capacity, primary_spares, supplementary_spares, spares, free_spares, free_spare_after, free_primary_count, free_supplementary_count, usable_spares, defectives, replacements, home};
 ghost use Rattle.model_places.specs.Valid.{IsValidPdl, IsValidSsa, IsValidSdl};
@@ -67,7 +68,7 @@ pub fn each_entry_uses_up_a_spare()
         → IsValidPdl shape psa pdl → IsValidSdl shape pdl ssa entries
         → length entries ≤ length (spares shape pdl ssa) }
     ensures most { (shape : Shape) (psa : ℕ) (pdl : List ℕ) (ssa : ℕ) (entries : Entries)
-        → IsValidPdl shape psa pdl → IsValidSdl shape pdl ssa entries → length entries ≤ 4092 }
+        → IsValidPdl shape psa pdl → IsValidSdl shape pdl ssa entries → length entries ≤ MOST_SPARES }
 {}
 
 /// The free spares are the spares that no entry names. Where each listed block is dead, the usable spares are those

@@ -6,3 +6,4 @@ pub mod Tells
 pub mod Reads
 pub mod Writes
 pub mod Power
+pub mod Faults

@@ -57,7 +57,7 @@ pub record WroteUpTo (old new : Shown) (first count : ℕ) : Type 0 where
 
 -- What the drive stands for after a write that was stopped in one block: that block is wholly old or wholly new in the
 -- sectors that are covered, and those before it are new.
-pub record StopsInBlock (stands : Standing → Type 0) (disc : List ℕ) (lba n : ℕ) (bytes : List ℕ) : Type 0 where
+pub record StopsInWrite (stands : Standing → Type 0) (disc : List ℕ) (lba n : ℕ) (bytes : List ℕ) : Type 0 where
   pub block : ℕ
   pub covered : block < blocks_covered lba n
   pub either : stands (Off (replaced disc lba bytes (block_with lba + block) ∷ replaced disc lba bytes (block_with lba + block + 1) ∷ []))
@@ -72,7 +72,7 @@ pub record DifferInBlock (disc : List ℕ) (lba n : ℕ) (bytes : List ℕ) (blo
   pub elsewhere : (at m : ℕ) → (at + m ≤ lba) ⊎ (end_in lba n block ≤ at) → (sectors_of old at m ≡ sectors_of disc at m) × (sectors_of new at m ≡ sectors_of disc at m)
 
 -- What a drive stands for is two discs that differ in one block of the request: the old one first, then the new one.
-pub record IsOldOrNew (standing : Standing) (disc : List ℕ) (lba n : ℕ) (bytes : List ℕ) : Type 0 where
+pub record LeavesTwoDiscs (standing : Standing) (disc : List ℕ) (lba n : ℕ) (bytes : List ℕ) : Type 0 where
   pub block : ℕ
   pub covered : block < blocks_covered lba n
   pub old : List ℕ
@@ -92,9 +92,9 @@ WriteOn old new stands disc lba n bytes (writes.Unread named block) =
     × WroteUpTo old new (block_with lba) (block_with named - block_with lba) × stands (On (replaced disc lba bytes (block_with named)))
 WriteOn old new stands disc lba n bytes (writes.NoSpare named) =
     (home_cell new (block_with named) ≡ Dead) × WroteUpTo old new (block_with lba) (block_with named - block_with lba) × stands (On (replaced disc lba bytes (block_with named)))
-WriteOn old new stands disc lba n bytes writes.Cut = (stopped : StopsInBlock stands disc lba n bytes) × WroteUpTo old new (block_with lba) stopped.block
+WriteOn old new stands disc lba n bytes writes.Cut = (stopped : StopsInWrite stands disc lba n bytes) × WroteUpTo old new (block_with lba) stopped.block
 WriteOn old new stands disc lba n bytes writes.Off = ⊥
-WriteOn old new stands disc lba n bytes writes.Fault = (stopped : StopsInBlock stands disc lba n bytes) × WroteUpTo old new (block_with lba) stopped.block
+WriteOn old new stands disc lba n bytes writes.Fault = (stopped : StopsInWrite stands disc lba n bytes) × WroteUpTo old new (block_with lba) stopped.block
 
 -- What a write does with the power off: it answers so.
 abbrev pub WriteOff : (Standing → Type 0) → List (List ℕ) → WriteOut → Type 0

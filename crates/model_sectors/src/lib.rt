@@ -5,13 +5,10 @@
 mod laws;
 
 pub use laws::{
-    a_block_is_covered_where_it_holds_a_sector, a_stopped_write_leaves_two_discs,
-    buffered_blocks_take_no_use, limits_of_requests_are_these, some_disc_fits_first,
-    uncovered_homes_stay, what_is_replaced_reads_back,
+    a_block_is_covered_where_it_holds_a_sector, a_fault_alone_is_counted,
+    a_stopped_write_leaves_two_discs, buffered_blocks_take_no_use, limits_of_requests_are_these,
+    some_disc_fits_first, uncovered_homes_stay, what_is_replaced_reads_back,
 };
-
-/// How many sectors one call of a drive reads or writes at most.
-pub const TRANSFER_SECTORS: u32 = 1_024;
 
 /// How many sectors a disc has at most, so that the numbers of its bytes fit into 64 bits and those of its sectors into
 /// 32, with room to spare.

@@ -1,3 +1,4 @@
+-- What a part of the work on a medium did: it continued, or was stopped by a cut, by a power that was off, or by a fault.
 use Rattle.std.specs.Prelude.{ℕ, ◌<◌, ◌≤◌, ◌⊎◌, IsTrue, List}
 use Rattle.model_medium.specs.World.{World, IsCut, IsOff, FailsInRead, FailsInWrite}
 use Rattle.model_stops.specs.declared.Stop.{Stop}

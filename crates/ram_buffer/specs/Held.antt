@@ -1,3 +1,4 @@
+-- What a buffer is to its callers: a list of blocks. For its `Model`. (This project's own.)
 use Rattle.std.specs.Prelude.{ℕ, List, [], ◌∷◌}
 use Rattle.std.specs.Option.{option_map_or}
 use Rattle.ram_buffer.specs.declared.BlockBuffer.TheInside.{Inside}

@@ -1,3 +1,4 @@
+-- What becomes of a block whose bytes are lent to be written: for `Block::bytes_mut`.
 use Rattle.std.specs.Prelude.{ℕ, List, ◌++◌, length, take, drop}
 use Rattle.std.specs.Borrow.{Lends, MutBor, Fml, Array, u8}
 use Rattle.ram_bytes.specs.contracts.block.Block.{the_row}

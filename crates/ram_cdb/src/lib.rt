@@ -2,16 +2,21 @@
 #![tactic(auto)]
 
 ghost use Rattle.std.specs.Prelude.{◌≡◌, ◌↔◌, ◌*◌, ◌≤◌, length, IsTrue, IsSome, nat_le, if◌then◌else◌};
+ghost use Rattle.model_commands.specs.declared.TheConstants.{DATA_LIMIT};
+ghost use Rattle.ram_cdb.specs.declared.TheConstants.{FORMAT_LIST_BYTES};
 ghost use Rattle.model_commands.specs.Commands.{command, operation_with, operation_of, out_length_of, transfer_limit, data_length};
 
 use model_commands::Operation;
+pub use model_commands::{DATA_LIMIT, TRANSFER_LIMIT};
 use ram_bytes::{Cdb, SECTOR_BYTES, get_u16, get_u32};
-
-/// How many sectors a command reads or writes at most.
-pub const TRANSFER_LIMIT: u32 = 1_024;
 
 /// How many bytes the parameter list of FORMAT UNIT has.
 pub const FORMAT_LIST_BYTES: usize = 12;
+
+/// The number that contracts share with the code.
+pub fn limits_are_these()
+    ensures format { FORMAT_LIST_BYTES ≡ 12 }
+{}
 
 /// Whether the drive knows the command, by its operation code alone.
 pub fn known(cdb: &Cdb) -> bool
@@ -20,11 +25,11 @@ pub fn known(cdb: &Cdb) -> bool
     operation(cdb.operation_code()).is_some()
 }
 
-/// How many bytes of data the command takes, at most 2,097,152. None where the operation code is unknown, the
+/// How many bytes of data the command takes, at most [`DATA_LIMIT`]. None where the operation code is unknown, the
 /// command block is too short, or more than [`TRANSFER_LIMIT`] sectors would be written.
 pub fn out_length(cdb: &Cdb) -> usize
     ensures exact { result ≡ out_length_of cdb.now }
-    ensures bound { result ≤ 2097152 }
+    ensures bound { result ≤ DATA_LIMIT }
 {
     let Some(operation) = operation(cdb.operation_code()) else {
         return 0;
@@ -92,7 +97,7 @@ pub fn command_bytes(operation: Operation) -> usize
 pub fn data_bytes(operation: Operation, cdb: &[u8]) -> usize
     requires { (command operation).bytes ≤ length cdb.now }
     ensures exact { result ≡ data_length (command operation).taken cdb.now }
-    ensures bound { result ≤ 2097152 }
+    ensures bound { result ≤ DATA_LIMIT }
 {
     match operation {
         Operation::FormatUnit => FORMAT_LIST_BYTES,
@@ -121,7 +126,7 @@ pub fn data_bytes(operation: Operation, cdb: &[u8]) -> usize
 // How many bytes so many sectors have; none where they are more than a command writes.
 fn sectors_bytes(count: u32) -> usize
     ensures exact { result ≡ (if nat_le count transfer_limit then count * 2048 else 0) }
-    ensures bound { result ≤ 2097152 }
+    ensures bound { result ≤ DATA_LIMIT }
 {
     if count <= TRANSFER_LIMIT {
         count as usize * SECTOR_BYTES

@@ -1,3 +1,4 @@
+-- The value of a `DdsPdl`, and what decoding gives: for `encode` and `decode`.
 use Rattle.std.specs.Prelude.{ℕ, List, Option, Some, None}
 use Rattle.model_lists.specs.Values.{Dds}
 use Rattle.model_lists.specs.Texts.{IsDdsText}
@@ -9,6 +10,6 @@ dds_of held = record { counter = held.counter; state = held.state; psa = held.ps
 
 -- What the block decodes to: the value whose text it is, or nothing where it is the text of none.
 -- (This project's own.)
-abbrev pub IsDecoded : Option DdsPdl → List ℕ → Type 0
-IsDecoded None block = (value : Dds) → IsDdsText value block → ⊥
-IsDecoded (Some found) block = IsDdsText (dds_of found) block
+abbrev pub IsDecodedDds : Option DdsPdl → List ℕ → Type 0
+IsDecodedDds None block = (value : Dds) → IsDdsText value block → ⊥
+IsDecodedDds (Some found) block = IsDdsText (dds_of found) block

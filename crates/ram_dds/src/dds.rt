@@ -1,7 +1,7 @@
 ghost use Rattle.std.specs.Prelude.{IfOk};
 ghost use Rattle.model_lists.specs.Values.{IsLawfulDds};
 ghost use Rattle.model_lists.specs.Texts.{IsDdsText};
-ghost use Rattle.ram_dds.specs.Dds.{dds_of, IsDecoded};
+ghost use Rattle.ram_dds.specs.Dds.{dds_of, IsDecodedDds};
 
 use crate::entries::PdlEntries;
 use crate::front::{begin_bytes, front_of, list_begin_bytes};
@@ -41,7 +41,7 @@ impl DdsPdl {
 
     /// The value whose text this block is, or none where it is the text of no value.
     pub fn decode(alloc: Global, from: &Block) -> Result<Option<DdsPdl>, AllocError>
-        ensures { IfOk result (λ found. IsDecoded found from.now) }
+        ensures { IfOk result (λ found. IsDecodedDds found from.now) }
     {
         let bytes = from.bytes();
         let Some(front) = front_of(bytes) else {

@@ -4,7 +4,7 @@ ghost use Rattle.model_lists.specs.declared.dds.DdsState.{DdsState};
 ghost use Rattle.model_lists.specs.Values.{IsWithinDdsLimits};
 ghost use Rattle.model_lists.specs.Texts.{IsDdsFront, state_byte};
 
-use model_lists::{DdsState, PSA_LIMIT};
+use model_lists::{DdsState, MOST_SPARES};
 use ram_bytes::{get_u16, get_u32, is_zero};
 
 /// What the bytes before the entries say.
@@ -68,7 +68,7 @@ fn is_within_limits(state: DdsState, psa: u32, count: usize) -> bool
         DdsState::Formatting => count == 0,
         DdsState::Formatted => true,
     };
-    0 < psa && psa <= PSA_LIMIT && count <= psa as usize && fits_state
+    0 < psa && psa <= MOST_SPARES && count <= psa as usize && fits_state
 }
 
 /// What the bytes before the entries say, where they are within the limits.

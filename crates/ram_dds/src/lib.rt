@@ -8,7 +8,7 @@ mod list;
 
 pub use dds::DdsPdl;
 pub use entries::PdlEntries;
-pub use model_lists::{DdsState, PSA_LIMIT, PdlEntry, PdlKind};
+pub use model_lists::{DdsState, MOST_SPARES, PdlEntry, PdlKind};
 
 #[cfg(test)]
 mod tests;

@@ -1,3 +1,4 @@
+-- What a layout of entries is, and what reading and writing entries do: for `EntryLayout` and its two calls.
 use Rattle.std.specs.Prelude.{◌≡◌, ℕ, List, length, map, All}
 use Rattle.std.specs.List.Sorted.{IsStrictlyIncreasing}
 

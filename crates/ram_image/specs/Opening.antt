@@ -1,3 +1,4 @@
+-- What opening an image finds, or why it is refused: for `open` and its parts.
 use Rattle.std.specs.Prelude.{◌≡◌, ◌≢◌, ℕ, ◌<◌, ◌≤◌, ◌⊎◌, false, Option, None, is_some, IfSome, List, [], length, take}
 use Rattle.model_geometry.specs.Geometry.{Shape, total}
 use Rattle.model_image.specs.Cells.{image_len, cells_told}

@@ -1,3 +1,4 @@
+-- What a press may do, by its answer: for `press`.
 use Rattle.std.specs.Prelude.{◌≡◌, ℕ, Option, List}
 use Rattle.model_counts.specs.Counts.{Rose}
 use Rattle.model_bytes.specs.Told.{WhereTold}

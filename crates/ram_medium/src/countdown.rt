@@ -67,7 +67,7 @@ impl Armed {
     pub fn wear(&mut self, block: u32, n: u32) -> bool
         ensures arms { MatchBool result
             ((length (arms_of self.old) < MOST_ARMS)
-                × (arms_of self.new ≡ arms_of self.old ++ record { block = block; left = n } ∷ []))
+            × (arms_of self.new ≡ arms_of self.old ++ record { block = block; left = n } ∷ []))
             ((length (arms_of self.old) ≡ MOST_ARMS) × (arms_of self.new ≡ arms_of self.old)) }
         ensures cut { cut_of self.new ≡ cut_of self.old }
     {

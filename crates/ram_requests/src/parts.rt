@@ -1,4 +1,4 @@
-ghost use Rattle.std.specs.Prelude.{◌≡◌, ◌+◌, ◌*◌, ◌<◌, ◌≤◌, length};
+ghost use Rattle.std.specs.Prelude.{◌≡◌, ◌+◌, ◌-◌, ◌*◌, ◌<◌, ◌≤◌, length};
 ghost use Rattle.model_bytes.specs.Bytes.{put_at};
 ghost use Rattle.model_sectors.specs.Requests.{start_in, end_in, is_partly, merged_in, filled_by};
 ghost use Rattle.ram_bytes.specs.declared.block.TheConstants.{BLOCK_BYTES};
@@ -31,6 +31,27 @@ fn put_bytes(into: &mut [u8], at: usize, from: &[u8])
 }
 
 impl Part {
+    /// The byte of its block at which it begins.
+    fn place(self) -> usize
+        ensures { result ≡ 2048 * (self.start - 16 * self.block) }
+    {
+        SECTOR_BYTES * (self.start - SECTORS_PER_BLOCK as u32 * self.block) as usize
+    }
+
+    /// The byte of the request at which it begins.
+    fn skipped(self) -> usize
+        ensures { result ≡ 2048 * (self.start - self.request.lba) }
+    {
+        SECTOR_BYTES * (self.start - self.request.lba) as usize
+    }
+
+    /// How many bytes it has.
+    fn len(self) -> usize
+        ensures { result ≡ 2048 * (self.end - self.start) }
+    {
+        SECTOR_BYTES * (self.end - self.start) as usize
+    }
+
     /// Whether it is less than the whole block.
     pub fn is_partly(self) -> bool
         ensures { result ≡ is_partly self.request.lba self.request.n self.block }
@@ -43,10 +64,9 @@ impl Part {
         requires { length into.old ≡ 2048 * self.request.n }
         ensures { into.new ≡ filled_by self.request.lba self.request.n self.block block.now into.old }
     {
-        let from = SECTOR_BYTES * (self.start - SECTORS_PER_BLOCK as u32 * self.block) as usize;
-        let at = SECTOR_BYTES * (self.start - self.request.lba) as usize;
-        let len = SECTOR_BYTES * (self.end - self.start) as usize;
-        put_bytes(into, at, &block.bytes()[from..from + len]);
+        let place = self.place();
+        let len = self.len();
+        put_bytes(into, self.skipped(), &block.bytes()[place..place + len]);
     }
 
     /// Merges its sectors, of the bytes of the request, into their block.
@@ -55,10 +75,10 @@ impl Part {
         ensures merged { block.new ≡ merged_in self.request.lba self.request.n from.now self.block block.old }
         ensures len { length block.old ≡ BLOCK_BYTES }
     {
-        let at = SECTOR_BYTES * (self.start - SECTORS_PER_BLOCK as u32 * self.block) as usize;
-        let first = SECTOR_BYTES * (self.start - self.request.lba) as usize;
-        let len = SECTOR_BYTES * (self.end - self.start) as usize;
+        let place = self.place();
+        let skipped = self.skipped();
+        let len = self.len();
         let bytes = block.bytes_mut();
-        put_bytes(bytes, at, &from[first..first + len]);
+        put_bytes(bytes, place, &from[skipped..skipped + len]);
     }
 }

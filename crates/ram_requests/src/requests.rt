@@ -1,11 +1,12 @@
 ghost use Rattle.std.specs.Prelude.{◌≡◌, ◌+◌, ◌<◌, ◌≤◌, MatchOption};
 ghost use Rattle.model_sectors.specs.Requests.{block_with, blocks_covered, start_in, end_in};
-ghost use Rattle.model_sectors.specs.declared.TheConstants.{TRANSFER_SECTORS, MOST_SECTORS};
+ghost use Rattle.model_commands.specs.declared.TheConstants.{TRANSFER_LIMIT};
+ghost use Rattle.model_sectors.specs.declared.TheConstants.{MOST_SECTORS};
 
 use crate::parts::Part;
 use ram_bytes::SECTORS_PER_BLOCK;
 
-/// A request for so many sectors from one on. It is at most [`TRANSFER_SECTORS`](crate::TRANSFER_SECTORS) long, and ends
+/// A request for so many sectors from one on. It is at most [`TRANSFER_LIMIT`](crate::TRANSFER_LIMIT) long, and ends
 /// at sector [`MOST_SECTORS`](crate::MOST_SECTORS) at the latest, so that no number of its arithmetic overflows.
 #[derive(Clone, Copy, Debug)]
 pub struct Request {
@@ -13,7 +14,7 @@ pub struct Request {
     pub lba: u32,
     /// How many sectors.
     pub n: u32,
-    ghost few: { n ≤ TRANSFER_SECTORS },
+    ghost few: { n ≤ TRANSFER_LIMIT },
     ghost low: { lba + n ≤ MOST_SECTORS },
 }
 
@@ -21,7 +22,7 @@ impl Request {
     /// The request for `n` sectors from sector `lba` on, of a disc of `capacity` sectors. None exactly where some of them
     /// are none of the disc's.
     pub fn within(capacity: u32, lba: u32, n: u32) -> Option<Request>
-        requires few { n ≤ TRANSFER_SECTORS }
+        requires few { n ≤ TRANSFER_LIMIT }
         requires low { capacity ≤ MOST_SECTORS }
         ensures { MatchOption result (capacity < lba + n)
             (λ request. (request.lba ≡ lba) × (request.n ≡ n) × (lba + n ≤ capacity)) }

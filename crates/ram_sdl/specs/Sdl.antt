@@ -1,3 +1,4 @@
+-- The value of an `Sdl`, and what decoding gives: for `encode` and `decode`.
 use Rattle.std.specs.Prelude.{ℕ, List, Option, Some, None}
 use Rattle.model_lists.specs.Values as values
 use Rattle.model_lists.specs.Texts.{IsSdlText}
@@ -9,6 +10,6 @@ sdl_of held = record { counter = held.counter; dds_counter = held.dds_counter; s
 
 -- What the block decodes to: the value whose text it is, or nothing where it is the text of none.
 -- (This project's own.)
-abbrev pub IsDecoded : Option Sdl → List ℕ → Type 0
-IsDecoded None block = (value : values.Sdl) → IsSdlText value block → ⊥
-IsDecoded (Some found) block = IsSdlText (sdl_of found) block
+abbrev pub IsDecodedSdl : Option Sdl → List ℕ → Type 0
+IsDecodedSdl None block = (value : values.Sdl) → IsSdlText value block → ⊥
+IsDecodedSdl (Some found) block = IsSdlText (sdl_of found) block

@@ -1,7 +1,7 @@
 ghost use Rattle.std.specs.Prelude.{◌≡◌, ◌==◌, ◌≤◌, ◌<◌, ◌+◌, [], length, OnOk, OnErr, vec_capacity};
 ghost use Rattle.std.specs.List.Sorted.{IsStrictlyIncreasing};
 ghost use Rattle.model_lists.specs.Values.{defectives, with_entry};
-ghost use Rattle.ram_sdl.specs.Held.{HasRoomFor};
+ghost use Rattle.ram_sdl.specs.EntriesAndRoom.{HasRoomFor};
 
 use crate::places::position_of;
 use model_lists::SdlEntry;
@@ -17,9 +17,9 @@ pub struct SdlEntries {
 
 impl Model for SdlEntries {
     ghost use Rattle.std.specs.Prelude.{vec_capacity};
-    ghost use Rattle.ram_sdl.specs.Held.{Held};
+    ghost use Rattle.ram_sdl.specs.EntriesAndRoom.{EntriesAndRoom};
 
-    ghost Value = { Held };
+    ghost Value = { EntriesAndRoom };
 
     ghost view = { λ e. record { list = e.items.items; room = vec_capacity e.items } };
 }

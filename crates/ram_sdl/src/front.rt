@@ -3,7 +3,7 @@ ghost use Rattle.byteorder.specs.Endian.{big_bytes};
 ghost use Rattle.model_lists.specs.Values.{IsWithinSdlLimits};
 ghost use Rattle.model_lists.specs.Texts.{IsSdlFront};
 
-use model_lists::{SDL_LIMIT, SSA_LIMIT};
+use model_lists::MOST_SPARES;
 use ram_bytes::{get_u16, get_u32, is_zero};
 
 /// What the bytes before the entries say.
@@ -41,7 +41,7 @@ fn begins_list(bytes: &[u8]) -> bool
 fn is_within_limits(ssa: u32, count: usize) -> bool
     ensures { IsTrue result ↔ IsWithinSdlLimits ssa count }
 {
-    ssa <= SSA_LIMIT && count <= SDL_LIMIT
+    ssa <= MOST_SPARES && count <= MOST_SPARES as usize
 }
 
 /// What the bytes before the entries say, where they are within the limits.

@@ -8,7 +8,7 @@ mod places;
 mod sdl;
 
 pub use entries::SdlEntries;
-pub use model_lists::{SDL_LIMIT, SSA_LIMIT, SdlEntry};
+pub use model_lists::{MOST_SPARES, SdlEntry};
 pub use sdl::Sdl;
 
 #[cfg(test)]

@@ -2,8 +2,8 @@ ghost use Rattle.std.specs.Prelude.{◌≡◌, ◌≤◌, length, IfOk, OnOk, On
 ghost use Rattle.std.specs.List.Sorted.{IsStrictlyIncreasing};
 ghost use Rattle.model_lists.specs.Values.{IsLawfulSdl, IsEntryOf, defectives, with_entry};
 ghost use Rattle.model_lists.specs.Texts.{IsSdlText};
-ghost use Rattle.ram_sdl.specs.Held.{HasRoomFor};
-ghost use Rattle.ram_sdl.specs.Sdl.{sdl_of, IsDecoded};
+ghost use Rattle.ram_sdl.specs.EntriesAndRoom.{HasRoomFor};
+ghost use Rattle.ram_sdl.specs.Sdl.{sdl_of, IsDecodedSdl};
 
 use crate::entries::SdlEntries;
 use crate::front::{Front, begin_bytes, front_of};
@@ -23,7 +23,7 @@ pub struct Sdl {
     pub dds_counter: u32,
     /// The size of the supplementary spare area in blocks, at most 4,092.
     pub ssa: u32,
-    /// The defective blocks with what took their place, at most [`SDL_LIMIT`](crate::SDL_LIMIT).
+    /// The defective blocks with what took their place, at most [`MOST_SPARES`](crate::MOST_SPARES).
     pub entries: SdlEntries,
 }
 
@@ -48,7 +48,7 @@ impl Sdl {
 
     /// The value whose text this block is, or none where it is the text of no value.
     pub fn decode(alloc: Global, from: &Block) -> Result<Option<Sdl>, AllocError>
-        ensures { IfOk result (λ found. IsDecoded found from.now) }
+        ensures { IfOk result (λ found. IsDecodedSdl found from.now) }
     {
         let bytes = from.bytes();
         let Some(front) = front_of(bytes) else {

@@ -3,7 +3,7 @@
 
 ghost use Rattle.std.specs.Prelude.{◌≡◌, ◌*◌, ◌≤◌, List, length};
 ghost use Rattle.model_geometry.specs.Geometry.{Shape};
-ghost use Rattle.model_sectors.specs.declared.TheConstants.{TRANSFER_SECTORS};
+ghost use Rattle.model_commands.specs.declared.TheConstants.{TRANSFER_LIMIT};
 ghost use Rattle.model_sectors.specs.Discs.{Standing, Shown};
 ghost use Rattle.model_sectors.specs.Tells.{CapacityRule};
 ghost use Rattle.model_sectors.specs.Reads.{ReadCause, ReadSteps, ReadIsQuiet};
@@ -11,7 +11,8 @@ ghost use Rattle.model_sectors.specs.Writes.{WriteCause, WriteSteps};
 ghost use Rattle.model_sectors.specs.Power.{PowerCause, PowerSteps};
 ghost use Rattle.ram_sectors.specs.Laws.{SectorsLaws};
 
-pub use model_sectors::{PowerOut, ReadOut, TRANSFER_SECTORS, WriteOut};
+pub use model_commands::TRANSFER_LIMIT;
+pub use model_sectors::{PowerOut, ReadOut, WriteOut};
 use std::alloc::Global;
 
 /// A disc as its host sees it: a list of sectors of 2,048 bytes, numbered from 0. Wherever its medium tells its cells,
@@ -39,7 +40,7 @@ pub trait Sectors {
     /// some sector is none of the disc's, Range, with the capacity; where a block has no whole bytes, Unread, with its
     /// first sector of the request. What `into` holds after another answer than Good is not known.
     fn read(&mut self, lba: u32, n: u32, into: &mut [u8]) -> ReadOut
-        requires few { n ≤ TRANSFER_SECTORS }
+        requires few { n ≤ TRANSFER_LIMIT }
         requires whole { length into.old ≡ 2048 * n }
         ensures cause { ReadCause (shows self.old) (shows self.new) lba n result }
         ensures step { ReadSteps (shows self.old) (shows self.new) (stands self.old) (stands self.new)
@@ -51,7 +52,7 @@ pub trait Sectors {
     /// after another: a write that is refused or stopped has replaced those before the one in progress. Beside the
     /// refusals of a read it may answer NoSpare, where the home of a block is dead and nothing is left to replace it.
     fn write(&mut self, lba: u32, n: u32, from: &[u8]) -> WriteOut
-        requires few { n ≤ TRANSFER_SECTORS }
+        requires few { n ≤ TRANSFER_LIMIT }
         requires whole { length from.now ≡ 2048 * n }
         ensures cause { WriteCause (shows self.old) (shows self.new) lba n result }
         ensures step { WriteSteps (shows self.old) (shows self.new) (stands self.old) (stands self.new)

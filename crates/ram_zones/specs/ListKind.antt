@@ -1,3 +1,4 @@
+-- The block of each list of an area: for `Geometry::list_block`.
 use Rattle.std.specs.Prelude.{ℕ}
 use Rattle.model_geometry.specs.Geometry.{Shape, dds_block, sdl_block}
 use Rattle.ram_zones.specs.declared.list_kind.ListKind.{ListKind}

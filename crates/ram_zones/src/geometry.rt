@@ -1,20 +1,14 @@
 ghost use Rattle.std.specs.Prelude.{◌≡◌, ◌+◌, ◌*◌, ◌/◌, ◌<◌, ◌≤◌, length, slice_get, MatchResult, IsTrue, ◌↔◌};
-ghost use Rattle.model_geometry.specs.Geometry.{IsLawful, IsInZone, IsDataIndex, IsZoneOf, shape_of, lead_out, total, data_blocks, formattable, dds_block};
+ghost use Rattle.model_geometry.specs.declared.TheConstants.{MOST_ZONES, MOST_SCALE};
+ghost use Rattle.model_geometry.specs.Geometry.{IsLawful, IsInZone, IsDataIndex, IsZoneOf, shape_of, lead_out, total};
+ghost use Rattle.model_geometry.specs.Geometry.{data_blocks, formattable, dds_block};
 ghost use Rattle.ram_zones.specs.Limits.{IsWithin, SparesFit};
 ghost use Rattle.ram_zones.specs.ListKind.{list_block};
 
 use crate::list_kind::ListKind;
+use model_geometry::{MOST_SCALE, MOST_SPARES, MOST_ZONES};
 use std::marker::Model;
 use thiserror::Error;
-
-/// The most zones that a disc has.
-pub const MOST_ZONES: u32 = 35;
-
-/// The greatest scale of the sizes of zones.
-pub const MOST_SCALE: u32 = 100;
-
-/// The most primary spares that a disc has.
-pub const MOST_SPARES: u32 = 4_092;
 
 /// How many blocks the lead-in has: the first zone begins after it.
 const LEAD_IN_BLOCKS: u32 = 8;
@@ -65,8 +59,8 @@ impl Model for Geometry {
 /// Where a zone of this scale begins. The zones before it have 25, 26 and so on blocks for each unit of the scale,
 /// in all a half of `zone * (zone + 49)`.
 fn start_of_zone(scale: u32, zone: u32) -> u32
-    requires scale_within { scale ≤ 100 }
-    requires zone_within { zone ≤ 35 }
+    requires scale_within { scale ≤ MOST_SCALE }
+    requires zone_within { zone ≤ MOST_ZONES }
     ensures { result ≡ 8 + scale * (zone * (zone + 49) / 2) }
 {
     LEAD_IN_BLOCKS + scale * (zone * (zone + 2 * FIRST_ZONE_UNITS - 1) / 2)
@@ -75,8 +69,8 @@ fn start_of_zone(scale: u32, zone: u32) -> u32
 /// How many data blocks so many zones of this scale have.
 fn data_blocks_of(scale: u32, zones: u32) -> u32
     requires some { 1 ≤ scale }
-    requires scale_within { scale ≤ 100 }
-    requires zones_within { zones ≤ 35 }
+    requires scale_within { scale ≤ MOST_SCALE }
+    requires zones_within { zones ≤ MOST_ZONES }
     ensures { result + 2 * zones ≡ scale * (zones * (zones + 49) / 2) }
 {
     start_of_zone(scale, zones) - LEAD_IN_BLOCKS - GUARDS * zones
@@ -91,8 +85,8 @@ fn is_within(number: u32, limit: u32) -> bool
 
 /// Whether so many primary spares are within their limits.
 fn spares_fit(zones: u32, scale: u32, psa: u32) -> bool
-    requires zones_within { IsWithin zones 35 }
-    requires scale_within { IsWithin scale 100 }
+    requires zones_within { IsWithin zones MOST_ZONES }
+    requires scale_within { IsWithin scale MOST_SCALE }
     ensures { IsTrue result ↔ SparesFit zones scale psa }
 {
     is_within(psa, MOST_SPARES) && psa < data_blocks_of(scale, zones)

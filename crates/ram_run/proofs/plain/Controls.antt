@@ -125,13 +125,13 @@ module _ {I : Type 0} {d : Ghosts I} (old new : Mechanism I d) (same_shape : sha
   pub stands_failed : (block : ℕ) (end : FailEnd) → FailRule (total (shape_of_medium old.medium)) (machine_in old.medium) (machine_in new.medium) block end → new.buffer ≡ buffer_after_fail old.buffer end
       → (s : Standing) → stands_for old s → stands_for new (stands_after_fail s end)
   stands_failed block fails.Done rule buffer s stands =
-      stands_still (ap (λ (m : Machine). m.world.told) rule.1.same) (ap (λ (m : Machine). m.world.power) rule.1.same) buffer (cells_failed block (ap (λ (m : Machine). m.world.cells) rule.1.same)) s stands
+      stands_still (ap (λ (m : Machine). m.world.told) rule.1) (ap (λ (m : Machine). m.world.power) rule.1) buffer (cells_failed block (ap (λ (m : Machine). m.world.cells) rule.1)) s stands
   stands_failed block (fails.NoBlock blocks) rule buffer s stands = stands_armed (ap (λ (m : Machine). m.world) rule.2) buffer s stands
   stands_failed block fails.Failed rule buffer s stands = stands_off rule.1.as_told rule.1.goes_off buffer (cells_left block rule.1.others rule.1.left) s stands
 
   failed_told : (block : ℕ) (end : FailEnd) → FailRule (total (shape_of_medium old.medium)) (machine_in old.medium) (machine_in new.medium) block end
       → (world_of new.medium).told ≡ (world_of old.medium).told
-  failed_told block fails.Done rule = ap (λ (m : Machine). m.world.told) rule.1.same
+  failed_told block fails.Done rule = ap (λ (m : Machine). m.world.told) rule.1
   failed_told block (fails.NoBlock blocks) rule = ap (λ (m : Machine). m.world.told) rule.2
   failed_told block fails.Failed rule = rule.1.as_told
 

@@ -9,7 +9,7 @@ use Rattle.model_sectors.specs.Discs.{Standing, On, Off, SomeFits, replaced, hom
 use Rattle.model_sectors.specs.Requests.{block_with, blocks_covered, start_in, is_partly, with_part}
 use Rattle.model_sectors.specs.Uses.{touched_from, is_buffered, is_at_hand, write_uses}
 use Rattle.model_sectors.specs.Parts.{IsInRange, IsStopped, KeepsHomes, AreGood}
-use Rattle.model_sectors.specs.Writes.{WriteCause, OnlyCovered, StopsInBlock, WroteUpTo, WriteOn, WriteStep}
+use Rattle.model_sectors.specs.Writes.{WriteCause, OnlyCovered, StopsInWrite, WroteUpTo, WriteOn, WriteStep}
 use Rattle.model_sectors.specs.declared.WriteOut.{WriteOut}
 use Rattle.model_sectors.specs.declared.WriteOut.TheVariants as writes
 use Rattle.model_sectors.proofs.Covering.{covered_part, covered_inside, block_with_start, replaced_first}
@@ -237,7 +237,7 @@ module _ {I : Type 0} {d : Ghosts I} (old : Mechanism I d) (lba n : ℕ) (bytes 
         covered = λ block apart. (ap (λ (m : ImageMedium I d). cell_at (world_of m).cells block) same ∙ only_next halted p.others block apart);
       }
 
-      in_block : (disc : List ℕ) → stands_for old (On disc) → (stopped : StopsInBlock (stands_for new) disc lba n bytes) × WroteUpTo (shown_by old) (shown_by new) (block_with lba) stopped.block
+      in_block : (disc : List ℕ) → stands_for old (On disc) → (stopped : StopsInWrite (stands_for new) disc lba n bytes) × WroteUpTo (shown_by old) (shown_by new) (block_with lba) stopped.block
       in_block disc stands = (
         record {
           block = k;

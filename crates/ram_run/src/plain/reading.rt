@@ -1,6 +1,6 @@
 //! Reads of sectors, one logical block after another.
 ghost use Rattle.std.specs.Prelude.{◌≡◌, ◌*◌, ◌+◌, ◌≤◌, [], length, MatchResult};
-ghost use Rattle.model_sectors.specs.declared.TheConstants.{TRANSFER_SECTORS};
+ghost use Rattle.model_commands.specs.declared.TheConstants.{TRANSFER_LIMIT};
 ghost use Rattle.model_sectors.specs.Parts.{IsInRange};
 ghost use Rattle.model_sectors.specs.Reads.{AreBuffered, ReadsBuffered, ReadCause, ReadSteps, ReadIsQuiet};
 ghost use Rattle.ram_image.specs.Medium.{shape_of_medium};
@@ -79,7 +79,7 @@ impl<I: Image> Mechanism<I> {
 
     /// A read, as the trait has it.
     pub(super) fn read(&mut self, lba: u32, n: u32, into: &mut [u8]) -> ReadOut
-        requires few { n ≤ TRANSFER_SECTORS }
+        requires few { n ≤ TRANSFER_LIMIT }
         requires whole { length into.old ≡ 2048 * n }
         ensures cause { ReadCause (shown_by self.old) (shown_by self.new) lba n result }
         ensures step { ReadSteps (shown_by self.old) (shown_by self.new) (stands_for self.old) (stands_for self.new)

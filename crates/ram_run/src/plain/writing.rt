@@ -1,7 +1,7 @@
 //! Writes of sectors, one logical block after another. A block that a request covers in part is read, modified and
 //! written.
 ghost use Rattle.std.specs.Prelude.{◌≡◌, ◌*◌, ◌+◌, ◌≤◌, [], length, MatchResult};
-ghost use Rattle.model_sectors.specs.declared.TheConstants.{TRANSFER_SECTORS};
+ghost use Rattle.model_commands.specs.declared.TheConstants.{TRANSFER_LIMIT};
 ghost use Rattle.model_sectors.specs.Parts.{IsInRange};
 ghost use Rattle.model_sectors.specs.Writes.{WriteCause, WriteSteps};
 ghost use Rattle.ram_image.specs.Medium.{shape_of_medium};
@@ -100,7 +100,7 @@ impl<I: Image> Mechanism<I> {
 
     /// A write, as the trait has it.
     pub(super) fn write(&mut self, lba: u32, n: u32, from: &[u8]) -> WriteOut
-        requires few { n ≤ TRANSFER_SECTORS }
+        requires few { n ≤ TRANSFER_LIMIT }
         requires whole { length from.now ≡ 2048 * n }
         ensures cause { WriteCause (shown_by self.old) (shown_by self.new) lba n result }
         ensures step { WriteSteps (shown_by self.old) (shown_by self.new) (stands_for self.old) (stands_for self.new)
