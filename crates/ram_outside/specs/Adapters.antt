@@ -23,22 +23,22 @@ count_after_take (takes.Got n) faults = faults
 count_after_take takes.End faults = faults
 count_after_take takes.Failed faults = counted faults 1
 
--- the same after a call of `put`
+-- the same after a call of `put` (this project's own)
 abbrev pub count_after_put : Put → ℕ → ℕ
 count_after_put (puts.Took n) faults = faults
 count_after_put puts.Failed faults = counted faults 1
 
--- the same after a call of `len`
+-- the same after a call of `len` (this project's own)
 abbrev pub count_after_len : Length → ℕ → ℕ
 count_after_len (lengths.Is n) faults = faults
 count_after_len lengths.Failed faults = counted faults 1
 
--- the same after a call that moves bytes or changes their number
+-- the same after a call that moves bytes or changes their number (this project's own)
 abbrev pub count_after_move : Moved → ℕ → ℕ
 count_after_move moves.Done faults = faults
 count_after_move moves.Failed faults = counted faults 1
 
--- the same after a call of `open`
+-- the same after a call of `open` (this project's own)
 abbrev pub count_after_open : {I : Type 0} → Opened I → ℕ → ℕ
 count_after_open (openings.Image image) faults = faults
 count_after_open openings.Failed faults = counted faults 1

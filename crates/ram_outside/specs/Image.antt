@@ -8,17 +8,17 @@ use Rattle.ram_outside.specs.declared.image.Length.TheVariants as lengths
 use Rattle.ram_outside.specs.declared.image.Moved.{Moved}
 use Rattle.ram_outside.specs.declared.image.Moved.TheVariants as moves
 
--- the image has the bytes that it had, and counted nothing
+-- the image has the bytes that it had, and counted nothing (this project's own)
 pub record IsUnchanged (before after : Option (List ℕ)) (faults faults' : ℕ) : Type 0 where
   pub same : after ≡ before
   pub count : faults' ≡ faults
 
--- the image failed and counted it, and has the bytes that it had
+-- the image failed and counted it, and has the bytes that it had (this project's own)
 pub record ImageFails (before after : Option (List ℕ)) (faults faults' : ℕ) : Type 0 where
   pub same : after ≡ before
   pub count : Rose faults faults'
 
--- the whole change was made, and nothing was counted
+-- the whole change was made, and nothing was counted (this project's own)
 pub record IsChanged (change : List ℕ → List ℕ) (before after : Option (List ℕ)) (faults faults' : ℕ) : Type 0 where
   pub changed : after ≡ option_map change before
   pub count : faults' ≡ faults

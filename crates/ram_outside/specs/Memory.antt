@@ -43,7 +43,7 @@ pub record OpenerState : Type 0 where
   pub calls : CallLog
 
 -- The next n bytes came, as many as fit the slice and one piece; what the slice held behind them stays in it. (This
--- project's own.)
+-- project's own.) (this project's own)
 pub record GivesPiece (old new : SourceState) (into into' : List ℕ) (n : ℕ) : Type 0 where
   pub no_failure : ¬ NextCallFails old.calls
   pub some : 0 < n
@@ -72,7 +72,7 @@ TakesExactly old new into into' (takes.Got n) = GivesPiece old new into into' n
 TakesExactly old new into into' takes.End = GivesNothing old new into into'
 TakesExactly old new into into' takes.Failed = FailsToGive old new into into'
 
--- the first n bytes of the piece were written, as many as the sink takes at once
+-- the first n bytes of the piece were written, as many as the sink takes at once (this project's own)
 pub record TakesPiece (old new : SinkState) (piece : List ℕ) (n : ℕ) : Type 0 where
   pub no_failure : ¬ NextCallFails old.calls
   pub many : n ≡ min old.piece (length piece)
@@ -81,7 +81,7 @@ pub record TakesPiece (old new : SinkState) (piece : List ℕ) (n : ℕ) : Type 
   pub piece_stays : new.piece ≡ old.piece
   pub calls : new.calls ≡ with_call old.calls
 
--- nothing was written, since the call is one that fails, or room was refused
+-- nothing was written, since the call is one that fails, or room was refused (this project's own)
 pub record RefusesPiece (old new : SinkState) (piece : List ℕ) : Type 0 where
   pub cause : NextCallFails old.calls ⊎ (old.room < length old.written + min old.piece (length piece))
   pub written : new.written ≡ old.written
@@ -119,11 +119,11 @@ ReadsImageExactly old new at into into' moves.Failed = FailsToRead old new into 
 
 -- Exactly what `write_at` of an image in memory does, by its answer: a call that fails writes nothing.
 -- (This project's own.)
-abbrev pub WritesExactly : ImageState → ImageState → ℕ → List ℕ → Moved → Type 0
-WritesExactly old new at from moves.Done = (¬ NextCallFails old.calls) × (new ≡ record old { bytes = put_at at from old.bytes; calls = with_call old.calls })
-WritesExactly old new at from moves.Failed = NextCallFails old.calls × (new ≡ record old { calls = with_failed_call old.calls })
+abbrev pub WritesImageExactly : ImageState → ImageState → ℕ → List ℕ → Moved → Type 0
+WritesImageExactly old new at from moves.Done = (¬ NextCallFails old.calls) × (new ≡ record old { bytes = put_at at from old.bytes; calls = with_call old.calls })
+WritesImageExactly old new at from moves.Failed = NextCallFails old.calls × (new ≡ record old { calls = with_failed_call old.calls })
 
--- the image has these bytes now, no less room, and these calls
+-- the image has these bytes now, no less room, and these calls (this project's own)
 pub record HasBytes (old new : ImageState) (bytes : List ℕ) (calls : CallLog) : Type 0 where
   pub bytes_are : new.bytes ≡ bytes
   pub room : old.room ≤ new.room

@@ -5,7 +5,7 @@ use Rattle.model_counts.specs.Counts.{Rose}
 use Rattle.ram_outside.specs.declared.sink.Put.{Put}
 use Rattle.ram_outside.specs.declared.sink.Put.TheVariants.{Took, Failed}
 
--- the first n bytes of the piece were written, at least one; nothing was counted
+-- the first n bytes of the piece were written, at least one; nothing was counted (this project's own)
 pub record Takes (before after : Option (List ℕ)) (faults faults' : ℕ) (piece : List ℕ) (n : ℕ) : Type 0 where
   pub some : 0 < n
   pub within : n ≤ length piece
@@ -13,7 +13,7 @@ pub record Takes (before after : Option (List ℕ)) (faults faults' : ℕ) (piec
   pub told : is_some after ≡ is_some before
   pub count : faults' ≡ faults
 
--- the sink failed and counted it, and nothing was written
+-- the sink failed and counted it, and nothing was written (this project's own)
 pub record SinkFails (before after : Option (List ℕ)) (faults faults' : ℕ) : Type 0 where
   pub same : after ≡ before
   pub count : Rose faults faults'

@@ -5,7 +5,7 @@ use Rattle.model_counts.specs.Counts.{Rose}
 use Rattle.ram_outside.specs.declared.source.Take.{Take}
 use Rattle.ram_outside.specs.declared.source.Take.TheVariants.{Got, End, Failed}
 
--- n bytes came, at least one: the next of those that were left; nothing was counted
+-- n bytes came, at least one: the next of those that were left; nothing was counted (this project's own)
 pub record GivesNext (before after : Option (List ℕ)) (faults faults' : ℕ) (into : List ℕ) (n : ℕ) : Type 0 where
   pub some : 0 < n
   pub within : n ≤ length into
@@ -13,13 +13,13 @@ pub record GivesNext (before after : Option (List ℕ)) (faults faults' : ℕ) (
   pub told : is_some after ≡ is_some before
   pub count : faults' ≡ faults
 
--- nothing was left, and nothing changed, the count neither
+-- nothing was left, and nothing changed, the count neither (this project's own)
 pub record HasEnded (before after : Option (List ℕ)) (faults faults' : ℕ) : Type 0 where
   pub ended : IsAtEnd before
   pub same : after ≡ before
   pub count : faults' ≡ faults
 
--- the source failed and counted it, and as much is left as before
+-- the source failed and counted it, and as much is left as before (this project's own)
 pub record SourceFails (before after : Option (List ℕ)) (faults faults' : ℕ) : Type 0 where
   pub same : after ≡ before
   pub count : Rose faults faults'

@@ -37,7 +37,8 @@ pub trait Image {
     /// of the image. `Failed` says nothing of what `into` then holds.
     fn read_at(&mut self, at: u64, into: &mut [u8]) -> Moved
         requires { ForSome (bytes self.old) (λ held. at + length into.old ≤ length held) }
-        ensures { ReadAtRule (bytes self.old) (bytes self.new) (faults self.old) (faults self.new) at into.new result };
+        ensures { ReadAtRule (bytes self.old) (bytes self.new)
+            (faults self.old) (faults self.new) at into.new result };
 
     /// Writes all of `from` from byte `at` on; the range lies inside the image. Where it fails, each byte of that range
     /// is the old or the new one, and nothing else differs.
@@ -46,8 +47,9 @@ pub trait Image {
         ensures { WriteAtRule (bytes self.old) (bytes self.new)
             (faults self.old) (faults self.new) at from.now result };
 
-    /// Makes the image `len` bytes long: keeps the bytes below both lengths, and grows with zeros. Where it fails, the image is as it was or as
-    /// after a call that is done.
+    /// Makes the image `len` bytes long: keeps the bytes below both lengths, and grows with zeros. Where it fails, the
+    /// image is as it was, or as after a call that is done.
     fn set_len(&mut self, len: u64) -> Moved
-        ensures { SetLenRule (bytes self.old) (bytes self.new) (faults self.old) (faults self.new) len result };
+        ensures { SetLenRule (bytes self.old) (bytes self.new)
+            (faults self.old) (faults self.new) len result };
 }

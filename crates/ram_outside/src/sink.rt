@@ -23,5 +23,6 @@ pub trait Sink {
     /// all. `Took` says how many. `Failed` says that nothing was written, and one failure more is counted.
     fn put(&mut self, piece: &[u8]) -> Put
         requires { 0 < length piece.now }
-        ensures { PutRule (written self.old) (written self.new) (faults self.old) (faults self.new) piece.now result };
+        ensures { PutRule (written self.old) (written self.new)
+            (faults self.old) (faults self.new) piece.now result };
 }

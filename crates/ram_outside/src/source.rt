@@ -26,5 +26,6 @@ pub trait Source {
     /// much is left as before and one failure more is counted.
     fn take(&mut self, into: &mut [u8]) -> Take
         requires { 0 < length into.old }
-        ensures { TakeRule (left self.old) (left self.new) (faults self.old) (faults self.new) into.new result };
+        ensures { TakeRule (left self.old) (left self.new)
+            (faults self.old) (faults self.new) into.new result };
 }

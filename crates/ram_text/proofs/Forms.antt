@@ -11,7 +11,7 @@ use Rattle.model_medium.specs.declared.Fate.{Fate}
 use Rattle.model_medium.specs.declared.Fate.TheVariants.{Old, New, Torn}
 use Rattle.ram_text.specs.ScriptWords.{words_of, without_return, IsNumber}
 use Rattle.ram_text.specs.Script.{Reads, IsForm, IsCommandBlock, IsFilled, IsCountedUp, IsSpelled, fate_word, filled, counted_up}
-use Rattle.ram_text.specs.ScriptReading.{◌>>=◌, number_of, hex_byte_of, block_of, only_word, first_number, only_number, fate_of, kind_of, form_of, press_of, power_of, fail_of, wear_of, cut_of, payload_by, payload_of, command_of, alone, line_by, line_of, reading_of, Puts}
+use Rattle.ram_text.specs.ScriptReading.{◌>>=◌, number_of, hex_byte_of, command_block_of, only_word, first_number, only_number, fate_of, kind_of, form_of, press_of, power_of, fail_of, wear_of, cut_of, payload_by, payload_of, command_of, alone, line_by, line_of, reading_of, Puts}
 use Rattle.ram_text.specs.declared.script.Unread.{Unread}
 use Rattle.ram_text.specs.declared.script.Line.{Line}
 use Rattle.ram_text.specs.declared.script.Line.TheVariants.{Empty, Press, Power, Fail, Wear, Cut, Command}
@@ -193,7 +193,7 @@ command_found : (words : List (List ℕ)) (line : Line) (payload : List ℕ) →
 unfolding command_of
 command_found [] line payload h = cc
 command_found (word ∷ words) line payload h =
-    let cdb = bind_some (block_of word) _ (line, payload) h in
+    let cdb = bind_some (command_block_of word) _ (line, payload) h in
     let put = bind_some (payload_of cdb.0 words) _ (line, payload) cdb.2 in
     let same = pair_same (Command cdb.0) line put.0 payload put.2 in
     let l : Command cdb.0 ≡ line = same.0 in

@@ -12,7 +12,7 @@ use Rattle.hex.specs.declared.error.FromHexError.TheVariants.{OddLength, Invalid
 use Rattle.hex.specs.Hex.{decode_of, decode_sized, decode_pairs}
 use Rattle.hex.proofs.HexLemmas.{decode_of-ok}
 use Rattle.ram_text.specs.Script.{counted_up}
-use Rattle.ram_text.specs.ScriptReading.{hex_of, hex_byte_of, block_of, one_byte}
+use Rattle.ram_text.specs.ScriptReading.{hex_of, hex_byte_of, command_block_of, one_byte}
 
 -- into room for half as many bytes
 half_sized : (word : List ℕ) → decode_sized word (length word / 2) ≡ decode_of word
@@ -81,24 +81,24 @@ unfolding hex_byte_of
 hex_byte_of-none word h = rw h refl
 
 -- more than 33 digits spell no command block
-block-by : (word : List ℕ) (o : Option (List ℕ)) → hex_of word ≡ o → 16 < length word / 2 → None ≡ block_of word
-unfolding block_of
+block-by : (word : List ℕ) (o : Option (List ℕ)) → hex_of word ≡ o → 16 < length word / 2 → None ≡ command_block_of word
+unfolding command_block_of
 block-by word None h long = rw h refl
 block-by word (Some bytes) h long =
     let twice : length word ≡ 2 * length bytes = length-hex_of word bytes h in
     rw h (let n : ℕ = length bytes in let more : 16 < length bytes = omega arith in grind (arith, nat_tests))
 
-pub block_of-long : (word : List ℕ) → 16 < length word / 2 → None ≡ block_of word
-block_of-long word long = block-by word (hex_of word) refl long
+pub command_block_of-long : (word : List ℕ) → 16 < length word / 2 → None ≡ command_block_of word
+command_block_of-long word long = block-by word (hex_of word) refl long
 
-pub block_of-none : (word : List ℕ) → hex_of word ≡ None → None ≡ block_of word
-unfolding block_of
-block_of-none word h = rw h refl
+pub command_block_of-none : (word : List ℕ) → hex_of word ≡ None → None ≡ command_block_of word
+unfolding command_block_of
+command_block_of-none word h = rw h refl
 
-pub block_of-some : (word bytes : List ℕ) (r : Option (List ℕ)) → hex_of word ≡ Some bytes → SomeIff r ((0 < length bytes) × (length bytes ≤ 16)) bytes → r ≡ block_of word
-unfolding block_of
-block_of-some word bytes None h none = rw h (grind (arith, nat_tests))
-block_of-some word bytes (Some cdb) h some = rw h (grind (arith, nat_tests))
+pub command_block_of-some : (word bytes : List ℕ) (r : Option (List ℕ)) → hex_of word ≡ Some bytes → SomeIff r ((0 < length bytes) × (length bytes ≤ 16)) bytes → r ≡ command_block_of word
+unfolding command_block_of
+command_block_of-some word bytes None h none = rw h (grind (arith, nat_tests))
+command_block_of-some word bytes (Some cdb) h some = rw h (grind (arith, nat_tests))
 
 -- as many more of one value as a function gives
 constant_more : (f : ℕ → ℕ) (v a n : ℕ) → ((k : ℕ) → a ≤ k → k < a + n → f k ≡ v) → map f (range_with_len 0 a) ++ replicate n v ≡ map f (range_with_len 0 (a + n))

@@ -10,3 +10,4 @@ pub mod ScriptReadings
 pub mod Forms
 pub mod Turns
 pub mod ToldApart
+pub mod Limits

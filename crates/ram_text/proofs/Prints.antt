@@ -1,11 +1,10 @@
 -- One printed text after another.
-use Rattle.std.proofs.Common.{◌≡◌, ℕ, ◌+◌, ◌≤◌, Option, List, ◌++◌, length, take, min, sym, ap, ◌∙◌, arith}
+use Rattle.std.proofs.Common.{◌≡◌, ℕ, ◌+◌, ◌≤◌, Option, List, Result, Ok, Err, ◌++◌, length, take, min, sym, ap, ◌∙◌, arith}
 use Rattle.std.proofs.lemmas.List.{take-append-le, take_min, take-take, take_at}
 use Rattle.std.proofs.Math.Seq.{take-append-add}
 use Rattle.std.specs.Io.KnownBytes.{append_known}
-use Rattle.ram_text.specs.declared.gathered.Print.{Print}
-use Rattle.ram_text.specs.declared.gathered.Print.TheVariants.{Done, Failed}
-use Rattle.ram_text.specs.Writer.{IsPut, IsCutShort, PrintRule}
+use Rattle.ram_text.specs.declared.gathered.SinkFailed.{SinkFailed}
+use Rattle.ram_text.specs.Writer.{IsPut, IsCutShort, TextRule}
 use Rattle.ram_text.proofs.Puts.{append_known-twice}
 
 -- both texts were put
@@ -32,12 +31,12 @@ cut_first a b f g s t first = record {
 }
 
 -- the first was put, and the second ended so
-pub put_then : (a b c : Option (List ℕ)) (f g h : ℕ) (s t : List ℕ) → IsPut a b f g s → (answer : Print) → PrintRule b c g h t answer → PrintRule a c f h (s ++ t) answer
-put_then a b c f g h s t first Done second = put_both a b c f g h s t first second
-put_then a b c f g h s t first Failed second = put_cut a b c f g h s t first second
+pub put_then : (a b c : Option (List ℕ)) (f g h : ℕ) (s t : List ℕ) → IsPut a b f g s → (answer : Result (Unit {0}) SinkFailed) → TextRule b c g h t answer → TextRule a c f h (s ++ t) answer
+put_then a b c f g h s t first (Ok done) second = put_both a b c f g h s t first second
+put_then a b c f g h s t first (Err failed) second = put_cut a b c f g h s t first second
 
 -- a sector's line: its words, its digits and its end
-pub put_four : (a b c d e : Option (List ℕ)) (f g h i j : ℕ) (s t u v : List ℕ) → IsPut a b f g s → IsPut b c g h t → IsPut c d h i u → (answer : Print) → PrintRule d e i j v answer → PrintRule a e f j (s ++ t ++ u ++ v) answer
+pub put_four : (a b c d e : Option (List ℕ)) (f g h i j : ℕ) (s t u v : List ℕ) → IsPut a b f g s → IsPut b c g h t → IsPut c d h i u → (answer : Result (Unit {0}) SinkFailed) → TextRule d e i j v answer → TextRule a e f j (s ++ t ++ u ++ v) answer
 put_four a b c d e f g h i j s t u v first second third answer last =
     put_then a d e f i j (s ++ t ++ u) v (put_both a c d f h i (s ++ t) u (put_both a b c f g h s t first second) third) answer last
 

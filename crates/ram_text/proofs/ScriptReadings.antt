@@ -11,7 +11,7 @@ use Rattle.hex.specs.Hex.{◌>>=◌ as bind_result, decode_of, decode_pairs, dig
 use Rattle.hex.proofs.HexLemmas.{decode_of-ok, decode_of-even, decode_pairs-ok}
 use Rattle.ram_text.specs.ScriptWords.{decimal_value, IsNumber, IsHex}
 use Rattle.ram_text.specs.Script.{IsCommandBlock}
-use Rattle.ram_text.specs.ScriptReading.{◌>>=◌, number_of, hex_of, hex_byte_of, block_of, one_byte}
+use Rattle.ram_text.specs.ScriptReading.{◌>>=◌, number_of, hex_of, hex_byte_of, command_block_of, one_byte}
 
 -- the step before gave a value
 pub bind_some : {A B : Type 0} (o : Option A) (f : A → Option B) (y : B) → (o >>= f) ≡ Some y → (x : A) × (o ≡ Some x) × (f x ≡ Some y)
@@ -122,8 +122,8 @@ pub byte_given : (word : List ℕ) (byte : ℕ) → IsHex word (byte ∷ []) →
 unfolding hex_byte_of
 byte_given word byte h = rw (hex_given word (byte ∷ []) h) refl
 
-pub block_found : (word cdb : List ℕ) → block_of word ≡ Some cdb → IsCommandBlock word cdb
-unfolding block_of
+pub block_found : (word cdb : List ℕ) → command_block_of word ≡ Some cdb → IsCommandBlock word cdb
+unfolding command_block_of
 block_found word cdb h =
     let f = bind_some (hex_of word) (λ cdb. cond (ltb 0 (length cdb) && leb (length cdb) 16) (Some cdb) None) cdb h in
     let t = tested_some (ltb 0 (length f.0) && leb (length f.0) 16) f.0 cdb f.2 in
@@ -134,8 +134,8 @@ block_found word cdb h =
       short = let e = a.1 in grind (arith, nat_tests);
     })
 
-pub block_given : (word cdb : List ℕ) → IsCommandBlock word cdb → block_of word ≡ Some cdb
-unfolding block_of
+pub block_given : (word cdb : List ℕ) → IsCommandBlock word cdb → command_block_of word ≡ Some cdb
+unfolding command_block_of
 block_given word cdb is =
     let some : ltb 0 (length cdb) ≡ true = let f = is.some in grind (arith, nat_tests) in
     let short : leb (length cdb) 16 ≡ true = let f = is.short in grind (arith, nat_tests) in

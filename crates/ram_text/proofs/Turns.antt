@@ -1,12 +1,12 @@
 -- Texts that are printed piece by piece.
-use Rattle.std.proofs.Common.{◌≡◌, ℕ, ◌+◌, ◌-◌, ◌*◌, ◌<◌, ◌≤◌, Option, None, Some, List, [], ◌∷◌, ◌++◌, length, take, drop, min, suc, zero, refl, sym, ◌∙◌, ap, subst, arith, append_assoc, take-add}
+use Rattle.std.proofs.Common.{◌≡◌, ℕ, ◌+◌, ◌-◌, ◌*◌, ◌<◌, ◌≤◌, Option, None, Some, Result, List, [], ◌∷◌, ◌++◌, length, take, drop, min, suc, zero, refl, sym, ◌∙◌, ap, subst, arith, append_assoc, take-add}
 use Rattle.std.specs.List.{flat_map, range_with_len}
 use Rattle.std.specs.Io.KnownBytes.{append_known}
 use Rattle.std.proofs.lemmas.List.{append-nil, map-id, flat_map_more, take_all}
 use Rattle.std.proofs.lemmas.List.FromFn.{map-range_with_len_more}
 use Rattle.hex.specs.Hex.{encode_lower, encode_with, lower_digits}
-use Rattle.ram_text.specs.declared.gathered.Print.{Print}
-use Rattle.ram_text.specs.Writer.{IsPut, IsCutShort, PrintRule}
+use Rattle.ram_text.specs.declared.gathered.SinkFailed.{SinkFailed}
+use Rattle.ram_text.specs.Writer.{IsPut, IsCutShort, TextRule}
 use Rattle.ram_text.specs.ReportLines.{sectors_text, sector_text, sector_at}
 use Rattle.ram_text.proofs.Prints.{put_both, put_cut, cut_first}
 
@@ -100,14 +100,14 @@ pub no_digits_put : (a : Option (List ℕ)) (f : ℕ) (bytes : List ℕ) → IsP
 no_digits_put a f bytes = subst (IsPut a a f f) (digits_none bytes) (nothing_put a f)
 
 -- the same text, under another name or in other groups
-pub renamed : (a b : Option (List ℕ)) (f g : ℕ) (s s' t : List ℕ) (answer : Print) → s ≡ s' → PrintRule a b f g (s ++ t) answer → PrintRule a b f g (s' ++ t) answer
-renamed a b f g s s' t answer is rule = subst (λ (x : List ℕ). PrintRule a b f g (x ++ t) answer) is rule
+pub renamed : (a b : Option (List ℕ)) (f g : ℕ) (s s' t : List ℕ) (answer : Result (Unit {0}) SinkFailed) → s ≡ s' → TextRule a b f g (s ++ t) answer → TextRule a b f g (s' ++ t) answer
+renamed a b f g s s' t answer is rule = subst (λ (x : List ℕ). TextRule a b f g (x ++ t) answer) is rule
 
 pub renamed_cut : (a b : Option (List ℕ)) (f g : ℕ) (s s' t : List ℕ) → s ≡ s' → IsCutShort a b f g (s ++ t) → IsCutShort a b f g (s' ++ t)
 renamed_cut a b f g s s' t is cut = subst (λ (x : List ℕ). IsCutShort a b f g (x ++ t)) is cut
 
-pub regrouped : (a b : Option (List ℕ)) (f g : ℕ) (s t u v : List ℕ) (answer : Print) → PrintRule a b f g (s ++ (t ++ (u ++ v))) answer → PrintRule a b f g (s ++ (t ++ u ++ v)) answer
-regrouped a b f g s t u v answer rule = subst (λ (x : List ℕ). PrintRule a b f g (s ++ x) answer) (sym (append_assoc t u v)) rule
+pub regrouped : (a b : Option (List ℕ)) (f g : ℕ) (s t u v : List ℕ) (answer : Result (Unit {0}) SinkFailed) → TextRule a b f g (s ++ (t ++ (u ++ v))) answer → TextRule a b f g (s ++ (t ++ u ++ v)) answer
+regrouped a b f g s t u v answer rule = subst (λ (x : List ℕ). TextRule a b f g (s ++ x) answer) (sym (append_assoc t u v)) rule
 
 pub all_cut : (a b : Option (List ℕ)) (f g : ℕ) (s t : List ℕ) → s ≡ t → IsCutShort a b f g s → IsCutShort a b f g t
 all_cut a b f g s t is cut = subst (IsCutShort a b f g) is cut

@@ -4,7 +4,7 @@ use Rattle.ram_text.specs.Lines.{Reading, IsFirstFeed}
 use Rattle.ram_text.specs.declared.lines.TheConstants.{ROOM, SCRIPT_LIMIT}
 use Rattle.ram_text.specs.declared.lines.LineReader.TheInside.{Inside}
 
--- what the reader's fields stand for
+-- what the reader's fields stand for (this project's own)
 abbrev pub reading_of : Inside → Reading
 reading_of r = record {
   line = slice_range r.bytes.items r.line_start r.line_end;
@@ -12,7 +12,7 @@ reading_of r = record {
   taken = r.taken;
 }
 
--- what every reader keeps
+-- what every reader keeps (this project's own)
 pub record IsWhole (r : Inside) : Type 0 where
   pub room : vec_len r.bytes ≡ ROOM
   pub line_ordered : r.line_start ≤ r.line_end

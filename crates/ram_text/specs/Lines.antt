@@ -11,11 +11,11 @@ use Rattle.ram_text.specs.declared.lines.NextLine.TheVariants.{Line, End, LineTo
 abbrev pub line_feed : ℕ
 line_feed = 10
 
--- no byte is a line feed
+-- no byte is a line feed (this project's own)
 abbrev pub HasNoFeed : List ℕ → Type 0
 HasNoFeed bytes = All (λ byte. byte ≢ line_feed) bytes
 
--- the first line feed of the bytes is at this place
+-- the first line feed of the bytes is at this place (this project's own)
 pub record FeedAt (bytes : List ℕ) (place : ℕ) : Type 0 where
   pub inside : place < length bytes
   pub feed : slice_index bytes place ≡ line_feed
@@ -40,19 +40,19 @@ pub record HoldsLine (reading : Reading) : Type 0 where
   pub short : place ≤ LINE_LIMIT
   pub within : reading.taken + place < SCRIPT_LIMIT
 
--- the line and its line feed went, and what is left now came after them
+-- the line and its line feed went, and what is left now came after them (this project's own)
 pub record EndsByFeed (left left' : Option (List ℕ)) (taken taken' : ℕ) (line : List ℕ) : Type 0 where
   pub went : Consumes left left' (line ++ line_feed ∷ [])
   pub grew : taken' ≡ taken + length line + 1
 
--- the line went, which is not empty, and nothing is left now
+-- the line went, which is not empty, and nothing is left now (this project's own)
 pub record EndsByScript (left left' : Option (List ℕ)) (taken taken' : ℕ) (line : List ℕ) : Type 0 where
   pub some : 0 < length line
   pub went : Consumes left left' line
   pub ended : IsAtEnd left'
   pub grew : taken' ≡ taken + length line
 
--- the next line came, within both limits; it ends with a line feed or with the script
+-- the next line came, within both limits; it ends with a line feed or with the script (this project's own)
 pub record GivesLine (left left' : Option (List ℕ)) (taken taken' : ℕ) (line : List ℕ) (faults faults' : ℕ) : Type 0 where
   pub ends : EndsByFeed left left' taken taken' line ⊎ EndsByScript left left' taken taken' line
   pub one : HasNoFeed line
@@ -61,19 +61,20 @@ pub record GivesLine (left left' : Option (List ℕ)) (taken taken' : ℕ) (line
   pub told : is_some left' ≡ is_some left
   pub count : faults' ≡ faults
 
--- nothing went, and there is no line
+-- nothing went, and there is no line (this project's own)
 pub record NothingWent (left left' : Option (List ℕ)) (taken taken' : ℕ) (line : List ℕ) : Type 0 where
   pub same : left' ≡ left
   pub stood : taken' ≡ taken
   pub none : line ≡ []
 
 -- more than a line's limit of bytes come without a line feed, and the script's limit is not passed by then
+-- (this project's own)
 pub record LineIsTooLong (left : Option (List ℕ)) (taken : ℕ) : Type 0 where
   pub bytes : IfSome left (λ held. (LINE_LIMIT < length held) × HasNoFeed (take (LINE_LIMIT + 1) held))
   pub first : taken + LINE_LIMIT < SCRIPT_LIMIT
 
 -- more bytes are left than the script's limit allows, and those that it allows have no line feed and are no longer
--- than a line may be
+-- than a line may be (this project's own)
 pub record ScriptIsTooLong (left : Option (List ℕ)) (taken : ℕ) : Type 0 where
   pub bytes : IfSome left (λ held. (SCRIPT_LIMIT - taken < length held) × HasNoFeed (take (SCRIPT_LIMIT - taken) held))
   pub first : SCRIPT_LIMIT ≤ taken + LINE_LIMIT
@@ -91,7 +92,7 @@ module _ {S : Type 0} (sources : Sources S) where
   left_of reading source = prepend_known reading.buffered (sources.left source)
 
   -- What the search for the next line may do, by its answer: the reader and the source before and after. (This
-  -- project's own.)
+  -- project's own.) (this project's own)
   abbrev pub NextLineRule : Reading → Reading → S → S → NextLine → Type 0
   NextLineRule r r' s s' Line = GivesLine (left_of r s) (left_of r' s') r.taken r'.taken r'.line (sources.faults s) (sources.faults s')
   NextLineRule r r' s s' End = NothingWent (left_of r s) (left_of r' s') r.taken r'.taken r'.line × IsAtEnd (left_of r s) × (sources.faults s' ≡ sources.faults s)

@@ -49,7 +49,7 @@ answer_words answers.Off = codes "off"
 answer_words answers.Fault = []
 answer_words answers.NoMemory = []
 
--- the answer does not stop the run
+-- the answer does not stop the run (this project's own)
 abbrev pub IsPrinted : Answer → Type 0
 IsPrinted answers.Good = Unit {0}
 IsPrinted (answers.Check sense) = Unit {0}
@@ -58,18 +58,18 @@ IsPrinted answers.Off = Unit {0}
 IsPrinted answers.Fault = ⊥
 IsPrinted answers.NoMemory = ⊥
 
--- whether the command reads sectors
+-- whether the command reads sectors (this project's own)
 abbrev pub is_read : Option Operation → Bool
 is_read (Some Read10) = true
 is_read (Some Read12) = true
 is_read _ = false
 
--- the command block of a read that was done has the bytes of its address
+-- the command block of a read that was done has the bytes of its address (this project's own)
 abbrev pub IsAddressed : Answer → List ℕ → Type 0
 IsAddressed answers.Good cdb = is_read (operation_of cdb) ≡ true → 6 ≤ length cdb
 IsAddressed _ cdb = Unit {0}
 
--- whether each byte is as the first one
+-- whether each byte is as the first one (this project's own)
 abbrev pub is_one_byte : List ℕ → Bool
 is_one_byte bytes = list_all (λ byte. byte == slice_index bytes 0) bytes
 
@@ -79,7 +79,7 @@ sector_text lba sector =
     if is_one_byte sector then codes "sector " ++ decimal lba ++ codes " fill " ++ encode_lower (slice_index sector 0 ∷ []) ++ codes "\n"
     else codes "sector " ++ decimal lba ++ codes " hex " ++ encode_lower sector ++ codes "\n"
 
--- sector k of these bytes
+-- sector k of these bytes (this project's own)
 abbrev pub sector_at : List ℕ → ℕ → List ℕ
 sector_at bytes k = take 2048 (drop (2048 * k) bytes)
 
@@ -112,14 +112,14 @@ last_text (lasts.LineTooLong line) = numbered line (codes "too long")
 last_text lasts.ScriptTooLong = codes "script too long\n"
 last_text (lasts.NotADisc line) = numbered line (codes "not a disc")
 
--- a sense whose parts are in their ranges
+-- a sense whose parts are in their ranges (this project's own)
 pub record SenseFits (sense : Sense) : Type 0 where
   pub key : sense.key < 16
   pub asc : sense.asc < 256
   pub ascq : sense.ascq < 256
   pub info : IfSome sense.info (λ info. info < 2 ^ 32)
 
--- an answer that is printed, and whose sense is in range
+-- an answer that is printed, and whose sense is in range (this project's own)
 abbrev pub IsTold : Answer → Type 0
 IsTold answers.Good = Unit {0}
 IsTold (answers.Check sense) = SenseFits sense

@@ -23,26 +23,26 @@ filled byte n = replicate n byte
 abbrev pub counted_up : ℕ → ℕ → List ℕ
 counted_up byte n = map (λ place. (byte + place / 2048) % 256) (range_with_len 0 n)
 
--- `fill XX`: the data that the command takes are this byte
+-- `fill XX`: the data that the command takes are this byte (this project's own)
 pub record IsFilled (cdb word digits payload : List ℕ) : Type 0 where
   pub named : word ≡ codes "fill"
   pub byte : ℕ
   pub digits_are : IsHex digits (byte ∷ [])
   pub payload_is : payload ≡ filled byte (out_length_of cdb)
 
--- `count XX`: the data that the command takes count up by sectors from this byte
+-- `count XX`: the data that the command takes count up by sectors from this byte (this project's own)
 pub record IsCountedUp (cdb word digits payload : List ℕ) : Type 0 where
   pub named : word ≡ codes "count"
   pub byte : ℕ
   pub digits_are : IsHex digits (byte ∷ [])
   pub payload_is : payload ≡ counted_up byte (out_length_of cdb)
 
--- `hex HEX`: exactly these data
+-- `hex HEX`: exactly these data (this project's own)
 pub record IsSpelled (word digits payload : List ℕ) : Type 0 where
   pub named : word ≡ codes "hex"
   pub digits_are : IsHex digits payload
 
--- a command block of 1 to 16 bytes
+-- a command block of 1 to 16 bytes (this project's own)
 pub record IsCommandBlock (digits cdb : List ℕ) : Type 0 where
   pub digits_are : IsHex digits cdb
   pub some : 0 < length cdb
@@ -66,13 +66,13 @@ IsForm (word ∷ a ∷ b ∷ c ∷ []) (Command cdb) payload =
     × (IsFilled cdb b c payload ⊎ IsCountedUp cdb b c payload ⊎ IsSpelled b c payload)
 IsForm _ _ payload = ⊥
 
--- a line that begins with a number sign says nothing
+-- a line that begins with a number sign says nothing (this project's own)
 pub record IsComment (line : List ℕ) (read : Line) (payload : List ℕ) : Type 0 where
   pub sign : slice_index line 0 ≡ number_sign
   pub nothing : read ≡ Empty
   pub no_payload : payload ≡ []
 
--- every other line is one of the forms
+-- every other line is one of the forms (this project's own)
 pub record IsOther (line : List ℕ) (read : Line) (payload : List ℕ) : Type 0 where
   pub no_sign : ¬ (slice_index line 0 ≡ number_sign)
   pub form : IsForm (words_of line) read payload

@@ -20,27 +20,28 @@ carriage_return = 13
 abbrev pub without_return : List ℕ → List ℕ
 without_return line = if slice_index line (length line - 1) == carriage_return then take (length line - 1) line else line
 
--- the byte in front of the first piece
+-- the byte in front of the first piece (this project's own)
 abbrev pub lengthened : ℕ → List (List ℕ) → List (List ℕ)
 lengthened byte [] = (byte ∷ []) ∷ []
 lengthened byte (piece ∷ pieces) = (byte ∷ piece) ∷ pieces
 
 -- what stands before, between and after the spaces, where two spaces may have nothing between them
+-- (this project's own)
 unfoldable pub pieces : List ℕ → List (List ℕ)
 pieces [] = [] ∷ []
 pieces (byte ∷ bytes) = if byte == space then [] ∷ pieces bytes else lengthened byte (pieces bytes)
 
--- whether a piece has a byte
+-- whether a piece has a byte (this project's own)
 abbrev pub is_word : List ℕ → Bool
 is_word [] = false
 is_word (byte ∷ bytes) = true
 
 -- The words of a line: they are parted by one or more spaces, and spaces may stand before and after them. (This
--- project's own.)
+-- project's own.) (this project's own)
 unfoldable pub words_of : List ℕ → List (List ℕ)
 words_of line = filter is_word (pieces line)
 
--- the number that decimal digits spell, the highest first
+-- the number that decimal digits spell, the highest first (this project's own)
 abbrev pub decimal_value : List ℕ → ℕ
 decimal_value digits = fold (λ number digit. number * 10 + (digit - 48)) 0 digits
 
@@ -52,7 +53,7 @@ pub record IsNumber (word : List ℕ) (number : ℕ) : Type 0 where
   pub value : decimal_value word ≡ number
   pub fits : number ≤ 4294967295
 
--- a byte as two hexadecimal digits of either case, the high one first
+-- a byte as two hexadecimal digits of either case, the high one first (this project's own)
 pub record IsHexByte (high low byte : ℕ) : Type 0 where
   pub high_value : ℕ
   pub low_value : ℕ

@@ -9,17 +9,17 @@ use Rattle.ram_text.specs.declared.lines.NextLine.{NextLine}
 use Rattle.ram_text.specs.declared.lines.NextLine.TheVariants.{Line, End, LineTooLong, ScriptTooLong, Failed}
 use Rattle.ram_text.specs.Lines.{Reading, HasNoFeed, line_feed}
 
--- the reader with no line, and all else as before
+-- the reader with no line, and all else as before (this project's own)
 abbrev pub without_line : Reading → Reading
 without_line r = record { line = []; buffered = r.buffered; taken = r.taken }
 
--- what is buffered has no line feed, and passes no limit
+-- what is buffered has no line feed, and passes no limit (this project's own)
 pub record IsOpen (r : Reading) : Type 0 where
   pub clear : HasNoFeed r.buffered
   pub short : length r.buffered ≤ LINE_LIMIT
   pub within : r.taken + length r.buffered ≤ SCRIPT_LIMIT
 
--- the buffered bytes were the line, its line feed, and what is buffered now
+-- the buffered bytes were the line, its line feed, and what is buffered now (this project's own)
 pub record TookLine (before after : Reading) : Type 0 where
   pub parts : before.buffered ≡ after.line ++ (line_feed ∷ after.buffered)
   pub one : HasNoFeed after.line
@@ -27,19 +27,19 @@ pub record TookLine (before after : Reading) : Type 0 where
   pub grew : after.taken ≡ before.taken + length after.line + 1
   pub within : after.taken ≤ SCRIPT_LIMIT
 
--- the line's limit is passed by what is buffered, and the script's is not passed before it
+-- the line's limit is passed by what is buffered, and the script's is not passed before it (this project's own)
 pub record PassesLine (r : Reading) : Type 0 where
   pub longer : LINE_LIMIT < length r.buffered
   pub clear : HasNoFeed (take (LINE_LIMIT + 1) r.buffered)
   pub first : r.taken + LINE_LIMIT < SCRIPT_LIMIT
 
--- the script's limit is passed by what is buffered, and the line's is not passed before it
+-- the script's limit is passed by what is buffered, and the line's is not passed before it (this project's own)
 pub record PassesScript (r : Reading) : Type 0 where
   pub longer : SCRIPT_LIMIT - r.taken < length r.buffered
   pub clear : HasNoFeed (take (SCRIPT_LIMIT - r.taken) r.buffered)
   pub first : SCRIPT_LIMIT ≤ r.taken + LINE_LIMIT
 
--- what is decided by the bytes that are buffered
+-- what is decided by the bytes that are buffered (this project's own)
 abbrev pub CutRule : Reading → Reading → Option NextLine → Type 0
 CutRule before after None = IsOpen before × (after ≡ without_line before)
 CutRule before after (Some Line) = TookLine before after
@@ -48,7 +48,7 @@ CutRule before after (Some ScriptTooLong) = PassesScript before × (after ≡ wi
 CutRule before after (Some End) = ⊥
 CutRule before after (Some Failed) = ⊥
 
--- n bytes more are buffered, and as much is left as before
+-- n bytes more are buffered, and as much is left as before (this project's own)
 pub record Refilled (before after : Reading) (rest rest' : Option (List ℕ)) (faults faults' n : ℕ) : Type 0 where
   pub some : 0 < n
   pub longer : length after.buffered ≡ length before.buffered + n
@@ -56,20 +56,20 @@ pub record Refilled (before after : Reading) (rest rest' : Option (List ℕ)) (f
   pub stood : after.taken ≡ before.taken
   pub count : faults' ≡ faults
 
--- what one more piece of the source brings
+-- what one more piece of the source brings (this project's own)
 abbrev pub FillRule : Reading → Reading → Option (List ℕ) → Option (List ℕ) → ℕ → ℕ → Take → Type 0
 FillRule before after rest rest' faults faults' (takes.Got n) = Refilled before after rest rest' faults faults' n
 FillRule before after rest rest' faults faults' takes.End = (after ≡ without_line before) × IsAtEnd rest × (rest' ≡ rest) × (faults' ≡ faults)
 FillRule before after rest rest' faults faults' takes.Failed = (after ≡ without_line before) × (rest' ≡ rest) × Rose faults faults'
 
--- what is buffered is the last line, unless nothing is
+-- what is buffered is the last line, unless nothing is (this project's own)
 pub record TookLast (before after : Reading) : Type 0 where
   pub some : 0 < length before.buffered
   pub line : after.line ≡ before.buffered
   pub rest : after.buffered ≡ []
   pub grew : after.taken ≡ before.taken + length before.buffered
 
--- what the end of the source makes of what is buffered
+-- what the end of the source makes of what is buffered (this project's own)
 abbrev pub LastLineBytes : Reading → Reading → NextLine → Type 0
 LastLineBytes before after Line = TookLast before after
 LastLineBytes before after End = (before.buffered ≡ []) × (after ≡ without_line before)
@@ -77,7 +77,7 @@ LastLineBytes before after LineTooLong = ⊥
 LastLineBytes before after ScriptTooLong = ⊥
 LastLineBytes before after Failed = ⊥
 
--- which limit is passed first, where a line without an end passes one of them
+-- which limit is passed first, where a line without an end passes one of them (this project's own)
 abbrev pub PassedFirst : ℕ → NextLine → Type 0
 PassedFirst taken LineTooLong = taken + LINE_LIMIT < SCRIPT_LIMIT
 PassedFirst taken ScriptTooLong = SCRIPT_LIMIT ≤ taken + LINE_LIMIT

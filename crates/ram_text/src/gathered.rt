@@ -1,6 +1,6 @@
 //! Text that is gathered on its way to a sink. It touches its own bytes, and the sink's by `put` alone.
-ghost use Rattle.std.specs.Prelude.{◌≡◌, ◌+◌, ◌<◌, ◌≤◌, ℕ, List, [], ◌++◌, length, IfOk, MatchBool};
-ghost use Rattle.ram_text.specs.Writer.{Prints, HandsOver, HandOverRule};
+ghost use Rattle.std.specs.Prelude.{◌≡◌, ◌+◌, ◌<◌, ◌≤◌, ℕ, Option, List, [], ◌++◌, length, IfOk, MatchBool};
+ghost use Rattle.ram_text.specs.Writer.{PutsText, TextRule, PrintRule, HandsOver, HandOverRule};
 
 use ram_outside::{Put, Sink};
 use std::alloc::{AllocError, Global};
@@ -16,6 +16,21 @@ pub enum Print {
     Done,
     /// The sink failed, and counted it.
     Failed,
+}
+
+/// The sink failed, and counted it: how a call that prints fails inside.
+#[derive(Clone, Copy, Debug, PartialEq, Eq)]
+pub struct SinkFailed;
+
+/// The answer of a call that prints, by how it went inside.
+pub(crate) fn printed(outcome: Result<(), SinkFailed>) -> Print
+    ensures { (before after : Option (List ℕ)) (faults faults' : ℕ) (text : List ℕ)
+        → TextRule before after faults faults' text outcome → PrintRule before after faults faults' text result }
+{
+    match outcome {
+        Ok(()) => Print::Done,
+        Err(SinkFailed) => Print::Failed,
+    }
 }
 
 /// Text on its way to a sink: it is gathered, and handed over in large pieces. Its room is taken once, when it is
@@ -49,22 +64,22 @@ impl Gathered {
 
     /// Puts a text behind what is gathered; where it does not fit, what is gathered goes to the sink first. A text
     /// longer than the room goes to the sink at once.
-    pub fn put<K: Sink>(&mut self, sink: &mut K, text: &[u8]) -> Print
-        ensures { Prints K.Sink self.old sink.old self.new sink.new text.now result }
+    pub fn put<K: Sink>(&mut self, sink: &mut K, text: &[u8]) -> Result<(), SinkFailed>
+        ensures { PutsText K.Sink self.old sink.old self.new sink.new text.now result }
     {
         if self.gather(text) {
-            return Print::Done;
+            return Ok(());
         }
         match self.flush(sink) {
             Print::Done => {}
-            Print::Failed => return Print::Failed,
+            Print::Failed => return Err(SinkFailed),
         }
         if self.gather(text) {
-            return Print::Done;
+            return Ok(());
         }
         match hand_over(sink, text) {
-            Ok(()) => Print::Done,
-            Err(_) => Print::Failed,
+            Ok(()) => Ok(()),
+            Err(_) => Err(SinkFailed),
         }
     }
 
@@ -98,7 +113,8 @@ impl Gathered {
 
 /// Hands the sink the whole text, or tells how many bytes it took before it failed, and counted it.
 pub fn hand_over<K: Sink>(sink: &mut K, text: &[u8]) -> Result<(), usize>
-    ensures { HandOverRule (K.written sink.old) (K.written sink.new) (K.faults sink.old) (K.faults sink.new) text.now result }
+    ensures { HandOverRule (K.written sink.old) (K.written sink.new)
+        (K.faults sink.old) (K.faults sink.new) text.now result }
 {
     let mut sent = 0;
     while sent < text.len() {

@@ -1,6 +1,7 @@
 //! Laws of the script language and of the report, for whoever relies on their definitions.
-ghost use Rattle.std.specs.Prelude.{◌≡◌, ◌≢◌, ◌<◌, ℕ, List, [], ◌∷◌, ◌++◌, length, All};
+ghost use Rattle.std.specs.Prelude.{◌≡◌, ◌≢◌, ◌<◌, ℕ, Option, Some, List, [], ◌∷◌, ◌++◌, length, All};
 ghost use Rattle.ram_text.specs.ScriptWords.{words_of, space};
+ghost use Rattle.ram_text.specs.Lines.{GivesLine, LineIsTooLong, ScriptIsTooLong};
 ghost use Rattle.ram_text.specs.Script.{Reads};
 ghost use Rattle.ram_text.specs.ReportLines.{answer_words, IsTold};
 ghost use Rattle.ram_text.specs.declared.lines.TheConstants.{LINE_LIMIT, SCRIPT_LIMIT};
@@ -15,9 +16,19 @@ pub fn limits_are_these()
     ensures payload { PAYLOAD_ROOM ≡ 2097152 }
 {}
 
+/// A limit is told exactly where it is passed first: of the two limits one alone is, and where one is, no line comes.
+pub fn a_limit_is_told_where_it_is_passed_first()
+    ensures one { (left : Option (List ℕ)) (taken : ℕ) → LineIsTooLong left taken → ¬ ScriptIsTooLong left taken }
+    ensures line { (held : List ℕ) (left : Option (List ℕ)) (taken taken' : ℕ) (line : List ℕ) (faults faults' : ℕ)
+        → GivesLine (Some held) left taken taken' line faults faults' → ¬ LineIsTooLong (Some held) taken }
+    ensures script { (held : List ℕ) (left : Option (List ℕ)) (taken taken' : ℕ) (line : List ℕ) (faults faults' : ℕ)
+        → GivesLine (Some held) left taken taken' line faults faults' → ¬ ScriptIsTooLong (Some held) taken }
+{}
+
 /// A line has at most one meaning, and the data that go with it are determined too.
 pub fn a_line_has_one_reading()
-    ensures { (line : List ℕ) (a b : Read) (p q : List ℕ) → Reads line a p → Reads line b q → (a ≡ b) × (p ≡ q) }
+    ensures { (line : List ℕ) (a b : Read) (p q : List ℕ)
+        → Reads line a p → Reads line b q → (a ≡ b) × (p ≡ q) }
 {}
 
 /// The words of a line are what stands between its spaces, however many these are, before, between and after them.

@@ -159,7 +159,8 @@ impl LineReader {
     // Asks the source for one more piece.
     fn fill<S: Source>(&mut self, source: &mut S) -> Take
         requires { IsOpen self.old }
-        ensures { FillRule self.old self.new (S.left source.old) (S.left source.new) (S.faults source.old) (S.faults source.new) result }
+        ensures { FillRule self.old self.new (S.left source.old) (S.left source.new)
+            (S.faults source.old) (S.faults source.new) result }
     {
         let held = self.end - self.start;
         self.line_start = 0;
@@ -211,7 +212,8 @@ fn read_piece<S: Source>(bytes: &mut Vec<u8>, at: usize, source: &mut S) -> Take
     requires room { at ≤ LINE_LIMIT }
     ensures whole { vec_len bytes.new ≡ ROOM }
     ensures before { take at bytes.new.items ≡ take at bytes.old.items }
-    ensures rule { TakeRule (S.left source.old) (S.left source.new) (S.faults source.old) (S.faults source.new) (slice_range bytes.new.items at (at + PIECE)) result }
+    ensures rule { TakeRule (S.left source.old) (S.left source.new)
+        (S.faults source.old) (S.faults source.new) (slice_range bytes.new.items at (at + PIECE)) result }
 {
     source.take(&mut bytes[at..at + PIECE])
 }
@@ -236,7 +238,8 @@ fn make_room(bytes: &mut Vec<u8>, start: usize, end: usize) -> usize
     requires inside { end ≤ ROOM }
     requires short { end - start ≤ LINE_LIMIT }
     ensures whole { vec_len bytes.new ≡ ROOM }
-    ensures kept { slice_range bytes.new.items result (result + (end - start)) ≡ slice_range bytes.old.items start end }
+    ensures kept { slice_range bytes.new.items result (result + (end - start))
+        ≡ slice_range bytes.old.items start end }
     ensures room { result + (end - start) ≤ LINE_LIMIT }
 {
     if end <= LINE_LIMIT {

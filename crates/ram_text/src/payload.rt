@@ -2,7 +2,7 @@
 ghost use Rattle.std.specs.Prelude.{◌≡◌, ◌≤◌, ◌-◌, ◌/◌, None, Some, MatchBool, [], ◌++◌, length, replicate, vec_len, vec_capacity};
 ghost use Rattle.ram_text.specs.ScriptWords.{words_of};
 ghost use Rattle.ram_text.specs.Script.{counted_up};
-ghost use Rattle.ram_text.specs.ScriptReading.{hex_of, hex_byte_of, block_of, kind_of, payload_of, payload_by, PutsDown};
+ghost use Rattle.ram_text.specs.ScriptReading.{hex_of, hex_byte_of, command_block_of, kind_of, payload_of, payload_by, PutsDown};
 ghost use Rattle.ram_text.specs.declared.payload.TheConstants.{PAYLOAD_ROOM};
 ghost use Rattle.ram_text.specs.declared.lines.TheConstants.{LINE_LIMIT};
 
@@ -38,7 +38,7 @@ fn kind_named(word: &[u8]) -> Option<Kind>
 
 /// The command block that the word spells.
 pub(crate) fn command_block(word: &[u8]) -> Option<Cdb>
-    ensures { result ≡ block_of word.now }
+    ensures { result ≡ command_block_of word.now }
 {
     let count = word.len() / 2;
     if count > CDB_LIMIT {

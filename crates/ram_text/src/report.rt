@@ -2,9 +2,9 @@
 //! and the sink by `put` alone.
 ghost use Rattle.std.specs.Prelude.{◌≡◌, ◌*◌, ◌≤◌, [], decimal, length, IfOk};
 ghost use Rattle.hex.specs.Hex.{encode_lower};
-ghost use Rattle.ram_text.specs.Writer.{Prints, HandsOver};
+ghost use Rattle.ram_text.specs.Writer.{PutsText, HandsOver};
 
-use crate::gathered::{Gathered, Print};
+use crate::gathered::{Gathered, Print, SinkFailed};
 use crate::hexadecimal::encode_front;
 use itoa::Buffer;
 use ram_bytes::SECTOR_BYTES;
@@ -42,8 +42,8 @@ impl ReportWriter {
     }
 
     /// Puts a text behind what is due. Where the sink fails, a front of the text is.
-    pub fn put<K: Sink>(&mut self, sink: &mut K, text: &[u8]) -> Print
-        ensures { Prints K.Sink self.old sink.old self.new sink.new text.now result }
+    pub fn put<K: Sink>(&mut self, sink: &mut K, text: &[u8]) -> Result<(), SinkFailed>
+        ensures { PutsText K.Sink self.old sink.old self.new sink.new text.now result }
     {
         self.gathered.put(sink, text)
     }
@@ -56,17 +56,17 @@ impl ReportWriter {
     }
 
     /// Puts a number in decimal digits behind what is due.
-    pub fn put_number<K: Sink>(&mut self, sink: &mut K, number: u64) -> Print
-        ensures { Prints K.Sink self.old sink.old self.new sink.new (decimal number) result }
+    pub fn put_number<K: Sink>(&mut self, sink: &mut K, number: u64) -> Result<(), SinkFailed>
+        ensures { PutsText K.Sink self.old sink.old self.new sink.new (decimal number) result }
     {
         let mut buffer = Buffer::new();
         self.gathered.put(sink, buffer.format(number).as_bytes())
     }
 
     /// Puts bytes in lower-case hexadecimal digits behind what is due, at most a sector's.
-    pub fn put_hex<K: Sink>(&mut self, sink: &mut K, bytes: &[u8]) -> Print
+    pub fn put_hex<K: Sink>(&mut self, sink: &mut K, bytes: &[u8]) -> Result<(), SinkFailed>
         requires { length bytes.now ≤ SECTOR_BYTES }
-        ensures { Prints K.Sink self.old sink.old self.new sink.new (encode_lower bytes.now) result }
+        ensures { PutsText K.Sink self.old sink.old self.new sink.new (encode_lower bytes.now) result }
     {
         let len = 2 * bytes.len();
         encode_front(bytes, &mut self.digits);

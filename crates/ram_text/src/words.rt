@@ -22,7 +22,8 @@ pub(crate) fn without_return_of(line: &[u8]) -> &[u8]
 
 /// The first word, and what lies behind it; none where there is no word.
 pub(crate) fn next_word(line: &[u8]) -> Option<(&[u8], &[u8])>
-    ensures found { MatchOption result (words_of line.now ≡ []) (λ found. words_of line.now ≡ found.0.now ∷ words_of found.1.now) }
+    ensures found { MatchOption result (words_of line.now ≡ [])
+        (λ found. words_of line.now ≡ found.0.now ∷ words_of found.1.now) }
     ensures shorter { IfSome result (λ found. length found.0.now + length found.1.now ≤ length line.now) }
 {
     let line = without_spaces(line);
@@ -37,7 +38,8 @@ pub(crate) fn next_word(line: &[u8]) -> Option<(&[u8], &[u8])>
 
 /// The word, where there is one alone.
 pub(crate) fn last_word(line: &[u8]) -> Option<&[u8]>
-    ensures found { MatchOption result (only_word (words_of line.now) ≡ None) (λ word. only_word (words_of line.now) ≡ Some word.now) }
+    ensures found { MatchOption result (only_word (words_of line.now) ≡ None)
+        (λ word. only_word (words_of line.now) ≡ Some word.now) }
     ensures shorter { IfSome result (λ word. length word.now ≤ length line.now) }
 {
     let (word, rest) = next_word(line)?;
@@ -49,7 +51,8 @@ pub(crate) fn last_word(line: &[u8]) -> Option<&[u8]>
 
 /// The number of the first word, and what lies behind it.
 pub(crate) fn next_number(line: &[u8]) -> Option<(u32, &[u8])>
-    ensures { MatchOption result (first_number (words_of line.now) ≡ None) (λ found. first_number (words_of line.now) ≡ Some (found.0, words_of found.1.now)) }
+    ensures { MatchOption result (first_number (words_of line.now) ≡ None)
+        (λ found. first_number (words_of line.now) ≡ Some (found.0, words_of found.1.now)) }
 {
     let (word, rest) = next_word(line)?;
     let value = number(word)?;

@@ -2,7 +2,7 @@
 ghost use Rattle.std.specs.Prelude.{◌≡◌, ◌+◌, ◌≤◌, Some, IsOk, OnOk, length, vec_capacity};
 ghost use Rattle.ram_outside.specs.Image.{LenRule, ReadAtRule, WriteAtRule, SetLenRule};
 ghost use Rattle.ram_outside.specs.Calls.{no_calls};
-ghost use Rattle.ram_outside.specs.Memory.{GivesLengthExactly, ReadsImageExactly, WritesExactly, ResizesExactly, unfailed};
+ghost use Rattle.ram_outside.specs.Memory.{GivesLengthExactly, ReadsImageExactly, WritesImageExactly, ResizesExactly, unfailed};
 
 use crate::image::{Image, Length, Moved};
 use crate::memory::calls::Calls;
@@ -113,7 +113,7 @@ impl Image for MemImage {
         requires { at + length from.now ≤ length self.old.bytes }
         ensures rule { WriteAtRule (Some self.old.bytes) (Some self.new.bytes)
             self.old.calls.faults self.new.calls.faults at from.now result }
-        ensures exactly { WritesExactly self.old self.new at from.now result }
+        ensures exactly { WritesImageExactly self.old self.new at from.now result }
     {
         if self.calls.next_fails() {
             return Moved::Failed;

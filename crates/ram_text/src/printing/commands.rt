@@ -1,10 +1,10 @@
 //! The answers to commands: `good`, a check with its sense, `cut`, `off`. Text alone.
 ghost use Rattle.std.specs.Prelude.{◌≡◌, ◌<◌, ◌++◌, codes, slice_index};
 ghost use Rattle.hex.specs.Hex.{lower_digits};
-ghost use Rattle.ram_text.specs.Writer.{Prints};
+ghost use Rattle.ram_text.specs.Writer.{Prints, PutsText};
 ghost use Rattle.ram_text.specs.ReportLines.{numbered, sense_code, info_words, answer_words, answer_text, IsPrinted, IsAddressed};
 
-use crate::gathered::Print;
+use crate::gathered::{Print, SinkFailed, printed};
 use crate::printing::data::print_reply;
 use crate::printing::parts::print_counted;
 use crate::report::ReportWriter;
@@ -25,12 +25,28 @@ pub fn print_answer<K: Sink>(
 ) -> Print
     requires printed { IsPrinted answer.now }
     requires addressed { IsAddressed answer.now cdb.now }
-    ensures { Prints K.Sink writer.old sink.old writer.new sink.new (answer_text number answer.now cdb.now reply.now) result }
+    ensures { Prints K.Sink writer.old sink.old writer.new sink.new
+        (answer_text number answer.now cdb.now reply.now) result }
 {
-    match print_words_of(writer, sink, number, answer) {
-        Print::Done => print_reply(writer, sink, answer, cdb, reply),
-        Print::Failed => Print::Failed,
-    }
+    printed(put_answer(writer, sink, number, answer, cdb, reply))
+}
+
+/// The same, by how it went.
+fn put_answer<K: Sink>(
+    writer: &mut ReportWriter,
+    sink: &mut K,
+    number: u64,
+    answer: &Answer,
+    cdb: &Cdb,
+    reply: &[u8],
+) -> Result<(), SinkFailed>
+    requires printed { IsPrinted answer.now }
+    requires addressed { IsAddressed answer.now cdb.now }
+    ensures { PutsText K.Sink writer.old sink.old writer.new sink.new
+        (answer_text number answer.now cdb.now reply.now) result }
+{
+    print_words_of(writer, sink, number, answer)?;
+    print_reply(writer, sink, answer, cdb, reply)
 }
 
 /// Prints the first line of an answer to a command.
@@ -39,20 +55,24 @@ fn print_words_of<K: Sink>(
     sink: &mut K,
     number: u64,
     answer: &Answer,
-) -> Print
+) -> Result<(), SinkFailed>
     requires { IsPrinted answer.now }
-    ensures { Prints K.Sink writer.old sink.old writer.new sink.new (numbered number (answer_words answer.now)) result }
+    ensures { PutsText K.Sink writer.old sink.old writer.new sink.new
+        (numbered number (answer_words answer.now)) result }
 {
-    match writer.put_number(sink, number) {
-        Print::Done => print_words(writer, sink, answer),
-        Print::Failed => Print::Failed,
-    }
+    writer.put_number(sink, number)?;
+    print_words(writer, sink, answer)
 }
 
 /// Prints the words of an answer to a command, after a space, and ends the line.
-fn print_words<K: Sink>(writer: &mut ReportWriter, sink: &mut K, answer: &Answer) -> Print
+fn print_words<K: Sink>(
+    writer: &mut ReportWriter,
+    sink: &mut K,
+    answer: &Answer,
+) -> Result<(), SinkFailed>
     requires { IsPrinted answer.now }
-    ensures { Prints K.Sink writer.old sink.old writer.new sink.new (codes " " ++ answer_words answer.now ++ codes "\n") result }
+    ensures { PutsText K.Sink writer.old sink.old writer.new sink.new
+        (codes " " ++ answer_words answer.now ++ codes "\n") result }
 {
     match answer {
         Answer::Good => writer.put(sink, b" good\n"),
@@ -64,28 +84,38 @@ fn print_words<K: Sink>(writer: &mut ReportWriter, sink: &mut K, answer: &Answer
 }
 
 /// Prints why a command was not done, after a space, and ends the line.
-fn print_check<K: Sink>(writer: &mut ReportWriter, sink: &mut K, sense: &Sense) -> Print
-    ensures { Prints K.Sink writer.old sink.old writer.new sink.new (codes " check " ++ (sense_code sense.now ++ (info_words sense.now.info ++ codes "\n"))) result }
+fn print_check<K: Sink>(
+    writer: &mut ReportWriter,
+    sink: &mut K,
+    sense: &Sense,
+) -> Result<(), SinkFailed>
+    ensures { PutsText K.Sink writer.old sink.old writer.new sink.new
+        (codes " check " ++ (sense_code sense.now ++ (info_words sense.now.info ++ codes "\n"))) result }
 {
-    match writer.put(sink, b" check ") {
-        Print::Done => print_sense(writer, sink, sense),
-        Print::Failed => Print::Failed,
-    }
+    writer.put(sink, b" check ")?;
+    print_sense(writer, sink, sense)
 }
 
 /// Prints the code of sense data and its information, and ends the line.
-fn print_sense<K: Sink>(writer: &mut ReportWriter, sink: &mut K, sense: &Sense) -> Print
-    ensures { Prints K.Sink writer.old sink.old writer.new sink.new (sense_code sense.now ++ (info_words sense.now.info ++ codes "\n")) result }
+fn print_sense<K: Sink>(
+    writer: &mut ReportWriter,
+    sink: &mut K,
+    sense: &Sense,
+) -> Result<(), SinkFailed>
+    ensures { PutsText K.Sink writer.old sink.old writer.new sink.new
+        (sense_code sense.now ++ (info_words sense.now.info ++ codes "\n")) result }
 {
-    match writer.put(sink, &digits_of(sense)) {
-        Print::Done => print_info(writer, sink, sense.info),
-        Print::Failed => Print::Failed,
-    }
+    writer.put(sink, &digits_of(sense))?;
+    print_info(writer, sink, sense.info)
 }
 
 /// Prints the information of sense data, where there is some, and ends the line.
-fn print_info<K: Sink>(writer: &mut ReportWriter, sink: &mut K, info: Option<u32>) -> Print
-    ensures { Prints K.Sink writer.old sink.old writer.new sink.new (info_words info ++ codes "\n") result }
+fn print_info<K: Sink>(
+    writer: &mut ReportWriter,
+    sink: &mut K,
+    info: Option<u32>,
+) -> Result<(), SinkFailed>
+    ensures { PutsText K.Sink writer.old sink.old writer.new sink.new (info_words info ++ codes "\n") result }
 {
     match info {
         Some(lba) => print_counted(writer, sink, b" info ", lba as u64),

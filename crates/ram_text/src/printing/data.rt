@@ -2,10 +2,10 @@
 ghost use Rattle.std.specs.Prelude.{◌≡◌, ◌<◌, ◌≤◌, ◌/◌, ◌++◌, length, codes, decimal};
 ghost use Rattle.hex.specs.Hex.{encode_lower};
 ghost use Rattle.model_commands.specs.Commands.{operation_of};
-ghost use Rattle.ram_text.specs.Writer.{Prints};
+ghost use Rattle.ram_text.specs.Writer.{PutsText};
 ghost use Rattle.ram_text.specs.ReportLines.{reply_text, IsAddressed, is_read, is_one_byte, sector_text, sectors_text, data_text};
 
-use crate::gathered::Print;
+use crate::gathered::SinkFailed;
 use crate::printing::parts::print_labelled;
 use crate::report::ReportWriter;
 use model_commands::Operation;
@@ -21,14 +21,15 @@ pub(crate) fn print_reply<K: Sink>(
     answer: &Answer,
     cdb: &Cdb,
     reply: &[u8],
-) -> Print
+) -> Result<(), SinkFailed>
     requires { IsAddressed answer.now cdb.now }
-    ensures { Prints K.Sink writer.old sink.old writer.new sink.new (reply_text answer.now cdb.now reply.now) result }
+    ensures { PutsText K.Sink writer.old sink.old writer.new sink.new
+        (reply_text answer.now cdb.now reply.now) result }
 {
     match answer {
         Answer::Good => {}
         Answer::Check(_) | Answer::Cut | Answer::Off | Answer::Fault | Answer::NoMemory => {
-            return Print::Done;
+            return Ok(());
         }
     }
     if reads(cdb) {
@@ -54,23 +55,26 @@ fn print_sectors<K: Sink>(
     sink: &mut K,
     lba: u32,
     sectors: &[u8],
-) -> Print
-    ensures { Prints K.Sink writer.old sink.old writer.new sink.new (sectors_text lba sectors.now (length sectors.now / 2048)) result }
+) -> Result<(), SinkFailed>
+    ensures { PutsText K.Sink writer.old sink.old writer.new sink.new
+        (sectors_text lba sectors.now (length sectors.now / 2048)) result }
 {
     for k in 0..sectors.len() / SECTOR_BYTES {
         let sector = &sectors[SECTOR_BYTES * k..SECTOR_BYTES * (k + 1)];
-        match print_sector(writer, sink, lba as u64 + k as u64, sector) {
-            Print::Done => {}
-            Print::Failed => return Print::Failed,
-        }
+        print_sector(writer, sink, lba as u64 + k as u64, sector)?;
     }
-    Print::Done
+    Ok(())
 }
 
 /// Prints the line of a sector that was read.
-fn print_sector<K: Sink>(writer: &mut ReportWriter, sink: &mut K, lba: u64, sector: &[u8]) -> Print
+fn print_sector<K: Sink>(
+    writer: &mut ReportWriter,
+    sink: &mut K,
+    lba: u64,
+    sector: &[u8],
+) -> Result<(), SinkFailed>
     requires { length sector.now ≡ SECTOR_BYTES }
-    ensures { Prints K.Sink writer.old sink.old writer.new sink.new (sector_text lba sector.now) result }
+    ensures { PutsText K.Sink writer.old sink.old writer.new sink.new (sector_text lba sector.now) result }
 {
     if is_fill(sector) {
         print_bytes(writer, sink, lba, b" fill ", &sector[..1])
@@ -95,62 +99,58 @@ fn print_bytes<K: Sink>(
     lba: u64,
     words: &[u8],
     bytes: &[u8],
-) -> Print
+) -> Result<(), SinkFailed>
     requires { length bytes.now ≤ SECTOR_BYTES }
-    ensures { Prints K.Sink writer.old sink.old writer.new sink.new (codes "sector " ++ decimal lba ++ words.now ++ encode_lower bytes.now ++ codes "\n") result }
+    ensures { PutsText K.Sink writer.old sink.old writer.new sink.new
+        (codes "sector " ++ decimal lba ++ words.now ++ encode_lower bytes.now ++ codes "\n") result }
 {
-    match print_labelled(writer, sink, b"sector ", lba) {
-        Print::Done => {}
-        Print::Failed => return Print::Failed,
-    }
-    match writer.put(sink, words) {
-        Print::Done => {}
-        Print::Failed => return Print::Failed,
-    }
-    match writer.put_hex(sink, bytes) {
-        Print::Done => writer.put(sink, b"\n"),
-        Print::Failed => Print::Failed,
-    }
+    print_labelled(writer, sink, b"sector ", lba)?;
+    writer.put(sink, words)?;
+    writer.put_hex(sink, bytes)?;
+    writer.put(sink, b"\n")
 }
 
 /// Prints the line of a reply, where there is one.
-fn print_data<K: Sink>(writer: &mut ReportWriter, sink: &mut K, reply: &[u8]) -> Print
-    ensures { Prints K.Sink writer.old sink.old writer.new sink.new (data_text reply.now) result }
+fn print_data<K: Sink>(
+    writer: &mut ReportWriter,
+    sink: &mut K,
+    reply: &[u8],
+) -> Result<(), SinkFailed>
+    ensures { PutsText K.Sink writer.old sink.old writer.new sink.new (data_text reply.now) result }
 {
     if reply.is_empty() {
-        return Print::Done;
+        return Ok(());
     }
-    match print_labelled(writer, sink, b"data ", reply.len() as u64) {
-        Print::Done => print_data_digits(writer, sink, reply),
-        Print::Failed => Print::Failed,
-    }
+    print_labelled(writer, sink, b"data ", reply.len() as u64)?;
+    print_data_digits(writer, sink, reply)
 }
 
 /// Prints the bytes in hexadecimal digits, after a space, and ends the line.
-fn print_data_digits<K: Sink>(writer: &mut ReportWriter, sink: &mut K, reply: &[u8]) -> Print
-    ensures { Prints K.Sink writer.old sink.old writer.new sink.new (codes " " ++ encode_lower reply.now ++ codes "\n") result }
+fn print_data_digits<K: Sink>(
+    writer: &mut ReportWriter,
+    sink: &mut K,
+    reply: &[u8],
+) -> Result<(), SinkFailed>
+    ensures { PutsText K.Sink writer.old sink.old writer.new sink.new
+        (codes " " ++ encode_lower reply.now ++ codes "\n") result }
 {
-    match writer.put(sink, b" ") {
-        Print::Done => {}
-        Print::Failed => return Print::Failed,
-    }
-    match print_digits(writer, sink, reply) {
-        Print::Done => writer.put(sink, b"\n"),
-        Print::Failed => Print::Failed,
-    }
+    writer.put(sink, b" ")?;
+    print_digits(writer, sink, reply)?;
+    writer.put(sink, b"\n")
 }
 
 /// Prints the bytes in hexadecimal digits, 2,048 bytes at a time.
-fn print_digits<K: Sink>(writer: &mut ReportWriter, sink: &mut K, bytes: &[u8]) -> Print
-    ensures { Prints K.Sink writer.old sink.old writer.new sink.new (encode_lower bytes.now) result }
+fn print_digits<K: Sink>(
+    writer: &mut ReportWriter,
+    sink: &mut K,
+    bytes: &[u8],
+) -> Result<(), SinkFailed>
+    ensures { PutsText K.Sink writer.old sink.old writer.new sink.new (encode_lower bytes.now) result }
 {
     for k in 0..bytes.len().div_ceil(SECTOR_BYTES) {
         let start = SECTOR_BYTES * k;
         let end = bytes.len().min(start + SECTOR_BYTES);
-        match writer.put_hex(sink, &bytes[start..end]) {
-            Print::Done => {}
-            Print::Failed => return Print::Failed,
-        }
+        writer.put_hex(sink, &bytes[start..end])?;
     }
-    Print::Done
+    Ok(())
 }

@@ -1,9 +1,9 @@
 //! The answers to lines that are no commands: `pressed`, `ready`, `cut` and the like. Text alone.
 ghost use Rattle.std.specs.Prelude.{◌++◌, codes};
-ghost use Rattle.ram_text.specs.Writer.{Prints};
+ghost use Rattle.ram_text.specs.Writer.{Prints, PutsText};
 ghost use Rattle.ram_text.specs.ReportLines.{numbered, event_words};
 
-use crate::gathered::Print;
+use crate::gathered::{Print, SinkFailed, printed};
 use crate::printing::Event;
 use crate::printing::parts::print_counted;
 use crate::report::ReportWriter;
@@ -16,17 +16,34 @@ pub fn print_event<K: Sink>(
     number: u64,
     event: &Event,
 ) -> Print
-    ensures { Prints K.Sink writer.old sink.old writer.new sink.new (numbered number (event_words event.now)) result }
+    ensures { Prints K.Sink writer.old sink.old writer.new sink.new
+        (numbered number (event_words event.now)) result }
 {
-    match writer.put_number(sink, number) {
-        Print::Done => print_event_words(writer, sink, event),
-        Print::Failed => Print::Failed,
-    }
+    printed(put_event(writer, sink, number, event))
+}
+
+/// The same, by how it went.
+fn put_event<K: Sink>(
+    writer: &mut ReportWriter,
+    sink: &mut K,
+    number: u64,
+    event: &Event,
+) -> Result<(), SinkFailed>
+    ensures { PutsText K.Sink writer.old sink.old writer.new sink.new
+        (numbered number (event_words event.now)) result }
+{
+    writer.put_number(sink, number)?;
+    print_event_words(writer, sink, event)
 }
 
 /// Prints the words of an event, after a space, and ends the line.
-fn print_event_words<K: Sink>(writer: &mut ReportWriter, sink: &mut K, event: &Event) -> Print
-    ensures { Prints K.Sink writer.old sink.old writer.new sink.new (codes " " ++ event_words event.now ++ codes "\n") result }
+fn print_event_words<K: Sink>(
+    writer: &mut ReportWriter,
+    sink: &mut K,
+    event: &Event,
+) -> Result<(), SinkFailed>
+    ensures { PutsText K.Sink writer.old sink.old writer.new sink.new
+        (codes " " ++ event_words event.now ++ codes "\n") result }
 {
     match event {
         Event::Pressed => writer.put(sink, b" pressed\n"),

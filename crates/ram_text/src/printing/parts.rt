@@ -1,8 +1,8 @@
 //! What the lines of a report are put together from: words, numbers, the end of a line. Text alone.
 ghost use Rattle.std.specs.Prelude.{◌++◌, codes, decimal};
-ghost use Rattle.ram_text.specs.Writer.{Prints};
+ghost use Rattle.ram_text.specs.Writer.{Prints, PutsText};
 
-use crate::gathered::Print;
+use crate::gathered::{Print, SinkFailed, printed};
 use crate::report::ReportWriter;
 use ram_outside::Sink;
 
@@ -10,10 +10,15 @@ use ram_outside::Sink;
 pub fn print_line<K: Sink>(writer: &mut ReportWriter, sink: &mut K, text: &[u8]) -> Print
     ensures { Prints K.Sink writer.old sink.old writer.new sink.new (text.now ++ codes "\n") result }
 {
-    match writer.put(sink, text) {
-        Print::Done => writer.put(sink, b"\n"),
-        Print::Failed => Print::Failed,
-    }
+    printed(put_line(writer, sink, text))
+}
+
+/// The same, by how it went.
+fn put_line<K: Sink>(writer: &mut ReportWriter, sink: &mut K, text: &[u8]) -> Result<(), SinkFailed>
+    ensures { PutsText K.Sink writer.old sink.old writer.new sink.new (text.now ++ codes "\n") result }
+{
+    writer.put(sink, text)?;
+    writer.put(sink, b"\n")
 }
 
 /// Prints a number, and what comes behind it on its line.
@@ -22,13 +27,11 @@ pub(crate) fn print_numbered<K: Sink>(
     sink: &mut K,
     number: u64,
     words: &[u8],
-) -> Print
-    ensures { Prints K.Sink writer.old sink.old writer.new sink.new (decimal number ++ words.now) result }
+) -> Result<(), SinkFailed>
+    ensures { PutsText K.Sink writer.old sink.old writer.new sink.new (decimal number ++ words.now) result }
 {
-    match writer.put_number(sink, number) {
-        Print::Done => writer.put(sink, words),
-        Print::Failed => Print::Failed,
-    }
+    writer.put_number(sink, number)?;
+    writer.put(sink, words)
 }
 
 /// Prints the words and a number, and ends the line.
@@ -37,13 +40,12 @@ pub(crate) fn print_counted<K: Sink>(
     sink: &mut K,
     words: &[u8],
     number: u64,
-) -> Print
-    ensures { Prints K.Sink writer.old sink.old writer.new sink.new (words.now ++ decimal number ++ codes "\n") result }
+) -> Result<(), SinkFailed>
+    ensures { PutsText K.Sink writer.old sink.old writer.new sink.new
+        (words.now ++ decimal number ++ codes "\n") result }
 {
-    match print_labelled(writer, sink, words, number) {
-        Print::Done => writer.put(sink, b"\n"),
-        Print::Failed => Print::Failed,
-    }
+    print_labelled(writer, sink, words, number)?;
+    writer.put(sink, b"\n")
 }
 
 /// Prints the words and a number.
@@ -52,11 +54,9 @@ pub(crate) fn print_labelled<K: Sink>(
     sink: &mut K,
     words: &[u8],
     number: u64,
-) -> Print
-    ensures { Prints K.Sink writer.old sink.old writer.new sink.new (words.now ++ decimal number) result }
+) -> Result<(), SinkFailed>
+    ensures { PutsText K.Sink writer.old sink.old writer.new sink.new (words.now ++ decimal number) result }
 {
-    match writer.put(sink, words) {
-        Print::Done => writer.put_number(sink, number),
-        Print::Failed => Print::Failed,
-    }
+    writer.put(sink, words)?;
+    writer.put_number(sink, number)
 }

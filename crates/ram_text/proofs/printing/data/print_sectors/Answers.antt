@@ -1,5 +1,6 @@
 -- One sector more, or a front of its line.
 use Rattle.std.proofs.Common.{◌+◌, ◌/◌, ◌++◌, length, ap, sym, ◌∙◌}
+use Rattle.std.proofs.lemmas.Result.{err_from_is_err_and}
 use Rattle.ram_text.specs.ReportLines.{sectors_text, sector_text}
 use Rattle.ram_text.proofs.Turns.{nothing_put, piece_put, piece_cut, sectors_text_more, sectors_text_every, sector_is}
 use Rattle.ram_text.proofs.printing.data.print_sectors.Goals as goal
@@ -12,13 +13,14 @@ loop-k-preserved g c =
     let lba = c.args.lba in
     let bytes = c.args.sectors.now in
     let k = c.loop-k.k in
-    piece_put (sectors_text lba bytes) _ _ _ _ _ _ k _ c.loop-k.invariant c.in-Done.ensures
+    piece_put (sectors_text lba bytes) _ _ _ _ _ _ k _ c.loop-k.invariant c.in_ok-print_sector.ensures
     (sectors_text_more lba bytes k ∙ ap (λ x. sectors_text lba bytes k ++ sector_text (lba + k) x) (sym (sector_is bytes k)))
 
-pub returns-in-Failed : goal.returns-in-Failed
-returns-in-Failed g c =
+pub returns-in_err-print_sector : goal.returns-in_err-print_sector
+returns-in_err-print_sector g c =
     let lba = c.args.lba in
     let bytes = c.args.sectors.now in
     let k = c.loop-k.k in
-    piece_cut (sectors_text lba bytes) (sectors_text_every lba bytes) _ _ _ _ _ _ k (length bytes / 2048) _ c.loop-k-test.true c.loop-k.invariant c.in-Failed.ensures
-    (sectors_text_more lba bytes k ∙ ap (λ x. sectors_text lba bytes k ++ sector_text (lba + k) x) (sym (sector_is bytes k)))
+    let p = err_from_is_err_and c.from_residual.result c.from_residual.ensures.1 in
+    rw p.1 (piece_cut (sectors_text lba bytes) (sectors_text_every lba bytes) _ _ _ _ _ _ k (length bytes / 2048) _ c.loop-k-test.true c.loop-k.invariant c.in_err-print_sector.ensures
+    (sectors_text_more lba bytes k ∙ ap (λ x. sectors_text lba bytes k ++ sector_text (lba + k) x) (sym (sector_is bytes k))))
