@@ -45,7 +45,8 @@ pub fn execute<D: Sectors>(
 ) -> Result<Answer, Sense>
     requires empty { data_in.old.items ≡ [] }
     requires room { 2048 * transfer_limit ≤ vec_capacity data_in.old }
-    ensures rule { Transfers D.Sectors disc.old disc.new payload.now result data_in.new.items (asked cdb.now (length payload.now)) }
+    ensures rule { Transfers D.Sectors disc.old disc.new payload.now result data_in.new.items
+        (asked cdb.now (length payload.now)) }
     ensures same_shape { D.shape disc.new ≡ D.shape disc.old }
     ensures room { vec_capacity data_in.old ≤ vec_capacity data_in.new }
 {

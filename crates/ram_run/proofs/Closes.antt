@@ -1,7 +1,7 @@
 -- What opening and closing an image make of a run over it.
 use Rattle.std.specs.Prelude.{◌≡◌, ℕ, Bool, true, Option, Some, IfSome, List}
 use Rattle.std.specs.Bool.{OnTrue}
-use Rattle.std.proofs.Common.{arith, sym, ap, ◌∙◌, subst}
+use Rattle.std.proofs.Common.{arith, sym, ap, subst}
 use Rattle.model_counts.specs.Counts.{counted}
 use Rattle.ram_run.specs.declared.status.Status.{Status}
 use Rattle.ram_run.specs.declared.status.Status.TheVariants as statuses

@@ -1,5 +1,5 @@
 -- Why a run comes to its end: what else it might have left does not agree with its script, its image and the counts.
-use Rattle.std.specs.Prelude.{◌≡◌, ℕ, ◌+◌, ◌<◌, ◌⊎◌, Bool, Option, Ok, Err, List, [], ◌∷◌, ◌++◌, length, take}
+use Rattle.std.specs.Prelude.{◌≡◌, ℕ, ◌+◌, ◌<◌, ◌⊎◌, Ok, Err, List, [], ◌∷◌, ◌++◌, length, take}
 use Rattle.std.proofs.Common.{zero, suc, arith, refl, sym, ap, ◌∙◌, inl, inr, subst, append_assoc, length-append}
 use Rattle.model_geometry.specs.Geometry.{Shape, IsLawful, shape_of}
 use Rattle.ram_text.specs.Lines.{line_feed, HasNoFeed}

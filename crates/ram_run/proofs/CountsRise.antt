@@ -8,9 +8,9 @@ use Rattle.ram_run.specs.declared.stopped.Stopped.TheVariants as stopped
 use Rattle.ram_run.specs.declared.status.Status.{Status}
 use Rattle.ram_run.specs.declared.status.Status.TheVariants as statuses
 use Rattle.ram_run.specs.Replies.{Outcome}
-use Rattle.ram_run.specs.RunCounts.{Counts, counts_of, SameCounts, OnlySourceRose, OnlySinkRose, OnlyImageRose, WhyCounts, StopCounts, TellCount, LineCount}
+use Rattle.ram_run.specs.RunCounts.{Counts, counts_of, SameCounts, WhyCounts, StopCounts, TellCount, LineCount}
 use Rattle.ram_run.specs.Progress.{View, Ending, TellRule}
-use Rattle.ram_run.specs.Endings.{status_of, SinkRose, StatusCounts, EndsWhole, FinishRule, sink_view}
+use Rattle.ram_run.specs.Endings.{status_of, StatusCounts, EndsWhole, FinishRule, sink_view}
 use Rattle.ram_run.proofs.Finishes.{not_sink}
 
 -- nothing failed in either of two steps

@@ -1,5 +1,5 @@
 -- How a run ends: what its lines left, and what was then written.
-use Rattle.std.specs.Prelude.{◌≡◌, ℕ, ◌+◌, ◌≤◌, Option, None, Some, Ok, Err, List, [], ◌++◌, length, take, drop}
+use Rattle.std.specs.Prelude.{◌≡◌, ℕ, ◌+◌, Option, None, Some, Ok, Err, List, [], ◌++◌, length, take, drop}
 use Rattle.std.specs.Io.KnownBytes.{append_known, prepend_known}
 use Rattle.std.proofs.Common.{arith, refl, sym, ap, ◌∙◌, inl, inr, subst, append_assoc, append-nil, take-append-drop}
 use Rattle.ram_text.proofs.Puts.{append_known-twice}
@@ -20,8 +20,8 @@ use Rattle.ram_run.specs.Inserted.{LeavesImage}
 use Rattle.ram_run.specs.Run.{report_text}
 use Rattle.ram_run.specs.Starts.{StandsFirst}
 use Rattle.ram_run.specs.RunState.{IsFresh}
-use Rattle.ram_run.specs.Progress.{Beginning, SoFar, View, Between, IsReported, IsReportedInPart, ComesOut, IsLast, Ending, last_line, IsLastIfAny, IsStoppedAt, EndsBetween, EndsInLine, Ends, view_of}
-use Rattle.ram_run.specs.Endings.{status_of, whole_text, text_if_any, last_of, LastLineRule, IsEnded, ComesToThis, IsStoppedInLine, IsWrittenInPart, IsReportCutOff, StandsWith, Aftermath, aftermath, SinkView, sink_view, EndsAtSink, EndsWhole, FinishRule}
+use Rattle.ram_run.specs.Progress.{Beginning, SoFar, View, Between, IsReported, IsReportedInPart, ComesOut, IsLast, Ending, last_line, IsLastIfAny, EndsBetween, EndsInLine, Ends, view_of}
+use Rattle.ram_run.specs.Endings.{status_of, whole_text, text_if_any, last_of, LastLineRule, IsEnded, ComesToThis, IsStoppedInLine, IsWrittenInPart, IsReportCutOff, StandsWith, aftermath, sink_view, EndsAtSink, EndsWhole, FinishRule}
 
 -- a list that is told with more behind it
 known_front : (written : Option (List ℕ)) (more whole : List ℕ) → append_known written more ≡ Some whole → (bytes : List ℕ) × (written ≡ Some bytes) × (bytes ++ more ≡ whole)

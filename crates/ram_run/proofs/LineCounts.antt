@@ -1,15 +1,13 @@
 -- What a line makes of the image's count: it rises exactly where the image failed.
-use Rattle.std.specs.Prelude.{◌≡◌, ℕ, ◌≤◌, Result, Ok, Err, List, length}
-use Rattle.std.proofs.Common.{arith, sym, ap, inl, inr, subst}
+use Rattle.std.specs.Prelude.{◌≡◌, ℕ, Result, Ok, Err, List, length}
+use Rattle.std.proofs.Common.{sym, ap, inl, inr, subst}
 use Rattle.model_counts.specs.Counts.{Rose}
 use Rattle.model_medium.specs.Machine.{Machine}
-use Rattle.model_medium.specs.Reach.{Reach}
 use Rattle.model_sectors.specs.Discs.{Standing, Shown}
 use Rattle.model_sectors.specs.Parts.{IsStopped}
 use Rattle.model_sectors.specs.Reads.{ReadCause}
 use Rattle.model_sectors.specs.Writes.{WriteCause}
-use Rattle.model_sectors.specs.Power.{PowerCause, PowerStep}
-use Rattle.model_sectors.proofs.Found.{power_found}
+use Rattle.model_sectors.specs.Power.{PowerCause}
 use Rattle.model_sectors.specs.declared.ReadOut.{ReadOut}
 use Rattle.model_sectors.specs.declared.ReadOut.TheVariants as reads
 use Rattle.model_sectors.specs.declared.WriteOut.{WriteOut}
@@ -31,11 +29,9 @@ use Rattle.ram_run.specs.declared.line.DiscLine.TheVariants.{Power, Fail, Wear, 
 use Rattle.ram_mmc.specs.declared.commands.Transfer.{Transfer}
 use Rattle.ram_mmc.specs.declared.commands.Transfer.TheVariants as transfers
 use Rattle.ram_run.specs.Replies.{Outcome, power_outcome, fail_outcome, wear_outcome, command_outcome}
-use Rattle.ram_mmc.proofs.Found.{Found, executed_found}
 use Rattle.ram_mmc.specs.Asked.{asked}
 use Rattle.ram_mmc.specs.Commands.{read_answer, write_answer, IsTransferred, IsExecuted}
-use Rattle.ram_run.specs.LineSteps.{KeepsRest, DiscRule}
-use Rattle.ram_run.specs.Control.{stands_after_fail}
+use Rattle.ram_run.specs.LineSteps.{DiscRule}
 use Rattle.ram_run.specs.RunCounts.{LineCount}
 
 -- a count that rose later rose over all

@@ -1,18 +1,15 @@
 -- What the next line of the script, or its absence, makes of the lines so far.
-use Rattle.std.specs.Prelude.{◌≡◌, ℕ, ◌+◌, ◌-◌, ◌<◌, ◌⊎◌, Option, None, Some, is_some, IfSome, Ok, Err, List, [], ◌∷◌, ◌++◌, length, take}
-use Rattle.std.specs.Io.KnownBytes.{IsAtEnd}
+use Rattle.std.specs.Prelude.{◌≡◌, ℕ, ◌+◌, ◌⊎◌, Option, None, Some, is_some, Err, List, [], ◌∷◌, ◌++◌, length}
 use Rattle.std.proofs.Common.{arith, refl, sym, ap, ◌∙◌, inl, inr, subst, append_assoc, append-nil, length-append}
-use Rattle.ram_text.specs.Lines.{line_feed, HasNoFeed, EndsByFeed, EndsByScript, GivesLine, LineIsTooLong, ScriptIsTooLong}
+use Rattle.ram_text.specs.Lines.{line_feed, EndsByFeed, EndsByScript, GivesLine}
 use Rattle.ram_text.specs.ScriptWords.{words_of, without_return}
 use Rattle.ram_text.specs.Script.{IsForm, Reads}
-use Rattle.ram_text.specs.declared.lines.TheConstants.{LINE_LIMIT, SCRIPT_LIMIT}
-use Rattle.ram_text.specs.declared.printing.LastLine.TheVariants as lasts
 use Rattle.ram_text.specs.declared.script.Line.{Line}
 use Rattle.ram_text.specs.declared.script.Line.TheVariants as lines
 use Rattle.ram_run.specs.declared.state.Tally.{Tally}
 use Rattle.ram_run.specs.declared.stopped.Stopped.TheVariants as stopped
 use Rattle.ram_run.specs.Work.{work_of, WorkCountsUses}
-use Rattle.ram_run.specs.NextLines.{IsNextLine, IsNextWithin, PassesLineLimit, PassesScriptLimit}
+use Rattle.ram_run.specs.NextLines.{IsNextLine, IsNextWithin}
 use Rattle.ram_run.specs.Progress.{Beginning, SoFar, View, IsReported, IsTallied, IsAt, Taken, IsStoppedAt, unread}
 
 -- what follows a line that was taken from what is left

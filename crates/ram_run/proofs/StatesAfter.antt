@@ -1,42 +1,15 @@
 -- What a line leaves a drive standing for, found in its clause.
-use Rattle.std.specs.Prelude.{◌≡◌, ℕ, ◌≤◌, Result, Ok, Err, List, length}
-use Rattle.std.proofs.Common.{arith, sym, ap, inl, inr, subst}
-use Rattle.model_counts.specs.Counts.{Rose}
-use Rattle.model_medium.specs.Machine.{Machine}
-use Rattle.model_medium.specs.Reach.{Reach}
+use Rattle.std.specs.Prelude.{◌≡◌, ℕ, List}
+use Rattle.std.proofs.Common.{sym, ap, subst}
 use Rattle.model_sectors.specs.Discs.{Standing, Shown}
-use Rattle.model_sectors.specs.Parts.{IsStopped}
-use Rattle.model_sectors.specs.Reads.{ReadCause}
-use Rattle.model_sectors.specs.Writes.{WriteCause}
-use Rattle.model_sectors.specs.Power.{PowerCause, PowerStep}
+use Rattle.model_sectors.specs.Power.{PowerStep}
 use Rattle.model_sectors.proofs.Found.{power_found}
-use Rattle.model_sectors.specs.declared.ReadOut.{ReadOut}
-use Rattle.model_sectors.specs.declared.ReadOut.TheVariants as reads
-use Rattle.model_sectors.specs.declared.WriteOut.{WriteOut}
-use Rattle.model_sectors.specs.declared.WriteOut.TheVariants as writes
-use Rattle.model_sectors.specs.declared.PowerOut.{PowerOut}
-use Rattle.model_sectors.specs.declared.PowerOut.TheVariants as powers
-use Rattle.ram_sense.specs.declared.sense.Sense.{Sense}
-use Rattle.model_stops.specs.declared.Stop.TheVariants as stops
-use Rattle.ram_medium.specs.declared.control.FailEnd.{FailEnd}
-use Rattle.ram_medium.specs.declared.control.FailEnd.TheVariants as fails
-use Rattle.ram_medium.specs.declared.control.Arm.{Arm}
-use Rattle.ram_medium.specs.declared.control.Arm.TheVariants as arming
-use Rattle.ram_medium.specs.Control.{FailRule, WearRule}
-use Rattle.ram_medium.proofs.Parts.{use_failed}
-use Rattle.model_medium.specs.declared.WornBlock.{WornBlock}
-use Rattle.ram_sense.specs.declared.answer.Answer.{Answer}
 use Rattle.ram_run.specs.declared.line.DiscLine.{DiscLine}
 use Rattle.ram_run.specs.declared.line.DiscLine.TheVariants.{Power, Fail, Wear, Cut, Command}
-use Rattle.ram_mmc.specs.declared.commands.Transfer.{Transfer}
-use Rattle.ram_mmc.specs.declared.commands.Transfer.TheVariants as transfers
-use Rattle.ram_run.specs.Replies.{Outcome, power_outcome, fail_outcome, wear_outcome, command_outcome}
+use Rattle.ram_run.specs.Replies.{Outcome}
 use Rattle.ram_mmc.proofs.Found.{Found, executed_found}
-use Rattle.ram_mmc.specs.Asked.{asked}
-use Rattle.ram_mmc.specs.Commands.{read_answer, write_answer, IsTransferred, IsExecuted}
 use Rattle.ram_run.specs.LineSteps.{KeepsRest, DiscRule}
 use Rattle.ram_run.specs.Control.{stands_after_fail}
-use Rattle.ram_run.specs.RunCounts.{LineCount}
 
 module _ (old new : Shown) (before after : Standing → Type 0) (s : Standing) (stood : before s) where
   keeps_found : KeepsRest old new before after → Found after (λ t. KeepsRest old new (λ x. x ≡ s) (λ x. x ≡ t))

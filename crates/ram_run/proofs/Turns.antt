@@ -19,7 +19,7 @@ use Rattle.ram_run.specs.LineSteps.{Step}
 use Rattle.ram_run.specs.Inserted.{IsAnswered}
 use Rattle.ram_run.specs.Run.{AnsweredLine, EndsWithBytes, answers_of, script_text, report_text, line_text}
 use Rattle.ram_run.specs.RunCounts.{LineCount}
-use Rattle.ram_run.specs.Progress.{Beginning, SoFar, View, Between, Taken, Ending, EndsBetween, EndsCutOff, EndsInLine, Ends, TurnsTo, IsStoppedAt, IsStop, IsReplied, TellRule, unread}
+use Rattle.ram_run.specs.Progress.{Beginning, SoFar, View, Between, Taken, Ending, EndsBetween, EndsCutOff, EndsInLine, Ends, TurnsTo, IsStoppedAt, IsStop, IsReplied, TellRule}
 
 -- the script after one line more
 reaches_more : (ends : Type 0) (script text rest raw after : List ℕ) → (script ≡ text ++ rest) ⊎ ((rest ≡ []) × ends × (script ++ line_feed ∷ [] ≡ text)) → (rest ≡ raw ++ (line_feed ∷ after)) ⊎ ((rest ≡ raw) × (0 < length raw) × (after ≡ []))

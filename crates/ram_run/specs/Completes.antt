@@ -46,7 +46,8 @@ IsLawfulPress _ = ⊥
 
 -- the first line that has an answer presses a disc, and lawfully
 abbrev pub BeginsWithPress : List ℕ → Type 0
-BeginsWithPress script = (raws : List (List ℕ)) (rest raw : List ℕ) (line : Line) (payload : List ℕ) → AreSilent raws → script ≡ lines_text raws ++ rest
+BeginsWithPress script = (raws : List (List ℕ)) (rest raw : List ℕ) (line : Line) (payload : List ℕ) → AreSilent raws
+    → script ≡ lines_text raws ++ rest
     → IsNextLine rest raw → Reads raw line payload → (line ≡ lines.Empty) ⊎ IsLawfulPress line
 
 -- the image is that of a disc, or the first line that has an answer makes one

@@ -1,5 +1,5 @@
--- What a drive is that the lines of a script work with, beside its sectors.
-use Rattle.std.specs.Prelude.{◌≡◌, ℕ, ◌≤◌, true, false, IsTrue, Option, Some, MatchOption, List, [], ◌∷◌, length}
+-- What a drive is that the lines of a script work with, beside its sectors. For the trait of drives, and the plain disc.
+use Rattle.std.specs.Prelude.{◌≡◌, ℕ, true, false, IsTrue, Option, Some, MatchOption, List, [], ◌∷◌, length}
 use Rattle.model_geometry.specs.Geometry.{Shape, total}
 use Rattle.model_medium.specs.Cells.{Good, cell_at}
 use Rattle.model_medium.specs.World.{World}

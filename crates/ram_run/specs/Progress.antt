@@ -2,7 +2,6 @@
 -- the calls below it.
 use Rattle.std.specs.Prelude.{◌≡◌, ℕ, ◌+◌, ◌<◌, ◌≤◌, ◌⊎◌, Option, None, Some, Result, Ok, Err, List, [], ◌++◌, length, take}
 use Rattle.std.specs.Io.KnownBytes.{append_known, prepend_known}
-use Rattle.ram_outside.specs.declared.sink.Sink.{Ghosts as Sinks}
 use Rattle.ram_text.specs.Lines.{HasNoFeed, HoldsLine}
 use Rattle.ram_text.specs.Script.{Reads}
 use Rattle.ram_text.specs.Writer.{due}

@@ -1,5 +1,5 @@
 -- What a line of the script is to do. For the steps of a run and the code that does them.
-use Rattle.std.specs.Prelude.{ℕ, ◌≤◌}
+use Rattle.std.specs.Prelude.{◌≤◌}
 use Rattle.ram_text.specs.declared.script.Line.{Line}
 use Rattle.ram_text.specs.declared.script.Line.TheVariants as lines
 use Rattle.ram_run.specs.declared.line.DiscLine.{DiscLine}

@@ -32,7 +32,8 @@ pub fn finish<K: Sink>(state: &mut RunState, report: &mut K, ending: Result<(), 
     requires { state.old.tally.lines < 2 ^ 64 - 1 }
     ensures other { IsNoUsage result }
     ensures rule { FinishRule (due (K.written report.old) state.old.writer)
-        (sink_view (K.written report.old) (K.faults report.old)) (sink_view (K.written report.new) (K.faults report.new))
+        (sink_view (K.written report.old) (K.faults report.old))
+        (sink_view (K.written report.new) (K.faults report.new))
         state.old.tally ending result }
 {
     match print_ending(&mut state.writer, report, state.tally, ending) {

@@ -38,7 +38,8 @@ impl<D: Drive> Inserted<D> {
     /// The image, as it is left.
     pub fn into_image(self) -> D::Image
         ensures count { D.Image.faults result ≡ faults_of D.Sectors D.Image.Image self }
-        ensures left { (s : State) → Stands D.Sectors D.Image.Image self s → LeavesImage s (D.Image.bytes result) }
+        ensures left { (s : State) → Stands D.Sectors D.Image.Image self s
+            → LeavesImage s (D.Image.bytes result) }
     {
         match self {
             Inserted::Image(image) => image,
@@ -59,9 +60,11 @@ impl<D: Drive> Inserted<D> {
         requires empty { data_in.old.items ≡ [] }
         requires room { PAYLOAD_ROOM ≤ vec_capacity data_in.old }
         ensures step { (s : State) → Stands D.Sectors D.Image.Image self.old s
-            → IsAnswered s (works.OnDisc line) payload.now data_in.new.items (Stands D.Sectors D.Image.Image self.new) result }
+            → IsAnswered s (works.OnDisc line) payload.now data_in.new.items
+            (Stands D.Sectors D.Image.Image self.new) result }
         ensures printable { PrintsWhere result }
-        ensures count { LineCount (faults_of D.Sectors D.Image.Image self.old) (faults_of D.Sectors D.Image.Image self.new) result }
+        ensures count { LineCount (faults_of D.Sectors D.Image.Image self.old)
+            (faults_of D.Sectors D.Image.Image self.new) result }
         ensures room { vec_capacity data_in.old ≤ vec_capacity data_in.new }
     {
         match self {
@@ -190,7 +193,8 @@ pub fn press_disc<D: Drive>(
     ensures step { (s : State) → Stands D.Sectors D.Image.Image inserted s
         → IsPressAnswered s (shape_of zones scale psa) (Stands D.Sectors D.Image.Image result.0) result.1 }
     ensures printable { PrintsWhere result.1 }
-    ensures count { LineCount (faults_of D.Sectors D.Image.Image inserted) (faults_of D.Sectors D.Image.Image result.0) result.1 }
+    ensures count { LineCount (faults_of D.Sectors D.Image.Image inserted)
+        (faults_of D.Sectors D.Image.Image result.0) result.1 }
 {
     let Ok(geometry) = Geometry::new(zones, scale, psa) else {
         return (inserted, Ok(Reply::Event(Event::NotPressed)));

@@ -52,17 +52,20 @@ pub fn run<S: Source, K: Sink, O: Opener>(
         (around S.Source K.Sink O.Opener script.old report.old opener.old)
         (around S.Source K.Sink O.Opener script.new report.new opener.new) name result }
     ensures run { (first : Beginning) → IsRunImage (map (λ word. word.now) words.now)
-        → IsBeginning O.Image.bytes first (around S.Source K.Sink O.Opener script.old report.old opener.old) O.tells
-        → StandsWith first (aftermath_of O.Image.bytes (around S.Source K.Sink O.Opener script.new report.new opener.new)) result
+        → IsBeginning O.Image.bytes first
+        (around S.Source K.Sink O.Opener script.old report.old opener.old) O.tells
+        → StandsWith first (aftermath_of O.Image.bytes
+        (around S.Source K.Sink O.Opener script.new report.new opener.new)) result
         ⊎ (IsUnopened result × IsNotOpened
-            (around S.Source K.Sink O.Opener script.old report.old opener.old)
-            (around S.Source K.Sink O.Opener script.new report.new opener.new)) }
+        (around S.Source K.Sink O.Opener script.old report.old opener.old)
+        (around S.Source K.Sink O.Opener script.new report.new opener.new)) }
     ensures completes { (first : Beginning) → IsRunImage (map (λ word. word.now) words.now)
-        → IsBeginning O.Image.bytes first (around S.Source K.Sink O.Opener script.old report.old opener.old) O.tells
+        → IsBeginning O.Image.bytes first
+        (around S.Source K.Sink O.Opener script.old report.old opener.old) O.tells
         → IsInLanguage first.script → BeginsWithDisc first
         → NoneRose
-            (around S.Source K.Sink O.Opener script.old report.old opener.old).counts
-            (around S.Source K.Sink O.Opener script.new report.new opener.new).counts
+        (around S.Source K.Sink O.Opener script.old report.old opener.old).counts
+        (around S.Source K.Sink O.Opener script.new report.new opener.new).counts
         → IsComplete result }
 {
     match form_of(words) {
@@ -113,11 +116,13 @@ fn run_image<S: Source, K: Sink, O: Opener>(
         (around S.Source K.Sink O.Opener script.old report.old opener.old)
         (around S.Source K.Sink O.Opener script.new report.new opener.new) name.now result }
     ensures run { (first : Beginning)
-        → IsBeginning O.Image.bytes first (around S.Source K.Sink O.Opener script.old report.old opener.old) O.tells
-        → StandsWith first (aftermath_of O.Image.bytes (around S.Source K.Sink O.Opener script.new report.new opener.new)) result
+        → IsBeginning O.Image.bytes first
+        (around S.Source K.Sink O.Opener script.old report.old opener.old) O.tells
+        → StandsWith first (aftermath_of O.Image.bytes
+        (around S.Source K.Sink O.Opener script.new report.new opener.new)) result
         ⊎ (IsUnopened result × IsNotOpened
-            (around S.Source K.Sink O.Opener script.old report.old opener.old)
-            (around S.Source K.Sink O.Opener script.new report.new opener.new)) }
+        (around S.Source K.Sink O.Opener script.old report.old opener.old)
+        (around S.Source K.Sink O.Opener script.new report.new opener.new)) }
 {
     let Ok(state) = RunState::new(alloc) else {
         return Status::NoMemory;

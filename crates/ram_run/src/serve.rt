@@ -35,9 +35,11 @@ fn answer_line<D: Drive, K: Sink>(
     requires answered { state.old.tally.answered < 2 ^ 63 }
     requires empty { state.old.data_in.items ≡ [] }
     requires room { HasRoom state.old }
-    ensures turn { (first : Beginning) (far : SoFar first) (left : Option (List ℕ)) → Stands D.Sectors D.Image.Image inserted.old far.now
+    ensures turn { (first : Beginning) (far : SoFar first) (left : Option (List ℕ))
+        → Stands D.Sectors D.Image.Image inserted.old far.now
         → Taken far (view_of left (K.written report.old) state.old) (works.OnDisc line) state.old.payload.items
-        → TurnsTo first (Stands D.Sectors D.Image.Image inserted.new) (view_of left (K.written report.new) state.new) result }
+        → TurnsTo first (Stands D.Sectors D.Image.Image inserted.new)
+        (view_of left (K.written report.new) state.new) result }
     ensures counts { (source : ℕ)
         → StopCounts (counts_of source (K.faults report.old) (faults_of D.Sectors D.Image.Image inserted.old))
         (counts_of source (K.faults report.new) (faults_of D.Sectors D.Image.Image inserted.new)) result }
@@ -63,9 +65,11 @@ fn press_line<D: Drive, K: Sink>(
     requires answered { state.old.tally.answered < 2 ^ 63 }
     requires empty { state.old.data_in.items ≡ [] }
     requires room { HasRoom state.old }
-    ensures turn { (first : Beginning) (far : SoFar first) (left : Option (List ℕ)) → Stands D.Sectors D.Image.Image inserted far.now
+    ensures turn { (first : Beginning) (far : SoFar first) (left : Option (List ℕ))
+        → Stands D.Sectors D.Image.Image inserted far.now
         → Taken far (view_of left (K.written report.old) state.old) (works.Press zones scale psa) state.old.payload.items
-        → TurnsTo first (Stands D.Sectors D.Image.Image result.0) (view_of left (K.written report.new) state.new) result.1 }
+        → TurnsTo first (Stands D.Sectors D.Image.Image result.0)
+        (view_of left (K.written report.new) state.new) result.1 }
     ensures counts { (source : ℕ)
         → StopCounts (counts_of source (K.faults report.old) (faults_of D.Sectors D.Image.Image inserted))
         (counts_of source (K.faults report.new) (faults_of D.Sectors D.Image.Image result.0)) result.1 }
@@ -89,11 +93,14 @@ pub fn serve_lines<D: Drive, S: Source, K: Sink>(
     requires fresh { IsFresh state.old }
     requires room { HasRoom state.old }
     ensures ends { (first : Beginning)
-        → Between first (Stands D.Sectors D.Image.Image inserted) (view_of (S.left script.old) (K.written report.old) state.old)
-        → Ends first (Stands D.Sectors D.Image.Image result.0) (view_of (S.left script.new) (K.written report.new) state.new) result.1 }
+        → Between first (Stands D.Sectors D.Image.Image inserted)
+        (view_of (S.left script.old) (K.written report.old) state.old)
+        → Ends first (Stands D.Sectors D.Image.Image result.0)
+        (view_of (S.left script.new) (K.written report.new) state.new) result.1 }
     ensures counts { StopCounts
         (counts_of (S.faults script.old) (K.faults report.old) (faults_of D.Sectors D.Image.Image inserted))
-        (counts_of (S.faults script.new) (K.faults report.new) (faults_of D.Sectors D.Image.Image result.0)) result.1 }
+        (counts_of (S.faults script.new) (K.faults report.new)
+        (faults_of D.Sectors D.Image.Image result.0)) result.1 }
     ensures few { state.new.tally.lines < 2 ^ 63 }
 {
     let mut inserted = inserted;
@@ -148,8 +155,10 @@ pub fn serve<D: Drive, S: Source, K: Sink>(
     requires fresh { IsFresh state.old }
     requires room { HasRoom state.old }
     ensures other { IsNoUsage result.1 }
-    ensures leaves { (first : Beginning) → Begins first (S.left script.old) (K.written report.old) (D.Image.bytes image)
-        → StandsWith first (aftermath (S.left script.new) (K.written report.new) (D.Image.bytes result.0)) result.1 }
+    ensures leaves { (first : Beginning)
+        → Begins first (S.left script.old) (K.written report.old) (D.Image.bytes image)
+        → StandsWith first
+        (aftermath (S.left script.new) (K.written report.new) (D.Image.bytes result.0)) result.1 }
     ensures counts { StatusCounts
         (counts_of (S.faults script.old) (K.faults report.old) (D.Image.faults image))
         (counts_of (S.faults script.new) (K.faults report.new) (D.Image.faults result.0)) result.1 }

@@ -100,8 +100,10 @@ pub fn next_work<S: Source, K: Sink>(
     report: &mut K,
 ) -> Result<Option<Work>, Stopped>
     requires room { HasRoom state.old }
-    ensures next { (first : Beginning) (far : SoFar first) → IsAt far (view_of (S.left script.old) (K.written report.old) state.old)
-        → NextRule far (view_of (S.left script.new) (K.written report.new) state.new) state.new.payload.items result }
+    ensures next { (first : Beginning) (far : SoFar first) → IsAt far
+        (view_of (S.left script.old) (K.written report.old) state.old)
+        → NextRule far (view_of (S.left script.new) (K.written report.new) state.new)
+        state.new.payload.items result }
     ensures counts { (image : ℕ) → StopCounts (counts_of (S.faults script.old) (K.faults report.old) image)
         (counts_of (S.faults script.new) (K.faults report.new) image) result }
     ensures takes { TakesBytes state.old.reader.taken state.new.reader.taken result }

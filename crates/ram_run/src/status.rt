@@ -1,3 +1,4 @@
+//! How a run ends, and the exit status that tells it.
 ghost use Rattle.std.specs.Prelude.{◌≡◌};
 
 /// How a run ended. Its number is the exit status of the program. (This project's own.)

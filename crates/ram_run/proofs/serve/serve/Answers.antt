@@ -1,4 +1,3 @@
-use Rattle.std.proofs.Common.{sym}
 use Rattle.ram_text.specs.Writer.{due}
 use Rattle.ram_run.specs.Inserted.{Stands, faults_of}
 use Rattle.ram_run.specs.Progress.{view_of}

@@ -3,7 +3,7 @@ use Rattle.ram_text.specs.Lines.{Reading}
 use Rattle.ram_run.specs.declared.reply.Reply.TheVariants as replies
 use Rattle.ram_run.specs.Inserted.{Stands, faults_of}
 use Rattle.ram_run.specs.RunCounts.{counts_of}
-use Rattle.ram_run.specs.Progress.{Beginning, Between, view_of}
+use Rattle.ram_run.specs.Progress.{view_of}
 use Rattle.ram_run.proofs.CountsRise.{none_rose, why_counts, line_counts}
 use Rattle.ram_run.proofs.FewLines.{few_more, few_still}
 use Rattle.ram_run.proofs.Turns.{ends_between, nothing_done}
@@ -39,16 +39,16 @@ loop-stopped-preserved-in-Ok g c =
     let tally = c.next_work.ensures.same_tally in
     record {
       between = λ first b. let now = c.loop-stopped.invariant.between first b in nothing_done first (Stands g.D.Sectors g.D.Image.Image c.loop-stopped.inserted) (view_of (g.S.Source.left c.loop-stopped.script) (g.K.Sink.written c.loop-stopped.report) c.loop-stopped.state) (view_of (g.S.Source.left c.next_work.new.script) (g.K.Sink.written c.next_work.new.report) c.next_work.new.state)
-      (view_of (g.S.Source.left c.next_work.new.script) (g.K.Sink.written c.tell.new.report) c.tell.new.state)
-      now c.next_work.new.state.payload.items c.next_work.new.state.data_in.items (Ok tt) (rw (c.in-Ok-Some-Nothing.is, c.in-Ok-Some-Nothing.field-0-is, c.in-Ok-Some-Nothing.field-0-0-is) at (c.next_work.ensures.next first now.far now.at)) c.next_work.ensures.empty (c.in-Ok.ensures.tells (g.S.Source.left c.next_work.new.script));
+          (view_of (g.S.Source.left c.next_work.new.script) (g.K.Sink.written c.tell.new.report) c.tell.new.state)
+          now c.next_work.new.state.payload.items c.next_work.new.state.data_in.items (Ok tt) (rw (c.in-Ok-Some-Nothing.is, c.in-Ok-Some-Nothing.field-0-is, c.in-Ok-Some-Nothing.field-0-0-is) at (c.next_work.ensures.next first now.far now.at)) c.next_work.ensures.empty (c.in-Ok.ensures.tells (g.S.Source.left c.next_work.new.script));
       counts = none_rose (counts_of (g.S.Source.faults c.args.script.now) (g.K.Sink.faults c.args.report.now) (faults_of g.D.Sectors g.D.Image.Image c.args.inserted)) (counts_of (g.S.Source.faults c.next_work.new.script) (g.K.Sink.faults c.next_work.new.report) (faults_of g.D.Sectors g.D.Image.Image c.loop-stopped.inserted))
-      (counts_of (g.S.Source.faults c.next_work.new.script) (g.K.Sink.faults c.tell.new.report) (faults_of g.D.Sectors g.D.Image.Image c.loop-stopped.inserted))
-      (none_rose (counts_of (g.S.Source.faults c.args.script.now) (g.K.Sink.faults c.args.report.now) (faults_of g.D.Sectors g.D.Image.Image c.args.inserted)) (counts_of (g.S.Source.faults c.loop-stopped.script) (g.K.Sink.faults c.loop-stopped.report) (faults_of g.D.Sectors g.D.Image.Image c.loop-stopped.inserted))
-      (counts_of (g.S.Source.faults c.next_work.new.script) (g.K.Sink.faults c.next_work.new.report) (faults_of g.D.Sectors g.D.Image.Image c.loop-stopped.inserted))
-      c.loop-stopped.invariant.counts (rw c.in-Ok-Some-Nothing.is at (c.next_work.ensures.counts (faults_of g.D.Sectors g.D.Image.Image c.loop-stopped.inserted)))) (line_counts (g.S.Source.faults c.next_work.new.script) (g.K.Sink.faults c.next_work.new.report) (g.K.Sink.faults c.tell.new.report) (faults_of g.D.Sectors g.D.Image.Image c.loop-stopped.inserted) (faults_of g.D.Sectors g.D.Image.Image c.loop-stopped.inserted)
-      (view_of (g.S.Source.left c.next_work.new.script) (g.K.Sink.written c.next_work.new.report) c.next_work.new.state)
-      (view_of (g.S.Source.left c.next_work.new.script) (g.K.Sink.written c.tell.new.report) c.tell.new.state)
-      c.next_work.new.state.data_in.items (Ok replies.Nothing) (Ok tt) refl c.in-Ok.ensures.count (c.in-Ok.ensures.tells (g.S.Source.left c.next_work.new.script)));
+          (counts_of (g.S.Source.faults c.next_work.new.script) (g.K.Sink.faults c.tell.new.report) (faults_of g.D.Sectors g.D.Image.Image c.loop-stopped.inserted))
+          (none_rose (counts_of (g.S.Source.faults c.args.script.now) (g.K.Sink.faults c.args.report.now) (faults_of g.D.Sectors g.D.Image.Image c.args.inserted)) (counts_of (g.S.Source.faults c.loop-stopped.script) (g.K.Sink.faults c.loop-stopped.report) (faults_of g.D.Sectors g.D.Image.Image c.loop-stopped.inserted))
+          (counts_of (g.S.Source.faults c.next_work.new.script) (g.K.Sink.faults c.next_work.new.report) (faults_of g.D.Sectors g.D.Image.Image c.loop-stopped.inserted))
+          c.loop-stopped.invariant.counts (rw c.in-Ok-Some-Nothing.is at (c.next_work.ensures.counts (faults_of g.D.Sectors g.D.Image.Image c.loop-stopped.inserted)))) (line_counts (g.S.Source.faults c.next_work.new.script) (g.K.Sink.faults c.next_work.new.report) (g.K.Sink.faults c.tell.new.report) (faults_of g.D.Sectors g.D.Image.Image c.loop-stopped.inserted) (faults_of g.D.Sectors g.D.Image.Image c.loop-stopped.inserted)
+          (view_of (g.S.Source.left c.next_work.new.script) (g.K.Sink.written c.next_work.new.report) c.next_work.new.state)
+          (view_of (g.S.Source.left c.next_work.new.script) (g.K.Sink.written c.tell.new.report) c.tell.new.state)
+          c.next_work.new.state.data_in.items (Ok replies.Nothing) (Ok tt) refl c.in-Ok.ensures.count (c.in-Ok.ensures.tells (g.S.Source.left c.next_work.new.script)));
       room = c.tell.ensures.room c.next_work.ensures.room;
       few = few_more c.loop-stopped.state.tally c.next_work.new.state.tally c.tell.new.state.tally c.loop-stopped.state.reader.taken c.next_work.new.state.reader.taken c.tell.new.state.reader.taken c.loop-stopped.invariant.few takes.0 reader tally more;
       within = omega (arith, takes.1, reader);
@@ -58,20 +58,20 @@ pub returns-in-Err-tell-clause-ends : goal.returns-in-Err-tell-clause-ends
 returns-in-Err-tell-clause-ends g c first b =
     let now = c.loop-stopped.invariant.between first b in
     nothing_done first (Stands g.D.Sectors g.D.Image.Image c.loop-stopped.inserted) (view_of (g.S.Source.left c.loop-stopped.script) (g.K.Sink.written c.loop-stopped.report) c.loop-stopped.state) (view_of (g.S.Source.left c.next_work.new.script) (g.K.Sink.written c.next_work.new.report) c.next_work.new.state)
-      (view_of (g.S.Source.left c.next_work.new.script) (g.K.Sink.written c.tell.new.report) c.tell.new.state)
-      now c.next_work.new.state.payload.items c.next_work.new.state.data_in.items (Err c.in-Err-tell.stopped) (rw (c.in-Ok-Some-Nothing.is, c.in-Ok-Some-Nothing.field-0-is, c.in-Ok-Some-Nothing.field-0-0-is) at (c.next_work.ensures.next first now.far now.at)) c.next_work.ensures.empty (c.in-Err-tell.ensures.tells (g.S.Source.left c.next_work.new.script))
+    (view_of (g.S.Source.left c.next_work.new.script) (g.K.Sink.written c.tell.new.report) c.tell.new.state)
+    now c.next_work.new.state.payload.items c.next_work.new.state.data_in.items (Err c.in-Err-tell.stopped) (rw (c.in-Ok-Some-Nothing.is, c.in-Ok-Some-Nothing.field-0-is, c.in-Ok-Some-Nothing.field-0-0-is) at (c.next_work.ensures.next first now.far now.at)) c.next_work.ensures.empty (c.in-Err-tell.ensures.tells (g.S.Source.left c.next_work.new.script))
 
 pub returns-in-Err-tell-clause-counts : goal.returns-in-Err-tell-clause-counts
 returns-in-Err-tell-clause-counts g c =
     why_counts (counts_of (g.S.Source.faults c.args.script.now) (g.K.Sink.faults c.args.report.now) (faults_of g.D.Sectors g.D.Image.Image c.args.inserted)) (counts_of (g.S.Source.faults c.next_work.new.script) (g.K.Sink.faults c.next_work.new.report) (faults_of g.D.Sectors g.D.Image.Image c.loop-stopped.inserted))
     (counts_of (g.S.Source.faults c.next_work.new.script) (g.K.Sink.faults c.tell.new.report) (faults_of g.D.Sectors g.D.Image.Image c.loop-stopped.inserted))
     c.in-Err-tell.stopped
-      (none_rose (counts_of (g.S.Source.faults c.args.script.now) (g.K.Sink.faults c.args.report.now) (faults_of g.D.Sectors g.D.Image.Image c.args.inserted)) (counts_of (g.S.Source.faults c.loop-stopped.script) (g.K.Sink.faults c.loop-stopped.report) (faults_of g.D.Sectors g.D.Image.Image c.loop-stopped.inserted))
-      (counts_of (g.S.Source.faults c.next_work.new.script) (g.K.Sink.faults c.next_work.new.report) (faults_of g.D.Sectors g.D.Image.Image c.loop-stopped.inserted))
-      c.loop-stopped.invariant.counts (rw c.in-Ok-Some-Nothing.is at (c.next_work.ensures.counts (faults_of g.D.Sectors g.D.Image.Image c.loop-stopped.inserted)))) (line_counts (g.S.Source.faults c.next_work.new.script) (g.K.Sink.faults c.next_work.new.report) (g.K.Sink.faults c.tell.new.report) (faults_of g.D.Sectors g.D.Image.Image c.loop-stopped.inserted) (faults_of g.D.Sectors g.D.Image.Image c.loop-stopped.inserted)
-      (view_of (g.S.Source.left c.next_work.new.script) (g.K.Sink.written c.next_work.new.report) c.next_work.new.state)
-      (view_of (g.S.Source.left c.next_work.new.script) (g.K.Sink.written c.tell.new.report) c.tell.new.state)
-      c.next_work.new.state.data_in.items (Ok replies.Nothing) (Err c.in-Err-tell.stopped) refl c.in-Err-tell.ensures.count (c.in-Err-tell.ensures.tells (g.S.Source.left c.next_work.new.script)))
+    (none_rose (counts_of (g.S.Source.faults c.args.script.now) (g.K.Sink.faults c.args.report.now) (faults_of g.D.Sectors g.D.Image.Image c.args.inserted)) (counts_of (g.S.Source.faults c.loop-stopped.script) (g.K.Sink.faults c.loop-stopped.report) (faults_of g.D.Sectors g.D.Image.Image c.loop-stopped.inserted))
+    (counts_of (g.S.Source.faults c.next_work.new.script) (g.K.Sink.faults c.next_work.new.report) (faults_of g.D.Sectors g.D.Image.Image c.loop-stopped.inserted))
+    c.loop-stopped.invariant.counts (rw c.in-Ok-Some-Nothing.is at (c.next_work.ensures.counts (faults_of g.D.Sectors g.D.Image.Image c.loop-stopped.inserted)))) (line_counts (g.S.Source.faults c.next_work.new.script) (g.K.Sink.faults c.next_work.new.report) (g.K.Sink.faults c.tell.new.report) (faults_of g.D.Sectors g.D.Image.Image c.loop-stopped.inserted) (faults_of g.D.Sectors g.D.Image.Image c.loop-stopped.inserted)
+    (view_of (g.S.Source.left c.next_work.new.script) (g.K.Sink.written c.next_work.new.report) c.next_work.new.state)
+    (view_of (g.S.Source.left c.next_work.new.script) (g.K.Sink.written c.tell.new.report) c.tell.new.state)
+    c.next_work.new.state.data_in.items (Ok replies.Nothing) (Err c.in-Err-tell.stopped) refl c.in-Err-tell.ensures.count (c.in-Err-tell.ensures.tells (g.S.Source.left c.next_work.new.script)))
 
 pub returns-in-Err-tell-clause-few : goal.returns-in-Err-tell-clause-few
 returns-in-Err-tell-clause-few g c =
@@ -86,10 +86,10 @@ loop-stopped-preserved-in-Ok-answer_line g c =
     record {
       between = λ first b. let now = c.loop-stopped.invariant.between first b in c.in-Ok-answer_line.ensures.turn first now.far (g.S.Source.left c.next_work.new.script) now.stands_now (rw (c.in-Ok-Some-OnDisc.is, c.in-Ok-Some-OnDisc.field-0-is, c.in-Ok-Some-OnDisc.field-0-0-is) at (c.next_work.ensures.next first now.far now.at));
       counts = none_rose (counts_of (g.S.Source.faults c.args.script.now) (g.K.Sink.faults c.args.report.now) (faults_of g.D.Sectors g.D.Image.Image c.args.inserted)) (counts_of (g.S.Source.faults c.next_work.new.script) (g.K.Sink.faults c.next_work.new.report) (faults_of g.D.Sectors g.D.Image.Image c.loop-stopped.inserted))
-      (counts_of (g.S.Source.faults c.next_work.new.script) (g.K.Sink.faults c.answer_line.new.report) (faults_of g.D.Sectors g.D.Image.Image c.answer_line.new.inserted))
-      (none_rose (counts_of (g.S.Source.faults c.args.script.now) (g.K.Sink.faults c.args.report.now) (faults_of g.D.Sectors g.D.Image.Image c.args.inserted)) (counts_of (g.S.Source.faults c.loop-stopped.script) (g.K.Sink.faults c.loop-stopped.report) (faults_of g.D.Sectors g.D.Image.Image c.loop-stopped.inserted))
-      (counts_of (g.S.Source.faults c.next_work.new.script) (g.K.Sink.faults c.next_work.new.report) (faults_of g.D.Sectors g.D.Image.Image c.loop-stopped.inserted))
-      c.loop-stopped.invariant.counts (rw c.in-Ok-Some-OnDisc.is at (c.next_work.ensures.counts (faults_of g.D.Sectors g.D.Image.Image c.loop-stopped.inserted)))) (c.in-Ok-answer_line.ensures.counts (g.S.Source.faults c.next_work.new.script));
+          (counts_of (g.S.Source.faults c.next_work.new.script) (g.K.Sink.faults c.answer_line.new.report) (faults_of g.D.Sectors g.D.Image.Image c.answer_line.new.inserted))
+          (none_rose (counts_of (g.S.Source.faults c.args.script.now) (g.K.Sink.faults c.args.report.now) (faults_of g.D.Sectors g.D.Image.Image c.args.inserted)) (counts_of (g.S.Source.faults c.loop-stopped.script) (g.K.Sink.faults c.loop-stopped.report) (faults_of g.D.Sectors g.D.Image.Image c.loop-stopped.inserted))
+          (counts_of (g.S.Source.faults c.next_work.new.script) (g.K.Sink.faults c.next_work.new.report) (faults_of g.D.Sectors g.D.Image.Image c.loop-stopped.inserted))
+          c.loop-stopped.invariant.counts (rw c.in-Ok-Some-OnDisc.is at (c.next_work.ensures.counts (faults_of g.D.Sectors g.D.Image.Image c.loop-stopped.inserted)))) (c.in-Ok-answer_line.ensures.counts (g.S.Source.faults c.next_work.new.script));
       room = c.answer_line.ensures.room;
       few = few_more c.loop-stopped.state.tally c.next_work.new.state.tally c.answer_line.new.state.tally c.loop-stopped.state.reader.taken c.next_work.new.state.reader.taken c.answer_line.new.state.reader.taken c.loop-stopped.invariant.few takes.0 reader tally more;
       within = omega (arith, takes.1, reader);
@@ -105,9 +105,9 @@ returns-in-Err-answer_line-clause-counts g c =
     why_counts (counts_of (g.S.Source.faults c.args.script.now) (g.K.Sink.faults c.args.report.now) (faults_of g.D.Sectors g.D.Image.Image c.args.inserted)) (counts_of (g.S.Source.faults c.next_work.new.script) (g.K.Sink.faults c.next_work.new.report) (faults_of g.D.Sectors g.D.Image.Image c.loop-stopped.inserted))
     (counts_of (g.S.Source.faults c.next_work.new.script) (g.K.Sink.faults c.answer_line.new.report) (faults_of g.D.Sectors g.D.Image.Image c.answer_line.new.inserted))
     c.in-Err-answer_line.stopped
-      (none_rose (counts_of (g.S.Source.faults c.args.script.now) (g.K.Sink.faults c.args.report.now) (faults_of g.D.Sectors g.D.Image.Image c.args.inserted)) (counts_of (g.S.Source.faults c.loop-stopped.script) (g.K.Sink.faults c.loop-stopped.report) (faults_of g.D.Sectors g.D.Image.Image c.loop-stopped.inserted))
-      (counts_of (g.S.Source.faults c.next_work.new.script) (g.K.Sink.faults c.next_work.new.report) (faults_of g.D.Sectors g.D.Image.Image c.loop-stopped.inserted))
-      c.loop-stopped.invariant.counts (rw c.in-Ok-Some-OnDisc.is at (c.next_work.ensures.counts (faults_of g.D.Sectors g.D.Image.Image c.loop-stopped.inserted)))) (c.in-Err-answer_line.ensures.counts (g.S.Source.faults c.next_work.new.script))
+    (none_rose (counts_of (g.S.Source.faults c.args.script.now) (g.K.Sink.faults c.args.report.now) (faults_of g.D.Sectors g.D.Image.Image c.args.inserted)) (counts_of (g.S.Source.faults c.loop-stopped.script) (g.K.Sink.faults c.loop-stopped.report) (faults_of g.D.Sectors g.D.Image.Image c.loop-stopped.inserted))
+    (counts_of (g.S.Source.faults c.next_work.new.script) (g.K.Sink.faults c.next_work.new.report) (faults_of g.D.Sectors g.D.Image.Image c.loop-stopped.inserted))
+    c.loop-stopped.invariant.counts (rw c.in-Ok-Some-OnDisc.is at (c.next_work.ensures.counts (faults_of g.D.Sectors g.D.Image.Image c.loop-stopped.inserted)))) (c.in-Err-answer_line.ensures.counts (g.S.Source.faults c.next_work.new.script))
 
 pub returns-in-Err-answer_line-clause-few : goal.returns-in-Err-answer_line-clause-few
 returns-in-Err-answer_line-clause-few g c =
@@ -122,10 +122,10 @@ loop-stopped-preserved g c =
     record {
       between = λ first b. let now = c.loop-stopped.invariant.between first b in rw c.in-Ok-told.is at (c.press_line-next.ensures.turn first now.far (g.S.Source.left c.next_work.new.script) now.stands_now (rw (c.in-Ok-Some-Press.is, c.in-Ok-Some-Press.field-0-is, c.in-Ok-Some-Press.field-0-0-is) at (c.next_work.ensures.next first now.far now.at)));
       counts = none_rose (counts_of (g.S.Source.faults c.args.script.now) (g.K.Sink.faults c.args.report.now) (faults_of g.D.Sectors g.D.Image.Image c.args.inserted)) (counts_of (g.S.Source.faults c.next_work.new.script) (g.K.Sink.faults c.next_work.new.report) (faults_of g.D.Sectors g.D.Image.Image c.loop-stopped.inserted))
-      (counts_of (g.S.Source.faults c.next_work.new.script) (g.K.Sink.faults c.press_line-next.new.report) (faults_of g.D.Sectors g.D.Image.Image c.press_line-next.result.0))
-      (none_rose (counts_of (g.S.Source.faults c.args.script.now) (g.K.Sink.faults c.args.report.now) (faults_of g.D.Sectors g.D.Image.Image c.args.inserted)) (counts_of (g.S.Source.faults c.loop-stopped.script) (g.K.Sink.faults c.loop-stopped.report) (faults_of g.D.Sectors g.D.Image.Image c.loop-stopped.inserted))
-      (counts_of (g.S.Source.faults c.next_work.new.script) (g.K.Sink.faults c.next_work.new.report) (faults_of g.D.Sectors g.D.Image.Image c.loop-stopped.inserted))
-      c.loop-stopped.invariant.counts (rw c.in-Ok-Some-Press.is at (c.next_work.ensures.counts (faults_of g.D.Sectors g.D.Image.Image c.loop-stopped.inserted)))) (rw c.in-Ok-told.is at (c.press_line-next.ensures.counts (g.S.Source.faults c.next_work.new.script)));
+          (counts_of (g.S.Source.faults c.next_work.new.script) (g.K.Sink.faults c.press_line-next.new.report) (faults_of g.D.Sectors g.D.Image.Image c.press_line-next.result.0))
+          (none_rose (counts_of (g.S.Source.faults c.args.script.now) (g.K.Sink.faults c.args.report.now) (faults_of g.D.Sectors g.D.Image.Image c.args.inserted)) (counts_of (g.S.Source.faults c.loop-stopped.script) (g.K.Sink.faults c.loop-stopped.report) (faults_of g.D.Sectors g.D.Image.Image c.loop-stopped.inserted))
+          (counts_of (g.S.Source.faults c.next_work.new.script) (g.K.Sink.faults c.next_work.new.report) (faults_of g.D.Sectors g.D.Image.Image c.loop-stopped.inserted))
+          c.loop-stopped.invariant.counts (rw c.in-Ok-Some-Press.is at (c.next_work.ensures.counts (faults_of g.D.Sectors g.D.Image.Image c.loop-stopped.inserted)))) (rw c.in-Ok-told.is at (c.press_line-next.ensures.counts (g.S.Source.faults c.next_work.new.script)));
       room = c.press_line-next.ensures.room;
       few = few_more c.loop-stopped.state.tally c.next_work.new.state.tally c.press_line-next.new.state.tally c.loop-stopped.state.reader.taken c.next_work.new.state.reader.taken c.press_line-next.new.state.reader.taken c.loop-stopped.invariant.few takes.0 reader tally more;
       within = omega (arith, takes.1, reader);
@@ -141,9 +141,9 @@ returns-in-Err-told-clause-counts g c =
     why_counts (counts_of (g.S.Source.faults c.args.script.now) (g.K.Sink.faults c.args.report.now) (faults_of g.D.Sectors g.D.Image.Image c.args.inserted)) (counts_of (g.S.Source.faults c.next_work.new.script) (g.K.Sink.faults c.next_work.new.report) (faults_of g.D.Sectors g.D.Image.Image c.loop-stopped.inserted))
     (counts_of (g.S.Source.faults c.next_work.new.script) (g.K.Sink.faults c.press_line-next.new.report) (faults_of g.D.Sectors g.D.Image.Image c.press_line-next.result.0))
     c.in-Err-told.stopped
-      (none_rose (counts_of (g.S.Source.faults c.args.script.now) (g.K.Sink.faults c.args.report.now) (faults_of g.D.Sectors g.D.Image.Image c.args.inserted)) (counts_of (g.S.Source.faults c.loop-stopped.script) (g.K.Sink.faults c.loop-stopped.report) (faults_of g.D.Sectors g.D.Image.Image c.loop-stopped.inserted))
-      (counts_of (g.S.Source.faults c.next_work.new.script) (g.K.Sink.faults c.next_work.new.report) (faults_of g.D.Sectors g.D.Image.Image c.loop-stopped.inserted))
-      c.loop-stopped.invariant.counts (rw c.in-Ok-Some-Press.is at (c.next_work.ensures.counts (faults_of g.D.Sectors g.D.Image.Image c.loop-stopped.inserted)))) (rw c.in-Err-told.is at (c.press_line-next.ensures.counts (g.S.Source.faults c.next_work.new.script)))
+    (none_rose (counts_of (g.S.Source.faults c.args.script.now) (g.K.Sink.faults c.args.report.now) (faults_of g.D.Sectors g.D.Image.Image c.args.inserted)) (counts_of (g.S.Source.faults c.loop-stopped.script) (g.K.Sink.faults c.loop-stopped.report) (faults_of g.D.Sectors g.D.Image.Image c.loop-stopped.inserted))
+    (counts_of (g.S.Source.faults c.next_work.new.script) (g.K.Sink.faults c.next_work.new.report) (faults_of g.D.Sectors g.D.Image.Image c.loop-stopped.inserted))
+    c.loop-stopped.invariant.counts (rw c.in-Ok-Some-Press.is at (c.next_work.ensures.counts (faults_of g.D.Sectors g.D.Image.Image c.loop-stopped.inserted)))) (rw c.in-Err-told.is at (c.press_line-next.ensures.counts (g.S.Source.faults c.next_work.new.script)))
 
 pub returns-in-Err-told-clause-few : goal.returns-in-Err-told-clause-few
 returns-in-Err-told-clause-few g c =
