@@ -19,18 +19,18 @@ Found after Rule = (t : Standing) × after t × Rule t
 
 module _ (old new : Shown) (before after : Standing → Type 0) (s : Standing) (stood : before s) where
   -- a command for which nothing was done
-  alone_found : (answer due : Answer) (reply : List ℕ) → IsAnsweredAlone old new before after answer due reply
-      → Found after (λ t. IsAnsweredAlone old new (λ x. x ≡ s) (λ x. x ≡ t) answer due reply)
-  alone_found answer due reply p = (
+  alone_found : (answer due : Answer) (data_in : List ℕ) → IsAnsweredAlone old new before after answer due data_in
+      → Found after (λ t. IsAnsweredAlone old new (λ x. x ≡ s) (λ x. x ≡ t) answer due data_in)
+  alone_found answer due data_in p = (
     s,
     p.untouched.stands s stood,
-    record { answer_is = p.answer_is; no_reply = p.no_reply; untouched = record { same = p.untouched.same; stands = λ x e. e } },
+    record { answer_is = p.answer_is; no_data = p.no_data; untouched = record { same = p.untouched.same; stands = λ x e. e } },
   )
 
   -- a transfer, or its refusal
-  transfer_found : (payload : List ℕ) (answer : Answer) (reply : List ℕ) (wanted : Result Transfer Sense) → IsTransferred old new before after payload answer reply wanted
-      → Found after (λ t. IsTransferred old new (λ x. x ≡ s) (λ x. x ≡ t) payload answer reply wanted)
-  transfer_found payload answer reply (Ok (transfers.Read lba n)) p =
+  transfer_found : (payload : List ℕ) (answer : Answer) (data_in : List ℕ) (wanted : Result Transfer Sense) → IsTransferred old new before after payload answer data_in wanted
+      → Found after (λ t. IsTransferred old new (λ x. x ≡ s) (λ x. x ≡ t) payload answer data_in wanted)
+  transfer_found payload answer data_in (Ok (transfers.Read lba n)) p =
       let found = read_found old new after s lba n p.bytes p.out (p.step s stood) in (
         found.0,
         found.1,
@@ -41,10 +41,10 @@ module _ (old new : Shown) (before after : Standing → Type 0) (s : Standing) (
           step = λ x e. subst (λ y. ReadStep old new (λ z. z ≡ found.0) y lba n p.bytes p.out) (sym e) found.2;
           buffered = p.buffered;
           answer_is = p.answer_is;
-          reply_is = p.reply_is;
+          data_is = p.data_is;
         },
       )
-  transfer_found payload answer reply (Ok (transfers.Write lba n)) p =
+  transfer_found payload answer data_in (Ok (transfers.Write lba n)) p =
       let found = write_found old new after s lba n payload p.out (p.step s stood) in (
         found.0,
         found.1,
@@ -53,13 +53,13 @@ module _ (old new : Shown) (before after : Standing → Type 0) (s : Standing) (
           cause = p.cause;
           step = λ x e. subst (λ y. WriteStep old new (λ z. z ≡ found.0) y lba n payload p.out) (sym e) found.2;
           answer_is = p.answer_is;
-          no_reply = p.no_reply;
+          no_data = p.no_data;
         },
       )
-  transfer_found payload answer reply (Err why) p = alone_found answer (answers.Check why) reply p
+  transfer_found payload answer data_in (Err why) p = alone_found answer (answers.Check why) data_in p
 
   -- a command
-  pub executed_found : (cdb payload : List ℕ) (answer : Answer) (reply : List ℕ) → IsExecuted old new before after cdb payload answer reply
-      → Found after (λ t. IsExecuted old new (λ x. x ≡ s) (λ x. x ≡ t) cdb payload answer reply)
-  executed_found cdb payload answer reply (inl off) = let found = alone_found answer answers.Off reply off.1 in (found.0, found.1, inl (off.0, found.2))
-  executed_found cdb payload answer reply (inr on) = let found = transfer_found payload answer reply (asked cdb (length payload)) on.1 in (found.0, found.1, inr (on.0, found.2))
+  pub executed_found : (cdb payload : List ℕ) (answer : Answer) (data_in : List ℕ) → IsExecuted old new before after cdb payload answer data_in
+      → Found after (λ t. IsExecuted old new (λ x. x ≡ s) (λ x. x ≡ t) cdb payload answer data_in)
+  executed_found cdb payload answer data_in (inl off) = let found = alone_found answer answers.Off data_in off.1 in (found.0, found.1, inl (off.0, found.2))
+  executed_found cdb payload answer data_in (inr on) = let found = transfer_found payload answer data_in (asked cdb (length payload)) on.1 in (found.0, found.1, inr (on.0, found.2))

@@ -38,30 +38,30 @@ write_answer writes.Cut = answers.Cut
 write_answer writes.Off = answers.Off
 write_answer writes.Fault = answers.Fault
 
--- the reply of a read: the sectors, where all were read
-abbrev pub read_reply : ReadOut → List ℕ → List ℕ
-read_reply reads.Good bytes = bytes
-read_reply _ bytes = []
+-- the data of a read: the sectors, where all were read
+abbrev pub data_read : ReadOut → List ℕ → List ℕ
+data_read reads.Good bytes = bytes
+data_read _ bytes = []
 
 module _ (old new : Shown) (before after : Standing → Type 0) where
-  -- A read of so many sectors was answered so, with this reply: how it ended, with its cause, and what it does by each
+  -- A read of so many sectors was answered so, with these data: how it ended, with its cause, and what it does by each
   -- thing that the drive stood for.
-  pub record IsRead (lba n : ℕ) (answer : Answer) (reply : List ℕ) : Type 0 where
+  pub record IsRead (lba n : ℕ) (answer : Answer) (data_in : List ℕ) : Type 0 where
     pub out : ReadOut
     pub bytes : List ℕ
     pub cause : ReadCause old new lba n out
     pub step : ReadSteps old new before after lba n bytes out
     pub buffered : ReadIsQuiet old new lba n out
     pub answer_is : answer ≡ read_answer out
-    pub reply_is : reply ≡ read_reply out bytes
+    pub data_is : data_in ≡ data_read out bytes
 
   -- A write of these bytes was answered so.
-  pub record IsWritten (lba n : ℕ) (payload : List ℕ) (answer : Answer) (reply : List ℕ) : Type 0 where
+  pub record IsWritten (lba n : ℕ) (payload : List ℕ) (answer : Answer) (data_in : List ℕ) : Type 0 where
     pub out : WriteOut
     pub cause : WriteCause old new lba n out
     pub step : WriteSteps old new before after lba n payload out
     pub answer_is : answer ≡ write_answer out
-    pub no_reply : reply ≡ []
+    pub no_data : data_in ≡ []
 
   -- nothing was done
   pub record Untouched : Type 0 where
@@ -69,42 +69,42 @@ module _ (old new : Shown) (before after : Standing → Type 0) where
     pub stands : (s : Standing) → before s → after s
 
   -- nothing was done, and the answer is this one
-  pub record IsAnsweredAlone (answer due : Answer) (reply : List ℕ) : Type 0 where
+  pub record IsAnsweredAlone (answer due : Answer) (data_in : List ℕ) : Type 0 where
     pub answer_is : answer ≡ due
-    pub no_reply : reply ≡ []
+    pub no_data : data_in ≡ []
     pub untouched : Untouched
 
   -- what a transfer was answered, or why there was none
   abbrev pub IsTransferred : List ℕ → Answer → List ℕ → Result Transfer Sense → Type 0
-  IsTransferred payload answer reply (Ok (transfers.Read lba n)) = IsRead lba n answer reply
-  IsTransferred payload answer reply (Ok (transfers.Write lba n)) = IsWritten lba n payload answer reply
-  IsTransferred payload answer reply (Err why) = IsAnsweredAlone answer (answers.Check why) reply
+  IsTransferred payload answer data_in (Ok (transfers.Read lba n)) = IsRead lba n answer data_in
+  IsTransferred payload answer data_in (Ok (transfers.Write lba n)) = IsWritten lba n payload answer data_in
+  IsTransferred payload answer data_in (Err why) = IsAnsweredAlone answer (answers.Check why) data_in
 
-  -- What a command does, and how it is answered, with its reply: while the power is off nothing is done. (This
+  -- What a command does, and how it is answered, with its data: while the power is off nothing is done. (This
   -- project's own.)
   abbrev pub IsExecuted : List ℕ → List ℕ → Answer → List ℕ → Type 0
-  IsExecuted cdb payload answer reply =
-      (¬ IsOn old × IsAnsweredAlone answer answers.Off reply)
-      ⊎ (IsOn old × IsTransferred payload answer reply (asked cdb (length payload)))
+  IsExecuted cdb payload answer data_in =
+      (¬ IsOn old × IsAnsweredAlone answer answers.Off data_in)
+      ⊎ (IsOn old × IsTransferred payload answer data_in (asked cdb (length payload)))
 
   -- What comes of a command that asks for this transfer, or is refused so: where it is refused nothing is done, whether
   -- the power is on or not.
   abbrev pub TransferRule : List ℕ → Result Answer Sense → List ℕ → Result Transfer Sense → Type 0
-  TransferRule payload (Ok answer) reply (Ok (transfers.Read lba n)) = IsRead lba n answer reply
-  TransferRule payload (Ok answer) reply (Ok (transfers.Write lba n)) = IsWritten lba n payload answer reply
-  TransferRule payload (Err why) reply (Err due) = (why ≡ due) × (reply ≡ []) × Untouched
-  TransferRule payload _ reply _ = ⊥
+  TransferRule payload (Ok answer) data_in (Ok (transfers.Read lba n)) = IsRead lba n answer data_in
+  TransferRule payload (Ok answer) data_in (Ok (transfers.Write lba n)) = IsWritten lba n payload answer data_in
+  TransferRule payload (Err why) data_in (Err due) = (why ≡ due) × (data_in ≡ []) × Untouched
+  TransferRule payload _ data_in _ = ⊥
 
 -- The same of a drive, before and after.
 module _ {D : Type 0} (drives : Drives D) (old new : D) where
   abbrev pub Reads : (lba n : ℕ) → Answer → List ℕ → Type 0
-  Reads lba n answer reply =
-      IsRead (drives.shows old) (drives.shows new) (drives.stands old) (drives.stands new) lba n answer reply
+  Reads lba n answer data_in =
+      IsRead (drives.shows old) (drives.shows new) (drives.stands old) (drives.stands new) lba n answer data_in
 
   abbrev pub Transfers : List ℕ → Result Answer Sense → List ℕ → Result Transfer Sense → Type 0
-  Transfers payload result reply wanted =
-      TransferRule (drives.shows old) (drives.shows new) (drives.stands old) (drives.stands new) payload result reply wanted
+  Transfers payload result data_in wanted =
+      TransferRule (drives.shows old) (drives.shows new) (drives.stands old) (drives.stands new) payload result data_in wanted
 
   abbrev pub Executes : List ℕ → List ℕ → Answer → List ℕ → Type 0
-  Executes cdb payload answer reply =
-      IsExecuted (drives.shows old) (drives.shows new) (drives.stands old) (drives.stands new) cdb payload answer reply
+  Executes cdb payload answer data_in =
+      IsExecuted (drives.shows old) (drives.shows new) (drives.stands old) (drives.stands new) cdb payload answer data_in

@@ -35,22 +35,23 @@ pub enum Transfer {
 }
 
 /// Executes a command, with the command's data in `payload`, or tells why it is refused; then nothing was done, and it
-/// was not looked whether the power is on. The reply of a command that was done is then in `reply`, whose room is taken
+/// was not looked whether the power is on. The data of a command that was done are then in `data_in`, whose room is taken
 /// before; it stays empty on every other answer.
 pub fn execute<D: Sectors>(
     disc: &mut D,
     cdb: &Cdb,
     payload: &[u8],
-    reply: &mut Vec<u8>,
+    data_in: &mut Vec<u8>,
 ) -> Result<Answer, Sense>
-    requires empty { reply.old.items ≡ [] }
-    requires room { 2048 * transfer_limit ≤ vec_capacity reply.old }
-    ensures rule { Transfers D.Sectors disc.old disc.new payload.now result reply.new.items (asked cdb.now (length payload.now)) }
+    requires empty { data_in.old.items ≡ [] }
+    requires room { 2048 * transfer_limit ≤ vec_capacity data_in.old }
+    ensures rule { Transfers D.Sectors disc.old disc.new payload.now result data_in.new.items
+        (asked cdb.now (length payload.now)) }
     ensures same_shape { D.shape disc.new ≡ D.shape disc.old }
-    ensures room { vec_capacity reply.old ≤ vec_capacity reply.new }
+    ensures room { vec_capacity data_in.old ≤ vec_capacity data_in.new }
 {
     match asked(cdb, payload.len()) {
-        Ok(Transfer::Read { lba, n }) => Ok(read(disc, lba, n, reply)),
+        Ok(Transfer::Read { lba, n }) => Ok(read(disc, lba, n, data_in)),
         Ok(Transfer::Write { lba, n }) => Ok(write_answer(disc.write(lba, n, payload))),
         Err(sense) => Err(sense),
     }
@@ -83,22 +84,22 @@ fn asked(cdb: &Cdb, given: usize) -> Result<Transfer, Sense>
     }
 }
 
-/// Reads sectors into the reply.
-fn read<D: Sectors>(disc: &mut D, lba: u32, n: u32, reply: &mut Vec<u8>) -> Answer
+/// Reads sectors into `data_in`.
+fn read<D: Sectors>(disc: &mut D, lba: u32, n: u32, data_in: &mut Vec<u8>) -> Answer
     requires few { n ≤ transfer_limit }
-    requires empty { reply.old.items ≡ [] }
-    requires room { 2048 * transfer_limit ≤ vec_capacity reply.old }
-    ensures rule { Reads D.Sectors disc.old disc.new lba n result reply.new.items }
+    requires empty { data_in.old.items ≡ [] }
+    requires room { 2048 * transfer_limit ≤ vec_capacity data_in.old }
+    ensures rule { Reads D.Sectors disc.old disc.new lba n result data_in.new.items }
     ensures same_shape { D.shape disc.new ≡ D.shape disc.old }
-    ensures room { vec_capacity reply.old ≤ vec_capacity reply.new }
+    ensures room { vec_capacity data_in.old ≤ vec_capacity data_in.new }
 {
-    match reply.resize(n as usize * SECTOR_BYTES, 0) {
+    match data_in.resize(n as usize * SECTOR_BYTES, 0) {
         Ok(()) => {}
         Err(_) => unreachable!(),
     }
-    let out = disc.read(lba, n, reply);
+    let out = disc.read(lba, n, data_in);
     if !matches!(out, ReadOut::Good) {
-        reply.clear();
+        data_in.clear();
     }
     read_answer(out)
 }

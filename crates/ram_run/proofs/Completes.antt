@@ -1,5 +1,5 @@
 -- Why a run comes to its end: what else it might have left does not agree with its script, its image and the counts.
-use Rattle.std.specs.Prelude.{◌≡◌, ℕ, ◌+◌, ◌<◌, ◌⊎◌, Bool, Option, List, [], ◌∷◌, ◌++◌, length, take}
+use Rattle.std.specs.Prelude.{◌≡◌, ℕ, ◌+◌, ◌<◌, ◌⊎◌, Ok, Err, List, [], ◌∷◌, ◌++◌, length, take}
 use Rattle.std.proofs.Common.{zero, suc, arith, refl, sym, ap, ◌∙◌, inl, inr, subst, append_assoc, length-append}
 use Rattle.model_geometry.specs.Geometry.{Shape, IsLawful, shape_of}
 use Rattle.ram_text.specs.Lines.{line_feed, HasNoFeed}
@@ -11,19 +11,25 @@ use Rattle.ram_text.specs.declared.printing.LastLine.{LastLine}
 use Rattle.ram_text.specs.declared.printing.LastLine.TheVariants as lasts
 use Rattle.ram_text.specs.declared.script.Line.{Line}
 use Rattle.ram_text.specs.declared.script.Line.TheVariants as lines
-use Rattle.ram_run.specs.declared.held.Told.{Told}
-use Rattle.ram_run.specs.declared.held.Told.TheVariants as tolds
-use Rattle.ram_run.specs.declared.held.Outcome.{Outcome}
-use Rattle.ram_run.specs.declared.held.Outcome.TheVariants as outcomes
+use Rattle.ram_run.specs.declared.line.DiscLine.{DiscLine}
+use Rattle.ram_run.specs.declared.line.Work.{Work}
+use Rattle.ram_run.specs.declared.line.Work.TheVariants as works
+use Rattle.ram_run.specs.declared.reply.Reply.{Reply}
+use Rattle.ram_run.specs.declared.reply.Reply.TheVariants as replies
+use Rattle.ram_run.specs.declared.stopped.Stopped.TheVariants as stopped
 use Rattle.ram_run.specs.declared.status.Status.{Status}
 use Rattle.ram_run.specs.declared.status.Status.TheVariants as statuses
-use Rattle.ram_run.specs.Machine.{State, Loaded, Unopened, Disc, IsFirst, IsPressed, PressStep, OnDisc, Step}
-use Rattle.ram_run.specs.Held.{NeedsDisc}
-use Rattle.ram_run.specs.Run.{Event, IsStep, Run, Reaches, script_text, IsNextLine, ComesNext}
-use Rattle.ram_run.specs.Turn.{Beginning, SoFar, IsLast, Counts}
-use Rattle.ram_run.specs.Outcome.{IsTold, IsUnopened, IsNoUsage, IsOfScript, Leaves, StatusCounts}
+use Rattle.ram_run.specs.NextLines.{IsNextLine, ComesNext}
+use Rattle.ram_run.specs.Work.{work_of}
+use Rattle.ram_run.specs.Replies.{Outcome}
+use Rattle.ram_run.specs.States.{State, Loaded, Unopened, Disc, IsFirst, IsPressedDisc}
+use Rattle.ram_run.specs.LineSteps.{PressStep, OnDisc, Step}
+use Rattle.ram_run.specs.Run.{AnsweredLine, IsStep, Run, Reaches, script_text}
+use Rattle.ram_run.specs.RunCounts.{Counts}
+use Rattle.ram_run.specs.Progress.{Beginning, SoFar, IsLast}
+use Rattle.ram_run.specs.Endings.{IsUnopened, IsOfScript, Aftermath, StandsWith, StatusCounts}
 use Rattle.ram_run.proofs.Answering.{told_apart, disc_answers}
-use Rattle.ram_run.specs.Completes.{BeginsLine, GoesOn, IsInLanguage, lines_text, AreSilent, IsLawfulPress, BeginsWithPress, BeginsWithDisc, NoneRose, IsComplete}
+use Rattle.ram_run.specs.Completes.{BeginsLine, ReadsOn, IsInLanguage, lines_text, AreSilent, IsLawfulPress, BeginsWithPress, BeginsWithDisc, NoneRose, IsComplete}
 
 -- a line feed within the front of a list
 feed_within : (raw after : List ℕ) (n : ℕ) → length raw < n → HasNoFeed (take n (raw ++ (line_feed ∷ after))) → ⊥
@@ -49,12 +55,12 @@ within_limit rest (inr found) longer clear = parted found.1.parts
     parted (inr last) = absurd (omega (arith, ap length last.0, found.1.line.short, longer))
 
 -- the lines that were answered end with a line feed
-begins_line : (events : List Event) → BeginsLine (script_text events)
+begins_line : (events : List AnsweredLine) → BeginsLine (script_text events)
 begins_line [] = inl refl
 begins_line (event ∷ events) = inr (script_text events ++ event.raw, sym (append_assoc (script_text events) event.raw (line_feed ∷ [])))
 
 -- what follows the lines that were answered goes on
-goes_on : (script rest : List ℕ) (events : List Event) → IsInLanguage script → Reaches script events rest → GoesOn rest
+goes_on : (script rest : List ℕ) (events : List AnsweredLine) → IsInLanguage script → Reaches script events rest → ReadsOn rest
 goes_on script rest events language (inl whole) = language.lines (script_text events) rest whole (begins_line events)
 goes_on script rest events language (inr ended) = record { more = inl ended.0; reads = λ raw next. absurd (nothing_follows rest raw ended.0 next) }
 
@@ -62,48 +68,44 @@ goes_on script rest events language (inr ended) = record { more = inl ended.0; r
 well_spelled : (first : Beginning) (far : SoFar first) (last : LastLine) → IsInLanguage first.script → IsOfScript last → IsLast far last → ⊥
 well_spelled first far (lasts.End answered) language of_script is = of_script
 well_spelled first far (lasts.NotInLanguage line) language of_script is =
-    let read = (goes_on first.script far.rest far.events language far.lines).reads is.0.raw is.0.next in is.0.nothing read.0 read.1 read.2
+    let read = (goes_on first.script far.rest far.events language far.lines).reads is.0.raw is.0.comes.next in is.0.nothing read.0 read.1 read.2
 well_spelled first far (lasts.LineTooLong line) language of_script is =
     within_limit far.rest (goes_on first.script far.rest far.events language far.lines).more is.0.longer is.0.open_line
 well_spelled first far lasts.ScriptTooLong language of_script is = absurd (omega (arith, language.short, is.longer))
 well_spelled first far (lasts.NotADisc line) language of_script is = of_script
 
 -- a disc that was pressed is there
-pressed_disc : (shape : Shape) (t : State) → IsPressed shape t → (disc : Loaded) × (t ≡ Disc disc)
+pressed_disc : (shape : Shape) (t : State) → IsPressedDisc shape t → (disc : Loaded) × (t ≡ Disc disc)
 pressed_disc shape (Unopened bytes) pressed = absurd pressed
 pressed_disc shape (Disc disc) pressed = (disc, refl)
 
 -- a press that is told of leaves a disc, or what was there where there is no such geometry
-press_leaves : (s t : State) (shape : Shape) (told : Told) → PressStep s shape (outcomes.Told told) t → ((disc : Loaded) × (t ≡ Disc disc)) ⊎ (¬ IsLawful shape × (t ≡ s))
-press_leaves s t shape (tolds.Event events.Pressed) step = inl (pressed_disc shape t step.1)
-press_leaves s t shape (tolds.Event events.NotPressed) step = inr step
+press_leaves : (s t : State) (shape : Shape) (reply : Reply) → PressStep s shape (Ok reply) t → ((disc : Loaded) × (t ≡ Disc disc)) ⊎ (¬ IsLawful shape × (t ≡ s))
+press_leaves s t shape (replies.Event events.Pressed) step = inl (pressed_disc shape t step.1)
+press_leaves s t shape (replies.Event events.NotPressed) step = inr step
 press_leaves s t shape _ step = absurd step
 
 -- what is done on a disc leaves one
-on_disc_leaves : (s : Loaded) (line : Line) (payload : List ℕ) (outcome : Outcome) (reply : List ℕ) (t : State) → OnDisc (Disc s) line payload outcome reply t → (disc : Loaded) × (t ≡ Disc disc)
-on_disc_leaves s line payload outcome reply (Unopened bytes) on = absurd on
-on_disc_leaves s line payload outcome reply (Disc disc) on = (disc, refl)
+on_disc_leaves : (s : Loaded) (line : DiscLine) (payload : List ℕ) (outcome : Outcome) (data_in : List ℕ) (t : State) → OnDisc (Disc s) line payload outcome data_in t → (disc : Loaded) × (t ≡ Disc disc)
+on_disc_leaves s line payload outcome data_in (Unopened bytes) on = absurd on
+on_disc_leaves s line payload outcome data_in (Disc disc) on = (disc, refl)
 
--- a line that is told of leaves a disc where there was one
-stays_disc : (s : Loaded) (line : Line) (payload : List ℕ) (told : Told) (reply : List ℕ) (t : State) → Step (Disc s) line payload (outcomes.Told told) reply t → (disc : Loaded) × (t ≡ Disc disc)
-stays_disc s lines.Empty payload told reply t step = (s, step.2)
-stays_disc s (lines.Press zones scale psa) payload told reply t step =
-    elim (press_leaves (Disc s) t (shape_of zones scale psa) told step.0) [
+-- a line that has a reply leaves a disc where there was one
+stays_disc : (s : Loaded) (work : Work) (payload : List ℕ) (reply : Reply) (data_in : List ℕ) (t : State) → Step (Disc s) work payload (Ok reply) data_in t → (disc : Loaded) × (t ≡ Disc disc)
+stays_disc s works.Nothing payload reply data_in t step = (s, step.2)
+stays_disc s (works.Press zones scale psa) payload reply data_in t step =
+    elim (press_leaves (Disc s) t (shape_of zones scale psa) reply step.0) [
       | inl disc ↦ disc
       | inr kept ↦ (s, kept.1)
     ]
-stays_disc s lines.Power payload told reply t step = on_disc_leaves s lines.Power payload (outcomes.Told told) reply t step
-stays_disc s (lines.Fail block) payload told reply t step = on_disc_leaves s (lines.Fail block) payload (outcomes.Told told) reply t step
-stays_disc s (lines.Wear block n) payload told reply t step = on_disc_leaves s (lines.Wear block n) payload (outcomes.Told told) reply t step
-stays_disc s (lines.Cut n fate) payload told reply t step = on_disc_leaves s (lines.Cut n fate) payload (outcomes.Told told) reply t step
-stays_disc s (lines.Command cdb) payload told reply t step = on_disc_leaves s (lines.Command cdb) payload (outcomes.Told told) reply t step
+stays_disc s (works.OnDisc line) payload reply data_in t step = on_disc_leaves s line payload (Ok reply) data_in t step
 
 -- a run leaves a disc where there was one
-run_leaves : (s : Loaded) (events : List Event) (now : State) → Run (Disc s) events now → (disc : Loaded) × (now ≡ Disc disc)
+run_leaves : (s : Loaded) (events : List AnsweredLine) (now : State) → Run (Disc s) events now → (disc : Loaded) × (now ≡ Disc disc)
 run_leaves s [] now run = (s, run)
 run_leaves s (event ∷ events) now run =
     let before = run_leaves s events run.0 run.1 in
-    stays_disc before.0 event.line event.payload event.told event.reply now (subst (λ x. Step x event.line event.payload (outcomes.Told event.told) event.reply now) before.1 run.2.step)
+    stays_disc before.0 (work_of event.line) event.payload event.reply event.data_in now (subst (λ x. Step x (work_of event.line) event.payload (Ok event.reply) event.data_in now) before.1 run.2.step)
 
 -- a line that says nothing has no data
 empty_form : (words : List (List ℕ)) (payload : List ℕ) → IsForm words lines.Empty payload → payload ≡ []
@@ -119,24 +121,24 @@ empty_payload raw payload (inl comment) = comment.no_payload
 empty_payload raw payload (inr other) = empty_form (words_of (without_return raw)) payload other.form
 
 -- the bytes of the lines that were answered, the newest of which comes first
-abbrev raws_of : List Event → List (List ℕ)
+abbrev raws_of : List AnsweredLine → List (List ℕ)
 raws_of [] = []
 raws_of (event ∷ events) = event.raw ∷ raws_of events
 
-same_text : (events : List Event) → script_text events ≡ lines_text (raws_of events)
+same_text : (events : List AnsweredLine) → script_text events ≡ lines_text (raws_of events)
 same_text [] = refl
 same_text (event ∷ events) = ap (λ text. text ++ (event.raw ++ line_feed ∷ [])) (same_text events)
 
 -- a line that needs a disc says something, and presses none
-needs_none : (line : Line) → NeedsDisc line → (line ≡ lines.Empty) ⊎ IsLawfulPress line → ⊥
-needs_none line needs (inl empty) = subst NeedsDisc empty needs
-needs_none lines.Empty needs (inr press) = press
-needs_none (lines.Press zones scale psa) needs (inr press) = needs
-needs_none lines.Power needs (inr press) = press
-needs_none (lines.Fail block) needs (inr press) = press
-needs_none (lines.Wear block n) needs (inr press) = press
-needs_none (lines.Cut n fate) needs (inr press) = press
-needs_none (lines.Command cdb) needs (inr press) = press
+needs_none : (line : Line) (on : DiscLine) → work_of line ≡ works.OnDisc on → (line ≡ lines.Empty) ⊎ IsLawfulPress line → ⊥
+needs_none line on needs (inl empty) = (let same : works.Nothing ≡ works.OnDisc on = subst (λ l. work_of l ≡ works.OnDisc on) empty needs in cc)
+needs_none lines.Empty on needs (inr press) = press
+needs_none (lines.Press zones scale psa) on needs (inr press) = cc
+needs_none lines.Power on needs (inr press) = press
+needs_none (lines.Fail block) on needs (inr press) = press
+needs_none (lines.Wear block n) on needs (inr press) = press
+needs_none (lines.Cut n fate) on needs (inr press) = press
+needs_none (lines.Command cdb) on needs (inr press) = press
 
 -- a press says something
 press_speaks : (zones scale psa : ℕ) → lines.Press zones scale psa ≡ lines.Empty → ⊥
@@ -144,37 +146,37 @@ press_speaks zones scale psa same = cc
 
 module _ (bytes script : List ℕ) (press : BeginsWithPress script) where
   -- what a line that is the first to be answered, or says nothing, leaves of an image that is no disc's
-  first_leaves : (line : Line) (raw payload : List ℕ) (told : Told) (reply : List ℕ) (now : State) → Step (Unopened bytes) line payload (outcomes.Told told) reply now → Reads raw line payload
+  first_leaves : (line : Line) (raw payload : List ℕ) (reply : Reply) (data_in : List ℕ) (now : State) → Step (Unopened bytes) (work_of line) payload (Ok reply) data_in now → Reads raw line payload
       → (line ≡ lines.Empty) ⊎ IsLawfulPress line → ((disc : Loaded) × (now ≡ Disc disc)) ⊎ ((now ≡ Unopened bytes) × Reads raw lines.Empty [])
-  first_leaves lines.Empty raw payload told reply now step reads is = inr (step.2, subst (Reads raw lines.Empty) (empty_payload raw payload reads) reads)
-  first_leaves (lines.Press zones scale psa) raw payload told reply now step reads (inl empty) = absurd (press_speaks zones scale psa empty)
-  first_leaves (lines.Press zones scale psa) raw payload told reply now step reads (inr lawful) =
-      elim (press_leaves (Unopened bytes) now (shape_of zones scale psa) told step.0) [
+  first_leaves lines.Empty raw payload reply data_in now step reads is = inr (step.2, subst (Reads raw lines.Empty) (empty_payload raw payload reads) reads)
+  first_leaves (lines.Press zones scale psa) raw payload reply data_in now step reads (inl empty) = absurd (press_speaks zones scale psa empty)
+  first_leaves (lines.Press zones scale psa) raw payload reply data_in now step reads (inr lawful) =
+      elim (press_leaves (Unopened bytes) now (shape_of zones scale psa) reply step.0) [
         | inl disc ↦ inl disc
         | inr kept ↦ absurd (kept.0 lawful)
       ]
-  first_leaves lines.Power raw payload told reply now step reads is = absurd (needs_none lines.Power tt is)
-  first_leaves (lines.Fail block) raw payload told reply now step reads is = absurd (needs_none (lines.Fail block) tt is)
-  first_leaves (lines.Wear block n) raw payload told reply now step reads is = absurd (needs_none (lines.Wear block n) tt is)
-  first_leaves (lines.Cut n fate) raw payload told reply now step reads is = absurd (needs_none (lines.Cut n fate) tt is)
-  first_leaves (lines.Command cdb) raw payload told reply now step reads is = absurd (needs_none (lines.Command cdb) tt is)
+  first_leaves lines.Power raw payload reply data_in now step reads is = absurd (needs_none lines.Power _ refl is)
+  first_leaves (lines.Fail block) raw payload reply data_in now step reads is = absurd (needs_none (lines.Fail block) _ refl is)
+  first_leaves (lines.Wear block n) raw payload reply data_in now step reads is = absurd (needs_none (lines.Wear block n) _ refl is)
+  first_leaves (lines.Cut n fate) raw payload reply data_in now step reads is = absurd (needs_none (lines.Cut n fate) _ refl is)
+  first_leaves (lines.Command cdb) raw payload reply data_in now step reads is = absurd (needs_none (lines.Command cdb) _ refl is)
 
   -- a line after silent ones says nothing, or is that press
-  after_silent : (events : List Event) (rest raw : List ℕ) (line : Line) (payload : List ℕ) → AreSilent (raws_of events) → script ≡ script_text events ++ rest
+  after_silent : (events : List AnsweredLine) (rest raw : List ℕ) (line : Line) (payload : List ℕ) → AreSilent (raws_of events) → script ≡ script_text events ++ rest
       → IsNextLine rest raw → Reads raw line payload → (line ≡ lines.Empty) ⊎ IsLawfulPress line
   after_silent events rest raw line payload silent whole next reads =
       press (raws_of events) rest raw line payload silent (whole ∙ ap (λ text. text ++ rest) (same_text events)) next reads
 
   -- one event more
-  goes_silent : (event : Event) (events : List Event) (rest : List ℕ) (before now : State) → IsStep before event now → script ≡ script_text events ++ ((event.raw ++ line_feed ∷ []) ++ rest)
+  goes_silent : (event : AnsweredLine) (events : List AnsweredLine) (rest : List ℕ) (before now : State) → IsStep before event now → script ≡ script_text events ++ ((event.raw ++ line_feed ∷ []) ++ rest)
       → ((disc : Loaded) × (before ≡ Disc disc)) ⊎ ((before ≡ Unopened bytes) × AreSilent (raws_of events))
       → ((disc : Loaded) × (now ≡ Disc disc)) ⊎ ((now ≡ Unopened bytes) × AreSilent (raws_of (event ∷ events)))
   goes_silent event events rest before now step whole (inl disc) =
-      inl (stays_disc disc.0 event.line event.payload event.told event.reply now (subst (λ x. Step x event.line event.payload (outcomes.Told event.told) event.reply now) disc.1 step.step))
+      inl (stays_disc disc.0 (work_of event.line) event.payload event.reply event.data_in now (subst (λ x. Step x (work_of event.line) event.payload (Ok event.reply) event.data_in now) disc.1 step.step))
   goes_silent event events rest before now step whole (inr silent) =
       elim (
-      first_leaves event.line event.raw event.payload event.told event.reply now
-      (subst (λ x. Step x event.line event.payload (outcomes.Told event.told) event.reply now) silent.0 step.step) step.reads
+      first_leaves event.line event.raw event.payload event.reply event.data_in now
+      (subst (λ x. Step x (work_of event.line) event.payload (Ok event.reply) event.data_in now) silent.0 step.step) step.reads
       (after_silent events ((event.raw ++ line_feed ∷ []) ++ rest) event.raw event.line event.payload silent.1 whole
       (record { line = step.line; after = rest; parts = inl (append_assoc event.raw (line_feed ∷ []) rest) }) step.reads)
       ) [
@@ -183,7 +185,7 @@ module _ (bytes script : List ℕ) (press : BeginsWithPress script) where
       ]
 
   -- there is a disc, or all lines so far say nothing
-  silent_so_far : (events : List Event) (rest : List ℕ) (now : State) → Run (Unopened bytes) events now → script ≡ script_text events ++ rest
+  silent_so_far : (events : List AnsweredLine) (rest : List ℕ) (now : State) → Run (Unopened bytes) events now → script ≡ script_text events ++ rest
       → ((disc : Loaded) × (now ≡ Disc disc)) ⊎ ((now ≡ Unopened bytes) × AreSilent (raws_of events))
   silent_so_far [] rest now run whole = inr (run, tt)
   silent_so_far (event ∷ events) rest now run whole =
@@ -191,35 +193,35 @@ module _ (bytes script : List ℕ) (press : BeginsWithPress script) where
       goes_silent event events rest run.0 now run.2 parts (silent_so_far events ((event.raw ++ line_feed ∷ []) ++ rest) run.0 run.1 parts)
 
   -- a line that says nothing, or is that press, lacks no disc
-  first_answers : (line : Line) (payload reply : List ℕ) (t : State) → Step (Unopened bytes) line payload outcomes.NotADisc reply t → (line ≡ lines.Empty) ⊎ IsLawfulPress line → ⊥
-  first_answers lines.Empty payload reply t step is = told_apart tolds.Silent step.0
-  first_answers (lines.Press zones scale psa) payload reply t step is = step.0
-  first_answers lines.Power payload reply t step is = needs_none lines.Power tt is
-  first_answers (lines.Fail block) payload reply t step is = needs_none (lines.Fail block) tt is
-  first_answers (lines.Wear block n) payload reply t step is = needs_none (lines.Wear block n) tt is
-  first_answers (lines.Cut n fate) payload reply t step is = needs_none (lines.Cut n fate) tt is
-  first_answers (lines.Command cdb) payload reply t step is = needs_none (lines.Command cdb) tt is
+  first_answers : (line : Line) (payload data_in : List ℕ) (t : State) → Step (Unopened bytes) (work_of line) payload (Err stopped.NotADisc) data_in t → (line ≡ lines.Empty) ⊎ IsLawfulPress line → ⊥
+  first_answers lines.Empty payload data_in t step is = told_apart replies.Nothing step.0
+  first_answers (lines.Press zones scale psa) payload data_in t step is = step.0
+  first_answers lines.Power payload data_in t step is = needs_none lines.Power _ refl is
+  first_answers (lines.Fail block) payload data_in t step is = needs_none (lines.Fail block) _ refl is
+  first_answers (lines.Wear block n) payload data_in t step is = needs_none (lines.Wear block n) _ refl is
+  first_answers (lines.Cut n fate) payload data_in t step is = needs_none (lines.Cut n fate) _ refl is
+  first_answers (lines.Command cdb) payload data_in t step is = needs_none (lines.Command cdb) _ refl is
 
   -- no line lacks a disc
-  lacks_none : (events : List Event) (rest : List ℕ) (now : State) (line : Line) (payload reply : List ℕ) (t : State) → Run (Unopened bytes) events now → Reaches script events rest
-      → ComesNext rest line payload → Step now line payload outcomes.NotADisc reply t → ⊥
-  lacks_none events rest now line payload reply t run (inr ended) next step = nothing_follows rest next.raw ended.0 next.next
-  lacks_none events rest now line payload reply t run (inl whole) next step =
+  lacks_none : (events : List AnsweredLine) (rest : List ℕ) (now : State) (line : Line) (payload data_in : List ℕ) (t : State) → Run (Unopened bytes) events now → Reaches script events rest
+      → ComesNext script rest line payload → Step now (work_of line) payload (Err stopped.NotADisc) data_in t → ⊥
+  lacks_none events rest now line payload data_in t run (inr ended) next step = nothing_follows rest next.raw ended.0 next.comes.next
+  lacks_none events rest now line payload data_in t run (inl whole) next step =
       elim (silent_so_far events rest now run whole) [
-        | inl disc ↦ disc_answers disc.0 line payload reply t (subst (λ x. Step x line payload outcomes.NotADisc reply t) disc.1 step)
+        | inl disc ↦ disc_answers disc.0 (work_of line) payload data_in t (subst (λ x. Step x (work_of line) payload (Err stopped.NotADisc) data_in t) disc.1 step)
         | inr silent ↦
-            first_answers line payload reply t (subst (λ x. Step x line payload outcomes.NotADisc reply t) silent.0 step)
-            (after_silent events rest next.raw line payload silent.1 whole next.next next.reads)
+            first_answers line payload data_in t (subst (λ x. Step x (work_of line) payload (Err stopped.NotADisc) data_in t) silent.0 step)
+            (after_silent events rest next.raw line payload silent.1 whole next.comes.next next.reads)
       ]
 
 -- where the run begins with a disc, or with the press of one, no line lacks a disc
-has_disc : (first : Beginning) → BeginsWithDisc first → (start : State) → IsFirst first.image start → (events : List Event) (rest : List ℕ) (now : State) (line : Line) (payload reply : List ℕ) (t : State)
-    → Run start events now → Reaches first.script events rest → ComesNext rest line payload → Step now line payload outcomes.NotADisc reply t → ⊥
-has_disc first begins (Disc s) starts events rest now line payload reply t run lines next step =
-    let disc = run_leaves s events now run in disc_answers disc.0 line payload reply t (subst (λ x. Step x line payload outcomes.NotADisc reply t) disc.1 step)
-has_disc first (inl image) (Unopened bytes) starts events rest now line payload reply t run lines next step = starts.1 image.0 image.1
-has_disc first (inr press) (Unopened bytes) starts events rest now line payload reply t run lines next step =
-    lacks_none bytes first.script press events rest now line payload reply t run lines next step
+has_disc : (first : Beginning) → BeginsWithDisc first → (start : State) → IsFirst first.image start → (events : List AnsweredLine) (rest : List ℕ) (now : State) (line : Line) (payload data_in : List ℕ) (t : State)
+    → Run start events now → Reaches first.script events rest → ComesNext first.script rest line payload → Step now (work_of line) payload (Err stopped.NotADisc) data_in t → ⊥
+has_disc first begins (Disc s) starts events rest now line payload data_in t run lines next step =
+    let disc = run_leaves s events now run in disc_answers disc.0 (work_of line) payload data_in t (subst (λ x. Step x (work_of line) payload (Err stopped.NotADisc) data_in t) disc.1 step)
+has_disc first (inl image) (Unopened bytes) starts events rest now line payload data_in t run lines next step = starts.1 image.0 image.1
+has_disc first (inr press) (Unopened bytes) starts events rest now line payload data_in t run lines next step =
+    lacks_none bytes first.script press events rest now line payload data_in t run lines next step
 
 -- so no last line tells that one does
 never_lacks : (first : Beginning) → BeginsWithDisc first → (far : SoFar first) (line : ℕ) → IsLast far (lasts.NotADisc line) → ⊥
@@ -227,15 +229,15 @@ never_lacks first begins far line is =
     let found = is.0 in has_disc first begins far.start far.starts far.events far.rest far.now found.0 found.1 found.2 found.3 far.run far.lines found.4 found.5
 
 module _ (first : Beginning) (language : IsInLanguage first.script) (begins : BeginsWithDisc first) (before after : Counts) (none : NoneRose before after) where
-  comes_to_its_end : (written image : Option (List ℕ)) (status : Status) → StatusCounts before after status → Leaves first written image status → IsComplete status
-  comes_to_its_end written image statuses.Done counts leaves = tt
-  comes_to_its_end written image statuses.Usage counts leaves = absurd leaves
-  comes_to_its_end written image statuses.Script counts leaves = absurd (well_spelled first leaves.2.far leaves.0 language leaves.1 leaves.2.last_is)
-  comes_to_its_end written image statuses.NotADisc counts leaves = absurd (never_lacks first begins leaves.1.far leaves.0 leaves.1.last_is)
-  comes_to_its_end written image statuses.SourceFault counts leaves = absurd (none.source counts.1)
-  comes_to_its_end written image statuses.SinkFault counts leaves = absurd (none.sink counts.1)
-  comes_to_its_end written image statuses.ImageFault counts leaves = absurd (none.image counts.1)
-  comes_to_its_end written image statuses.NoMemory counts leaves = tt
+  comes_to_its_end : (aftermath : Aftermath) (status : Status) → StatusCounts before after status → StandsWith first aftermath status → IsComplete status
+  comes_to_its_end aftermath statuses.Done counts leaves = tt
+  comes_to_its_end aftermath statuses.Usage counts leaves = absurd leaves
+  comes_to_its_end aftermath statuses.Script counts leaves = absurd (well_spelled first leaves.2.far leaves.0 language leaves.1 leaves.2.last_is)
+  comes_to_its_end aftermath statuses.NotADisc counts leaves = absurd (never_lacks first begins leaves.1.far leaves.0 leaves.1.last_is)
+  comes_to_its_end aftermath statuses.SourceFault counts leaves = absurd (none.source counts.source)
+  comes_to_its_end aftermath statuses.SinkFault counts leaves = absurd (none.sink counts.sink)
+  comes_to_its_end aftermath statuses.ImageFault counts leaves = absurd (none.image counts.image)
+  comes_to_its_end aftermath statuses.NoMemory counts leaves = tt
 
   unopened : (status : Status) → StatusCounts before after status → IsUnopened status → IsComplete status
   unopened statuses.Done counts un = absurd un
@@ -244,15 +246,11 @@ module _ (first : Beginning) (language : IsInLanguage first.script) (begins : Be
   unopened statuses.NotADisc counts un = absurd un
   unopened statuses.SourceFault counts un = absurd un
   unopened statuses.SinkFault counts un = absurd un
-  unopened statuses.ImageFault counts un = absurd (none.image counts.1)
+  unopened statuses.ImageFault counts un = absurd (none.image counts.image)
   unopened statuses.NoMemory counts un = tt
 
 -- such a run comes to its end
-pub completes : {X : Type 0} (bytes_of : X → Option (List ℕ)) (first : Beginning) (left written : Option (List ℕ)) (next : Option X) (tells : Bool) → IsTold bytes_of first left written next tells
-    → IsInLanguage first.script → BeginsWithDisc first → (before after : Counts) → NoneRose before after
-    → (written' image : Option (List ℕ)) (untouched : Type 0) (status : Status) → IsNoUsage status → StatusCounts before after status
-    → Leaves first written' image status ⊎ (IsUnopened status × untouched) → IsComplete status
-completes bytes_of first left written next tells told language begins before after none written' image untouched status other counts (inl leaves) =
-    comes_to_its_end first language begins before after none written' image status counts leaves
-completes bytes_of first left written next tells told language begins before after none written' image untouched status other counts (inr un) =
-    unopened first language begins before after none status counts un.0
+pub completes : (first : Beginning) → IsInLanguage first.script → BeginsWithDisc first → (before after : Counts) → NoneRose before after
+    → (aftermath : Aftermath) (untouched : Type 0) (status : Status) → StatusCounts before after status → StandsWith first aftermath status ⊎ (IsUnopened status × untouched) → IsComplete status
+completes first language begins before after none aftermath untouched status counts (inl stands) = comes_to_its_end first language begins before after none aftermath status counts stands
+completes first language begins before after none aftermath untouched status counts (inr un) = unopened first language begins before after none status counts un.0

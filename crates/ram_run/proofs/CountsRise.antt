@@ -1,25 +1,111 @@
 -- Counts over several steps.
-use Rattle.std.proofs.Common.{arith}
-use Rattle.ram_run.specs.declared.serve.Ending.{Ending}
-use Rattle.ram_run.specs.declared.serve.Ending.TheVariants as endings
-use Rattle.ram_run.specs.declared.serve.Turn.{Turn}
-use Rattle.ram_run.specs.declared.serve.Turn.TheVariants as turns
-use Rattle.ram_run.specs.Turn.{Counts, NoneFell, HasRisen, TurnCounts}
+use Rattle.std.specs.Prelude.{◌≡◌, ℕ, ◌≤◌, ◌⊎◌, Option, Ok, Err, List}
+use Rattle.std.proofs.Common.{arith, refl, sym, ◌∙◌, inl, inr, subst}
+use Rattle.model_counts.specs.Counts.{Rose}
+use Rattle.ram_run.specs.declared.state.Tally.{Tally}
+use Rattle.ram_run.specs.declared.stopped.Stopped.{Stopped}
+use Rattle.ram_run.specs.declared.stopped.Stopped.TheVariants as stopped
+use Rattle.ram_run.specs.declared.status.Status.{Status}
+use Rattle.ram_run.specs.declared.status.Status.TheVariants as statuses
+use Rattle.ram_run.specs.Replies.{Outcome}
+use Rattle.ram_run.specs.RunCounts.{Counts, counts_of, SameCounts, WhyCounts, StopCounts, TellCount, LineCount}
+use Rattle.ram_run.specs.Progress.{View, Ending, TellRule}
+use Rattle.ram_run.specs.Endings.{status_of, StatusCounts, EndsWhole, FinishRule, sink_view}
+use Rattle.ram_run.proofs.Finishes.{not_sink}
 
-pub none_fell : (a b c : Counts) → NoneFell a b → NoneFell b c → NoneFell a c
-none_fell a b c p q = record { source = omega (arith, p.source, q.source); sink = omega (arith, p.sink, q.sink); image = omega (arith, p.image, q.image) }
+-- nothing failed in either of two steps
+pub none_rose : (a b c : Counts) → SameCounts a b → SameCounts b c → SameCounts a c
+none_rose a b c p q = record { source = q.source ∙ p.source; sink = q.sink ∙ p.sink; image = q.image ∙ p.image }
 
-pub has_risen : (a b c : Counts) (ending : Ending) → NoneFell a b → HasRisen b c ending → HasRisen a c ending
-has_risen a b c endings.Done p q = tt
-has_risen a b c endings.NotInLanguage p q = tt
-has_risen a b c endings.LineTooLong p q = tt
-has_risen a b c endings.ScriptTooLong p q = tt
-has_risen a b c endings.NotADisc p q = tt
-has_risen a b c endings.SourceFault p q = omega (arith, p.source, q)
-has_risen a b c endings.SinkFault p q = omega (arith, p.sink, q)
-has_risen a b c endings.ImageFault p q = omega (arith, p.image, q)
-has_risen a b c endings.NoMemory p q = tt
+-- a run is stopped in a step after one in which nothing failed
+pub why_counts : (a b c : Counts) (why : Stopped) → SameCounts a b → WhyCounts b c why → WhyCounts a c why
+why_counts a b c stopped.NotInLanguage p q = none_rose a b c p q
+why_counts a b c stopped.LineTooLong p q = none_rose a b c p q
+why_counts a b c stopped.ScriptTooLong p q = none_rose a b c p q
+why_counts a b c stopped.NotADisc p q = none_rose a b c p q
+why_counts a b c stopped.NoMemory p q = none_rose a b c p q
+why_counts a b c stopped.SourceFault p q = record { source = subst (λ n. Rose n c.source) p.source q.source; sink = q.sink ∙ p.sink; image = q.image ∙ p.image }
+why_counts a b c stopped.SinkFault p q = record { source = q.source ∙ p.source; sink = subst (λ n. Rose n c.sink) p.sink q.sink; image = q.image ∙ p.image }
+why_counts a b c stopped.ImageFault p q = record { source = q.source ∙ p.source; sink = q.sink ∙ p.sink; image = subst (λ n. Rose n c.image) p.image q.image }
 
-pub turn_counts : (a b c : Counts) (turn : Turn) → NoneFell a b → TurnCounts b c turn → TurnCounts a c turn
-turn_counts a b c (turns.Goes next) p q = none_fell a b c p q
-turn_counts a b c (turns.Ends ending) p q = (none_fell a b c p q.0, has_risen a b c ending p q.1)
+-- the counts of a line that came out so, and whose outcome was told
+module _ (source sink sink' image image' : ℕ) (old new : View) (data_in : List ℕ) where
+  pub line_counts : (outcome : Outcome) (result : Ending) → LineCount image image' outcome → TellCount sink sink' outcome result → TellRule old new data_in outcome result
+      → StopCounts (counts_of source sink image) (counts_of source sink' image') result
+  line_counts (Ok reply) (Ok done) line count rule = record { source = refl; sink = count; image = line }
+  line_counts (Ok reply) (Err stopped.SinkFault) line count rule = record { source = refl; sink = count; image = line }
+  line_counts (Ok reply) (Err stopped.NotInLanguage) line count rule = absurd rule
+  line_counts (Ok reply) (Err stopped.LineTooLong) line count rule = absurd rule
+  line_counts (Ok reply) (Err stopped.ScriptTooLong) line count rule = absurd rule
+  line_counts (Ok reply) (Err stopped.NotADisc) line count rule = absurd rule
+  line_counts (Ok reply) (Err stopped.SourceFault) line count rule = absurd rule
+  line_counts (Ok reply) (Err stopped.ImageFault) line count rule = absurd rule
+  line_counts (Ok reply) (Err stopped.NoMemory) line count rule = absurd rule
+  line_counts (Err why) result line count rule = subst (StopCounts (counts_of source sink image) (counts_of source sink' image')) (sym rule.0) (by_why why line)
+    where
+      by_why : (stop : Stopped) → LineCount image image' (Err stop) → WhyCounts (counts_of source sink image) (counts_of source sink' image') stop
+      by_why stopped.NotADisc is = record { source = refl; sink = count; image = is }
+      by_why stopped.NoMemory is = record { source = refl; sink = count; image = is }
+      by_why stopped.ImageFault is = record { source = refl; sink = count; image = is }
+      by_why stopped.NotInLanguage is = absurd is
+      by_why stopped.LineTooLong is = absurd is
+      by_why stopped.ScriptTooLong is = absurd is
+      by_why stopped.SourceFault is = absurd is
+      by_why stopped.SinkFault is = absurd is
+
+-- the counts after a report was ended, by the status that is told
+module _ (source source' sink sink' sink'' image image' : ℕ) (due before written : Option (List ℕ)) (tally : Tally) where
+  -- whatever stopped the lines, no count fell, and but for the sink's end the sink is as it was
+  not_below : (ending : Ending) → StopCounts (counts_of source sink image) (counts_of source' sink' image') ending → (source ≤ source') × (image ≤ image')
+  not_below (Ok done) c = (omega (arith, c.source), omega (arith, c.image))
+  not_below (Err stopped.NotInLanguage) c = (omega (arith, c.source), omega (arith, c.image))
+  not_below (Err stopped.LineTooLong) c = (omega (arith, c.source), omega (arith, c.image))
+  not_below (Err stopped.ScriptTooLong) c = (omega (arith, c.source), omega (arith, c.image))
+  not_below (Err stopped.NotADisc) c = (omega (arith, c.source), omega (arith, c.image))
+  not_below (Err stopped.NoMemory) c = (omega (arith, c.source), omega (arith, c.image))
+  not_below (Err stopped.SourceFault) c = (omega (arith, c.source), omega (arith, c.image))
+  not_below (Err stopped.SinkFault) c = (omega (arith, c.source), omega (arith, c.image))
+  not_below (Err stopped.ImageFault) c = (omega (arith, c.source), omega (arith, c.image))
+
+  -- the sink failed in the lines, or in the end
+  sink_rose : (ending : Ending) → StopCounts (counts_of source sink image) (counts_of source' sink' image') ending → (ending ≡ Err stopped.SinkFault) ⊎ Rose sink' sink'' → sink' ≤ sink'' → Rose sink sink''
+  sink_rose ending c (inl is) le = let rose = subst (StopCounts (counts_of source sink image) (counts_of source' sink' image')) is c in omega (arith, rose.sink, le)
+  sink_rose (Ok done) c (inr rose) le = subst (λ n. Rose n sink'') c.sink rose
+  sink_rose (Err stopped.NotInLanguage) c (inr rose) le = subst (λ n. Rose n sink'') c.sink rose
+  sink_rose (Err stopped.LineTooLong) c (inr rose) le = subst (λ n. Rose n sink'') c.sink rose
+  sink_rose (Err stopped.ScriptTooLong) c (inr rose) le = subst (λ n. Rose n sink'') c.sink rose
+  sink_rose (Err stopped.NotADisc) c (inr rose) le = subst (λ n. Rose n sink'') c.sink rose
+  sink_rose (Err stopped.NoMemory) c (inr rose) le = subst (λ n. Rose n sink'') c.sink rose
+  sink_rose (Err stopped.SourceFault) c (inr rose) le = subst (λ n. Rose n sink'') c.sink rose
+  sink_rose (Err stopped.ImageFault) c (inr rose) le = subst (λ n. Rose n sink'') c.sink rose
+  sink_rose (Err stopped.SinkFault) c (inr rose) le = omega (arith, c.sink, le)
+
+  -- the status tells how the lines ended, and the sink did not fail in the end
+  by_ending : (ending : Ending) → (ending ≡ Err stopped.SinkFault → ⊥) → StopCounts (counts_of source sink image) (counts_of source' sink' image') ending → sink'' ≡ sink'
+      → StatusCounts (counts_of source sink image) (counts_of source' sink'' image') (status_of ending)
+  by_ending (Ok done) other c same = record { source = c.source; sink = same ∙ c.sink; image = c.image }
+  by_ending (Err stopped.NotInLanguage) other c same = record { source = c.source; sink = same ∙ c.sink; image = c.image }
+  by_ending (Err stopped.LineTooLong) other c same = record { source = c.source; sink = same ∙ c.sink; image = c.image }
+  by_ending (Err stopped.ScriptTooLong) other c same = record { source = c.source; sink = same ∙ c.sink; image = c.image }
+  by_ending (Err stopped.NotADisc) other c same = record { source = c.source; sink = same ∙ c.sink; image = c.image }
+  by_ending (Err stopped.NoMemory) other c same = record { source = c.source; sink = same ∙ c.sink; image = c.image }
+  by_ending (Err stopped.SourceFault) other c same = record { source = c.source; sink = same ∙ c.sink; image = c.image }
+  by_ending (Err stopped.ImageFault) other c same = record { source = c.source; sink = same ∙ c.sink; image = c.image }
+  by_ending (Err stopped.SinkFault) other c same = absurd (other refl)
+
+  by_status : (ending : Ending) (status : Status) → (statuses.SinkFault ≡ status → ⊥) → StopCounts (counts_of source sink image) (counts_of source' sink' image') ending
+      → EndsWhole due (sink_view before sink') (sink_view written sink'') tally ending status → StatusCounts (counts_of source sink image) (counts_of source' sink'' image') status
+  by_status ending status other c rule =
+      subst (StatusCounts (counts_of source sink image) (counts_of source' sink'' image')) (sym rule.status_is)
+      (by_ending ending (λ is. not_sink ending status rule.status_is is other) c rule.count)
+
+  pub status_counts : (ending : Ending) (status : Status) → StopCounts (counts_of source sink image) (counts_of source' sink' image') ending
+      → FinishRule due (sink_view before sink') (sink_view written sink'') tally ending status → StatusCounts (counts_of source sink image) (counts_of source' sink'' image') status
+  status_counts ending statuses.Usage c rule = absurd rule
+  status_counts ending statuses.SinkFault c rule = let le = not_below ending c in record { source = le.0; sink = sink_rose ending c rule.cause rule.count; image = le.1 }
+  status_counts ending statuses.Done c rule = by_status ending statuses.Done (λ x. cc) c rule
+  status_counts ending statuses.Script c rule = by_status ending statuses.Script (λ x. cc) c rule
+  status_counts ending statuses.ImageFault c rule = by_status ending statuses.ImageFault (λ x. cc) c rule
+  status_counts ending statuses.SourceFault c rule = by_status ending statuses.SourceFault (λ x. cc) c rule
+  status_counts ending statuses.NoMemory c rule = by_status ending statuses.NoMemory (λ x. cc) c rule
+  status_counts ending statuses.NotADisc c rule = by_status ending statuses.NotADisc (λ x. cc) c rule

@@ -1,11 +1,13 @@
 pub mod StatesAfter
-pub mod HeldSteps
+pub mod LineCounts
+pub mod InsertedSteps
 pub mod Opens
 pub mod Answering
 pub mod Completes
 pub mod Turns
 pub mod LinesTaken
 pub mod CountsRise
+pub mod FewLines
 pub mod Finishes
 pub mod Few
 pub mod Closes

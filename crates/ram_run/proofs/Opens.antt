@@ -1,5 +1,5 @@
 -- What opening and pressing an image make of it.
-use Rattle.std.specs.Prelude.{◌≡◌, ◌≢◌, ℕ, ◌<◌, ◌≤◌, ◌⊎◌, ◌==◌, IsTrue, if◌then◌else◌, Bool, false, true, Option, Some, None, is_some, IfSome, List, [], ◌∷◌, length, drop, slice_index}
+use Rattle.std.specs.Prelude.{◌≡◌, ◌≢◌, ℕ, ◌<◌, ◌≤◌, ◌⊎◌, ◌==◌, IsTrue, if◌then◌else◌, Bool, false, true, Option, Some, None, is_some, IfSome, Err, List, [], ◌∷◌, length, drop, slice_index}
 use Rattle.std.proofs.Common.{arith, refl, sym, ap, ◌∙◌, inl, inr, subst, length-drop}
 use Rattle.std.proofs.lemmas.Bool.{cases_lt, false≢true}
 use Rattle.std.proofs.lemmas.List.{length-take-le, get_or_past}
@@ -9,7 +9,7 @@ use Rattle.model_geometry.specs.Geometry.{Shape, IsLawful, total}
 use Rattle.model_medium.specs.Cells.{Blank, Good, Torn, Dead, cell_at}
 use Rattle.model_medium.specs.Machine.{Machine}
 use Rattle.model_image.specs.Cells.{image_len, state_place, data_place, data_in, cell_in, cells_of, cells_told}
-use Rattle.model_image.specs.Image.{HasHeader, IsDiscImage, IsImageOf, IsStoppedPress, IsPressed as IsPressedImage, blank_cells}
+use Rattle.model_image.specs.Image.{HasHeader, IsDiscImage, IsImageOf, IsStoppedPress, IsPressed, blank_cells}
 use Rattle.model_image.proofs.Headers.{one_header}
 use Rattle.model_image.proofs.Writes.{cell_at-cells_of}
 use Rattle.model_sectors.specs.Discs.{Standing, Off, Shown, IsShown, first_disc}
@@ -22,14 +22,14 @@ use Rattle.ram_image.specs.declared.medium.ImageMedium.{ImageMedium}
 use Rattle.ram_image.specs.declared.opening.OpenFault.{OpenFault}
 use Rattle.ram_image.specs.declared.opening.OpenFault.TheVariants as faulty
 use Rattle.ram_text.specs.declared.printing.Event.TheVariants as events
-use Rattle.ram_run.specs.declared.held.Held.TheVariants as helds
-use Rattle.ram_run.specs.declared.held.Told.TheVariants as tolds
-use Rattle.ram_run.specs.declared.held.Outcome.TheVariants as outcomes
+use Rattle.ram_run.specs.declared.inserted.Inserted.TheVariants as inserts
+use Rattle.ram_run.specs.declared.stopped.Stopped.TheVariants as whys
 use Rattle.ram_run.specs.Homes.{plain_homes}
 use Rattle.ram_run.specs.Drive.{IsStart, IsMade, IsOpenedBy, Opens}
-use Rattle.ram_run.specs.Machine.{State, Loaded, Unopened, Disc, IsOpenedOn}
-use Rattle.ram_run.specs.Held.{Stands, LeavesImage, IsPressAnswered, outcome_of}
-use Rattle.ram_run.specs.Starts.{IsHeldFirst}
+use Rattle.ram_run.specs.Replies.{event, stopped_by}
+use Rattle.ram_run.specs.States.{State, Loaded, Unopened, Disc, IsOpenedOn}
+use Rattle.ram_run.specs.Inserted.{Stands, LeavesImage, IsPressAnswered}
+use Rattle.ram_run.specs.Starts.{StandsFirst}
 
 -- the bytes of a good cell are the block's data
 good_data : (blank good dead : Bool) (whole held : List ℕ) → (if blank then Blank else (if good then Good whole else (if dead then Dead else Torn))) ≡ Good held → held ≡ whole
@@ -112,32 +112,32 @@ module _ {I : Type 0} {d : Images I} (image : I) (medium : ImageMedium I d) (geo
       by_bytes None e = false≢true (sym (opened.as_told ∙ ap is_some e) ∙ sym (ap (λ (m : Machine). m.world.told) made.medium_is) ∙ told)
       by_bytes (Some bytes) e = none (Off (first_disc (plain_homes geometry) (world_of medium).cells ∷ [])) (made.starts (start bytes e))
 
-  -- the same, and no count fell
+  -- the same, and nothing failed
   pub opens : Opens (d.bytes image) (d.faults image) shape shown stands
-  opens = record { opened = opened_by; count = subst (λ (m : Machine). d.faults image ≤ m.world.faults) (sym made.medium_is) opened.count }
+  opens = record { opened = opened_by; count = ap (λ (m : Machine). m.world.faults) made.medium_is ∙ opened.count }
 
 -- an image that was left and then pressed tells the bytes of a new disc
-pressed_bytes : (s : State) (shape : Shape) (before after : Option (List ℕ)) → LeavesImage s before → WhereTold before after (IsPressedImage shape) → (bytes : List ℕ) × (after ≡ Some bytes) × IsImageOf shape (blank_cells shape) bytes
+pressed_bytes : (s : State) (shape : Shape) (before after : Option (List ℕ)) → LeavesImage s before → WhereTold before after (IsPressed shape) → (bytes : List ℕ) × (after ≡ Some bytes) × IsImageOf shape (blank_cells shape) bytes
 pressed_bytes s shape None after left pressed = absurd left
 pressed_bytes s shape (Some before) None left pressed = absurd pressed
-pressed_bytes s shape (Some before) (Some after) left pressed = (after, refl, pressed)
+pressed_bytes s shape (Some before) (Some after) left pressed = (after, refl, pressed.image)
 
 module _ {D I : Type 0} (drives : Drives D) (images : Images I) (s : State) (shape : Shape) (lawful : IsLawful shape) where
   -- the image stopped a press
-  pub press_stopped : (before : Option (List ℕ)) (image : I) → LeavesImage s before → WhereTold before (images.bytes image) IsStoppedPress → IsPressAnswered s shape (Stands drives images (helds.Image image)) outcomes.Fault
+  pub press_stopped : (before : Option (List ℕ)) (image : I) → LeavesImage s before → WhereTold before (images.bytes image) IsStoppedPress → IsPressAnswered s shape (Stands drives images (inserts.Image image)) (Err whys.ImageFault)
   press_stopped before image left stopped = by_bytes before (images.bytes image) left stopped refl
     where
-      by_bytes : (b a : Option (List ℕ)) → LeavesImage s b → WhereTold b a IsStoppedPress → images.bytes image ≡ a → IsPressAnswered s shape (Stands drives images (helds.Image image)) outcomes.Fault
+      by_bytes : (b a : Option (List ℕ)) → LeavesImage s b → WhereTold b a IsStoppedPress → images.bytes image ≡ a → IsPressAnswered s shape (Stands drives images (inserts.Image image)) (Err whys.ImageFault)
       by_bytes None a l w e = absurd l
       by_bytes (Some held) None l w e = absurd w
       by_bytes (Some held) (Some now) l w e = record { state = Unopened now; step = (lawful, inl (held, l, w)); stands = e }
 
-  module _ (before : Option (List ℕ)) (image : I) (left : LeavesImage s before) (pressed : WhereTold before (images.bytes image) (IsPressedImage shape)) where
+  module _ (before : Option (List ℕ)) (image : I) (left : LeavesImage s before) (pressed : WhereTold before (images.bytes image) (IsPressed shape)) where
     found : (bytes : List ℕ) × (images.bytes image ≡ Some bytes) × IsImageOf shape (blank_cells shape) bytes
     found = pressed_bytes s shape before (images.bytes image) left pressed
 
     -- a disc was pressed and opened
-    pub press_opened : (drive : D) → ((bytes : List ℕ) → images.bytes image ≡ Some bytes → IsOpenedBy bytes (drives.shape drive) (drives.shows drive) (drives.stands drive)) → IsPressAnswered s shape (Stands drives images (helds.Disc drive)) (outcomes.Told (tolds.Event events.Pressed))
+    pub press_opened : (drive : D) → ((bytes : List ℕ) → images.bytes image ≡ Some bytes → IsOpenedBy bytes (drives.shape drive) (drives.shows drive) (drives.stands drive)) → IsPressAnswered s shape (Stands drives images (inserts.Disc drive)) (event events.Pressed)
     press_opened drive opening =
         let by = opening found.0 found.1 in
         let one : by.state.shape ≡ shape = one_header by.state.shape shape found.0 by.image.has_header found.2.disc.has_header in
@@ -151,7 +151,7 @@ module _ {D I : Type 0} (drives : Drives D) (images : Images I) (s : State) (sha
         }
 
     -- a pressed image is refused only where it failed, or there was no memory
-    pub press_refused : (image' : I) (faults faults' : ℕ) (fault : OpenFault) → IsRefused (images.bytes image) (images.bytes image') faults faults' fault → IsPressAnswered s shape (Stands drives images (helds.Image image')) (outcome_of fault)
+    pub press_refused : (image' : I) (faults faults' : ℕ) (fault : OpenFault) → IsRefused (images.bytes image) (images.bytes image') faults faults' fault → IsPressAnswered s shape (Stands drives images (inserts.Image image')) (Err (stopped_by fault))
     press_refused image' faults faults' faulty.Header refused = absurd (bad.1 shape found.2.disc.has_header)
       where
         bad : (16 ≤ length found.0) × ((z : Shape) → ¬ HasHeader z found.0)
@@ -172,32 +172,32 @@ module _ {D I : Type 0} (drives : Drives D) (images : Images I) (s : State) (sha
 
 module _ {D I : Type 0} (drives : Drives D) (images : Images I) (image : I) where
   -- a disc was opened
-  pub held_opened : (drive : D) → ((bytes : List ℕ) → images.bytes image ≡ Some bytes → IsOpenedBy bytes (drives.shape drive) (drives.shows drive) (drives.stands drive)) → (bytes : List ℕ) → images.bytes image ≡ Some bytes → IsHeldFirst bytes (Stands drives images (helds.Disc drive))
-  held_opened drive opening bytes told = let by = opening bytes told in record { state = Disc by.state; first = (by.state.shape, by.image, by.opened); stands = by.is_in }
+  pub first_opened : (drive : D) → ((bytes : List ℕ) → images.bytes image ≡ Some bytes → IsOpenedBy bytes (drives.shape drive) (drives.shows drive) (drives.stands drive)) → (bytes : List ℕ) → images.bytes image ≡ Some bytes → StandsFirst bytes (Stands drives images (inserts.Disc drive))
+  first_opened drive opening bytes told = let by = opening bytes told in record { state = Disc by.state; first = (by.state.shape, by.image, by.opened); stands_first = by.is_in }
 
   -- an image that holds no disc is left as it is
-  pub held_unopened : (image' : I) (faults faults' : ℕ) (fault : OpenFault) → IsRefused (images.bytes image) (images.bytes image') faults faults' fault → (fault ≡ faulty.Header) ⊎ ((len : ℕ) × (fault ≡ faulty.Length len))
-      → ((bytes : List ℕ) → images.bytes image ≡ Some bytes → IsHeldFirst bytes (Stands drives images (helds.Image image'))) × (faults ≤ faults')
-  held_unopened image' faults faults' why refused (inl e) = (λ bytes told. without_header bytes told (subst (IsRefused (images.bytes image) (images.bytes image') faults faults') e refused), (subst (IsRefused (images.bytes image) (images.bytes image') faults faults') e refused).0.count)
+  pub first_unopened : (image' : I) (faults faults' : ℕ) (fault : OpenFault) → IsRefused (images.bytes image) (images.bytes image') faults faults' fault → (fault ≡ faulty.Header) ⊎ ((len : ℕ) × (fault ≡ faulty.Length len))
+      → ((bytes : List ℕ) → images.bytes image ≡ Some bytes → StandsFirst bytes (Stands drives images (inserts.Image image'))) × (faults' ≡ faults)
+  first_unopened image' faults faults' why refused (inl e) = (λ bytes told. without_header bytes told (subst (IsRefused (images.bytes image) (images.bytes image') faults faults') e refused), (subst (IsRefused (images.bytes image) (images.bytes image') faults faults') e refused).0.count)
     where
-      without_header : (bytes : List ℕ) → images.bytes image ≡ Some bytes → IsRefused (images.bytes image) (images.bytes image') faults faults' faulty.Header → IsHeldFirst bytes (Stands drives images (helds.Image image'))
+      without_header : (bytes : List ℕ) → images.bytes image ≡ Some bytes → IsRefused (images.bytes image) (images.bytes image') faults faults' faulty.Header → StandsFirst bytes (Stands drives images (inserts.Image image'))
       without_header bytes told r =
           let bad : (16 ≤ length bytes) × ((z : Shape) → ¬ HasHeader z bytes) = subst (λ o. IfSome o (λ held. (16 ≤ length held) × ((z : Shape) → ¬ HasHeader z held))) told r.1 in
-          record { state = Unopened bytes; first = (refl, λ shape there. bad.1 shape there.has_header); stands = r.0.same ∙ told }
-  held_unopened image' faults faults' why refused (inr other) = (λ bytes told. of_other_length bytes told (subst (IsRefused (images.bytes image) (images.bytes image') faults faults') other.1 refused), (subst (IsRefused (images.bytes image) (images.bytes image') faults faults') other.1 refused).0.count)
+          record { state = Unopened bytes; first = (refl, λ shape there. bad.1 shape there.has_header); stands_first = r.0.same ∙ told }
+  first_unopened image' faults faults' why refused (inr other) = (λ bytes told. of_other_length bytes told (subst (IsRefused (images.bytes image) (images.bytes image') faults faults') other.1 refused), (subst (IsRefused (images.bytes image) (images.bytes image') faults faults') other.1 refused).0.count)
     where
       clash : (bytes : List ℕ) (shape : Shape) → other.0 ≡ length bytes → IsDiscImage shape bytes → (other.0 < 16) ⊎ ((z : Shape) × HasHeader z bytes × (other.0 ≢ image_len (total z))) → ⊥
       clash bytes shape long there (inl short) = let whole = there.as_long in omega (arith, long, whole)
       clash bytes shape long there (inr z) = z.2 (long ∙ there.as_long ∙ ap (λ (y : Shape). image_len (total y)) (one_header shape z.0 bytes there.has_header z.1))
 
-      of_other_length : (bytes : List ℕ) → images.bytes image ≡ Some bytes → IsRefused (images.bytes image) (images.bytes image') faults faults' (faulty.Length other.0) → IsHeldFirst bytes (Stands drives images (helds.Image image'))
+      of_other_length : (bytes : List ℕ) → images.bytes image ≡ Some bytes → IsRefused (images.bytes image) (images.bytes image') faults faults' (faulty.Length other.0) → StandsFirst bytes (Stands drives images (inserts.Image image'))
       of_other_length bytes told r =
           let bad : (other.0 ≡ length bytes) × ((other.0 < 16) ⊎ ((z : Shape) × HasHeader z bytes × (other.0 ≢ image_len (total z)))) = subst (λ o. IfSome o (λ held. (other.0 ≡ length held) × ((other.0 < 16) ⊎ ((z : Shape) × HasHeader z held × (other.0 ≢ image_len (total z)))))) told r.1 in
-          record { state = Unopened bytes; first = (refl, λ shape there. clash bytes shape bad.0 there bad.1); stands = r.0.same ∙ told }
+          record { state = Unopened bytes; first = (refl, λ shape there. clash bytes shape bad.0 there bad.1); stands_first = r.0.same ∙ told }
 
 -- there was no memory for the disc, and the image is as it was
 pub handed_back_unopened : {I : Type 0} (images : Images I) (image : I) (medium medium' : ImageMedium I images) (geometry : Shape) (image' : I) → IsOpened image medium geometry → medium' ≡ medium → image' ≡ medium'.image
     → IsUnchanged (images.bytes image) (images.bytes image') (images.faults image) (images.faults image')
 handed_back_unopened {I} images image medium medium' geometry image' opened same handed =
     let back : image' ≡ medium.image = handed ∙ ap (λ (m : ImageMedium I images). m.image) same in
-    record { same = ap images.bytes back ∙ opened.same_image; count = subst (λ i. images.faults image ≤ images.faults i) (sym back) opened.count }
+    record { same = ap images.bytes back ∙ opened.same_image; count = ap images.faults back ∙ opened.count }

@@ -1,53 +1,24 @@
--- What a call leaves a drive standing for, found in its clause, and that no count falls.
-use Rattle.std.specs.Prelude.{◌≡◌, ℕ, ◌≤◌, Result, Ok, Err, List, length}
-use Rattle.std.proofs.Common.{arith, sym, ap, inl, inr, subst}
-use Rattle.model_counts.specs.Counts.{Rose}
-use Rattle.model_medium.specs.Machine.{Machine}
-use Rattle.model_medium.specs.Reach.{Reach}
+-- What a line leaves a drive standing for, found in its clause.
+use Rattle.std.specs.Prelude.{◌≡◌, ℕ, List}
+use Rattle.std.proofs.Common.{sym, ap, subst}
 use Rattle.model_sectors.specs.Discs.{Standing, Shown}
-use Rattle.model_sectors.specs.Parts.{IsStopped}
-use Rattle.model_sectors.specs.Reads.{ReadCause}
-use Rattle.model_sectors.specs.Writes.{WriteCause}
-use Rattle.model_sectors.specs.Power.{PowerCause, PowerStep}
+use Rattle.model_sectors.specs.Power.{PowerStep}
 use Rattle.model_sectors.proofs.Found.{power_found}
-use Rattle.model_sectors.specs.declared.ReadOut.{ReadOut}
-use Rattle.model_sectors.specs.declared.ReadOut.TheVariants as reads
-use Rattle.model_sectors.specs.declared.WriteOut.{WriteOut}
-use Rattle.model_sectors.specs.declared.WriteOut.TheVariants as writes
-use Rattle.model_sectors.specs.declared.PowerOut.{PowerOut}
-use Rattle.model_sectors.specs.declared.PowerOut.TheVariants as powers
-use Rattle.ram_sense.specs.declared.sense.Sense.{Sense}
-use Rattle.model_stops.specs.declared.Stop.TheVariants as stops
-use Rattle.ram_medium.specs.declared.control.FailEnd.{FailEnd}
-use Rattle.ram_medium.specs.declared.control.FailEnd.TheVariants as fails
-use Rattle.ram_medium.specs.declared.control.Arm.{Arm}
-use Rattle.ram_medium.specs.declared.control.Arm.TheVariants as arming
-use Rattle.ram_medium.specs.Control.{FailRule, WearRule}
-use Rattle.ram_medium.proofs.Parts.{use_failed}
-use Rattle.model_medium.specs.declared.WornBlock.{WornBlock}
-use Rattle.ram_sense.specs.declared.answer.Answer.{Answer}
-use Rattle.ram_text.specs.declared.script.Line.{Line}
-use Rattle.ram_text.specs.declared.script.Line.TheVariants.{Empty, Press, Power, Fail, Wear, Cut, Command}
-use Rattle.ram_mmc.specs.declared.commands.Transfer.{Transfer}
-use Rattle.ram_mmc.specs.declared.commands.Transfer.TheVariants as transfers
-use Rattle.ram_run.specs.declared.held.Outcome.{Outcome}
+use Rattle.ram_run.specs.declared.line.DiscLine.{DiscLine}
+use Rattle.ram_run.specs.declared.line.DiscLine.TheVariants.{Power, Fail, Wear, Cut, Command}
+use Rattle.ram_run.specs.Replies.{Outcome}
 use Rattle.ram_mmc.proofs.Found.{Found, executed_found}
-use Rattle.ram_mmc.specs.Asked.{asked}
-use Rattle.ram_mmc.specs.Commands.{read_answer, write_answer, IsTransferred, IsExecuted}
-use Rattle.ram_run.specs.Machine.{KeepsRest, DiscRule, power_outcome, fail_outcome, wear_outcome, command_outcome}
+use Rattle.ram_run.specs.LineSteps.{KeepsRest, DiscRule}
 use Rattle.ram_run.specs.Control.{stands_after_fail}
-use Rattle.ram_run.specs.Held.{OutcomeCount}
 
 module _ (old new : Shown) (before after : Standing → Type 0) (s : Standing) (stood : before s) where
   keeps_found : KeepsRest old new before after → Found after (λ t. KeepsRest old new (λ x. x ≡ s) (λ x. x ≡ t))
   keeps_found p = (s, p.stands s stood, record { buffered = p.buffered; stands = λ x e. e })
 
   -- what a line leaves
-  pub rule_found : (total : ℕ) (line : Line) (payload : List ℕ) (outcome : Outcome) (reply : List ℕ) → DiscRule old new before after total line payload outcome reply
-      → Found after (λ t. DiscRule old new (λ x. x ≡ s) (λ x. x ≡ t) total line payload outcome reply)
-  rule_found total Empty payload outcome reply p = absurd p
-  rule_found total (Press zones scale psa) payload outcome reply p = absurd p
-  rule_found total Power payload outcome reply p =
+  pub rule_found : (total : ℕ) (line : DiscLine) (payload : List ℕ) (outcome : Outcome) (data_in : List ℕ) → DiscRule old new before after total line payload outcome data_in
+      → Found after (λ t. DiscRule old new (λ x. x ≡ s) (λ x. x ≡ t) total line payload outcome data_in)
+  rule_found total Power payload outcome data_in p =
       let found = power_found old new after s p.0.out (p.0.step s stood) in (
         found.0,
         found.1,
@@ -56,107 +27,17 @@ module _ (old new : Shown) (before after : Standing → Type 0) (s : Standing) (
           p.1,
         ),
       )
-  rule_found total (Fail block) payload outcome reply p = (
+  rule_found total (Fail block) payload outcome data_in p = (
     stands_after_fail s p.0.end,
     p.0.stands s stood,
     (record { end = p.0.end; rule = p.0.rule; buffered = p.0.buffered; stands = λ x e. ap (λ y. stands_after_fail y p.0.end) e; outcome_is = p.0.outcome_is }, p.1),
   )
-  rule_found total (Wear block n) payload outcome reply p =
+  rule_found total (Wear block n) payload outcome data_in p =
       let found = keeps_found p.0.keeps in
       (found.0, found.1, (record { end = p.0.end; rule = p.0.rule; keeps = found.2; outcome_is = p.0.outcome_is }, p.1))
-  rule_found total (Cut n fate) payload outcome reply p =
+  rule_found total (Cut n fate) payload outcome data_in p =
       let found = keeps_found p.0.keeps in
       (found.0, found.1, (record { armed = p.0.armed; keeps = found.2; outcome_is = p.0.outcome_is }, p.1))
-  rule_found total (Command cdb) payload outcome reply p =
-      let found = executed_found old new before after s stood cdb payload p.answer reply p.executed in
+  rule_found total (Command cdb) payload outcome data_in p =
+      let found = executed_found old new before after s stood cdb payload p.answer data_in p.executed in
       (found.0, found.1, record { answer = p.answer; executed = found.2; outcome_is = p.outcome_is })
-
--- a count that rose later rose over all
-rose_later : (a b c : ℕ) → a ≤ b → Rose b c → Rose a c
-rose_later a b c le rose = omega (arith, le, rose)
-
-module _ (old new : Machine) where
-  reach_counts : (k : ℕ) → Reach old new k → old.world.faults ≤ new.world.faults
-  reach_counts k reach = reach.lasts.never_falls
-
-module _ (old new : Shown) where
-  cut_counts : (most : ℕ) → IsStopped old new most stops.Cut → old.medium.world.faults ≤ new.medium.world.faults
-  cut_counts most stopped = stopped.stops.reach.lasts.never_falls
-
-  fault_counts : (most : ℕ) → IsStopped old new most stops.Fault → Rose old.medium.world.faults new.medium.world.faults
-  fault_counts most stopped =
-      rose_later old.medium.world.faults stopped.stops.mid.world.faults new.medium.world.faults stopped.stops.reach.lasts.never_falls
-      (use_failed stopped.stops.mid.world new.medium.world stopped.stops.block stopped.stops.fails).fault
-
-  same_counts : new ≡ old → old.medium.world.faults ≤ new.medium.world.faults
-  same_counts same = omega (arith, ap (λ (x : Shown). x.medium.world.faults) same)
-
-  read_counts : (lba n : ℕ) (out : ReadOut) → ReadCause old new lba n out → OutcomeCount old.medium.world.faults new.medium.world.faults (command_outcome (read_answer out))
-  read_counts lba n reads.Good p = p.goes.reach.lasts.never_falls
-  read_counts lba n reads.NotFormatted p = same_counts p.1
-  read_counts lba n (reads.Range told) p = same_counts p.1
-  read_counts lba n (reads.Unread named block) p = p.1.goes.reach.lasts.never_falls
-  read_counts lba n reads.Cut p = cut_counts _ p.1
-  read_counts lba n reads.Off p = same_counts p.1
-  read_counts lba n reads.Fault p = fault_counts _ p.1
-
-  write_counts : (lba n : ℕ) (out : WriteOut) → WriteCause old new lba n out → OutcomeCount old.medium.world.faults new.medium.world.faults (command_outcome (write_answer out))
-  write_counts lba n writes.Good p = p.goes.reach.lasts.never_falls
-  write_counts lba n writes.NotFormatted p = same_counts p.1
-  write_counts lba n (writes.Range told) p = same_counts p.1
-  write_counts lba n (writes.Unread named block) p = p.1.goes.reach.lasts.never_falls
-  write_counts lba n (writes.NoSpare named) p = p.1.goes.reach.lasts.never_falls
-  write_counts lba n writes.Cut p = cut_counts _ p.1
-  write_counts lba n writes.Off p = same_counts p.1
-  write_counts lba n writes.Fault p = fault_counts _ p.1
-
-  power_counts : (out : PowerOut) → PowerCause old new out → OutcomeCount old.medium.world.faults new.medium.world.faults (power_outcome out)
-  power_counts (powers.Ready told) p = p.0.reach.lasts.never_falls
-  power_counts powers.NotFormatted p = p.0.reach.lasts.never_falls
-  power_counts powers.Cut p = p.stops.reach.lasts.never_falls
-  power_counts powers.Fault p =
-      rose_later old.medium.world.faults p.stops.mid.world.faults new.medium.world.faults p.stops.reach.lasts.never_falls
-      (use_failed p.stops.mid.world new.medium.world p.stops.block p.stops.fails).fault
-  power_counts powers.NoMemory p = p.reach.lasts.never_falls
-
-  fail_counts : (total block : ℕ) (end : FailEnd) → FailRule total old.medium new.medium block end → OutcomeCount old.medium.world.faults new.medium.world.faults (fail_outcome end)
-  fail_counts total block fails.Done p = p.1.never_falls
-  fail_counts total block (fails.NoBlock blocks) p = omega (arith, ap (λ (m : Machine). m.world.faults) p.2)
-  fail_counts total block fails.Failed p = p.1.fault
-
-  wear_counts : (total : ℕ) (worn : WornBlock) (end : Arm) → WearRule total old.medium new.medium worn end → OutcomeCount old.medium.world.faults new.medium.world.faults (wear_outcome end)
-  wear_counts total worn arming.Set p = omega (arith, ap (λ (m : Machine). m.world.faults) p.2)
-  wear_counts total worn (arming.NoBlock blocks) p = omega (arith, ap (λ (m : Machine). m.world.faults) p.2)
-  wear_counts total worn arming.Full p = omega (arith, ap (λ (m : Machine). m.world.faults) p.2)
-
-  module _ (before after : Standing → Type 0) where
-    transfer_counts : (payload : List ℕ) (answer : Answer) (reply : List ℕ) (wanted : Result Transfer Sense) → IsTransferred old new before after payload answer reply wanted
-        → OutcomeCount old.medium.world.faults new.medium.world.faults (command_outcome answer)
-    transfer_counts payload answer reply (Ok (transfers.Read lba n)) p =
-        subst (λ a. OutcomeCount old.medium.world.faults new.medium.world.faults (command_outcome a)) (sym p.answer_is) (read_counts lba n p.out p.cause)
-    transfer_counts payload answer reply (Ok (transfers.Write lba n)) p =
-        subst (λ a. OutcomeCount old.medium.world.faults new.medium.world.faults (command_outcome a)) (sym p.answer_is) (write_counts lba n p.out p.cause)
-    transfer_counts payload answer reply (Err why) p =
-        subst (λ a. OutcomeCount old.medium.world.faults new.medium.world.faults (command_outcome a)) (sym p.answer_is) (same_counts p.untouched.same)
-
-    command_counts : (cdb payload : List ℕ) (answer : Answer) (reply : List ℕ) → IsExecuted old new before after cdb payload answer reply
-        → OutcomeCount old.medium.world.faults new.medium.world.faults (command_outcome answer)
-    command_counts cdb payload answer reply (inl off) =
-        subst (λ a. OutcomeCount old.medium.world.faults new.medium.world.faults (command_outcome a)) (sym off.1.answer_is) (same_counts off.1.untouched.same)
-    command_counts cdb payload answer reply (inr on) = transfer_counts payload answer reply (asked cdb (length payload)) on.1
-
-    -- no count falls in a line, and a failure of the image is counted
-    pub rule_counts : (total : ℕ) (line : Line) (payload : List ℕ) (outcome : Outcome) (reply : List ℕ) → DiscRule old new before after total line payload outcome reply
-        → OutcomeCount old.medium.world.faults new.medium.world.faults outcome
-    rule_counts total Empty payload outcome reply p = absurd p
-    rule_counts total (Press zones scale psa) payload outcome reply p = absurd p
-    rule_counts total Power payload outcome reply p =
-        subst (OutcomeCount old.medium.world.faults new.medium.world.faults) (sym p.0.outcome_is) (power_counts p.0.out p.0.cause)
-    rule_counts total (Fail block) payload outcome reply p =
-        subst (OutcomeCount old.medium.world.faults new.medium.world.faults) (sym p.0.outcome_is) (fail_counts total block p.0.end p.0.rule)
-    rule_counts total (Wear block n) payload outcome reply p =
-        subst (OutcomeCount old.medium.world.faults new.medium.world.faults) (sym p.0.outcome_is) (wear_counts total (record { block = block; left = n }) p.0.end p.0.rule)
-    rule_counts total (Cut n fate) payload outcome reply p =
-        subst (OutcomeCount old.medium.world.faults new.medium.world.faults) (sym p.0.outcome_is) (omega (arith, ap (λ (m : Machine). m.world.faults) p.0.armed))
-    rule_counts total (Command cdb) payload outcome reply p =
-        subst (OutcomeCount old.medium.world.faults new.medium.world.faults) (sym p.outcome_is) (command_counts cdb payload p.answer reply p.executed)

@@ -1,20 +1,25 @@
 -- How the lines so far go on by one line, and how they end.
-use Rattle.std.specs.Prelude.{◌≡◌, ℕ, ◌+◌, ◌<◌, ◌⊎◌, Option, Some, List, [], ◌∷◌, ◌++◌, length, take, drop}
-use Rattle.std.specs.Io.KnownBytes.{append_known}
-use Rattle.std.proofs.Common.{arith, sym, ap, ◌∙◌, inl, inr, subst, append_assoc, length-append, take-append-drop}
+use Rattle.std.specs.Prelude.{◌≡◌, ℕ, ◌+◌, ◌<◌, ◌⊎◌, Option, Some, Ok, Err, List, [], ◌∷◌, ◌++◌, length, take, drop}
+use Rattle.std.specs.Io.KnownBytes.{append_known, prepend_known}
+use Rattle.std.proofs.Common.{arith, refl, sym, ap, ◌∙◌, inl, inr, subst, append_assoc, append-nil, length-append, take-append-drop}
 use Rattle.ram_text.specs.Lines.{line_feed}
-use Rattle.ram_text.specs.Writer.{IsPut, IsCutOff}
-use Rattle.ram_text.specs.declared.printing.LastLine.TheVariants as lasts
-use Rattle.ram_text.specs.declared.script.Line.{Line}
-use Rattle.ram_run.specs.declared.held.Told.{Told}
-use Rattle.ram_run.specs.declared.held.Outcome.{Outcome}
-use Rattle.ram_run.specs.declared.held.Outcome.TheVariants as outcomes
-use Rattle.ram_run.specs.declared.serve.Tally.{Tally}
+use Rattle.ram_run.specs.declared.line.Work.{Work}
+use Rattle.ram_run.specs.declared.line.Work.TheVariants as works
+use Rattle.ram_run.specs.declared.reply.Reply.{Reply}
+use Rattle.ram_run.specs.declared.reply.Reply.TheVariants as replies
+use Rattle.ram_run.specs.declared.state.Tally.{Tally}
+use Rattle.ram_run.specs.declared.stopped.Stopped.{Stopped}
+use Rattle.ram_run.specs.declared.stopped.Stopped.TheVariants as stopped
 use Rattle.ram_run.proofs.Answering.{lacks_same}
-use Rattle.ram_run.specs.Machine.{State}
-use Rattle.ram_run.specs.Held.{IsAnswered}
-use Rattle.ram_run.specs.Run.{Event, EndsWithBytes, answers_of, script_text, report_text, event_text, told_text, ComesNext}
-use Rattle.ram_run.specs.Turn.{Beginning, SoFar, Between, Taken, EndsBetween, EndsCutOff, EndsInLine}
+use Rattle.ram_run.specs.NextLines.{ComesNext}
+use Rattle.ram_run.specs.Work.{work_of}
+use Rattle.ram_run.specs.Replies.{Outcome}
+use Rattle.ram_run.specs.States.{State}
+use Rattle.ram_run.specs.LineSteps.{Step}
+use Rattle.ram_run.specs.Inserted.{IsAnswered}
+use Rattle.ram_run.specs.Run.{AnsweredLine, EndsWithBytes, answers_of, script_text, report_text, line_text}
+use Rattle.ram_run.specs.RunCounts.{LineCount}
+use Rattle.ram_run.specs.Progress.{Beginning, SoFar, View, Between, Taken, Ending, EndsBetween, EndsCutOff, EndsInLine, Ends, TurnsTo, IsStoppedAt, IsStop, IsReplied, TellRule}
 
 -- the script after one line more
 reaches_more : (ends : Type 0) (script text rest raw after : List ℕ) → (script ≡ text ++ rest) ⊎ ((rest ≡ []) × ends × (script ++ line_feed ∷ [] ≡ text)) → (rest ≡ raw ++ (line_feed ∷ after)) ⊎ ((rest ≡ raw) × (0 < length raw) × (after ≡ []))
@@ -30,80 +35,129 @@ reaches_more ends script text rest raw after (inr ended) (inr last) = absurd (om
 due_more : (due due' : Option (List ℕ)) (report so_far text : List ℕ) → due ≡ Some (report ++ so_far) → due' ≡ append_known due text → due' ≡ Some (report ++ (so_far ++ text))
 due_more due due' report so_far text told grew = grew ∙ ap (λ o. append_known o text) told ∙ ap Some (append_assoc report so_far text)
 
--- an outcome of a line, as it is known
-pub came_out : (s : State) (line : Line) (payload reply : List ℕ) (held : State → Type 0) (outcome known : Outcome) → outcome ≡ known → IsAnswered s line payload reply held outcome → IsAnswered s line payload reply held known
-came_out s line payload reply held outcome known is answered = subst (λ o. IsAnswered s line payload reply held o) is answered
+module _ (first : Beginning) (far : SoFar first) (view : View) (work : Work) (payload : List ℕ) (t : Taken far view work payload) (stands : State → Type 0) (data_in : List ℕ) where
+  -- the step of the line that was taken
+  step_of : (outcome : Outcome) (state : State) → Step far.now work payload outcome data_in state → Step far.now (work_of t.line) payload outcome data_in state
+  step_of outcome state step = subst (λ w. Step far.now w payload outcome data_in state) t.work_is step
 
-module _ (first : Beginning) (held : State → Type 0) (left due : Option (List ℕ)) (taken : ℕ) (tally : Tally) (line : Line) (payload : List ℕ) (t : Taken first held left due taken tally line payload) (held' : State → Type 0) (reply : List ℕ) where
-  -- the event of the line that was taken
-  abbrev event : Told → Event
-  event told = record { raw = t.raw; line = line; payload = payload; told = told; reply = reply }
+  -- the line with what it is answered
+  abbrev event : Reply → AnsweredLine
+  event reply = record { raw = t.raw; line = t.line; payload = payload; reply = reply; data_in = data_in }
 
   -- the lines with this one
-  abbrev one_more : (told : Told) → IsAnswered t.far.now line payload reply held' (outcomes.Told told) → SoFar first
-  one_more told answered = record {
-    start = t.far.start;
-    events = event told ∷ t.far.events;
+  abbrev one_more : (reply : Reply) → IsAnswered far.now work payload data_in stands (Ok reply) → SoFar first
+  one_more reply answered = record {
+    start = far.start;
+    events = event reply ∷ far.events;
     now = answered.state;
-    rest = t.next.after;
-    starts = t.far.starts;
-    run = (t.far.now, t.far.run, record { line = t.next.line; reads = t.reads; step = answered.step });
-    lines = reaches_more (EndsWithBytes t.far.events) first.script (script_text t.far.events) t.far.rest t.raw t.next.after t.far.lines t.next.parts;
+    rest = t.comes.next.after;
+    starts = far.starts;
+    run = (far.now, far.run, record { line = t.comes.next.line; reads = t.reads; step = step_of (Ok reply) answered.state answered.step });
+    lines = reaches_more (EndsWithBytes far.events) first.script (script_text far.events) far.rest t.raw t.comes.next.after far.lines t.comes.next.parts;
+    within = t.comes.within;
   }
 
   -- the line was answered, and the answer is due
-  pub goes_on : (due' : Option (List ℕ)) (f f' : ℕ) (told : Told) (printed : List ℕ) (next : Tally) → IsAnswered t.far.now line payload reply held' (outcomes.Told told) → printed ≡ reply
-      → next ≡ record { lines = tally.lines + 1; answered = tally.answered + answers_of told } → IsPut due due' f f' (told_text (tally.lines + 1) line told printed) → Between first held' left due' taken next
-  goes_on due' f f' told printed next answered same counted put = record {
-    far = one_more told answered;
-    stands = answered.stands;
-    left_is = t.left_is;
-    taken_is = t.taken_is;
-    tallied = record {
-      lines = ap (λ (x : Tally). x.lines) counted ∙ ap (λ n. n + 1) t.tallied.lines ∙ omega arith;
-      answered = ap (λ (x : Tally). x.answered) counted ∙ ap (λ n. n + answers_of told) t.tallied.answered;
+  goes_on : (new : View) (reply : Reply) → IsAnswered far.now work payload data_in stands (Ok reply) → IsReplied view new reply data_in → Between first stands new
+  goes_on new reply answered replied = record {
+    far = one_more reply answered;
+    stands_now = answered.stands;
+    at = record {
+      left_is = ap (λ b. prepend_known b new.left) replied.same_buffered ∙ ap (prepend_known view.buffered) replied.same_left ∙ t.left_is;
+      taken_is = ap (λ n. n + length t.comes.next.after) replied.same_taken ∙ t.taken_is;
+      tallied = record {
+        lines = ap (λ (x : Tally). x.lines) replied.counted ∙ ap (λ n. n + 1) t.tallied.lines ∙ omega arith;
+        answered = ap (λ (x : Tally). x.answered) replied.counted ∙ ap (λ n. n + answers_of reply) t.tallied.answered;
+      };
+      due_is = due_more view.due new.due first.report (report_text far.events) (line_text (length far.events + 1) reply data_in) t.due_is
+          (replied.grew ∙ ap (λ n. append_known view.due (line_text (n + 1) reply data_in)) t.tallied.lines);
     };
-    due_is = due_more due due' first.report (report_text t.far.events) (event_text (length t.far.events + 1) (event told)) t.due_is
-        (put.grew ∙ ap (λ p. append_known due (told_text (tally.lines + 1) line told p)) same ∙ ap (λ n. append_known due (event_text (n + 1) (event told))) t.tallied.lines);
   }
 
-  -- the line was answered, and a front of the answer is due
-  pub cut_off : (due' : Option (List ℕ)) (f f' : ℕ) (told : Told) (printed : List ℕ) → IsAnswered t.far.now line payload reply held' (outcomes.Told told) → printed ≡ reply
-      → IsCutOff due due' f f' (told_text (tally.lines + 1) line told printed) → EndsCutOff first held' due'
-  cut_off due' f f' told printed answered same cut = record { far = one_more told answered; stands = answered.stands; front = record { written = front; more = drop cut.n text; due_is = grown; front = whole } }
+  -- the line was answered, and the beginning of the answer is due
+  cut_off : (new : View) (reply : Reply) → IsAnswered far.now work payload data_in stands (Ok reply)
+      → (n : ℕ) × (new.due ≡ append_known view.due (take n (line_text (view.tally.lines + 1) reply data_in))) → EndsCutOff first stands new
+  cut_off new reply answered cut = record { far = one_more reply answered; stands_now = answered.stands; part = record { written = written; more = drop cut.0 text; due_is = grown; prefix = whole } }
     where
       text : List ℕ
-      text = event_text (tally.lines + 1) (event told)
+      text = line_text (view.tally.lines + 1) reply data_in
 
-      front : List ℕ
-      front = first.report ++ (report_text t.far.events ++ take cut.n text)
+      written : List ℕ
+      written = first.report ++ (report_text far.events ++ take cut.0 text)
 
-      grown : due' ≡ Some front
-      grown = due_more due due' first.report (report_text t.far.events) (take cut.n text) t.due_is (cut.grew ∙ ap (λ p. append_known due (take cut.n (told_text (tally.lines + 1) line told p))) same)
+      grown : new.due ≡ Some written
+      grown = due_more view.due new.due first.report (report_text far.events) (take cut.0 text) t.due_is cut.1
 
-      whole : front ++ drop cut.n text ≡ first.report ++ (report_text t.far.events ++ event_text (length t.far.events + 1) (event told))
+      whole : written ++ drop cut.0 text ≡ first.report ++ (report_text far.events ++ line_text (length far.events + 1) reply data_in)
       whole =
-          append_assoc first.report (report_text t.far.events ++ take cut.n text) (drop cut.n text)
-          ∙ ap (λ l. first.report ++ l) (append_assoc (report_text t.far.events) (take cut.n text) (drop cut.n text) ∙ ap (λ l. report_text t.far.events ++ l) (take-append-drop cut.n text)
-          ∙ ap (λ n. report_text t.far.events ++ event_text (n + 1) (event told)) t.tallied.lines)
+          append_assoc first.report (report_text far.events ++ take cut.0 text) (drop cut.0 text)
+          ∙ ap (λ l. first.report ++ l) (append_assoc (report_text far.events) (take cut.0 text) (drop cut.0 text) ∙ ap (λ l. report_text far.events ++ l) (take-append-drop cut.0 text)
+          ∙ ap (λ n. report_text far.events ++ line_text (n + 1) reply data_in) t.tallied.lines)
 
   -- the line comes next
-  comes_next : ComesNext t.far.rest line payload
-  comes_next = record { raw = t.raw; next = t.next; reads = t.reads }
+  comes_next : ComesNext first.script far.rest t.line payload
+  comes_next = record { raw = t.raw; comes = t.comes; reads = t.reads }
 
   -- the line needs a disc, and there is none
-  pub ends_without_disc : IsAnswered t.far.now line payload reply held' outcomes.NotADisc → EndsBetween first held' due (Some (lasts.NotADisc (tally.lines + 1)))
+  ends_without_disc : IsAnswered far.now work payload data_in stands (Err stopped.NotADisc) → EndsBetween first stands view (Err stopped.NotADisc)
   ends_without_disc answered = record {
-    far = t.far;
-    stands = subst held' (lacks_same t.far.now line payload reply answered.state answered.step) answered.stands;
-    due_is = t.due_is;
-    last_is = ((line, payload, reply, answered.state, comes_next, answered.step), ap (λ n. n + 1) t.tallied.lines);
+    far = far;
+    stands_now = subst stands (lacks_same far.now work payload data_in answered.state answered.step) answered.stands;
+    stopped_at = record {
+      due_is = t.due_is;
+      last_is = ((t.line, payload, data_in, answered.state, comes_next, step_of (Err stopped.NotADisc) answered.state answered.step), ap (λ n. n + 1) t.tallied.lines);
+      unended = tt;
+    };
   }
 
   -- the line was not done whole
-  pub ends_in_line : (outcome : Outcome) → IsAnswered t.far.now line payload reply held' outcome → EndsInLine first held' due outcome
+  ends_in_line : (outcome : Outcome) → IsAnswered far.now work payload data_in stands outcome → EndsInLine first stands view outcome
   ends_in_line outcome answered = record {
-    far = t.far;
+    far = far;
     due_is = t.due_is;
-    line = record { line = line; payload = payload; reply = reply; state = answered.state; next = comes_next; step = answered.step; stands = answered.stands };
+    line = record { line = t.line; payload = payload; data_in = data_in; state = answered.state; next = comes_next; step = step_of outcome answered.state answered.step; stands_after = answered.stands };
   }
+
+  -- the outcome of the line was told
+  pub answered_line : (new : View) (f f' : ℕ) (outcome : Outcome) (result : Ending) → IsAnswered far.now work payload data_in stands outcome → LineCount f f' outcome → TellRule view new data_in outcome result → TurnsTo first stands new result
+  answered_line new f f' (Ok reply) (Ok done) answered count rule = goes_on new reply answered rule
+  answered_line new f f' (Ok reply) (Err stopped.SinkFault) answered count rule = cut_off new reply answered rule
+  answered_line new f f' (Ok reply) (Err stopped.NotInLanguage) answered count rule = absurd rule
+  answered_line new f f' (Ok reply) (Err stopped.LineTooLong) answered count rule = absurd rule
+  answered_line new f f' (Ok reply) (Err stopped.ScriptTooLong) answered count rule = absurd rule
+  answered_line new f f' (Ok reply) (Err stopped.NotADisc) answered count rule = absurd rule
+  answered_line new f f' (Ok reply) (Err stopped.SourceFault) answered count rule = absurd rule
+  answered_line new f f' (Ok reply) (Err stopped.ImageFault) answered count rule = absurd rule
+  answered_line new f f' (Ok reply) (Err stopped.NoMemory) answered count rule = absurd rule
+  answered_line new f f' (Err why) result answered count rule = subst (TurnsTo first stands new) (sym rule.0) (subst (λ v. Ends first stands v (Err why)) (sym rule.1) (by_why why count answered))
+    where
+      by_why : (stop : Stopped) → LineCount f f' (Err stop) → IsAnswered far.now work payload data_in stands (Err stop) → Ends first stands view (Err stop)
+      by_why stopped.NotADisc counts stops = ends_without_disc stops
+      by_why stopped.ImageFault counts stops = ends_in_line (Err stopped.ImageFault) stops
+      by_why stopped.NoMemory counts stops = ends_in_line (Err stopped.NoMemory) stops
+      by_why stopped.NotInLanguage counts stops = absurd counts
+      by_why stopped.LineTooLong counts stops = absurd counts
+      by_why stopped.ScriptTooLong counts stops = absurd counts
+      by_why stopped.SourceFault counts stops = absurd counts
+      by_why stopped.SinkFault counts stops = absurd counts
+
+-- the lines ended between two of them, and the inserted disc stands for the state that they lead to
+pub ends_between : (first : Beginning) (stands : State → Type 0) (far : SoFar first) (view : View) (why : Stopped) → stands far.now → IsStoppedAt far view (Err why) → IsStop why → Ends first stands view (Err why)
+ends_between first stands far view stopped.NotInLanguage now at is = record { far = far; stands_now = now; stopped_at = at }
+ends_between first stands far view stopped.LineTooLong now at is = record { far = far; stands_now = now; stopped_at = at }
+ends_between first stands far view stopped.ScriptTooLong now at is = record { far = far; stands_now = now; stopped_at = at }
+ends_between first stands far view stopped.SourceFault now at is = record { far = far; stands_now = now; stopped_at = at }
+ends_between first stands far view stopped.SinkFault now at is = record {
+  far = far;
+  stands_now = now;
+  part = record { written = first.report ++ report_text far.events; more = []; due_is = at.due_is; prefix = append-nil (first.report ++ report_text far.events) };
+}
+ends_between first stands far view stopped.NotADisc now at is = absurd is
+ends_between first stands far view stopped.ImageFault now at is = absurd is
+ends_between first stands far view stopped.NoMemory now at is = absurd is
+
+-- a line that is to do nothing was passed
+pub nothing_done : (first : Beginning) (stands : State → Type 0) (old new after : View) (b : Between first stands old) (payload data_in : List ℕ) (result : Ending) → Taken b.far new works.Nothing payload → data_in ≡ []
+    → TellRule new after data_in (Ok replies.Nothing) result → TurnsTo first stands after result
+nothing_done first stands old new after b payload data_in result t empty rule =
+    answered_line first b.far new works.Nothing payload t stands data_in after 0 0 (Ok replies.Nothing) result (record { state = b.far.now; step = (refl, empty, refl); stands = b.stands_now }) refl rule

@@ -1,4 +1,4 @@
--- When a run must come to its end.
+-- When a run must come to its end. For the main clause of the run.
 use Rattle.std.specs.Prelude.{◌≡◌, ℕ, ◌≤◌, ◌⊎◌, List, [], ◌∷◌, ◌++◌, length}
 use Rattle.model_counts.specs.Counts.{Rose}
 use Rattle.model_geometry.specs.Geometry.{Shape, IsLawful, shape_of}
@@ -10,23 +10,24 @@ use Rattle.ram_text.specs.declared.script.Line.{Line}
 use Rattle.ram_text.specs.declared.script.Line.TheVariants as lines
 use Rattle.ram_run.specs.declared.status.Status.{Status}
 use Rattle.ram_run.specs.declared.status.Status.TheVariants as statuses
-use Rattle.ram_run.specs.Run.{IsLine, IsNextLine}
-use Rattle.ram_run.specs.Turn.{Beginning, Counts}
+use Rattle.ram_run.specs.NextLines.{IsLine, IsNextLine}
+use Rattle.ram_run.specs.Progress.{Beginning}
+use Rattle.ram_run.specs.RunCounts.{Counts}
 
 -- a line begins after these bytes of a script: there are none, or the last is a line feed (this project's own, as all
 -- here)
 abbrev pub BeginsLine : List ℕ → Type 0
-BeginsLine before = (before ≡ []) ⊎ ((front : List ℕ) × (before ≡ front ++ line_feed ∷ []))
+BeginsLine before = (before ≡ []) ⊎ ((lines : List ℕ) × (before ≡ lines ++ line_feed ∷ []))
 
 -- nothing is left, or a line within the limit; and whatever is the next line reads as something
-pub record GoesOn (rest : List ℕ) : Type 0 where
+pub record ReadsOn (rest : List ℕ) : Type 0 where
   pub more : (rest ≡ []) ⊎ ((raw : List ℕ) × IsNextLine rest raw)
   pub reads : (raw : List ℕ) → IsNextLine rest raw → (line : Line) × (payload : List ℕ) × Reads raw line payload
 
 -- The script is in the language and within its limits: wherever a line begins, it goes on so.
 pub record IsInLanguage (script : List ℕ) : Type 0 where
   pub short : length script ≤ SCRIPT_LIMIT
-  pub lines : (before rest : List ℕ) → script ≡ before ++ rest → BeginsLine before → GoesOn rest
+  pub lines : (before rest : List ℕ) → script ≡ before ++ rest → BeginsLine before → ReadsOn rest
 
 -- the bytes of these lines, the newest of which comes first here, each with its line feed
 abbrev pub lines_text : List (List ℕ) → List ℕ
@@ -45,7 +46,8 @@ IsLawfulPress _ = ⊥
 
 -- the first line that has an answer presses a disc, and lawfully
 abbrev pub BeginsWithPress : List ℕ → Type 0
-BeginsWithPress script = (raws : List (List ℕ)) (rest raw : List ℕ) (line : Line) (payload : List ℕ) → AreSilent raws → script ≡ lines_text raws ++ rest
+BeginsWithPress script = (raws : List (List ℕ)) (rest raw : List ℕ) (line : Line) (payload : List ℕ) → AreSilent raws
+    → script ≡ lines_text raws ++ rest
     → IsNextLine rest raw → Reads raw line payload → (line ≡ lines.Empty) ⊎ IsLawfulPress line
 
 -- the image is that of a disc, or the first line that has an answer makes one

@@ -1,4 +1,4 @@
--- What a failure of a block leaves of what a drive stands for.
+-- What a failure of a block leaves of what a drive stands for. For the trait of drives, and the line that makes a block fail.
 use Rattle.std.specs.Prelude.{List, []}
 use Rattle.model_sectors.specs.Discs.{Standing, Off, candidates}
 use Rattle.ram_medium.specs.declared.control.FailEnd.{FailEnd}

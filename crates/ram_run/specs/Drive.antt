@@ -1,5 +1,5 @@
--- What a drive is that the lines of a script work with, beside its sectors.
-use Rattle.std.specs.Prelude.{◌≡◌, ℕ, ◌≤◌, true, false, IsTrue, Option, Some, MatchOption, List, [], ◌∷◌, length}
+-- What a drive is that the lines of a script work with, beside its sectors. For the trait of drives, and the plain disc.
+use Rattle.std.specs.Prelude.{◌≡◌, ℕ, true, false, IsTrue, Option, Some, MatchOption, List, [], ◌∷◌, length}
 use Rattle.model_geometry.specs.Geometry.{Shape, total}
 use Rattle.model_medium.specs.Cells.{Good, cell_at}
 use Rattle.model_medium.specs.World.{World}
@@ -8,7 +8,7 @@ use Rattle.model_image.specs.Cells.{cells_of}
 use Rattle.model_image.specs.Image.{IsDiscImage, IsImageOf}
 use Rattle.model_sectors.specs.Discs.{Standing, Off, Shown, first_disc}
 use Rattle.ram_run.specs.Homes.{plain_homes}
-use Rattle.ram_run.specs.Machine.{Loaded, IsOpenedOn, IsIn}
+use Rattle.ram_run.specs.States.{Loaded, IsOpenedOn, IsIn}
 
 -- A medium from which a drive may start: it tells its cells, each good one has the bytes of a block, and the power is
 -- off. (This project's own, as all here.)
@@ -32,10 +32,10 @@ pub record IsOpenedBy (bytes : List ℕ) (shape : Shape) (shown : Shown) (stands
   pub opened : IsOpenedOn state.shape (cells_of (total state.shape) bytes) state
   pub is_in : IsIn shape shown stands state
 
--- An image that has failed so often was opened as a disc, where it tells its bytes, and no count fell.
+-- An image that has failed so often was opened as a disc, where it tells its bytes, and it did not fail.
 pub record Opens (image : Option (List ℕ)) (faults : ℕ) (shape : Shape) (shown : Shown) (stands : Standing → Type 0) : Type 0 where
   pub opened : (bytes : List ℕ) → image ≡ Some bytes → IsOpenedBy bytes shape shown stands
-  pub count : faults ≤ shown.medium.world.faults
+  pub count : shown.medium.world.faults ≡ faults
 
 -- the image of a drive has the cells that the drive shows, where it tells them
 abbrev pub HasCells : Shape → World → Option (List ℕ) → Type 0

@@ -21,8 +21,10 @@ pub trait Drive: Sectors {
     /// The drive over the disc that the image holds, with the power off. Else the image is handed back, with the
     /// reason.
     fn open(alloc: Global, image: Self::Image) -> Result<Self, (Self::Image, OpenFault)>
-        ensures { MatchResult result (λ drive. Opens (Self.Image.bytes image) (Self.Image.faults image) (Self.shape drive) (Self.shows drive) (Self.stands drive))
-            (λ refused. IsRefused (Self.Image.bytes image) (Self.Image.bytes refused.0) (Self.Image.faults image) (Self.Image.faults refused.0) refused.1) };
+        ensures { MatchResult result (λ drive. Opens (Self.Image.bytes image)
+            (Self.Image.faults image) (Self.shape drive) (Self.shows drive) (Self.stands drive))
+            (λ refused. IsRefused (Self.Image.bytes image) (Self.Image.bytes refused.0)
+            (Self.Image.faults image) (Self.Image.faults refused.0) refused.1) };
 
     /// The image, as the drive leaves it.
     fn into_image(self) -> Self::Image
@@ -36,15 +38,19 @@ pub trait Drive: Sectors {
     /// Makes a block of the medium dead, with the power on or off. What is buffered stays so, unless the power goes
     /// off.
     fn fail(&mut self, block: u32) -> FailEnd
-        ensures rule { FailRule (total (Self.shape self.old)) (Self.shows self.old).medium (Self.shows self.new).medium block result }
+        ensures rule { FailRule (total (Self.shape self.old)) (Self.shows self.old).medium
+            (Self.shows self.new).medium block result }
         ensures same_shape { Self.shape self.new ≡ Self.shape self.old }
-        ensures buffered { (Self.shows self.new).buffered ≡ buffer_after_fail (Self.shows self.old).buffered result }
-        ensures stands { (s : Standing) → Self.stands self.old s → Self.stands self.new (stands_after_fail s result) };
+        ensures buffered { (Self.shows self.new).buffered ≡ buffer_after_fail
+            (Self.shows self.old).buffered result }
+        ensures stands { (s : Standing) → Self.stands self.old s
+            → Self.stands self.new (stands_after_fail s result) };
 
     /// Makes a block of the medium dead at its `n`-th use from now on. At most 64 arms stand.
     fn wear(&mut self, block: u32, n: u32) -> Arm
         requires { 1 ≤ n }
-        ensures rule { WearRule (total (Self.shape self.old)) (Self.shows self.old).medium (Self.shows self.new).medium (record { block = block; left = n }) result }
+        ensures rule { WearRule (total (Self.shape self.old)) (Self.shows self.old).medium
+            (Self.shows self.new).medium (record { block = block; left = n }) result }
         ensures same_shape { Self.shape self.new ≡ Self.shape self.old }
         ensures buffered { (Self.shows self.new).buffered ≡ (Self.shows self.old).buffered }
         ensures stands { (s : Standing) → Self.stands self.old s → Self.stands self.new s };

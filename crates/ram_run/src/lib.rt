@@ -3,10 +3,13 @@
 
 mod drive;
 mod ending;
-mod held;
 pub mod help;
+mod inserted;
+mod line;
 mod plain;
-mod printing;
+mod reply;
 pub mod run;
 mod serve;
+mod state;
 pub mod status;
+mod stopped;

@@ -1,13 +1,15 @@
-ghost use Rattle.std.specs.Prelude.{ℕ, ◌⊎◌, map};
+//! The words of the program, and what is done for each form.
+ghost use Rattle.std.specs.Prelude.{◌⊎◌, ℕ, List, map};
 ghost use Rattle.ram_run.specs.declared.help.TheConstants.{HELP, VERSION};
-ghost use Rattle.ram_run.specs.Turn.{Beginning, counts_of};
+ghost use Rattle.ram_run.specs.Progress.{Beginning};
 ghost use Rattle.ram_run.specs.Completes.{IsInLanguage, BeginsWithDisc, NoneRose, IsComplete};
-ghost use Rattle.ram_run.specs.Words.{IsRunImage, IsHelp, IsVersion, UsageRule, IsUnread, IsUntouched, UntouchedByUsage, WritesText, FormRule};
-ghost use Rattle.ram_run.specs.Outcome.{IsTold, IsUnopened, IsNoUsage, Leaves, StatusCounts, bytes_returned};
+ghost use Rattle.ram_run.specs.Words.{IsRunOf, WritesText, TextCount, IsRunImage, IsHelp, IsVersion, UsageRule, FormRule, IsNotOpened, UntouchedByUsage, TellsText, AsksOnce, around};
+ghost use Rattle.ram_run.specs.Endings.{IsBeginning, IsUnopened, IsNoUsage, StandsWith, StatusCounts, aftermath_of};
 
 use crate::help::{HELP, VERSION};
 use crate::plain::PlainDisc;
-use crate::serve::{Desk, serve};
+use crate::serve::serve;
+use crate::state::RunState;
 use crate::status::Status;
 use ram_outside::{Opened, Opener, Sink, Source};
 use ram_text::hand_over;
@@ -34,16 +36,36 @@ pub fn run<S: Source, K: Sink, O: Opener>(
     opener: &mut O,
 ) -> Status
     ensures usage { UsageRule (map (λ word. word.now) words.now) result }
-    ensures untouched { UntouchedByUsage (S.left script.old) (S.left script.new) (K.written report.old) (K.written report.new) (O.returned opener.old) (O.returned opener.new) result }
-    ensures causes { StatusCounts (counts_of (S.faults script.old) (K.faults report.old) (O.faults opener.old)) (counts_of (S.faults script.new) (K.faults report.new) (O.faults opener.new)) result }
-    ensures help { IsHelp (map (λ word. word.now) words.now) → IsUnread (S.left script.old) (S.left script.new) (O.returned opener.old) (O.returned opener.new) × WritesText (K.written report.old) (K.written report.new) HELP.now result }
-    ensures version { IsVersion (map (λ word. word.now) words.now) → IsUnread (S.left script.old) (S.left script.new) (O.returned opener.old) (O.returned opener.new) × WritesText (K.written report.old) (K.written report.new) VERSION.now result }
-    ensures run { (first : Beginning) → IsRunImage (map (λ word. word.now) words.now) → IsTold O.Image.bytes first (S.left script.old) (K.written report.old) (O.next opener.old) O.tells
-        → Leaves first (K.written report.new) (bytes_returned O.Image.bytes (O.returned opener.new)) result
-        ⊎ (IsUnopened result × IsUntouched (S.left script.old) (S.left script.new) (K.written report.old) (K.written report.new) (O.returned opener.old) (O.returned opener.new)) }
-    ensures completes { (first : Beginning) → IsRunImage (map (λ word. word.now) words.now) → IsTold O.Image.bytes first (S.left script.old) (K.written report.old) (O.next opener.old) O.tells
+    ensures untouched { UntouchedByUsage
+        (around S.Source K.Sink O.Opener script.old report.old opener.old)
+        (around S.Source K.Sink O.Opener script.new report.new opener.new) result }
+    ensures causes { StatusCounts
+        (around S.Source K.Sink O.Opener script.old report.old opener.old).counts
+        (around S.Source K.Sink O.Opener script.new report.new opener.new).counts result }
+    ensures help { IsHelp (map (λ word. word.now) words.now) → TellsText
+        (around S.Source K.Sink O.Opener script.old report.old opener.old)
+        (around S.Source K.Sink O.Opener script.new report.new opener.new) HELP.now result }
+    ensures version { IsVersion (map (λ word. word.now) words.now) → TellsText
+        (around S.Source K.Sink O.Opener script.old report.old opener.old)
+        (around S.Source K.Sink O.Opener script.new report.new opener.new) VERSION.now result }
+    ensures asks { (name : List ℕ) → IsRunOf name (map (λ word. word.now) words.now) → AsksOnce
+        (around S.Source K.Sink O.Opener script.old report.old opener.old)
+        (around S.Source K.Sink O.Opener script.new report.new opener.new) name result }
+    ensures run { (first : Beginning) → IsRunImage (map (λ word. word.now) words.now)
+        → IsBeginning O.Image.bytes first
+        (around S.Source K.Sink O.Opener script.old report.old opener.old) O.tells
+        → StandsWith first (aftermath_of O.Image.bytes
+        (around S.Source K.Sink O.Opener script.new report.new opener.new)) result
+        ⊎ (IsUnopened result × IsNotOpened
+        (around S.Source K.Sink O.Opener script.old report.old opener.old)
+        (around S.Source K.Sink O.Opener script.new report.new opener.new)) }
+    ensures completes { (first : Beginning) → IsRunImage (map (λ word. word.now) words.now)
+        → IsBeginning O.Image.bytes first
+        (around S.Source K.Sink O.Opener script.old report.old opener.old) O.tells
         → IsInLanguage first.script → BeginsWithDisc first
-        → NoneRose (counts_of (S.faults script.old) (K.faults report.old) (O.faults opener.old)) (counts_of (S.faults script.new) (K.faults report.new) (O.faults opener.new))
+        → NoneRose
+        (around S.Source K.Sink O.Opener script.old report.old opener.old).counts
+        (around S.Source K.Sink O.Opener script.new report.new opener.new).counts
         → IsComplete result }
 {
     match form_of(words) {
@@ -70,7 +92,7 @@ fn form_of<'a>(words: &[&'a str]) -> Option<Form<'a>>
 fn tell<K: Sink>(report: &mut K, text: &[u8]) -> Status
     ensures other { IsNoUsage result }
     ensures writes { WritesText (K.written report.old) (K.written report.new) text.now result }
-    ensures counts { (source image : ℕ) → StatusCounts (counts_of source (K.faults report.old) image) (counts_of source (K.faults report.new) image) result }
+    ensures count { TextCount (K.faults report.old) (K.faults report.new) result }
 {
     match hand_over(report, text) {
         Ok(()) => Status::Done,
@@ -87,20 +109,30 @@ fn run_image<S: Source, K: Sink, O: Opener>(
     opener: &mut O,
 ) -> Status
     ensures other { IsNoUsage result }
-    ensures causes { StatusCounts (counts_of (S.faults script.old) (K.faults report.old) (O.faults opener.old)) (counts_of (S.faults script.new) (K.faults report.new) (O.faults opener.new)) result }
-    ensures run { (first : Beginning) → IsTold O.Image.bytes first (S.left script.old) (K.written report.old) (O.next opener.old) O.tells
-        → Leaves first (K.written report.new) (bytes_returned O.Image.bytes (O.returned opener.new)) result
-        ⊎ (IsUnopened result × IsUntouched (S.left script.old) (S.left script.new) (K.written report.old) (K.written report.new) (O.returned opener.old) (O.returned opener.new)) }
+    ensures causes { StatusCounts
+        (around S.Source K.Sink O.Opener script.old report.old opener.old).counts
+        (around S.Source K.Sink O.Opener script.new report.new opener.new).counts result }
+    ensures asks { AsksOnce
+        (around S.Source K.Sink O.Opener script.old report.old opener.old)
+        (around S.Source K.Sink O.Opener script.new report.new opener.new) name.now result }
+    ensures run { (first : Beginning)
+        → IsBeginning O.Image.bytes first
+        (around S.Source K.Sink O.Opener script.old report.old opener.old) O.tells
+        → StandsWith first (aftermath_of O.Image.bytes
+        (around S.Source K.Sink O.Opener script.new report.new opener.new)) result
+        ⊎ (IsUnopened result × IsNotOpened
+        (around S.Source K.Sink O.Opener script.old report.old opener.old)
+        (around S.Source K.Sink O.Opener script.new report.new opener.new)) }
 {
-    let Ok(desk) = Desk::new(alloc) else {
+    let Ok(state) = RunState::new(alloc) else {
         return Status::NoMemory;
     };
-    let mut desk = desk;
+    let mut state = state;
     match opener.open(name) {
         Opened::Failed => Status::ImageFault,
         Opened::Image(image) => {
             let (image, status) = serve::<PlainDisc<O::Image>, S, K>(
-                alloc, image, &mut desk, script, report,
+                alloc, image, &mut state, script, report,
             );
             opener.close(image);
             status

@@ -1,3 +1,6 @@
+//! How a run ends, and the exit status that tells it.
+ghost use Rattle.std.specs.Prelude.{◌≡◌};
+
 /// How a run ended. Its number is the exit status of the program. (This project's own.)
 #[derive(Clone, Copy, Debug, PartialEq, Eq)]
 pub enum Status {
@@ -17,4 +20,15 @@ pub enum Status {
     NoMemory = 7,
     /// A line needs a disc: the image holds none, and no lawful press came before.
     NotADisc = 8,
+}
+
+impl Status {
+    ghost use Rattle.ram_run.specs.Statuses.{exit_number};
+
+    /// The exit status of the program.
+    pub fn exit_number(self) -> u8
+        ensures { result ≡ exit_number self }
+    {
+        self as u8
+    }
 }

@@ -17,10 +17,10 @@ returns-clause-rule g c = record {
   step = c.read-out.ensures.step;
   buffered = c.read-out.ensures.buffered;
   answer_is = c.read_answer.ensures;
-  reply_is = elim c.if-not-matches.branch [
+  data_is = elim c.if-not-matches.branch [
     | then-not-matches w ↦ elim c.match-matches.branch [ in-Good m ↦ search rules | in_default m ↦ search rules ]
     | else-not-matches w ↦ elim c.match-matches.branch [
-      | in-Good m ↦ rw (m.in-Good.is, w.reply-is) (read_back c.read-out.new.into c.resize.new.self.items c.resize.new.self.len (c.read-out.auto.into ∙ c.deref_mut.ensures.len))
+      | in-Good m ↦ rw (m.in-Good.is, w.data_in-is) (read_back c.read-out.new.into c.resize.new.self.items c.resize.new.self.len (c.read-out.auto.into ∙ c.deref_mut.ensures.len))
       | in_default m ↦ search rules
     ]
   ];

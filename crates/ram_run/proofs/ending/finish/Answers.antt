@@ -5,5 +5,6 @@ use Rattle.ram_run.proofs.ending.finish.Goals as goal
 
 pub returns-in-Failed-clause-rule : goal.returns-in-Failed-clause-rule
 returns-in-Failed-clause-rule g c =
-    failed_at_last (due (g.K.Sink.written c.args.report.now) c.args.writer.now) (due (g.K.Sink.written c.print_ending.new.report) c.print_ending.new.writer) (g.K.Sink.written c.print_ending.new.report) c.print_ending.new.writer
-    (g.K.Sink.faults c.args.report.now) (g.K.Sink.faults c.print_ending.new.report) c.args.tally c.args.ending refl c.in-Failed.ensures
+    failed_at_last (due (g.K.Sink.written c.args.report.now) c.args.state.now.writer) (due (g.K.Sink.written c.print_ending.new.report) c.print_ending.new.writer)
+    (g.K.Sink.written c.args.report.now) (g.K.Sink.written c.print_ending.new.report) c.print_ending.new.writer
+    (g.K.Sink.faults c.args.report.now) (g.K.Sink.faults c.print_ending.new.report) c.args.state.now.tally refl c.args.ending c.in-Failed.ensures

@@ -3,7 +3,7 @@ use Rattle.model_bytes.specs.Told.{WhereTold}
 use Rattle.model_geometry.specs.Geometry.{Shape, IsLawful, shape_of}
 use Rattle.model_image.specs.Image.{IsPressed}
 use Rattle.ram_run.proofs.Opens.{press_stopped, press_opened, press_refused}
-use Rattle.ram_run.proofs.held.press_disc.Goals as goal
+use Rattle.ram_run.proofs.inserted.press_disc.Goals as goal
 
 pub returns-in-Failed-clause-step : goal.returns-in-Failed-clause-step
 returns-in-Failed-clause-step g c s h =
@@ -19,7 +19,7 @@ returns-in-Ok-open-clause-step g c s h =
 
 pub returns-in-Err-clause-step : goal.returns-in-Err-clause-step
 returns-in-Err-clause-step g c s h =
-    rw c.not_opened.ensures
+    rw c.from.ensures
     (press_refused g.D.Sectors g.D.Image.Image s (shape_of c.args.zones c.args.scale c.args.psa) (subst (λ (z : Shape). IsLawful z) c.in-Ok.ensures.0 c.in-Ok.ensures.1)
     (g.D.Image.Image.bytes c.into_image-image.result) c.press.new.image (c.into_image-image.ensures.left s h)
     (subst (λ (z : Shape). WhereTold (g.D.Image.Image.bytes c.into_image-image.result) (g.D.Image.Image.bytes c.press.new.image) (IsPressed z)) c.in-Ok.ensures.0 c.in-Done.ensures.0)

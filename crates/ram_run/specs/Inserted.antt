@@ -1,0 +1,41 @@
+-- What the inserted disc stands for, and what a line leaves of it. For the loop over the lines and the calls below it.
+use Rattle.std.specs.Prelude.{◌≡◌, ℕ, Option, None, Some, List}
+use Rattle.model_geometry.specs.Geometry.{Shape}
+use Rattle.ram_outside.specs.declared.image.Image.{Ghosts as Images}
+use Rattle.ram_sectors.specs.declared.Sectors.{Ghosts as Drives}
+use Rattle.ram_run.specs.declared.inserted.Inserted.{Inserted}
+use Rattle.ram_run.specs.declared.inserted.Inserted.TheVariants as inserts
+use Rattle.ram_run.specs.declared.line.Work.{Work}
+use Rattle.ram_run.specs.Replies.{Outcome}
+use Rattle.ram_run.specs.States.{State, Unopened, Disc, IsIn, IsLeft}
+use Rattle.ram_run.specs.LineSteps.{PressStep, Step}
+
+module _ {D I : Type 0} (drives : Drives D) (images : Images I) where
+  -- the inserted disc stands for this state, and its image tells its bytes (this project's own, as all here)
+  abbrev pub Stands : Inserted D I → State → Type 0
+  Stands (inserts.Image image) (Unopened bytes) = images.bytes image ≡ Some bytes
+  Stands (inserts.Image image) (Disc s) = ⊥
+  Stands (inserts.Disc drive) (Unopened bytes) = ⊥
+  Stands (inserts.Disc drive) (Disc s) = IsIn (drives.shape drive) (drives.shows drive) (drives.stands drive) s
+
+  -- how often the image of the inserted disc has failed
+  abbrev pub faults_of : Inserted D I → ℕ
+  faults_of (inserts.Image image) = images.faults image
+  faults_of (inserts.Disc drive) = (drives.shows drive).medium.world.faults
+
+-- the image that is left tells its bytes, and they are those of the state
+abbrev pub LeavesImage : State → Option (List ℕ) → Type 0
+LeavesImage s None = ⊥
+LeavesImage s (Some bytes) = IsLeft s bytes
+
+-- What became of a line, of which the state before it is s, where the inserted disc then stands for some states.
+pub record IsAnswered (s : State) (work : Work) (payload data_in : List ℕ) (after : State → Type 0) (outcome : Outcome) : Type 0 where
+  pub state : State
+  pub step : Step s work payload outcome data_in state
+  pub stands : after state
+
+-- What became of a press of this geometry, of which the state before it is s.
+pub record IsPressAnswered (s : State) (shape : Shape) (after : State → Type 0) (outcome : Outcome) : Type 0 where
+  pub state : State
+  pub step : PressStep s shape outcome state
+  pub stands : after state

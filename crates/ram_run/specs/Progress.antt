@@ -1,0 +1,233 @@
+-- How far a run came: what stands between two lines, in a line, and where the lines end. For the loop over the lines and
+-- the calls below it.
+use Rattle.std.specs.Prelude.{◌≡◌, ℕ, ◌+◌, ◌<◌, ◌≤◌, ◌⊎◌, Option, None, Some, Result, Ok, Err, List, [], ◌++◌, length, take}
+use Rattle.std.specs.Io.KnownBytes.{append_known, prepend_known}
+use Rattle.ram_text.specs.Lines.{HasNoFeed, HoldsLine}
+use Rattle.ram_text.specs.Script.{Reads}
+use Rattle.ram_text.specs.Writer.{due}
+use Rattle.ram_text.specs.declared.lines.TheConstants.{SCRIPT_LIMIT}
+use Rattle.ram_text.specs.declared.printing.LastLine.{LastLine}
+use Rattle.ram_text.specs.declared.printing.LastLine.TheVariants as lasts
+use Rattle.ram_text.specs.declared.script.Line.{Line}
+use Rattle.ram_run.specs.declared.line.Work.{Work}
+use Rattle.ram_run.specs.declared.reply.Reply.{Reply}
+use Rattle.ram_run.specs.declared.state.RunState.{RunState}
+use Rattle.ram_run.specs.declared.state.Tally.{Tally}
+use Rattle.ram_run.specs.declared.stopped.Stopped.{Stopped}
+use Rattle.ram_run.specs.declared.stopped.Stopped.TheVariants as stopped
+use Rattle.ram_run.specs.NextLines.{IsWithin, IsNextWithin, IsNextUnread, PassesLineLimit, PassesScriptLimit, ComesNext}
+use Rattle.ram_run.specs.Work.{work_of, WorkCountsUses}
+use Rattle.ram_run.specs.Replies.{Outcome}
+use Rattle.ram_run.specs.States.{State, IsFirst}
+use Rattle.ram_run.specs.LineSteps.{Step}
+use Rattle.ram_run.specs.Run.{AnsweredLine, Run, Reaches, answers_of, answered_in, line_text, report_text}
+
+-- What came first: the script, what was written before, and the image's bytes. (This project's own, as all here.)
+pub record Beginning : Type 0 where
+  pub script : List ℕ
+  pub report : List ℕ
+  pub image : List ℕ
+
+-- The lines so far are a run from the beginning: the state that it began in, the lines, the state that they lead to, and
+-- what follows them in the script. They end within the script's limit.
+pub record SoFar (first : Beginning) : Type 0 where
+  pub start : State
+  pub events : List AnsweredLine
+  pub now : State
+  pub rest : List ℕ
+  pub starts : IsFirst first.image start
+  pub run : Run start events now
+  pub lines : Reaches first.script events rest
+  pub within : IsWithin first.script rest
+
+-- the report has the answers so far and no more
+abbrev pub IsReported : {first : Beginning} → SoFar first → Option (List ℕ) → Type 0
+IsReported {first} far due = due ≡ Some (first.report ++ report_text far.events)
+
+-- so many lines were read, of which so many were answered
+pub record IsTallied {first : Beginning} (far : SoFar first) (tally : Tally) : Type 0 where
+  pub lines : tally.lines ≡ length far.events
+  pub answered : tally.answered ≡ answered_in far.events
+
+-- What is known of the script and the report: the bytes that came from the source and are not taken yet, what the source
+-- has left, what is written and gathered, and how many bytes and lines were taken.
+pub record View : Type 0 where
+  pub buffered : List ℕ
+  pub left : Option (List ℕ)
+  pub due : Option (List ℕ)
+  pub taken : ℕ
+  pub tally : Tally
+
+-- what follows the lines that were taken
+abbrev pub unread : View → Option (List ℕ)
+unread view = prepend_known view.buffered view.left
+
+-- the view of a run in this state, whose source has this left, and whose sink has this written
+abbrev pub view_of : Option (List ℕ) → Option (List ℕ) → RunState → View
+view_of left written state = record {
+  buffered = state.reader.buffered;
+  left = left;
+  due = due written state.writer;
+  taken = state.reader.taken;
+  tally = state.tally;
+}
+
+-- the view is that of the lines so far
+pub record IsAt {first : Beginning} (far : SoFar first) (view : View) : Type 0 where
+  pub left_is : unread view ≡ Some far.rest
+  pub taken_is : view.taken + length far.rest ≡ length first.script
+  pub tallied : IsTallied far view.tally
+  pub due_is : IsReported far view.due
+
+-- Between two lines: the inserted disc stands for the state that the lines lead to, and the view is theirs. (From here on,
+-- stands tells which states those are.)
+pub record Between (first : Beginning) (stands : State → Type 0) (view : View) : Type 0 where
+  pub far : SoFar first
+  pub stands_now : stands far.now
+  pub at : IsAt far view
+
+-- A line was taken: what is left follows it, and the rest is as before it.
+pub record Taken {first : Beginning} (far : SoFar first) (view : View) (work : Work) (payload : List ℕ) : Type 0 where
+  pub raw : List ℕ
+  pub line : Line
+  pub comes : IsNextWithin first.script far.rest raw
+  pub reads : Reads raw line payload
+  pub work_is : work ≡ work_of line
+  pub left_is : unread view ≡ Some comes.next.after
+  pub taken_is : view.taken + length comes.next.after ≡ length first.script
+  pub tallied : IsTallied far view.tally
+  pub due_is : IsReported far view.due
+
+-- why the last line of a report says what it says
+abbrev pub IsLast : {first : Beginning} → SoFar first → LastLine → Type 0
+IsLast {first} far (lasts.End answered) = (far.rest ≡ []) × (answered ≡ answered_in far.events)
+IsLast {first} far (lasts.NotInLanguage line) = IsNextUnread first.script far.rest × (line ≡ length far.events + 1)
+IsLast {first} far (lasts.LineTooLong line) = PassesLineLimit first.script far.rest × (line ≡ length far.events + 1)
+IsLast {first} far lasts.ScriptTooLong = PassesScriptLimit first.script far.rest
+IsLast {first} far (lasts.NotADisc line) =
+    ((next : Line) × (payload : List ℕ) × (data_in : List ℕ) × (state : State)
+    × ComesNext first.script far.rest next payload × Step far.now (work_of next) payload (Err stopped.NotADisc) data_in state)
+    × (line ≡ length far.events + 1)
+
+-- How the lines come to their end: the script's, or why the run stops.
+abbrev pub Ending : Type 0
+Ending = Result (Unit {0}) Stopped
+
+-- the last line of a report whose lines come to this end, if there is one
+abbrev pub last_line : Tally → Ending → Option LastLine
+last_line tally (Ok done) = Some (lasts.End tally.answered)
+last_line tally (Err stopped.NotInLanguage) = Some (lasts.NotInLanguage (tally.lines + 1))
+last_line tally (Err stopped.LineTooLong) = Some (lasts.LineTooLong (tally.lines + 1))
+last_line tally (Err stopped.ScriptTooLong) = Some lasts.ScriptTooLong
+last_line tally (Err stopped.NotADisc) = Some (lasts.NotADisc (tally.lines + 1))
+last_line tally (Err stopped.SourceFault) = None
+last_line tally (Err stopped.SinkFault) = None
+last_line tally (Err stopped.ImageFault) = None
+last_line tally (Err stopped.NoMemory) = None
+
+abbrev pub IsLastIfAny : {first : Beginning} → SoFar first → Option LastLine → Type 0
+IsLastIfAny far None = Unit {0}
+IsLastIfAny far (Some last) = IsLast far last
+
+-- where the source failed, what it gave and was not taken is no whole line, and what it has left follows it
+abbrev pub IsUnended : {first : Beginning} → SoFar first → View → Ending → Type 0
+IsUnended far view (Err stopped.SourceFault) = HasNoFeed view.buffered × (unread view ≡ Some far.rest)
+IsUnended far view _ = Unit {0}
+
+-- The answers so far are due, and where the lines stop between two of them the last line says why.
+pub record IsStoppedAt {first : Beginning} (far : SoFar first) (view : View) (ending : Ending) : Type 0 where
+  pub due_is : IsReported far view.due
+  pub last_is : IsLastIfAny far (last_line view.tally ending)
+  pub unended : IsUnended far view ending
+
+-- why the search for the next line may stop the run
+abbrev pub IsStop : Stopped → Type 0
+IsStop stopped.NotADisc = ⊥
+IsStop stopped.ImageFault = ⊥
+IsStop stopped.NoMemory = ⊥
+IsStop _ = Unit {0}
+
+-- What the search for the next line makes of the lines so far.
+abbrev pub NextRule : {first : Beginning} → SoFar first → View → List ℕ → Result (Option Work) Stopped → Type 0
+NextRule far view payload (Ok (Some work)) = Taken far view work payload
+NextRule far view payload (Ok None) = IsStoppedAt far view (Ok tt)
+NextRule far view payload (Err why) = IsStoppedAt far view (Err why) × IsStop why
+
+-- the work that was found, if any, falls at a use from the next one on
+abbrev pub FoundCountsUses : Result (Option Work) Stopped → Type 0
+FoundCountsUses (Ok (Some work)) = WorkCountsUses work
+FoundCountsUses _ = Unit {0}
+
+-- a line that was found took bytes of the script, within its limit
+abbrev pub TakesBytes : ℕ → ℕ → Result (Option Work) Stopped → Type 0
+TakesBytes taken taken' (Ok (Some work)) = (taken < taken') × (taken' ≤ SCRIPT_LIMIT)
+TakesBytes taken taken' _ = Unit {0}
+
+-- the beginning of the text of the answers is due
+pub record IsReportedInPart {first : Beginning} (far : SoFar first) (due : Option (List ℕ)) : Type 0 where
+  pub written : List ℕ
+  pub more : List ℕ
+  pub due_is : due ≡ Some written
+  pub prefix : written ++ more ≡ first.report ++ report_text far.events
+
+-- the next line comes out so, and leaves the inserted disc in a state
+pub record ComesOut {first : Beginning} (far : SoFar first) (stands : State → Type 0) (outcome : Outcome) : Type 0 where
+  pub line : Line
+  pub payload : List ℕ
+  pub data_in : List ℕ
+  pub state : State
+  pub next : ComesNext first.script far.rest line payload
+  pub step : Step far.now (work_of line) payload outcome data_in state
+  pub stands_after : stands state
+
+-- the lines end between two of them, with the answers so far
+pub record EndsBetween (first : Beginning) (stands : State → Type 0) (view : View) (ending : Ending) : Type 0 where
+  pub far : SoFar first
+  pub stands_now : stands far.now
+  pub stopped_at : IsStoppedAt far view ending
+
+-- the sink failed: the beginning of the answers is due
+pub record EndsCutOff (first : Beginning) (stands : State → Type 0) (view : View) : Type 0 where
+  pub far : SoFar first
+  pub stands_now : stands far.now
+  pub part : IsReportedInPart far view.due
+
+-- the next line was not done whole, and is not told
+pub record EndsInLine (first : Beginning) (stands : State → Type 0) (view : View) (outcome : Outcome) : Type 0 where
+  pub far : SoFar first
+  pub due_is : IsReported far view.due
+  pub line : ComesOut far stands outcome
+
+-- Why the lines end there, and what the inserted disc then stands for and is due.
+abbrev pub Ends : Beginning → (State → Type 0) → View → Ending → Type 0
+Ends first stands view (Err stopped.SinkFault) = EndsCutOff first stands view
+Ends first stands view (Err stopped.ImageFault) = EndsInLine first stands view (Err stopped.ImageFault)
+Ends first stands view (Err stopped.NoMemory) = EndsInLine first stands view (Err stopped.NoMemory)
+Ends first stands view ending = EndsBetween first stands view ending
+
+-- What one line makes of what stands between two lines.
+abbrev pub TurnsTo : Beginning → (State → Type 0) → View → Ending → Type 0
+TurnsTo first stands view (Ok done) = Between first stands view
+TurnsTo first stands view (Err why) = Ends first stands view (Err why)
+
+-- the text of a reply went to the end of what is due, and the line counts; what was read of the script stays
+pub record IsReplied (old new : View) (reply : Reply) (data_in : List ℕ) : Type 0 where
+  pub same_buffered : new.buffered ≡ old.buffered
+  pub same_left : new.left ≡ old.left
+  pub same_taken : new.taken ≡ old.taken
+  pub grew : new.due ≡ append_known old.due (line_text (old.tally.lines + 1) reply data_in)
+  pub counted : new.tally ≡ record { lines = old.tally.lines + 1; answered = old.tally.answered + answers_of reply }
+
+-- What telling the outcome of a line may do.
+abbrev pub TellRule : View → View → List ℕ → Outcome → Ending → Type 0
+TellRule old new data_in (Err why) result = (result ≡ Err why) × (new ≡ old)
+TellRule old new data_in (Ok reply) (Ok done) = IsReplied old new reply data_in
+TellRule old new data_in (Ok reply) (Err stopped.SinkFault) =
+    (n : ℕ) × (new.due ≡ append_known old.due (take n (line_text (old.tally.lines + 1) reply data_in)))
+TellRule old new data_in (Ok reply) (Err why) = ⊥
+
+-- the answers so far were handed over where the next line has to be asked for, or the sink failed; what is due stays
+abbrev pub ShownRule : RunState → Ending → Type 0
+ShownRule state (Ok done) = HoldsLine state.reader ⊎ (state.writer ≡ [])
+ShownRule state (Err stopped.SinkFault) = Unit {0}
+ShownRule state (Err why) = ⊥

@@ -1,0 +1,28 @@
+-- What holds of the state of a run as a thing with room of its own. For the calls of the run.
+use Rattle.std.specs.Prelude.{◌≡◌, ℕ, ◌+◌, ◌≤◌, Result, Ok, Err, [], vec_capacity}
+use Rattle.ram_text.specs.declared.payload.TheConstants.{PAYLOAD_ROOM}
+use Rattle.ram_run.specs.declared.state.RunState.{RunState}
+use Rattle.ram_run.specs.declared.state.Tally.{Tally}
+use Rattle.ram_run.specs.declared.stopped.Stopped.{Stopped}
+
+-- nothing was read yet, and nothing is gathered (this project's own, as all here)
+pub record IsFresh (state : RunState) : Type 0 where
+  pub buffered : state.reader.buffered ≡ []
+  pub taken : state.reader.taken ≡ 0
+  pub gathered : state.writer ≡ []
+  pub tally : state.tally ≡ record { lines = 0; answered = 0 }
+
+-- there is room for the data of any line, both ways
+pub record HasRoom (state : RunState) : Type 0 where
+  pub payload : PAYLOAD_ROOM ≤ vec_capacity state.payload
+  pub data_in : PAYLOAD_ROOM ≤ vec_capacity state.data_in
+
+-- no more lines came than bytes, and no more answers than lines
+pub record IsFewLines (tally : Tally) (taken : ℕ) : Type 0 where
+  pub lines : tally.lines ≤ taken
+  pub answered : tally.answered ≤ tally.lines
+
+-- a line that was told counts, and one that ends the run does not
+abbrev pub TallyRule : Tally → Tally → Result (Unit {0}) Stopped → Type 0
+TallyRule old new (Ok done) = (new.lines ≡ old.lines + 1) × (new.answered ≤ old.answered + 1)
+TallyRule old new (Err why) = new ≡ old

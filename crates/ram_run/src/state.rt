@@ -1,0 +1,152 @@
+//! The state of a run beside what lies in the drive: the lines that come, the report that goes, and room for the data of
+//! a command both ways.
+ghost use Rattle.std.specs.Prelude.{◌≡◌, ◌^◌, ◌<◌, ◌+◌, ℕ, Option, List, [], IfOk};
+ghost use Rattle.ram_text.specs.Writer.{due};
+ghost use Rattle.ram_run.specs.Replies.{Outcome, PrintsWhere};
+ghost use Rattle.ram_run.specs.Run.{answers_of};
+ghost use Rattle.ram_run.specs.RunCounts.{StopCounts, SinkCount, TellCount, counts_of};
+ghost use Rattle.ram_run.specs.RunState.{IsFresh, HasRoom, TallyRule};
+ghost use Rattle.ram_run.specs.Progress.{Beginning, SoFar, IsAt, NextRule, FoundCountsUses, TakesBytes, TellRule, ShownRule, view_of};
+
+use crate::line::{Work, work_of};
+use crate::reply::{Reply, print_reply};
+use crate::stopped::{Stopped, printed};
+use ram_outside::{Sink, Source};
+use ram_text::{LineReader, NextLine, PAYLOAD_ROOM, ReportWriter, parse_line};
+use std::alloc::{AllocError, Global};
+
+/// How many lines came so far.
+#[derive(Clone, Copy, Debug, PartialEq, Eq)]
+pub struct Tally {
+    /// All of them.
+    pub lines: u64,
+    /// Those that had an answer.
+    pub answered: u64,
+}
+
+/// The state of a run beside what lies in the drive.
+#[derive(Drop)]
+pub struct RunState {
+    /// The lines that come.
+    pub reader: LineReader,
+    /// The report that goes.
+    pub writer: ReportWriter,
+    /// The data that go with a command.
+    pub payload: Vec<u8>,
+    /// The data that a command gave.
+    pub data_in: Vec<u8>,
+    /// How many lines came so far.
+    pub tally: Tally,
+}
+
+impl RunState {
+    /// The state in which nothing was read yet. All its room is taken here.
+    pub fn new(alloc: Global) -> Result<RunState, AllocError>
+        ensures fresh { IfOk result (λ state. IsFresh state) }
+        ensures room { IfOk result (λ state. HasRoom state) }
+    {
+        Ok(RunState {
+            reader: LineReader::new(alloc)?,
+            writer: ReportWriter::new(alloc)?,
+            payload: Vec::with_capacity(alloc, PAYLOAD_ROOM)?,
+            data_in: Vec::with_capacity(alloc, PAYLOAD_ROOM)?,
+            tally: Tally {
+                lines: 0,
+                answered: 0,
+            },
+        })
+    }
+}
+
+impl Tally {
+    /// One line more, and one answer more where it has one.
+    fn with(self, reply: &Reply) -> Tally
+        requires lines { self.lines < 2 ^ 63 }
+        requires answered { self.answered < 2 ^ 63 }
+        ensures { result ≡ record { lines = self.lines + 1; answered = self.answered + answers_of reply.now } }
+    {
+        let answers = match reply {
+            Reply::Nothing => 0,
+            Reply::Event(_) | Reply::Command { .. } => 1,
+        };
+        Tally {
+            lines: self.lines + 1,
+            answered: self.answered + answers,
+        }
+    }
+}
+
+/// Hands over the answers so far, where the next line may have to be waited for.
+fn hand_over<K: Sink>(state: &mut RunState, report: &mut K) -> Result<(), Stopped>
+    ensures handed { ShownRule state.new result }
+    ensures due { due (K.written report.new) state.new.writer ≡ due (K.written report.old) state.old.writer }
+    ensures same_reader { state.new.reader ≡ state.old.reader }
+    ensures same_tally { state.new.tally ≡ state.old.tally }
+    ensures count { SinkCount (K.faults report.old) (K.faults report.new) result }
+    ensures same_data { state.new.data_in ≡ state.old.data_in }
+    ensures room { HasRoom state.old → HasRoom state.new }
+{
+    if state.reader.has_line() {
+        return Ok(());
+    }
+    printed(state.writer.flush(report))
+}
+
+/// Takes the next line of the script, with its data, and tells what it is to do; None where the script has ended. The
+/// answers so far are handed over before more is asked of the source.
+pub fn next_work<S: Source, K: Sink>(
+    state: &mut RunState,
+    script: &mut S,
+    report: &mut K,
+) -> Result<Option<Work>, Stopped>
+    requires room { HasRoom state.old }
+    ensures next { (first : Beginning) (far : SoFar first) → IsAt far
+        (view_of (S.left script.old) (K.written report.old) state.old)
+        → NextRule far (view_of (S.left script.new) (K.written report.new) state.new)
+        state.new.payload.items result }
+    ensures counts { (image : ℕ) → StopCounts (counts_of (S.faults script.old) (K.faults report.old) image)
+        (counts_of (S.faults script.new) (K.faults report.new) image) result }
+    ensures takes { TakesBytes state.old.reader.taken state.new.reader.taken result }
+    ensures uses { FoundCountsUses result }
+    ensures same_tally { state.new.tally ≡ state.old.tally }
+    ensures empty { state.new.data_in.items ≡ [] }
+    ensures room { HasRoom state.new }
+{
+    state.data_in.clear();
+    hand_over(state, report)?;
+    match state.reader.next_line(script, &state.writer) {
+        NextLine::Line => {}
+        NextLine::End => return Ok(None),
+        NextLine::LineTooLong => return Err(Stopped::LineTooLong),
+        NextLine::ScriptTooLong => return Err(Stopped::ScriptTooLong),
+        NextLine::Failed => return Err(Stopped::SourceFault),
+    }
+    state.payload.clear();
+    match parse_line(state.reader.line(), &mut state.payload) {
+        Ok(line) => Ok(Some(work_of(line))),
+        Err(_) => Err(Stopped::NotInLanguage),
+    }
+}
+
+/// Tells what became of a line: its reply is printed, and the line counts; else the run ends.
+pub fn tell<K: Sink>(
+    state: &mut RunState,
+    report: &mut K,
+    outcome: Result<Reply, Stopped>,
+) -> Result<(), Stopped>
+    requires printable { PrintsWhere outcome }
+    requires lines { state.old.tally.lines < 2 ^ 63 }
+    requires answered { state.old.tally.answered < 2 ^ 63 }
+    ensures tells { (left : Option (List ℕ)) → TellRule (view_of left (K.written report.old) state.old)
+        (view_of left (K.written report.new) state.new) state.old.data_in.items outcome result }
+    ensures count { TellCount (K.faults report.old) (K.faults report.new) outcome result }
+    ensures tally { TallyRule state.old.tally state.new.tally result }
+    ensures same_reader { state.new.reader ≡ state.old.reader }
+    ensures room { HasRoom state.old → HasRoom state.new }
+{
+    let reply = outcome?;
+    let number = state.tally.lines + 1;
+    printed(print_reply(&mut state.writer, report, number, &reply, &state.data_in))?;
+    state.tally = state.tally.with(&reply);
+    Ok(())
+}
