@@ -15,7 +15,7 @@ fn main(rt: HostRuntime) -> ExitCode {
         Ok(_places) => answer(&rt),
         Err(_) => Status::ImageFault,
     };
-    ExitCode::from(status as u8)
+    ExitCode::from(status.exit_number())
 }
 
 /// The places of the standard streams that were closed when the program began, each held by the null device.

@@ -9,7 +9,7 @@ use Rattle.model_geometry.specs.Geometry.{Shape, IsLawful, total}
 use Rattle.model_medium.specs.Cells.{Blank, Good, Torn, Dead, cell_at}
 use Rattle.model_medium.specs.Machine.{Machine}
 use Rattle.model_image.specs.Cells.{image_len, state_place, data_place, data_in, cell_in, cells_of, cells_told}
-use Rattle.model_image.specs.Image.{HasHeader, IsDiscImage, IsImageOf, IsStoppedPress, IsPressed, blank_cells}
+use Rattle.model_image.specs.Image.{HasHeader, IsDiscImage, IsImageOf, IsStoppedPress, PressesImage, blank_cells}
 use Rattle.model_image.proofs.Headers.{one_header}
 use Rattle.model_image.proofs.Writes.{cell_at-cells_of}
 use Rattle.model_sectors.specs.Discs.{Standing, Off, Shown, IsShown, first_disc}
@@ -117,7 +117,7 @@ module _ {I : Type 0} {d : Images I} (image : I) (medium : ImageMedium I d) (geo
   opens = record { opened = opened_by; count = ap (λ (m : Machine). m.world.faults) made.medium_is ∙ opened.count }
 
 -- an image that was left and then pressed tells the bytes of a new disc
-pressed_bytes : (s : State) (shape : Shape) (before after : Option (List ℕ)) → LeavesImage s before → WhereTold before after (IsPressed shape) → (bytes : List ℕ) × (after ≡ Some bytes) × IsImageOf shape (blank_cells shape) bytes
+pressed_bytes : (s : State) (shape : Shape) (before after : Option (List ℕ)) → LeavesImage s before → WhereTold before after (PressesImage shape) → (bytes : List ℕ) × (after ≡ Some bytes) × IsImageOf shape (blank_cells shape) bytes
 pressed_bytes s shape None after left pressed = absurd left
 pressed_bytes s shape (Some before) None left pressed = absurd pressed
 pressed_bytes s shape (Some before) (Some after) left pressed = (after, refl, pressed.image)
@@ -132,7 +132,7 @@ module _ {D I : Type 0} (drives : Drives D) (images : Images I) (s : State) (sha
       by_bytes (Some held) None l w e = absurd w
       by_bytes (Some held) (Some now) l w e = record { state = Unopened now; step = (lawful, inl (held, l, w)); stands = e }
 
-  module _ (before : Option (List ℕ)) (image : I) (left : LeavesImage s before) (pressed : WhereTold before (images.bytes image) (IsPressed shape)) where
+  module _ (before : Option (List ℕ)) (image : I) (left : LeavesImage s before) (pressed : WhereTold before (images.bytes image) (PressesImage shape)) where
     found : (bytes : List ℕ) × (images.bytes image ≡ Some bytes) × IsImageOf shape (blank_cells shape) bytes
     found = pressed_bytes s shape before (images.bytes image) left pressed
 

@@ -50,6 +50,6 @@ fn end_row<R: Print + AllocGlobal>(rt: &R, script: &[u8], image: Vec<u8>) -> io:
         "{}",
         str::from_utf8(ran.report.bytes()).unwrap_or("no text\n")
     )?;
-    println!(rt; "exit status {}", ran.status as u8)?;
+    println!(rt; "exit status {}", ran.status.exit_number())?;
     Ok(ran.image_bytes().to_vec(rt.alloc())?)
 }
