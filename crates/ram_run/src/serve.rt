@@ -67,7 +67,8 @@ fn press_line<D: Drive, K: Sink>(
     requires room { HasRoom state.old }
     ensures turn { (first : Beginning) (far : SoFar first) (left : Option (List ℕ))
         → Stands D.Sectors D.Image.Image inserted far.now
-        → Taken far (view_of left (K.written report.old) state.old) (works.Press zones scale psa) state.old.payload.items
+        → Taken far (view_of left (K.written report.old) state.old) (works.Press zones scale psa)
+        state.old.payload.items
         → TurnsTo first (Stands D.Sectors D.Image.Image result.0)
         (view_of left (K.written report.new) state.new) result.1 }
     ensures counts { (source : ℕ)

@@ -1,3 +1,4 @@
+//! How a command was answered, as the layers above the drive see it.
 use crate::Sense;
 
 /// How a command was answered.

@@ -1,3 +1,4 @@
+//! Sense data: why a command was not done, and the bytes by which a host is told.
 ghost use Rattle.std.specs.Prelude.{◌≡◌};
 
 use byteorder::{BigEndian, ByteOrder};
