@@ -79,8 +79,8 @@ fn press_line<D: Drive, K: Sink>(
     ensures room { HasRoom state.new }
 {
     let (inserted, outcome) = press_disc(alloc, inserted, zones, scale, psa);
-    let told = tell(state, report, outcome);
-    (inserted, told)
+    let reported = tell(state, report, outcome);
+    (inserted, reported)
 }
 
 /// Answers the lines of a script one after another, and tells why they end.
@@ -120,9 +120,9 @@ pub fn serve_lines<D: Drive, S: Source, K: Sink>(
                 }
             }
             Ok(Some(Work::Press { zones, scale, psa })) => {
-                let (next, told) = press_line(alloc, inserted, zones, scale, psa, state, report);
+                let (next, reported) = press_line(alloc, inserted, zones, scale, psa, state, report);
                 inserted = next;
-                match told {
+                match reported {
                     Ok(()) => {}
                     Err(stopped) => return (inserted, Err(stopped)),
                 }
