@@ -116,35 +116,35 @@ returns-in-Err-answer_line-clause-few g c =
 pub loop-stopped-preserved : goal.loop-stopped-preserved
 loop-stopped-preserved g c =
     let takes = rw (c.in-Ok-Some-Press.is, c.in-Ok-Some-Press.field-0-is) at c.next_work.ensures.takes in
-    let more = (rw c.in-Ok-told.is at c.press_line-next.ensures.tally) in
+    let more = (rw c.in-Ok-reported.is at c.press_line-next.ensures.tally) in
     let reader = ap (λ (r : Reading). r.taken) c.press_line-next.ensures.same_reader in
     let tally = c.next_work.ensures.same_tally in
     record {
-      between = λ first b. let now = c.loop-stopped.invariant.between first b in rw c.in-Ok-told.is at (c.press_line-next.ensures.turn first now.far (g.S.Source.left c.next_work.new.script) now.stands_now (rw (c.in-Ok-Some-Press.is, c.in-Ok-Some-Press.field-0-is, c.in-Ok-Some-Press.field-0-0-is) at (c.next_work.ensures.next first now.far now.at)));
+      between = λ first b. let now = c.loop-stopped.invariant.between first b in rw c.in-Ok-reported.is at (c.press_line-next.ensures.turn first now.far (g.S.Source.left c.next_work.new.script) now.stands_now (rw (c.in-Ok-Some-Press.is, c.in-Ok-Some-Press.field-0-is, c.in-Ok-Some-Press.field-0-0-is) at (c.next_work.ensures.next first now.far now.at)));
       counts = none_rose (counts_of (g.S.Source.faults c.args.script.now) (g.K.Sink.faults c.args.report.now) (faults_of g.D.Sectors g.D.Image.Image c.args.inserted)) (counts_of (g.S.Source.faults c.next_work.new.script) (g.K.Sink.faults c.next_work.new.report) (faults_of g.D.Sectors g.D.Image.Image c.loop-stopped.inserted))
           (counts_of (g.S.Source.faults c.next_work.new.script) (g.K.Sink.faults c.press_line-next.new.report) (faults_of g.D.Sectors g.D.Image.Image c.press_line-next.result.0))
           (none_rose (counts_of (g.S.Source.faults c.args.script.now) (g.K.Sink.faults c.args.report.now) (faults_of g.D.Sectors g.D.Image.Image c.args.inserted)) (counts_of (g.S.Source.faults c.loop-stopped.script) (g.K.Sink.faults c.loop-stopped.report) (faults_of g.D.Sectors g.D.Image.Image c.loop-stopped.inserted))
           (counts_of (g.S.Source.faults c.next_work.new.script) (g.K.Sink.faults c.next_work.new.report) (faults_of g.D.Sectors g.D.Image.Image c.loop-stopped.inserted))
-          c.loop-stopped.invariant.counts (rw c.in-Ok-Some-Press.is at (c.next_work.ensures.counts (faults_of g.D.Sectors g.D.Image.Image c.loop-stopped.inserted)))) (rw c.in-Ok-told.is at (c.press_line-next.ensures.counts (g.S.Source.faults c.next_work.new.script)));
+          c.loop-stopped.invariant.counts (rw c.in-Ok-Some-Press.is at (c.next_work.ensures.counts (faults_of g.D.Sectors g.D.Image.Image c.loop-stopped.inserted)))) (rw c.in-Ok-reported.is at (c.press_line-next.ensures.counts (g.S.Source.faults c.next_work.new.script)));
       room = c.press_line-next.ensures.room;
       few = few_more c.loop-stopped.state.tally c.next_work.new.state.tally c.press_line-next.new.state.tally c.loop-stopped.state.reader.taken c.next_work.new.state.reader.taken c.press_line-next.new.state.reader.taken c.loop-stopped.invariant.few takes.0 reader tally more;
       within = omega (arith, takes.1, reader);
     }
 
-pub returns-in-Err-told-clause-ends : goal.returns-in-Err-told-clause-ends
-returns-in-Err-told-clause-ends g c first b =
+pub returns-in-Err-reported-clause-ends : goal.returns-in-Err-reported-clause-ends
+returns-in-Err-reported-clause-ends g c first b =
     let now = c.loop-stopped.invariant.between first b in
-    rw c.in-Err-told.is at (c.press_line-next.ensures.turn first now.far (g.S.Source.left c.next_work.new.script) now.stands_now (rw (c.in-Ok-Some-Press.is, c.in-Ok-Some-Press.field-0-is, c.in-Ok-Some-Press.field-0-0-is) at (c.next_work.ensures.next first now.far now.at)))
+    rw c.in-Err-reported.is at (c.press_line-next.ensures.turn first now.far (g.S.Source.left c.next_work.new.script) now.stands_now (rw (c.in-Ok-Some-Press.is, c.in-Ok-Some-Press.field-0-is, c.in-Ok-Some-Press.field-0-0-is) at (c.next_work.ensures.next first now.far now.at)))
 
-pub returns-in-Err-told-clause-counts : goal.returns-in-Err-told-clause-counts
-returns-in-Err-told-clause-counts g c =
+pub returns-in-Err-reported-clause-counts : goal.returns-in-Err-reported-clause-counts
+returns-in-Err-reported-clause-counts g c =
     why_counts (counts_of (g.S.Source.faults c.args.script.now) (g.K.Sink.faults c.args.report.now) (faults_of g.D.Sectors g.D.Image.Image c.args.inserted)) (counts_of (g.S.Source.faults c.next_work.new.script) (g.K.Sink.faults c.next_work.new.report) (faults_of g.D.Sectors g.D.Image.Image c.loop-stopped.inserted))
     (counts_of (g.S.Source.faults c.next_work.new.script) (g.K.Sink.faults c.press_line-next.new.report) (faults_of g.D.Sectors g.D.Image.Image c.press_line-next.result.0))
-    c.in-Err-told.stopped
+    c.in-Err-reported.stopped
     (none_rose (counts_of (g.S.Source.faults c.args.script.now) (g.K.Sink.faults c.args.report.now) (faults_of g.D.Sectors g.D.Image.Image c.args.inserted)) (counts_of (g.S.Source.faults c.loop-stopped.script) (g.K.Sink.faults c.loop-stopped.report) (faults_of g.D.Sectors g.D.Image.Image c.loop-stopped.inserted))
     (counts_of (g.S.Source.faults c.next_work.new.script) (g.K.Sink.faults c.next_work.new.report) (faults_of g.D.Sectors g.D.Image.Image c.loop-stopped.inserted))
-    c.loop-stopped.invariant.counts (rw c.in-Ok-Some-Press.is at (c.next_work.ensures.counts (faults_of g.D.Sectors g.D.Image.Image c.loop-stopped.inserted)))) (rw c.in-Err-told.is at (c.press_line-next.ensures.counts (g.S.Source.faults c.next_work.new.script)))
+    c.loop-stopped.invariant.counts (rw c.in-Ok-Some-Press.is at (c.next_work.ensures.counts (faults_of g.D.Sectors g.D.Image.Image c.loop-stopped.inserted)))) (rw c.in-Err-reported.is at (c.press_line-next.ensures.counts (g.S.Source.faults c.next_work.new.script)))
 
-pub returns-in-Err-told-clause-few : goal.returns-in-Err-told-clause-few
-returns-in-Err-told-clause-few g c =
-    few_still c.loop-stopped.state.tally c.next_work.new.state.tally c.press_line-next.new.state.tally c.loop-stopped.state.reader.taken c.loop-stopped.invariant.few c.loop-stopped.invariant.within c.next_work.ensures.same_tally (rw c.in-Err-told.is at c.press_line-next.ensures.tally)
+pub returns-in-Err-reported-clause-few : goal.returns-in-Err-reported-clause-few
+returns-in-Err-reported-clause-few g c =
+    few_still c.loop-stopped.state.tally c.next_work.new.state.tally c.press_line-next.new.state.tally c.loop-stopped.state.reader.taken c.loop-stopped.invariant.few c.loop-stopped.invariant.within c.next_work.ensures.same_tally (rw c.in-Err-reported.is at c.press_line-next.ensures.tally)
