@@ -10,10 +10,10 @@ use Rattle.model_buffer.specs.declared.TheConstants.{BUFFERED_BLOCKS}
 abbrev pub bytes_at : ℕ → List (ℕ × List ℕ) → Option (List ℕ)
 bytes_at block buffer = option_map (λ held. held.1) (find (λ held. held.0 == block) buffer)
 
--- The buffer after a use of this block with these bytes: the block comes to the front, and of the others stay as many
+-- The buffer after a use of this block with these bytes: the block comes to the start, and of the others stay as many
 -- as there is room for.
-abbrev pub with_front : ℕ → List ℕ → List (ℕ × List ℕ) → List (ℕ × List ℕ)
-with_front block bytes buffer = take BUFFERED_BLOCKS ((block, bytes) ∷ filter (λ held. not (held.0 == block)) buffer)
+abbrev pub with_newest : ℕ → List ℕ → List (ℕ × List ℕ) → List (ℕ × List ℕ)
+with_newest block bytes buffer = take BUFFERED_BLOCKS ((block, bytes) ∷ filter (λ held. not (held.0 == block)) buffer)
 
 -- the numbers of the blocks in a buffer, the one used last first
 abbrev pub numbers_in : List (ℕ × List ℕ) → List ℕ

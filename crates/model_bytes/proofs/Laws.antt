@@ -6,19 +6,19 @@ use Rattle.model_bytes.specs.Bytes.{put_at, resized}
 -- a write inside a list leaves its length
 pub length-put_at : (at : ℕ) (from held : List ℕ) → at + length from ≤ length held → length (put_at at from held) ≡ length held
 length-put_at at from held inside =
-    let front = length-take-le at held (omega arith) in
+    let prefix = length-take-le at held (omega arith) in
     omega (arith, length-append (take at held ++ from) (drop (at + length from) held), length-append (take at held) from, length-drop (at + length from) held)
 
 -- below the range, the bytes are those that were there
 pub take-put_at : (n at : ℕ) (from held : List ℕ) → n ≤ at → at ≤ length held → take n (put_at at from held) ≡ take n held
 take-put_at n at from held below inside =
-    let front = length-take-le at held inside in
+    let prefix = length-take-le at held inside in
     rw append_assoc (take-append-le n (take at held) (from ++ drop (at + length from) held) (omega arith) ∙ take-take n at held below)
 
 -- past the range, the bytes are those that were there
 pub drop-put_at : (n at : ℕ) (from held : List ℕ) → at + length from ≤ n → at ≤ length held → drop n (put_at at from held) ≡ drop n held
 drop-put_at n at from held past inside =
-    let front = length-take-le at held inside in
+    let prefix = length-take-le at held inside in
     let last : ℕ = at + length from in
     let rest : n ≡ last + (n - last) = omega arith in
     let seam : drop last (put_at at from held) ≡ drop last held =
@@ -73,9 +73,9 @@ get_or-put_at-inside k at from held d within inside =
 -- a second write of the same range takes the place of the first
 pub put_at-put_at : (at : ℕ) (first then held : List ℕ) → length first ≡ length then → at ≤ length held → put_at at then (put_at at first held) ≡ put_at at then held
 put_at-put_at at first then held same inside =
-    let front = take-put_at at at first held (omega arith) inside in
+    let prefix = take-put_at at at first held (omega arith) inside in
     let back = drop-put_at (at + length then) at first held (omega arith) inside in
-    rw (front, back) refl
+    rw (prefix, back) refl
 
 -- what a range holds, written there, changes nothing
 pub put_at-own : (at n : ℕ) (held : List ℕ) → at + n ≤ length held → put_at at (take n (drop at held)) held ≡ held
@@ -117,5 +117,5 @@ written_whole written held same =
 -- a write at the end of a front makes the front longer
 pub take-put_at-end : (n at : ℕ) (from held : List ℕ) → n ≡ at + length from → at ≤ length held → take n (put_at at from held) ≡ take at held ++ from
 take-put_at-end n at from held end inside =
-    let front = length-take-le at held inside in
+    let prefix = length-take-le at held inside in
     take_at (take at held ++ from) (drop (at + length from) held) n (omega (arith, length-append (take at held) from))

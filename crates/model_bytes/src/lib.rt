@@ -30,7 +30,7 @@ pub fn writes_replace()
 {}
 
 /// A changed length keeps the bytes below both lengths, has zeros past the old one, and is what was asked for.
-pub fn resizing_keeps_the_front()
+pub fn resizing_keeps_the_prefix()
     ensures len { (n : ℕ) (held : List ℕ) → length (resized n held) ≡ n }
     ensures same { (held : List ℕ) → resized (length held) held ≡ held }
     ensures kept { (k n : ℕ) (held : List ℕ) → k < n → k < length held

@@ -4,7 +4,7 @@ use Rattle.std.specs.Option.{option_map, ForSome}
 use Rattle.std.proofs.Common.{arith, refl, sym, ap, ◌∙◌, inl, inr, subst}
 use Rattle.std.proofs.lemmas.List.{set-set}
 use Rattle.model_bytes.specs.Bytes.{put_at, PartlyPut}
-use Rattle.model_bytes.specs.Told.{WhereTold}
+use Rattle.model_bytes.specs.Known.{WhereKnown}
 use Rattle.model_medium.specs.Cells.{Cell, Good, Torn, cell_at, MayLeave}
 use Rattle.model_image.specs.Cells.{state_place, data_place, image_len, cell_of, data_in, cells_of, SetsCell, StopsInCell}
 use Rattle.model_image.proofs.Changes.{SameBut, same_part}
@@ -118,15 +118,15 @@ module _ (total block : ℕ) (inside : block < total) where
       sets = then_sets held second after Torn _ second_sets (state_step second after _ (SameBut-PartlyPut (state_place block) (1 ∷ []) second after put) refl);
     }
 
--- The same where the image may not tell its bytes: what the three writes did, one by one.
+-- The same where the bytes of the image may not be known: what the three writes did, one by one.
 module _ (total block : ℕ) (inside : block < total) (before : Option (List ℕ)) (from : List ℕ) (whole : ForSome before (λ held. length held ≡ image_len total)) (long : length from ≡ 32768) where
-  pub told-written : (b1 b2 after : Option (List ℕ)) → b1 ≡ option_map (put_at (state_place block) (2 ∷ [])) before → b2 ≡ option_map (put_at (data_place total block) from) b1
-      → after ≡ option_map (put_at (state_place block) (1 ∷ [])) b2 → WhereTold before after (SetsCell total block (Good from))
-  told-written b1 b2 after e1 e2 e3 =
-      subst (λ o. WhereTold before o (SetsCell total block (Good from))) (sym (e3 ∙ ap (option_map (put_at (state_place block) (1 ∷ []))) (e2 ∙ ap (option_map (put_at (data_place total block) from)) e1))) (cases before whole)
+  pub known-written : (b1 b2 after : Option (List ℕ)) → b1 ≡ option_map (put_at (state_place block) (2 ∷ [])) before → b2 ≡ option_map (put_at (data_place total block) from) b1
+      → after ≡ option_map (put_at (state_place block) (1 ∷ [])) b2 → WhereKnown before after (SetsCell total block (Good from))
+  known-written b1 b2 after e1 e2 e3 =
+      subst (λ o. WhereKnown before o (SetsCell total block (Good from))) (sym (e3 ∙ ap (option_map (put_at (state_place block) (1 ∷ []))) (e2 ∙ ap (option_map (put_at (data_place total block) from)) e1))) (cases before whole)
     where
       cases : (o : Option (List ℕ)) → ForSome o (λ held. length held ≡ image_len total)
-          → WhereTold o (option_map (put_at (state_place block) (1 ∷ [])) (option_map (put_at (data_place total block) from) (option_map (put_at (state_place block) (2 ∷ [])) o))) (SetsCell total block (Good from))
+          → WhereKnown o (option_map (put_at (state_place block) (1 ∷ [])) (option_map (put_at (data_place total block) from) (option_map (put_at (state_place block) (2 ∷ [])) o))) (SetsCell total block (Good from))
       cases None h = tt
       cases (Some held) h = third_sets total block inside held from (h held refl) long
 
@@ -134,39 +134,39 @@ module _ (total block : ℕ) (inside : block < total) (before : Option (List ℕ
   abbrev Stopped : ℕ → List ℕ → Option (List ℕ) → Option (List ℕ) → Type 0
   Stopped at bytes o p = MatchOption o (p ≡ o) (λ held. MatchOption p ⊥ (λ held'. PartlyPut at bytes held held'))
 
-  pub told-stopped_first : (after : Option (List ℕ)) → Stopped (state_place block) (2 ∷ []) before after → WhereTold before after (StopsInCell total block from)
-  told-stopped_first after stopped = cases before after whole stopped
+  pub known-stopped_first : (after : Option (List ℕ)) → Stopped (state_place block) (2 ∷ []) before after → WhereKnown before after (StopsInCell total block from)
+  known-stopped_first after stopped = cases before after whole stopped
     where
-      cases : (o p : Option (List ℕ)) → ForSome o (λ held. length held ≡ image_len total) → Stopped (state_place block) (2 ∷ []) o p → WhereTold o p (StopsInCell total block from)
+      cases : (o p : Option (List ℕ)) → ForSome o (λ held. length held ≡ image_len total) → Stopped (state_place block) (2 ∷ []) o p → WhereKnown o p (StopsInCell total block from)
       cases None None h s = tt
       cases None (Some held') h s = absurd (cc)
       cases (Some held) None h s = absurd s
       cases (Some held) (Some held') h s = stopped_first total block inside held from (h held refl) long held' s
 
-  pub told-stopped_second : (b1 after : Option (List ℕ)) → b1 ≡ option_map (put_at (state_place block) (2 ∷ [])) before → Stopped (data_place total block) from b1 after → WhereTold before after (StopsInCell total block from)
-  told-stopped_second b1 after e1 stopped = cases before after whole (subst (λ o. Stopped (data_place total block) from o after) e1 stopped)
+  pub known-stopped_second : (b1 after : Option (List ℕ)) → b1 ≡ option_map (put_at (state_place block) (2 ∷ [])) before → Stopped (data_place total block) from b1 after → WhereKnown before after (StopsInCell total block from)
+  known-stopped_second b1 after e1 stopped = cases before after whole (subst (λ o. Stopped (data_place total block) from o after) e1 stopped)
     where
-      cases : (o p : Option (List ℕ)) → ForSome o (λ held. length held ≡ image_len total) → Stopped (data_place total block) from (option_map (put_at (state_place block) (2 ∷ [])) o) p → WhereTold o p (StopsInCell total block from)
+      cases : (o p : Option (List ℕ)) → ForSome o (λ held. length held ≡ image_len total) → Stopped (data_place total block) from (option_map (put_at (state_place block) (2 ∷ [])) o) p → WhereKnown o p (StopsInCell total block from)
       cases None None h s = tt
       cases None (Some held') h s = absurd (cc)
       cases (Some held) None h s = absurd s
       cases (Some held) (Some held') h s = stopped_second total block inside held from (h held refl) long held' s
 
-  pub told-stopped_third : (b1 b2 after : Option (List ℕ)) → b1 ≡ option_map (put_at (state_place block) (2 ∷ [])) before → b2 ≡ option_map (put_at (data_place total block) from) b1
-      → Stopped (state_place block) (1 ∷ []) b2 after → WhereTold before after (StopsInCell total block from)
-  told-stopped_third b1 b2 after e1 e2 stopped = cases before after whole (subst (λ o. Stopped (state_place block) (1 ∷ []) o after) (e2 ∙ ap (option_map (put_at (data_place total block) from)) e1) stopped)
+  pub known-stopped_third : (b1 b2 after : Option (List ℕ)) → b1 ≡ option_map (put_at (state_place block) (2 ∷ [])) before → b2 ≡ option_map (put_at (data_place total block) from) b1
+      → Stopped (state_place block) (1 ∷ []) b2 after → WhereKnown before after (StopsInCell total block from)
+  known-stopped_third b1 b2 after e1 e2 stopped = cases before after whole (subst (λ o. Stopped (state_place block) (1 ∷ []) o after) (e2 ∙ ap (option_map (put_at (data_place total block) from)) e1) stopped)
     where
       cases : (o p : Option (List ℕ)) → ForSome o (λ held. length held ≡ image_len total)
-          → Stopped (state_place block) (1 ∷ []) (option_map (put_at (data_place total block) from) (option_map (put_at (state_place block) (2 ∷ [])) o)) p → WhereTold o p (StopsInCell total block from)
+          → Stopped (state_place block) (1 ∷ []) (option_map (put_at (data_place total block) from) (option_map (put_at (state_place block) (2 ∷ [])) o)) p → WhereKnown o p (StopsInCell total block from)
       cases None None h s = tt
       cases None (Some held') h s = absurd (cc)
       cases (Some held) None h s = absurd s
       cases (Some held) (Some held') h s = stopped_third total block inside held from (h held refl) long held' s
 
   -- the last write finds the image as long as it was
-  pub told-second_long : (b1 b2 : Option (List ℕ)) → b1 ≡ option_map (put_at (state_place block) (2 ∷ [])) before → b2 ≡ option_map (put_at (data_place total block) from) b1
+  pub known-second_long : (b1 b2 : Option (List ℕ)) → b1 ≡ option_map (put_at (state_place block) (2 ∷ [])) before → b2 ≡ option_map (put_at (data_place total block) from) b1
       → ForSome b2 (λ held. length held ≡ image_len total)
-  told-second_long b1 b2 e1 e2 = cases before b2 whole (e2 ∙ ap (option_map (put_at (data_place total block) from)) e1)
+  known-second_long b1 b2 e1 e2 = cases before b2 whole (e2 ∙ ap (option_map (put_at (data_place total block) from)) e1)
     where
       cases : (o p : Option (List ℕ)) → ForSome o (λ held. length held ≡ image_len total) → p ≡ option_map (put_at (data_place total block) from) (option_map (put_at (state_place block) (2 ∷ [])) o)
           → ForSome p (λ held. length held ≡ image_len total)

@@ -5,5 +5,5 @@ pub mod Writes
 pub mod CellWrites
 pub mod Presses
 pub mod StateWrites
-pub mod ToldCells
+pub mod KnownCells
 pub mod Headers

@@ -6,7 +6,7 @@ use Rattle.std.proofs.lemmas.Bool.{cases_lt}
 use Rattle.std.proofs.lemmas.List.{nil_from_length, length-replicate, get_or-replicate, get_or_past, take_at, drop-replicate}
 use Rattle.std.proofs.lemmas.List.FromFn.{fill_by_all}
 use Rattle.model_bytes.specs.Bytes.{put_at, resized, PartlyPut}
-use Rattle.model_bytes.specs.Told.{WhereTold}
+use Rattle.model_bytes.specs.Known.{WhereKnown}
 use Rattle.model_geometry.specs.Geometry.{Shape, IsLawful, total}
 use Rattle.model_medium.specs.Cells.{Blank, Dead}
 use Rattle.model_image.specs.Cells.{state_place, image_len, cell_of, data_in, cell_in, cells_of}
@@ -78,7 +78,7 @@ module _ (shape : Shape) (header_long : length (header_of shape) ≡ 16) where
 pub nil_blank : IsBlankIfDisc []
 nil_blank = blank_if_disc [] (λ k h. refl)
 
--- The same where the image may not tell its bytes.
+-- The same where the bytes of the image may not be known.
 module _ (shape : Shape) (header_long : length (header_of shape) ≡ 16) (before : Option (List ℕ)) where
   -- the header may be written
   pub has_room : (b1 b2 : Option (List ℕ)) → b1 ≡ option_map (resized 0) before → b2 ≡ option_map (resized (image_len (total shape))) b1 → ForSome b2 (λ held. 0 + length (header_of shape) ≤ length held)
@@ -90,12 +90,12 @@ module _ (shape : Shape) (header_long : length (header_of shape) ≡ 16) (before
           let same : held ≡ resized (image_len (total shape)) (resized 0 first) = (let both : Some held ≡ Some (resized (image_len (total shape)) (resized 0 first)) = sym is ∙ e in cc) in
           omega (arith, header_long, ap length (same ∙ resized-anew (image_len (total shape)) first), length-replicate {A = ℕ} (image_len (total shape)) 0)
 
-  pub told-pressed : IsLawful shape → (b1 b2 after : Option (List ℕ)) → b1 ≡ option_map (resized 0) before → b2 ≡ option_map (resized (image_len (total shape))) b1 → after ≡ option_map (put_at 0 (header_of shape)) b2
-      → WhereTold before after (PressesImage shape)
-  told-pressed lawful b1 b2 after e1 e2 e3 =
-      subst (λ o. WhereTold before o (PressesImage shape)) (sym (e3 ∙ ap (option_map (put_at 0 (header_of shape))) (e2 ∙ ap (option_map (resized (image_len (total shape)))) e1))) (cases before)
+  pub known-pressed : IsLawful shape → (b1 b2 after : Option (List ℕ)) → b1 ≡ option_map (resized 0) before → b2 ≡ option_map (resized (image_len (total shape))) b1 → after ≡ option_map (put_at 0 (header_of shape)) b2
+      → WhereKnown before after (PressesImage shape)
+  known-pressed lawful b1 b2 after e1 e2 e3 =
+      subst (λ o. WhereKnown before o (PressesImage shape)) (sym (e3 ∙ ap (option_map (put_at 0 (header_of shape))) (e2 ∙ ap (option_map (resized (image_len (total shape)))) e1))) (cases before)
     where
-      cases : (o : Option (List ℕ)) → WhereTold o (option_map (put_at 0 (header_of shape)) (option_map (resized (image_len (total shape))) (option_map (resized 0) o))) (PressesImage shape)
+      cases : (o : Option (List ℕ)) → WhereKnown o (option_map (put_at 0 (header_of shape)) (option_map (resized (image_len (total shape))) (option_map (resized 0) o))) (PressesImage shape)
       cases None = tt
       cases (Some held) = subst (λ l. PressesImage shape held (put_at 0 (header_of shape) l)) (sym (resized-anew (image_len (total shape)) held)) (record { bytes = pressed_bytes shape header_long; image = pressed shape header_long lawful })
 
@@ -104,12 +104,12 @@ module _ (shape : Shape) (header_long : length (header_of shape) ≡ 16) (before
   abbrev StoppedHeader : Option (List ℕ) → Option (List ℕ) → Type 0
   StoppedHeader o p = MatchOption o (p ≡ o) (λ held. MatchOption p ⊥ (λ held'. PartlyPut 0 (header_of shape) held held'))
 
-  pub told-stopped_header : (b1 b2 after : Option (List ℕ)) → b1 ≡ option_map (resized 0) before → b2 ≡ option_map (resized (image_len (total shape))) b1
-      → StoppedHeader b2 after → WhereTold before after IsStoppedPress
-  told-stopped_header b1 b2 after e1 e2 stopped =
+  pub known-stopped_header : (b1 b2 after : Option (List ℕ)) → b1 ≡ option_map (resized 0) before → b2 ≡ option_map (resized (image_len (total shape))) b1
+      → StoppedHeader b2 after → WhereKnown before after IsStoppedPress
+  known-stopped_header b1 b2 after e1 e2 stopped =
       cases before after (subst (λ o. StoppedHeader o after) (e2 ∙ ap (option_map (resized (image_len (total shape)))) e1) stopped)
     where
-      cases : (o p : Option (List ℕ)) → StoppedHeader (option_map (resized (image_len (total shape))) (option_map (resized 0) o)) p → WhereTold o p IsStoppedPress
+      cases : (o p : Option (List ℕ)) → StoppedHeader (option_map (resized (image_len (total shape))) (option_map (resized 0) o)) p → WhereKnown o p IsStoppedPress
       cases None None s = tt
       cases None (Some held') s = absurd (cc)
       cases (Some held) None s = absurd s

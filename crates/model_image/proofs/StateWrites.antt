@@ -3,7 +3,7 @@ use Rattle.std.specs.Prelude.{◌≡◌, ℕ, ◌<◌, ◌⊎◌, List, [], ◌�
 use Rattle.std.specs.Option.{option_map, ForSome}
 use Rattle.std.proofs.Common.{refl, sym, inl, inr, subst}
 use Rattle.model_bytes.specs.Bytes.{put_at, PartlyPut}
-use Rattle.model_bytes.specs.Told.{WhereTold}
+use Rattle.model_bytes.specs.Known.{WhereKnown}
 use Rattle.model_medium.specs.Cells.{Cell, cell_at}
 use Rattle.model_image.specs.Cells.{state_place, image_len, cell_of, data_in, cells_of, SetsCell, StopsInState}
 use Rattle.model_image.proofs.Writes.{SameBut-PartlyPut, cell_at-cells_of}
@@ -22,17 +22,17 @@ module _ (total block : ℕ) (inside : block < total) (byte : ℕ) (cell : Cell)
   }
 
   module _ (before after : Option (List ℕ)) (whole : ForSome before (λ held. length held ≡ image_len total)) where
-    pub told-put_state : after ≡ option_map (put_at (state_place block) (byte ∷ [])) before → WhereTold before after (SetsCell total block cell)
-    told-put_state e = subst (λ o. WhereTold before o (SetsCell total block cell)) (sym e) (cases before whole)
+    pub known-put_state : after ≡ option_map (put_at (state_place block) (byte ∷ [])) before → WhereKnown before after (SetsCell total block cell)
+    known-put_state e = subst (λ o. WhereKnown before o (SetsCell total block cell)) (sym e) (cases before whole)
       where
-        cases : (o : Option (List ℕ)) → ForSome o (λ held. length held ≡ image_len total) → WhereTold o (option_map (put_at (state_place block) (byte ∷ [])) o) (SetsCell total block cell)
+        cases : (o : Option (List ℕ)) → ForSome o (λ held. length held ≡ image_len total) → WhereKnown o (option_map (put_at (state_place block) (byte ∷ [])) o) (SetsCell total block cell)
         cases None h = tt
         cases (Some held) h = put_state held (h held refl)
 
-    pub told-stopped_state : MatchOption before (after ≡ before) (λ held. MatchOption after ⊥ (λ held'. PartlyPut (state_place block) (byte ∷ []) held held')) → WhereTold before after (StopsInState total block cell)
-    told-stopped_state stopped = cases before after stopped
+    pub known-stopped_state : MatchOption before (after ≡ before) (λ held. MatchOption after ⊥ (λ held'. PartlyPut (state_place block) (byte ∷ []) held held')) → WhereKnown before after (StopsInState total block cell)
+    known-stopped_state stopped = cases before after stopped
       where
-        cases : (o p : Option (List ℕ)) → MatchOption o (p ≡ o) (λ held. MatchOption p ⊥ (λ held'. PartlyPut (state_place block) (byte ∷ []) held held')) → WhereTold o p (StopsInState total block cell)
+        cases : (o p : Option (List ℕ)) → MatchOption o (p ≡ o) (λ held. MatchOption p ⊥ (λ held'. PartlyPut (state_place block) (byte ∷ []) held held')) → WhereKnown o p (StopsInState total block cell)
         cases None None s = tt
         cases None (Some held') s = absurd (let clash : Some held' ≡ None = s in cc)
         cases (Some held) None s = absurd s

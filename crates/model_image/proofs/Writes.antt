@@ -12,11 +12,11 @@ use Rattle.model_image.proofs.Changes.{SameBut, same_part, other_cell-state, oth
 pub SameBut-put_at : (at : ℕ) (from held : List ℕ) → at + length from ≤ length held → SameBut at (length from) held (put_at at from held)
 SameBut-put_at at from held fits = record { as_long = long; same = same }
   where
-    front : length (take at held) ≡ at
-    front = length-take-le at held (omega arith)
+    prefix : length (take at held) ≡ at
+    prefix = length-take-le at held (omega arith)
 
     both : length (take at held ++ from) ≡ at + length from
-    both = length-append (take at held) from ∙ ap (λ n. n + length from) front
+    both = length-append (take at held) from ∙ ap (λ n. n + length from) prefix
 
     long : length (put_at at from held) ≡ length held
     long = omega (arith, both, length-append (take at held ++ from) (drop (at + length from) held), length-drop (at + length from) held)
@@ -24,7 +24,7 @@ SameBut-put_at at from held fits = record { as_long = long; same = same }
     same : (k : ℕ) → (k < at) ⊎ (at + length from ≤ k) → slice_index (put_at at from held) k ≡ slice_index held k
     same k (inl h) =
         get_or_append_left (take at held ++ from) (drop (at + length from) held) 0 k (omega (arith, both))
-        ∙ get_or_append_left (take at held) from 0 k (omega (arith, front)) ∙ get_or-take at held k 0 h
+        ∙ get_or_append_left (take at held) from 0 k (omega (arith, prefix)) ∙ get_or-take at held k 0 h
     same k (inr h) =
         get_or-append_right (take at held ++ from) (drop (at + length from) held) (at + length from) k 0 both h
         ∙ get_or-drop (at + length from) held (k - (at + length from)) 0 ∙ ap (slice_index held) (omega arith)

@@ -49,7 +49,7 @@ pub record StopsInState (total block : ℕ) (cell : Cell) (before after : List �
   pub may : (left ≡ cell_at (cells_of total before) block) ⊎ (left ≡ cell)
   pub sets : SetsCell total block left before after
 
--- the cells of an image of so many blocks where it tells its bytes, and none where it does not
-abbrev pub cells_told : ℕ → Option (List ℕ) → List Cell
-cells_told total None = []
-cells_told total (Some bytes) = cells_of total bytes
+-- the cells of an image of so many blocks where its bytes are known, and none where they are not
+abbrev pub cells_known : ℕ → Option (List ℕ) → List Cell
+cells_known total None = []
+cells_known total (Some bytes) = cells_of total bytes

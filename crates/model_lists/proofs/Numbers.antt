@@ -10,7 +10,7 @@ use Rattle.model_lists.specs.declared.dds.PdlKind.TheVariants.{P, G1, G2}
 use Rattle.model_lists.specs.declared.dds.PdlEntry.{PdlEntry}
 use Rattle.model_lists.specs.declared.sdl.SdlEntry.{SdlEntry}
 use Rattle.model_lists.specs.Values.{IsBlockNumber, HasNumbers}
-use Rattle.model_lists.specs.Texts.{bytes_at, state_byte, kind_byte, pdl_entry_bytes, sdl_entry_bytes, replaced_bytes}
+use Rattle.model_lists.specs.Texts.{bytes_from, state_byte, kind_byte, pdl_entry_bytes, sdl_entry_bytes, replaced_bytes}
 
 -- the bytes of a number that fits tell it
 pub big_bytes-injective : (n x y : ℕ) → x < 256 ^ n → y < 256 ^ n → big_bytes n x ≡ big_bytes n y → x ≡ y
@@ -52,17 +52,17 @@ bytes_of_4 (a ∷ b ∷ c ∷ d ∷ xs) long small =
     cons (omega arith) (cons (omega arith) (cons (omega arith) (cons (omega arith) refl)))
 
 -- bytes in a block are those of the number that they are
-pub bytes_are_2 : (at : ℕ) (block : List ℕ) → at + 2 ≤ length block → ((k : ℕ) → get_or block k 0 < 256) → bytes_at at 2 block ≡ big_bytes 2 (big_number 2 (drop at block))
+pub bytes_are_2 : (at : ℕ) (block : List ℕ) → at + 2 ≤ length block → ((k : ℕ) → get_or block k 0 < 256) → bytes_from at 2 block ≡ big_bytes 2 (big_number 2 (drop at block))
 bytes_are_2 at block inside small =
     bytes_of_2 (drop at block) (omega (arith, length-drop at block)) (λ k. rw get_or-drop (small (at + k)))
 
 -- bytes in a block are those of the number that they are
-pub bytes_are_3 : (at : ℕ) (block : List ℕ) → at + 3 ≤ length block → ((k : ℕ) → get_or block k 0 < 256) → bytes_at at 3 block ≡ big_bytes 3 (big_number 3 (drop at block))
+pub bytes_are_3 : (at : ℕ) (block : List ℕ) → at + 3 ≤ length block → ((k : ℕ) → get_or block k 0 < 256) → bytes_from at 3 block ≡ big_bytes 3 (big_number 3 (drop at block))
 bytes_are_3 at block inside small =
     bytes_of_3 (drop at block) (omega (arith, length-drop at block)) (λ k. rw get_or-drop (small (at + k)))
 
 -- bytes in a block are those of the number that they are
-pub bytes_are_4 : (at : ℕ) (block : List ℕ) → at + 4 ≤ length block → ((k : ℕ) → get_or block k 0 < 256) → bytes_at at 4 block ≡ big_bytes 4 (big_number 4 (drop at block))
+pub bytes_are_4 : (at : ℕ) (block : List ℕ) → at + 4 ≤ length block → ((k : ℕ) → get_or block k 0 < 256) → bytes_from at 4 block ≡ big_bytes 4 (big_number 4 (drop at block))
 bytes_are_4 at block inside small =
     bytes_of_4 (drop at block) (omega (arith, length-drop at block)) (λ k. rw get_or-drop (small (at + k)))
 

@@ -5,8 +5,8 @@ use Rattle.std.specs.List.Sorted.{IsStrictlyIncreasing}
 use Rattle.std.proofs.lemmas.Bool.{cases_eq}
 use Rattle.std.proofs.lemmas.List.{take_at, drop_at, length-take-le, take_all, get_or-take, get_or-map, get_or_append_left, length-map, length_push, take-append-drop, get_or_push, map_push, take-map}
 use Rattle.std.proofs.lemmas.List.Concat.{flat_map-append}
-use Rattle.model_lists.specs.Texts.{zeros, Spells}
-use Rattle.model_lists.proofs.Spelled.{zeros-all, length-spelled, piece, same_entries, reads_on, read_all}
+use Rattle.model_lists.specs.Texts.{zero_bytes, Spells}
+use Rattle.model_lists.proofs.Spelled.{zero_bytes-all, length-spelled, piece, same_entries, reads_on, read_all}
 
 -- The first i entries of the bytes are these, they rise by key, and P holds of each.
 pub record HasRead {X : Type 0} (f : X → List ℕ) (n : ℕ) (P : X → Type 0) (key : X → ℕ) (bytes : List ℕ) (i : ℕ) (entries : List X) : Type 0 where
@@ -62,22 +62,22 @@ module _ {X : Type 0} (key : X → ℕ) where
 
 module _ {X : Type 0} (f : X → List ℕ) (n : ℕ) (fixed : (x : X) → length (f x) ≡ n) where
   -- the first entries of spelled ones
-  pub spelled_front : (whole : List X) (bytes : List ℕ) (i : ℕ) → Spells f n whole bytes → i ≤ length whole → take (n * i) bytes ≡ flat_map f (take i whole)
-  spelled_front whole bytes i spells below =
+  pub spelled_header : (whole : List X) (bytes : List ℕ) (i : ℕ) → Spells f n whole bytes → i ≤ length whole → take (n * i) bytes ≡ flat_map f (take i whole)
+  spelled_header whole bytes i spells below =
       let parts : flat_map f whole ≡ flat_map f (take i whole) ++ flat_map f (drop i whole) =
       ap (flat_map f) (sym (take-append-drop i whole)) ∙ flat_map-append f (take i whole) (drop i whole) in
       let long : length (flat_map f (take i whole)) ≡ n * i =
       length-spelled f n fixed (take i whole) ∙ ap (λ (k : ℕ). n * k) (length-take-le i whole below) in
-      ap (take (n * i)) (spells ∙ ap (λ (l : List ℕ). l ++ zeros (length bytes - n * length whole)) parts ∙ append_assoc (flat_map f (take i whole)) (flat_map f (drop i whole)) (zeros (length bytes - n * length whole)))
-      ∙ take_at (flat_map f (take i whole)) (flat_map f (drop i whole) ++ zeros (length bytes - n * length whole)) (n * i) long
+      ap (take (n * i)) (spells ∙ ap (λ (l : List ℕ). l ++ zero_bytes (length bytes - n * length whole)) parts ∙ append_assoc (flat_map f (take i whole)) (flat_map f (drop i whole)) (zero_bytes (length bytes - n * length whole)))
+      ∙ take_at (flat_map f (take i whole)) (flat_map f (drop i whole) ++ zero_bytes (length bytes - n * length whole)) (n * i) long
 
   -- what follows the entries of spelled ones
   pub spelled_rest : (whole : List X) (bytes : List ℕ) (count : ℕ) → Spells f n whole bytes → length whole ≡ count → drop (n * count) bytes ≡ replicate (length (drop (n * count) bytes)) 0
   spelled_rest whole bytes count spells long =
-      let tail = zeros (length bytes - n * length whole) in
+      let tail = zero_bytes (length bytes - n * length whole) in
       let end : drop (n * count) bytes ≡ tail =
       ap (drop (n * count)) spells ∙ drop_at (flat_map f whole) tail (n * count) (length-spelled f n fixed whole ∙ ap (λ (k : ℕ). n * k) long) in
-      zeros-all (length bytes - n * length whole) (drop (n * count) bytes) end
+      zero_bytes-all (length bytes - n * length whole) (drop (n * count) bytes) end
 
 -- the bytes after so many entries, as the code takes them
 rest_is : (n count : ℕ) (bytes rest : List ℕ) → rest ≡ take (length bytes - n * count) (drop (n * count) bytes) → rest ≡ drop (n * count) bytes
@@ -108,8 +108,8 @@ module _ {X : Type 0} (f : X → List ℕ) (n : ℕ) (P : X → Type 0) (key : X
       let Q : List X → Type 0 = HasRead f n P key bytes 0 in
       subst Q (sym none) record { long = refl; spelled = ap (λ (m : ℕ). take m bytes) zero_of; all = λ k d below. absurd (omega arith); rise = λ k below. absurd (omega arith) }
 
-  pub goes_on : ((x : X) → length (f x) ≡ n) → (bytes cell : List ℕ) (i : ℕ) (entries : List X) (x : X) → HasRead f n P key bytes i entries → cell ≡ take (n * (i + 1) - n * i) (drop (n * i) bytes) → cell ≡ f x → P x → MayFollow key entries (key x) → HasRead f n P key bytes (i + 1) (entries ++ x ∷ [])
-  goes_on fixed bytes cell i entries x read is of_x fits may = record {
+  pub use_continues : ((x : X) → length (f x) ≡ n) → (bytes cell : List ℕ) (i : ℕ) (entries : List X) (x : X) → HasRead f n P key bytes i entries → cell ≡ take (n * (i + 1) - n * i) (drop (n * i) bytes) → cell ≡ f x → P x → MayFollow key entries (key x) → HasRead f n P key bytes (i + 1) (entries ++ x ∷ [])
+  use_continues fixed bytes cell i entries x read is of_x fits may = record {
     long = omega (arith, length_push entries x, read.long);
     spelled = reads_on f n fixed bytes i entries x read.spelled (sym (one_piece n i bytes cell is) ∙ of_x);
     all = All-push P entries x read.all fits;
@@ -118,17 +118,17 @@ module _ {X : Type 0} (f : X → List ℕ) (n : ℕ) (P : X → Type 0) (key : X
 
 module _ {X : Type 0} (f : X → List ℕ) (n : ℕ) (fixed : (x : X) → length (f x) ≡ n) (P : X → Type 0) (tells : (x y : X) → P x → P y → f x ≡ f y → x ≡ y) (key : X → ℕ) where
   -- what was read so far of spelled entries are the first of them
-  read_front : (bytes : List ℕ) (i : ℕ) (entries whole : List X) → HasRead f n P key bytes i entries → Spells f n whole bytes → All P whole → i ≤ length whole → entries ≡ take i whole
-  read_front bytes i entries whole read spells all below =
+  read_header : (bytes : List ℕ) (i : ℕ) (entries whole : List X) → HasRead f n P key bytes i entries → Spells f n whole bytes → All P whole → i ≤ length whole → entries ≡ take i whole
+  read_header bytes i entries whole read spells all below =
       let long = length-take-le i whole below in
-      same_entries f n fixed P tells entries (take i whole) [] [] (omega (arith, read.long, long)) read.all (λ k d h. let here : k < i = omega arith in rw (get_or-take i whole k d here) (all k d (omega arith))) (ap (λ (l : List ℕ). l ++ []) (sym read.spelled ∙ spelled_front f n fixed whole bytes i spells below))
+      same_entries f n fixed P tells entries (take i whole) [] [] (omega (arith, read.long, long)) read.all (λ k d h. let here : k < i = omega arith in rw (get_or-take i whole k d here) (all k d (omega arith))) (ap (λ (l : List ℕ). l ++ []) (sym read.spelled ∙ spelled_header f n fixed whole bytes i spells below))
 
   -- the bytes of entry i are its own
   spelled_piece : (bytes cell : List ℕ) (i : ℕ) (whole : List X) (d : X) → Spells f n whole bytes → i < length whole → cell ≡ take (n * (i + 1) - n * i) (drop (n * i) bytes) → cell ≡ f (get_or whole i d)
   spelled_piece bytes cell i whole d spells below is =
       one_piece n i bytes cell is
       ∙ ap (λ (l : List ℕ). take n (drop (n * i) l)) spells
-      ∙ piece f n fixed whole (zeros (length bytes - n * length whole)) i d below
+      ∙ piece f n fixed whole (zero_bytes (length bytes - n * length whole)) i d below
 
   -- where the bytes at i are no entry's, nothing spells the bytes
   pub no_entry : (bytes cell : List ℕ) (i : ℕ) (whole : List X) (d : X) → cell ≡ take (n * (i + 1) - n * i) (drop (n * i) bytes) → ((x : X) → cell ≡ f x → ⊥) → i < length whole → Spells f n whole bytes → ⊥
@@ -139,10 +139,10 @@ module _ {X : Type 0} (f : X → List ℕ) (n : ℕ) (fixed : (x : X) → length
   pub no_follower : (bytes cell : List ℕ) (i : ℕ) (entries whole : List X) (x : X) → HasRead f n P key bytes i entries → cell ≡ take (n * (i + 1) - n * i) (drop (n * i) bytes) → cell ≡ f x → P x → (MayFollow key entries (key x) → ⊥) → i < length whole → All P whole → IsStrictlyIncreasing (map key whole) → Spells f n whole bytes → ⊥
   no_follower bytes cell i entries whole x read is of_x fits not below all rise spells =
       let same : x ≡ get_or whole i x = tells x (get_or whole i x) fits (all i x below) (sym of_x ∙ spelled_piece bytes cell i whole x spells below is) in
-      let front : entries ≡ take i whole = read_front bytes i entries whole read spells all (omega arith) in
+      let header : entries ≡ take i whole = read_header bytes i entries whole read spells all (omega arith) in
       let Q : List X → Type 0 = λ l. MayFollow key l (key x) in
       let R : X → Type 0 = λ y. MayFollow key (take i whole) (key y) in
-      not (subst Q (sym front) (subst R (sym same) (must_follow key whole i x rise below)))
+      not (subst Q (sym header) (subst R (sym same) (must_follow key whole i x rise below)))
 
   -- where another byte than zero follows so many entries, no list of so many spells the bytes
   pub no_rest : (bytes rest : List ℕ) (count : ℕ) (whole : List X) → rest ≡ take (length bytes - n * count) (drop (n * count) bytes) → (rest ≡ replicate (length rest) 0 → ⊥) → length whole ≡ count → Spells f n whole bytes → ⊥
@@ -154,5 +154,5 @@ module _ {X : Type 0} (f : X → List ℕ) (n : ℕ) (fixed : (x : X) → length
   pub ends : (bytes rest : List ℕ) (i count : ℕ) (entries : List X) → HasRead f n P key bytes i entries → i ≡ count → rest ≡ take (length bytes - n * count) (drop (n * count) bytes) → rest ≡ replicate (length rest) 0 → Spells f n entries bytes
   ends bytes rest i count entries read end is zero =
       let R : List ℕ → Type 0 = λ l. l ≡ replicate (length l) 0 in
-      let front : take (n * count) bytes ≡ flat_map f entries = ap (λ (k : ℕ). take (n * k) bytes) (sym end) ∙ read.spelled in
-      read_all f n fixed bytes count entries front (read.long ∙ end) (subst R (rest_is n count bytes rest is) zero)
+      let header : take (n * count) bytes ≡ flat_map f entries = ap (λ (k : ℕ). take (n * k) bytes) (sym end) ∙ read.spelled in
+      read_all f n fixed bytes count entries header (read.long ∙ end) (subst R (rest_is n count bytes rest is) zero)

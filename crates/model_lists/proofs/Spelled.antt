@@ -5,26 +5,26 @@ use Rattle.std.proofs.lemmas.List.{take_at, drop_at, drop-drop, take-append-drop
 use Rattle.std.proofs.lemmas.List.Concat.{flat_map-append}
 use Rattle.model_bytes.specs.Bytes.{put_at}
 use Rattle.model_bytes.proofs.Laws.{take-put_at-end}
-use Rattle.model_lists.specs.Texts.{zeros, bytes_at, Spells}
+use Rattle.model_lists.specs.Texts.{zero_bytes, bytes_from, Spells}
 
 -- so many zeros are as long as that
-pub length-zeros : (n : ℕ) → length (zeros n) ≡ n
-unfolding zeros
-length-zeros n = length-replicate n 0
+pub length-zero_bytes : (n : ℕ) → length (zero_bytes n) ≡ n
+unfolding zero_bytes
+length-zero_bytes n = length-replicate n 0
 
 -- a list of zeros, by its length
-pub zeros-is : (n : ℕ) (bytes : List ℕ) → length bytes ≡ n → bytes ≡ replicate (length bytes) 0 → bytes ≡ zeros n
-unfolding zeros
-zeros-is n bytes long all = all ∙ ap (λ (k : ℕ). replicate k 0) long
+pub zero_bytes-is : (n : ℕ) (bytes : List ℕ) → length bytes ≡ n → bytes ≡ replicate (length bytes) 0 → bytes ≡ zero_bytes n
+unfolding zero_bytes
+zero_bytes-is n bytes long all = all ∙ ap (λ (k : ℕ). replicate k 0) long
 
 -- as many zeros, by another count
-pub replicated_zeros : (n m : ℕ) (bytes : List ℕ) → n ≡ m → bytes ≡ replicate n 0 → bytes ≡ zeros m
-unfolding zeros
+pub replicated_zeros : (n m : ℕ) (bytes : List ℕ) → n ≡ m → bytes ≡ replicate n 0 → bytes ≡ zero_bytes m
+unfolding zero_bytes
 replicated_zeros n m bytes same all = all ∙ ap (λ (k : ℕ). replicate k 0) same
 
-pub zeros-all : (n : ℕ) (bytes : List ℕ) → bytes ≡ zeros n → bytes ≡ replicate (length bytes) 0
-unfolding zeros
-zeros-all n bytes same =
+pub zero_bytes-all : (n : ℕ) (bytes : List ℕ) → bytes ≡ zero_bytes n → bytes ≡ replicate (length bytes) 0
+unfolding zero_bytes
+zero_bytes-all n bytes same =
     same ∙ ap (λ (k : ℕ). replicate k 0) (sym (ap length same ∙ length-replicate n 0))
 
 -- what lies from a place on, as the code takes it
@@ -36,9 +36,9 @@ pub take_both : {X : Type 0} (a n : ℕ) (xs : List X) → take (a + n) xs ≡ t
 take_both a n xs = take-add a n xs
 
 -- two lists that agree on the first a and the n after them
-pub agree_more : (a n : ℕ) (xs ys : List ℕ) → take a xs ≡ take a ys → bytes_at a n xs ≡ bytes_at a n ys → take (a + n) xs ≡ take (a + n) ys
-agree_more a n xs ys front next =
-    take_both a n xs ∙ ap₂ (λ (u v : List ℕ). u ++ v) front next ∙ sym (take_both a n ys)
+pub agree_more : (a n : ℕ) (xs ys : List ℕ) → take a xs ≡ take a ys → bytes_from a n xs ≡ bytes_from a n ys → take (a + n) xs ≡ take (a + n) ys
+agree_more a n xs ys header next =
+    take_both a n xs ∙ ap₂ (λ (u v : List ℕ). u ++ v) header next ∙ sym (take_both a n ys)
 
 module _ {X : Type 0} (f : X → List ℕ) (n : ℕ) (fixed : (x : X) → length (f x) ≡ n) where
   pub length-spelled : (xs : List X) → length (flat_map f xs) ≡ n * length xs
@@ -69,10 +69,10 @@ module _ {X : Type 0} (f : X → List ℕ) (n : ℕ) (fixed : (x : X) → length
 
   -- all entries were read, and zeros after them
   pub read_all : (bytes : List ℕ) (count : ℕ) (xs : List X) → take (n * count) bytes ≡ flat_map f xs → length xs ≡ count → drop (n * count) bytes ≡ replicate (length (drop (n * count) bytes)) 0 → Spells f n xs bytes
-  read_all bytes count xs front long rest =
-      let end : drop (n * count) bytes ≡ zeros (length bytes - n * length xs) =
-      zeros-is (length bytes - n * length xs) (drop (n * count) bytes) (length-drop (n * count) bytes ∙ ap (λ (k : ℕ). length bytes - n * k) (sym long)) rest in
-      sym (take-append-drop (n * count) bytes) ∙ ap₂ (λ (u v : List ℕ). u ++ v) front end
+  read_all bytes count xs header long rest =
+      let end : drop (n * count) bytes ≡ zero_bytes (length bytes - n * length xs) =
+      zero_bytes-is (length bytes - n * length xs) (drop (n * count) bytes) (length-drop (n * count) bytes ∙ ap (λ (k : ℕ). length bytes - n * k) (sym long)) rest in
+      sym (take-append-drop (n * count) bytes) ∙ ap₂ (λ (u v : List ℕ). u ++ v) header end
 
   -- one more entry was written
   pub writes_on : (before after : List ℕ) (i : ℕ) (xs : List X) (d : X) → i < length xs → n * i + n ≤ length before → take (n * i) before ≡ flat_map f (take i xs) → after ≡ put_at (n * i) (f (get_or xs i d)) before → take (n * (i + 1)) after ≡ flat_map f (take (i + 1) xs)

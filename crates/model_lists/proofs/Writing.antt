@@ -6,7 +6,7 @@ use Rattle.std.proofs.Math.Nat.{mul-le-mul_left}
 use borrow.Rule.Slice.PartMut.{put_mid}
 use Rattle.model_bytes.specs.Bytes.{put_at}
 use Rattle.model_lists.specs.Texts.{Spells}
-use Rattle.model_lists.proofs.Spelled.{zeros-is, length-spelled, writes_on}
+use Rattle.model_lists.proofs.Spelled.{zero_bytes-is, length-spelled, writes_on}
 
 -- a part that was overwritten by as many bytes
 pub put_mid-put_at : (at n : ℕ) (held from : List ℕ) → length from ≡ n → put_mid at n held from ≡ put_at at from held
@@ -37,9 +37,9 @@ module _ {X : Type 0} (f : X → List ℕ) (n : ℕ) (fixed : (x : X) → length
       let zero : tail ≡ replicate (length before - n * count) 0 = zeros_old ∙ ap (λ (m : ℕ). replicate m 0) old_long in
       let k : length tail ≡ length before - n * count = ap length zero ∙ length-replicate (length before - n * count) 0 in
       let rest : drop (length before - n * count) (drop (n * count) before) ≡ [] = drop_all (length before - n * count) (drop (n * count) before) (omega (arith, length-drop (n * count) before)) in
-      let front : take (n * count) before ≡ flat_map f entries = so_far ∙ ap (flat_map f) (take_all count entries (omega arith)) in
+      let header : take (n * count) before ≡ flat_map f entries = so_far ∙ ap (flat_map f) (take_all count entries (omega arith)) in
       let both : after ≡ flat_map f entries ++ tail =
-      now ∙ ap₂ (λ (u v : List ℕ). u ++ v) front (ap (λ (l : List ℕ). tail ++ l) rest ∙ append-nil tail) in
+      now ∙ ap₂ (λ (u v : List ℕ). u ++ v) header (ap (λ (l : List ℕ). tail ++ l) rest ∙ append-nil tail) in
       let long : length after ≡ length before =
       ap length both ∙ omega (arith, length-append (flat_map f entries) tail, length-spelled f n fixed entries, ap (λ (m : ℕ). n * m) end) in
-      both ∙ ap (λ (l : List ℕ). flat_map f entries ++ l) (zeros-is (length after - n * length entries) tail (omega (arith, ap (λ (m : ℕ). n * m) end)) (zero ∙ ap (λ (m : ℕ). replicate m 0) (sym k)))
+      both ∙ ap (λ (l : List ℕ). flat_map f entries ++ l) (zero_bytes-is (length after - n * length entries) tail (omega (arith, ap (λ (m : ℕ). n * m) end)) (zero ∙ ap (λ (m : ℕ). replicate m 0) (sym k)))

@@ -11,12 +11,12 @@ use Rattle.model_lists.specs.declared.sdl.SdlEntry.{SdlEntry}
 use Rattle.model_lists.specs.Values.{Dds, Sdl, IsLawfulDds, IsLawfulSdl}
 
 -- the n bytes from `at` on (this project's own)
-abbrev pub bytes_at : ℕ → ℕ → List ℕ → List ℕ
-bytes_at at n block = take n (drop at block)
+abbrev pub bytes_from : ℕ → ℕ → List ℕ → List ℕ
+bytes_from at n block = take n (drop at block)
 
 -- n zeros (this project's own)
-unfoldable pub zeros : ℕ → List ℕ
-zeros n = replicate n 0
+unfoldable pub zero_bytes : ℕ → List ℕ
+zero_bytes n = replicate n 0
 
 -- the byte of a state (this project's own, after ECMA-330)
 abbrev pub state_byte : DdsState → ℕ
@@ -45,38 +45,38 @@ sdl_entry_bytes entry = replaced_bytes entry.defective entry.replacement
 
 -- The bytes before the entries of a disc definition structure: 0Ah 0Ah, version 01h, state, counter and size of the
 -- primary spare area, zeros, and from 2,048 on 00h 01h and the number of entries. (This project's own, after ECMA-330.)
-pub record IsDdsFront (state : DdsState) (counter psa count : ℕ) (block : List ℕ) : Type 0 where
-  pub begins : bytes_at 0 4 block ≡ 10 ∷ 10 ∷ 1 ∷ state_byte state ∷ []
-  pub counted : bytes_at 4 4 block ≡ big_bytes 4 counter
-  pub spares : bytes_at 8 2 block ≡ big_bytes 2 psa
-  pub gap : bytes_at 10 2038 block ≡ zeros 2038
-  pub list_begins : bytes_at 2048 2 block ≡ 0 ∷ 1 ∷ []
-  pub list_counted : bytes_at 2050 2 block ≡ big_bytes 2 count
+pub record IsDdsHeader (state : DdsState) (counter psa count : ℕ) (block : List ℕ) : Type 0 where
+  pub begins : bytes_from 0 4 block ≡ 10 ∷ 10 ∷ 1 ∷ state_byte state ∷ []
+  pub counted : bytes_from 4 4 block ≡ big_bytes 4 counter
+  pub spares : bytes_from 8 2 block ≡ big_bytes 2 psa
+  pub gap : bytes_from 10 2038 block ≡ zero_bytes 2038
+  pub list_begins : bytes_from 2048 2 block ≡ 0 ∷ 1 ∷ []
+  pub list_counted : bytes_from 2050 2 block ≡ big_bytes 2 count
 
 -- The bytes before the entries of a secondary defect list: 00h 02h, version 01h, 00h, both counters, the size of the
 -- supplementary spare area, the number of entries, and zeros. (This project's own, after ECMA-330.)
-pub record IsSdlFront (counter dds_counter ssa count : ℕ) (block : List ℕ) : Type 0 where
-  pub begins : bytes_at 0 4 block ≡ 0 ∷ 2 ∷ 1 ∷ 0 ∷ []
-  pub counted : bytes_at 4 4 block ≡ big_bytes 4 counter
-  pub dds_counted : bytes_at 8 4 block ≡ big_bytes 4 dds_counter
-  pub spares : bytes_at 12 2 block ≡ big_bytes 2 ssa
-  pub list_counted : bytes_at 14 2 block ≡ big_bytes 2 count
-  pub gap : bytes_at 16 16 block ≡ zeros 16
+pub record IsSdlHeader (counter dds_counter ssa count : ℕ) (block : List ℕ) : Type 0 where
+  pub begins : bytes_from 0 4 block ≡ 0 ∷ 2 ∷ 1 ∷ 0 ∷ []
+  pub counted : bytes_from 4 4 block ≡ big_bytes 4 counter
+  pub dds_counted : bytes_from 8 4 block ≡ big_bytes 4 dds_counter
+  pub spares : bytes_from 12 2 block ≡ big_bytes 2 ssa
+  pub list_counted : bytes_from 14 2 block ≡ big_bytes 2 count
+  pub gap : bytes_from 16 16 block ≡ zero_bytes 16
 
 -- the bytes are those of the entries, of n bytes each, one after another, and then zeros (this project's own)
 abbrev pub Spells : {X : Type 0} → (X → List ℕ) → ℕ → List X → List ℕ → Type 0
-Spells bytes_of n entries bytes = bytes ≡ flat_map bytes_of entries ++ zeros (length bytes - n * length entries)
+Spells bytes_of n entries bytes = bytes ≡ flat_map bytes_of entries ++ zero_bytes (length bytes - n * length entries)
 
 -- The block is the text of this disc definition structure. (This project's own, after ECMA-330.)
 pub record IsDdsText (value : Dds) (block : List ℕ) : Type 0 where
   pub lawful : IsLawfulDds value
   pub whole : length block ≡ 32768
-  pub front : IsDdsFront value.state value.counter value.psa (length value.entries) block
+  pub header : IsDdsHeader value.state value.counter value.psa (length value.entries) block
   pub list : Spells pdl_entry_bytes 4 value.entries (drop 2052 block)
 
 -- The block is the text of this secondary defect list. (This project's own, after ECMA-330.)
 pub record IsSdlText (value : Sdl) (block : List ℕ) : Type 0 where
   pub lawful : IsLawfulSdl value
   pub whole : length block ≡ 32768
-  pub front : IsSdlFront value.counter value.dds_counter value.ssa (length value.entries) block
+  pub header : IsSdlHeader value.counter value.dds_counter value.ssa (length value.entries) block
   pub list : Spells sdl_entry_bytes 8 value.entries (drop 32 block)

@@ -16,7 +16,7 @@ counted-then : (n j k : ℕ) → counted (counted n j) k ≡ counted n (j + k)
 counted-then n j k = omega arith
 
 lasts_none : (world : World) → Lasts world world 0
-lasts_none world = record { as_told = refl; counts = sym (counted-none world.uses); no_fault = refl; stays_dead = λ block e. e }
+lasts_none world = record { as_known = refl; counts = sym (counted-none world.uses); no_fault = refl; stays_dead = λ block e. e }
 
 no_cut_none : (world : World) → NoCutCame world world
 no_cut_none world = record { power_same = refl; no_cut = refl; stays_good = λ block h. good_or_dead-good (cell_at world.cells block) h }
@@ -35,7 +35,7 @@ reach_none machine to_come = record {
 
 lasts_then : (a b c : World) (j k : ℕ) → Lasts a b j → Lasts b c k → Lasts a c (j + k)
 lasts_then a b c j k one two = record {
-  as_told = two.as_told ∙ one.as_told;
+  as_known = two.as_known ∙ one.as_known;
   counts = two.counts ∙ ap (λ n. counted n k) one.counts ∙ counted-then a.uses j k;
   no_fault = two.no_fault ∙ one.no_fault;
   stays_dead = λ block e. two.stays_dead block (one.stays_dead block e);
@@ -51,7 +51,7 @@ no_cut_then a b c k one two lasts = record {
 cut_then : (a b c : World) (k : ℕ) → NoCutCame a b → CutCame b c → Lasts b c k → CutCame a c
 cut_then a b c k one two lasts = record {
   was_on = sym one.power_same ∙ two.was_on;
-  goes_off = two.goes_off;
+  turns_off = two.turns_off;
   one_cut = two.one_cut ∙ ap (λ n. counted n 1) one.no_cut;
   torn = two.torn;
   others_stay_good = λ block ne h. good_or_dead-then (cell_at b.cells block) (cell_at c.cells block) (two.others_stay_good block ne) (lasts.stays_dead block) (one.stays_good block h);
@@ -75,7 +75,7 @@ module _ (a b c : World) (j k : ℕ) (one : Follows a b j) (two : Follows b c k)
       | inr fell ↦ record { lasts = lasts_then a b c j k one.lasts two.lasts; off_is_still = still_world; ends = inr (cut_then a b c k kept fell two.lasts) }
     ]
     | inr fell ↦
-        let still = two.off_is_still fell.goes_off in
+        let still = two.off_is_still fell.turns_off in
         subst (λ n. Follows a c n) (no_more j k still.1) (subst (λ w. Follows a w j) (sym still.0) one)
   ]
 
@@ -108,7 +108,7 @@ module _ (a b c : Machine) (j k : ℕ) (one : Reach a b j) (two : Reach b c k) w
       | inr fell ↦ go_on (inr (cut_then a.world b.world c.world k kept.0 fell.0 two.lasts, cut_fell-then j k a.cut b.cut c.cut kept.1 fell.1))
     ]
     | inr fell ↦
-        let still = two.off_is_still fell.0.goes_off in
+        let still = two.off_is_still fell.0.turns_off in
         subst (λ n. Reach a c n) (no_more j k still.1) (subst (λ m. Reach a m j) (sym still.0) one)
   ]
 

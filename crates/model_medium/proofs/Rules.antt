@@ -7,7 +7,7 @@ use Rattle.std.proofs.lemmas.Bool.{cases_Bool, false≢true}
 use Rattle.std.proofs.lemmas.List.{set-get_or}
 use Rattle.model_counts.specs.Counts.{counted}
 use Rattle.model_medium.specs.Cells.{Cell, Good, Dead, cell_at, IsSameOrDead, MayLeave, written, cut_short}
-use Rattle.model_medium.specs.World.{ShowsNoneUntold, IsUse, UseContinues, IsCut, ReadRule, WriteRule, ReadGoes, WriteGoes}
+use Rattle.model_medium.specs.World.{ShowsNoneUnknown, IsUse, UseContinues, IsCut, ReadRule, WriteRule, ReadContinues, WriteContinues}
 use Rattle.model_medium.specs.Machine.{Machine, is_killed, cells_worn, fate_due, IsToCome, begun, cut_off, with_cell, after_read, after_write}
 use Rattle.model_medium.specs.Exact.{ReadExactly, WriteExactly}
 use Rattle.model_medium.specs.Reach.{Reach}
@@ -53,7 +53,7 @@ module _ (old new : Machine) (block : ℕ) where
         → new ≡ record (begun block old) { world = record (begun block old).world { cells = cells; power = power; cuts = cuts } } → Used old new block change
     used_by change cells power cuts is x = record {
       was_on = was_on;
-      as_told = ap (λ m. m.world.told) x;
+      as_known = ap (λ m. m.world.known) x;
       counts = ap (λ m. m.world.uses) x;
       no_fault = ap (λ m. m.world.faults) x;
       cells = ap (λ m. m.world.cells) x ∙ is;
@@ -74,40 +74,40 @@ module _ (old new : Machine) (block : ℕ) where
     used_cut_write bytes fate x = used_by (cut_short fate bytes) (cut_write bytes fate).world.cells false (counted old.world.cuts 1) refl x
 
   -- one use reaches one use further
-  goes_on : fate_due old.cut ≡ None → IsTrue old.world.power → new ≡ begun block old → Reach old new 1
-  goes_on due was_on x = reach_on old new block (λ cell. cell) (used_read was_on x) same_is_kind due (ap (λ m. m.world.power) x) (ap (λ m. m.world.cuts) x)
+  use_continues : fate_due old.cut ≡ None → IsTrue old.world.power → new ≡ begun block old → Reach old new 1
+  use_continues due was_on x = reach_on old new block (λ cell. cell) (used_read was_on x) same_is_kind due (ap (λ m. m.world.power) x) (ap (λ m. m.world.cuts) x)
 
   off_now : new.world.power ≡ false → ¬ IsTrue new.world.power
   off_now e on = false≢true (sym e ∙ on)
 
-  pub read_goes : (into into' : List ℕ) (end : ReadEnd) → IsToCome old.cut → ReadExactly old new block into into' end → ReadGoes (Reach old new) end
-  read_goes into into' reads.Done to_come rule = goes_on rule.not_due rule.was_on (read_on rule.not_due rule.exactly)
-  read_goes into into' reads.Unreadable to_come rule = goes_on rule.not_due rule.was_on (read_on rule.not_due rule.exactly)
-  read_goes into into' reads.Cut to_come rule =
+  pub read_continues : (into into' : List ℕ) (end : ReadEnd) → IsToCome old.cut → ReadExactly old new block into into' end → ReadContinues (Reach old new) end
+  read_continues into into' reads.Done to_come rule = use_continues rule.not_due rule.was_on (read_on rule.not_due rule.exactly)
+  read_continues into into' reads.Unreadable to_come rule = use_continues rule.not_due rule.was_on (read_on rule.not_due rule.exactly)
+  read_continues into into' reads.Cut to_come rule =
       let due = fate_of_due (fate_due old.cut) rule.0.due in
       let x = read_off due.0 due.1 rule.0.exactly in
       reach_off old new block (λ cell. cell) due.0 (used_cut_read rule.0.was_on x) (record { tame = same_is_kind.tame; may_tear = λ cell h. inl (same_is_kind.stays_good cell h) }) to_come due.1 (off_now (ap (λ m. m.world.power) x))
       (ap (λ m. m.world.cuts) x)
-  read_goes into into' reads.Off to_come rule = subst (λ m. Reach old m 0) (sym rule.0.nothing) (reach_none old to_come)
-  read_goes into into' reads.Failed to_come rule = tt
+  read_continues into into' reads.Off to_come rule = subst (λ m. Reach old m 0) (sym rule.0.nothing) (reach_none old to_come)
+  read_continues into into' reads.Failed to_come rule = tt
 
-  pub write_goes : (bytes : List ℕ) (end : WriteEnd) → IsToCome old.cut → WriteExactly old new block bytes end → WriteGoes (Reach old new) end
-  write_goes bytes writes.Done to_come rule =
+  pub write_continues : (bytes : List ℕ) (end : WriteEnd) → IsToCome old.cut → WriteExactly old new block bytes end → WriteContinues (Reach old new) end
+  write_continues bytes writes.Done to_come rule =
       let x = write_on bytes rule.not_due rule.exactly in
       reach_on old new block (written bytes) (used_write rule.was_on bytes x) (written_is_kind bytes) rule.not_due (ap (λ m. m.world.power) x) (ap (λ m. m.world.cuts) x)
-  write_goes bytes writes.Cut to_come rule =
+  write_continues bytes writes.Cut to_come rule =
       let due = fate_of_due (fate_due old.cut) rule.due in
       let x = write_off bytes due.0 due.1 rule.exactly in
       reach_off old new block (cut_short due.0 bytes) due.0 (used_cut_write rule.was_on bytes due.0 x) (cut_short_is_harsh due.0 bytes) to_come due.1 (off_now (ap (λ m. m.world.power) x)) (ap (λ m. m.world.cuts) x)
-  write_goes bytes writes.Off to_come rule = subst (λ m. Reach old m 0) (sym rule.nothing) (reach_none old to_come)
-  write_goes bytes writes.Failed to_come rule = tt
+  write_continues bytes writes.Off to_come rule = subst (λ m. Reach old m 0) (sym rule.nothing) (reach_none old to_come)
+  write_continues bytes writes.Failed to_come rule = tt
 
   -- the rules of any medium
   module _ (change : Cell → Cell) (tame : IsTame change) where
     is_use : Used old new block change → IsUse old.world new.world block
     is_use used = record {
       was_on = used.was_on;
-      as_told = used.as_told;
+      as_known = used.as_known;
       counts = used.counts;
       others = cell_other old new block change used tame;
       stays_dead = dead_here old new block change used tame;
@@ -128,7 +128,7 @@ module _ (old new : Machine) (block : ℕ) where
   worn_same true e = absurd (cc)
   worn_same false e = refl
 
-  unchanged : (told : Bool) → OnFalse told (old.world.cells ≡ []) → (into' : List ℕ) → Used old new block (λ cell. cell) → OnTrue told (cell_at new.world.cells block ≡ Good into')
+  unchanged : (known : Bool) → OnFalse known (old.world.cells ≡ []) → (into' : List ℕ) → Used old new block (λ cell. cell) → OnTrue known (cell_at new.world.cells block ≡ Good into')
       → new.world.cells ≡ cells_worn block old.arms old.world.cells → new.world.cells ≡ old.world.cells
   unchanged true hidden into' used gives e = elim (cases_Bool (is_killed block old.arms)) [
     | inl killed ↦ absurd (let clash : Good into' ≡ Dead = sym gives ∙ killed_here old new block (λ cell. cell) used same_is_kind.tame killed in cc)
@@ -140,22 +140,22 @@ module _ (old new : Machine) (block : ℕ) where
   stays_on was_on x = record { stays_on = ap (λ m. m.world.power) x ∙ was_on; no_cut = ap (λ m. m.world.cuts) x; no_fault = ap (λ m. m.world.faults) x }
 
   is_cut : new ≡ cut_off (begun block old) → IsCut old.world new.world
-  is_cut x = record { goes_off = off_now (ap (λ m. m.world.power) x); one_cut = ap (λ m. m.world.cuts) x; no_fault = ap (λ m. m.world.faults) x }
+  is_cut x = record { turns_off = off_now (ap (λ m. m.world.power) x); one_cut = ap (λ m. m.world.cuts) x; no_fault = ap (λ m. m.world.faults) x }
 
-  pub read_rule : (into into' : List ℕ) (end : ReadEnd) → ShowsNoneUntold old.world → ReadExactly old new block into into' end → ReadRule old.world new.world block into into' end
+  pub read_rule : (into into' : List ℕ) (end : ReadEnd) → ShowsNoneUnknown old.world → ReadExactly old new block into into' end → ReadRule old.world new.world block into into' end
   read_rule into into' reads.Done hidden rule =
       let x = read_on rule.not_due rule.exactly in
       let used = used_read rule.was_on x in
       record {
         one = is_use (λ cell. cell) same_is_kind.tame used;
-        goes_on = stays_on rule.was_on x;
-        same = unchanged old.world.told hidden into' used rule.gives (ap (λ m. m.world.cells) x);
+        use_continues = stays_on rule.was_on x;
+        same = unchanged old.world.known hidden into' used rule.gives (ap (λ m. m.world.cells) x);
         gives = rule.gives;
       }
   read_rule into into' reads.Unreadable hidden rule =
       let x = read_on rule.not_due rule.exactly in
       let used = used_read rule.was_on x in
-      record { one = is_use (λ cell. cell) same_is_kind.tame used; goes_on = stays_on rule.was_on x; left = left_by_read used; not_good = rule.not_good; kept = rule.kept }
+      record { one = is_use (λ cell. cell) same_is_kind.tame used; use_continues = stays_on rule.was_on x; left = left_by_read used; not_good = rule.not_good; kept = rule.kept }
   read_rule into into' reads.Cut hidden rule =
       let due = fate_of_due (fate_due old.cut) rule.0.due in
       let x = read_off due.0 due.1 rule.0.exactly in
@@ -182,7 +182,7 @@ module _ (old new : Machine) (block : ℕ) where
       let used = used_write rule.was_on bytes x in
       record {
         one = is_use (written bytes) (written_is_kind bytes).tame used;
-        goes_on = record { stays_on = ap (λ m. m.world.power) x ∙ rule.was_on; no_cut = ap (λ m. m.world.cuts) x; no_fault = ap (λ m. m.world.faults) x };
+        use_continues = record { stays_on = ap (λ m. m.world.power) x ∙ rule.was_on; no_cut = ap (λ m. m.world.cuts) x; no_fault = ap (λ m. m.world.faults) x };
         left = left_by_write bytes used;
       }
   write_rule bytes writes.Cut rule =
@@ -191,7 +191,7 @@ module _ (old new : Machine) (block : ℕ) where
       let used = used_cut_write rule.was_on bytes due.0 x in
       record {
         one = is_use (cut_short due.0 bytes) (cut_short_is_harsh due.0 bytes).tame used;
-        cut = record { goes_off = off_now (ap (λ m. m.world.power) x); one_cut = ap (λ m. m.world.cuts) x; no_fault = ap (λ m. m.world.faults) x };
+        cut = record { turns_off = off_now (ap (λ m. m.world.power) x); one_cut = ap (λ m. m.world.cuts) x; no_fault = ap (λ m. m.world.faults) x };
         left = left_by_cut bytes due.0 used;
       }
   write_rule bytes writes.Off rule = record { was_off = rule.was_off; nothing = ap (λ m. m.world) rule.nothing }

@@ -13,7 +13,7 @@ use Rattle.model_medium.proofs.Arms.{worn_within-killed, worn_by-one, cut_stands
 -- A use of a block, after which its cell is what this change makes of it.
 pub record Used (old new : Machine) (block : ℕ) (change : Cell → Cell) : Type 0 where
   pub was_on : IsTrue old.world.power
-  pub as_told : new.world.told ≡ old.world.told
+  pub as_known : new.world.known ≡ old.world.known
   pub counts : new.world.uses ≡ counted old.world.uses 1
   pub no_fault : new.world.faults ≡ old.world.faults
   pub cells : new.world.cells ≡ set (cells_worn block old.arms old.world.cells) block (change (cell_at (cells_worn block old.arms old.world.cells) block))
@@ -77,7 +77,7 @@ module _ (old new : Machine) (block : ℕ) (change : Cell → Cell) (used : Used
   ]
 
   lasts_one : Lasts old.world new.world 1
-  lasts_one = record { as_told = used.as_told; counts = used.counts; no_fault = used.no_fault; stays_dead = dead_stays }
+  lasts_one = record { as_known = used.as_known; counts = used.counts; no_fault = used.no_fault; stays_dead = dead_stays }
 
   arms_one : WornBy 1 new.world.cells old.arms new.arms
   arms_one = subst (WornBy 1 new.world.cells old.arms) (sym used.arms) (worn_by-one block new.world.cells old.arms killed_here)
@@ -108,7 +108,7 @@ pub reach_off : (old new : Machine) (block : ℕ) (change : Cell → Cell) (fate
 reach_off old new block change fate used harsh to_come due power cuts =
     reach_by old new block change used harsh.tame
     (inr (
-      record { was_on = used.was_on; goes_off = power; one_cut = cuts; torn = block; others_stay_good = others; one_torn = here },
+      record { was_on = used.was_on; turns_off = power; one_cut = cuts; torn = block; others_stay_good = others; one_torn = here },
       subst (CutFell 1 old.cut) (sym used.cut) (cut_fell-one old.cut fate to_come due),
     ))
   where

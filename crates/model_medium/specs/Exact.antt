@@ -19,7 +19,7 @@ pub record ReadsCellExactly (old new : Machine) (block : ℕ) (into' : List ℕ)
   pub was_on : IsTrue old.world.power
   pub not_due : fate_due old.cut ≡ None
   pub exactly : new ≡ after_read block old
-  pub gives : OnTrue old.world.told (cell_at new.world.cells block ≡ Good into')
+  pub gives : OnTrue old.world.known (cell_at new.world.cells block ≡ Good into')
 
 -- the power was on, no cut was due, and the cell is not good
 pub record FindsNothingExactly (old new : Machine) (block : ℕ) (into into' : List ℕ) : Type 0 where

@@ -7,10 +7,10 @@ use Rattle.model_medium.specs.Machine.{Machine}
 use Rattle.model_medium.specs.declared.WornBlock.{WornBlock}
 use Rattle.model_medium.specs.declared.ArmedCut.{ArmedCut}
 
--- What k uses of any medium keep, none of which failed: they are counted, what is told stays told, no fault is counted,
+-- What k uses of any medium keep, none of which failed: they are counted, what is known stays known, no fault is counted,
 -- and a dead cell stays dead. (This project's own, as all here.)
 pub record Lasts (old new : World) (k : ℕ) : Type 0 where
-  pub as_told : new.told ≡ old.told
+  pub as_known : new.known ≡ old.known
   pub counts : new.uses ≡ counted old.uses k
   pub no_fault : new.faults ≡ old.faults
   pub stays_dead : (block : ℕ) → cell_at old.cells block ≡ Dead → cell_at new.cells block ≡ Dead
@@ -24,7 +24,7 @@ pub record NoCutCame (old new : World) : Type 0 where
 -- the last use was cut: the power went off, and each good cell is good or dead, but for at most one that is torn
 pub record CutCame (old new : World) : Type 0 where
   pub was_on : IsTrue old.power
-  pub goes_off : ¬ IsTrue new.power
+  pub turns_off : ¬ IsTrue new.power
   pub one_cut : new.cuts ≡ counted old.cuts 1
   pub torn : ℕ
   pub others_stay_good : (block : ℕ) → block ≢ torn → IsGood (cell_at old.cells block) → IsGoodOrDead (cell_at new.cells block)

@@ -8,26 +8,26 @@ use Rattle.model_medium.specs.declared.ReadEnd.TheVariants as reads
 use Rattle.model_medium.specs.declared.WriteEnd.{WriteEnd}
 use Rattle.model_medium.specs.declared.WriteEnd.TheVariants as writes
 
--- All that any medium shows: whether its cells are told, the cells (none where they are not told), whether the power
+-- All that any medium shows: whether its cells are known, the cells (none where they are not known), whether the power
 -- is on, how many uses there were, and how often the power was cut and what the medium lies on has failed. A use is
 -- one read or write with the power on, however it ends. (This project's own.)
 pub record World : Type 0 where
-  pub told : Bool
+  pub known : Bool
   pub cells : List Cell
   pub power : Bool
   pub uses : ℕ
   pub cuts : ℕ
   pub faults : ℕ
 
--- a medium that does not tell its cells shows none
-abbrev pub ShowsNoneUntold : World → Type 0
-ShowsNoneUntold world = OnFalse world.told (world.cells ≡ [])
+-- a medium whose cells are not known shows none
+abbrev pub ShowsNoneUnknown : World → Type 0
+ShowsNoneUnknown world = OnFalse world.known (world.cells ≡ [])
 
 -- One use of a block, however it ended: it is counted, no cell but the block's changed, and a dead cell stays dead.
 -- (This project's own.)
 pub record IsUse (old new : World) (block : ℕ) : Type 0 where
   pub was_on : IsTrue old.power
-  pub as_told : new.told ≡ old.told
+  pub as_known : new.known ≡ old.known
   pub counts : new.uses ≡ counted old.uses 1
   pub others : (other : ℕ) → other ≢ block → cell_at new.cells other ≡ cell_at old.cells other
   pub stays_dead : cell_at old.cells block ≡ Dead → cell_at new.cells block ≡ Dead
@@ -40,13 +40,13 @@ pub record UseContinues (old new : World) : Type 0 where
 
 -- the power was cut in the use: it is off, and the cut alone is counted
 pub record IsCut (old new : World) : Type 0 where
-  pub goes_off : ¬ IsTrue new.power
+  pub turns_off : ¬ IsTrue new.power
   pub one_cut : new.cuts ≡ counted old.cuts 1
   pub no_fault : new.faults ≡ old.faults
 
 -- what the medium lies on failed in the use: the power is off, and the fault is counted
 pub record HasFailed (old new : World) : Type 0 where
-  pub goes_off : ¬ IsTrue new.power
+  pub turns_off : ¬ IsTrue new.power
   pub no_cut : new.cuts ≡ old.cuts
   pub fault : Rose old.faults new.faults
 
@@ -58,14 +58,14 @@ pub record IsOff (old new : World) : Type 0 where
 -- the read gave the bytes of a good cell, and no cell changed
 pub record ReadsCell (old new : World) (block : ℕ) (into' : List ℕ) : Type 0 where
   pub one : IsUse old new block
-  pub goes_on : UseContinues old new
+  pub use_continues : UseContinues old new
   pub same : new.cells ≡ old.cells
-  pub gives : OnTrue old.told (cell_at new.cells block ≡ Good into')
+  pub gives : OnTrue old.known (cell_at new.cells block ≡ Good into')
 
 -- the read found no good cell there
 pub record FindsNoBytes (old new : World) (block : ℕ) (into into' : List ℕ) : Type 0 where
   pub one : IsUse old new block
-  pub goes_on : UseContinues old new
+  pub use_continues : UseContinues old new
   pub left : IsSameOrDead (cell_at old.cells block) (cell_at new.cells block)
   pub not_good : ¬ IsGood (cell_at new.cells block)
   pub kept : into' ≡ into
@@ -96,7 +96,7 @@ ReadRule old new block into into' reads.Failed = FailsInRead old new block into 
 -- the write put its bytes, unless the cell is dead
 pub record WritesCell (old new : World) (block : ℕ) (bytes : List ℕ) : Type 0 where
   pub one : IsUse old new block
-  pub goes_on : UseContinues old new
+  pub use_continues : UseContinues old new
   pub left : (cell_at new.cells block ≡ Good bytes) ⊎ (cell_at new.cells block ≡ Dead)
 
 -- the power was cut in the write
@@ -120,15 +120,15 @@ WriteRule old new block bytes writes.Failed = FailsInWrite old new block bytes
 
 -- How far a read or write went: one use, or none with the power off. A use that failed is told by its own rule.
 -- (This project's own.)
-abbrev pub ReadGoes : (ℕ → Type 0) → ReadEnd → Type 0
-ReadGoes goes reads.Done = goes 1
-ReadGoes goes reads.Unreadable = goes 1
-ReadGoes goes reads.Cut = goes 1
-ReadGoes goes reads.Off = goes 0
-ReadGoes goes reads.Failed = Unit {0}
+abbrev pub ReadContinues : (ℕ → Type 0) → ReadEnd → Type 0
+ReadContinues continues reads.Done = continues 1
+ReadContinues continues reads.Unreadable = continues 1
+ReadContinues continues reads.Cut = continues 1
+ReadContinues continues reads.Off = continues 0
+ReadContinues continues reads.Failed = Unit {0}
 
-abbrev pub WriteGoes : (ℕ → Type 0) → WriteEnd → Type 0
-WriteGoes goes writes.Done = goes 1
-WriteGoes goes writes.Cut = goes 1
-WriteGoes goes writes.Off = goes 0
-WriteGoes goes writes.Failed = Unit {0}
+abbrev pub WriteContinues : (ℕ → Type 0) → WriteEnd → Type 0
+WriteContinues continues writes.Done = continues 1
+WriteContinues continues writes.Cut = continues 1
+WriteContinues continues writes.Off = continues 0
+WriteContinues continues writes.Failed = Unit {0}

@@ -4,21 +4,21 @@ ghost use Rattle.std.specs.Prelude.{◌≡◌, ℕ, ◌+◌, List};
 ghost use Rattle.model_medium.specs.declared.ReadEnd.{ReadEnd};
 ghost use Rattle.model_medium.specs.declared.WriteEnd.{WriteEnd};
 ghost use Rattle.model_medium.specs.Cells.{Dead, cell_at};
-ghost use Rattle.model_medium.specs.World.{World, ShowsNoneUntold, ReadRule, WriteRule, ReadGoes, WriteGoes};
+ghost use Rattle.model_medium.specs.World.{World, ShowsNoneUnknown, ReadRule, WriteRule, ReadContinues, WriteContinues};
 ghost use Rattle.model_medium.specs.Machine.{Machine, IsToCome};
 ghost use Rattle.model_medium.specs.Exact.{ReadExactly, WriteExactly};
 ghost use Rattle.model_medium.specs.Reach.{Follows, Reach};
 
 /// One read of a controllable medium that did not fail goes one use further, and one with the power off none.
-pub fn one_read_goes_one_further()
+pub fn one_read_counts_one_use()
     ensures { (old new : Machine) (block : ℕ) (into after : List ℕ) (how : ReadEnd) → IsToCome old.cut
-        → ReadExactly old new block into after how → ReadGoes (Reach old new) how }
+        → ReadExactly old new block into after how → ReadContinues (Reach old new) how }
 {}
 
 /// One write of a controllable medium that did not fail goes one use further, and one with the power off none.
-pub fn one_write_goes_one_further()
+pub fn one_write_counts_one_use()
     ensures { (old new : Machine) (block : ℕ) (bytes : List ℕ) (how : WriteEnd) → IsToCome old.cut
-        → WriteExactly old new block bytes how → WriteGoes (Reach old new) how }
+        → WriteExactly old new block bytes how → WriteContinues (Reach old new) how }
 {}
 
 /// Nothing at all is a reach by no use.
@@ -40,7 +40,7 @@ pub fn composes()
 /// The exact steps of a controllable medium are among what any medium may do.
 pub fn steps_obey_the_rules()
     ensures read { (old new : Machine) (block : ℕ) (into after : List ℕ) (how : ReadEnd)
-        → ShowsNoneUntold old.world
+        → ShowsNoneUnknown old.world
         → ReadExactly old new block into after how → ReadRule old.world new.world block into after how }
     ensures write { (old new : Machine) (block : ℕ) (bytes : List ℕ) (how : WriteEnd)
         → WriteExactly old new block bytes how → WriteRule old.world new.world block bytes how }

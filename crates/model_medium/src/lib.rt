@@ -4,7 +4,7 @@
 mod laws;
 
 pub use laws::{
-    composes, none_is_no_use, one_read_goes_one_further, one_write_goes_one_further,
+    composes, none_is_no_use, one_read_counts_one_use, one_write_counts_one_use,
     steps_obey_the_rules,
 };
 

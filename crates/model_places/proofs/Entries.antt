@@ -9,7 +9,7 @@ use Rattle.std.proofs.lemmas.Map.Keys.{IsDistinct-tail, IsDistinct-cons}
 use Rattle.std.proofs.lemmas.Map.Made.{length-le_from_is_member}
 use Rattle.model_geometry.specs.declared.TheConstants.{MOST_SPARES}
 use Rattle.model_geometry.specs.Geometry.{Shape}
-use Rattle.model_places.specs.Places.{Entries, unslipped, logical_blocks, spares, defectives, replacements}
+use Rattle.model_places.specs.Places.{Entries, unslipped, logical_blocks, spares, defective_blocks, replacements}
 use Rattle.model_places.specs.Valid.{IsValidPdl, IsValidSdl}
 use Rattle.model_places.proofs.Listed.{Decides-is_listed, is_member_is, IsDistinct-from_increasing}
 use Rattle.model_places.proofs.Pools.{spare_or_logical, length-spares}
@@ -31,8 +31,8 @@ used_cases ((b, Some s) ∷ es) x (suc k, within, is) =
     ⊎_elim (λ l. inl (Contains-later s (replacements es) x l)) (λ r. inr (Contains-later (b, Some s) es (x, None) r)) (used_cases es x (k, omega arith, is))
 
 -- the block of an entry is one of the defective blocks
-Contains-defectives : (entries : Entries) (e : ℕ × Option ℕ) → Contains entries e → Contains (defectives entries) e.0
-Contains-defectives entries e (k, within, is) =
+Contains-defective_blocks : (entries : Entries) (e : ℕ × Option ℕ) → Contains entries e → Contains (defective_blocks entries) e.0
+Contains-defective_blocks entries e (k, within, is) =
     (k, omega (arith, length-map entries (λ (f : ℕ × Option ℕ). f.0)), get_or-map (λ (f : ℕ × Option ℕ). f.0) entries k e e.0 within ∙ ap (λ (f : ℕ × Option ℕ). f.0) is)
 
 -- a number that is not among others differs from each
@@ -42,24 +42,24 @@ differs_from_all x ys alone =
     (λ k d within. ne_eqb x _ (λ e. alone (k, within, get_or_default ys k x d within ∙ sym e)))
 
 -- no two entries use up one spare
-used_differ : (entries : Entries) → IsDistinct eqb (replacements entries) → IsDistinct eqb (defectives entries)
-    → ((x : ℕ) → Contains (replacements entries) x → ¬ Contains (defectives entries) x) → IsDistinct eqb (map used entries)
+used_differ : (entries : Entries) → IsDistinct eqb (replacements entries) → IsDistinct eqb (defective_blocks entries)
+    → ((x : ℕ) → Contains (replacements entries) x → ¬ Contains (defective_blocks entries) x) → IsDistinct eqb (map used entries)
 used_differ [] apart apart' sound = apart'
 used_differ ((b, None) ∷ es) apart apart' sound =
     IsDistinct-cons eqb b (map used es)
     (differs_from_all b (map used es) (λ has. ⊎_elim
-    (λ l. sound b l (Contains-first b (defectives es)))
-    (λ r. first_is_alone b (defectives es) apart' (Contains-defectives es (b, None) r))
+    (λ l. sound b l (Contains-first b (defective_blocks es)))
+    (λ r. first_is_alone b (defective_blocks es) apart' (Contains-defective_blocks es (b, None) r))
     (used_cases es b has)))
-    (used_differ es apart (IsDistinct-tail eqb b (defectives es) apart') (λ x h h'. sound x h (Contains-later b (defectives es) x h')))
+    (used_differ es apart (IsDistinct-tail eqb b (defective_blocks es) apart') (λ x h h'. sound x h (Contains-later b (defective_blocks es) x h')))
 used_differ ((b, Some s) ∷ es) apart apart' sound =
     IsDistinct-cons eqb s (map used es)
     (differs_from_all s (map used es) (λ has. ⊎_elim
     (λ l. first_is_alone s (replacements es) apart l)
-    (λ r. sound s (Contains-first s (replacements es)) (Contains-later b (defectives es) s (Contains-defectives es (s, None) r)))
+    (λ r. sound s (Contains-first s (replacements es)) (Contains-later b (defective_blocks es) s (Contains-defective_blocks es (s, None) r)))
     (used_cases es s has)))
-    (used_differ es (IsDistinct-tail eqb s (replacements es) apart) (IsDistinct-tail eqb b (defectives es) apart')
-    (λ x h h'. sound x (Contains-later s (replacements es) x h) (Contains-later b (defectives es) x h')))
+    (used_differ es (IsDistinct-tail eqb s (replacements es) apart) (IsDistinct-tail eqb b (defective_blocks es) apart')
+    (λ x h h'. sound x (Contains-later s (replacements es) x h) (Contains-later b (defective_blocks es) x h')))
 
 -- each entry of a valid list uses up a spare
 used_are_spares : (shape : Shape) (psa : ℕ) (pdl : List ℕ) (ssa : ℕ) (entries : Entries) → IsValidPdl shape psa pdl → IsValidSdl shape pdl ssa entries
@@ -68,7 +68,7 @@ used_are_spares shape psa pdl ssa entries primary secondary x has =
     ⊎_elim
     (λ l. All-contains (Contains (spares shape pdl ssa)) (replacements entries) x secondary.from_spares l)
     (λ r.
-    let block = All-contains (Contains (unslipped shape pdl)) (defectives entries) x secondary.within (Contains-defectives entries (x, None) r) in
+    let block = All-contains (Contains (unslipped shape pdl)) (defective_blocks entries) x secondary.within (Contains-defective_blocks entries (x, None) r) in
     let replaced = All-contains (λ (e : ℕ × Option ℕ). Contains (logical_blocks shape pdl ssa) e.0 → IsSome e.1) entries (x, None) secondary.logical_replaced r in
     ⊎_elim (λ s. s) (λ logical. absurd (let some = replaced logical in cc)) (spare_or_logical shape psa pdl ssa primary secondary.area x block))
     (used_cases entries x has)
@@ -78,8 +78,8 @@ pub length-entries : (shape : Shape) (psa : ℕ) (pdl : List ℕ) (ssa : ℕ) (e
     → length entries ≤ length (spares shape pdl ssa)
 length-entries shape psa pdl ssa entries primary secondary =
     let all = spares shape pdl ssa in
-    let apart = used_differ entries secondary.different (IsDistinct-from_increasing (defectives entries) secondary.rising)
-    (λ x h. All-contains (λ b. ¬ Contains (defectives entries) b) (replacements entries) x secondary.sound h) in
+    let apart = used_differ entries secondary.different (IsDistinct-from_increasing (defective_blocks entries) secondary.rising)
+    (λ x h. All-contains (λ b. ¬ Contains (defective_blocks entries) b) (replacements entries) x secondary.sound h) in
     let few = length-le_from_is_member nat_eq_equiv (map used entries) all apart
     (λ q h. is_member_is all q ∙ (Decides-is_listed all q).1
     (used_are_spares shape psa pdl ssa entries primary secondary q

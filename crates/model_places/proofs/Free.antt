@@ -5,7 +5,7 @@ use Rattle.std.proofs.lemmas.Bool.{not-true, or_parts, or_from, not_from_false, 
 use Rattle.std.proofs.lemmas.List.{length-reverse, get_or-reverse, reverse-reverse}
 use Rattle.std.proofs.lemmas.List.Elements.{All-contains, Contains-append_cases, Contains-append_left, Contains-append_right}
 use Rattle.model_geometry.specs.Geometry.{Shape}
-use Rattle.model_places.specs.Places.{Entries, is_listed, is_free, primary_spares, supplementary_spares, spares, spares_down, free_spares, usable_spares, defectives, replacements}
+use Rattle.model_places.specs.Places.{Entries, is_listed, is_free, primary_spares, supplementary_spares, spares, spares_down, free_spares, usable_spares, defective_blocks, replacements}
 use Rattle.model_places.proofs.Listed.{Decides-is_listed, Contains-filter, Contains-from_filter}
 
 -- a list turned round has the same elements
@@ -19,16 +19,16 @@ pub Contains-from_reverse : (xs : List ℕ) (x : ℕ) → Contains (reverse xs) 
 Contains-from_reverse xs x has = rw (← reverse-reverse xs) (Contains-reverse (reverse xs) x has)
 
 -- free is what no entry names
-pub free_from_unnamed : (entries : Entries) (b : ℕ) → ¬ Contains (defectives entries) b → ¬ Contains (replacements entries) b → is_free entries b ≡ true
+pub free_from_unnamed : (entries : Entries) (b : ℕ) → ¬ Contains (defective_blocks entries) b → ¬ Contains (replacements entries) b → is_free entries b ≡ true
 free_from_unnamed entries b defect replace =
-    let d : is_listed (defectives entries) b ≡ false = false_from_ne_true (is_listed (defectives entries) b) (λ t. defect ((Decides-is_listed (defectives entries) b).0 t)) in
+    let d : is_listed (defective_blocks entries) b ≡ false = false_from_ne_true (is_listed (defective_blocks entries) b) (λ t. defect ((Decides-is_listed (defective_blocks entries) b).0 t)) in
     let r : is_listed (replacements entries) b ≡ false = false_from_ne_true (is_listed (replacements entries) b) (λ t. replace ((Decides-is_listed (replacements entries) b).0 t)) in
-    not_from_false (is_listed (defectives entries) b || is_listed (replacements entries) b) (or_from (is_listed (defectives entries) b) (is_listed (replacements entries) b) d r)
+    not_from_false (is_listed (defective_blocks entries) b || is_listed (replacements entries) b) (or_from (is_listed (defective_blocks entries) b) (is_listed (replacements entries) b) d r)
 
-pub unnamed_from_free : (entries : Entries) (b : ℕ) → is_free entries b ≡ true → (¬ Contains (defectives entries) b) × (¬ Contains (replacements entries) b)
+pub unnamed_from_free : (entries : Entries) (b : ℕ) → is_free entries b ≡ true → (¬ Contains (defective_blocks entries) b) × (¬ Contains (replacements entries) b)
 unnamed_from_free entries b free =
-    let parts = or_parts (is_listed (defectives entries) b) (is_listed (replacements entries) b) (not-true (is_listed (defectives entries) b || is_listed (replacements entries) b) free) in (
-      λ has. true≢false (sym ((Decides-is_listed (defectives entries) b).1 has) ∙ parts.0),
+    let parts = or_parts (is_listed (defective_blocks entries) b) (is_listed (replacements entries) b) (not-true (is_listed (defective_blocks entries) b || is_listed (replacements entries) b) free) in (
+      λ has. true≢false (sym ((Decides-is_listed (defective_blocks entries) b).1 has) ∙ parts.0),
       λ has. true≢false (sym ((Decides-is_listed (replacements entries) b).1 has) ∙ parts.1),
     )
 
@@ -51,22 +51,22 @@ Contains-from_spares_down shape pdl ssa b has =
 
 -- the free spares are the spares that no entry names
 pub Contains-free_spares : (shape : Shape) (pdl : List ℕ) (ssa : ℕ) (entries : Entries) (b : ℕ) → Contains (spares shape pdl ssa) b
-    → ¬ Contains (defectives entries) b → ¬ Contains (replacements entries) b → Contains (free_spares shape pdl ssa entries) b
+    → ¬ Contains (defective_blocks entries) b → ¬ Contains (replacements entries) b → Contains (free_spares shape pdl ssa entries) b
 Contains-free_spares shape pdl ssa entries b spare defect replace =
     Contains-filter (is_free entries) (spares_down shape pdl ssa) b (free_from_unnamed entries b defect replace) (Contains-spares_down shape pdl ssa b spare)
 
 pub Contains-from_free_spares : (shape : Shape) (pdl : List ℕ) (ssa : ℕ) (entries : Entries) (b : ℕ) → Contains (free_spares shape pdl ssa entries) b
-    → Contains (spares shape pdl ssa) b × (¬ Contains (defectives entries) b) × (¬ Contains (replacements entries) b)
+    → Contains (spares shape pdl ssa) b × (¬ Contains (defective_blocks entries) b) × (¬ Contains (replacements entries) b)
 Contains-from_free_spares shape pdl ssa entries b has =
     let parts = Contains-from_filter (is_free entries) (spares_down shape pdl ssa) b has in
     let named = unnamed_from_free entries b parts.0 in
     (Contains-from_spares_down shape pdl ssa b parts.1, named.0, named.1)
 
 -- where each listed block is dead, a spare is usable that replaces none and is not dead
-pub Contains-usable_spares : (is_dead : ℕ → Bool) (shape : Shape) (pdl : List ℕ) (ssa : ℕ) (entries : Entries) → All (λ d. is_dead d ≡ true) (defectives entries) → (b : ℕ) → Contains (spares shape pdl ssa) b
+pub Contains-usable_spares : (is_dead : ℕ → Bool) (shape : Shape) (pdl : List ℕ) (ssa : ℕ) (entries : Entries) → All (λ d. is_dead d ≡ true) (defective_blocks entries) → (b : ℕ) → Contains (spares shape pdl ssa) b
     → ¬ Contains (replacements entries) b → is_dead b ≡ false → Contains (usable_spares is_dead shape pdl ssa entries) b
 Contains-usable_spares is_dead shape pdl ssa entries dead b spare replace alive =
-    let sound : ¬ Contains (defectives entries) b = λ has. true≢false (sym (All-contains (λ d. is_dead d ≡ true) (defectives entries) b dead has) ∙ alive) in
+    let sound : ¬ Contains (defective_blocks entries) b = λ has. true≢false (sym (All-contains (λ d. is_dead d ≡ true) (defective_blocks entries) b dead has) ∙ alive) in
     Contains-filter (λ x. not (is_dead x)) (free_spares shape pdl ssa entries) b (not_from_false (is_dead b) alive) (Contains-free_spares shape pdl ssa entries b spare sound replace)
 
 -- and no other

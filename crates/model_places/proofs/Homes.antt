@@ -6,7 +6,7 @@ use Rattle.std.proofs.lemmas.List.Elements.{All-contains, All-from_recursion}
 use Rattle.std.proofs.lemmas.Map.Keys.{IsDistinct-head, IsDistinct-tail}
 use Rattle.model_geometry.specs.Geometry.{Shape, data_blocks, lead_out, total}
 use Rattle.model_geometry.proofs.DataBlocks.{data_blocks_bounds}
-use Rattle.model_places.specs.Places.{Entries, logical_block, logical_count, spares, replacements, replacement_of, home}
+use Rattle.model_places.specs.Places.{Entries, logical_block, logical_count, spares, replacements, replacement_of, home_under}
 use Rattle.model_places.specs.Valid.{IsValidPdl, IsValidSdl}
 use Rattle.model_places.proofs.Pools.{unslipped_are_data, logical_is_unslipped, spare_is_unslipped, Contains-logical_block, logical_block_differs, logical_is_no_spare}
 
@@ -81,15 +81,15 @@ replacement_cases : (o : Option ℕ) → ((r : ℕ) × (o ≡ Some r)) ⊎ (o �
 replacement_cases None = inr refl
 replacement_cases (Some r) = inl (r, refl)
 
-home_replaced : (shape : Shape) (pdl : List ℕ) (entries : Entries) (i r : ℕ) → replacement_of entries (logical_block shape pdl i) ≡ Some r → home shape pdl entries i ≡ r
+home_replaced : (shape : Shape) (pdl : List ℕ) (entries : Entries) (i r : ℕ) → replacement_of entries (logical_block shape pdl i) ≡ Some r → home_under shape pdl entries i ≡ r
 home_replaced shape pdl entries i r is = ap (λ o. unwrap_or o (logical_block shape pdl i)) is
 
-home_own : (shape : Shape) (pdl : List ℕ) (entries : Entries) (i : ℕ) → replacement_of entries (logical_block shape pdl i) ≡ None → home shape pdl entries i ≡ logical_block shape pdl i
+home_own : (shape : Shape) (pdl : List ℕ) (entries : Entries) (i : ℕ) → replacement_of entries (logical_block shape pdl i) ≡ None → home_under shape pdl entries i ≡ logical_block shape pdl i
 home_own shape pdl entries i is = ap (λ o. unwrap_or o (logical_block shape pdl i)) is
 
 -- a home is the block itself, or a spare that is a replacement
 pub home_cases : (shape : Shape) (pdl : List ℕ) (ssa : ℕ) (entries : Entries) → IsValidSdl shape pdl ssa entries → (i : ℕ)
-    → (home shape pdl entries i ≡ logical_block shape pdl i) ⊎ (Contains (replacements entries) (home shape pdl entries i) × Contains (spares shape pdl ssa) (home shape pdl entries i))
+    → (home_under shape pdl entries i ≡ logical_block shape pdl i) ⊎ (Contains (replacements entries) (home_under shape pdl entries i) × Contains (spares shape pdl ssa) (home_under shape pdl entries i))
 home_cases shape pdl ssa entries valid i =
     ⊎_elim
     (λ some.
@@ -101,7 +101,7 @@ home_cases shape pdl ssa entries valid i =
 
 -- two logical blocks have two homes
 pub home_differs : (shape : Shape) (psa : ℕ) (pdl : List ℕ) (ssa : ℕ) (entries : Entries) → IsValidPdl shape psa pdl → IsValidSdl shape pdl ssa entries
-    → (i j : ℕ) → i < logical_count shape ssa → j < logical_count shape ssa → home shape pdl entries i ≡ home shape pdl entries j → i ≡ j
+    → (i j : ℕ) → i < logical_count shape ssa → j < logical_count shape ssa → home_under shape pdl entries i ≡ home_under shape pdl entries j → i ≡ j
 home_differs shape psa pdl ssa entries primary secondary i j within within' same =
     ⊎_elim
     (λ some. ⊎_elim
@@ -131,17 +131,17 @@ home_differs shape psa pdl ssa entries primary secondary i j within within' same
 
 -- a home is a data block
 pub home_is_data : (shape : Shape) (psa : ℕ) (pdl : List ℕ) (ssa : ℕ) (entries : Entries) → IsValidPdl shape psa pdl → IsValidSdl shape pdl ssa entries
-    → (i : ℕ) → i < logical_count shape ssa → Contains (data_blocks shape) (home shape pdl entries i)
+    → (i : ℕ) → i < logical_count shape ssa → Contains (data_blocks shape) (home_under shape pdl entries i)
 home_is_data shape psa pdl ssa entries primary secondary i within =
-    unslipped_are_data shape pdl (home shape pdl entries i)
+    unslipped_are_data shape pdl (home_under shape pdl entries i)
     (⊎_elim
     (λ own. rw own (logical_is_unslipped shape psa pdl ssa primary secondary.area i within))
-    (λ spare. spare_is_unslipped shape pdl ssa (home shape pdl entries i) spare.1)
+    (λ spare. spare_is_unslipped shape pdl ssa (home_under shape pdl entries i) spare.1)
     (home_cases shape pdl ssa entries secondary i))
 
 -- so it is a block of the disc
 pub home_inside : (shape : Shape) (psa : ℕ) (pdl : List ℕ) (ssa : ℕ) (entries : Entries) → IsValidPdl shape psa pdl → IsValidSdl shape pdl ssa entries
-    → (i : ℕ) → i < logical_count shape ssa → home shape pdl entries i < total shape
+    → (i : ℕ) → i < logical_count shape ssa → home_under shape pdl entries i < total shape
 home_inside shape psa pdl ssa entries primary secondary i within =
-    let bounds = All-contains (λ b. (7 < b) × (b < lead_out shape)) (data_blocks shape) (home shape pdl entries i) (data_blocks_bounds shape) (home_is_data shape psa pdl ssa entries primary secondary i within) in
+    let bounds = All-contains (λ b. (7 < b) × (b < lead_out shape)) (data_blocks shape) (home_under shape pdl entries i) (data_blocks_bounds shape) (home_is_data shape psa pdl ssa entries primary secondary i within) in
     omega (arith, bounds.1)

@@ -27,8 +27,8 @@ abbrev pub logical_count : Shape → ℕ → ℕ
 logical_count shape ssa = length (data_blocks shape) - shape.psa - ssa
 
 -- the capacity in sectors, sixteen of each logical block (after ECMA-330's block of sixteen sectors)
-abbrev pub capacity : Shape → ℕ → ℕ
-capacity shape ssa = logical_count shape ssa * 16
+abbrev pub sector_capacity : Shape → ℕ → ℕ
+sector_capacity shape ssa = logical_count shape ssa * 16
 
 -- The block of logical block i: it comes after the primary spares that are left. (This project's own.)
 abbrev pub logical_block : Shape → List ℕ → ℕ → ℕ
@@ -51,15 +51,15 @@ abbrev pub spares : Shape → List ℕ → ℕ → List ℕ
 spares shape pdl ssa = primary_spares shape pdl ++ supplementary_spares shape pdl ssa
 
 -- the blocks that the entries name as defective, and those that they name as replacements
-abbrev pub defectives : Entries → List ℕ
-defectives entries = map (λ e. e.0) entries
+abbrev pub defective_blocks : Entries → List ℕ
+defective_blocks entries = map (λ e. e.0) entries
 
 abbrev pub replacements : Entries → List ℕ
 replacements entries = filter_map (λ e. e.1) entries
 
 -- a block is free where no entry names it (this project's own)
 abbrev pub is_free : Entries → ℕ → Bool
-is_free entries block = not (is_listed (defectives entries) block || is_listed (replacements entries) block)
+is_free entries block = not (is_listed (defective_blocks entries) block || is_listed (replacements entries) block)
 
 -- all spares, as they are looked through: the primary spares from the greatest number down, then the supplementary
 -- ones from the greatest number down (this project's own)
@@ -92,5 +92,5 @@ replacement_of entries block = option_and_then (λ e. e.1) (find (λ e. e.0 == b
 
 -- The home of logical block i: its replacement where it has one, else its own block. (After ECMA-330's linear
 -- replacement.)
-abbrev pub home : Shape → List ℕ → Entries → ℕ → ℕ
-home shape pdl entries i = unwrap_or (replacement_of entries (logical_block shape pdl i)) (logical_block shape pdl i)
+abbrev pub home_under : Shape → List ℕ → Entries → ℕ → ℕ
+home_under shape pdl entries i = unwrap_or (replacement_of entries (logical_block shape pdl i)) (logical_block shape pdl i)

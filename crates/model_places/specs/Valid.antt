@@ -4,7 +4,7 @@ use Rattle.std.specs.List.{All, Contains, IsDistinct}
 use Rattle.std.specs.List.Sorted.{IsStrictlyIncreasing}
 use Rattle.model_geometry.specs.declared.TheConstants.{MOST_SPARES}
 use Rattle.model_geometry.specs.Geometry.{Shape, data_blocks}
-use Rattle.model_places.specs.Places.{Entries, unslipped, logical_blocks, spares, defectives, replacements}
+use Rattle.model_places.specs.Places.{Entries, unslipped, logical_blocks, spares, defective_blocks, replacements}
 
 -- A primary defect list is valid for a geometry: it names the geometry's primary spares, and its blocks are data
 -- blocks that rise, no more than those spares. (This project's own.)
@@ -25,13 +25,13 @@ pub record IsValidSsa (shape : Shape) (ssa : ℕ) : Type 0 where
 -- none is itself defective. (This project's own.)
 pub record IsValidSdl (shape : Shape) (pdl : List ℕ) (ssa : ℕ) (entries : Entries) : Type 0 where
   pub area : IsValidSsa shape ssa
-  pub within : All (Contains (unslipped shape pdl)) (defectives entries)
-  pub rising : IsStrictlyIncreasing (defectives entries)
+  pub within : All (Contains (unslipped shape pdl)) (defective_blocks entries)
+  pub rising : IsStrictlyIncreasing (defective_blocks entries)
   pub logical_replaced : All (λ e. Contains (logical_blocks shape pdl ssa) e.0 → IsSome e.1) entries
   pub spares_retired : All (λ e. Contains (spares shape pdl ssa) e.0 → IsNone e.1) entries
   pub from_spares : All (Contains (spares shape pdl ssa)) (replacements entries)
   pub different : IsDistinct nat_eq (replacements entries)
-  pub sound : All (λ b. ¬ Contains (defectives entries) b) (replacements entries)
+  pub sound : All (λ b. ¬ Contains (defective_blocks entries) b) (replacements entries)
 
 -- Both lists of a formatted disc are valid: each by itself, the secondary list names the counter of the disc
 -- definition structure, and that says Formatted. (This project's own.)

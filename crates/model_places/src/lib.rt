@@ -7,7 +7,7 @@ ghost use Rattle.std.specs.List.{All, Contains, filter};
 ghost use Rattle.std.specs.List.Sorted.{IsStrictlyIncreasing};
 ghost use Rattle.model_geometry.specs.declared.TheConstants.{MOST_SPARES};
 ghost use Rattle.model_geometry.specs.Geometry.{Shape, shape_of, data_blocks};
-ghost use Rattle.model_places.specs.Places.{Entries, unslipped, logical_block, logical_blocks, logical_count, primary_count, capacity, primary_spares, supplementary_spares, spares, free_spares, free_spare_after, free_primary_count, free_supplementary_count, usable_spares, defectives, replacements, home};
+ghost use Rattle.model_places.specs.Places.{Entries, unslipped, logical_block, logical_blocks, logical_count, primary_count, sector_capacity, primary_spares, supplementary_spares, spares, free_spares, free_spare_after, free_primary_count, free_supplementary_count, usable_spares, defective_blocks, replacements, home_under};
 ghost use Rattle.model_places.specs.Valid.{IsValidPdl, IsValidSsa, IsValidSdl};
 
 /// The blocks that are not slipped are data blocks, and rise. A valid primary list slips as many as it has, and
@@ -49,17 +49,17 @@ pub fn spares_and_logical_blocks_are_all()
 pub fn homes_differ()
     ensures place { (shape : Shape) (pdl : List ℕ) (ssa : ℕ) (entries : Entries)
         → IsValidSdl shape pdl ssa entries
-        → (i : ℕ) → (home shape pdl entries i ≡ logical_block shape pdl i)
-        ⊎ (Contains (replacements entries) (home shape pdl entries i)
-        × Contains (spares shape pdl ssa) (home shape pdl entries i)) }
+        → (i : ℕ) → (home_under shape pdl entries i ≡ logical_block shape pdl i)
+        ⊎ (Contains (replacements entries) (home_under shape pdl entries i)
+        × Contains (spares shape pdl ssa) (home_under shape pdl entries i)) }
     ensures differ { (shape : Shape) (psa : ℕ) (pdl : List ℕ) (ssa : ℕ) (entries : Entries)
         → IsValidPdl shape psa pdl → IsValidSdl shape pdl ssa entries
         → (i j : ℕ) → i < logical_count shape ssa → j < logical_count shape ssa
-        → home shape pdl entries i ≡ home shape pdl entries j → i ≡ j }
+        → home_under shape pdl entries i ≡ home_under shape pdl entries j → i ≡ j }
     ensures data { (shape : Shape) (psa : ℕ) (pdl : List ℕ) (ssa : ℕ) (entries : Entries)
         → IsValidPdl shape psa pdl → IsValidSdl shape pdl ssa entries
         → (i : ℕ) → i < logical_count shape ssa
-        → Contains (data_blocks shape) (home shape pdl entries i) }
+        → Contains (data_blocks shape) (home_under shape pdl entries i) }
 {}
 
 /// A valid secondary list has no more entries than there are spares.
@@ -76,14 +76,14 @@ pub fn each_entry_uses_up_a_spare()
 pub fn free_spares_are_unnamed_spares()
     ensures free { (shape : Shape) (pdl : List ℕ) (ssa : ℕ) (entries : Entries) (block : ℕ)
         → Contains (free_spares shape pdl ssa entries) block
-        → Contains (spares shape pdl ssa) block × (¬ Contains (defectives entries) block)
+        → Contains (spares shape pdl ssa) block × (¬ Contains (defective_blocks entries) block)
         × (¬ Contains (replacements entries) block) }
     ensures every { (shape : Shape) (pdl : List ℕ) (ssa : ℕ) (entries : Entries) (block : ℕ)
-        → Contains (spares shape pdl ssa) block → ¬ Contains (defectives entries) block
+        → Contains (spares shape pdl ssa) block → ¬ Contains (defective_blocks entries) block
         → ¬ Contains (replacements entries) block
         → Contains (free_spares shape pdl ssa entries) block }
     ensures usable { (is_dead : ℕ → Bool) (shape : Shape) (pdl : List ℕ) (ssa : ℕ) (entries : Entries)
-        → All (λ d. is_dead d ≡ true) (defectives entries) → (block : ℕ)
+        → All (λ d. is_dead d ≡ true) (defective_blocks entries) → (block : ℕ)
         → Contains (spares shape pdl ssa) block → ¬ Contains (replacements entries) block
         → is_dead block ≡ false → Contains (usable_spares is_dead shape pdl ssa entries) block }
     ensures no_other { (is_dead : ℕ → Bool) (shape : Shape) (pdl : List ℕ) (ssa : ℕ) (entries : Entries)
@@ -99,7 +99,7 @@ pub fn worked_slipping()
     ensures first { logical_block (shape_of 1 1 4) (20 ∷ []) 0 ≡ 12 }
     ensures before { logical_block (shape_of 1 1 4) (20 ∷ []) 7 ≡ 19 }
     ensures after { logical_block (shape_of 1 1 4) (20 ∷ []) 8 ≡ 21 }
-    ensures capacity { capacity (shape_of 1 1 4) 0 ≡ 304 }
+    ensures sector_capacity { sector_capacity (shape_of 1 1 4) 0 ≡ 304 }
 {}
 
 /// Slipping passes over the guards between two zones too: with block 31 slipped, logical blocks 18 and 19 are blocks
@@ -107,7 +107,7 @@ pub fn worked_slipping()
 pub fn worked_slipping_over_guards()
     ensures before { logical_block (shape_of 2 1 4) (31 ∷ []) 18 ≡ 30 }
     ensures after { logical_block (shape_of 2 1 4) (31 ∷ []) 19 ≡ 34 }
-    ensures capacity { capacity (shape_of 2 1 4) 0 ≡ 688 }
+    ensures sector_capacity { sector_capacity (shape_of 2 1 4) 0 ≡ 688 }
 {}
 
 /// The greatest spare replaces first; where it fails later it is retired, and the next replaces.
@@ -115,14 +115,14 @@ pub fn worked_replacement()
     ensures none { free_spares (shape_of 1 1 4) [] 0 [] ≡ 12 ∷ 11 ∷ 10 ∷ 9 ∷ [] }
     ensures dead { usable_spares (λ block. block == 12) (shape_of 1 1 4) [] 0 []
         ≡ 11 ∷ 10 ∷ 9 ∷ [] }
-    ensures home { home (shape_of 1 1 4) [] ((13, Some 12) ∷ []) 0 ≡ 12 }
+    ensures home_under { home_under (shape_of 1 1 4) [] ((13, Some 12) ∷ []) 0 ≡ 12 }
     ensures left { free_spares (shape_of 1 1 4) [] 0 ((13, Some 12) ∷ []) ≡ 11 ∷ 10 ∷ 9 ∷ [] }
     ensures number_left { free_primary_count (shape_of 1 1 4) [] ((13, Some 12) ∷ []) ≡ 3 }
-    ensures home_again { home (shape_of 1 1 4) [] ((12, None) ∷ (13, Some 11) ∷ []) 0 ≡ 11 }
+    ensures home_again { home_under (shape_of 1 1 4) [] ((12, None) ∷ (13, Some 11) ∷ []) 0 ≡ 11 }
     ensures left_again { free_spares (shape_of 1 1 4) [] 0 ((12, None) ∷ (13, Some 11) ∷ [])
         ≡ 10 ∷ 9 ∷ [] }
     ensures number_left_again { free_primary_count (shape_of 1 1 4) [] ((12, None) ∷ (13, Some 11) ∷ []) ≡ 2 }
-    ensures other { home (shape_of 1 1 4) [] ((12, None) ∷ (13, Some 11) ∷ []) 1 ≡ 14 }
+    ensures other { home_under (shape_of 1 1 4) [] ((12, None) ∷ (13, Some 11) ∷ []) 1 ≡ 14 }
 {}
 
 /// With two supplementary spares, and every primary spare retired, the greatest supplementary one replaces first.
@@ -135,5 +135,5 @@ pub fn worked_supplementary_spares()
         ≡ 31 ∷ 30 ∷ [] }
     ensures number { free_supplementary_count (shape_of 1 1 4) [] 2
         ((9, None) ∷ (10, None) ∷ (11, None) ∷ (12, None) ∷ (13, Some 31) ∷ []) ≡ 1 }
-    ensures capacity { capacity (shape_of 1 1 4) 2 ≡ 272 }
+    ensures sector_capacity { sector_capacity (shape_of 1 1 4) 2 ≡ 272 }
 {}

@@ -5,7 +5,7 @@ use Rattle.std.specs.Option.{option_map, is_some}
 use Rattle.std.specs.List.{filter, find, list_any}
 use Rattle.std.proofs.lemmas.Bool.{cases_eq, cases_Bool, both_ways, ltb-true, ltb-false, lt-ltb, eqb-true, eq-eqb, ne_eqb, cond-true, cond-false, or_cases, or_left, or_right, not_from_false, false_from_ne_true}
 use Rattle.std.proofs.lemmas.List.{take_all, length-take, take-map}
-use Rattle.model_buffer.specs.Buffer.{bytes_at, with_front, numbers_in, touched_one}
+use Rattle.model_buffer.specs.Buffer.{bytes_at, with_newest, numbers_in, touched_one}
 use Rattle.model_buffer.specs.declared.TheConstants.{BUFFERED_BLOCKS}
 use Rattle.model_bytes.specs.Bytes.{put_at}
 use Rattle.model_sectors.specs.Discs.{replaced}
@@ -335,16 +335,16 @@ numbers_in_room room i bytes buffer =
     ∙ ap (λ (l : List ℕ). take room (i ∷ l)) (numbers_kept (λ other. not (other == i)) buffer)
 
 -- the numbers after a use follow from the numbers before
-pub numbers_in-with_front : (i : ℕ) (bytes : List ℕ) (buffer : List (ℕ × List ℕ)) → numbers_in (with_front i bytes buffer) ≡ touched_one (numbers_in buffer) i
-numbers_in-with_front i bytes buffer = numbers_in_room BUFFERED_BLOCKS i bytes buffer
+pub numbers_in-with_newest : (i : ℕ) (bytes : List ℕ) (buffer : List (ℕ × List ℕ)) → numbers_in (with_newest i bytes buffer) ≡ touched_one (numbers_in buffer) i
+numbers_in-with_newest i bytes buffer = numbers_in_room BUFFERED_BLOCKS i bytes buffer
 
 -- a front is at most as long as was asked
 length-take-le_room : {X : Type 0} (room : ℕ) (xs : List X) → length (take room xs) ≤ room
 length-take-le_room room xs = omega (arith, length-take room xs)
 
 -- a buffer has at most as many blocks as it has room for
-pub length_with_front : (i : ℕ) (bytes : List ℕ) (buffer : List (ℕ × List ℕ)) → length (with_front i bytes buffer) ≤ BUFFERED_BLOCKS
-length_with_front i bytes buffer = length-take-le_room BUFFERED_BLOCKS ((i, bytes) ∷ filter (λ held. not (held.0 == i)) buffer)
+pub length_with_newest : (i : ℕ) (bytes : List ℕ) (buffer : List (ℕ × List ℕ)) → length (with_newest i bytes buffer) ≤ BUFFERED_BLOCKS
+length_with_newest i bytes buffer = length-take-le_room BUFFERED_BLOCKS ((i, bytes) ∷ filter (λ held. not (held.0 == i)) buffer)
 
 -- the numbers after a use are at most as many as there is room for
 pub length_touched_one : (b : List ℕ) (i : ℕ) → length (touched_one b i) ≤ BUFFERED_BLOCKS
@@ -396,9 +396,9 @@ bytes_in_room room i j bytes buffer found h =
     ]
 
 -- what the buffer has after a use is what was used or what it had
-pub bytes_at-with_front : (i j : ℕ) (bytes : List ℕ) (buffer : List (ℕ × List ℕ)) (found : List ℕ) → bytes_at j (with_front i bytes buffer) ≡ Some found
+pub bytes_at-with_newest : (i j : ℕ) (bytes : List ℕ) (buffer : List (ℕ × List ℕ)) (found : List ℕ) → bytes_at j (with_newest i bytes buffer) ≡ Some found
     → ((j ≡ i) × (found ≡ bytes)) ⊎ (bytes_at j buffer ≡ Some found)
-bytes_at-with_front i j bytes buffer found h = bytes_in_room BUFFERED_BLOCKS i j bytes buffer found h
+bytes_at-with_newest i j bytes buffer found h = bytes_in_room BUFFERED_BLOCKS i j bytes buffer found h
 
 -- the block that was used last is there, in any room
 used_in_room : (room i : ℕ) (bytes : List ℕ) (buffer : List (ℕ × List ℕ)) → 0 < room → bytes_at i (take room ((i, bytes) ∷ filter (λ held. not (held.0 == i)) buffer)) ≡ Some bytes
@@ -408,7 +408,7 @@ used_in_room (suc room) i bytes buffer some =
     (cond-true (i == i) (Some (i, bytes)) (find (λ held. held.0 == i) (take room (filter (λ held. not (held.0 == i)) buffer))) (eq-eqb i i refl))
 
 -- the buffer has the bytes of the block that was used last
-pub bytes_at_used : (i : ℕ) (bytes : List ℕ) (buffer : List (ℕ × List ℕ)) → bytes_at i (with_front i bytes buffer) ≡ Some bytes
+pub bytes_at_used : (i : ℕ) (bytes : List ℕ) (buffer : List (ℕ × List ℕ)) → bytes_at i (with_newest i bytes buffer) ≡ Some bytes
 bytes_at_used i bytes buffer = used_in_room BUFFERED_BLOCKS i bytes buffer (omega arith)
 
 -- before the first covered block nothing is replaced

@@ -35,26 +35,26 @@ module _ (old new : Shown) where
   same_faults same = ap (λ (s : Shown). faults s) same
 
   pub read_faults : (lba n : ℕ) (out : ReadOut) → ReadCause old new lba n out → ReadFaults old new out
-  read_faults lba n reads.Good p = p.goes.reach.lasts.no_fault
+  read_faults lba n reads.Good p = p.continues.reach.lasts.no_fault
   read_faults lba n reads.NotFormatted p = same_faults p.1
-  read_faults lba n (reads.Range told) p = same_faults p.1
-  read_faults lba n (reads.Unread named block) p = p.1.goes.reach.lasts.no_fault
+  read_faults lba n (reads.Range known) p = same_faults p.1
+  read_faults lba n (reads.Unread named block) p = p.1.continues.reach.lasts.no_fault
   read_faults lba n reads.Cut p = cut_counts old.medium new.medium _ p.1.stops
   read_faults lba n reads.Off p = same_faults p.1
   read_faults lba n reads.Fault p = fault_counts old.medium new.medium _ p.1.stops
 
   pub write_faults : (lba n : ℕ) (out : WriteOut) → WriteCause old new lba n out → WriteFaults old new out
-  write_faults lba n writes.Good p = p.goes.reach.lasts.no_fault
+  write_faults lba n writes.Good p = p.continues.reach.lasts.no_fault
   write_faults lba n writes.NotFormatted p = same_faults p.1
-  write_faults lba n (writes.Range told) p = same_faults p.1
-  write_faults lba n (writes.Unread named block) p = p.1.goes.reach.lasts.no_fault
-  write_faults lba n (writes.NoSpare named) p = p.1.goes.reach.lasts.no_fault
+  write_faults lba n (writes.Range known) p = same_faults p.1
+  write_faults lba n (writes.Unread named block) p = p.1.continues.reach.lasts.no_fault
+  write_faults lba n (writes.NoSpare named) p = p.1.continues.reach.lasts.no_fault
   write_faults lba n writes.Cut p = cut_counts old.medium new.medium _ p.1.stops
   write_faults lba n writes.Off p = same_faults p.1
   write_faults lba n writes.Fault p = fault_counts old.medium new.medium _ p.1.stops
 
   pub power_faults : (out : PowerOut) → PowerCause old new out → PowerFaults old new out
-  power_faults (powers.Ready told) p = p.0.reach.lasts.no_fault
+  power_faults (powers.Ready known) p = p.0.reach.lasts.no_fault
   power_faults powers.NotFormatted p = p.0.reach.lasts.no_fault
   power_faults powers.Cut p = p.stops.reach.lasts.no_fault
   power_faults powers.Fault p =

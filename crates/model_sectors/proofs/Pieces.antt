@@ -30,7 +30,7 @@ put_at-none at d =
     let none : at + 0 ≡ at = omega arith in
     ap (λ (l : List ℕ). l ++ drop (at + 0) d) (append-nil (take at d)) ∙ ap (λ (m : ℕ). take at d ++ drop m d) none ∙ take-append-drop at d
 
--- what a front takes of a write into it is the write into the front
+-- what a front takes of a write into it is the write into the start
 pub take-put_at-within : (n at : ℕ) (from d : List ℕ) → at + length from ≤ n → n ≤ length d → take n (put_at at from d) ≡ put_at at from (take n d)
 take-put_at-within n at from d inside long =
     let last : ℕ = at + length from in
@@ -46,7 +46,7 @@ take-put_at-within n at from d inside long =
 -- past a place, a write behind it is the write into what lies past it
 pub drop-put_at-within : (place at : ℕ) (from d : List ℕ) → place + at ≤ length d → drop place (put_at (place + at) from d) ≡ put_at at from (drop place d)
 drop-put_at-within place at from d long =
-    let front : length (take (place + at) d) ≡ place + at = length-take-le (place + at) d long in
+    let prefix : length (take (place + at) d) ≡ place + at = length-take-le (place + at) d long in
     let end : place + at + length from ≡ place + (at + length from) = omega arith in
     drop-append-le place (take (place + at) d ++ from) (drop (place + at + length from) d) (omega (arith, length-append (take (place + at) d) from))
     ∙ ap (λ (l : List ℕ). l ++ drop (place + at + length from) d) (drop-append-le place (take (place + at) d) from (omega arith))
@@ -66,18 +66,18 @@ pub put_at-more : (at j k : ℕ) (from d : List ℕ) → j ≤ length from → a
     → put_at at (take (j + k) from) d ≡ put_at (at + j) (take k (drop j from)) (put_at at (take j from) d)
 put_at-more at j k from d inside long =
     let more : List ℕ = take k (drop j from) in
-    let front : List ℕ = take j from in
-    let front_long : length front ≡ j = length-take-le j from inside in
-    let all : take (j + k) from ≡ front ++ more = take-more j k from in
+    let prefix : List ℕ = take j from in
+    let prefix_long : length prefix ≡ j = length-take-le j from inside in
+    let all : take (j + k) from ≡ prefix ++ more = take-more j k from in
     let few : length more ≤ length from - j = omega (arith, length-take k (drop j from), length-drop j from) in
-    let begins : take (at + j) (put_at at front d) ≡ take at d ++ front = take-put_at-end (at + j) at front d (omega arith) (omega arith) in
-    let ends : drop (at + j + length more) (put_at at front d) ≡ drop (at + j + length more) d = drop-put_at (at + j + length more) at front d (omega arith) (omega arith) in
-    let end : at + length (front ++ more) ≡ at + j + length more = omega (arith, length-append front more) in
+    let begins : take (at + j) (put_at at prefix d) ≡ take at d ++ prefix = take-put_at-end (at + j) at prefix d (omega arith) (omega arith) in
+    let ends : drop (at + j + length more) (put_at at prefix d) ≡ drop (at + j + length more) d = drop-put_at (at + j + length more) at prefix d (omega arith) (omega arith) in
+    let end : at + length (prefix ++ more) ≡ at + j + length more = omega (arith, length-append prefix more) in
     ap (λ (l : List ℕ). put_at at l d) all
-    ∙ ap (λ (m : ℕ). take at d ++ (front ++ more) ++ drop m d) end
-    ∙ ap (λ (l : List ℕ). l ++ drop (at + j + length more) d) (sym (append_assoc (take at d) front more))
+    ∙ ap (λ (m : ℕ). take at d ++ (prefix ++ more) ++ drop m d) end
+    ∙ ap (λ (l : List ℕ). l ++ drop (at + j + length more) d) (sym (append_assoc (take at d) prefix more))
     ∙ ap (λ (l : List ℕ). l ++ more ++ drop (at + j + length more) d) (sym begins)
-    ∙ ap (λ (l : List ℕ). take (at + j) (put_at at front d) ++ more ++ l) (sym ends)
+    ∙ ap (λ (l : List ℕ). take (at + j) (put_at at prefix d) ++ more ++ l) (sym ends)
 
 -- sectors of one block are a piece of it
 pub sectors_in_block : (d : List ℕ) (i place count : ℕ) → place + count ≤ 16 → sectors_of d (16 * i + place) count ≡ take (2048 * count) (drop (2048 * place) (block_of d i))
@@ -165,18 +165,18 @@ pub replaced_step : (d : List ℕ) (blocks lba n : ℕ) (bytes : List ℕ) (bloc
     → length d ≡ 32768 * blocks → replaced d lba bytes (block + 1) ≡ put_at (2048 * start_in lba block) (part_in lba n bytes block) (replaced d lba bytes block)
 unfolding replaced
 replaced_step d blocks lba n bytes block covered whole inside long =
-    let front : ℕ = 2048 * (16 * block - lba) in
+    let prefix : ℕ = 2048 * (16 * block - lba) in
     let more : ℕ = 2048 * (16 * (block + 1) - start_in lba block) in
-    let both : 2048 * (16 * (block + 1) - lba) ≡ front + more = omega arith in
-    let behind : 2048 * lba + front ≡ 2048 * start_in lba block = omega arith in
-    let same : front ≡ 2048 * (start_in lba block - lba) = omega arith in
-    let few : min more (length (drop front bytes)) ≡ 2048 * (end_in lba n block - start_in lba block) = omega (arith, length-drop front bytes) in
+    let both : 2048 * (16 * (block + 1) - lba) ≡ prefix + more = omega arith in
+    let behind : 2048 * lba + prefix ≡ 2048 * start_in lba block = omega arith in
+    let same : prefix ≡ 2048 * (start_in lba block - lba) = omega arith in
+    let few : min more (length (drop prefix bytes)) ≡ 2048 * (end_in lba n block - start_in lba block) = omega (arith, length-drop prefix bytes) in
     ap (λ (m : ℕ). put_at (2048 * lba) (take m bytes) d) both
-    ∙ put_at-more (2048 * lba) front more bytes d (omega arith) (omega arith)
-    ∙ ap (λ (m : ℕ). put_at m (take more (drop front bytes)) (put_at (2048 * lba) (take front bytes) d)) behind
-    ∙ ap (λ (l : List ℕ). put_at (2048 * start_in lba block) l (put_at (2048 * lba) (take front bytes) d)) (sym (take_min more (drop front bytes)))
-    ∙ ap (λ (m : ℕ). put_at (2048 * start_in lba block) (take m (drop front bytes)) (put_at (2048 * lba) (take front bytes) d)) few
-    ∙ ap (λ (m : ℕ). put_at (2048 * start_in lba block) (take (2048 * (end_in lba n block - start_in lba block)) (drop m bytes)) (put_at (2048 * lba) (take front bytes) d)) same
+    ∙ put_at-more (2048 * lba) prefix more bytes d (omega arith) (omega arith)
+    ∙ ap (λ (m : ℕ). put_at m (take more (drop prefix bytes)) (put_at (2048 * lba) (take prefix bytes) d)) behind
+    ∙ ap (λ (l : List ℕ). put_at (2048 * start_in lba block) l (put_at (2048 * lba) (take prefix bytes) d)) (sym (take_min more (drop prefix bytes)))
+    ∙ ap (λ (m : ℕ). put_at (2048 * start_in lba block) (take m (drop prefix bytes)) (put_at (2048 * lba) (take prefix bytes) d)) few
+    ∙ ap (λ (m : ℕ). put_at (2048 * start_in lba block) (take (2048 * (end_in lba n block - start_in lba block)) (drop m bytes)) (put_at (2048 * lba) (take prefix bytes) d)) same
 
 -- another block keeps its bytes when those of a block are replaced
 pub other_block_replaced : (d : List ℕ) (blocks lba n : ℕ) (bytes : List ℕ) (block i : ℕ) → i ≢ block → length bytes ≡ 2048 * n → lba + n ≤ 16 * blocks
@@ -252,19 +252,19 @@ pub sectors_replaced : (d : List ℕ) (blocks lba n : ℕ) (bytes : List ℕ) (b
     → lba ≤ at → at + m ≤ 16 * block → at + m ≤ lba + n → sectors_of (replaced d lba bytes block) at m ≡ take (2048 * m) (drop (2048 * (at - lba)) bytes)
 unfolding sectors_of replaced
 sectors_replaced d blocks lba n bytes block at m whole inside long from before within =
-    let front : ℕ = 2048 * (16 * block - lba) in
+    let prefix : ℕ = 2048 * (16 * block - lba) in
     let there : 2048 * at ≡ 2048 * lba + 2048 * (at - lba) = omega arith in
-    let rest : front ≡ 2048 * (at - lba) + (front - 2048 * (at - lba)) = omega arith in
-    let put : List ℕ = take front bytes in
-    let put_long : length put ≡ min front (length bytes) = length-take front bytes in
+    let rest : prefix ≡ 2048 * (at - lba) + (prefix - 2048 * (at - lba)) = omega arith in
+    let put : List ℕ = take prefix bytes in
+    let put_long : length put ≡ min prefix (length bytes) = length-take prefix bytes in
     ap (λ (k : ℕ). take (2048 * m) (drop k (put_at (2048 * lba) put d))) there
     ∙ ap (take (2048 * m)) (sym (drop-drop (2048 * (at - lba)) (2048 * lba) (put_at (2048 * lba) put d)))
     ∙ ap (λ (l : List ℕ). take (2048 * m) (drop (2048 * (at - lba)) l)) (drop-put_at-start (2048 * lba) put d (omega arith))
     ∙ ap (take (2048 * m)) (drop-append-le (2048 * (at - lba)) put (drop (2048 * lba + length put) d) (omega arith))
     ∙ take-append-le (2048 * m) (drop (2048 * (at - lba)) put) (drop (2048 * lba + length put) d) (omega (arith, length-drop (2048 * (at - lba)) put))
     ∙ ap (λ (k : ℕ). take (2048 * m) (drop (2048 * (at - lba)) (take k bytes))) rest
-    ∙ ap (take (2048 * m)) (drop-take (2048 * (at - lba)) (front - 2048 * (at - lba)) bytes)
-    ∙ take-take (2048 * m) (front - 2048 * (at - lba)) (drop (2048 * (at - lba)) bytes) (omega arith)
+    ∙ ap (take (2048 * m)) (drop-take (2048 * (at - lba)) (prefix - 2048 * (at - lba)) bytes)
+    ∙ take-take (2048 * m) (prefix - 2048 * (at - lba)) (drop (2048 * (at - lba)) bytes) (omega arith)
 
 -- sectors outside the request, or past the block, read as before
 pub other_sectors_replaced : (d : List ℕ) (blocks lba n : ℕ) (bytes : List ℕ) (block at m : ℕ) → length bytes ≡ 2048 * n → lba + n ≤ 16 * blocks → length d ≡ 32768 * blocks

@@ -19,11 +19,11 @@ pub record IsInRange (shown : Shown) (lba n : ℕ) : Type 0 where
   pub inside : lba + n ≤ capacity shown
 
 -- the power is on, the disc is formatted, and some sector is none of the disc's; the capacity is told
-pub record IsOutOfRange (shown : Shown) (lba n told : ℕ) : Type 0 where
+pub record IsOutOfRange (shown : Shown) (lba n known : ℕ) : Type 0 where
   pub on : IsOn shown
   pub formatted : IsFormatted shown
   pub past : capacity shown < lba + n
-  pub told_is : told ≡ capacity shown
+  pub known_is : known ≡ capacity shown
 
 -- the power is on, and the disc is not formatted
 pub record IsUnformatted (shown : Shown) : Type 0 where

@@ -31,7 +31,7 @@ pub record RunsOutOfMemory (old new : Shown) (most : ℕ) : Type 0 where
 
 -- The cause of each answer of the turning on of the power. That memory is refused has no cause here.
 abbrev pub PowerCause : Shown → Shown → PowerOut → Type 0
-PowerCause old new (powers.Ready told) = IsPowered old new × IsFormatted new × (told ≡ capacity new)
+PowerCause old new (powers.Ready known) = IsPowered old new × IsFormatted new × (known ≡ capacity new)
 PowerCause old new powers.NotFormatted = IsPowered old new × ¬ IsFormatted new
 PowerCause old new powers.Cut = IsStopped (record old { medium = turned_on old.medium }) new mount_uses stops.Cut
 PowerCause old new powers.Fault = IsStopped (record old { medium = turned_on old.medium }) new mount_uses stops.Fault
@@ -39,7 +39,7 @@ PowerCause old new powers.NoMemory = RunsOutOfMemory old new mount_uses
 
 -- What the drive stands for after the power went off and on again: the first of its discs that fits.
 abbrev pub PowerStep : Shown → (Standing → Type 0) → Standing → PowerOut → Type 0
-PowerStep new stands standing (powers.Ready told) = (disc : List ℕ) × IsFirstFit new (candidates standing) disc × stands (On disc)
+PowerStep new stands standing (powers.Ready known) = (disc : List ℕ) × IsFirstFit new (candidates standing) disc × stands (On disc)
 PowerStep new stands standing powers.NotFormatted = stands (On [])
 PowerStep new stands standing powers.Cut = stands (Off (candidates standing))
 PowerStep new stands standing powers.Fault = stands (Off (candidates standing))

@@ -14,7 +14,7 @@ use Rattle.model_sectors.specs.declared.ReadOut.TheVariants as reads
 pub record ReadsAll (old new : Shown) (lba n : ℕ) : Type 0 where
   pub inside : IsInRange old lba n
   pub homes : new.homes ≡ old.homes
-  pub goes : EndsAfter old new (read_uses old.buffered (block_with lba) (blocks_covered lba n)) (touched_from old.buffered (block_with lba) (blocks_covered lba n))
+  pub continues : EndsAfter old new (read_uses old.buffered (block_with lba) (blocks_covered lba n)) (touched_from old.buffered (block_with lba) (blocks_covered lba n))
 
 -- the read met a block that cannot be read, after so many that can
 pub record MeetsUnread (old new : Shown) (lba n named block k : ℕ) : Type 0 where
@@ -23,14 +23,14 @@ pub record MeetsUnread (old new : Shown) (lba n named block k : ℕ) : Type 0 wh
   pub is_named : NamesBlock lba n named k
   pub block_is : block ≡ home new (block_with lba + k)
   pub not_at_hand : ¬ IsTrue (is_at_hand old.buffered (block_with lba) k)
-  pub goes : EndsAfter old new (read_uses old.buffered (block_with lba) k + 1) (touched_from old.buffered (block_with lba) k)
+  pub continues : EndsAfter old new (read_uses old.buffered (block_with lba) k + 1) (touched_from old.buffered (block_with lba) k)
 
 -- The cause of each answer of a read of so many sectors from this one on, the uses that it took, and the blocks that
 -- are buffered then.
 abbrev pub ReadCause : Shown → Shown → (lba n : ℕ) → ReadOut → Type 0
 ReadCause old new lba n reads.Good = ReadsAll old new lba n
 ReadCause old new lba n reads.NotFormatted = IsUnformatted old × (new ≡ old)
-ReadCause old new lba n (reads.Range told) = IsOutOfRange old lba n told × (new ≡ old)
+ReadCause old new lba n (reads.Range known) = IsOutOfRange old lba n known × (new ≡ old)
 ReadCause old new lba n (reads.Unread named block) = (k : ℕ) × MeetsUnread old new lba n named block k
 ReadCause old new lba n reads.Cut = IsInRange old lba n × IsStopped old new (read_uses old.buffered (block_with lba) (blocks_covered lba n)) stops.Cut
 ReadCause old new lba n reads.Off = ¬ IsOn old × (new ≡ old)
@@ -52,7 +52,7 @@ ReadOn old new stands disc lba n into reads.Good =
     (into ≡ sectors_of disc lba n) × AreReadable old new (block_with lba) (blocks_covered lba n)
     × SameCells old new × stands (On disc)
 ReadOn old new stands disc lba n into reads.NotFormatted = stands (On disc)
-ReadOn old new stands disc lba n into (reads.Range told) = stands (On disc)
+ReadOn old new stands disc lba n into (reads.Range known) = stands (On disc)
 ReadOn old new stands disc lba n into (reads.Unread named block) =
     ¬ IsGood (cell_at new.medium.world.cells block) × AreReadable old new (block_with lba) (block_with named - block_with lba)
     × OnlyDies old new (block_with named) × stands (On disc)

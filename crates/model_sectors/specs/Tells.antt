@@ -5,5 +5,5 @@ use Rattle.model_sectors.specs.Parts.{IsFormatted}
 
 -- what the call of `capacity` tells: nothing where the power is off or the disc is not formatted
 abbrev pub CapacityRule : Shown → Option ℕ → Type 0
-CapacityRule shown (Some told) = IsOn shown × IsFormatted shown × (told ≡ capacity shown)
+CapacityRule shown (Some known) = IsOn shown × IsFormatted shown × (known ≡ capacity shown)
 CapacityRule shown None = ¬ IsOn shown ⊎ ¬ IsFormatted shown

@@ -14,7 +14,7 @@ use Rattle.model_sectors.specs.declared.WriteOut.TheVariants as writes
 pub record WritesAll (old new : Shown) (lba n : ℕ) : Type 0 where
   pub inside : IsInRange old lba n
   pub homes : KeepsHomes old new
-  pub goes : EndsAfter old new (write_uses old.buffered lba n (blocks_covered lba n)) (touched_from old.buffered (block_with lba) (blocks_covered lba n))
+  pub continues : EndsAfter old new (write_uses old.buffered lba n (blocks_covered lba n)) (touched_from old.buffered (block_with lba) (blocks_covered lba n))
 
 -- the write met a block that it covers in part and whose rest cannot be read, after so many that were written
 pub record LacksRest (old new : Shown) (lba n named block k : ℕ) : Type 0 where
@@ -23,21 +23,21 @@ pub record LacksRest (old new : Shown) (lba n named block k : ℕ) : Type 0 wher
   pub is_named : NamesBlock lba n named k
   pub block_is : block ≡ home new (block_with lba + k)
   pub partly : IsTrue (reads_rest old.buffered lba n k)
-  pub goes : EndsAfter old new (write_uses old.buffered lba n k + 1) (touched_from old.buffered (block_with lba) k)
+  pub continues : EndsAfter old new (write_uses old.buffered lba n k + 1) (touched_from old.buffered (block_with lba) k)
 
 -- the write met a block whose home is dead, after so many that were written
 pub record LacksSpare (old new : Shown) (lba n named k : ℕ) : Type 0 where
   pub inside : IsInRange old lba n
   pub homes : KeepsHomes old new
   pub is_named : NamesBlock lba n named k
-  pub goes : EndsAfter old new (write_uses old.buffered lba n (k + 1)) (touched_refused old.buffered lba n k)
+  pub continues : EndsAfter old new (write_uses old.buffered lba n (k + 1)) (touched_refused old.buffered lba n k)
 
 -- The cause of each answer of a write of so many sectors from this one on, the uses that it took, and the blocks that
 -- are buffered then.
 abbrev pub WriteCause : Shown → Shown → (lba n : ℕ) → WriteOut → Type 0
 WriteCause old new lba n writes.Good = WritesAll old new lba n
 WriteCause old new lba n writes.NotFormatted = IsUnformatted old × (new ≡ old)
-WriteCause old new lba n (writes.Range told) = IsOutOfRange old lba n told × (new ≡ old)
+WriteCause old new lba n (writes.Range known) = IsOutOfRange old lba n known × (new ≡ old)
 WriteCause old new lba n (writes.Unread named block) = (k : ℕ) × LacksRest old new lba n named block k
 WriteCause old new lba n (writes.NoSpare named) = (k : ℕ) × LacksSpare old new lba n named k
 WriteCause old new lba n writes.Cut = IsInRange old lba n × IsStopped old new (write_uses old.buffered lba n (blocks_covered lba n)) stops.Cut
@@ -86,7 +86,7 @@ WriteOn old new stands disc lba n bytes writes.Good =
     AreGood new (block_with lba) (blocks_covered lba n) × OnlyCovered old new (block_with lba) (blocks_covered lba n)
     × stands (On (replaced disc lba bytes (block_with lba + blocks_covered lba n)))
 WriteOn old new stands disc lba n bytes writes.NotFormatted = stands (On disc)
-WriteOn old new stands disc lba n bytes (writes.Range told) = stands (On disc)
+WriteOn old new stands disc lba n bytes (writes.Range known) = stands (On disc)
 WriteOn old new stands disc lba n bytes (writes.Unread named block) =
     ¬ IsGood (cell_at new.medium.world.cells block) × IsSameOrDead (cell_at old.medium.world.cells block) (cell_at new.medium.world.cells block)
     × WroteUpTo old new (block_with lba) (block_with named - block_with lba) × stands (On (replaced disc lba bytes (block_with named)))

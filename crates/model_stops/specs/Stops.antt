@@ -12,7 +12,7 @@ FailsInUse old new block = ((into : List ℕ) × (into' : List ℕ) × FailsInRe
 -- What a part of the work on a medium did, where `reaches` says what can follow by so many uses that did not fail.
 module _ {M : Type 0} (world : M → World) (reaches : M → M → ℕ → Type 0) where
   -- it went to its end by k uses, and the power is on
-  pub record Goes (old new : M) (k : ℕ) : Type 0 where
+  pub record Continues (old new : M) (k : ℕ) : Type 0 where
     pub reach : reaches old new k
     pub is_on : IsTrue (world new).power
 

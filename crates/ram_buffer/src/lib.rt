@@ -2,7 +2,7 @@
 #![tactic(auto)]
 
 ghost use Rattle.std.specs.Prelude.{◌≡◌, ◌≤◌, IfOk, MatchBool, Some, None, [], length};
-ghost use Rattle.model_buffer.specs.Buffer.{bytes_at, with_front};
+ghost use Rattle.model_buffer.specs.Buffer.{bytes_at, with_newest};
 ghost use Rattle.model_buffer.specs.declared.TheConstants.{BUFFERED_BLOCKS};
 
 pub use model_buffer::BUFFERED_BLOCKS;
@@ -43,7 +43,7 @@ impl BlockBuffer {
     /// the buffer are as before.
     pub fn lookup(&mut self, i: u32, into: &mut Block) -> bool
         ensures found { MatchBool result
-            ((bytes_at i self.old ≡ Some into.new) × (self.new ≡ with_front i into.new self.old))
+            ((bytes_at i self.old ≡ Some into.new) × (self.new ≡ with_newest i into.new self.old))
             ((bytes_at i self.old ≡ None) × (self.new ≡ self.old) × (into.new ≡ into.old)) }
         ensures few { length self.old ≤ BUFFERED_BLOCKS }
     {
@@ -59,7 +59,7 @@ impl BlockBuffer {
 
     /// Puts block `i` with these bytes there, as the one used last. The one used longest ago makes room for it.
     pub fn put(&mut self, i: u32, from: &Block)
-        ensures { self.new ≡ with_front i from.now self.old }
+        ensures { self.new ≡ with_newest i from.now self.old }
     {
         self.block.copy_from(from);
         self.number = Some(i);

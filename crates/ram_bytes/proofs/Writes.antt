@@ -1,4 +1,4 @@
--- A number written at the front of `bytes[at..]`, and parts of a block, over plain variables.
+-- A number written at the start of `bytes[at..]`, and parts of a block, over plain variables.
 use Rattle.std.proofs.Common.{◌≡◌, ℕ, ◌+◌, ◌-◌, ◌*◌, ◌≤◌, List, [], ◌++◌, length, take, drop, replicate, refl, sym, ◌∙◌, ap, arith, append_assoc, length-drop}
 use Rattle.std.proofs.lemmas.List.{drop-drop, drop_all, take_all, append-nil}
 use borrow.Rule.Slice.PartMut.{put_mid}

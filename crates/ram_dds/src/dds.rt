@@ -6,7 +6,7 @@ ghost use Rattle.model_lists.specs.Texts.{IsDdsText};
 ghost use Rattle.ram_dds.specs.Dds.{dds_of, IsDecodedDds};
 
 use crate::entries::PdlEntries;
-use crate::front::{begin_bytes, front_of, list_begin_bytes};
+use crate::header::{begin_bytes, header_of, list_begin_bytes};
 use crate::list::PdlLayout;
 use model_lists::DdsState;
 use ram_bytes::Block;
@@ -46,16 +46,16 @@ impl DdsPdl {
         ensures { IfOk result (λ found. IsDecodedDds found from.now) }
     {
         let bytes = from.bytes();
-        let Some(front) = front_of(bytes) else {
+        let Some(header) = header_of(bytes) else {
             return Ok(None);
         };
-        let Some(entries) = entries_of::<PdlLayout>(alloc, &bytes[2_052..], front.count)? else {
+        let Some(entries) = entries_of::<PdlLayout>(alloc, &bytes[2_052..], header.count)? else {
             return Ok(None);
         };
         Ok(Some(DdsPdl {
-            counter: front.counter,
-            state: front.state,
-            psa: front.psa,
+            counter: header.counter,
+            state: header.state,
+            psa: header.psa,
             entries: PdlEntries::from_vec(entries),
         }))
     }

@@ -3,7 +3,7 @@ use Rattle.std.specs.Prelude.{◌≡◌, ℕ, ◌<◌, Option, IfSome, MatchOpti
 use Rattle.std.specs.Option.{option_map, ForSome}
 use Rattle.std.proofs.Common.{refl, sym, ap, ◌∙◌, inl, inr, subst, arith}
 use Rattle.model_bytes.specs.Bytes.{put_at, PartlyPut}
-use Rattle.model_bytes.specs.Told.{WhereTold}
+use Rattle.model_bytes.specs.Known.{WhereKnown}
 use Rattle.model_medium.specs.Cells.{Dead}
 use Rattle.model_medium.specs.declared.Fate.{Fate}
 use Rattle.model_medium.specs.declared.Fate.TheVariants as fates
@@ -11,7 +11,7 @@ use Rattle.model_image.specs.Cells.{state_place, data_place, image_len, cell_in,
 use Rattle.model_image.specs.Writes.{with_state, with_block, torn_state, dead_state, bytes_by, bytes_left, PutsInBlock, StopsInBytes, IsBeforeOrAfter}
 use Rattle.model_image.proofs.ByteWrites.{one_byte, puts_none, three_writes, puts_till_first, puts_till_second, puts_till_third, put_at-partly, puts_state, dead_state_is, dead_cell_of, bytes_left-dead, bytes_left-alive}
 use Rattle.model_image.proofs.KnownBytes.{known_then, known_change, known_part, known_with, known_same}
-use Rattle.model_image.proofs.ToldCells.{told_more, told_same}
+use Rattle.model_image.proofs.KnownCells.{known_more, same_where_known}
 use Rattle.ram_outside.specs.Image.{WriteAtRule}
 use Rattle.ram_outside.specs.declared.image.Moved.{Moved}
 use Rattle.ram_outside.specs.declared.image.Moved.TheVariants as moves
@@ -40,18 +40,18 @@ module _ (total block : ℕ) (inside : block < total) (from : List ℕ) (long : 
   abbrev filled : List ℕ → List ℕ
   filled held = put_at (data_place total block) from (torn held)
 
-  pub bytes_first : (after : Option (List ℕ)) → Stopped (state_place block) (2 ∷ []) before after → WhereTold before after (PutsInBlock total block from)
+  pub bytes_first : (after : Option (List ℕ)) → Stopped (state_place block) (2 ∷ []) before after → WhereKnown before after (PutsInBlock total block from)
   bytes_first after stopped =
       known_with (IsWhole total) (PartlyPut (state_place block) (2 ∷ [])) (PutsInBlock total block from) (λ a b w put. puts_till_first total block inside from a w long b put) before after whole
       (known_part (state_place block) (2 ∷ []) before after stopped)
 
-  pub bytes_second : (b1 after : Option (List ℕ)) → b1 ≡ option_map torn before → Stopped (data_place total block) from b1 after → WhereTold before after (PutsInBlock total block from)
+  pub bytes_second : (b1 after : Option (List ℕ)) → b1 ≡ option_map torn before → Stopped (data_place total block) from b1 after → WhereKnown before after (PutsInBlock total block from)
   bytes_second b1 after e1 stopped =
       known_with (IsWhole total) (λ a c. PartlyPut (data_place total block) from (torn a) c) (PutsInBlock total block from) (λ a c w put. puts_till_second total block inside from a w long c put) before after whole
       (known_then (λ a b. b ≡ torn a) (PartlyPut (data_place total block) from) (λ a c. PartlyPut (data_place total block) from (torn a) c) (λ a b c e put. subst (λ l. PartlyPut (data_place total block) from l c) e put)
       before b1 after (known_change torn before b1 e1) (known_part (data_place total block) from b1 after stopped))
 
-  known_filled : (b1 b2 : Option (List ℕ)) → b1 ≡ option_map torn before → b2 ≡ option_map (put_at (data_place total block) from) b1 → WhereTold before b2 (λ a b. b ≡ filled a)
+  known_filled : (b1 b2 : Option (List ℕ)) → b1 ≡ option_map torn before → b2 ≡ option_map (put_at (data_place total block) from) b1 → WhereKnown before b2 (λ a b. b ≡ filled a)
   known_filled b1 b2 e1 e2 =
       known_then (λ a b. b ≡ torn a) (λ a b. b ≡ put_at (data_place total block) from a) (λ a b. b ≡ filled a) (λ a b c e e'. e' ∙ ap (put_at (data_place total block) from) e)
       before b1 b2 (known_change torn before b1 e1) (known_change (put_at (data_place total block) from) b1 b2 e2)
@@ -68,7 +68,7 @@ module _ (total block : ℕ) (inside : block < total) (from : List ℕ) (long : 
       before b2 after (known_filled b1 b2 e1 e2) (known_part (state_place block) (1 ∷ []) b2 after rule.1))
 
 -- a write that ends by a fate
-pub bytes_unread : (total block : ℕ) (from : List ℕ) (before after : Option (List ℕ)) → after ≡ before → WhereTold before after (StopsInBytes total block from)
+pub bytes_unread : (total block : ℕ) (from : List ℕ) (before after : Option (List ℕ)) → after ≡ before → WhereKnown before after (StopsInBytes total block from)
 bytes_unread total block from before after e = known_same (StopsInBytes total block from) (λ held. record { puts = puts_none total block from held; dead_keeps = λ dead. refl }) before after e
 
 module _ (total block : ℕ) (from : List ℕ) (fate : Fate) where
@@ -81,29 +81,29 @@ module _ (total block : ℕ) (from : List ℕ) (fate : Fate) where
   not_dead : (held : List ℕ) → IsAlive held → ¬ (slice_index held (state_place block) ≡ dead_state)
   not_dead held alive e = alive (dead_cell_of (slice_index held (state_place block)) (data_in total held block) e)
 
-  pub bytes_dead : (before after : Option (List ℕ)) → IfSome before (λ held. cell_in total held block ≡ Dead) → after ≡ before → WhereTold before after IsLeft
+  pub bytes_dead : (before after : Option (List ℕ)) → IfSome before (λ held. cell_in total held block ≡ Dead) → after ≡ before → WhereKnown before after IsLeft
   bytes_dead before after dead e =
-      told_same IsLeft (λ held. cell_in total held block ≡ Dead) (λ held d. bytes_left-dead fate total block from held (dead_state_is (slice_index held (state_place block)) (data_in total held block) d)) before after dead e
+      same_where_known IsLeft (λ held. cell_in total held block ≡ Dead) (λ held d. bytes_left-dead fate total block from held (dead_state_is (slice_index held (state_place block)) (data_in total held block) d)) before after dead e
 
   -- a block that is not dead
-  alive_left : (before mid after : Option (List ℕ)) → IfSome before IsAlive → mid ≡ before → WhereTold mid after (λ held held'. held' ≡ bytes_by fate total block from held) → WhereTold before after IsLeft
-  alive_left before mid after alive e told =
-      told_more (λ held held'. held' ≡ bytes_by fate total block from held) IsLeft IsAlive (λ held held' lives is. is ∙ bytes_left-alive fate total block from held (not_dead held lives)) before after alive
-      (subst (λ o. WhereTold o after (λ held held'. held' ≡ bytes_by fate total block from held)) e told)
+  alive_left : (before mid after : Option (List ℕ)) → IfSome before IsAlive → mid ≡ before → WhereKnown mid after (λ held held'. held' ≡ bytes_by fate total block from held) → WhereKnown before after IsLeft
+  alive_left before mid after alive e known =
+      known_more (λ held held'. held' ≡ bytes_by fate total block from held) IsLeft IsAlive (λ held held' lives is. is ∙ bytes_left-alive fate total block from held (not_dead held lives)) before after alive
+      (subst (λ o. WhereKnown o after (λ held held'. held' ≡ bytes_by fate total block from held)) e known)
 
-  alive_stops : (R : List ℕ → List ℕ → Type 0) (before mid after : Option (List ℕ)) → IfSome before IsAlive → mid ≡ before → ((a b : List ℕ) → R a b → PutsInBlock total block from a b) → WhereTold mid after R
-      → WhereTold before after (StopsInBytes total block from)
-  alive_stops R before mid after alive e puts told =
-      told_more R (StopsInBytes total block from) IsAlive (λ held held' lives r. record { puts = puts held held' r; dead_keeps = λ dead. absurd (not_dead held lives dead) }) before after alive
-      (subst (λ o. WhereTold o after R) e told)
+  alive_stops : (R : List ℕ → List ℕ → Type 0) (before mid after : Option (List ℕ)) → IfSome before IsAlive → mid ≡ before → ((a b : List ℕ) → R a b → PutsInBlock total block from a b) → WhereKnown mid after R
+      → WhereKnown before after (StopsInBytes total block from)
+  alive_stops R before mid after alive e puts known =
+      known_more R (StopsInBytes total block from) IsAlive (λ held held' lives r. record { puts = puts held held' r; dead_keeps = λ dead. absurd (not_dead held lives dead) }) before after alive
+      (subst (λ o. WhereKnown o after R) e known)
 
-  pub bytes_old : fate ≡ fates.Old → (before after : Option (List ℕ)) → IfSome before IsAlive → after ≡ before → WhereTold before after IsLeft
-  bytes_old e before after alive same = alive_left before after after alive same (subst (λ f. WhereTold after after (λ held held'. held' ≡ bytes_by f total block from held)) (sym e) (known_same (λ held held'. held' ≡ held) (λ held. refl) after after refl))
+  pub bytes_old : fate ≡ fates.Old → (before after : Option (List ℕ)) → IfSome before IsAlive → after ≡ before → WhereKnown before after IsLeft
+  bytes_old e before after alive same = alive_left before after after alive same (subst (λ f. WhereKnown after after (λ held held'. held' ≡ bytes_by f total block from held)) (sym e) (known_same (λ held held'. held' ≡ held) (λ held. refl) after after refl))
 
   pub bytes_new : fate ≡ fates.New → (before mid after : Option (List ℕ)) → IfSome before IsAlive → mid ≡ before → (r : Moved) → WriteCellBytes (call_between total block mid after 0 0) from r
       → LeaveCellBytes (call_between total block before after 0 0) from fate r
-  bytes_new e before mid after alive same moves.Done told = alive_left before mid after alive same (subst (λ f. WhereTold mid after (λ held held'. held' ≡ bytes_by f total block from held)) (sym e) told)
-  bytes_new e before mid after alive same moves.Failed told = alive_stops (PutsInBlock total block from) before mid after alive same (λ a b r. r) told
+  bytes_new e before mid after alive same moves.Done known = alive_left before mid after alive same (subst (λ f. WhereKnown mid after (λ held held'. held' ≡ bytes_by f total block from held)) (sym e) known)
+  bytes_new e before mid after alive same moves.Failed known = alive_stops (PutsInBlock total block from) before mid after alive same (λ a b r. r) known
 
   module _ (inside : block < total) where
     torn_puts : (held held' : List ℕ) → IsWhole total held → IsBeforeOrAfter held (with_state block torn_state held) held' → PutsInBlock total block from held held'
@@ -113,7 +113,7 @@ module _ (total block : ℕ) (from : List ℕ) (fate : Fate) where
 
     pub bytes_torn : fate ≡ fates.Torn → (before mid after : Option (List ℕ)) → ForSome before (IsWhole total) → IfSome before IsAlive → mid ≡ before → (r : Moved)
         → WriteStateBytes (call_between total block mid after 0 0) torn_state r → LeaveCellBytes (call_between total block before after 0 0) from fate r
-    bytes_torn e before mid after whole alive same moves.Done told = alive_left before mid after alive same (subst (λ f. WhereTold mid after (λ held held'. held' ≡ bytes_by f total block from held)) (sym e) told)
-    bytes_torn e before mid after whole alive same moves.Failed told =
+    bytes_torn e before mid after whole alive same moves.Done known = alive_left before mid after alive same (subst (λ f. WhereKnown mid after (λ held held'. held' ≡ bytes_by f total block from held)) (sym e) known)
+    bytes_torn e before mid after whole alive same moves.Failed known =
         alive_stops (PutsInBlock total block from) before mid after alive same (λ a b r. r)
-        (known_with (IsWhole total) (λ held held'. IsBeforeOrAfter held (with_state block torn_state held) held') (PutsInBlock total block from) (λ a b w r. torn_puts a b w r) mid after (subst (λ o. ForSome o (IsWhole total)) (sym same) whole) told)
+        (known_with (IsWhole total) (λ held held'. IsBeforeOrAfter held (with_state block torn_state held) held') (PutsInBlock total block from) (λ a b w r. torn_puts a b w r) mid after (subst (λ o. ForSome o (IsWhole total)) (sym same) whole) known)

@@ -27,7 +27,7 @@ module _ (old mid new : Machine) (block : ℕ) (was_on : IsTrue old.world.power)
   uses_one : FailsWithin mid new block → IsUse old.world new.world block
   uses_one fails = record {
     was_on = was_on;
-    as_told = fails.as_told ∙ used.as_told;
+    as_known = fails.as_known ∙ used.as_known;
     counts = fails.uses_same ∙ used.counts;
     others = λ other ne. fails.others other ne ∙ cell_other old mid block (λ cell. cell) used same_is_kind.tame other ne;
     stays_dead = λ e. fails.stays_dead (dead_here old mid block (λ cell. cell) used same_is_kind.tame e);
@@ -35,7 +35,7 @@ module _ (old mid new : Machine) (block : ℕ) (was_on : IsTrue old.world.power)
 
   has_failed : FailsWithin mid new block → HasFailed old.world new.world
   has_failed fails = record {
-    goes_off = fails.goes_off;
+    turns_off = fails.turns_off;
     no_cut = fails.cuts_same ∙ ap (λ m. m.world.cuts) begins;
     fault = omega (arith, used.no_fault, fails.fault);
   }
@@ -58,7 +58,7 @@ module _ (old mid new : Machine) (block : ℕ) (was_on : IsTrue old.world.power)
     read_now x = x ∙ begins ∙ sym (ap (λ due. option_map_or (λ fate. cut_off (begun block old)) due (begun block old)) not_due)
 
     pub event_read : (into into' : List ℕ) (how : ReadEnd) → ReadOnRule mid new block into into' how → ReadExactly old new block into into' how
-    event_read into into' reads.Done rule = record { was_on = was_on; not_due = not_due; exactly = read_now rule.0; gives = subst (λ told. OnTrue told (cell_at new.world.cells block ≡ Good into')) used.as_told rule.1 }
+    event_read into into' reads.Done rule = record { was_on = was_on; not_due = not_due; exactly = read_now rule.0; gives = subst (λ known. OnTrue known (cell_at new.world.cells block ≡ Good into')) used.as_known rule.1 }
     event_read into into' reads.Unreadable rule = record { was_on = was_on; not_due = not_due; exactly = read_now rule.0; not_good = rule.1; kept = rule.2 }
     event_read into into' reads.Cut rule = absurd rule
     event_read into into' reads.Off rule = absurd rule

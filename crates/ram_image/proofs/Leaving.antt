@@ -3,14 +3,14 @@ use Rattle.std.specs.Prelude.{◌≡◌, ℕ, ◌<◌, Option, Some, None, IfSom
 use Rattle.std.specs.Option.{ForSome}
 use Rattle.std.proofs.Common.{refl, sym, ap, ◌∙◌, inl, inr, subst, arith}
 use Rattle.model_counts.specs.Counts.{Rose}
-use Rattle.model_bytes.specs.Told.{WhereTold}
+use Rattle.model_bytes.specs.Known.{WhereKnown}
 use Rattle.model_medium.specs.Cells.{Cell, Blank, Good, Torn, Dead, cell_at, unless_dead, cut_short}
 use Rattle.model_medium.specs.declared.Fate.{Fate}
 use Rattle.model_medium.specs.declared.Fate.TheVariants as fates
 use Rattle.model_image.specs.Cells.{state_place, image_len, cell_of, cell_in, cells_of, SetsCell, StopsInCell, StopsInState}
 use Rattle.model_image.proofs.Writes.{cell_at-cells_of}
-use Rattle.model_image.proofs.StateWrites.{told-put_state, told-stopped_state}
-use Rattle.model_image.proofs.ToldCells.{told_more, told_same, sets_same}
+use Rattle.model_image.proofs.StateWrites.{known-put_state, known-stopped_state}
+use Rattle.model_image.proofs.KnownCells.{known_more, same_where_known, sets_same}
 use Rattle.ram_outside.specs.Image.{IsUnchanged, ImageFails, WriteAtRule}
 use Rattle.ram_outside.specs.declared.image.Moved.{Moved}
 use Rattle.ram_outside.specs.declared.image.Moved.TheVariants as moves
@@ -19,8 +19,8 @@ use Rattle.ram_image.specs.CellCalls.{call_between, WriteStateRule, WriteCellRul
 -- a write of a state byte
 pub state_written : (total block : ℕ) → block < total → (byte : ℕ) (cell : Cell) → ((bytes : List ℕ) → cell_of byte bytes ≡ cell) → (before after : Option (List ℕ)) → ForSome before (λ held. length held ≡ image_len total)
     → (f f' : ℕ) (r : Moved) → WriteAtRule before after f f' (state_place block) (byte ∷ []) r → WriteStateRule (call_between total block before after f f') cell r
-state_written total block inside byte cell always before after whole f f' moves.Done rule = (told-put_state total block inside byte cell always before after whole rule.changed, rule.count)
-state_written total block inside byte cell always before after whole f f' moves.Failed rule = (told-stopped_state total block inside byte cell always before after whole rule.1, rule.0)
+state_written total block inside byte cell always before after whole f f' moves.Done rule = (known-put_state total block inside byte cell always before after whole rule.changed, rule.count)
+state_written total block inside byte cell always before after whole f f' moves.Failed rule = (known-stopped_state total block inside byte cell always before after whole rule.1, rule.0)
 
 module _ (total block : ℕ) (inside : block < total) (bytes : List ℕ) where
   -- nothing was written
@@ -30,8 +30,8 @@ module _ (total block : ℕ) (inside : block < total) (bytes : List ℕ) where
     stays_dead = λ e. e;
   }
 
-  pub left_unread : (before after : Option (List ℕ)) (f f' : ℕ) → ImageFails before after f f' → WhereTold before after (StopsInLeaving total block bytes) × Rose f f'
-  left_unread before after f f' failed = (told_same (StopsInLeaving total block bytes) (λ held. Unit {0}) (λ held p. none_left held) before after (any before) failed.same, failed.count)
+  pub left_unread : (before after : Option (List ℕ)) (f f' : ℕ) → ImageFails before after f f' → WhereKnown before after (StopsInLeaving total block bytes) × Rose f f'
+  left_unread before after f f' failed = (same_where_known (StopsInLeaving total block bytes) (λ held. Unit {0}) (λ held p. none_left held) before after (any before) failed.same, failed.count)
     where
       any : (o : Option (List ℕ)) → IfSome o (λ held. Unit {0})
       any None = tt
@@ -46,13 +46,13 @@ module _ (total block : ℕ) (inside : block < total) (bytes : List ℕ) where
   here : (held : List ℕ) → cell_at (cells_of total held) block ≡ cell_in total held block
   here held = cell_at-cells_of total held block inside
 
-  pub left_dead : (fate : Fate) (before after : Option (List ℕ)) → IfSome before (λ held. cell_in total held block ≡ Dead) → after ≡ before → WhereTold before after (LeavesByFate total block bytes fate)
+  pub left_dead : (fate : Fate) (before after : Option (List ℕ)) → IfSome before (λ held. cell_in total held block ≡ Dead) → after ≡ before → WhereKnown before after (LeavesByFate total block bytes fate)
   left_dead fate before after dead e =
-      told_same (LeavesByFate total block bytes fate) (λ held. cell_in total held block ≡ Dead)
+      same_where_known (LeavesByFate total block bytes fate) (λ held. cell_in total held block ≡ Dead)
       (λ held d. let is : cell_at (cells_of total held) block ≡ Dead = here held ∙ d in sets_same total block held _ (ap (cut_short fate bytes) is ∙ dead_left fate ∙ sym is)) before after dead e
 
-  pub left_old : (before after : Option (List ℕ)) → after ≡ before → WhereTold before after (LeavesByFate total block bytes fates.Old)
-  left_old before after e = told_same (LeavesByFate total block bytes fates.Old) (λ held. Unit {0}) (λ held p. sets_same total block held _ refl) before after (any before) e
+  pub left_old : (before after : Option (List ℕ)) → after ≡ before → WhereKnown before after (LeavesByFate total block bytes fates.Old)
+  left_old before after e = same_where_known (LeavesByFate total block bytes fates.Old) (λ held. Unit {0}) (λ held p. sets_same total block held _ refl) before after (any before) e
     where
       any : (o : Option (List ℕ)) → IfSome o (λ held. Unit {0})
       any None = tt
@@ -69,18 +69,18 @@ module _ (total block : ℕ) (inside : block < total) (bytes : List ℕ) where
   IsAlive held = ¬ (cell_in total held block ≡ Dead)
 
   module _ (before mid after : Option (List ℕ)) (f f1 f2 : ℕ) (unchanged : IsUnchanged before mid f f1) (lives : IfSome before IsAlive) where
-    stops : WhereTold mid after (StopsInCell total block bytes) → Rose f1 f2 → WhereTold before after (StopsInLeaving total block bytes) × Rose f f2
-    stops told rose = (
-      told_more (StopsInCell total block bytes) (StopsInLeaving total block bytes) IsAlive (λ held held' p r. record { stops = r; stays_dead = λ e. absurd (p (sym (here held) ∙ e)) }) before after lives
-          (subst (λ o. WhereTold o after (StopsInCell total block bytes)) unchanged.same told),
+    stops : WhereKnown mid after (StopsInCell total block bytes) → Rose f1 f2 → WhereKnown before after (StopsInLeaving total block bytes) × Rose f f2
+    stops known rose = (
+      known_more (StopsInCell total block bytes) (StopsInLeaving total block bytes) IsAlive (λ held held' p r. record { stops = r; stays_dead = λ e. absurd (p (sym (here held) ∙ e)) }) before after lives
+          (subst (λ o. WhereKnown o after (StopsInCell total block bytes)) unchanged.same known),
       omega (arith, unchanged.count, rose),
     )
 
-    sets : (cell : Cell) (fate : Fate) → ((old : Cell) → cut_short fate bytes old ≡ unless_dead old cell) → WhereTold mid after (SetsCell total block cell) → WhereTold before after (LeavesByFate total block bytes fate)
-    sets cell fate is told =
-        told_more (SetsCell total block cell) (LeavesByFate total block bytes fate) IsAlive
+    sets : (cell : Cell) (fate : Fate) → ((old : Cell) → cut_short fate bytes old ≡ unless_dead old cell) → WhereKnown mid after (SetsCell total block cell) → WhereKnown before after (LeavesByFate total block bytes fate)
+    sets cell fate is known =
+        known_more (SetsCell total block cell) (LeavesByFate total block bytes fate) IsAlive
         (λ held held' p r. subst (λ c. SetsCell total block c held held') (sym (is (cell_at (cells_of total held) block) ∙ alive (cell_at (cells_of total held) block) cell (λ e. p (sym (here held) ∙ e)))) r) before after lives
-        (subst (λ o. WhereTold o after (SetsCell total block cell)) unchanged.same told)
+        (subst (λ o. WhereKnown o after (SetsCell total block cell)) unchanged.same known)
 
     pub left_new : (fate : Fate) → fate ≡ fates.New → (r : Moved) → WriteCellRule (call_between total block mid after f1 f2) bytes r → LeaveCellRule (call_between total block before after f f2) bytes fate r
     left_new fate e moves.Done rule = subst (λ fate. LeaveCellRule (call_between total block before after f f2) bytes fate moves.Done) (sym e) (sets (Good bytes) fates.New (λ old. refl) rule.0, rule.1 ∙ unchanged.count)
@@ -92,7 +92,7 @@ module _ (total block : ℕ) (inside : block < total) (bytes : List ℕ) where
     pub left_torn : (fate : Fate) → fate ≡ fates.Torn → (r : Moved) → WriteStateRule (call_between total block mid after f1 f2) Torn r → LeaveCellRule (call_between total block before after f f2) bytes fate r
     left_torn fate e moves.Done rule = subst (λ fate. LeaveCellRule (call_between total block before after f f2) bytes fate moves.Done) (sym e) (sets Torn fates.Torn (λ old. refl) rule.0, rule.1 ∙ unchanged.count)
     left_torn fate e moves.Failed rule =
-        stops (told_more (StopsInState total block Torn) (StopsInCell total block bytes) (λ held. Unit {0}) (λ held held' p r. torn_stops held held' r) mid after (any mid) rule.0) rule.1
+        stops (known_more (StopsInState total block Torn) (StopsInCell total block bytes) (λ held. Unit {0}) (λ held held' p r. torn_stops held held' r) mid after (any mid) rule.0) rule.1
       where
         any : (o : Option (List ℕ)) → IfSome o (λ held. Unit {0})
         any None = tt

@@ -3,20 +3,20 @@ use Rattle.std.specs.Prelude.{◌≡◌, ℕ, ◌<◌, Bool, true, false, MatchB
 use Rattle.std.specs.Bool.{OnTrue}
 use Rattle.std.specs.Option.{ForSome}
 use Rattle.std.proofs.Common.{refl, sym, ap, ◌∙◌, subst}
-use Rattle.model_bytes.specs.Told.{WhereTold}
+use Rattle.model_bytes.specs.Known.{WhereKnown}
 use Rattle.model_geometry.specs.Geometry.{Shape, total}
 use Rattle.model_medium.specs.Cells.{Cell, Dead, IsGood, cell_at}
 use Rattle.model_medium.specs.Machine.{Machine}
 use Rattle.model_medium.specs.declared.WornBlock.{WornBlock}
 use Rattle.model_medium.specs.declared.ArmedCut.{ArmedCut}
-use Rattle.model_image.specs.Cells.{cell_in, cells_told, SetsCell}
+use Rattle.model_image.specs.Cells.{cell_in, cells_known, SetsCell}
 use Rattle.model_image.specs.Image.{IsDiscImage}
 use Rattle.model_image.proofs.Writes.{cell_at-cells_of}
-use Rattle.ram_image.proofs.TellsCells.{told_cell}
+use Rattle.ram_image.proofs.TellsCells.{known_cell}
 
 abbrev pub machine_by : ℕ → Option (List ℕ) → Bool → ℕ → ℕ → ℕ → List WornBlock → Option ArmedCut → Machine
 machine_by total bytes power uses cuts faults arms cut = record {
-  world = record { told = is_some bytes; cells = cells_told total bytes; power = power; uses = uses; cuts = cuts; faults = faults };
+  world = record { known = is_some bytes; cells = cells_known total bytes; power = power; uses = uses; cuts = cuts; faults = faults };
   arms = arms;
   cut = cut;
 }
@@ -28,15 +28,15 @@ exactly_same total before after power uses cuts f f' arms cut e count = ap (λ o
 
 -- a cell that was found, where the image has the bytes that it had
 pub cell_found : (total block : ℕ) (P : Cell → Type 0) → block < total → (before after : Option (List ℕ)) → after ≡ before → IfSome before (λ held. P (cell_in total held block))
-    → OnTrue (is_some before) (P (cell_at (cells_told total after) block))
-cell_found total block P inside before after e found = subst (λ o. OnTrue (is_some before) (P (cell_at (cells_told total o) block))) (sym e) (told_cell total block P inside before found)
+    → OnTrue (is_some before) (P (cell_at (cells_known total after) block))
+cell_found total block P inside before after e found = subst (λ o. OnTrue (is_some before) (P (cell_at (cells_known total o) block))) (sym e) (known_cell total block P inside before found)
 
 -- a cell that was found not to be good
 pub not_good_found : (total block : ℕ) → block < total → (before after : Option (List ℕ)) → after ≡ before → IfSome before (λ held. ¬ IsGood (cell_in total held block))
-    → ¬ IsGood (cell_at (cells_told total after) block)
-not_good_found total block inside before after e found = subst (λ o. ¬ IsGood (cell_at (cells_told total o) block)) (sym e) (cases before found)
+    → ¬ IsGood (cell_at (cells_known total after) block)
+not_good_found total block inside before after e found = subst (λ o. ¬ IsGood (cell_at (cells_known total o) block)) (sym e) (cases before found)
   where
-    cases : (o : Option (List ℕ)) → IfSome o (λ held. ¬ IsGood (cell_in total held block)) → ¬ IsGood (cell_at (cells_told total o) block)
+    cases : (o : Option (List ℕ)) → IfSome o (λ held. ¬ IsGood (cell_in total held block)) → ¬ IsGood (cell_at (cells_known total o) block)
     cases None h = λ good. good
     cases (Some held) h = λ good. h (subst IsGood (cell_at-cells_of total held block inside) good)
 
@@ -48,11 +48,11 @@ disc_sets shape block cell held held' disc sets = record {
 }
 
 pub disc_after_kill : (shape : Shape) (block : ℕ) (dies : Bool) (before after : Option (List ℕ)) → ForSome before (IsDiscImage shape)
-    → MatchBool dies (WhereTold before after (SetsCell (total shape) block Dead)) (after ≡ before) → ForSome after (IsDiscImage shape)
+    → MatchBool dies (WhereKnown before after (SetsCell (total shape) block Dead)) (after ≡ before) → ForSome after (IsDiscImage shape)
 disc_after_kill shape block false before after disc e = subst (λ o. ForSome o (IsDiscImage shape)) (sym e) disc
-disc_after_kill shape block true before after disc told = cases before after disc told
+disc_after_kill shape block true before after disc known = cases before after disc known
   where
-    cases : (o p : Option (List ℕ)) → ForSome o (IsDiscImage shape) → WhereTold o p (SetsCell (total shape) block Dead) → ForSome p (IsDiscImage shape)
+    cases : (o p : Option (List ℕ)) → ForSome o (IsDiscImage shape) → WhereKnown o p (SetsCell (total shape) block Dead) → ForSome p (IsDiscImage shape)
     cases None None d t = d
     cases None (Some held') d t = absurd t
     cases (Some held) None d t = absurd t

@@ -12,8 +12,8 @@ use Rattle.model_medium.specs.declared.WriteEnd.TheVariants as writes
 use Rattle.model_medium.specs.World.{IsUse, HasFailed}
 use Rattle.model_medium.specs.Machine.{Machine, fate_due, begun, cut_off, with_cell}
 use Rattle.model_medium.specs.Exact.{HasCountedDown}
-use Rattle.model_bytes.specs.Told.{WhereTold}
-use Rattle.model_image.specs.Cells.{cells_told}
+use Rattle.model_bytes.specs.Known.{WhereKnown}
+use Rattle.model_image.specs.Cells.{cells_known}
 use Rattle.model_image.specs.Writes.{bytes_left, StopsInBytes}
 use Rattle.ram_outside.specs.declared.image.Image.{Ghosts}
 use Rattle.ram_outside.specs.declared.image.Moved.{Moved}
@@ -30,7 +30,7 @@ pub record IsNew {I : Type 0} {d : Ghosts I} (image : I) (shape : Shape) (medium
   pub shape_is : shape_of_medium medium ≡ shape
   pub image_is : medium.image ≡ image
   pub machine : machine_in medium ≡ record {
-    world = record { told = is_some (d.bytes image); cells = cells_told (total shape) (d.bytes image); power = false; uses = 0; cuts = 0; faults = d.faults image };
+    world = record { known = is_some (d.bytes image); cells = cells_known (total shape) (d.bytes image); power = false; uses = 0; cuts = 0; faults = d.faults image };
     arms = [];
     cut = None;
   }
@@ -51,9 +51,9 @@ ImageBeginRule old new block begins.Failed = BeginFails old new block
 -- the image failed in a use that had begun: it is counted, the power is off, and all else is as it was but for the
 -- block's cell, of which a dead one stays dead
 pub record FailsWithin (old new : Machine) (block : ℕ) : Type 0 where
-  pub goes_off : ¬ IsTrue new.world.power
+  pub turns_off : ¬ IsTrue new.world.power
   pub fault : Rose old.world.faults new.world.faults
-  pub as_told : new.world.told ≡ old.world.told
+  pub as_known : new.world.known ≡ old.world.known
   pub uses_same : new.world.uses ≡ old.world.uses
   pub cuts_same : new.world.cuts ≡ old.world.cuts
   pub arms_same : new.arms ≡ old.arms
@@ -63,7 +63,7 @@ pub record FailsWithin (old new : Machine) (block : ℕ) : Type 0 where
 
 -- What a read does in a use that had begun and goes on, by its answer. (This project's own.)
 abbrev pub ReadOnRule : Machine → Machine → ℕ → List ℕ → List ℕ → ReadEnd → Type 0
-ReadOnRule old new block into into' reads.Done = (new ≡ old) × OnTrue old.world.told (cell_at new.world.cells block ≡ Good into')
+ReadOnRule old new block into into' reads.Done = (new ≡ old) × OnTrue old.world.known (cell_at new.world.cells block ≡ Good into')
 ReadOnRule old new block into into' reads.Unreadable = (new ≡ old) × (¬ IsGood (cell_at new.world.cells block)) × (into' ≡ into)
 ReadOnRule old new block into into' reads.Cut = ⊥
 ReadOnRule old new block into into' reads.Off = ⊥
@@ -84,18 +84,18 @@ WriteCutRule old new block bytes fate writes.Failed = FailsWithin old new block 
 
 -- Which bytes the beginning of a use changes, by its answer, where `dies` says whether an arm of the block runs out.
 abbrev pub BeginBytes : Bool → ℕ → Option (List ℕ) → Option (List ℕ) → Begun → Type 0
-BeginBytes dies block before after begins.On = WhereTold before after (WearsBytes dies block)
-BeginBytes dies block before after (begins.Cut fate) = WhereTold before after (WearsBytes dies block)
-BeginBytes dies block before after begins.Failed = WhereTold before after (MayWearBytes dies block)
+BeginBytes dies block before after begins.On = WhereKnown before after (WearsBytes dies block)
+BeginBytes dies block before after (begins.Cut fate) = WhereKnown before after (WearsBytes dies block)
+BeginBytes dies block before after begins.Failed = WhereKnown before after (MayWearBytes dies block)
 
 -- Which bytes a write with this fate changes in a use that had begun, by its answer.
 abbrev pub LeaveBytes : ℕ → ℕ → List ℕ → Fate → Option (List ℕ) → Option (List ℕ) → Moved → Type 0
-LeaveBytes total block bytes fate before after moves.Done = WhereTold before after (λ held held'. held' ≡ bytes_left fate total block bytes held)
-LeaveBytes total block bytes fate before after moves.Failed = WhereTold before after (StopsInBytes total block bytes)
+LeaveBytes total block bytes fate before after moves.Done = WhereKnown before after (λ held held'. held' ≡ bytes_left fate total block bytes held)
+LeaveBytes total block bytes fate before after moves.Failed = WhereKnown before after (StopsInBytes total block bytes)
 
 -- The same where the power is cut in it.
 abbrev pub WriteCutBytes : ℕ → ℕ → List ℕ → Fate → Option (List ℕ) → Option (List ℕ) → WriteEnd → Type 0
 WriteCutBytes total block bytes fate before after writes.Done = Unit {0}
-WriteCutBytes total block bytes fate before after writes.Cut = WhereTold before after (λ held held'. held' ≡ bytes_left fate total block bytes held)
+WriteCutBytes total block bytes fate before after writes.Cut = WhereKnown before after (λ held held'. held' ≡ bytes_left fate total block bytes held)
 WriteCutBytes total block bytes fate before after writes.Off = Unit {0}
-WriteCutBytes total block bytes fate before after writes.Failed = WhereTold before after (StopsInBytes total block bytes)
+WriteCutBytes total block bytes fate before after writes.Failed = WhereKnown before after (StopsInBytes total block bytes)

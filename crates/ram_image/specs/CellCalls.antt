@@ -1,7 +1,7 @@
 -- What each call on the cell of one block of an image may do, by its answer: for the functions of `cells`.
 use Rattle.std.specs.Prelude.{◌≡◌, ℕ, Bool, MatchBool, Option, IfSome, List, take, drop}
 use Rattle.model_counts.specs.Counts.{Rose}
-use Rattle.model_bytes.specs.Told.{WhereTold}
+use Rattle.model_bytes.specs.Known.{WhereKnown}
 use Rattle.model_medium.specs.Cells.{Cell, Good, Dead, IsGood, cell_at, cut_short}
 use Rattle.model_medium.specs.declared.Fate.{Fate}
 use Rattle.model_image.specs.Cells.{cell_in, cells_of, SetsCell, StopsInCell, StopsInState}
@@ -43,16 +43,16 @@ FailsUnchanged call = ImageFails call.before call.after call.faults call.faults'
 
 -- it is done, its bytes are so related, and it counted nothing
 abbrev pub IsDone : CellCall → (List ℕ → List ℕ → Type 0) → Type 0
-IsDone call R = WhereTold call.before call.after R × (call.faults' ≡ call.faults)
+IsDone call R = WhereKnown call.before call.after R × (call.faults' ≡ call.faults)
 
 -- it failed, and what it left of the bytes is so related
 abbrev pub FailsLeaving : CellCall → (List ℕ → List ℕ → Type 0) → Type 0
-FailsLeaving call R = WhereTold call.before call.after R × Rose call.faults call.faults'
+FailsLeaving call R = WhereKnown call.before call.after R × Rose call.faults call.faults'
 
 -- which bytes a call changes, where it is done and where it fails
 abbrev pub BytesRule : CellCall → (List ℕ → List ℕ → Type 0) → (List ℕ → List ℕ → Type 0) → Moved → Type 0
-BytesRule call done failed moves.Done = WhereTold call.before call.after done
-BytesRule call done failed moves.Failed = WhereTold call.before call.after failed
+BytesRule call done failed moves.Done = WhereKnown call.before call.after done
+BytesRule call done failed moves.Failed = WhereKnown call.before call.after failed
 
 -- What a read of a whole block's bytes from `at` on may do, by its answer.
 module _ {I : Type 0} (images : Images I) where
@@ -93,7 +93,7 @@ WriteStateBytes call state = BytesRule call (λ held held'. held' ≡ with_state
 
 -- What making a block dead where it is to die may do, by its answer.
 abbrev pub KillWhereRule : CellCall → Bool → Moved → Type 0
-KillWhereRule call dies moves.Done = MatchBool dies (WhereTold call.before call.after (SetsCell call.total call.block Dead)) (call.after ≡ call.before) × (call.faults' ≡ call.faults)
+KillWhereRule call dies moves.Done = MatchBool dies (WhereKnown call.before call.after (SetsCell call.total call.block Dead)) (call.after ≡ call.before) × (call.faults' ≡ call.faults)
 KillWhereRule call dies moves.Failed = FailsLeaving call (StopsInState call.total call.block Dead)
 
 -- Which bytes it changes.

@@ -1,6 +1,6 @@
 -- Which bytes of an image the events of a medium over it change: for `ImageTakes` and for `fail`.
 use Rattle.std.specs.Prelude.{◌≡◌, ℕ, ◌⊎◌, Bool, Option, MatchOption, List}
-use Rattle.model_bytes.specs.Told.{WhereTold}
+use Rattle.model_bytes.specs.Known.{WhereKnown}
 use Rattle.model_medium.specs.Machine.{Machine, is_killed, fate_due}
 use Rattle.model_medium.specs.Exact.{Event, Read, Write, PowerOn, PowerOff}
 use Rattle.model_medium.specs.declared.Fate.{Fate}
@@ -24,11 +24,11 @@ MayWearBytes dies block held held' = IsBeforeOrAfter held (worn_bytes dies block
 
 -- What a read makes of the bytes, by its answer: it changes none but by an arm.
 abbrev pub ReadBytes : Bool → ℕ → Option (List ℕ) → Option (List ℕ) → ReadEnd → Type 0
-ReadBytes dies block before after reads.Done = WhereTold before after (WearsBytes dies block)
-ReadBytes dies block before after reads.Unreadable = WhereTold before after (WearsBytes dies block)
-ReadBytes dies block before after reads.Cut = WhereTold before after (WearsBytes dies block)
+ReadBytes dies block before after reads.Done = WhereKnown before after (WearsBytes dies block)
+ReadBytes dies block before after reads.Unreadable = WhereKnown before after (WearsBytes dies block)
+ReadBytes dies block before after reads.Cut = WhereKnown before after (WearsBytes dies block)
 ReadBytes dies block before after reads.Off = after ≡ before
-ReadBytes dies block before after reads.Failed = WhereTold before after (MayWearBytes dies block)
+ReadBytes dies block before after reads.Failed = WhereKnown before after (MayWearBytes dies block)
 
 -- The bytes before and after a write of these data that ends by this fate, behind the arms of its block.
 abbrev pub LeavesBytes : Bool → Fate → ℕ → ℕ → List ℕ → List ℕ → List ℕ → Type 0
@@ -40,10 +40,10 @@ MayLeaveBytes dies total block block_data held held' = (held' ≡ held) ⊎ Stop
 
 -- What a write makes of the bytes, by its answer; `due` is the fate of the cut that is due in it.
 abbrev pub WriteBytes : Bool → Option Fate → ℕ → ℕ → List ℕ → Option (List ℕ) → Option (List ℕ) → WriteEnd → Type 0
-WriteBytes dies due total block block_data before after writes.Done = WhereTold before after (LeavesBytes dies fates.New total block block_data)
-WriteBytes dies due total block block_data before after writes.Cut = MatchOption due ⊥ (λ fate. WhereTold before after (LeavesBytes dies fate total block block_data))
+WriteBytes dies due total block block_data before after writes.Done = WhereKnown before after (LeavesBytes dies fates.New total block block_data)
+WriteBytes dies due total block block_data before after writes.Cut = MatchOption due ⊥ (λ fate. WhereKnown before after (LeavesBytes dies fate total block block_data))
 WriteBytes dies due total block block_data before after writes.Off = after ≡ before
-WriteBytes dies due total block block_data before after writes.Failed = WhereTold before after (MayLeaveBytes dies total block block_data)
+WriteBytes dies due total block block_data before after writes.Failed = WhereKnown before after (MayLeaveBytes dies total block block_data)
 
 -- What an event makes of the bytes of an image of so many blocks.
 abbrev pub BytesAt : Machine → ℕ → Option (List ℕ) → Option (List ℕ) → Event → Type 0
@@ -54,6 +54,6 @@ BytesAt old total before after PowerOff = after ≡ before
 
 -- What the failure of a block makes of the bytes, by its answer: its state byte is that of a dead block.
 abbrev pub FailBytes : ℕ → Option (List ℕ) → Option (List ℕ) → FailEnd → Type 0
-FailBytes block before after fails.Done = WhereTold before after (λ held held'. held' ≡ with_state block dead_state held)
+FailBytes block before after fails.Done = WhereKnown before after (λ held held'. held' ≡ with_state block dead_state held)
 FailBytes block before after (fails.NoBlock blocks) = after ≡ before
-FailBytes block before after fails.Failed = WhereTold before after (λ held held'. IsBeforeOrAfter held (with_state block dead_state held) held')
+FailBytes block before after fails.Failed = WhereKnown before after (λ held held'. IsBeforeOrAfter held (with_state block dead_state held) held')

@@ -5,7 +5,7 @@ use Rattle.model_medium.specs.World.{World}
 use Rattle.model_medium.specs.Machine.{Machine, is_killed}
 use Rattle.model_medium.specs.Exact.{Event, Exactly}
 use Rattle.model_medium.specs.Reach.{Reach}
-use Rattle.model_image.specs.Cells.{cells_told}
+use Rattle.model_image.specs.Cells.{cells_known}
 use Rattle.ram_outside.specs.declared.image.Image.{Ghosts}
 use Rattle.ram_medium.specs.Laws.{machine_of}
 use Rattle.ram_medium.specs.Countdown.{arms_of, armed_cut_of}
@@ -19,8 +19,8 @@ shape_of_medium medium = medium.geometry
 -- what a medium over an image shows
 abbrev pub world_of : {I : Type 0} {d : Ghosts I} → ImageMedium I d → World
 world_of {I} {d} medium = record {
-  told = is_some (d.bytes medium.image);
-  cells = cells_told (total medium.geometry) (d.bytes medium.image);
+  known = is_some (d.bytes medium.image);
+  cells = cells_known (total medium.geometry) (d.bytes medium.image);
   power = medium.powered;
   uses = medium.uses;
   cuts = medium.cuts;

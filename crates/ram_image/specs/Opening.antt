@@ -1,7 +1,7 @@
 -- What opening an image finds, or why it is refused: for `open` and its parts.
 use Rattle.std.specs.Prelude.{◌≡◌, ◌≢◌, ℕ, ◌<◌, ◌≤◌, ◌⊎◌, false, Option, None, is_some, IfSome, List, [], length, take}
 use Rattle.model_geometry.specs.Geometry.{Shape, total}
-use Rattle.model_image.specs.Cells.{image_len, cells_told}
+use Rattle.model_image.specs.Cells.{image_len, cells_known}
 use Rattle.model_image.specs.Image.{HasHeader, IsDiscImage}
 use Rattle.ram_outside.specs.declared.image.Image.{Ghosts}
 use Rattle.ram_outside.specs.Image.{IsUnchanged, ImageFails}
@@ -19,8 +19,8 @@ pub record IsOpened {I : Type 0} {d : Ghosts I} (image : I) (medium : ImageMediu
   pub disc : IfSome (d.bytes image) (IsDiscImage shape)
   pub shape_is : shape_of_medium medium ≡ shape
   pub same_image : d.bytes medium.image ≡ d.bytes image
-  pub as_told : (world_of medium).told ≡ is_some (d.bytes image)
-  pub cells_are : (world_of medium).cells ≡ cells_told (total shape) (d.bytes image)
+  pub as_known : (world_of medium).known ≡ is_some (d.bytes image)
+  pub cells_are : (world_of medium).cells ≡ cells_known (total shape) (d.bytes image)
   pub off : (world_of medium).power ≡ false
   pub no_uses : (world_of medium).uses ≡ 0
   pub no_cuts : (world_of medium).cuts ≡ 0
@@ -36,7 +36,7 @@ IsRefused before after faults faults' (faulty.Length len) = IsUnchanged before a
 IsRefused before after faults faults' faulty.Fault = ImageFails before after faults faults'
 IsRefused before after faults faults' faulty.NoMemory = IsUnchanged before after faults faults'
 
--- What the front of an image was found to be. (This project's own.)
+-- What the start of an image was found to be. (This project's own.)
 abbrev pub HeaderRule : Option (List ℕ) → Option (List ℕ) → ℕ → ℕ → HeaderFound → Type 0
 HeaderRule before after faults faults' (found.Bytes len header) = IsUnchanged before after faults faults' × IfSome after (λ held. (len ≡ length held) × (16 ≤ length held) × (header ≡ take 16 held))
 HeaderRule before after faults faults' (found.Short len) = IsUnchanged before after faults faults' × IfSome before (λ held. (len ≡ length held) × (len < 16))

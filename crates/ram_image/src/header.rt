@@ -11,7 +11,7 @@ use ram_zones::Geometry;
 /// How many bytes the header of an image has.
 pub const HEADER_BYTES: usize = 16;
 
-/// The text at the front of a header.
+/// The text at the start of a header.
 const TEXT: &[u8; 8] = b"DVDRAM01";
 
 /// Where the number of zones, the scale and the number of primary spares stand, two bytes each.

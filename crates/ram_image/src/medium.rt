@@ -21,7 +21,7 @@ pub struct ImageMedium<I: Image> {
     uses: u64,
     cuts: u64,
     armed: Armed,
-    // Where the image tells its bytes, they are the image of a disc of this geometry.
+    // Where the bytes of the image are known, they are the image of a disc of this geometry.
     ghost disc: { ForSome (I.bytes image) (IsDiscImage geometry) } by { Prim.hlevel props },
 }
 
@@ -64,7 +64,7 @@ impl<I: Image> ImageMedium<I> {
         ensures image { result ≡ self.image }
         ensures count { I.faults result ≡ (world_of self).faults }
         ensures cells { MatchOption (I.bytes result)
-            ((world_of self).told ≡ false)
+            ((world_of self).known ≡ false)
             (IsImageOf (shape_of_medium self) (world_of self).cells) }
     {
         let ImageMedium {
@@ -211,7 +211,7 @@ impl<I: Image> ImageMedium<I> {
 impl<I: Image> Medium for ImageMedium<I> {
     ghost use Rattle.model_geometry.specs.Geometry.{total};
     ghost use Rattle.ram_image.specs.Medium.{shape_of_medium, world_of, machine_in, ImageReaches, ImageTakes};
-    ghost use Rattle.model_image.proofs.ToldCells.{shows_none_untold, length-cells_told};
+    ghost use Rattle.model_image.proofs.KnownCells.{shows_none_unknown, length-cells_known};
     ghost use Rattle.model_medium.proofs.Compose.{reach_none, reach_then, follows-reach};
 
     ghost world = { world_of };
@@ -250,8 +250,8 @@ impl<I: Image> Medium for ImageMedium<I> {
       none = λ medium. reach_none (machine_in medium) medium.armed.to_come;
       adds_up = λ a b c j k one two. reach_then (machine_in a) (machine_in b) (machine_in c) j k one two;
       follows = λ a b k reach. follows-reach (machine_in a) (machine_in b) k reach;
-      untold = λ medium. shows_none_untold (shape_of_medium medium) (I.bytes medium.image);
-      as_many = λ medium. length-cells_told (total (shape_of_medium medium)) (I.bytes medium.image);
+      unknown = λ medium. shows_none_unknown (shape_of_medium medium) (I.bytes medium.image);
+      as_many = λ medium. length-cells_known (total (shape_of_medium medium)) (I.bytes medium.image);
     } };
 }
 

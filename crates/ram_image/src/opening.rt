@@ -28,7 +28,7 @@ pub enum OpenFault {
     NoMemory,
 }
 
-/// What stands at the front of an image.
+/// What stands at the start of an image.
 enum HeaderFound {
     Bytes { len: u64, header: [u8; 16] },
     Short { len: u64 },

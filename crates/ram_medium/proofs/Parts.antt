@@ -4,7 +4,7 @@ use Rattle.std.proofs.Common.{sym, ap, ◌∙◌, inl, inr, arith}
 use Rattle.model_counts.specs.Counts.{counted}
 use Rattle.model_medium.specs.World.{World, HasFailed, FailsInRead, FailsInWrite}
 use Rattle.ram_medium.specs.Laws.{MediumLaws}
-use Rattle.model_stops.specs.Stops.{FailsInUse, Goes, Stops}
+use Rattle.model_stops.specs.Stops.{FailsInUse, Continues, Stops}
 use Rattle.model_stops.specs.declared.Stop.{Stop}
 use Rattle.model_stops.specs.declared.Stop.TheVariants as stops
 
@@ -22,17 +22,17 @@ use_failed old new block (inr write) = write.1.failed
 
 module _ {M : Type 0} (world : M → World) (block_count : M → ℕ) (reaches : M → M → ℕ → Type 0) (laws : MediumLaws world block_count reaches) where
   -- no part at all
-  pub goes_none : (m : M) → IsTrue (world m).power → Goes world reaches m m 0
-  goes_none m on = record { reach = laws.none m; is_on = on }
+  pub continues_none : (m : M) → IsTrue (world m).power → Continues world reaches m m 0
+  continues_none m on = record { reach = laws.none m; is_on = on }
 
-  pub goes_then : (a b c : M) (j k : ℕ) → Goes world reaches a b j → Goes world reaches b c k → Goes world reaches a c (j + k)
-  goes_then a b c j k one two = record { reach = laws.adds_up a b c j k one.reach two.reach; is_on = two.is_on }
+  pub continues_then : (a b c : M) (j k : ℕ) → Continues world reaches a b j → Continues world reaches b c k → Continues world reaches a c (j + k)
+  continues_then a b c j k one two = record { reach = laws.adds_up a b c j k one.reach two.reach; is_on = two.is_on }
 
   -- where the power is on afterwards it was on all the while, and no cut is counted
-  pub goes_quiet : (a b : M) (k : ℕ) → Goes world reaches a b k → IsTrue (world a).power × ((world b).cuts ≡ (world a).cuts)
-  goes_quiet a b k one = elim (laws.follows a b k one.reach).ends [
+  pub continues_quiet : (a b : M) (k : ℕ) → Continues world reaches a b k → IsTrue (world a).power × ((world b).cuts ≡ (world a).cuts)
+  continues_quiet a b k one = elim (laws.follows a b k one.reach).ends [
     | inl kept ↦ (sym kept.power_same ∙ one.is_on, kept.no_cut)
-    | inr fell ↦ absurd (fell.goes_off one.is_on)
+    | inr fell ↦ absurd (fell.turns_off one.is_on)
   ]
 
   -- a use that failed, with none before it
@@ -40,12 +40,12 @@ module _ {M : Type 0} (world : M → World) (block_count : M → ℕ) (reaches :
   stops_at_once a b block fails = record { mid = a; before = 0; few = omega arith; reach = laws.none a; block = block; fails = fails }
 
   -- a stop after a part that went to its end
-  pub stops_later : (a b c : M) (j most : ℕ) (why : Stop) → Goes world reaches a b j → Stops world reaches b c most why → Stops world reaches a c (j + most) why
+  pub stops_later : (a b c : M) (j most : ℕ) (why : Stop) → Continues world reaches a b j → Stops world reaches b c most why → Stops world reaches a c (j + most) why
   stops_later a b c j most stops.Cut one two = record {
     uses = j + two.uses;
     few = omega (arith, two.few);
     reach = laws.adds_up a b c j two.uses one.reach two.reach;
-    cut = record { goes_off = two.cut.goes_off; one_cut = two.cut.one_cut ∙ ap (λ n. counted n 1) (goes_quiet a b j one).1; no_fault = two.cut.no_fault ∙ (laws.follows a b j one.reach).lasts.no_fault };
+    cut = record { turns_off = two.cut.turns_off; one_cut = two.cut.one_cut ∙ ap (λ n. counted n 1) (continues_quiet a b j one).1; no_fault = two.cut.no_fault ∙ (laws.follows a b j one.reach).lasts.no_fault };
   }
   stops_later a b c j most stops.Off one two = absurd (two.was_off one.is_on)
   stops_later a b c j most stops.Fault one two = record {

@@ -18,9 +18,9 @@ with_dead block machine = record machine { world = record machine.world { cells 
 -- What the medium lies on failed while a block was made dead: it is counted, the power is off, the block's cell is as
 -- it was or dead, and nothing else changed. (This project's own.)
 pub record FailsInFail (old new : Machine) (block : ℕ) : Type 0 where
-  pub goes_off : ¬ IsTrue new.world.power
+  pub turns_off : ¬ IsTrue new.world.power
   pub fault : Rose old.world.faults new.world.faults
-  pub as_told : new.world.told ≡ old.world.told
+  pub as_known : new.world.known ≡ old.world.known
   pub uses_same : new.world.uses ≡ old.world.uses
   pub cuts_same : new.world.cuts ≡ old.world.cuts
   pub others : (other : ℕ) → other ≢ block → cell_at new.world.cells other ≡ cell_at old.world.cells other

@@ -14,7 +14,7 @@ use Rattle.ram_medium.specs.declared.memory.MemMedium.{MemMedium}
 
 -- what a medium in memory shows
 abbrev pub mem_world : MemMedium → World
-mem_world medium = record { told = true; cells = slot_cells medium.slots.items; power = medium.powered; uses = medium.uses; cuts = medium.cuts; faults = medium.faults }
+mem_world medium = record { known = true; cells = slot_cells medium.slots.items; power = medium.powered; uses = medium.uses; cuts = medium.cuts; faults = medium.faults }
 
 -- the same with what is armed on it
 abbrev pub mem_machine : MemMedium → Machine

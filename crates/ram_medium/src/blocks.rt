@@ -1,7 +1,7 @@
 //! The trait of any medium.
 
 ghost use Rattle.std.specs.Prelude.{◌≡◌, ℕ, ◌<◌, true, false};
-ghost use Rattle.model_medium.specs.World.{World, ReadRule, WriteRule, ReadGoes, WriteGoes};
+ghost use Rattle.model_medium.specs.World.{World, ReadRule, WriteRule, ReadContinues, WriteContinues};
 ghost use Rattle.model_medium.specs.Exact.{Event, Read, Write, PowerOn, PowerOff};
 ghost use Rattle.ram_medium.specs.Laws.{MediumLaws};
 
@@ -36,7 +36,7 @@ pub trait Medium {
     fn read(&mut self, block: u32, into: &mut Block) -> ReadEnd
         requires { block < block_count self.old }
         ensures rule { ReadRule (world self.old) (world self.new) block into.old into.new result }
-        ensures goes { ReadGoes (reaches self.old self.new) result }
+        ensures continues { ReadContinues (reaches self.old self.new) result }
         ensures event { takes self.old self.new (Read block into.old into.new result) }
         ensures as_many { block_count self.new ≡ block_count self.old };
 
@@ -45,7 +45,7 @@ pub trait Medium {
     fn write(&mut self, block: u32, from: &Block) -> WriteEnd
         requires { block < block_count self.old }
         ensures rule { WriteRule (world self.old) (world self.new) block from.now result }
-        ensures goes { WriteGoes (reaches self.old self.new) result }
+        ensures continues { WriteContinues (reaches self.old self.new) result }
         ensures event { takes self.old self.new (Write block from.now result) }
         ensures as_many { block_count self.new ≡ block_count self.old };
 

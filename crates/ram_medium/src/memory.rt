@@ -172,7 +172,7 @@ impl Medium for MemMedium {
       none = λ medium. reach_none (mem_machine medium) medium.armed.to_come;
       adds_up = λ a b c j k one two. reach_then (mem_machine a) (mem_machine b) (mem_machine c) j k one two;
       follows = λ a b k reach. follows-reach (mem_machine a) (mem_machine b) k reach;
-      untold = λ medium. tt;
+      unknown = λ medium. tt;
       as_many = λ medium. Prim.omega (arith, length-map medium.slots.items slot_cell, medium.slots.ok.0);
     } };
 }

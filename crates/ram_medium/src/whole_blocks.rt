@@ -3,7 +3,7 @@
 ghost use Rattle.std.specs.Prelude.{◌≡◌, ◌<◌, MatchResult};
 ghost use Rattle.model_medium.specs.World.{WritesCell};
 ghost use Rattle.model_medium.specs.Exact.{Read, Write};
-ghost use Rattle.model_stops.specs.Stops.{Goes, Stops};
+ghost use Rattle.model_stops.specs.Stops.{Continues, Stops};
 ghost use Rattle.ram_medium.specs.WholeBlocks.{StoppedRead, EndedRead, StoppedWrite, read_end, write_end};
 
 use crate::blocks::Medium;
@@ -17,8 +17,8 @@ pub fn read_whole<M: Medium>(medium: &mut M, block: u32, into: &mut Block) -> Re
     ensures rule { MatchResult result
         (EndedRead (M.world medium.old) (M.world medium.new) block into.old into.new)
         (StoppedRead (M.world medium.old) (M.world medium.new) block into.old into.new) }
-    ensures goes { MatchResult result
-        (λ whole. Goes M.world M.reaches medium.old medium.new 1)
+    ensures continues { MatchResult result
+        (λ whole. Continues M.world M.reaches medium.old medium.new 1)
         (Stops M.world M.reaches medium.old medium.new 1) }
     ensures event { M.takes medium.old medium.new (Read block into.old into.new (read_end result)) }
     ensures as_many { M.block_count medium.new ≡ M.block_count medium.old }
@@ -38,8 +38,8 @@ pub fn write_whole<M: Medium>(medium: &mut M, block: u32, from: &Block) -> Resul
     ensures rule { MatchResult result
         (λ done. WritesCell (M.world medium.old) (M.world medium.new) block from.now)
         (StoppedWrite (M.world medium.old) (M.world medium.new) block from.now) }
-    ensures goes { MatchResult result
-        (λ done. Goes M.world M.reaches medium.old medium.new 1)
+    ensures continues { MatchResult result
+        (λ done. Continues M.world M.reaches medium.old medium.new 1)
         (Stops M.world M.reaches medium.old medium.new 1) }
     ensures event { M.takes medium.old medium.new (Write block from.now (write_end result)) }
     ensures as_many { M.block_count medium.new ≡ M.block_count medium.old }

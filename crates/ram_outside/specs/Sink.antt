@@ -10,7 +10,7 @@ pub record Takes (before after : Option (List ℕ)) (faults faults' : ℕ) (piec
   pub some : 0 < n
   pub within : n ≤ length piece
   pub written : Appends before after (take n piece)
-  pub told : is_some after ≡ is_some before
+  pub known : is_some after ≡ is_some before
   pub count : faults' ≡ faults
 
 -- the sink failed and counted it, and nothing was written (this project's own)

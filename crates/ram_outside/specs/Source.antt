@@ -10,7 +10,7 @@ pub record GivesNext (before after : Option (List ℕ)) (faults faults' : ℕ) (
   pub some : 0 < n
   pub within : n ≤ length into
   pub next : Consumes before after (take n into)
-  pub told : is_some after ≡ is_some before
+  pub known : is_some after ≡ is_some before
   pub count : faults' ≡ faults
 
 -- nothing was left, and nothing changed, the count neither (this project's own)

@@ -118,7 +118,7 @@ impl<R: Files> FileOpener<R> {
 impl<R: Files> Opener for FileOpener<R> {
     type Image = FileImage<R::File>;
 
-    ghost tells = { false };
+    ghost returned_known = { false };
 
     ghost next = { λ _. None };
 

@@ -17,7 +17,7 @@ pub trait Opener {
     type Image: Image;
 
     /// Whether of openers of this kind it is known what was handed back.
-    ghost tells: { Bool };
+    ghost returned_known: { Bool };
 
     /// The image that the next `open` gives, where it is known.
     ghost next: { Self → Option Self.Image };
@@ -41,7 +41,7 @@ pub trait Opener {
     /// Takes an image back, and adds its failures to the opener's; they alone are counted. What the next `open`
     /// gives stays.
     fn close(&mut self, image: Self::Image)
-        ensures { CloseRule tells Self.Image.faults image
+        ensures { CloseRule returned_known Self.Image.faults image
             (opener_view (next self.old) (returned self.old) (asked self.old) (faults self.old))
             (opener_view (next self.new) (returned self.new) (asked self.new) (faults self.new)) };
 }

@@ -51,14 +51,14 @@ command_answers cdb answers.Off same = cc
 command_answers cdb answers.Fault same = cc
 command_answers cdb answers.NoMemory same = cc
 
-pub told_apart : (reply : Reply) → lacks ≡ Ok reply → ⊥
-told_apart reply same = cc
+pub distinct : (reply : Reply) → lacks ≡ Ok reply → ⊥
+distinct reply same = cc
 
 rule_answers : (old new : Shown) (before after : Standing → Type 0) (total : ℕ) (line : DiscLine) (payload data_in : List ℕ) → DiscRule old new before after total line payload lacks data_in → ⊥
 rule_answers old new before after total lines.Power payload data_in rule = power_answers rule.0.out rule.0.outcome_is
 rule_answers old new before after total (lines.Fail block) payload data_in rule = fail_answers rule.0.end rule.0.outcome_is
 rule_answers old new before after total (lines.Wear block n) payload data_in rule = wear_answers rule.0.end rule.0.outcome_is
-rule_answers old new before after total (lines.Cut n fate) payload data_in rule = told_apart (replies.Event events.Armed) rule.0.outcome_is
+rule_answers old new before after total (lines.Cut n fate) payload data_in rule = distinct (replies.Event events.Armed) rule.0.outcome_is
 rule_answers old new before after total (lines.Command cdb) payload data_in rule = command_answers cdb rule.answer rule.outcome_is
 
 on_disc_answers : (s : Loaded) (line : DiscLine) (payload data_in : List ℕ) (t : State) → OnDisc (Disc s) line payload lacks data_in t → ⊥
@@ -67,13 +67,13 @@ on_disc_answers s line payload data_in (Disc t) on = rule_answers s.shown t.show
 
 -- no line lacks a disc where there is one
 pub disc_answers : (s : Loaded) (work : Work) (payload data_in : List ℕ) (t : State) → Step (Disc s) work payload (Err stopped.NotADisc) data_in t → ⊥
-disc_answers s works.Nothing payload data_in t step = told_apart replies.Nothing step.0
+disc_answers s works.Nothing payload data_in t step = distinct replies.Nothing step.0
 disc_answers s (works.Press zones scale psa) payload data_in t step = step.0
 disc_answers s (works.OnDisc line) payload data_in t step = on_disc_answers s line payload data_in t step
 
 -- a line that lacks a disc leaves all as it is
 pub lacks_same : (s : State) (work : Work) (payload data_in : List ℕ) (t : State) → Step s work payload (Err stopped.NotADisc) data_in t → t ≡ s
 lacks_same (Disc s) work payload data_in t step = absurd (disc_answers s work payload data_in t step)
-lacks_same (Unopened bytes) works.Nothing payload data_in t step = absurd (told_apart replies.Nothing step.0)
+lacks_same (Unopened bytes) works.Nothing payload data_in t step = absurd (distinct replies.Nothing step.0)
 lacks_same (Unopened bytes) (works.Press zones scale psa) payload data_in t step = absurd step.0
 lacks_same (Unopened bytes) (works.OnDisc line) payload data_in t step = step.2

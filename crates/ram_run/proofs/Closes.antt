@@ -16,14 +16,14 @@ pub leaves_there : (first : Beginning) (left written image image' : Option (List
 leaves_there first left written image image' status same leaves = subst (λ o. StandsWith first (aftermath left written o) status) (sym same) leaves
 
 -- what is known, of the image that was opened
-pub begins_known : {I : Type 0} (bytes_of : I → Option (List ℕ)) (first : Beginning) (before : Surroundings I) (tells : Bool) (image : I) → IsBeginning bytes_of first before tells → IfSome before.opener.next (λ known. image ≡ known)
+pub begins_known : {I : Type 0} (bytes_of : I → Option (List ℕ)) (first : Beginning) (before : Surroundings I) (returned_known : Bool) (image : I) → IsBeginning bytes_of first before returned_known → IfSome before.opener.next (λ known. image ≡ known)
     → Begins first before.left before.written (bytes_of image)
-begins_known bytes_of first before tells image known is =
+begins_known bytes_of first before returned_known image known is =
     subst (λ i. Begins first before.left before.written (bytes_of i)) (sym (subst (λ o. IfSome o (λ due. image ≡ due)) known.next_is is)) known.begins
 
 -- the image that was handed back
-pub handed_back : {I : Type 0} (bytes_of : I → Option (List ℕ)) (tells : Bool) (image : I) (returned : Option I) → tells ≡ true → OnTrue tells (returned ≡ Some image) → bytes_returned bytes_of returned ≡ bytes_of image
-handed_back bytes_of tells image returned is back = ap (bytes_returned bytes_of) (subst (λ b. OnTrue b (returned ≡ Some image)) is back)
+pub handed_back : {I : Type 0} (bytes_of : I → Option (List ℕ)) (returned_known : Bool) (image : I) (returned : Option I) → returned_known ≡ true → OnTrue returned_known (returned ≡ Some image) → bytes_returned bytes_of returned ≡ bytes_of image
+handed_back bytes_of returned_known image returned is back = ap (bytes_returned bytes_of) (subst (λ b. OnTrue b (returned ≡ Some image)) is back)
 
 -- Closing adds the image's failures to the opener's, where the image had not failed when it was opened.
 module _ (source source' sink sink' image image' opener opener' : ℕ) (fresh : image ≡ 0) (closed : opener' ≡ counted opener image') where

@@ -28,7 +28,7 @@ use Rattle.ram_run.specs.Run.{AnsweredLine, IsStep, Run, Reaches, script_text}
 use Rattle.ram_run.specs.RunCounts.{Counts}
 use Rattle.ram_run.specs.Progress.{Beginning, SoFar, IsLast}
 use Rattle.ram_run.specs.Endings.{IsUnopened, IsOfScript, Aftermath, StandsWith, StatusCounts}
-use Rattle.ram_run.proofs.Answering.{told_apart, disc_answers}
+use Rattle.ram_run.proofs.Answering.{distinct, disc_answers}
 use Rattle.ram_run.specs.Completes.{BeginsLine, ReadsOn, IsInLanguage, lines_text, AreSilent, IsLawfulPress, BeginsWithPress, BeginsWithDisc, NoneRose, IsComplete}
 
 -- a line feed within the front of a list
@@ -60,17 +60,17 @@ begins_line [] = inl refl
 begins_line (event ∷ events) = inr (script_text events ++ event.raw, sym (append_assoc (script_text events) event.raw (line_feed ∷ [])))
 
 -- what follows the lines that were answered goes on
-goes_on : (script rest : List ℕ) (events : List AnsweredLine) → IsInLanguage script → Reaches script events rest → ReadsOn rest
-goes_on script rest events language (inl whole) = language.lines (script_text events) rest whole (begins_line events)
-goes_on script rest events language (inr ended) = record { more = inl ended.0; reads = λ raw next. absurd (nothing_follows rest raw ended.0 next) }
+use_continues : (script rest : List ℕ) (events : List AnsweredLine) → IsInLanguage script → Reaches script events rest → ReadsOn rest
+use_continues script rest events language (inl whole) = language.lines (script_text events) rest whole (begins_line events)
+use_continues script rest events language (inr ended) = record { more = inl ended.0; reads = λ raw next. absurd (nothing_follows rest raw ended.0 next) }
 
 -- in a script in the language no last line tells what is wrong with it
 well_spelled : (first : Beginning) (far : SoFar first) (last : LastLine) → IsInLanguage first.script → IsOfScript last → IsLast far last → ⊥
 well_spelled first far (lasts.End answered) language of_script is = of_script
 well_spelled first far (lasts.NotInLanguage line) language of_script is =
-    let read = (goes_on first.script far.rest far.events language far.lines).reads is.0.raw is.0.comes.next in is.0.nothing read.0 read.1 read.2
+    let read = (use_continues first.script far.rest far.events language far.lines).reads is.0.raw is.0.comes.next in is.0.nothing read.0 read.1 read.2
 well_spelled first far (lasts.LineTooLong line) language of_script is =
-    within_limit far.rest (goes_on first.script far.rest far.events language far.lines).more is.0.longer is.0.open_line
+    within_limit far.rest (use_continues first.script far.rest far.events language far.lines).more is.0.longer is.0.open_line
 well_spelled first far lasts.ScriptTooLong language of_script is = absurd (omega (arith, language.short, is.longer))
 well_spelled first far (lasts.NotADisc line) language of_script is = of_script
 
@@ -168,12 +168,12 @@ module _ (bytes script : List ℕ) (press : BeginsWithPress script) where
       press (raws_of events) rest raw line payload silent (whole ∙ ap (λ text. text ++ rest) (same_text events)) next reads
 
   -- one event more
-  goes_silent : (event : AnsweredLine) (events : List AnsweredLine) (rest : List ℕ) (before now : State) → IsStep before event now → script ≡ script_text events ++ ((event.raw ++ line_feed ∷ []) ++ rest)
+  continues_silent : (event : AnsweredLine) (events : List AnsweredLine) (rest : List ℕ) (before now : State) → IsStep before event now → script ≡ script_text events ++ ((event.raw ++ line_feed ∷ []) ++ rest)
       → ((disc : Loaded) × (before ≡ Disc disc)) ⊎ ((before ≡ Unopened bytes) × AreSilent (raws_of events))
       → ((disc : Loaded) × (now ≡ Disc disc)) ⊎ ((now ≡ Unopened bytes) × AreSilent (raws_of (event ∷ events)))
-  goes_silent event events rest before now step whole (inl disc) =
+  continues_silent event events rest before now step whole (inl disc) =
       inl (stays_disc disc.0 (work_of event.line) event.payload event.reply event.data_in now (subst (λ x. Step x (work_of event.line) event.payload (Ok event.reply) event.data_in now) disc.1 step.step))
-  goes_silent event events rest before now step whole (inr silent) =
+  continues_silent event events rest before now step whole (inr silent) =
       elim (
       first_leaves event.line event.raw event.payload event.reply event.data_in now
       (subst (λ x. Step x (work_of event.line) event.payload (Ok event.reply) event.data_in now) silent.0 step.step) step.reads
@@ -190,11 +190,11 @@ module _ (bytes script : List ℕ) (press : BeginsWithPress script) where
   silent_so_far [] rest now run whole = inr (run, tt)
   silent_so_far (event ∷ events) rest now run whole =
       let parts : script ≡ script_text events ++ ((event.raw ++ line_feed ∷ []) ++ rest) = whole ∙ append_assoc (script_text events) (event.raw ++ line_feed ∷ []) rest in
-      goes_silent event events rest run.0 now run.2 parts (silent_so_far events ((event.raw ++ line_feed ∷ []) ++ rest) run.0 run.1 parts)
+      continues_silent event events rest run.0 now run.2 parts (silent_so_far events ((event.raw ++ line_feed ∷ []) ++ rest) run.0 run.1 parts)
 
   -- a line that says nothing, or is that press, lacks no disc
   first_answers : (line : Line) (payload data_in : List ℕ) (t : State) → Step (Unopened bytes) (work_of line) payload (Err stopped.NotADisc) data_in t → (line ≡ lines.Empty) ⊎ IsLawfulPress line → ⊥
-  first_answers lines.Empty payload data_in t step is = told_apart replies.Nothing step.0
+  first_answers lines.Empty payload data_in t step is = distinct replies.Nothing step.0
   first_answers (lines.Press zones scale psa) payload data_in t step is = step.0
   first_answers lines.Power payload data_in t step is = needs_none lines.Power _ refl is
   first_answers (lines.Fail block) payload data_in t step is = needs_none (lines.Fail block) _ refl is

@@ -20,17 +20,17 @@ use Rattle.ram_run.specs.Inserted.{LeavesImage}
 use Rattle.ram_run.specs.Run.{report_text}
 use Rattle.ram_run.specs.Starts.{StandsFirst}
 use Rattle.ram_run.specs.RunState.{IsFresh}
-use Rattle.ram_run.specs.Progress.{Beginning, SoFar, View, Between, IsReported, IsReportedInPart, ComesOut, IsLast, Ending, last_line, IsLastIfAny, EndsBetween, EndsInLine, Ends, view_of}
+use Rattle.ram_run.specs.Progress.{Beginning, SoFar, View, Between, IsReported, IsReportedInPart, ComesOut, IsLast, Ending, last_line, IsLastIfAny, EndsBetween, EndsInLine, Ends, run_view}
 use Rattle.ram_run.specs.Endings.{status_of, whole_text, text_if_any, last_of, LastLineRule, IsEnded, ComesToThis, IsStoppedInLine, IsWrittenInPart, IsReportCutOff, StandsWith, aftermath, sink_view, EndsAtSink, EndsWhole, FinishRule}
 
 -- a list that is told with more behind it
-known_front : (written : Option (List ℕ)) (more whole : List ℕ) → append_known written more ≡ Some whole → (bytes : List ℕ) × (written ≡ Some bytes) × (bytes ++ more ≡ whole)
-known_front None more whole e = absurd (let clash : Some whole ≡ None = sym e in cc)
-known_front (Some bytes) more whole e = (bytes, refl, (let same : Some (bytes ++ more) ≡ Some whole = e in cc))
+known_prefix : (written : Option (List ℕ)) (more whole : List ℕ) → append_known written more ≡ Some whole → (bytes : List ℕ) × (written ≡ Some bytes) × (bytes ++ more ≡ whole)
+known_prefix None more whole e = absurd (let clash : Some whole ≡ None = sym e in cc)
+known_prefix (Some bytes) more whole e = (bytes, refl, (let same : Some (bytes ++ more) ≡ Some whole = e in cc))
 
 -- what is due was told, and more behind it
-told_with : (due : Option (List ℕ)) (report answers last : List ℕ) → due ≡ Some (report ++ answers) → append_known due last ≡ Some (report ++ (answers ++ last))
-told_with due report answers last told = ap (λ o. append_known o last) told ∙ ap Some (append_assoc report answers last)
+with_where_known : (due : Option (List ℕ)) (report answers last : List ℕ) → due ≡ Some (report ++ answers) → append_known due last ≡ Some (report ++ (answers ++ last))
+with_where_known due report answers last known = ap (λ o. append_known o last) known ∙ ap Some (append_assoc report answers last)
 
 -- nothing more is due
 append_known-nil : (o : Option (List ℕ)) → append_known o [] ≡ o
@@ -40,23 +40,23 @@ append_known-nil (Some bytes) = ap Some (append-nil bytes)
 module _ (first : Beginning) (far : SoFar first) (due written : Option (List ℕ)) where
   -- the answers alone were written
   written_as_due : IsReported far due → written ≡ append_known due [] → IsReported far written
-  written_as_due told whole = whole ∙ append_known-nil due ∙ told
+  written_as_due known whole = whole ∙ append_known-nil due ∙ known
 
-  -- a front of the answers and a last line was written
-  front_with_last : (more : List ℕ) (last : LastLine) → IsReported far due → IsLast far last → append_known written more ≡ append_known due (last_text last) → IsWrittenInPart far written
-  front_with_last more last told is front =
-      let found = known_front written more (whole_text far last) (front ∙ told_with due first.report (report_text far.events) (last_text last) told) in
+  -- a prefix of the answers and a last line was written
+  prefix_with_last : (more : List ℕ) (last : LastLine) → IsReported far due → IsLast far last → append_known written more ≡ append_known due (last_text last) → IsWrittenInPart far written
+  prefix_with_last more last known is prefix =
+      let found = known_prefix written more (whole_text far last) (prefix ∙ with_where_known due first.report (report_text far.events) (last_text last) known) in
       record { bytes = found.0; more = more; written_is = found.1; prefix = inr (last, is, found.2) }
 
-  -- a front of the answers was written
-  front_of_due : (more : List ℕ) → IsReported far due → append_known written more ≡ append_known due [] → IsWrittenInPart far written
-  front_of_due more told front =
-      let found = known_front written more (first.report ++ report_text far.events) (front ∙ append_known-nil due ∙ told) in record { bytes = found.0; more = more; written_is = found.1; prefix = inl found.2 }
+  -- a prefix of the answers was written
+  prefix_of_due : (more : List ℕ) → IsReported far due → append_known written more ≡ append_known due [] → IsWrittenInPart far written
+  prefix_of_due more known prefix =
+      let found = known_prefix written more (first.report ++ report_text far.events) (prefix ∙ append_known-nil due ∙ known) in record { bytes = found.0; more = more; written_is = found.1; prefix = inl found.2 }
 
-  -- a front of a front was written
-  front_of_front : (more : List ℕ) → IsReportedInPart far due → append_known written more ≡ append_known due [] → IsWrittenInPart far written
-  front_of_front more part front =
-      let found = known_front written more part.written (front ∙ append_known-nil due ∙ part.due_is) in
+  -- a prefix of a front was written
+  prefix_of_prefix : (more : List ℕ) → IsReportedInPart far due → append_known written more ≡ append_known due [] → IsWrittenInPart far written
+  prefix_of_prefix more part prefix =
+      let found = known_prefix written more part.written (prefix ∙ append_known-nil due ∙ part.due_is) in
       record {
         bytes = found.0;
         more = more ++ part.more;
@@ -64,10 +64,10 @@ module _ (first : Beginning) (far : SoFar first) (due written : Option (List ℕ
         prefix = inl (sym (append_assoc found.0 more part.more) ∙ ap (λ l. l ++ part.more) found.2 ∙ part.prefix);
       }
 
-  -- a front of the answers and of a last line, if there is one
-  front_with_any : (more : List ℕ) (last : Option LastLine) → IsReported far due → IsLastIfAny far last → append_known written more ≡ append_known due (text_if_any last) → IsWrittenInPart far written
-  front_with_any more None told is front = front_of_due more told front
-  front_with_any more (Some last) told is front = front_with_last more last told is front
+  -- a prefix of the answers and of a last line, if there is one
+  prefix_with_any : (more : List ℕ) (last : Option LastLine) → IsReported far due → IsLastIfAny far last → append_known written more ≡ append_known due (text_if_any last) → IsWrittenInPart far written
+  prefix_with_any more None known is prefix = prefix_of_due more known prefix
+  prefix_with_any more (Some last) known is prefix = prefix_with_last more last known is prefix
 
 -- a status that is not the sink's is told of another ending
 pub not_sink : (ending : Ending) (status : Status) → status ≡ status_of ending → ending ≡ Err stopped.SinkFault → (statuses.SinkFault ≡ status → ⊥) → ⊥
@@ -75,7 +75,7 @@ not_sink ending status is sink other = other (sym (is ∙ ap status_of sink))
 
 -- the lines begin with nothing read and nothing gathered
 pub begins : (first : Beginning) (stands : State → Type 0) (left written : Option (List ℕ)) (state : RunState) → IsFresh state → left ≡ Some first.script → written ≡ Some first.report
-    → StandsFirst first.image stands → Between first stands (view_of left written state)
+    → StandsFirst first.image stands → Between first stands (run_view left written state)
 begins first stands left written state fresh left_is written_is start = record {
   far = record { start = start.state; events = []; now = start.state; rest = first.script; starts = start.first; run = refl; lines = inl refl; within = omega arith };
   stands_now = start.stands_first;
@@ -133,33 +133,33 @@ module _ (first : Beginning) (stands : State → Type 0) (image : Option (List �
   module _ (view : View) (written : Option (List ℕ)) where
     -- the sink failed in the end, after lines that ended between two of them
     sink_between : (ending : Ending) (more : List ℕ) → EndsBetween first stands view ending → append_known written more ≡ append_known view.due (last_of view.tally ending) → IsReportCutOff first (aftermath view.left written image)
-    sink_between ending more e front = record {
+    sink_between ending more e prefix = record {
       far = e.far;
-      written_is = front_with_any first e.far view.due written more (last_line view.tally ending) e.stopped_at.due_is e.stopped_at.last_is front;
+      written_is = prefix_with_any first e.far view.due written more (last_line view.tally ending) e.stopped_at.due_is e.stopped_at.last_is prefix;
       image_is = inl (leaves e.far.now e.stands_now);
     }
 
     -- the sink failed in the end, whatever the lines ended by
     at_sink : (ending : Ending) (more : List ℕ) → Ends first stands view ending → append_known written more ≡ append_known view.due (last_of view.tally ending) → IsReportCutOff first (aftermath view.left written image)
-    at_sink (Ok done) more e front = sink_between (Ok done) more e front
-    at_sink (Err stopped.NotInLanguage) more e front = sink_between (Err stopped.NotInLanguage) more e front
-    at_sink (Err stopped.LineTooLong) more e front = sink_between (Err stopped.LineTooLong) more e front
-    at_sink (Err stopped.ScriptTooLong) more e front = sink_between (Err stopped.ScriptTooLong) more e front
-    at_sink (Err stopped.NotADisc) more e front = sink_between (Err stopped.NotADisc) more e front
-    at_sink (Err stopped.SourceFault) more e front = sink_between (Err stopped.SourceFault) more e front
-    at_sink (Err stopped.SinkFault) more e front =
-        record { far = e.far; written_is = front_of_front first e.far view.due written more e.part front; image_is = inl (leaves e.far.now e.stands_now) }
-    at_sink (Err stopped.ImageFault) more e front =
-        record { far = e.far; written_is = front_of_due first e.far view.due written more e.due_is front; image_is = inr (inl (comes_to e.far (Err stopped.ImageFault) e.line)) }
-    at_sink (Err stopped.NoMemory) more e front =
-        record { far = e.far; written_is = front_of_due first e.far view.due written more e.due_is front; image_is = inr (inr (comes_to e.far (Err stopped.NoMemory) e.line)) }
+    at_sink (Ok done) more e prefix = sink_between (Ok done) more e prefix
+    at_sink (Err stopped.NotInLanguage) more e prefix = sink_between (Err stopped.NotInLanguage) more e prefix
+    at_sink (Err stopped.LineTooLong) more e prefix = sink_between (Err stopped.LineTooLong) more e prefix
+    at_sink (Err stopped.ScriptTooLong) more e prefix = sink_between (Err stopped.ScriptTooLong) more e prefix
+    at_sink (Err stopped.NotADisc) more e prefix = sink_between (Err stopped.NotADisc) more e prefix
+    at_sink (Err stopped.SourceFault) more e prefix = sink_between (Err stopped.SourceFault) more e prefix
+    at_sink (Err stopped.SinkFault) more e prefix =
+        record { far = e.far; written_is = prefix_of_prefix first e.far view.due written more e.part prefix; image_is = inl (leaves e.far.now e.stands_now) }
+    at_sink (Err stopped.ImageFault) more e prefix =
+        record { far = e.far; written_is = prefix_of_due first e.far view.due written more e.due_is prefix; image_is = inr (inl (comes_to e.far (Err stopped.ImageFault) e.line)) }
+    at_sink (Err stopped.NoMemory) more e prefix =
+        record { far = e.far; written_is = prefix_of_due first e.far view.due written more e.due_is prefix; image_is = inr (inr (comes_to e.far (Err stopped.NoMemory) e.line)) }
 
     -- all was written, and there is a last line
     ended : (last : LastLine) (far : SoFar first) → stands far.now → IsReported far view.due → IsLast far last → written ≡ append_known view.due (last_text last) → IsEnded first (aftermath view.left written image) last
     ended last far now due_is last_is whole = record {
       far = far;
       last_is = last_is;
-      written_is = whole ∙ told_with view.due first.report (report_text far.events) (last_text last) due_is;
+      written_is = whole ∙ with_where_known view.due first.report (report_text far.events) (last_text last) due_is;
       image_is = leaves far.now now;
     }
 

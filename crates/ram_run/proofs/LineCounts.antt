@@ -51,26 +51,26 @@ module _ (old new : Shown) where
   same_counts same = ap (λ (x : Shown). x.medium.world.faults) same
 
   read_counts : (cdb : List ℕ) (lba n : ℕ) (out : ReadOut) → ReadCause old new lba n out → LineCount old.medium.world.faults new.medium.world.faults (command_outcome cdb (read_answer out))
-  read_counts cdb lba n reads.Good p = p.goes.reach.lasts.no_fault
+  read_counts cdb lba n reads.Good p = p.continues.reach.lasts.no_fault
   read_counts cdb lba n reads.NotFormatted p = same_counts p.1
-  read_counts cdb lba n (reads.Range told) p = same_counts p.1
-  read_counts cdb lba n (reads.Unread named block) p = p.1.goes.reach.lasts.no_fault
+  read_counts cdb lba n (reads.Range known) p = same_counts p.1
+  read_counts cdb lba n (reads.Unread named block) p = p.1.continues.reach.lasts.no_fault
   read_counts cdb lba n reads.Cut p = cut_counts _ p.1
   read_counts cdb lba n reads.Off p = same_counts p.1
   read_counts cdb lba n reads.Fault p = fault_counts _ p.1
 
   write_counts : (cdb : List ℕ) (lba n : ℕ) (out : WriteOut) → WriteCause old new lba n out → LineCount old.medium.world.faults new.medium.world.faults (command_outcome cdb (write_answer out))
-  write_counts cdb lba n writes.Good p = p.goes.reach.lasts.no_fault
+  write_counts cdb lba n writes.Good p = p.continues.reach.lasts.no_fault
   write_counts cdb lba n writes.NotFormatted p = same_counts p.1
-  write_counts cdb lba n (writes.Range told) p = same_counts p.1
-  write_counts cdb lba n (writes.Unread named block) p = p.1.goes.reach.lasts.no_fault
-  write_counts cdb lba n (writes.NoSpare named) p = p.1.goes.reach.lasts.no_fault
+  write_counts cdb lba n (writes.Range known) p = same_counts p.1
+  write_counts cdb lba n (writes.Unread named block) p = p.1.continues.reach.lasts.no_fault
+  write_counts cdb lba n (writes.NoSpare named) p = p.1.continues.reach.lasts.no_fault
   write_counts cdb lba n writes.Cut p = cut_counts _ p.1
   write_counts cdb lba n writes.Off p = same_counts p.1
   write_counts cdb lba n writes.Fault p = fault_counts _ p.1
 
   power_counts : (out : PowerOut) → PowerCause old new out → LineCount old.medium.world.faults new.medium.world.faults (power_outcome out)
-  power_counts (powers.Ready told) p = p.0.reach.lasts.no_fault
+  power_counts (powers.Ready known) p = p.0.reach.lasts.no_fault
   power_counts powers.NotFormatted p = p.0.reach.lasts.no_fault
   power_counts powers.Cut p = p.stops.reach.lasts.no_fault
   power_counts powers.Fault p =

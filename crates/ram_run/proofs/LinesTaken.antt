@@ -19,7 +19,7 @@ record Follows (left' : Option (List ℕ)) (taken taken' : ℕ) (rest raw : List
   pub taken_is : taken' + length next.after ≡ taken + length rest
 
 follows : (left' : Option (List ℕ)) (taken taken' : ℕ) (rest raw : List ℕ) (f f' : ℕ) → GivesLine (Some rest) left' taken taken' raw f f' → Follows left' taken taken' rest raw
-follows None taken taken' rest raw f f' gives = absurd (clash gives.told)
+follows None taken taken' rest raw f f' gives = absurd (clash gives.known)
   where
     clash : is_some {T = List ℕ} None ≡ is_some (Some rest) → ⊥
     clash e = cc

@@ -4,11 +4,11 @@ use Rattle.std.proofs.Common.{arith, refl, sym, ap, ◌∙◌, inl, inr, subst, 
 use Rattle.std.proofs.lemmas.Bool.{cases_lt, false≢true}
 use Rattle.std.proofs.lemmas.List.{length-take-le, get_or_past}
 use Rattle.std.proofs.lemmas.List.FromFn.{length-map-range_with_len}
-use Rattle.model_bytes.specs.Told.{WhereTold}
+use Rattle.model_bytes.specs.Known.{WhereKnown}
 use Rattle.model_geometry.specs.Geometry.{Shape, IsLawful, total}
 use Rattle.model_medium.specs.Cells.{Blank, Good, Torn, Dead, cell_at}
 use Rattle.model_medium.specs.Machine.{Machine}
-use Rattle.model_image.specs.Cells.{image_len, state_place, data_place, data_in, cell_in, cells_of, cells_told}
+use Rattle.model_image.specs.Cells.{image_len, state_place, data_place, data_in, cell_in, cells_of, cells_known}
 use Rattle.model_image.specs.Image.{HasHeader, IsDiscImage, IsImageOf, IsStoppedPress, PressesImage, blank_cells}
 use Rattle.model_image.proofs.Headers.{one_header}
 use Rattle.model_image.proofs.Writes.{cell_at-cells_of}
@@ -62,16 +62,16 @@ whole_cells n bytes long block held good = elim (cases_lt block n) [ inl inside 
 
 module _ {I : Type 0} {d : Images I} (image : I) (medium : ImageMedium I d) (geometry : Shape) (opened : IsOpened image medium geometry) (shape : Shape) (shown : Shown) (stands : Standing → Type 0)
     (made : IsMade geometry (machine_in medium) shape shown stands) (homes_are : shown.homes ≡ plain_homes shape) (agrees : (s : Standing) → stands s → IsShown shown s) where
-  module _ (bytes : List ℕ) (told : d.bytes image ≡ Some bytes) where
+  module _ (bytes : List ℕ) (known : d.bytes image ≡ Some bytes) where
     disc_there : IsDiscImage geometry bytes
-    disc_there = subst (λ o. IfSome o (IsDiscImage geometry)) told opened.disc
+    disc_there = subst (λ o. IfSome o (IsDiscImage geometry)) known opened.disc
 
     same_cells : (world_of medium).cells ≡ cells_of (total geometry) bytes
-    same_cells = opened.cells_are ∙ ap (cells_told (total geometry)) told
+    same_cells = opened.cells_are ∙ ap (cells_known (total geometry)) known
 
     start : IsStart (world_of medium)
     start = record {
-      told = opened.as_told ∙ ap is_some told;
+      known = opened.as_known ∙ ap is_some known;
       whole = λ block held good. whole_cells (total geometry) bytes disc_there.as_long block held (ap (λ cells. cell_at cells block) (sym same_cells) ∙ good);
       off = λ on. false≢true (sym opened.off ∙ on);
     }
@@ -85,7 +85,7 @@ module _ {I : Type 0} {d : Images I} (image : I) (medium : ImageMedium I d) (geo
       agrees = agrees (Off (first_disc (plain_homes geometry) (world_of medium).cells ∷ [])) (made.starts start);
     }
 
-    -- an image that tells its bytes was opened
+    -- an image whose bytes are known was opened
     opened_by : IsOpenedBy bytes shape shown stands
     opened_by = record {
       state = state;
@@ -104,12 +104,12 @@ module _ {I : Type 0} {d : Images I} (image : I) (medium : ImageMedium I d) (geo
       is_in = record { shape_is = made.shape_is; shown_is = refl; standing_is = made.starts start };
     }
 
-  -- where the image tells its bytes, the drive stands for something
-  pub opens_for_some : shown.medium.world.told ≡ true → ¬ ((s : Standing) → ¬ stands s)
-  opens_for_some told none = by_bytes (d.bytes image) refl
+  -- where the bytes of the image are known, the drive stands for something
+  pub opens_for_some : shown.medium.world.known ≡ true → ¬ ((s : Standing) → ¬ stands s)
+  opens_for_some known none = by_bytes (d.bytes image) refl
     where
       by_bytes : (o : Option (List ℕ)) → d.bytes image ≡ o → ⊥
-      by_bytes None e = false≢true (sym (opened.as_told ∙ ap is_some e) ∙ sym (ap (λ (m : Machine). m.world.told) made.medium_is) ∙ told)
+      by_bytes None e = false≢true (sym (opened.as_known ∙ ap is_some e) ∙ sym (ap (λ (m : Machine). m.world.known) made.medium_is) ∙ known)
       by_bytes (Some bytes) e = none (Off (first_disc (plain_homes geometry) (world_of medium).cells ∷ [])) (made.starts (start bytes e))
 
   -- the same, and nothing failed
@@ -117,22 +117,22 @@ module _ {I : Type 0} {d : Images I} (image : I) (medium : ImageMedium I d) (geo
   opens = record { opened = opened_by; count = ap (λ (m : Machine). m.world.faults) made.medium_is ∙ opened.count }
 
 -- an image that was left and then pressed tells the bytes of a new disc
-pressed_bytes : (s : State) (shape : Shape) (before after : Option (List ℕ)) → LeavesImage s before → WhereTold before after (PressesImage shape) → (bytes : List ℕ) × (after ≡ Some bytes) × IsImageOf shape (blank_cells shape) bytes
+pressed_bytes : (s : State) (shape : Shape) (before after : Option (List ℕ)) → LeavesImage s before → WhereKnown before after (PressesImage shape) → (bytes : List ℕ) × (after ≡ Some bytes) × IsImageOf shape (blank_cells shape) bytes
 pressed_bytes s shape None after left pressed = absurd left
 pressed_bytes s shape (Some before) None left pressed = absurd pressed
 pressed_bytes s shape (Some before) (Some after) left pressed = (after, refl, pressed.image)
 
 module _ {D I : Type 0} (drives : Drives D) (images : Images I) (s : State) (shape : Shape) (lawful : IsLawful shape) where
   -- the image stopped a press
-  pub press_stopped : (before : Option (List ℕ)) (image : I) → LeavesImage s before → WhereTold before (images.bytes image) IsStoppedPress → IsPressAnswered s shape (Stands drives images (inserts.Image image)) (Err whys.ImageFault)
+  pub press_stopped : (before : Option (List ℕ)) (image : I) → LeavesImage s before → WhereKnown before (images.bytes image) IsStoppedPress → IsPressAnswered s shape (Stands drives images (inserts.Image image)) (Err whys.ImageFault)
   press_stopped before image left stopped = by_bytes before (images.bytes image) left stopped refl
     where
-      by_bytes : (b a : Option (List ℕ)) → LeavesImage s b → WhereTold b a IsStoppedPress → images.bytes image ≡ a → IsPressAnswered s shape (Stands drives images (inserts.Image image)) (Err whys.ImageFault)
+      by_bytes : (b a : Option (List ℕ)) → LeavesImage s b → WhereKnown b a IsStoppedPress → images.bytes image ≡ a → IsPressAnswered s shape (Stands drives images (inserts.Image image)) (Err whys.ImageFault)
       by_bytes None a l w e = absurd l
       by_bytes (Some held) None l w e = absurd w
       by_bytes (Some held) (Some now) l w e = record { state = Unopened now; step = (lawful, inl (held, l, w)); stands = e }
 
-  module _ (before : Option (List ℕ)) (image : I) (left : LeavesImage s before) (pressed : WhereTold before (images.bytes image) (PressesImage shape)) where
+  module _ (before : Option (List ℕ)) (image : I) (left : LeavesImage s before) (pressed : WhereKnown before (images.bytes image) (PressesImage shape)) where
     found : (bytes : List ℕ) × (images.bytes image ≡ Some bytes) × IsImageOf shape (blank_cells shape) bytes
     found = pressed_bytes s shape before (images.bytes image) left pressed
 
@@ -173,27 +173,27 @@ module _ {D I : Type 0} (drives : Drives D) (images : Images I) (s : State) (sha
 module _ {D I : Type 0} (drives : Drives D) (images : Images I) (image : I) where
   -- a disc was opened
   pub first_opened : (drive : D) → ((bytes : List ℕ) → images.bytes image ≡ Some bytes → IsOpenedBy bytes (drives.shape drive) (drives.shows drive) (drives.stands drive)) → (bytes : List ℕ) → images.bytes image ≡ Some bytes → StandsFirst bytes (Stands drives images (inserts.Disc drive))
-  first_opened drive opening bytes told = let by = opening bytes told in record { state = Disc by.state; first = (by.state.shape, by.image, by.opened); stands_first = by.is_in }
+  first_opened drive opening bytes known = let by = opening bytes known in record { state = Disc by.state; first = (by.state.shape, by.image, by.opened); stands_first = by.is_in }
 
   -- an image that holds no disc is left as it is
   pub first_unopened : (image' : I) (faults faults' : ℕ) (fault : OpenFault) → IsRefused (images.bytes image) (images.bytes image') faults faults' fault → (fault ≡ faulty.Header) ⊎ ((len : ℕ) × (fault ≡ faulty.Length len))
       → ((bytes : List ℕ) → images.bytes image ≡ Some bytes → StandsFirst bytes (Stands drives images (inserts.Image image'))) × (faults' ≡ faults)
-  first_unopened image' faults faults' why refused (inl e) = (λ bytes told. without_header bytes told (subst (IsRefused (images.bytes image) (images.bytes image') faults faults') e refused), (subst (IsRefused (images.bytes image) (images.bytes image') faults faults') e refused).0.count)
+  first_unopened image' faults faults' why refused (inl e) = (λ bytes known. without_header bytes known (subst (IsRefused (images.bytes image) (images.bytes image') faults faults') e refused), (subst (IsRefused (images.bytes image) (images.bytes image') faults faults') e refused).0.count)
     where
       without_header : (bytes : List ℕ) → images.bytes image ≡ Some bytes → IsRefused (images.bytes image) (images.bytes image') faults faults' faulty.Header → StandsFirst bytes (Stands drives images (inserts.Image image'))
-      without_header bytes told r =
-          let bad : (16 ≤ length bytes) × ((z : Shape) → ¬ HasHeader z bytes) = subst (λ o. IfSome o (λ held. (16 ≤ length held) × ((z : Shape) → ¬ HasHeader z held))) told r.1 in
-          record { state = Unopened bytes; first = (refl, λ shape there. bad.1 shape there.has_header); stands_first = r.0.same ∙ told }
-  first_unopened image' faults faults' why refused (inr other) = (λ bytes told. of_other_length bytes told (subst (IsRefused (images.bytes image) (images.bytes image') faults faults') other.1 refused), (subst (IsRefused (images.bytes image) (images.bytes image') faults faults') other.1 refused).0.count)
+      without_header bytes known r =
+          let bad : (16 ≤ length bytes) × ((z : Shape) → ¬ HasHeader z bytes) = subst (λ o. IfSome o (λ held. (16 ≤ length held) × ((z : Shape) → ¬ HasHeader z held))) known r.1 in
+          record { state = Unopened bytes; first = (refl, λ shape there. bad.1 shape there.has_header); stands_first = r.0.same ∙ known }
+  first_unopened image' faults faults' why refused (inr other) = (λ bytes known. of_other_length bytes known (subst (IsRefused (images.bytes image) (images.bytes image') faults faults') other.1 refused), (subst (IsRefused (images.bytes image) (images.bytes image') faults faults') other.1 refused).0.count)
     where
       clash : (bytes : List ℕ) (shape : Shape) → other.0 ≡ length bytes → IsDiscImage shape bytes → (other.0 < 16) ⊎ ((z : Shape) × HasHeader z bytes × (other.0 ≢ image_len (total z))) → ⊥
       clash bytes shape long there (inl short) = let whole = there.as_long in omega (arith, long, whole)
       clash bytes shape long there (inr z) = z.2 (long ∙ there.as_long ∙ ap (λ (y : Shape). image_len (total y)) (one_header shape z.0 bytes there.has_header z.1))
 
       of_other_length : (bytes : List ℕ) → images.bytes image ≡ Some bytes → IsRefused (images.bytes image) (images.bytes image') faults faults' (faulty.Length other.0) → StandsFirst bytes (Stands drives images (inserts.Image image'))
-      of_other_length bytes told r =
-          let bad : (other.0 ≡ length bytes) × ((other.0 < 16) ⊎ ((z : Shape) × HasHeader z bytes × (other.0 ≢ image_len (total z)))) = subst (λ o. IfSome o (λ held. (other.0 ≡ length held) × ((other.0 < 16) ⊎ ((z : Shape) × HasHeader z held × (other.0 ≢ image_len (total z)))))) told r.1 in
-          record { state = Unopened bytes; first = (refl, λ shape there. clash bytes shape bad.0 there bad.1); stands_first = r.0.same ∙ told }
+      of_other_length bytes known r =
+          let bad : (other.0 ≡ length bytes) × ((other.0 < 16) ⊎ ((z : Shape) × HasHeader z bytes × (other.0 ≢ image_len (total z)))) = subst (λ o. IfSome o (λ held. (other.0 ≡ length held) × ((other.0 < 16) ⊎ ((z : Shape) × HasHeader z held × (other.0 ≢ image_len (total z)))))) known r.1 in
+          record { state = Unopened bytes; first = (refl, λ shape there. clash bytes shape bad.0 there bad.1); stands_first = r.0.same ∙ known }
 
 -- there was no memory for the disc, and the image is as it was
 pub handed_back_unopened : {I : Type 0} (images : Images I) (image : I) (medium medium' : ImageMedium I images) (geometry : Shape) (image' : I) → IsOpened image medium geometry → medium' ≡ medium → image' ≡ medium'.image

@@ -33,7 +33,7 @@ reaches_more ends script text rest raw after (inr ended) (inr last) = absurd (om
 
 -- what is due after one text more
 due_more : (due due' : Option (List ℕ)) (report so_far text : List ℕ) → due ≡ Some (report ++ so_far) → due' ≡ append_known due text → due' ≡ Some (report ++ (so_far ++ text))
-due_more due due' report so_far text told grew = grew ∙ ap (λ o. append_known o text) told ∙ ap Some (append_assoc report so_far text)
+due_more due due' report so_far text known grew = grew ∙ ap (λ o. append_known o text) known ∙ ap Some (append_assoc report so_far text)
 
 module _ (first : Beginning) (far : SoFar first) (view : View) (work : Work) (payload : List ℕ) (t : Taken far view work payload) (stands : State → Type 0) (data_in : List ℕ) where
   -- the step of the line that was taken
@@ -58,8 +58,8 @@ module _ (first : Beginning) (far : SoFar first) (view : View) (work : Work) (pa
   }
 
   -- the line was answered, and the answer is due
-  goes_on : (new : View) (reply : Reply) → IsAnswered far.now work payload data_in stands (Ok reply) → IsReplied view new reply data_in → Between first stands new
-  goes_on new reply answered replied = record {
+  use_continues : (new : View) (reply : Reply) → IsAnswered far.now work payload data_in stands (Ok reply) → IsReplied view new reply data_in → Between first stands new
+  use_continues new reply answered replied = record {
     far = one_more reply answered;
     stands_now = answered.stands;
     at = record {
@@ -120,7 +120,7 @@ module _ (first : Beginning) (far : SoFar first) (view : View) (work : Work) (pa
 
   -- the outcome of the line was told
   pub answered_line : (new : View) (f f' : ℕ) (outcome : Outcome) (result : Ending) → IsAnswered far.now work payload data_in stands outcome → LineCount f f' outcome → TellRule view new data_in outcome result → TurnsTo first stands new result
-  answered_line new f f' (Ok reply) (Ok done) answered count rule = goes_on new reply answered rule
+  answered_line new f f' (Ok reply) (Ok done) answered count rule = use_continues new reply answered rule
   answered_line new f f' (Ok reply) (Err stopped.SinkFault) answered count rule = cut_off new reply answered rule
   answered_line new f f' (Ok reply) (Err stopped.NotInLanguage) answered count rule = absurd rule
   answered_line new f f' (Ok reply) (Err stopped.LineTooLong) answered count rule = absurd rule

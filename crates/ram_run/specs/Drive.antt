@@ -10,10 +10,10 @@ use Rattle.model_sectors.specs.Discs.{Standing, Off, Shown, first_disc}
 use Rattle.ram_run.specs.Homes.{plain_homes}
 use Rattle.ram_run.specs.States.{Loaded, IsOpenedOn, IsIn}
 
--- A medium from which a drive may start: it tells its cells, each good one has the bytes of a block, and the power is
+-- A medium from which a drive may start: its cells are known, each good one has the bytes of a block, and the power is
 -- off. (This project's own, as all here.)
 pub record IsStart (world : World) : Type 0 where
-  pub told : world.told ≡ true
+  pub known : world.known ≡ true
   pub whole : (block : ℕ) (bytes : List ℕ) → cell_at world.cells block ≡ Good bytes → length bytes ≡ 32768
   pub off : ¬ IsTrue world.power
 
@@ -32,14 +32,14 @@ pub record IsOpenedBy (bytes : List ℕ) (shape : Shape) (shown : Shown) (stands
   pub opened : IsOpenedOn state.shape (cells_of (total state.shape) bytes) state
   pub is_in : IsIn shape shown stands state
 
--- An image that has failed so often was opened as a disc, where it tells its bytes, and it did not fail.
+-- An image that has failed so often was opened as a disc, where its bytes are known, and it did not fail.
 pub record Opens (image : Option (List ℕ)) (faults : ℕ) (shape : Shape) (shown : Shown) (stands : Standing → Type 0) : Type 0 where
   pub opened : (bytes : List ℕ) → image ≡ Some bytes → IsOpenedBy bytes shape shown stands
   pub count : shown.medium.world.faults ≡ faults
 
--- the image of a drive has the cells that the drive shows, where it tells them
+-- the image of a drive has the cells that the drive shows, where these are known
 abbrev pub HasCells : Shape → World → Option (List ℕ) → Type 0
-HasCells shape world image = MatchOption image (world.told ≡ false) (λ bytes. IsImageOf shape world.cells bytes)
+HasCells shape world image = MatchOption image (world.known ≡ false) (λ bytes. IsImageOf shape world.cells bytes)
 
 -- What holds of a drive's meanings: its homes are those of a disc without lists.
 pub record DriveLaws {D : Type 0} (shape : D → Shape) (shows : D → Shown) : Type 0 where

@@ -116,7 +116,7 @@ IsOfScript (lasts.LineTooLong line) = Unit {0}
 IsOfScript lasts.ScriptTooLong = Unit {0}
 IsOfScript (lasts.NotADisc line) = ⊥
 
--- What stands with each status, where source, sink, opener and image tell their bytes.
+-- What stands with each status, where the bytes of source, sink, opener and image are known.
 abbrev pub StandsWith : Beginning → Aftermath → Status → Type 0
 StandsWith first after statuses.Done = (answered : ℕ) × IsEnded first after (lasts.End answered)
 StandsWith first after statuses.Usage = ⊥
@@ -193,13 +193,13 @@ pub record Begins (first : Beginning) (left written image : Option (List ℕ)) :
 
 -- What is known of source, sink and opener is what the run begins with: the script that is left, what was written before,
 -- and the image that is opened next. The opener tells what is handed back.
-pub record IsBeginning {I : Type 0} (bytes_of : I → Option (List ℕ)) (first : Beginning) (before : Surroundings I) (tells : Bool) : Type 0 where
+pub record IsBeginning {I : Type 0} (bytes_of : I → Option (List ℕ)) (first : Beginning) (before : Surroundings I) (returned_known : Bool) : Type 0 where
   pub image : I
   pub next_is : before.opener.next ≡ Some image
   pub begins : Begins first before.left before.written (bytes_of image)
-  pub tells_is : tells ≡ true
+  pub returned_known_is : returned_known ≡ true
 
--- the bytes of an image that was handed back, where it tells them
+-- the bytes of an image that was handed back, where these are known
 abbrev pub bytes_returned : {X : Type 0} → (X → Option (List ℕ)) → Option X → Option (List ℕ)
 bytes_returned bytes_of None = None
 bytes_returned bytes_of (Some image) = bytes_of image

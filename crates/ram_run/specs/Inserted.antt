@@ -11,7 +11,7 @@ use Rattle.ram_run.specs.States.{State, Unopened, Disc, IsIn, IsLeft}
 use Rattle.ram_run.specs.LineSteps.{PressStep, Step}
 
 module _ {D I : Type 0} (drives : Drives D) (images : Images I) where
-  -- the inserted disc stands for this state, and its image tells its bytes (this project's own, as all here)
+  -- the inserted disc stands for this state, and the bytes of its image are known (this project's own, as all here)
   abbrev pub Stands : Inserted D I → State → Type 0
   Stands (inserts.Image image) (Unopened bytes) = images.bytes image ≡ Some bytes
   Stands (inserts.Image image) (Disc s) = ⊥
@@ -23,7 +23,7 @@ module _ {D I : Type 0} (drives : Drives D) (images : Images I) where
   faults_of (inserts.Image image) = images.faults image
   faults_of (inserts.Disc drive) = (drives.shows drive).medium.world.faults
 
--- the image that is left tells its bytes, and they are those of the state
+-- the bytes of the image that is left are known, and they are those of the state
 abbrev pub LeavesImage : State → Option (List ℕ) → Type 0
 LeavesImage s None = ⊥
 LeavesImage s (Some bytes) = IsLeft s bytes

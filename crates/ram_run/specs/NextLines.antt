@@ -17,13 +17,13 @@ pub record IsNextLine (rest raw : List ℕ) : Type 0 where
   pub parts : (rest ≡ raw ++ (line_feed ∷ after)) ⊎ ((rest ≡ raw) × (0 < length raw) × (after ≡ []))
 
 -- what comes before this rest of the script is within the script's limit
-abbrev pub IsWithin : List ℕ → List ℕ → Type 0
-IsWithin script rest = length script - length rest ≤ SCRIPT_LIMIT
+abbrev pub IsWithinLimit : List ℕ → List ℕ → Type 0
+IsWithinLimit script rest = length script - length rest ≤ SCRIPT_LIMIT
 
 -- the next line of what is left, which ends within the script's limit
 pub record IsNextWithin (script rest raw : List ℕ) : Type 0 where
   pub next : IsNextLine rest raw
-  pub within : IsWithin script next.after
+  pub within : IsWithinLimit script next.after
 
 -- the next line of what is left reads as nothing
 pub record IsNextUnread (script rest : List ℕ) : Type 0 where

@@ -15,7 +15,7 @@ use Rattle.ram_run.specs.declared.state.RunState.{RunState}
 use Rattle.ram_run.specs.declared.state.Tally.{Tally}
 use Rattle.ram_run.specs.declared.stopped.Stopped.{Stopped}
 use Rattle.ram_run.specs.declared.stopped.Stopped.TheVariants as stopped
-use Rattle.ram_run.specs.NextLines.{IsWithin, IsNextWithin, IsNextUnread, PassesLineLimit, PassesScriptLimit, ComesNext}
+use Rattle.ram_run.specs.NextLines.{IsWithinLimit, IsNextWithin, IsNextUnread, PassesLineLimit, PassesScriptLimit, ComesNext}
 use Rattle.ram_run.specs.Work.{work_of, WorkCountsUses}
 use Rattle.ram_run.specs.Replies.{Outcome}
 use Rattle.ram_run.specs.States.{State, IsFirst}
@@ -38,7 +38,7 @@ pub record SoFar (first : Beginning) : Type 0 where
   pub starts : IsFirst first.image start
   pub run : Run start events now
   pub lines : Reaches first.script events rest
-  pub within : IsWithin first.script rest
+  pub within : IsWithinLimit first.script rest
 
 -- the report has the answers so far and no more
 abbrev pub IsReported : {first : Beginning} → SoFar first → Option (List ℕ) → Type 0
@@ -63,8 +63,8 @@ abbrev pub unread : View → Option (List ℕ)
 unread view = prepend_known view.buffered view.left
 
 -- the view of a run in this state, whose source has this left, and whose sink has this written
-abbrev pub view_of : Option (List ℕ) → Option (List ℕ) → RunState → View
-view_of left written state = record {
+abbrev pub run_view : Option (List ℕ) → Option (List ℕ) → RunState → View
+run_view left written state = record {
   buffered = state.reader.buffered;
   left = left;
   due = due written state.writer;

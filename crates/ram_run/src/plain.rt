@@ -52,7 +52,7 @@ impl<I: Image> Sectors for PlainDisc<I> {
     }
 
     ghost laws = { record {
-      told = λ disc s stands. stands.told;
+      known = λ disc s stands. stands.known;
       agrees = λ disc s stands. stands.agrees;
       some = λ disc. disc.some;
       apart = λ disc i j h k same.

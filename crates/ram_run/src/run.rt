@@ -53,7 +53,7 @@ pub fn run<S: Source, K: Sink, O: Opener>(
         (around S.Source K.Sink O.Opener script.new report.new opener.new) name result }
     ensures run { (first : Beginning) → IsRunImage (map (λ word. word.now) words.now)
         → IsBeginning O.Image.bytes first
-        (around S.Source K.Sink O.Opener script.old report.old opener.old) O.tells
+        (around S.Source K.Sink O.Opener script.old report.old opener.old) O.returned_known
         → StandsWith first (aftermath_of O.Image.bytes
         (around S.Source K.Sink O.Opener script.new report.new opener.new)) result
         ⊎ (IsUnopened result × IsNotOpened
@@ -61,7 +61,7 @@ pub fn run<S: Source, K: Sink, O: Opener>(
         (around S.Source K.Sink O.Opener script.new report.new opener.new)) }
     ensures completes { (first : Beginning) → IsRunImage (map (λ word. word.now) words.now)
         → IsBeginning O.Image.bytes first
-        (around S.Source K.Sink O.Opener script.old report.old opener.old) O.tells
+        (around S.Source K.Sink O.Opener script.old report.old opener.old) O.returned_known
         → IsInLanguage first.script → BeginsWithDisc first
         → NoneRose
         (around S.Source K.Sink O.Opener script.old report.old opener.old).counts
@@ -117,7 +117,7 @@ fn run_image<S: Source, K: Sink, O: Opener>(
         (around S.Source K.Sink O.Opener script.new report.new opener.new) name.now result }
     ensures run { (first : Beginning)
         → IsBeginning O.Image.bytes first
-        (around S.Source K.Sink O.Opener script.old report.old opener.old) O.tells
+        (around S.Source K.Sink O.Opener script.old report.old opener.old) O.returned_known
         → StandsWith first (aftermath_of O.Image.bytes
         (around S.Source K.Sink O.Opener script.new report.new opener.new)) result
         ⊎ (IsUnopened result × IsNotOpened

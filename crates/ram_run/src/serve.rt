@@ -6,7 +6,7 @@ ghost use Rattle.ram_run.specs.Work.{CountsUses};
 ghost use Rattle.ram_run.specs.Inserted.{Stands, faults_of};
 ghost use Rattle.ram_run.specs.RunCounts.{StopCounts, counts_of};
 ghost use Rattle.ram_run.specs.RunState.{IsFresh, HasRoom, TallyRule};
-ghost use Rattle.ram_run.specs.Progress.{Beginning, SoFar, Between, Taken, TurnsTo, Ends, view_of};
+ghost use Rattle.ram_run.specs.Progress.{Beginning, SoFar, Between, Taken, TurnsTo, Ends, run_view};
 ghost use Rattle.ram_run.specs.Starts.{StartRule};
 ghost use Rattle.ram_run.specs.Endings.{Begins, IsNoUsage, StandsWith, StatusCounts, aftermath};
 
@@ -37,9 +37,9 @@ fn answer_line<D: Drive, K: Sink>(
     requires room { HasRoom state.old }
     ensures turn { (first : Beginning) (far : SoFar first) (left : Option (List ℕ))
         → Stands D.Sectors D.Image.Image inserted.old far.now
-        → Taken far (view_of left (K.written report.old) state.old) (works.OnDisc line) state.old.payload.items
+        → Taken far (run_view left (K.written report.old) state.old) (works.OnDisc line) state.old.payload.items
         → TurnsTo first (Stands D.Sectors D.Image.Image inserted.new)
-        (view_of left (K.written report.new) state.new) result }
+        (run_view left (K.written report.new) state.new) result }
     ensures counts { (source : ℕ)
         → StopCounts (counts_of source (K.faults report.old) (faults_of D.Sectors D.Image.Image inserted.old))
         (counts_of source (K.faults report.new) (faults_of D.Sectors D.Image.Image inserted.new)) result }
@@ -67,10 +67,10 @@ fn press_line<D: Drive, K: Sink>(
     requires room { HasRoom state.old }
     ensures turn { (first : Beginning) (far : SoFar first) (left : Option (List ℕ))
         → Stands D.Sectors D.Image.Image inserted far.now
-        → Taken far (view_of left (K.written report.old) state.old) (works.Press zones scale psa)
+        → Taken far (run_view left (K.written report.old) state.old) (works.Press zones scale psa)
         state.old.payload.items
         → TurnsTo first (Stands D.Sectors D.Image.Image result.0)
-        (view_of left (K.written report.new) state.new) result.1 }
+        (run_view left (K.written report.new) state.new) result.1 }
     ensures counts { (source : ℕ)
         → StopCounts (counts_of source (K.faults report.old) (faults_of D.Sectors D.Image.Image inserted))
         (counts_of source (K.faults report.new) (faults_of D.Sectors D.Image.Image result.0)) result.1 }
@@ -95,9 +95,9 @@ pub fn serve_lines<D: Drive, S: Source, K: Sink>(
     requires room { HasRoom state.old }
     ensures ends { (first : Beginning)
         → Between first (Stands D.Sectors D.Image.Image inserted)
-        (view_of (S.left script.old) (K.written report.old) state.old)
+        (run_view (S.left script.old) (K.written report.old) state.old)
         → Ends first (Stands D.Sectors D.Image.Image result.0)
-        (view_of (S.left script.new) (K.written report.new) state.new) result.1 }
+        (run_view (S.left script.new) (K.written report.new) state.new) result.1 }
     ensures counts { StopCounts
         (counts_of (S.faults script.old) (K.faults report.old) (faults_of D.Sectors D.Image.Image inserted))
         (counts_of (S.faults script.new) (K.faults report.new)
@@ -120,7 +120,9 @@ pub fn serve_lines<D: Drive, S: Source, K: Sink>(
                 }
             }
             Ok(Some(Work::Press { zones, scale, psa })) => {
-                let (next, reported) = press_line(alloc, inserted, zones, scale, psa, state, report);
+                let (next, reported) = press_line(
+                    alloc, inserted, zones, scale, psa, state, report,
+                );
                 inserted = next;
                 match reported {
                     Ok(()) => {}

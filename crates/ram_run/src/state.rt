@@ -6,7 +6,7 @@ ghost use Rattle.ram_run.specs.Replies.{Outcome, PrintsWhere};
 ghost use Rattle.ram_run.specs.Run.{answers_of};
 ghost use Rattle.ram_run.specs.RunCounts.{StopCounts, SinkCount, TellCount, counts_of};
 ghost use Rattle.ram_run.specs.RunState.{IsFresh, HasRoom, TallyRule};
-ghost use Rattle.ram_run.specs.Progress.{Beginning, SoFar, IsAt, NextRule, FoundCountsUses, TakesBytes, TellRule, ShownRule, view_of};
+ghost use Rattle.ram_run.specs.Progress.{Beginning, SoFar, IsAt, NextRule, FoundCountsUses, TakesBytes, TellRule, ShownRule, run_view};
 
 use crate::line::{Work, work_of};
 use crate::reply::{Reply, print_reply};
@@ -101,8 +101,8 @@ pub fn next_work<S: Source, K: Sink>(
 ) -> Result<Option<Work>, Stopped>
     requires room { HasRoom state.old }
     ensures next { (first : Beginning) (far : SoFar first) → IsAt far
-        (view_of (S.left script.old) (K.written report.old) state.old)
-        → NextRule far (view_of (S.left script.new) (K.written report.new) state.new)
+        (run_view (S.left script.old) (K.written report.old) state.old)
+        → NextRule far (run_view (S.left script.new) (K.written report.new) state.new)
         state.new.payload.items result }
     ensures counts { (image : ℕ) → StopCounts (counts_of (S.faults script.old) (K.faults report.old) image)
         (counts_of (S.faults script.new) (K.faults report.new) image) result }
@@ -137,8 +137,8 @@ pub fn tell<K: Sink>(
     requires printable { PrintsWhere outcome }
     requires lines { state.old.tally.lines < 2 ^ 63 }
     requires answered { state.old.tally.answered < 2 ^ 63 }
-    ensures tells { (left : Option (List ℕ)) → TellRule (view_of left (K.written report.old) state.old)
-        (view_of left (K.written report.new) state.new) state.old.data_in.items outcome result }
+    ensures tells { (left : Option (List ℕ)) → TellRule (run_view left (K.written report.old) state.old)
+        (run_view left (K.written report.new) state.new) state.old.data_in.items outcome result }
     ensures count { TellCount (K.faults report.old) (K.faults report.new) outcome result }
     ensures tally { TallyRule state.old.tally state.new.tally result }
     ensures same_reader { state.new.reader ≡ state.old.reader }

@@ -9,15 +9,15 @@ use Rattle.model_lists.specs.Values.{defectives, IsEntryOf, with_entry}
 use Rattle.ram_sdl.specs.Places.{IsPlaceOf, IsGapFor}
 
 -- what passes is the first i
-filter_front : {X : Type 0} (p : X → Bool) (xs : List X) (i : ℕ) → ((k : ℕ) (d : X) → k < i → k < length xs → p (get_or xs k d) ≡ true) → ((k : ℕ) (d : X) → i ≤ k → k < length xs → p (get_or xs k d) ≡ false) → filter p xs ≡ take i xs
-filter_front p [] zero passes fails = refl
-filter_front p [] (suc i) passes fails = refl
-filter_front p (x ∷ xs) zero passes fails =
+filter_header : {X : Type 0} (p : X → Bool) (xs : List X) (i : ℕ) → ((k : ℕ) (d : X) → k < i → k < length xs → p (get_or xs k d) ≡ true) → ((k : ℕ) (d : X) → i ≤ k → k < length xs → p (get_or xs k d) ≡ false) → filter p xs ≡ take i xs
+filter_header p [] zero passes fails = refl
+filter_header p [] (suc i) passes fails = refl
+filter_header p (x ∷ xs) zero passes fails =
     let first : p x ≡ false = fails 0 x (omega arith) (omega arith) in
-    rw first (filter_front p xs zero (λ k d below. absurd (omega arith)) (λ k d from below. fails (suc k) d (omega arith) (omega arith)))
-filter_front p (x ∷ xs) (suc i) passes fails =
+    rw first (filter_header p xs zero (λ k d below. absurd (omega arith)) (λ k d from below. fails (suc k) d (omega arith) (omega arith)))
+filter_header p (x ∷ xs) (suc i) passes fails =
     let first : p x ≡ true = passes 0 x (omega arith) (omega arith) in
-    rw first (ap (λ (l : List _). x ∷ l) (filter_front p xs i (λ k d low below. passes (suc k) d (omega arith) (omega arith)) (λ k d from below. fails (suc k) d (omega arith) (omega arith))))
+    rw first (ap (λ (l : List _). x ∷ l) (filter_header p xs i (λ k d low below. passes (suc k) d (omega arith) (omega arith)) (λ k d from below. fails (suc k) d (omega arith) (omega arith))))
 
 -- what passes is what lies from i on
 filter_back : {X : Type 0} (p : X → Bool) (xs : List X) (i : ℕ) → ((k : ℕ) (d : X) → k < i → k < length xs → p (get_or xs k d) ≡ false) → ((k : ℕ) (d : X) → i ≤ k → k < length xs → p (get_or xs k d) ≡ true) → filter p xs ≡ drop i xs
@@ -106,7 +106,7 @@ room_left entries block place room gap (inr there) =
 -- the entries of lower blocks
 lower_ones : (entries : List SdlEntry) (place block : ℕ) → ((k : ℕ) → k < place → get_or (defectives entries) k 0 < block) → ((k : ℕ) → place ≤ k → k < length entries → block ≤ get_or (defectives entries) k 0) → filter (λ (entry : SdlEntry). nat_lt entry.defective block) entries ≡ take place entries
 lower_ones entries place block low others =
-    filter_front (λ (entry : SdlEntry). nat_lt entry.defective block) entries place
+    filter_header (λ (entry : SdlEntry). nat_lt entry.defective block) entries place
     (λ k d before within. lt-ltb (get_or entries k d).defective block (omega (arith, low k before, defective_at entries k d within)))
     (λ k d from within. le-ltb (get_or entries k d).defective block (omega (arith, others k from within, defective_at entries k d within)))
 

@@ -8,7 +8,7 @@ ghost use Rattle.ram_sdl.specs.EntriesAndRoom.{HasRoomFor};
 ghost use Rattle.ram_sdl.specs.Sdl.{sdl_of, IsDecodedSdl};
 
 use crate::entries::SdlEntries;
-use crate::front::{Front, begin_bytes, front_of};
+use crate::header::{Header, begin_bytes, header_of};
 use crate::list::SdlLayout;
 use crate::places::entry_of;
 use model_lists::SdlEntry;
@@ -35,14 +35,14 @@ impl Sdl {
         requires { IsLawfulSdl (sdl_of self.now) }
         ensures { IsSdlText (sdl_of self.now) into.new }
     {
-        let front = Front {
+        let header = Header {
             counter: self.counter,
             dds_counter: self.dds_counter,
             ssa: self.ssa,
             count: self.entries.len(),
         };
         let (begin, others) = into.bytes_mut().split_at_mut(16);
-        begin.copy_from_slice(&begin_bytes(&front));
+        begin.copy_from_slice(&begin_bytes(&header));
         let (gap, list) = others.split_at_mut(16);
         gap.fill(0);
         put_entries::<SdlLayout>(self.entries.as_slice(), list);
@@ -53,21 +53,21 @@ impl Sdl {
         ensures { IfOk result (λ found. IsDecodedSdl found from.now) }
     {
         let bytes = from.bytes();
-        let Some(front) = front_of(bytes) else {
+        let Some(header) = header_of(bytes) else {
             return Ok(None);
         };
-        let Some(entries) = entries_of::<SdlLayout>(alloc, &bytes[32..], front.count)? else {
+        let Some(entries) = entries_of::<SdlLayout>(alloc, &bytes[32..], header.count)? else {
             return Ok(None);
         };
         Ok(Some(Sdl {
-            counter: front.counter,
-            dds_counter: front.dds_counter,
-            ssa: front.ssa,
+            counter: header.counter,
+            dds_counter: header.dds_counter,
+            ssa: header.ssa,
             entries: SdlEntries::from_vec(entries),
         }))
     }
 
-    /// Takes memory until so many entries in all fit. Where it is wanting, the room stays as it was.
+    /// Takes memory until so many entries in all fit. Out of memory, the room stays as it was.
     pub fn reserve(&mut self, entries: usize) -> Result<(), AllocError>
         ensures value { sdl_of self.new ≡ sdl_of self.old }
         ensures ok { OnOk result (entries ≤ self.new.entries.room) }

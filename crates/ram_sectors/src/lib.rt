@@ -15,7 +15,7 @@ pub use model_commands::TRANSFER_LIMIT;
 pub use model_sectors::{PowerOut, ReadOut, WriteOut};
 use std::alloc::Global;
 
-/// A disc as its host sees it: a list of sectors of 2,048 bytes, numbered from 0. Wherever its medium tells its cells,
+/// A disc as its host sees it: a list of sectors of 2,048 bytes, numbered from 0. Wherever the cells of its medium are known,
 /// it stands for a disc whose sectors are those that were last acknowledged.
 ///
 /// Each call answers why it ended. `cause` ties the answer to what the drive shows, with the uses of the medium that it

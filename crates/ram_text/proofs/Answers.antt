@@ -8,19 +8,19 @@ use Rattle.ram_outside.specs.declared.source.Source.{Ghosts as Sources}
 use Rattle.ram_text.specs.Lines.{Reading, HasNoFeed, GivesLine, NothingWent, LineIsTooLong, ScriptIsTooLong, left_of, NextLineRule}
 use Rattle.ram_text.specs.Steps.{CutRule}
 
--- a front of what is buffered is the same front of what is left
-front_left : (held : List ℕ) (rest : Option (List ℕ)) (n m : ℕ) → n ≤ length held → m < length held → HasNoFeed (take n held) → IfSome (prepend_known held rest) (λ all. (m < length all) × HasNoFeed (take n all))
-front_left held None n m le lt clear = tt
-front_left held (Some ys) n m le lt clear = (omega (arith, length-append held ys), subst HasNoFeed (sym (take-append-le n held ys le)) clear)
+-- a prefix of what is buffered is the same front of what is left
+prefix_left : (held : List ℕ) (rest : Option (List ℕ)) (n m : ℕ) → n ≤ length held → m < length held → HasNoFeed (take n held) → IfSome (prepend_known held rest) (λ all. (m < length all) × HasNoFeed (take n all))
+prefix_left held None n m le lt clear = tt
+prefix_left held (Some ys) n m le lt clear = (omega (arith, length-append held ys), subst HasNoFeed (sym (take-append-le n held ys le)) clear)
 
 -- a line and its line feed went from the front of what is left
 line_left : (held line after : List ℕ) (rest : Option (List ℕ)) → held ≡ line ++ (10 ∷ after) → Consumes (prepend_known held rest) (prepend_known after rest) (line ++ 10 ∷ [])
 line_left held line after None parts = tt
 line_left held line after (Some ys) parts = ap (λ xs. xs ++ ys) parts ∙ simp append_assoc
 
-told_alike : (held after : List ℕ) (rest : Option (List ℕ)) → is_some (prepend_known after rest) ≡ is_some (prepend_known held rest)
-told_alike held after None = refl
-told_alike held after (Some ys) = refl
+known_alike : (held after : List ℕ) (rest : Option (List ℕ)) → is_some (prepend_known after rest) ≡ is_some (prepend_known held rest)
+known_alike held after None = refl
+known_alike held after (Some ys) = refl
 
 -- what an answer that the buffered bytes decide says
 abbrev pub Answered : Option (List ℕ) → Option (List ℕ) → ℕ → ℕ → List ℕ → ℕ → ℕ → NextLine → Type 0
@@ -37,7 +37,7 @@ answered before after rest first faults count Line cut = record {
   one = cut.one;
   short = cut.short;
   within = cut.within;
-  told = told_alike before.buffered after.buffered rest;
+  known = known_alike before.buffered after.buffered rest;
   count = count;
 }
 answered before after rest first faults count LineTooLong cut = (
@@ -46,7 +46,7 @@ answered before after rest first faults count LineTooLong cut = (
     stood = ap (λ (r : Reading). r.taken) cut.1;
     none = ap (λ (r : Reading). r.line) cut.1;
   },
-  record { bytes = front_left before.buffered rest 70001 70000 (omega (arith, cut.0.longer)) cut.0.longer cut.0.clear; first = cut.0.first },
+  record { bytes = prefix_left before.buffered rest 70001 70000 (omega (arith, cut.0.longer)) cut.0.longer cut.0.clear; first = cut.0.first },
   count,
 )
 answered before after rest first faults count ScriptTooLong cut = (
@@ -55,7 +55,7 @@ answered before after rest first faults count ScriptTooLong cut = (
     stood = ap (λ (r : Reading). r.taken) cut.1;
     none = ap (λ (r : Reading). r.line) cut.1;
   },
-  record { bytes = front_left before.buffered rest (67108864 - before.taken) (67108864 - before.taken) (omega (arith, cut.0.longer)) cut.0.longer cut.0.clear; first = cut.0.first },
+  record { bytes = prefix_left before.buffered rest (67108864 - before.taken) (67108864 - before.taken) (omega (arith, cut.0.longer)) cut.0.longer cut.0.clear; first = cut.0.first },
   count,
 )
 answered before after rest first faults count End cut = elim cut [ ]

@@ -48,11 +48,11 @@ pub took : (bytes : List ℕ) (start end place taken : ℕ) (line : List ℕ) �
 took bytes start end place taken line limit at within =
     let held : List ℕ = slice_range bytes start end in
     let inside : place < length held = at.inside in
-    let front : take place held ≡ slice_range bytes start (start + place) = slice_before_feed bytes start end place at in
-    let len : length (slice_range bytes start (start + place)) ≡ place = sym (ap length front) ∙ length-take-le place held (omega arith) in
+    let prefix : take place held ≡ slice_range bytes start (start + place) = slice_before_feed bytes start end place at in
+    let len : length (slice_range bytes start (start + place)) ≡ place = sym (ap length prefix) ∙ length-take-le place held (omega arith) in
     record {
       parts = slice_at_feed bytes start end place at;
-      one = subst HasNoFeed front at.first;
+      one = subst HasNoFeed prefix at.first;
       short = omega arith;
       grew = omega arith;
       within = omega arith;

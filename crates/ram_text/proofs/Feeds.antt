@@ -7,10 +7,10 @@ use Rattle.ram_text.specs.Lines.{HasNoFeed, FeedAt}
 
 -- no feed among the first n, and none at the places behind them
 HasNoFeed-joined : (bytes : List ℕ) (n m : ℕ) → m ≤ length bytes → HasNoFeed (take n bytes) → ((k : ℕ) → n ≤ k → k < m → get_or bytes k 0 ≢ 10) → HasNoFeed (take m bytes)
-HasNoFeed-joined bytes n m le front back k d lt is =
+HasNoFeed-joined bytes n m le prefix back k d lt is =
     let below : k < m = omega (arith, length-take m bytes) in
     let here : get_or bytes k 0 ≡ 10 = get_or_default bytes k 0 d (omega arith) ∙ (sym (get_or-take m bytes k d below) ∙ is) in
-    ⊎_elim (λ (lower : k < n). front k 0 (omega (arith, length-take n bytes)) (get_or-take n bytes k 0 lower ∙ here)) (λ higher. back k higher below here) (cases_lt k n)
+    ⊎_elim (λ (lower : k < n). prefix k 0 (omega (arith, length-take n bytes)) (get_or-take n bytes k 0 lower ∙ here)) (λ higher. back k higher below here) (cases_lt k n)
 
 -- a place behind the first n at which the search of the back found nothing
 not_behind : (bytes : List ℕ) (n j k : ℕ) → n ≤ k → k < n + j → Nowhere (Passes (is_byte 10) (drop n bytes)) 0 j → get_or bytes k 0 ≢ 10
@@ -19,29 +19,29 @@ not_behind bytes n j k le lt nowhere is =
     nowhere (k - n) (omega arith) (omega arith) (eq-eqb _ 10 (get_or-drop n bytes (k - n) 0 ∙ (ap (λ i. get_or bytes i 0) place ∙ is)))
 
 pub feed_missed : (bytes : List ℕ) (n : ℕ) → n ≤ length bytes → HasNoFeed (take n bytes) → IsFirstByte (is_byte 10) (take (length bytes - n) (drop n bytes)) None → HasNoFeed bytes
-feed_missed bytes n le front searched =
+feed_missed bytes n le prefix searched =
     let nowhere = subst (λ (back : List ℕ). IsFirstByte (is_byte 10) back None) (take_rest bytes n) searched in
-    let all = HasNoFeed-joined bytes n (length bytes) (le_refl _) front (λ k low high. not_behind bytes n (length (drop n bytes)) k low (omega (arith, length-drop n bytes)) nowhere) in
+    let all = HasNoFeed-joined bytes n (length bytes) (le_refl _) prefix (λ k low high. not_behind bytes n (length (drop n bytes)) k low (omega (arith, length-drop n bytes)) nowhere) in
     subst HasNoFeed (take_all (length bytes) bytes (le_refl _)) all
 
 pub feed_found : (bytes : List ℕ) (n k : ℕ) → n ≤ length bytes → HasNoFeed (take n bytes) → IsFirstByte (is_byte 10) (take (length bytes - n) (drop n bytes)) (Some k) → FeedAt bytes (n + k)
-feed_found bytes n k le front searched =
+feed_found bytes n k le prefix searched =
     let found = subst (λ (back : List ℕ). IsFirstByte (is_byte 10) back (Some k)) (take_rest bytes n) searched in
     record {
       inside = omega (arith, length-drop n bytes, found.0.high);
       feed = sym (get_or-drop n bytes k 0) ∙ eqb-true _ 10 found.1;
-      first = HasNoFeed-joined bytes n (n + k) (omega (arith, length-drop n bytes, found.0.high)) front (λ j low high. not_behind bytes n k j low high found.0.before);
+      first = HasNoFeed-joined bytes n (n + k) (omega (arith, length-drop n bytes, found.0.high)) prefix (λ j low high. not_behind bytes n k j low high found.0.before);
     }
 
--- a front of bytes without a line feed has none
-pub HasNoFeed-front : (bytes : List ℕ) (n : ℕ) → HasNoFeed bytes → HasNoFeed (take n bytes)
-HasNoFeed-front bytes n clear k d lt is =
+-- a prefix of bytes without a line feed has none
+pub HasNoFeed-prefix : (bytes : List ℕ) (n : ℕ) → HasNoFeed bytes → HasNoFeed (take n bytes)
+HasNoFeed-prefix bytes n clear k d lt is =
     let below : k < n = omega (arith, length-take n bytes) in
     clear k d (omega (arith, length-take n bytes)) (sym (get_or-take n bytes k d below) ∙ is)
 
 -- the same of a shorter front
 pub HasNoFeed-shorter : (bytes : List ℕ) (m n : ℕ) → m ≤ n → HasNoFeed (take n bytes) → HasNoFeed (take m bytes)
-HasNoFeed-shorter bytes m n le clear = subst HasNoFeed (take-take m n bytes le) (HasNoFeed-front (take n bytes) m clear)
+HasNoFeed-shorter bytes m n le clear = subst HasNoFeed (take-take m n bytes le) (HasNoFeed-prefix (take n bytes) m clear)
 
 -- no list has its first line feed behind a front that has none
 pub feed_not_within : (bytes : List ℕ) (place n : ℕ) → FeedAt bytes place → HasNoFeed (take n bytes) → n ≤ place
@@ -61,14 +61,14 @@ slice_at_feed bytes start end place at =
     let held : List ℕ = slice_range bytes start end in
     let inside : place < length held = at.inside in
     let longer : place < end - start = omega (arith, length-take (end - start) (drop start bytes)) in
-    let front : take place held ≡ slice_range bytes start (start + place) =
+    let prefix : take place held ≡ slice_range bytes start (start + place) =
     take-take place (end - start) (drop start bytes) (omega arith) ∙ ap (λ n. take n (drop start bytes)) (let e : place ≡ start + place - start = omega arith in e) in
     let back : drop (place + 1) held ≡ slice_range bytes (start + place + 1) end =
     ap (λ n. drop (place + 1) (take n (drop start bytes))) (let e : end - start ≡ place + 1 + (end - (start + place + 1)) = omega arith in e)
     ∙ drop-take (place + 1) (end - (start + place + 1)) (drop start bytes)
     ∙ ap (take (end - (start + place + 1))) (drop-drop (place + 1) start bytes ∙ ap (λ n. drop n bytes) (let e : start + (place + 1) ≡ start + place + 1 = omega arith in e)) in
     sym (take-append-drop place held) ∙ ap (λ xs. take place held ++ xs) (drop_more held place 0 inside ∙ ap (λ x. x ∷ drop (place + 1) held) at.feed)
-    ∙ ap (λ xs. xs ++ (10 ∷ drop (place + 1) held)) front ∙ ap (λ xs. slice_range bytes start (start + place) ++ (10 ∷ xs)) back
+    ∙ ap (λ xs. xs ++ (10 ∷ drop (place + 1) held)) prefix ∙ ap (λ xs. slice_range bytes start (start + place) ++ (10 ∷ xs)) back
 
 -- the line before a line feed is the front of what was searched
 pub slice_before_feed : (bytes : List ℕ) (start end place : ℕ) → FeedAt (slice_range bytes start end) place → take place (slice_range bytes start end) ≡ slice_range bytes start (start + place)

@@ -17,17 +17,17 @@ grown : (new : List ℕ) (at held n piece : ℕ) → at + held ≤ length new �
 grown new at held n piece inside le =
     let back : List ℕ = drop at new in
     let all : take (at + held + n - at) back ≡ take (held + n) back = ap (λ k. take k back) (let e : at + held + n - at ≡ held + n = omega arith in e) in
-    let front : take (at + held - at) back ≡ take held back = ap (λ k. take k back) (let e : at + held - at ≡ held = omega arith in e) in
+    let prefix : take (at + held - at) back ≡ take held back = ap (λ k. take k back) (let e : at + held - at ≡ held = omega arith in e) in
     let piece_is : take n (take (at + held + piece - (at + held)) (drop (at + held) new)) ≡ take n (drop held back) =
     take-take n (at + held + piece - (at + held)) (drop (at + held) new) (omega arith) ∙ ap (take n) (sym (drop-drop held at new)) in
-    all ∙ take-add held n back ∙ sym (ap (λ xs. xs ++ take n (take (at + held + piece - (at + held)) (drop (at + held) new))) front ∙ ap (λ xs. take held back ++ xs) piece_is)
+    all ∙ take-add held n back ∙ sym (ap (λ xs. xs ++ take n (take (at + held + piece - (at + held)) (drop (at + held) new))) prefix ∙ ap (λ xs. take held back ++ xs) piece_is)
 
 -- what is left stays the same where the next of it goes to the end of what is buffered
 left_kept : (held came : List ℕ) (rest rest' : Option (List ℕ)) → Consumes rest rest' came → is_some rest' ≡ is_some rest → prepend_known (held ++ came) rest' ≡ prepend_known held rest
-left_kept held came None None went told = refl
-left_kept held came None (Some ys) went told = cc
-left_kept held came (Some xs) None went told = elim went [ ]
-left_kept held came (Some xs) (Some ys) went told = ap Some (append_assoc held came ys ∙ ap (λ zs. held ++ zs) (sym went))
+left_kept held came None None went known = refl
+left_kept held came None (Some ys) went known = cc
+left_kept held came (Some xs) None went known = elim went [ ]
+left_kept held came (Some xs) (Some ys) went known = ap Some (append_assoc held came ys ∙ ap (λ zs. held ++ zs) (sym went))
 
 -- one more piece came
 pub refilled : (old mid new : List ℕ) (start end at n piece : ℕ) (before after : Reading) (rest rest' : Option (List ℕ)) (faults faults' : ℕ)
@@ -46,7 +46,7 @@ refilled old mid new start end at n piece before after rest rest' faults faults'
     record {
       some = gives.some;
       longer = ap length parts ∙ length-append before.buffered (take n whole) ∙ ap (λ k. length before.buffered + k) (length-take-le n whole le);
-      same = ap (λ xs. prepend_known xs rest') parts ∙ left_kept before.buffered (take n whole) rest rest' gives.next gives.told;
+      same = ap (λ xs. prepend_known xs rest') parts ∙ left_kept before.buffered (take n whole) rest rest' gives.next gives.known;
       stood = stood;
       count = gives.count;
     }
@@ -56,6 +56,6 @@ pub still_clear : (old mid new : List ℕ) (start end at n : ℕ) → slice_rang
     → HasNoFeed (slice_range old start end) → HasNoFeed (take (end - start) (slice_range new at (at + (end - start) + n)))
 still_clear old mid new start end at n moved same clear =
     let held : ℕ = end - start in
-    let front : take held (slice_range new at (at + held + n)) ≡ slice_range old start end =
+    let prefix : take held (slice_range new at (at + held + n)) ≡ slice_range old start end =
     take-take held (at + held + n - at) (drop at new) (omega arith) ∙ ap (λ k. take k (drop at new)) (let e : held ≡ at + held - at = omega arith in e) ∙ kept_through old mid new start end at moved same in
-    subst HasNoFeed (sym front) clear
+    subst HasNoFeed (sym prefix) clear

@@ -9,5 +9,5 @@ pub mod HexSteps
 pub mod ScriptReadings
 pub mod Forms
 pub mod Turns
-pub mod ToldApart
+pub mod Distinct
 pub mod Limits

@@ -41,5 +41,5 @@ put_four a b c d e f g h i j s t u v first second third answer last =
     put_then a d e f i j (s ++ t ++ u) v (put_both a c d f h i (s ++ t) u (put_both a b c f g h s t first second) third) answer last
 
 -- the front of a list is what was put there
-pub front_is : (given rest : List ℕ) (n len : ℕ) → length given ≡ n → n ≤ len → take n (take len (given ++ rest)) ≡ given
-front_is given rest n len is le = take-take n len (given ++ rest) le ∙ take_at given rest n is
+pub prefix_is : (given rest : List ℕ) (n len : ℕ) → length given ≡ n → n ≤ len → take n (take len (given ++ rest)) ≡ given
+prefix_is given rest n len is le = take-take n len (given ++ rest) le ∙ take_at given rest n is

@@ -4,12 +4,12 @@ use Rattle.std.proofs.lemmas.List.{take_rest, drop-drop, take-append-drop}
 use Rattle.std.specs.Io.KnownBytes.{append_known, Appends}
 use Rattle.ram_outside.specs.Sink.{Takes}
 
--- known bytes that grew, and are still told, are the old ones and what came
+-- known bytes that grew, and are still known, are the old ones and what came
 Appends-is : (a b : Option (List ℕ)) (bs : List ℕ) → Appends a b bs → is_some b ≡ is_some a → b ≡ append_known a bs
-Appends-is None None bs grew told = refl
-Appends-is None (Some ys) bs grew told = cc
-Appends-is (Some xs) None bs grew told = elim grew [ ]
-Appends-is (Some xs) (Some ys) bs grew told = ap Some grew
+Appends-is None None bs grew known = refl
+Appends-is None (Some ys) bs grew known = cc
+Appends-is (Some xs) None bs grew known = elim grew [ ]
+Appends-is (Some xs) (Some ys) bs grew known = ap Some grew
 
 -- one text and then another
 pub append_known-twice : (a : Option (List ℕ)) (xs ys : List ℕ) → append_known (append_known a xs) ys ≡ append_known a (xs ++ ys)
@@ -20,7 +20,7 @@ append_known-twice (Some zs) xs ys = ap Some (append_assoc zs xs ys)
 pub took_more : (first before after : Option (List ℕ)) (text : List ℕ) (sent n faults faults' : ℕ) → before ≡ append_known first (take sent text) → Takes before after faults faults' (take (length text - sent) (drop sent text)) n → after ≡ append_known first (take (sent + n) text)
 took_more first before after text sent n faults faults' is takes =
     let piece : List ℕ = take (length text - sent) (drop sent text) in
-    Appends-is before after (take n piece) takes.written takes.told ∙ ap (λ (a : Option (List ℕ)). append_known a (take n piece)) is
+    Appends-is before after (take n piece) takes.written takes.known ∙ ap (λ (a : Option (List ℕ)). append_known a (take n piece)) is
     ∙ append_known-twice first (take sent text) (take n piece)
     ∙ ap (λ (xs : List ℕ). append_known first (take sent text ++ take n xs)) (take_rest text sent) ∙ ap (append_known first) (sym (take-add sent n text))
 

@@ -22,18 +22,18 @@ nothing_put a f = record { grew = append_known-nil a; count = omega arith }
 pub piece_put : (T : ℕ → List ℕ) (a b c : Option (List ℕ)) (f g h k : ℕ) (piece : List ℕ) → IsPut a b f g (T k) → IsPut b c g h piece → T (k + 1) ≡ T k ++ piece → IsPut a c f h (T (k + 1))
 piece_put T a b c f g h k piece so_far one more = subst (IsPut a c f h) (sym more) (put_both a b c f g h (T k) piece so_far one)
 
--- the text of some pieces is a front of the text of more
-front : (T : ℕ → List ℕ) → ((k : ℕ) → (rest : List ℕ) × (T (k + 1) ≡ T k ++ rest)) → (k n : ℕ) → (rest : List ℕ) × (T (k + n) ≡ T k ++ rest)
-front T more k zero = ([], ap T (let e : k + 0 ≡ k = omega arith in e) ∙ sym (append-nil (T k)))
-front T more k (suc n) =
-    let before = front T more k n in
+-- the text of some pieces is a prefix of the text of more
+prefix : (T : ℕ → List ℕ) → ((k : ℕ) → (rest : List ℕ) × (T (k + 1) ≡ T k ++ rest)) → (k n : ℕ) → (rest : List ℕ) × (T (k + n) ≡ T k ++ rest)
+prefix T more k zero = ([], ap T (let e : k + 0 ≡ k = omega arith in e) ∙ sym (append-nil (T k)))
+prefix T more k (suc n) =
+    let before = prefix T more k n in
     let one = more (k + n) in
     (before.0 ++ one.0, ap T (let e : k + suc n ≡ k + n + 1 = omega arith in e) ∙ one.1 ∙ ap (λ xs. xs ++ one.0) before.1 ∙ append_assoc (T k) before.0 one.0)
 
 -- a piece was cut off
 pub piece_cut : (T : ℕ → List ℕ) → ((k : ℕ) → (rest : List ℕ) × (T (k + 1) ≡ T k ++ rest)) → (a b c : Option (List ℕ)) (f g h k n : ℕ) (piece : List ℕ) → k < n → IsPut a b f g (T k) → IsCutShort b c g h piece → T (k + 1) ≡ T k ++ piece → IsCutShort a c f h (T n)
 piece_cut T every a b c f g h k n piece below so_far cut more =
-    let all = front T every (k + 1) (n - (k + 1)) in
+    let all = prefix T every (k + 1) (n - (k + 1)) in
     let whole : T n ≡ T (k + 1) ++ all.0 = ap T (let e : n ≡ k + 1 + (n - (k + 1)) = omega arith in e) ∙ all.1 in
     subst (IsCutShort a c f h) (sym whole)
     (cut_first a c f h (T (k + 1)) all.0 (subst (IsCutShort a c f h) (sym more) (put_cut a b c f g h (T k) piece so_far cut)))

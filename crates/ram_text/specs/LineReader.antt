@@ -5,8 +5,8 @@ use Rattle.ram_text.specs.declared.lines.TheConstants.{ROOM, SCRIPT_LIMIT}
 use Rattle.ram_text.specs.declared.lines.LineReader.TheInside.{Inside}
 
 -- what the reader's fields stand for (this project's own)
-abbrev pub reading_of : Inside → Reading
-reading_of r = record {
+abbrev pub reading_by : Inside → Reading
+reading_by r = record {
   line = slice_range r.bytes.items r.line_start r.line_end;
   buffered = slice_range r.bytes.items r.start r.end;
   taken = r.taken;

@@ -58,7 +58,7 @@ pub record GivesLine (left left' : Option (List ℕ)) (taken taken' : ℕ) (line
   pub one : HasNoFeed line
   pub short : length line ≤ LINE_LIMIT
   pub within : taken' ≤ SCRIPT_LIMIT
-  pub told : is_some left' ≡ is_some left
+  pub known : is_some left' ≡ is_some left
   pub count : faults' ≡ faults
 
 -- nothing went, and there is no line (this project's own)

@@ -2,8 +2,8 @@
 ghost use Rattle.std.specs.Prelude.{◌≡◌, ◌*◌, ◌≤◌, length, take};
 ghost use Rattle.hex.specs.Hex.{encode_lower};
 
-/// Writes the bytes as hexadecimal digits to the front of `digits`.
-pub fn encode_front(bytes: &[u8], digits: &mut [u8])
+/// Writes the bytes as hexadecimal digits to the start of `digits`.
+pub fn encode_prefix(bytes: &[u8], digits: &mut [u8])
     requires { 2 * length bytes.now ≤ length digits.old }
     ensures { take (2 * length bytes.now) digits.new ≡ encode_lower bytes.now }
 {

@@ -57,9 +57,9 @@ impl Model for LineReader {
 
     ghost Value = { Reading };
 
-    ghost use Rattle.ram_text.specs.LineReader.{reading_of, IsWhole};
+    ghost use Rattle.ram_text.specs.LineReader.{reading_by, IsWhole};
 
-    ghost view = { reading_of };
+    ghost view = { reading_by };
 
     ghost invariant = { IsWhole };
 }
@@ -230,7 +230,7 @@ fn first_feed(bytes: &[u8], searched: usize) -> Option<usize>
     }
 }
 
-/// Moves what lies from `start` to `end` to the front where less than a piece fits behind it, and gives its
+/// Moves what lies from `start` to `end` to the start where less than a piece fits behind it, and gives its
 /// first place.
 fn make_room(bytes: &mut Vec<u8>, start: usize, end: usize) -> usize
     requires whole { vec_len bytes.old ≡ ROOM }

@@ -5,7 +5,7 @@ ghost use Rattle.hex.specs.Hex.{encode_lower};
 ghost use Rattle.ram_text.specs.Writer.{PutsText, HandsOver};
 
 use crate::gathered::{Gathered, Print, SinkFailed};
-use crate::hexadecimal::encode_front;
+use crate::hexadecimal::encode_prefix;
 use itoa::Buffer;
 use ram_bytes::SECTOR_BYTES;
 use ram_outside::Sink;
@@ -13,7 +13,7 @@ use std::alloc::{AllocError, Global};
 use std::marker::Model;
 
 /// Writes a report to a sink. Texts are gathered, and handed over when 64 KiB are full or when told to. At all
-/// times what the sink has written is a front of the text that is due. Its room is taken when it is made.
+/// times what the sink has written is a prefix of the text that is due. Its room is taken when it is made.
 #[derive(Drop)]
 pub struct ReportWriter {
     gathered: Gathered,
@@ -41,7 +41,7 @@ impl ReportWriter {
         })
     }
 
-    /// Puts a text behind what is due. Where the sink fails, a front of the text is.
+    /// Puts a text behind what is due. Where the sink fails, a prefix of the text is.
     pub fn put<K: Sink>(&mut self, sink: &mut K, text: &[u8]) -> Result<(), SinkFailed>
         ensures { PutsText K.Sink self.old sink.old self.new sink.new text.now result }
     {
@@ -69,7 +69,7 @@ impl ReportWriter {
         ensures { PutsText K.Sink self.old sink.old self.new sink.new (encode_lower bytes.now) result }
     {
         let len = 2 * bytes.len();
-        encode_front(bytes, &mut self.digits);
+        encode_prefix(bytes, &mut self.digits);
         self.gathered.put(sink, &self.digits[..len])
     }
 }

@@ -74,7 +74,7 @@ impl MemOpener {
 impl Opener for MemOpener {
     type Image = MemImage;
 
-    ghost tells = { true };
+    ghost returned_known = { true };
 
     ghost next = { λ o. o.next };
 

@@ -57,24 +57,24 @@ module _ {I : Type 0} {d : Ghosts I} (old new : Mechanism I d) (same_shape : sha
   candidates_fit cells (Off discs) stands = some_fits_still cells discs stands.agrees.1
 
   -- the power is as it was, and what is buffered too
-  stands_still : (world_of new.medium).told ≡ (world_of old.medium).told → (world_of new.medium).power ≡ (world_of old.medium).power → new.buffer ≡ old.buffer → Cells
+  stands_still : (world_of new.medium).known ≡ (world_of old.medium).known → (world_of new.medium).power ≡ (world_of old.medium).power → new.buffer ≡ old.buffer → Cells
       → (s : Standing) → stands_for old s → stands_for new s
-  stands_still told power buffer cells (On disc) stands = record {
-    told = told ∙ stands.told;
+  stands_still known power buffer cells (On disc) stands = record {
+    known = known ∙ stands.known;
     agrees = (power ∙ stands.agrees.0, fits_still cells disc stands.agrees.1);
     buffered = λ i bytes e. stands.buffered i bytes (ap (bytes_at i) (sym buffer) ∙ e);
   }
-  stands_still told power buffer cells (Off discs) stands = record {
-    told = told ∙ stands.told;
+  stands_still known power buffer cells (Off discs) stands = record {
+    known = known ∙ stands.known;
     agrees = ((λ on. stands.agrees.0 (sym power ∙ on)), some_fits_still cells discs stands.agrees.1);
     buffered = buffer ∙ stands.buffered;
   }
 
   -- the power is off
-  stands_off : (world_of new.medium).told ≡ (world_of old.medium).told → ¬ IsTrue (world_of new.medium).power → new.buffer ≡ [] → Cells
+  stands_off : (world_of new.medium).known ≡ (world_of old.medium).known → ¬ IsTrue (world_of new.medium).power → new.buffer ≡ [] → Cells
       → (s : Standing) → stands_for old s → stands_for new (Off (candidates s))
-  stands_off told off dropped cells s stands = record {
-    told = told ∙ stands.told;
+  stands_off known off dropped cells s stands = record {
+    known = known ∙ stands.known;
     agrees = (off, candidates_fit cells s stands);
     buffered = dropped;
   }
@@ -84,7 +84,7 @@ module _ {I : Type 0} {d : Ghosts I} (old new : Mechanism I d) (same_shape : sha
 
   -- nothing that is shown changed but what is armed
   pub stands_armed : world_of new.medium ≡ world_of old.medium → new.buffer ≡ old.buffer → (s : Standing) → stands_for old s → stands_for new s
-  stands_armed e buffer s stands = stands_still (ap (λ (w : World). w.told) e) (ap (λ (w : World). w.power) e) buffer (cells_of_world e) s stands
+  stands_armed e buffer s stands = stands_still (ap (λ (w : World). w.known) e) (ap (λ (w : World). w.power) e) buffer (cells_of_world e) s stands
 
   pub stands_worn : (worn : WornBlock) (end : Arm) → WearRule (total (shape_of_medium old.medium)) (machine_in old.medium) (machine_in new.medium) worn end → new.buffer ≡ old.buffer
       → (s : Standing) → stands_for old s → stands_for new s
@@ -93,11 +93,11 @@ module _ {I : Type 0} {d : Ghosts I} (old new : Mechanism I d) (same_shape : sha
   stands_worn worn arming.Full rule buffer s stands = stands_armed (ap (λ (m : Machine). m.world) rule.2) buffer s stands
 
   -- what stood for something stands for something still
-  some_kept : (world_of new.medium).told ≡ (world_of old.medium).told → ((s : Standing) → stands_for old s → (t : Standing) × stands_for new t) → StandsForSome old → StandsForSome new
-  some_kept same found some told = still_some (stands_for old) (stands_for new) found (some (sym same ∙ told))
+  some_kept : (world_of new.medium).known ≡ (world_of old.medium).known → ((s : Standing) → stands_for old s → (t : Standing) × stands_for new t) → StandsForSome old → StandsForSome new
+  some_kept same found some known = still_some (stands_for old) (stands_for new) found (some (sym same ∙ known))
 
   pub some_armed : world_of new.medium ≡ world_of old.medium → new.buffer ≡ old.buffer → StandsForSome old → StandsForSome new
-  some_armed e buffer some = some_kept (ap (λ (w : World). w.told) e) (λ s stands. (s, stands_armed e buffer s stands)) some
+  some_armed e buffer some = some_kept (ap (λ (w : World). w.known) e) (λ s stands. (s, stands_armed e buffer s stands)) some
 
   pub some_worn : (worn : WornBlock) (end : Arm) → WearRule (total (shape_of_medium old.medium)) (machine_in old.medium) (machine_in new.medium) worn end → new.buffer ≡ old.buffer
       → StandsForSome old → StandsForSome new
@@ -125,20 +125,20 @@ module _ {I : Type 0} {d : Ghosts I} (old new : Mechanism I d) (same_shape : sha
   pub stands_failed : (block : ℕ) (end : FailEnd) → FailRule (total (shape_of_medium old.medium)) (machine_in old.medium) (machine_in new.medium) block end → new.buffer ≡ buffer_after_fail old.buffer end
       → (s : Standing) → stands_for old s → stands_for new (stands_after_fail s end)
   stands_failed block fails.Done rule buffer s stands =
-      stands_still (ap (λ (m : Machine). m.world.told) rule.1) (ap (λ (m : Machine). m.world.power) rule.1) buffer (cells_failed block (ap (λ (m : Machine). m.world.cells) rule.1)) s stands
+      stands_still (ap (λ (m : Machine). m.world.known) rule.1) (ap (λ (m : Machine). m.world.power) rule.1) buffer (cells_failed block (ap (λ (m : Machine). m.world.cells) rule.1)) s stands
   stands_failed block (fails.NoBlock blocks) rule buffer s stands = stands_armed (ap (λ (m : Machine). m.world) rule.2) buffer s stands
-  stands_failed block fails.Failed rule buffer s stands = stands_off rule.1.as_told rule.1.goes_off buffer (cells_left block rule.1.others rule.1.left) s stands
+  stands_failed block fails.Failed rule buffer s stands = stands_off rule.1.as_known rule.1.turns_off buffer (cells_left block rule.1.others rule.1.left) s stands
 
-  failed_told : (block : ℕ) (end : FailEnd) → FailRule (total (shape_of_medium old.medium)) (machine_in old.medium) (machine_in new.medium) block end
-      → (world_of new.medium).told ≡ (world_of old.medium).told
-  failed_told block fails.Done rule = ap (λ (m : Machine). m.world.told) rule.1
-  failed_told block (fails.NoBlock blocks) rule = ap (λ (m : Machine). m.world.told) rule.2
-  failed_told block fails.Failed rule = rule.1.as_told
+  failed_known : (block : ℕ) (end : FailEnd) → FailRule (total (shape_of_medium old.medium)) (machine_in old.medium) (machine_in new.medium) block end
+      → (world_of new.medium).known ≡ (world_of old.medium).known
+  failed_known block fails.Done rule = ap (λ (m : Machine). m.world.known) rule.1
+  failed_known block (fails.NoBlock blocks) rule = ap (λ (m : Machine). m.world.known) rule.2
+  failed_known block fails.Failed rule = rule.1.as_known
 
   pub some_failed : (block : ℕ) (end : FailEnd) → FailRule (total (shape_of_medium old.medium)) (machine_in old.medium) (machine_in new.medium) block end
       → new.buffer ≡ buffer_after_fail old.buffer end → StandsForSome old → StandsForSome new
   some_failed block end rule buffer some =
-      some_kept (failed_told block end rule) (λ s stands. (stands_after_fail s end, stands_failed block end rule buffer s stands)) some
+      some_kept (failed_known block end rule) (λ s stands. (stands_after_fail s end, stands_failed block end rule buffer s stands)) some
 
   -- the power went off and on again
   module _ (machine : machine_in new.medium ≡ turned_on (machine_in old.medium)) (dropped : new.buffer ≡ []) where
@@ -156,7 +156,7 @@ module _ {I : Type 0} {d : Ghosts I} (old new : Mechanism I d) (same_shape : sha
           found.0,
           found.1,
           record {
-            told = ap (λ (m : Machine). m.world.told) machine ∙ stands.told;
+            known = ap (λ (m : Machine). m.world.known) machine ∙ stands.known;
             agrees = (ap (λ (m : Machine). m.world.power) machine, found.2);
             buffered = nothing_buffered found.0;
           },

@@ -5,11 +5,11 @@ use Rattle.std.proofs.Common.{sym, ap, ◌∙◌, inl, inr, subst}
 use Rattle.model_geometry.specs.Geometry.{Shape}
 use Rattle.model_medium.specs.Cells.{Good, IsGood, IsSameOrDead, cell_at}
 use Rattle.model_medium.specs.World.{World, IsUse, IsOff}
-use Rattle.model_buffer.specs.Buffer.{bytes_at, with_front}
+use Rattle.model_buffer.specs.Buffer.{bytes_at, with_newest}
 use Rattle.model_buffer.specs.declared.TheConstants.{BUFFERED_BLOCKS}
 use Rattle.model_sectors.specs.Discs.{home, home_cell}
 use Rattle.model_sectors.proofs.Covering.{bytes_at_none}
-use Rattle.model_stops.specs.Stops.{Goes, Stops}
+use Rattle.model_stops.specs.Stops.{Continues, Stops}
 use Rattle.ram_medium.specs.WholeBlocks.{EndedRead, StoppedRead}
 use Rattle.model_stops.specs.declared.Stop.{Stop}
 use Rattle.model_stops.specs.declared.Stop.TheVariants as stops
@@ -26,8 +26,8 @@ module _ {I : Type 0} {d : Ghosts I} (old new : Mechanism I d) (i block : ℕ) (
   abbrev place_now : block ≡ home (shown_by new) i
   place_now = place ∙ ap (λ (s : Shape). slice_index (plain_homes s) i) (sym same)
 
-  stays_one : (world_of new.medium).told ≡ (world_of old.medium).told → Goes world_of ImageReaches old.medium new.medium 1 → Stays old new 1
-  stays_one told goes = record { same_shape = same; as_told = told; on = goes.is_on; reach = goes.reach }
+  stays_one : (world_of new.medium).known ≡ (world_of old.medium).known → Continues world_of ImageReaches old.medium new.medium 1 → Stays old new 1
+  stays_one known continues = record { same_shape = same; as_known = known; on = continues.is_on; reach = continues.reach }
 
   left_home : IsSameOrDead (cell_at (world_of old.medium).cells block) (cell_at (world_of new.medium).cells block) → IsSameOrDead (home_cell (shown_by old) i) (home_cell (shown_by new) i)
   left_home left = subst (λ b. IsSameOrDead (cell_at (world_of old.medium).cells b) (home_cell (shown_by new) i)) place
@@ -36,25 +36,25 @@ module _ {I : Type 0} {d : Ghosts I} (old new : Mechanism I d) (i block : ℕ) (
   others_home : IsUse (world_of old.medium) (world_of new.medium) block → OthersSame old new i
   others_home one = λ other ne. one.others other (λ e. ne (e ∙ place))
 
-  pub fetched : (found : Bool) → found ≡ true → new.buffer ≡ with_front i new.scratch buffer → (into : List ℕ)
-      → EndedRead (world_of old.medium) (world_of new.medium) block into new.scratch found → Goes world_of ImageReaches old.medium new.medium 1 → IsFetched old new i
-  fetched true e put into rule goes = record {
-    buffer_is = put ∙ ap (with_front i new.scratch) kept;
+  pub fetched : (found : Bool) → found ≡ true → new.buffer ≡ with_newest i new.scratch buffer → (into : List ℕ)
+      → EndedRead (world_of old.medium) (world_of new.medium) block into new.scratch found → Continues world_of ImageReaches old.medium new.medium 1 → IsFetched old new i
+  fetched true e put into rule continues = record {
+    buffer_is = put ∙ ap (with_newest i new.scratch) kept;
     came = inr (record {
-      stays = stays_one rule.one.as_told goes;
+      stays = stays_one rule.one.as_known continues;
       not_buffered = bytes_at_none i old.buffer not_found;
       same_cells = rule.same;
-      gives = subst (λ b. OnTrue (world_of old.medium).told (cell_at (world_of new.medium).cells b ≡ Good new.scratch)) place_now rule.gives;
+      gives = subst (λ b. OnTrue (world_of old.medium).known (cell_at (world_of new.medium).cells b ≡ Good new.scratch)) place_now rule.gives;
     });
     few = few;
   }
-  fetched false e put into rule goes = absurd (cc)
+  fetched false e put into rule continues = absurd (cc)
 
   pub unread : (found : Bool) → found ≡ false → new.buffer ≡ buffer → (into : List ℕ)
-      → EndedRead (world_of old.medium) (world_of new.medium) block into new.scratch found → Goes world_of ImageReaches old.medium new.medium 1 → CannotBeRead old new i
-  unread true e put into rule goes = absurd (cc)
-  unread false e put into rule goes = record {
-    stays = stays_one rule.one.as_told goes;
+      → EndedRead (world_of old.medium) (world_of new.medium) block into new.scratch found → Continues world_of ImageReaches old.medium new.medium 1 → CannotBeRead old new i
+  unread true e put into rule continues = absurd (cc)
+  unread false e put into rule continues = record {
+    stays = stays_one rule.one.as_known continues;
     not_buffered = bytes_at_none i old.buffer not_found;
     buffer_is = put ∙ kept;
     others = others_home rule.one;
@@ -63,16 +63,16 @@ module _ {I : Type 0} {d : Ghosts I} (old new : Mechanism I d) (i block : ℕ) (
     few = few;
   }
 
-  halts : (stop : Stop) → (world_of new.medium).told ≡ (world_of old.medium).told → Stops world_of ImageReaches old.medium new.medium 1 stop → OthersSame old new i
+  stops_there : (stop : Stop) → (world_of new.medium).known ≡ (world_of old.medium).known → Stops world_of ImageReaches old.medium new.medium 1 stop → OthersSame old new i
       → IsSameOrDead (home_cell (shown_by old) i) (home_cell (shown_by new) i) → FetchStopped old new i stop
-  halts stop told stops others left = record { same_shape = same; as_told = told; stops = stops; others = others; left = left; not_buffered = bytes_at_none i old.buffer not_found; few = few }
+  stops_there stop known stops others left = record { same_shape = same; as_known = known; stops = stops; others = others; left = left; not_buffered = bytes_at_none i old.buffer not_found; few = few }
 
   off_same : IsOff (world_of old.medium) (world_of new.medium) → IsSameOrDead (home_cell (shown_by old) i) (home_cell (shown_by new) i)
   off_same off = left_home (inl (ap (λ (w : World). cell_at w.cells block) off.nothing))
 
   pub halted : (stop : Stop) (into into' : List ℕ) → StoppedRead (world_of old.medium) (world_of new.medium) block into into' stop → Stops world_of ImageReaches old.medium new.medium 1 stop
       → FetchStopped old new i stop
-  halted stops.Cut into into' rule stopped = halts stops.Cut rule.one.as_told stopped (others_home rule.one) (left_home rule.left)
-  halted stops.Off into into' rule stopped = halts stops.Off (ap (λ (w : World). w.told) rule.0.nothing) stopped
+  halted stops.Cut into into' rule stopped = stops_there stops.Cut rule.one.as_known stopped (others_home rule.one) (left_home rule.left)
+  halted stops.Off into into' rule stopped = stops_there stops.Off (ap (λ (w : World). w.known) rule.0.nothing) stopped
       (λ other ne. ap (λ (w : World). cell_at w.cells other) rule.0.nothing) (off_same rule.0)
-  halted stops.Fault into into' rule stopped = halts stops.Fault rule.one.as_told stopped (others_home rule.one) (left_home rule.left)
+  halted stops.Fault into into' rule stopped = stops_there stops.Fault rule.one.as_known stopped (others_home rule.one) (left_home rule.left)

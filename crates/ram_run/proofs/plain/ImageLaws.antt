@@ -1,7 +1,7 @@
 -- The laws of a medium over an image, as any medium has them.
 use Rattle.model_geometry.specs.Geometry.{total}
 use Rattle.model_medium.proofs.Compose.{reach_none, reach_then, follows-reach}
-use Rattle.model_image.proofs.ToldCells.{shows_none_untold, length-cells_told}
+use Rattle.model_image.proofs.KnownCells.{shows_none_unknown, length-cells_known}
 use Rattle.ram_outside.specs.declared.image.Image.{Ghosts}
 use Rattle.ram_medium.specs.Laws.{MediumLaws}
 use Rattle.ram_image.specs.declared.medium.ImageMedium.{ImageMedium}
@@ -12,6 +12,6 @@ image_laws {I} {d} = record {
   none = λ medium. reach_none (machine_in medium) medium.armed.to_come;
   adds_up = λ a b c j k one two. reach_then (machine_in a) (machine_in b) (machine_in c) j k one two;
   follows = λ a b k reach. follows-reach (machine_in a) (machine_in b) k reach;
-  untold = λ medium. shows_none_untold (shape_of_medium medium) (d.bytes medium.image);
-  as_many = λ medium. length-cells_told (total (shape_of_medium medium)) (d.bytes medium.image);
+  unknown = λ medium. shows_none_unknown (shape_of_medium medium) (d.bytes medium.image);
+  as_many = λ medium. length-cells_known (total (shape_of_medium medium)) (d.bytes medium.image);
 }

@@ -6,7 +6,7 @@ use Rattle.model_medium.specs.Cells.{Cell, Good, Torn, Dead, IsGood, MayLeave, c
 use Rattle.model_buffer.specs.Buffer.{bytes_at, numbers_in, touched_one}
 use Rattle.model_sectors.specs.Discs.{On, Agrees, Fits, SomeFits, block_of, home_cell}
 use Rattle.model_sectors.specs.Requests.{is_partly, start_in, end_in, merged_in, with_part}
-use Rattle.model_sectors.proofs.Covering.{numbers_in-with_front}
+use Rattle.model_sectors.proofs.Covering.{numbers_in-with_newest}
 use Rattle.model_sectors.proofs.Pieces.{length_block}
 use Rattle.ram_outside.specs.declared.image.Image.{Ghosts}
 use Rattle.model_stops.specs.declared.Stop.{Stop}
@@ -20,7 +20,7 @@ use Rattle.ram_run.specs.Plain.Blocks.{Stays, OthersSame, IsPut, IsLost, PutStop
 use Rattle.ram_run.specs.Plain.Writing.{rest_uses, HasRest, RestStopped, HasDied, IsPlaced, PlaceStopped}
 use Rattle.ram_run.proofs.plain.ImageLaws.{image_laws}
 use Rattle.model_sectors.proofs.Merges.{length_with_part, block_of-with_part, other_block-with_part, merged_whole}
-use Rattle.ram_run.proofs.plain.ReadTurns.{where_told, stays_then}
+use Rattle.ram_run.proofs.plain.ReadTurns.{where_known, stays_then}
 use Rattle.ram_run.proofs.plain.ReadEnds.{same_homes}
 use Rattle.ram_run.proofs.plain.Standings.{buffer_more, home_same, fits_with, fits_still, stops_then}
 use Rattle.model_buffer.proofs.Touched.{touched_twice}
@@ -44,7 +44,7 @@ module _ {I : Type 0} {d : Ghosts I} (old : Mechanism I d) (lba n : ℕ) (bytes 
   pub stopped_first : (new : Mechanism I d) (stop : Stop) → RestStopped old new lba n block stop → PlaceStopped old new lba n bytes block stop
   stopped_first new stop halted = record {
     same_shape = halted.same_shape;
-    as_told = halted.as_told;
+    as_known = halted.as_known;
     stops = stops_within (λ (m : ImageMedium I d). world_of m) (λ m. total (shape_of_medium m)) ImageReaches image_laws old.medium new.medium (rest_uses (numbers_in old.buffer) lba n block)
         (rest_uses (numbers_in old.buffer) lba n block + 2) stop (omega arith) halted.stops;
     others = halted.others;
@@ -66,7 +66,7 @@ module _ {I : Type 0} {d : Ghosts I} (old : Mechanism I d) (lba n : ℕ) (bytes 
     inside = subst (λ (homes : List ℕ). block < length homes) (sym (same_homes old ready is_ready.stays.same_shape)) (omega arith)
 
     stands_merged : (disc : List ℕ) → stands_for old (On disc) → stands_for merged (On disc)
-    stands_merged disc stands = let h = is_ready.keeps disc stands in record { told = h.told; agrees = h.agrees; buffered = h.buffered }
+    stands_merged disc stands = let h = is_ready.keeps disc stands in record { known = h.known; agrees = h.agrees; buffered = h.buffered }
 
     long : (disc : List ℕ) → stands_for old (On disc) → length disc ≡ 32768 * length (shown_by old).homes
     long disc stands = stands.agrees.1.as_long
@@ -92,47 +92,47 @@ module _ {I : Type 0} {d : Ghosts I} (old : Mechanism I d) (lba n : ℕ) (bytes 
     others_old : (new : Mechanism I d) → OthersSame merged new block → OthersSame old new block
     others_old new others = λ other ne. (others other (λ e. ne (e ∙ home_same old ready is_ready.stays.same_shape block)) ∙ ap (λ cells. cell_at cells other) is_ready.same_cells)
 
-    told_merged : (world_of old.medium).told ≡ true → (world_of merged.medium).told ≡ true
-    told_merged told = is_ready.stays.as_told ∙ told
+    known_merged : (world_of old.medium).known ≡ true → (world_of merged.medium).known ≡ true
+    known_merged known = is_ready.stays.as_known ∙ known
 
     module _ (new : Mechanism I d) where
       -- the home has it
       pub placed : IsPut merged new block → IsPlaced old new lba n bytes block
       placed put = record {
         stays = stays_then old merged new (rest_uses (numbers_in old.buffer) lba n block) 2 stays_merged put.stays;
-        buffered = ap numbers_in put.buffer_is ∙ numbers_in-with_front block new.scratch ready.buffer
+        buffered = ap numbers_in put.buffer_is ∙ numbers_in-with_newest block new.scratch ready.buffer
             ∙ ap (λ b. touched_one b block) is_ready.buffered ∙ touched_both (is_partly lba n block) (numbers_in old.buffer) block;
         others = others_old new put.others;
-        good = λ told. good_is_good (home_cell (shown_by new) block) held (has told);
+        good = λ known. good_is_good (home_cell (shown_by new) block) held (has known);
         makes = λ disc stands. record {
-          told = put.stays.as_told ∙ told_merged stands.told;
+          known = put.stays.as_known ∙ known_merged stands.known;
           agrees = (
             put.stays.on,
             fits_with merged new put.stays.same_shape block inside put.others disc (with_part lba n bytes block disc) (long_part disc stands) (others_part disc stands)
-                (subst (λ (cell : Cell). Agrees cell (block_of (with_part lba n bytes block disc) block)) (sym (has stands.told)) (merged_is disc stands)) (stands_merged disc stands).agrees.1,
+                (subst (λ (cell : Cell). Agrees cell (block_of (with_part lba n bytes block disc) block)) (sym (has stands.known)) (merged_is disc stands)) (stands_merged disc stands).agrees.1,
           );
           buffered = subst (λ buffer. (i : ℕ) (found : List ℕ) → bytes_at i buffer ≡ Some found → found ≡ block_of (with_part lba n bytes block disc) i) (sym put.buffer_is)
               (buffer_more block new.scratch ready.buffer disc (with_part lba n bytes block disc) (others_part disc stands)
-              (where_told (world_of merged.medium).told (new.scratch ≡ held) (told_merged stands.told) put.scratch_same ∙ merged_is disc stands) (stands_merged disc stands).buffered);
+              (where_known (world_of merged.medium).known (new.scratch ≡ held) (known_merged stands.known) put.scratch_same ∙ merged_is disc stands) (stands_merged disc stands).buffered);
         };
       }
         where
           stays_merged : Stays old merged (rest_uses (numbers_in old.buffer) lba n block)
-          stays_merged = record { same_shape = is_ready.stays.same_shape; as_told = is_ready.stays.as_told; on = is_ready.stays.on; reach = is_ready.stays.reach }
+          stays_merged = record { same_shape = is_ready.stays.same_shape; as_known = is_ready.stays.as_known; on = is_ready.stays.on; reach = is_ready.stays.reach }
 
-          has : (world_of old.medium).told ≡ true → home_cell (shown_by new) block ≡ Good held
-          has told = where_told (world_of merged.medium).told (home_cell (shown_by new) block ≡ Good held) (told_merged told) put.has
+          has : (world_of old.medium).known ≡ true → home_cell (shown_by new) block ≡ Good held
+          has known = where_known (world_of merged.medium).known (home_cell (shown_by new) block ≡ Good held) (known_merged known) put.has
 
       -- the home is dead
       pub died : IsLost merged new block → HasDied old new lba n block
       died lost = record {
         stays = stays_then old merged new (rest_uses (numbers_in old.buffer) lba n block) 2
-            (record { same_shape = is_ready.stays.same_shape; as_told = is_ready.stays.as_told; on = is_ready.stays.on; reach = is_ready.stays.reach }) lost.stays;
+            (record { same_shape = is_ready.stays.same_shape; as_known = is_ready.stays.as_known; on = is_ready.stays.on; reach = is_ready.stays.reach }) lost.stays;
         buffered = ap numbers_in lost.buffer_is ∙ is_ready.buffered;
         others = others_old new lost.others;
         dead = lost.dead;
         keeps = λ disc stands. record {
-          told = lost.stays.as_told ∙ told_merged stands.told;
+          known = lost.stays.as_known ∙ known_merged stands.known;
           agrees = (lost.stays.on, fits_still merged new lost.stays.same_shape block inside lost.others disc (inr (dead_is_bad (home_cell (shown_by new) block) lost.dead)) (stands_merged disc stands).agrees.1);
           buffered = subst (λ buffer. (i : ℕ) (found : List ℕ) → bytes_at i buffer ≡ Some found → found ≡ block_of disc i) (sym lost.buffer_is) (stands_merged disc stands).buffered;
         };
@@ -142,9 +142,9 @@ module _ {I : Type 0} {d : Ghosts I} (old : Mechanism I d) (lba n : ℕ) (bytes 
       pub stopped_later : (stop : Stop) → PutStopped merged new block stop → PlaceStopped old new lba n bytes block stop
       stopped_later stop halted = record {
         same_shape = halted.same_shape ∙ is_ready.stays.same_shape;
-        as_told = halted.as_told ∙ is_ready.stays.as_told;
+        as_known = halted.as_known ∙ is_ready.stays.as_known;
         stops = stops_then old merged new (rest_uses (numbers_in old.buffer) lba n block) 2 stop
-            (record { same_shape = is_ready.stays.same_shape; as_told = is_ready.stays.as_told; on = is_ready.stays.on; reach = is_ready.stays.reach }) halted.stops;
+            (record { same_shape = is_ready.stays.same_shape; as_known = is_ready.stays.as_known; on = is_ready.stays.on; reach = is_ready.stays.reach }) halted.stops;
         others = others_old new halted.others;
         leaves = λ disc stands. by_cell disc stands halted.left;
       }

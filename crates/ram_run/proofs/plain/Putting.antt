@@ -5,14 +5,14 @@ use Rattle.std.proofs.Common.{sym, ap, ◌∙◌, inl, inr, subst, arith}
 use Rattle.model_geometry.specs.Geometry.{Shape, total}
 use Rattle.model_medium.specs.Cells.{Cell, Good, Dead, IsGood, IsSameOrDead, MayLeave, cell_at}
 use Rattle.model_medium.specs.World.{World, IsUse, ReadsCell, FindsNoBytes, WritesCell}
-use Rattle.model_buffer.specs.Buffer.{with_front}
+use Rattle.model_buffer.specs.Buffer.{with_newest}
 use Rattle.model_sectors.specs.Discs.{IsOn, home, home_cell}
 use Rattle.ram_outside.specs.declared.image.Image.{Ghosts}
-use Rattle.model_stops.specs.Stops.{Goes, Stops}
+use Rattle.model_stops.specs.Stops.{Continues, Stops}
 use Rattle.ram_medium.specs.WholeBlocks.{StoppedRead, StoppedWrite}
 use Rattle.model_stops.specs.declared.Stop.{Stop}
 use Rattle.model_stops.specs.declared.Stop.TheVariants as stops
-use Rattle.ram_medium.proofs.Parts.{goes_then, stops_later, stops_within}
+use Rattle.ram_medium.proofs.Parts.{continues_then, stops_later, stops_within}
 use Rattle.ram_image.specs.declared.medium.ImageMedium.{ImageMedium}
 use Rattle.ram_image.specs.Medium.{shape_of_medium, world_of, ImageReaches}
 use Rattle.ram_run.specs.declared.plain.mechanism.Mechanism.{Mechanism}
@@ -57,14 +57,14 @@ written_kept : (mid new : Cell) (bytes read : List ℕ) → (mid ≡ Good bytes)
 written_kept mid new bytes read (inl good) same found = let e : Good read ≡ Good bytes = sym found ∙ same ∙ good in cc
 written_kept mid new bytes read (inr dead) same found = let e : Good read ≡ Dead = sym found ∙ same ∙ dead in absurd (cc)
 
--- where it is told
-told_kept : (told : Bool) (mid new : Cell) (bytes read : List ℕ) → (mid ≡ Good bytes) ⊎ (mid ≡ Dead) → new ≡ mid → OnTrue told (new ≡ Good read) → OnTrue told (read ≡ bytes)
-told_kept true mid new bytes read left same found = written_kept mid new bytes read left same found
-told_kept false mid new bytes read left same found = tt
+-- where it is known
+known_kept : (known : Bool) (mid new : Cell) (bytes read : List ℕ) → (mid ≡ Good bytes) ⊎ (mid ≡ Dead) → new ≡ mid → OnTrue known (new ≡ Good read) → OnTrue known (read ≡ bytes)
+known_kept true mid new bytes read left same found = written_kept mid new bytes read left same found
+known_kept false mid new bytes read left same found = tt
 
-told_has : (told : Bool) (new : Cell) (bytes read : List ℕ) → OnTrue told (read ≡ bytes) → OnTrue told (new ≡ Good read) → OnTrue told (new ≡ Good bytes)
-told_has true new bytes read same found = found ∙ ap Good same
-told_has false new bytes read same found = tt
+known_has : (known : Bool) (new : Cell) (bytes read : List ℕ) → OnTrue known (read ≡ bytes) → OnTrue known (new ≡ Good read) → OnTrue known (new ≡ Good bytes)
+known_has true new bytes read same found = found ∙ ap Good same
+known_has false new bytes read same found = tt
 
 module _ {I : Type 0} {d : Ghosts I} (old new : Mechanism I d) (i block : ℕ) (place : block ≡ home (shown_by old) i) (same_shape : shape_of_medium new.medium ≡ shape_of_medium old.medium) where
   here_old : cell_at (world_of old.medium).cells block ≡ home_cell (shown_by old) i
@@ -82,41 +82,41 @@ module _ {I : Type 0} {d : Ghosts I} (old new : Mechanism I d) (i block : ℕ) (
   -- the write was stopped
   pub stopped_in_write : (stop : Stop) → IsOn (shown_by old) → StoppedWrite (world_of old.medium) (world_of new.medium) block old.scratch stop
       → Stops (λ (m : ImageMedium I d). world_of m) ImageReaches old.medium new.medium 1 stop → PutStopped old new i stop
-  stopped_in_write stop on rule goes =
+  stopped_in_write stop on rule continues =
       let did = stopped_write (world_of old.medium) (world_of new.medium) block old.scratch stop on rule in
       record {
         same_shape = same_shape;
-        as_told = did.one.as_told;
-        stops = stops_within (λ (m : ImageMedium I d). world_of m) (λ m. total (shape_of_medium m)) ImageReaches image_laws old.medium new.medium 1 2 stop (omega arith) goes;
+        as_known = did.one.as_known;
+        stops = stops_within (λ (m : ImageMedium I d). world_of m) (λ m. total (shape_of_medium m)) ImageReaches image_laws old.medium new.medium 1 2 stop (omega arith) continues;
         others = others_one did.one;
         left = subst (λ (was : Cell). MayLeave was old.scratch (home_cell (shown_by new) i)) here_old
             (subst (λ (cell : Cell). MayLeave (cell_at (world_of old.medium).cells block) old.scratch cell) here_new did.left);
       }
 
   module _ (mid : ImageMedium I d) (wrote : WritesCell (world_of old.medium) (world_of mid) block old.scratch)
-      (first : Goes (λ (m : ImageMedium I d). world_of m) ImageReaches old.medium mid 1) where
+      (first : Continues (λ (m : ImageMedium I d). world_of m) ImageReaches old.medium mid 1) where
     -- the read back was stopped
     pub stopped_in_read : (into' : List ℕ) (stop : Stop) → StoppedRead (world_of mid) (world_of new.medium) block old.scratch into' stop
         → Stops (λ (m : ImageMedium I d). world_of m) ImageReaches mid new.medium 1 stop → PutStopped old new i stop
-    stopped_in_read into' stop rule goes =
+    stopped_in_read into' stop rule continues =
         let did = stopped_read (world_of mid) (world_of new.medium) block old.scratch into' stop first.is_on rule in
         record {
           same_shape = same_shape;
-          as_told = did.one.as_told ∙ wrote.one.as_told;
-          stops = stops_later (λ (m : ImageMedium I d). world_of m) (λ m. total (shape_of_medium m)) ImageReaches image_laws old.medium mid new.medium 1 1 stop first goes;
+          as_known = did.one.as_known ∙ wrote.one.as_known;
+          stops = stops_later (λ (m : ImageMedium I d). world_of m) (λ m. total (shape_of_medium m)) ImageReaches image_laws old.medium mid new.medium 1 1 stop first continues;
           others = others_two (world_of mid) wrote.one did.one;
           left = subst (λ (cell : Cell). MayLeave (home_cell (shown_by old) i) old.scratch cell) here_new
               (written_then (home_cell (shown_by old) i) (cell_at (world_of mid).cells block) (cell_at (world_of new.medium).cells block) old.scratch wrote.left did.left);
         }
 
-    both_go : Goes (λ (m : ImageMedium I d). world_of m) ImageReaches mid new.medium 1 → Goes (λ (m : ImageMedium I d). world_of m) ImageReaches old.medium new.medium 2
-    both_go second = goes_then (λ (m : ImageMedium I d). world_of m) (λ m. total (shape_of_medium m)) ImageReaches image_laws old.medium mid new.medium 1 1 first second
+    both_go : Continues (λ (m : ImageMedium I d). world_of m) ImageReaches mid new.medium 1 → Continues (λ (m : ImageMedium I d). world_of m) ImageReaches old.medium new.medium 2
+    both_go second = continues_then (λ (m : ImageMedium I d). world_of m) (λ m. total (shape_of_medium m)) ImageReaches image_laws old.medium mid new.medium 1 1 first second
 
     -- the read back found no whole bytes
     pub is_lost : (into' : List ℕ) → FindsNoBytes (world_of mid) (world_of new.medium) block old.scratch into'
-        → Goes (λ (m : ImageMedium I d). world_of m) ImageReaches mid new.medium 1 → new.buffer ≡ old.buffer → IsLost old new i
-    is_lost into' rule goes kept = record {
-      stays = record { same_shape = same_shape; as_told = rule.one.as_told ∙ wrote.one.as_told; on = goes.is_on; reach = (both_go goes).reach };
+        → Continues (λ (m : ImageMedium I d). world_of m) ImageReaches mid new.medium 1 → new.buffer ≡ old.buffer → IsLost old new i
+    is_lost into' rule continues kept = record {
+      stays = record { same_shape = same_shape; as_known = rule.one.as_known ∙ wrote.one.as_known; on = continues.is_on; reach = (both_go continues).reach };
       others = others_two (world_of mid) wrote.one rule.one;
       dead = sym here_new ∙ written_lost (cell_at (world_of mid).cells block) (cell_at (world_of new.medium).cells block) old.scratch wrote.left rule.left rule.not_good;
       buffer_is = kept;
@@ -124,19 +124,19 @@ module _ {I : Type 0} {d : Ghosts I} (old new : Mechanism I d) (i block : ℕ) (
 
     -- the read back found the bytes
     pub is_put : ReadsCell (world_of mid) (world_of new.medium) block new.scratch
-        → Goes (λ (m : ImageMedium I d). world_of m) ImageReaches mid new.medium 1 → new.buffer ≡ with_front i new.scratch old.buffer → IsPut old new i
-    is_put rule goes put =
-        let told : (world_of mid).told ≡ (world_of old.medium).told = wrote.one.as_told in
-        let found : OnTrue (world_of old.medium).told (home_cell (shown_by new) i ≡ Good new.scratch) =
-        subst (λ (b : Bool). OnTrue b (home_cell (shown_by new) i ≡ Good new.scratch)) told
-        (subst (λ (cell : Cell). OnTrue (world_of mid).told (cell ≡ Good new.scratch)) here_new rule.gives) in
-        let same : OnTrue (world_of old.medium).told (new.scratch ≡ old.scratch) =
-        told_kept (world_of old.medium).told (cell_at (world_of mid).cells block) (home_cell (shown_by new) i) old.scratch new.scratch wrote.left
+        → Continues (λ (m : ImageMedium I d). world_of m) ImageReaches mid new.medium 1 → new.buffer ≡ with_newest i new.scratch old.buffer → IsPut old new i
+    is_put rule continues put =
+        let known : (world_of mid).known ≡ (world_of old.medium).known = wrote.one.as_known in
+        let found : OnTrue (world_of old.medium).known (home_cell (shown_by new) i ≡ Good new.scratch) =
+        subst (λ (b : Bool). OnTrue b (home_cell (shown_by new) i ≡ Good new.scratch)) known
+        (subst (λ (cell : Cell). OnTrue (world_of mid).known (cell ≡ Good new.scratch)) here_new rule.gives) in
+        let same : OnTrue (world_of old.medium).known (new.scratch ≡ old.scratch) =
+        known_kept (world_of old.medium).known (cell_at (world_of mid).cells block) (home_cell (shown_by new) i) old.scratch new.scratch wrote.left
         (sym here_new ∙ ap (λ cells. cell_at cells block) rule.same) found in
         record {
-          stays = record { same_shape = same_shape; as_told = rule.one.as_told ∙ wrote.one.as_told; on = goes.is_on; reach = (both_go goes).reach };
+          stays = record { same_shape = same_shape; as_known = rule.one.as_known ∙ wrote.one.as_known; on = continues.is_on; reach = (both_go continues).reach };
           others = others_two (world_of mid) wrote.one rule.one;
-          has = told_has (world_of old.medium).told (home_cell (shown_by new) i) old.scratch new.scratch same found;
+          has = known_has (world_of old.medium).known (home_cell (shown_by new) i) old.scratch new.scratch same found;
           scratch_same = same;
           buffer_is = put;
         }

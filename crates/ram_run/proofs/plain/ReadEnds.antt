@@ -99,19 +99,19 @@ module _ {I : Type 0} {d : Ghosts I} where
     all_cause = record {
       inside = so_far.inside;
       homes = same_homes old new so_far.stays.same_shape;
-      goes = record { on = so_far.stays.on; reach = ended.stays.reach; buffered_is = ended.touched };
+      continues = record { on = so_far.stays.on; reach = ended.stays.reach; buffered_is = ended.touched };
     }
 
     all_into : (disc : List ℕ) → stands_for old (On disc) → into ≡ sectors_of disc lba n
     all_into disc stands =
         sym (take_all (2048 * n) into (omega (arith, so_far.long)))
         ∙ ap (λ (m : ℕ). take (2048 * m) into) (sym (done_all lba n))
-        ∙ (ended.discs disc stands).front
+        ∙ (ended.discs disc stands).prefix
         ∙ ap (λ (m : ℕ). sectors_of disc lba m) (done_all lba n)
 
     all_stands : (disc : List ℕ) → stands_for old (On disc) → stands_for new (On disc)
     all_stands disc stands = record {
-      told = so_far.stays.as_told ∙ stands.told;
+      known = so_far.stays.as_known ∙ stands.known;
       agrees = (
         so_far.stays.on,
         fits_kept (shown_by old) (shown_by new) disc (same_homes old new so_far.stays.same_shape)
@@ -179,7 +179,7 @@ module _ {I : Type 0} {d : Ghosts I} where
         is_named = record { covered = covered; first = refl };
         block_is = refl;
         not_at_hand = not_hand old mid lba n k into so_far covered did.not_buffered did.few;
-        goes = record {
+        continues = record {
           on = did.stays.on;
           reach = (stays_then old mid new (read_uses b (block_with lba) k) 1 so_far.stays did.stays).reach;
           buffered_is = ap numbers_in did.buffer_is ∙ so_far.touched;
@@ -204,7 +204,7 @@ module _ {I : Type 0} {d : Ghosts I} where
 
     unread_stands : (disc : List ℕ) → stands_for old (On disc) → stands_for new (On disc)
     unread_stands disc stands = record {
-      told = did.stays.as_told ∙ so_far.stays.as_told ∙ stands.told;
+      known = did.stays.as_known ∙ so_far.stays.as_known ∙ stands.known;
       agrees = (
         did.stays.on,
         fits_after old mid new (block_with lba + k) so_far.stays.same_shape so_far.same_cells did.stays.same_shape did.others here disc (inr did.not_good) stands.agrees.1,
@@ -228,7 +228,7 @@ module _ {I : Type 0} {d : Ghosts I} where
   stopped_at : (old new last : Mechanism I d) (i : ℕ) (stop : Stop) → last.medium ≡ new.medium → FetchStopped old new i stop → FetchStopped old last i stop
   stopped_at old new last i stop e did = record {
     same_shape = ap (λ (m : ImageMedium I d). shape_of_medium m) e ∙ did.same_shape;
-    as_told = ap (λ (m : ImageMedium I d). (world_of m).told) e ∙ did.as_told;
+    as_known = ap (λ (m : ImageMedium I d). (world_of m).known) e ∙ did.as_known;
     stops = subst (λ (m : ImageMedium I d). Stops (λ (m : ImageMedium I d). world_of m) ImageReaches old.medium m 1 stop) (sym e) did.stops;
     others = λ block ne. (ap (λ (m : ImageMedium I d). cell_at (world_of m).cells block) e ∙ did.others block ne);
     left = subst (λ (m : ImageMedium I d). IsSameOrDead (home_cell (shown_by old) i) (cell_at (world_of m).cells (slice_index (plain_homes (shape_of_medium m)) i))) (sym e) did.left;
@@ -238,9 +238,9 @@ module _ {I : Type 0} {d : Ghosts I} where
 
   -- after a stop with the power on before, it is off
   pub stop_off : (a b : ImageMedium I d) (most : ℕ) (why : Stop) → IsTrue (world_of a).power → Stops (λ (m : ImageMedium I d). world_of m) ImageReaches a b most why → ¬ IsTrue (world_of b).power
-  stop_off a b most stops.Cut on stop = stop.cut.goes_off
+  stop_off a b most stops.Cut on stop = stop.cut.turns_off
   stop_off a b most stops.Off on stop = absurd (stop.was_off on)
-  stop_off a b most stops.Fault on stop = (use_failed (world_of stop.mid) (world_of b) stop.block stop.fails).goes_off
+  stop_off a b most stops.Fault on stop = (use_failed (world_of stop.mid) (world_of b) stop.block stop.fails).turns_off
 
   -- or its read was stopped
   module _ (old mid new last : Mechanism I d) (lba n k : ℕ) (into into' : List ℕ) (so_far : ReadSoFar old mid lba n k into) (covered : k < blocks_covered lba n)
@@ -257,7 +257,7 @@ module _ {I : Type 0} {d : Ghosts I} where
 
       stopped_stands : (disc : List ℕ) → stands_for old (On disc) → stands_for last (Off (disc ∷ []))
       stopped_stands disc stands = record {
-        told = did.as_told ∙ so_far.stays.as_told ∙ stands.told;
+        known = did.as_known ∙ so_far.stays.as_known ∙ stands.known;
         agrees = (
           stop_off mid.medium last.medium 1 why so_far.stays.on did.stops,
           inl (fits_after old mid last (block_with lba + k) so_far.stays.same_shape so_far.same_cells did.same_shape did.others

@@ -16,7 +16,7 @@ use Rattle.model_sectors.specs.Uses.{touched_from, is_buffered, is_at_hand, read
 use Rattle.model_sectors.specs.Parts.{IsInRange}
 use Rattle.model_sectors.specs.Reads.{AreReadable}
 use Rattle.model_sectors.proofs.Pieces.{sectors_in_block, sectors_more, sectors_none, length_sectors}
-use Rattle.model_sectors.proofs.Covering.{covered_part, covered_after, covered_all, covered_inside, at_hand_was_buffered, bytes_at_some, numbers_in-with_front, bytes_at-with_front}
+use Rattle.model_sectors.proofs.Covering.{covered_part, covered_after, covered_all, covered_inside, at_hand_was_buffered, bytes_at_some, numbers_in-with_newest, bytes_at-with_newest}
 use Rattle.ram_outside.specs.declared.image.Image.{Ghosts}
 use Rattle.ram_image.specs.declared.medium.ImageMedium.{ImageMedium}
 use Rattle.ram_image.specs.Medium.{shape_of_medium, world_of, ImageReaches}
@@ -57,11 +57,11 @@ done_all lba n = elim (cases_eq n 0) [
 ]
 
 -- what is read goes on by the bytes of a block
-front_more : (lba n k blocks : ℕ) (disc block into into' : List ℕ) → k < blocks_covered lba n → lba + n ≤ 16 * blocks → length disc ≡ 32768 * blocks → length into ≡ 2048 * n
+prefix_more : (lba n k blocks : ℕ) (disc block into into' : List ℕ) → k < blocks_covered lba n → lba + n ≤ 16 * blocks → length disc ≡ 32768 * blocks → length into ≡ 2048 * n
     → block ≡ block_of disc (block_with lba + k) → into' ≡ filled_by lba n (block_with lba + k) block into → take (2048 * done lba n k) into ≡ sectors_of disc lba (done lba n k)
     → (length into' ≡ 2048 * n) × (take (2048 * done lba n (suc k)) into' ≡ sectors_of disc lba (done lba n (suc k)))
 unfolding filled_by taken_from
-front_more lba n k blocks disc block into into' covered inside long whole is put front =
+prefix_more lba n k blocks disc block into into' covered inside long whole is put prefix =
     let i : ℕ = block_with lba + k in
     let start : ℕ = start_in lba i in
     let end : ℕ = end_in lba n i in
@@ -78,12 +78,12 @@ front_more lba n k blocks disc block into into' covered inside long whole is put
     let before : done lba n k ≡ at = done_before lba n k covered in
     let next : done lba n (suc k) ≡ at + count = done_after lba n k covered in
     let end_at : 2048 * (at + count) ≡ 2048 * at + length (sectors_of disc (lba + at) count) = omega arith in
-    let front_at : take (2048 * at) into ≡ sectors_of disc lba at = ap (λ (m : ℕ). take (2048 * m) into) (sym before) ∙ front ∙ ap (λ (m : ℕ). sectors_of disc lba m) before in (
+    let prefix_at : take (2048 * at) into ≡ sectors_of disc lba at = ap (λ (m : ℕ). take (2048 * m) into) (sym before) ∙ prefix ∙ ap (λ (m : ℕ). sectors_of disc lba m) before in (
       ap length written ∙ length-put_at (2048 * at) (sectors_of disc (lba + at) count) into (omega arith) ∙ whole,
       ap (λ (m : ℕ). take (2048 * m) into') next
           ∙ ap (take (2048 * (at + count))) written
           ∙ take-put_at-end (2048 * (at + count)) (2048 * at) (sectors_of disc (lba + at) count) into end_at (omega arith)
-          ∙ ap (λ (l : List ℕ). l ++ sectors_of disc (lba + at) count) front_at
+          ∙ ap (λ (l : List ℕ). l ++ sectors_of disc (lba + at) count) prefix_at
           ∙ sym (sectors_more disc lba at count)
           ∙ ap (λ (m : ℕ). sectors_of disc lba m) (sym next),
     )
@@ -99,9 +99,9 @@ plus_one_some a b e none = omega arith
 agrees_good : (cell : Cell) (held bytes : List ℕ) → cell ≡ Good held → Agrees cell bytes → held ≡ bytes
 agrees_good cell held bytes e agrees = subst (λ (c : Cell). Agrees c bytes) e agrees
 
--- what is so where a medium tells its cells
-pub where_told : (told : Bool) (P : Type 0) → told ≡ true → OnTrue told P → P
-where_told told P e h = subst (λ (b : Bool). OnTrue b P) e h
+-- what is so where the cells of a medium are known
+pub where_known : (known : Bool) (P : Type 0) → known ≡ true → OnTrue known P → P
+where_known known P e h = subst (λ (b : Bool). OnTrue b P) e h
 
 module _ {I : Type 0} {d : Ghosts I} where
   -- a cell of a home is as it was, where no cell changed
@@ -114,7 +114,7 @@ module _ {I : Type 0} {d : Ghosts I} where
   stays_at : (old mid new : Mechanism I d) (uses : ℕ) → new.medium ≡ mid.medium → Stays old mid uses → Stays old new uses
   stays_at old mid new uses e stays = record {
     same_shape = ap (λ (m : ImageMedium I d). shape_of_medium m) e ∙ stays.same_shape;
-    as_told = ap (λ (m : ImageMedium I d). (world_of m).told) e ∙ stays.as_told;
+    as_known = ap (λ (m : ImageMedium I d). (world_of m).known) e ∙ stays.as_known;
     on = subst (λ (m : ImageMedium I d). IsTrue (world_of m).power) (sym e) stays.on;
     reach = subst (λ (m : ImageMedium I d). ImageReaches old.medium m uses) (sym e) stays.reach;
   }
@@ -123,7 +123,7 @@ module _ {I : Type 0} {d : Ghosts I} where
   pub stays_then : (old mid new : Mechanism I d) (j k : ℕ) → Stays old mid j → Stays mid new k → Stays old new (j + k)
   stays_then old mid new j k one two = record {
     same_shape = two.same_shape ∙ one.same_shape;
-    as_told = two.as_told ∙ one.as_told;
+    as_known = two.as_known ∙ one.as_known;
     on = two.on;
     reach = image_laws.adds_up old.medium mid.medium new.medium j k one.reach two.reach;
   }
@@ -131,7 +131,7 @@ module _ {I : Type 0} {d : Ghosts I} where
   -- what is read of a disc so far
   pub record HasRead (old new : Mechanism I d) (lba n k : ℕ) (into disc : List ℕ) : Type 0 where
     pub buffered : BufferAgrees new.buffer disc
-    pub front : take (2048 * done lba n k) into ≡ sectors_of disc lba (done lba n k)
+    pub prefix : take (2048 * done lba n k) into ≡ sectors_of disc lba (done lba n k)
     pub readable : AreReadable (shown_by old) (shown_by new) (block_with lba) k
 
   -- so many blocks of a request were read
@@ -149,7 +149,7 @@ module _ {I : Type 0} {d : Ghosts I} where
   pub read_none : (old : Mechanism I d) (lba n : ℕ) (into : List ℕ) → IsInRange (shown_by old) lba n → length into ≡ 2048 * n → ReadSoFar old old lba n 0 into
   read_none old lba n into inside long = record {
     inside = inside;
-    stays = record { same_shape = refl; as_told = refl; on = inside.on; reach = image_laws.none old.medium };
+    stays = record { same_shape = refl; as_known = refl; on = inside.on; reach = image_laws.none old.medium };
     touched = refl;
     same_cells = refl;
     few = inl refl;
@@ -157,7 +157,7 @@ module _ {I : Type 0} {d : Ghosts I} where
     long = long;
     discs = λ disc stands. record {
       buffered = stands.buffered;
-      front = ap (λ (m : ℕ). take (2048 * m) into) (done_none lba n) ∙ sym (sectors_none disc lba) ∙ ap (λ (m : ℕ). sectors_of disc lba m) (sym (done_none lba n));
+      prefix = ap (λ (m : ℕ). take (2048 * m) into) (done_none lba n) ∙ sym (sectors_none disc lba) ∙ ap (λ (m : ℕ). sectors_of disc lba m) (sym (done_none lba n));
       readable = λ j less. absurd (omega arith);
     };
   }
@@ -185,7 +185,7 @@ module _ {I : Type 0} {d : Ghosts I} where
     pub same_cells : (world_of new.medium).cells ≡ (world_of mid.medium).cells
     pub unused : read_uses (numbers_in old.buffer) (block_with lba) (suc k) ≡ 0 → (new.medium ≡ mid.medium) × (read_uses (numbers_in old.buffer) (block_with lba) k ≡ 0)
     pub is_block : (disc : List ℕ) → stands_for old (On disc) → BufferAgrees mid.buffer disc → block_with lba + k < length (shown_by old).homes → new.scratch ≡ block_of disc (block_with lba + k)
-    pub readable : (world_of old.medium).told ≡ true → IsGood (home_cell (shown_by new) (block_with lba + k)) ⊎ IsTrue (is_buffered (numbers_in old.buffer) (block_with lba + k))
+    pub readable : (world_of old.medium).known ≡ true → IsGood (home_cell (shown_by new) (block_with lba + k)) ⊎ IsTrue (is_buffered (numbers_in old.buffer) (block_with lba + k))
 
   module _ (old mid new : Mechanism I d) (lba n k : ℕ) (into : List ℕ) (so_far : ReadSoFar old mid lba n k into) where
     abbrev uses : ℕ → ℕ
@@ -207,23 +207,23 @@ module _ {I : Type 0} {d : Ghosts I} where
           same_cells = ap (λ (m : ImageMedium I d). (world_of m).cells) from.unused;
           unused = λ none. (from.unused, sym same ∙ none);
           is_block = λ disc stands agrees within. agrees (block_with lba + k) new.scratch from.held;
-          readable = λ told. inr (at_hand_was_buffered (numbers_in old.buffer) (block_with lba) k hand);
+          readable = λ known. inr (at_hand_was_buffered (numbers_in old.buffer) (block_with lba) k hand);
         }
 
     turned_by_home : FromHome mid new (block_with lba + k) → Turned old mid new lba k
     turned_by_home from =
         let hand : is_at_hand (numbers_in old.buffer) (block_with lba) k ≡ false = false_from_ne_true (is_at_hand (numbers_in old.buffer) (block_with lba) k) (not_at_hand from.not_buffered) in
         let one : (if is_at_hand (numbers_in old.buffer) (block_with lba) k then 0 else 1) ≡ 1 = cond-false (is_at_hand (numbers_in old.buffer) (block_with lba) k) 0 1 hand in
-        let here : (world_of old.medium).told ≡ true → home_cell (shown_by new) (block_with lba + k) ≡ Good new.scratch =
-        λ told. where_told (world_of mid.medium).told (home_cell (shown_by new) (block_with lba + k) ≡ Good new.scratch) (so_far.stays.as_told ∙ told) from.gives in
+        let here : (world_of old.medium).known ≡ true → home_cell (shown_by new) (block_with lba + k) ≡ Good new.scratch =
+        λ known. where_known (world_of mid.medium).known (home_cell (shown_by new) (block_with lba + k) ≡ Good new.scratch) (so_far.stays.as_known ∙ known) from.gives in
         record {
           stays = subst (λ (m : ℕ). Stays old new (uses k + m)) (sym one) (stays_then old mid new (uses k) 1 so_far.stays from.stays);
           same_cells = from.same_cells;
           unused = λ none. absurd (plus_one_some (uses k) (if is_at_hand (numbers_in old.buffer) (block_with lba) k then 0 else 1) one none);
           is_block = λ disc stands agrees within. agrees_good (home_cell (shown_by old) (block_with lba + k)) new.scratch (block_of disc (block_with lba + k))
-              (sym (same_home_cell old new (block_with lba + k) (from.stays.same_shape ∙ so_far.stays.same_shape) (from.same_cells ∙ so_far.same_cells)) ∙ here stands.told)
+              (sym (same_home_cell old new (block_with lba + k) (from.stays.same_shape ∙ so_far.stays.same_shape) (from.same_cells ∙ so_far.same_cells)) ∙ here stands.known)
               (stands.agrees.1.agrees (block_with lba + k) within);
-          readable = λ told. inl (subst IsGood (sym (here told)) tt);
+          readable = λ known. inl (subst IsGood (sym (here known)) tt);
         }
 
     turned : IsFetched mid new (block_with lba + k) → Turned old mid new lba k
@@ -238,22 +238,22 @@ module _ {I : Type 0} {d : Ghosts I} where
 
       buffer_next : (disc : List ℕ) → stands_for old (On disc) → BufferAgrees new.buffer disc
       buffer_next disc stands j found e =
-          elim (bytes_at-with_front (block_with lba + k) j new.scratch mid.buffer found (ap (bytes_at j) (sym did.fetched.buffer_is) ∙ e)) [
+          elim (bytes_at-with_newest (block_with lba + k) j new.scratch mid.buffer found (ap (bytes_at j) (sym did.fetched.buffer_is) ∙ e)) [
             | inl here ↦ here.1 ∙ turn.is_block disc stands (so_far.discs disc stands).buffered within ∙ ap (block_of disc) (sym here.0)
             | inr before ↦ (so_far.discs disc stands).buffered j found before
           ]
 
-      front_next : (disc : List ℕ) → stands_for old (On disc) → (length into' ≡ 2048 * n) × (take (2048 * done lba n (suc k)) into' ≡ sectors_of disc lba (done lba n (suc k)))
-      front_next disc stands =
-          front_more lba n k (length (shown_by old).homes) disc new.scratch into into' covered so_far.inside.inside stands.agrees.1.as_long so_far.long
-          (turn.is_block disc stands (so_far.discs disc stands).buffered within) did.copied (so_far.discs disc stands).front
+      prefix_next : (disc : List ℕ) → stands_for old (On disc) → (length into' ≡ 2048 * n) × (take (2048 * done lba n (suc k)) into' ≡ sectors_of disc lba (done lba n (suc k)))
+      prefix_next disc stands =
+          prefix_more lba n k (length (shown_by old).homes) disc new.scratch into into' covered so_far.inside.inside stands.agrees.1.as_long so_far.long
+          (turn.is_block disc stands (so_far.discs disc stands).buffered within) did.copied (so_far.discs disc stands).prefix
 
       shape_next : shape_of_medium new.medium ≡ shape_of_medium mid.medium
       shape_next = turn.stays.same_shape ∙ sym so_far.stays.same_shape
 
       readable_next : (disc : List ℕ) → stands_for old (On disc) → AreReadable (shown_by old) (shown_by new) (block_with lba) (suc k)
       readable_next disc stands j less = elim (cases_eq j k) [
-        | inl e ↦ subst (λ (m : ℕ). IsGood (home_cell (shown_by new) (block_with lba + m)) ⊎ IsTrue (is_buffered (numbers_in old.buffer) (block_with lba + m))) (sym e) (turn.readable stands.told)
+        | inl e ↦ subst (λ (m : ℕ). IsGood (home_cell (shown_by new) (block_with lba + m)) ⊎ IsTrue (is_buffered (numbers_in old.buffer) (block_with lba + m))) (sym e) (turn.readable stands.known)
         | inr ne ↦ elim ((so_far.discs disc stands).readable j (omega arith)) [
           | inl good ↦ inl (subst IsGood (sym (same_home_cell mid new (block_with lba + j) shape_next turn.same_cells)) good)
           | inr was ↦ inr was
@@ -262,7 +262,7 @@ module _ {I : Type 0} {d : Ghosts I} where
 
       touched_next : numbers_in new.buffer ≡ touched_from (numbers_in old.buffer) (block_with lba) (suc k)
       touched_next =
-          ap numbers_in did.fetched.buffer_is ∙ numbers_in-with_front (block_with lba + k) new.scratch mid.buffer
+          ap numbers_in did.fetched.buffer_is ∙ numbers_in-with_newest (block_with lba + k) new.scratch mid.buffer
           ∙ ap (λ (l : List ℕ). touched_one l (block_with lba + k)) so_far.touched
 
       read_next : length into' ≡ 2048 * n → ReadSoFar old new lba n (suc k) into'
@@ -274,7 +274,7 @@ module _ {I : Type 0} {d : Ghosts I} where
         few = inr (few_before old mid lba n k into so_far did.fetched.few);
         unused = λ none. (let parts = turn.unused none in parts.0 ∙ so_far.unused parts.1);
         long = long;
-        discs = λ disc stands. record { buffered = buffer_next disc stands; front = (front_next disc stands).1; readable = readable_next disc stands };
+        discs = λ disc stands. record { buffered = buffer_next disc stands; prefix = (prefix_next disc stands).1; readable = readable_next disc stands };
       }
 
       -- one block more was read

@@ -7,7 +7,7 @@ use Rattle.model_buffer.specs.Buffer.{bytes_at, numbers_in, touched_one}
 use Rattle.model_sectors.specs.Discs.{On, Agrees, block_of, home, home_cell}
 use Rattle.model_sectors.specs.Requests.{is_partly}
 use Rattle.model_sectors.specs.Uses.{is_buffered}
-use Rattle.model_sectors.proofs.Covering.{bytes_at_some, numbers_in-with_front}
+use Rattle.model_sectors.proofs.Covering.{bytes_at_some, numbers_in-with_newest}
 use Rattle.ram_outside.specs.declared.image.Image.{Ghosts}
 use Rattle.model_stops.specs.Stops.{Stops}
 use Rattle.model_stops.specs.declared.Stop.{Stop}
@@ -18,7 +18,7 @@ use Rattle.ram_run.specs.Plain.Disc.{shown_by, stands_for}
 use Rattle.ram_run.specs.Plain.Blocks.{Stays, IsFetched, FromBuffer, FromHome, CannotBeRead, FetchStopped}
 use Rattle.ram_run.specs.Plain.Writing.{rest_uses, HasRest, LacksItsRest, RestStopped}
 use Rattle.ram_run.proofs.plain.ImageLaws.{image_laws}
-use Rattle.ram_run.proofs.plain.ReadTurns.{where_told}
+use Rattle.ram_run.proofs.plain.ReadTurns.{where_known}
 use Rattle.ram_run.proofs.plain.ReadEnds.{same_or_bad}
 use Rattle.ram_run.proofs.plain.Standings.{buffer_more, home_cell_now, fits_still, stays_none}
 
@@ -54,7 +54,7 @@ module _ {I : Type 0} {d : Ghosts I} (old : Mechanism I d) (lba n block : ℕ) w
     stays_by on (inl held) = subst (Stays old new) (sym (rest_at_hand (is_partly lba n block) (is_buffered (numbers_in old.buffer) block) (bytes_at_some block old.buffer new.scratch held.held)))
         (record {
           same_shape = ap (λ (m : ImageMedium I d). shape_of_medium m) held.unused;
-          as_told = ap (λ (m : ImageMedium I d). (world_of m).told) held.unused;
+          as_known = ap (λ (m : ImageMedium I d). (world_of m).known) held.unused;
           on = ap (λ (m : ImageMedium I d). (world_of m).power) held.unused ∙ on;
           reach = subst (λ (m : ImageMedium I d). ImageReaches old.medium m 0) (sym held.unused) (image_laws.none old.medium);
         })
@@ -71,7 +71,7 @@ module _ {I : Type 0} {d : Ghosts I} (old : Mechanism I d) (lba n block : ℕ) w
     has_by (inl held) disc stands = stands.buffered block new.scratch held.held
     has_by (inr read) disc stands =
         let found : home_cell (shown_by old) block ≡ Good new.scratch =
-        sym (cell_by read.stays.same_shape read.same_cells block) ∙ where_told (world_of old.medium).told (home_cell (shown_by new) block ≡ Good new.scratch) stands.told read.gives in
+        sym (cell_by read.stays.same_shape read.same_cells block) ∙ where_known (world_of old.medium).known (home_cell (shown_by new) block ≡ Good new.scratch) stands.known read.gives in
         subst (λ (cell : Cell). Agrees cell (block_of disc block)) found (stands.agrees.1.agrees block inside)
 
     pub ready_fetched : IsTrue (world_of old.medium).power → IsFetched old new block → HasRest old new lba n block
@@ -81,10 +81,10 @@ module _ {I : Type 0} {d : Ghosts I} (old : Mechanism I d) (lba n block : ℕ) w
         record {
           stays = stays;
           same_cells = cells;
-          buffered = ap numbers_in fetched.buffer_is ∙ numbers_in-with_front block new.scratch old.buffer
+          buffered = ap numbers_in fetched.buffer_is ∙ numbers_in-with_newest block new.scratch old.buffer
               ∙ sym (cond-true (is_partly lba n block) (touched_one (numbers_in old.buffer) block) (numbers_in old.buffer) partly);
           keeps = λ disc stands. record {
-            told = stays.as_told ∙ stands.told;
+            known = stays.as_known ∙ stands.known;
             agrees = (stays.on, fits_still old new stays.same_shape block inside (λ other ne. ap (λ cs. cell_at cs other) cells) disc (inl (cell_by stays.same_shape cells block)) stands.agrees.1);
             buffered = subst (λ buffer. (i : ℕ) (bytes : List ℕ) → bytes_at i buffer ≡ Some bytes → bytes ≡ block_of disc i) (sym fetched.buffer_is)
                 (buffer_more block new.scratch old.buffer disc disc (λ i ne. refl) (has_by fetched.came disc stands) stands.buffered);
@@ -103,7 +103,7 @@ module _ {I : Type 0} {d : Ghosts I} (old : Mechanism I d) (lba n block : ℕ) w
       left = unread.left;
       not_good = unread.not_good;
       keeps = λ disc stands. record {
-        told = unread.stays.as_told ∙ stands.told;
+        known = unread.stays.as_known ∙ stands.known;
         agrees = (unread.stays.on, fits_still old new unread.stays.same_shape block inside unread.others disc (inr unread.not_good) stands.agrees.1);
         buffered = subst (λ buffer. (i : ℕ) (bytes : List ℕ) → bytes_at i buffer ≡ Some bytes → bytes ≡ block_of disc i) (sym unread.buffer_is) stands.buffered;
       };
@@ -113,7 +113,7 @@ module _ {I : Type 0} {d : Ghosts I} (old : Mechanism I d) (lba n block : ℕ) w
     pub stopped_before : (stop : Stop) → FetchStopped old new block stop → RestStopped old new lba n block stop
     stopped_before stop halted = record {
       same_shape = halted.same_shape;
-      as_told = halted.as_told;
+      as_known = halted.as_known;
       stops = subst (λ (most : ℕ). Stops world_of ImageReaches old.medium new.medium most stop)
           (sym (rest_missing (is_partly lba n block) (is_buffered (numbers_in old.buffer) block) partly halted.not_buffered)) halted.stops;
       others = halted.others;

@@ -4,9 +4,9 @@ use Rattle.std.proofs.Common.{refl, sym, ap, ◌∙◌, inl, inr, subst}
 use Rattle.std.proofs.lemmas.Bool.{cases_eq}
 use Rattle.model_geometry.specs.Geometry.{Shape}
 use Rattle.model_medium.specs.Cells.{Cell, IsGood, cell_at}
-use Rattle.model_buffer.specs.Buffer.{bytes_at, with_front}
+use Rattle.model_buffer.specs.Buffer.{bytes_at, with_newest}
 use Rattle.model_sectors.specs.Discs.{Agrees, Fits, block_of, home, home_cell}
-use Rattle.model_sectors.proofs.Covering.{bytes_at-with_front, bytes_at_used}
+use Rattle.model_sectors.proofs.Covering.{bytes_at-with_newest, bytes_at_used}
 use Rattle.model_sectors.proofs.Fitting.{agrees_not_good}
 use Rattle.ram_outside.specs.declared.image.Image.{Ghosts}
 use Rattle.model_stops.specs.Stops.{Stops}
@@ -28,12 +28,12 @@ same_inside x y e = cc
 
 -- the buffer with a block more agrees, where that block has the disc's bytes
 pub buffer_more : (block : ℕ) (held : List ℕ) (buffer : List (ℕ × List ℕ)) (disc disc' : List ℕ) → ((i : ℕ) → i ≢ block → block_of disc' i ≡ block_of disc i) → held ≡ block_of disc' block
-    → BufferAgrees buffer disc → BufferAgrees (with_front block held buffer) disc'
+    → BufferAgrees buffer disc → BufferAgrees (with_newest block held buffer) disc'
 buffer_more block held buffer disc disc' others same agrees = λ i bytes h. elim (cases_eq i block) [
   | inl e ↦
-      let used : Some bytes ≡ Some held = sym h ∙ ap (λ (j : ℕ). bytes_at j (with_front block held buffer)) e ∙ bytes_at_used block held buffer in
+      let used : Some bytes ≡ Some held = sym h ∙ ap (λ (j : ℕ). bytes_at j (with_newest block held buffer)) e ∙ bytes_at_used block held buffer in
       same_inside bytes held used ∙ same ∙ ap (block_of disc') (sym e)
-  | inr ne ↦ elim (bytes_at-with_front block i held buffer bytes h) [
+  | inr ne ↦ elim (bytes_at-with_newest block i held buffer bytes h) [
     | inl both ↦ absurd (ne both.0)
     | inr was ↦ agrees i bytes was ∙ sym (others i ne)
   ]
@@ -72,7 +72,7 @@ module _ {I : Type 0} {d : Ghosts I} (old new : Mechanism I d) (same : shape_of_
 module _ {I : Type 0} {d : Ghosts I} where
   -- no use at all
   pub stays_none : (old : Mechanism I d) → IsTrue (world_of old.medium).power → Stays old old 0
-  stays_none old on = record { same_shape = refl; as_told = refl; on = on; reach = image_laws.none old.medium }
+  stays_none old on = record { same_shape = refl; as_known = refl; on = on; reach = image_laws.none old.medium }
 
   -- a stop after a part that went to its end
   pub stops_then : (a b c : Mechanism I d) (j most : ℕ) (stop : Stop) → Stays a b j → Stops world_of ImageReaches b.medium c.medium most stop → Stops world_of ImageReaches a.medium c.medium (j + most) stop

@@ -16,7 +16,7 @@ use Rattle.ram_run.specs.Plain.Disc.{shown_by, stands_for}
 pub starts : {I : Type 0} {d : Ghosts I} (disc : Mechanism I d) (medium : ImageMedium I d) (shape : Shape) → shape_of_medium medium ≡ shape → disc.medium ≡ medium → disc.buffer ≡ []
     → IsStart (world_of medium) → stands_for disc (Off (first_disc (plain_homes shape) (world_of medium).cells ∷ []))
 starts {I} {d} disc medium shape same at empty start = record {
-  told = ap (λ (m : ImageMedium I d). (world_of m).told) at ∙ start.told;
+  known = ap (λ (m : ImageMedium I d). (world_of m).known) at ∙ start.known;
   agrees = (
     λ on. start.off (subst (λ (m : ImageMedium I d). IsTrue (world_of m).power) at on),
     inl (moved (start_fits (shown_by disc) (λ i bytes inside e. start.whole (slice_index (plain_homes (shape_of_medium disc.medium)) i) bytes

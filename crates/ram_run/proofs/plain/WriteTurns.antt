@@ -58,7 +58,7 @@ module _ {I : Type 0} {d : Ghosts I} (old : Mechanism I d) (lba n : ℕ) (bytes 
     stays = stays_none old inside.on;
     buffered = refl;
     others = λ block apart. refl;
-    good = λ told j h. absurd (omega arith);
+    good = λ known j h. absurd (omega arith);
     makes = λ disc stands. subst (λ (e : List ℕ). stands_for old (On e)) (sym (first disc)) stands;
   }
     where
@@ -88,11 +88,11 @@ module _ {I : Type 0} {d : Ghosts I} (old : Mechanism I d) (lba n : ℕ) (bytes 
 
   -- all blocks were written
   pub all_cause : (new : Mechanism I d) → HasWritten old new lba n bytes (blocks_covered lba n) → WriteCause (shown_by old) (shown_by new) lba n writes.Good
-  all_cause new w = record { inside = inside; homes = keeps_homes new w.stays.same_shape; goes = record { on = w.stays.on; reach = w.stays.reach; buffered_is = w.buffered } }
+  all_cause new w = record { inside = inside; homes = keeps_homes new w.stays.same_shape; continues = record { on = w.stays.on; reach = w.stays.reach; buffered_is = w.buffered } }
 
   pub all_step : (new : Mechanism I d) → HasWritten old new lba n bytes (blocks_covered lba n) → (s : Standing) → stands_for old s
       → WriteStep (shown_by old) (shown_by new) (stands_for new) s lba n bytes writes.Good
-  all_step new w = step_by new writes.Good (λ disc stands. (w.good stands.told, w.others, w.makes disc stands))
+  all_step new w = step_by new writes.Good (λ disc stands. (w.good stands.known, w.others, w.makes disc stands))
 
   module _ (mid : Mechanism I d) (k : ℕ) (w : HasWritten old mid lba n bytes k) (covered : k < blocks_covered lba n) where
     -- the uses of the next block
@@ -116,11 +116,11 @@ module _ {I : Type 0} {d : Ghosts I} (old : Mechanism I d) (lba n : ℕ) (bytes 
     only_next new others = λ block apart. (others block (λ e. apart k (omega arith) (e ∙ home_mid)) ∙ w.others block (λ j h. apart j (omega arith)))
 
     -- the blocks before the next one keep whole bytes
-    still_good : (new : Mechanism I d) → shape_of_medium new.medium ≡ shape_of_medium mid.medium → OthersSame mid new (block_with lba + k) → (world_of old.medium).told ≡ true → AreGood (shown_by new) (block_with lba) k
-    still_good new same others told j h =
+    still_good : (new : Mechanism I d) → shape_of_medium new.medium ≡ shape_of_medium mid.medium → OthersSame mid new (block_with lba + k) → (world_of old.medium).known ≡ true → AreGood (shown_by new) (block_with lba) k
+    still_good new same others known j h =
         let here = subst (λ (homes : List ℕ). block_with lba + k < length homes) (sym (same_homes old mid w.stays.same_shape)) (block_inside k covered) in
         let there = subst (λ (homes : List ℕ). block_with lba + j < length homes) (sym (same_homes old mid w.stays.same_shape)) (block_inside j (omega arith)) in
-        subst IsGood (sym (other_home_cell mid new (block_with lba + k) (block_with lba + j) same others here there (λ e. (omega arith)))) (w.good told j h)
+        subst IsGood (sym (other_home_cell mid new (block_with lba + k) (block_with lba + j) same others here there (λ e. (omega arith)))) (w.good known j h)
 
     -- the next block was written
     pub written_more : (new : Mechanism I d) → IsPlaced mid new lba n bytes (block_with lba + k) → HasWritten old new lba n bytes (k + 1)
@@ -128,10 +128,10 @@ module _ {I : Type 0} {d : Ghosts I} (old : Mechanism I d) (lba n : ℕ) (bytes 
       stays = subst (Stays old new) uses_next (stays_then old mid new (write_uses (numbers_in old.buffer) lba n k) (rest_uses (numbers_in mid.buffer) lba n (block_with lba + k) + 2) w.stays p.stays);
       buffered = p.buffered ∙ ap (λ b. touched_one b (block_with lba + k)) w.buffered ∙ ap (touched_from (numbers_in old.buffer) (block_with lba)) (sym (add-one k));
       others = only_next new p.others;
-      good = λ told j h. elim (cases_eq j k) [
-        | inl e ↦ subst (λ (i : ℕ). IsGood (home_cell (shown_by new) (block_with lba + i))) (sym e) (p.good (w.stays.as_told ∙ told))
+      good = λ known j h. elim (cases_eq j k) [
+        | inl e ↦ subst (λ (i : ℕ). IsGood (home_cell (shown_by new) (block_with lba + i))) (sym e) (p.good (w.stays.as_known ∙ known))
         | inr ne ↦
-            let early : j < k = omega arith in still_good new p.stays.same_shape p.others told j early
+            let early : j < k = omega arith in still_good new p.stays.same_shape p.others known j early
       ];
       makes = λ disc stands. subst (λ (e : List ℕ). stands_for new (On e)) (sym (more disc stands)) (p.makes (replaced disc lba bytes (block_with lba + k)) (w.makes disc stands));
     }
@@ -143,10 +143,10 @@ module _ {I : Type 0} {d : Ghosts I} (old : Mechanism I d) (lba n : ℕ) (bytes 
       named_block : block_with named ≡ block_with lba + k
       named_block = ap block_with named_is ∙ block_with_start lba n k covered
 
-      wrote_named : shape_of_medium new.medium ≡ shape_of_medium mid.medium → OthersSame mid new (block_with lba + k) → (world_of old.medium).told ≡ true → WroteUpTo (shown_by old) (shown_by new) (block_with lba) (block_with named - block_with lba)
-      wrote_named same others told =
+      wrote_named : shape_of_medium new.medium ≡ shape_of_medium mid.medium → OthersSame mid new (block_with lba + k) → (world_of old.medium).known ≡ true → WroteUpTo (shown_by old) (shown_by new) (block_with lba) (block_with named - block_with lba)
+      wrote_named same others known =
           let many : block_with named - block_with lba ≡ k = omega (arith, named_block) in
-          subst (WroteUpTo (shown_by old) (shown_by new) (block_with lba)) (sym many) (record { good = still_good new same others told; covered = only_next new others })
+          subst (WroteUpTo (shown_by old) (shown_by new) (block_with lba)) (sym many) (record { good = still_good new same others known; covered = only_next new others })
 
       -- the rest of the next block cannot be read
       module _ (p : LacksItsRest mid new lba n (block_with lba + k)) (block : ℕ) (block_is : block ≡ home (shown_by new) (block_with lba + k)) where
@@ -160,7 +160,7 @@ module _ {I : Type 0} {d : Ghosts I} (old : Mechanism I d) (lba n : ℕ) (bytes 
             block_is = block_is;
             partly = both_true (is_partly lba n (block_with lba + k)) (is_at_hand (numbers_in old.buffer) (block_with lba) k) p.partly
                 (λ here. p.not_buffered (ap (λ b. is_buffered b (block_with lba + k)) w.buffered ∙ here));
-            goes = record {
+            continues = record {
               on = p.stays.on;
               reach = (stays_then old mid new (write_uses (numbers_in old.buffer) lba n k) 1 w.stays p.stays).reach;
               buffered_is = p.buffered ∙ w.buffered;
@@ -179,7 +179,7 @@ module _ {I : Type 0} {d : Ghosts I} (old : Mechanism I d) (lba n : ℕ) (bytes 
           subst (λ (cell : Cell). ¬ IsGood cell) (sym cell_new) p.not_good,
           subst (λ (cell : Cell). IsSameOrDead (cell_at (world_of old.medium).cells block) cell) (sym cell_new)
               (subst (λ (cell : Cell). IsSameOrDead cell (home_cell (shown_by new) (block_with lba + k))) (sym cell_old) p.left),
-          wrote_named p.stays.same_shape p.others stands.told,
+          wrote_named p.stays.same_shape p.others stands.known,
           subst (λ (b : ℕ). stands_for new (On (replaced disc lba bytes b))) (sym named_block) (p.keeps (replaced disc lba bytes (block_with lba + k)) (w.makes disc stands)),
         ))
 
@@ -192,7 +192,7 @@ module _ {I : Type 0} {d : Ghosts I} (old : Mechanism I d) (lba n : ℕ) (bytes 
             inside = inside;
             homes = keeps_homes new (p.stays.same_shape ∙ w.stays.same_shape);
             is_named = record { covered = covered; first = named_is };
-            goes = record {
+            continues = record {
               on = p.stays.on;
               reach = (subst (Stays old new) uses_next (stays_then old mid new (write_uses (numbers_in old.buffer) lba n k) (rest_uses (numbers_in mid.buffer) lba n (block_with lba + k) + 2) w.stays p.stays)).reach;
               buffered_is = p.buffered ∙ ap (λ b. touched_rest b lba n (block_with lba + k)) w.buffered;
@@ -203,7 +203,7 @@ module _ {I : Type 0} {d : Ghosts I} (old : Mechanism I d) (lba n : ℕ) (bytes 
         pub died_step : (s : Standing) → stands_for old s → WriteStep (shown_by old) (shown_by new) (stands_for new) s lba n bytes (writes.NoSpare named)
         died_step = step_by new (writes.NoSpare named) (λ disc stands. (
           ap (home_cell (shown_by new)) named_block ∙ p.dead,
-          wrote_named p.stays.same_shape p.others stands.told,
+          wrote_named p.stays.same_shape p.others stands.known,
           subst (λ (b : ℕ). stands_for new (On (replaced disc lba bytes b))) (sym named_block) (p.keeps (replaced disc lba bytes (block_with lba + k)) (w.makes disc stands)),
         ))
 
@@ -231,9 +231,9 @@ module _ {I : Type 0} {d : Ghosts I} (old : Mechanism I d) (lba n : ℕ) (bytes 
           (λ i h. inl (ap (λ (m : ImageMedium I d). cell_at (world_of m).cells (slice_index (plain_homes (shape_of_medium m)) i)) same))
           (p.leaves (replaced disc lba bytes (block_with lba + k)) (w.makes disc stands)))
 
-      wrote : (world_of old.medium).told ≡ true → WroteUpTo (shown_by old) (shown_by new) (block_with lba) k
-      wrote told = record {
-        good = subst (λ (m : ImageMedium I d). (j : ℕ) → j < k → IsGood (cell_at (world_of m).cells (slice_index (plain_homes (shape_of_medium m)) (block_with lba + j)))) (sym same) (still_good halted p.same_shape p.others told);
+      wrote : (world_of old.medium).known ≡ true → WroteUpTo (shown_by old) (shown_by new) (block_with lba) k
+      wrote known = record {
+        good = subst (λ (m : ImageMedium I d). (j : ℕ) → j < k → IsGood (cell_at (world_of m).cells (slice_index (plain_homes (shape_of_medium m)) (block_with lba + j)))) (sym same) (still_good halted p.same_shape p.others known);
         covered = λ block apart. (ap (λ (m : ImageMedium I d). cell_at (world_of m).cells block) same ∙ only_next halted p.others block apart);
       }
 
@@ -243,12 +243,12 @@ module _ {I : Type 0} {d : Ghosts I} (old : Mechanism I d) (lba n : ℕ) (bytes 
           block = k;
           covered = covered;
           either = record {
-            told = ap (λ (m : ImageMedium I d). (world_of m).told) same ∙ p.as_told ∙ w.stays.as_told ∙ stands.told;
+            known = ap (λ (m : ImageMedium I d). (world_of m).known) same ∙ p.as_known ∙ w.stays.as_known ∙ stands.known;
             agrees = (power_off, either disc stands);
             buffered = dropped;
           };
         },
-        wrote stands.told,
+        wrote stands.known,
       )
 
     pub stopped_cause : (halted new : Mechanism I d) (stop : Stop) → PlaceStopped mid halted lba n bytes (block_with lba + k) stop → new.medium ≡ halted.medium → new.buffer ≡ []

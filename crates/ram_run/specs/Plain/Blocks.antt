@@ -3,7 +3,7 @@
 use Rattle.std.specs.Prelude.{◌≡◌, ◌≢◌, ℕ, ◌⊎◌, Bool, IsTrue, MatchBool, Some, length, ◌≤◌}
 use Rattle.std.specs.Bool.{OnTrue}
 use Rattle.model_medium.specs.Cells.{Good, Dead, IsGood, IsSameOrDead, MayLeave, cell_at}
-use Rattle.model_buffer.specs.Buffer.{bytes_at, with_front, numbers_in}
+use Rattle.model_buffer.specs.Buffer.{bytes_at, with_newest, numbers_in}
 use Rattle.model_buffer.specs.declared.TheConstants.{BUFFERED_BLOCKS}
 use Rattle.model_sectors.specs.Discs.{IsOn, home, home_cell}
 use Rattle.model_sectors.specs.Uses.{is_buffered}
@@ -18,7 +18,7 @@ module _ {I : Type 0} {d : Ghosts I} (old new : Mechanism I d) where
   -- the same disc after so many uses, with the power on
   pub record Stays (uses : ℕ) : Type 0 where
     pub same_shape : shape_of_medium new.medium ≡ shape_of_medium old.medium
-    pub as_told : (world_of new.medium).told ≡ (world_of old.medium).told
+    pub as_known : (world_of new.medium).known ≡ (world_of old.medium).known
     pub on : IsOn (shown_by new)
     pub reach : ImageReaches old.medium new.medium uses
 
@@ -36,11 +36,11 @@ module _ {I : Type 0} {d : Ghosts I} (old new : Mechanism I d) where
     pub stays : Stays 1
     pub not_buffered : ¬ IsTrue (is_buffered (numbers_in old.buffer) i)
     pub same_cells : (world_of new.medium).cells ≡ (world_of old.medium).cells
-    pub gives : OnTrue (world_of old.medium).told (home_cell (shown_by new) i ≡ Good new.scratch)
+    pub gives : OnTrue (world_of old.medium).known (home_cell (shown_by new) i ≡ Good new.scratch)
 
   -- the block is in the scratch block, and buffered
   pub record IsFetched (i : ℕ) : Type 0 where
-    pub buffer_is : new.buffer ≡ with_front i new.scratch old.buffer
+    pub buffer_is : new.buffer ≡ with_newest i new.scratch old.buffer
     pub came : FromBuffer i ⊎ FromHome i
     pub few : length old.buffer ≤ BUFFERED_BLOCKS
 
@@ -61,7 +61,7 @@ module _ {I : Type 0} {d : Ghosts I} (old new : Mechanism I d) where
   -- a fetch was stopped: the home is as it was or dead, and the buffer is as before
   pub record FetchStopped (i : ℕ) (stop : Stop) : Type 0 where
     pub same_shape : shape_of_medium new.medium ≡ shape_of_medium old.medium
-    pub as_told : (world_of new.medium).told ≡ (world_of old.medium).told
+    pub as_known : (world_of new.medium).known ≡ (world_of old.medium).known
     pub stops : Stops world_of ImageReaches old.medium new.medium 1 stop
     pub others : OthersSame i
     pub left : IsSameOrDead (home_cell (shown_by old) i) (home_cell (shown_by new) i)
@@ -72,9 +72,9 @@ module _ {I : Type 0} {d : Ghosts I} (old new : Mechanism I d) where
   pub record IsPut (i : ℕ) : Type 0 where
     pub stays : Stays 2
     pub others : OthersSame i
-    pub has : OnTrue (world_of old.medium).told (home_cell (shown_by new) i ≡ Good old.scratch)
-    pub scratch_same : OnTrue (world_of old.medium).told (new.scratch ≡ old.scratch)
-    pub buffer_is : new.buffer ≡ with_front i new.scratch old.buffer
+    pub has : OnTrue (world_of old.medium).known (home_cell (shown_by new) i ≡ Good old.scratch)
+    pub scratch_same : OnTrue (world_of old.medium).known (new.scratch ≡ old.scratch)
+    pub buffer_is : new.buffer ≡ with_newest i new.scratch old.buffer
 
   -- the home is dead
   pub record IsLost (i : ℕ) : Type 0 where
@@ -90,7 +90,7 @@ module _ {I : Type 0} {d : Ghosts I} (old new : Mechanism I d) where
   -- it was stopped: the home may be anything that a stopped write leaves
   pub record PutStopped (i : ℕ) (stop : Stop) : Type 0 where
     pub same_shape : shape_of_medium new.medium ≡ shape_of_medium old.medium
-    pub as_told : (world_of new.medium).told ≡ (world_of old.medium).told
+    pub as_known : (world_of new.medium).known ≡ (world_of old.medium).known
     pub stops : Stops world_of ImageReaches old.medium new.medium 2 stop
     pub others : OthersSame i
     pub left : MayLeave (home_cell (shown_by old) i) old.scratch (home_cell (shown_by new) i)

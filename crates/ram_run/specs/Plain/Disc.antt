@@ -21,12 +21,12 @@ abbrev pub IsBuffered : List (ℕ × List ℕ) → Standing → Type 0
 IsBuffered buffer (On disc) = BufferAgrees buffer disc
 IsBuffered buffer (Off discs) = buffer ≡ []
 
--- What a plain disc stands for, where its image tells its bytes.
+-- What a plain disc stands for, where the bytes of its image are known.
 pub record stands_for {I : Type 0} {d : Ghosts I} (plain : Mechanism I d) (s : Standing) : Type 0 where
-  pub told : (world_of plain.medium).told ≡ true
+  pub known : (world_of plain.medium).known ≡ true
   pub agrees : IsShown (shown_by plain) s
   pub buffered : IsBuffered plain.buffer s
 
--- where its medium tells its cells it stands for something
+-- where the cells of its medium are known it stands for something
 abbrev pub StandsForSome : {I : Type 0} {d : Ghosts I} → Mechanism I d → Type 0
-StandsForSome plain = (world_of plain.medium).told ≡ true → ¬ ((s : Standing) → ¬ stands_for plain s)
+StandsForSome plain = (world_of plain.medium).known ≡ true → ¬ ((s : Standing) → ¬ stands_for plain s)

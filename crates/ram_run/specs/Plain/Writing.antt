@@ -55,7 +55,7 @@ module _ {I : Type 0} {d : Ghosts I} (old new : Mechanism I d) (lba n block : �
   -- the look for the rest of the block was stopped
   pub record RestStopped (stop : Stop) : Type 0 where
     pub same_shape : shape_of_medium new.medium ≡ shape_of_medium old.medium
-    pub as_told : (world_of new.medium).told ≡ (world_of old.medium).told
+    pub as_known : (world_of new.medium).known ≡ (world_of old.medium).known
     pub stops : Stops world_of ImageReaches old.medium new.medium (rest_uses (numbers_in old.buffer) lba n block) stop
     pub others : OthersSame old new block
     pub keeps : (disc : List ℕ) → stands_for old (On disc) → SomeFits (shown_by new) (disc ∷ [])
@@ -74,7 +74,7 @@ module _ {I : Type 0} {d : Ghosts I} (old new : Mechanism I d) (lba n : ℕ) (by
     pub stays : Stays old new (rest_uses (numbers_in old.buffer) lba n block + 2)
     pub buffered : numbers_in new.buffer ≡ touched_one (numbers_in old.buffer) block
     pub others : OthersSame old new block
-    pub good : (world_of old.medium).told ≡ true → IsGood (home_cell (shown_by new) block)
+    pub good : (world_of old.medium).known ≡ true → IsGood (home_cell (shown_by new) block)
     pub makes : (disc : List ℕ) → stands_for old (On disc) → stands_for new (On (with_part lba n bytes block disc))
 
   -- what a write of a part does, by its answer
@@ -86,7 +86,7 @@ module _ {I : Type 0} {d : Ghosts I} (old new : Mechanism I d) (lba n : ℕ) (by
   -- it was stopped: the block is wholly as it was, or has the part
   pub record PlaceStopped (stop : Stop) : Type 0 where
     pub same_shape : shape_of_medium new.medium ≡ shape_of_medium old.medium
-    pub as_told : (world_of new.medium).told ≡ (world_of old.medium).told
+    pub as_known : (world_of new.medium).known ≡ (world_of old.medium).known
     pub stops : Stops world_of ImageReaches old.medium new.medium (rest_uses (numbers_in old.buffer) lba n block + 2) stop
     pub others : OthersSame old new block
     pub leaves : (disc : List ℕ) → stands_for old (On disc) → SomeFits (shown_by new) (disc ∷ with_part lba n bytes block disc ∷ [])
@@ -96,7 +96,7 @@ pub record HasWritten {I : Type 0} {d : Ghosts I} (old new : Mechanism I d) (lba
   pub stays : Stays old new (write_uses (numbers_in old.buffer) lba n k)
   pub buffered : numbers_in new.buffer ≡ touched_from (numbers_in old.buffer) (block_with lba) k
   pub others : (block : ℕ) → ((j : ℕ) → j < k → block ≢ home (shown_by old) (block_with lba + j)) → cell_at (world_of new.medium).cells block ≡ cell_at (world_of old.medium).cells block
-  pub good : (world_of old.medium).told ≡ true → AreGood (shown_by new) (block_with lba) k
+  pub good : (world_of old.medium).known ≡ true → AreGood (shown_by new) (block_with lba) k
   pub makes : (disc : List ℕ) → stands_for old (On disc) → stands_for new (On (replaced disc lba bytes (block_with lba + k)))
 
 -- how a write ends that was stopped

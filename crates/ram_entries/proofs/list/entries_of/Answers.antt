@@ -1,7 +1,7 @@
 -- By the lemmas on entries that are read one after another.
 use Rattle.std.proofs.Common.{◌≡◌, refl, ◌∙◌, arith}
 use Rattle.std.proofs.lemmas.Bool.{false≢true}
-use Rattle.model_lists.proofs.Reading.{MayFollow, goes_on, no_follower, no_rest, ends}
+use Rattle.model_lists.proofs.Reading.{MayFollow, use_continues, no_follower, no_rest, ends}
 use Rattle.ram_entries.proofs.Sizes.{cell_of, rest_of, cell_is, rest_is, none_there}
 use Rattle.ram_entries.proofs.list.entries_of.Goals as goal
 
@@ -46,7 +46,7 @@ loop-k-preserved g c =
     let from = c.BYTES-in-loop-k.result in
     let to = c.BYTES-in-loop-k-2.result in
     let may : MayFollow layout.key read (layout.key entry) = rw (c.deref.ensures.value, c.key.ensures) at (c.if-not-may_follow.ensures.0 refl) in
-    rw c.in_ok-push.ensures.items (goes_on layout.spelled layout.BYTES layout.fits layout.key laws.long bytes (cell_of from to bytes k) k read entry c.loop-k.invariant (cell_is layout.BYTES from to bytes k c.BYTES-in-loop-k.ensures c.BYTES-in-loop-k-2.ensures) c.in-Some.ensures.0 c.in-Some.ensures.1 may)
+    rw c.in_ok-push.ensures.items (use_continues layout.spelled layout.BYTES layout.fits layout.key laws.long bytes (cell_of from to bytes k) k read entry c.loop-k.invariant (cell_is layout.BYTES from to bytes k c.BYTES-in-loop-k.ensures c.BYTES-in-loop-k-2.ensures) c.in-Some.ensures.0 c.in-Some.ensures.1 may)
 
 pub returns : goal.returns
 returns g c =

@@ -1,12 +1,12 @@
 use Rattle.std.proofs.Common.{◌∙◌, ap, sym, length, arith}
-use Rattle.model_image.proofs.CellWrites.{told-stopped_first, told-stopped_second, told-second_long}
+use Rattle.model_image.proofs.CellWrites.{known-stopped_first, known-stopped_second, known-second_long}
 use Rattle.ram_image.proofs.CellSteps.{last_write}
 use Rattle.ram_image.proofs.ByteSteps.{bytes_first, bytes_second, bytes_last}
 use Rattle.ram_image.proofs.cells.write_cell.Goals as goal
 
 pub returns-in-Failed-clause-rule : goal.returns-in-Failed-clause-rule
 returns-in-Failed-clause-rule g c = (
-  told-stopped_first c.args.total c.args.block c.requires.inside (g.I.Image.bytes c.args.image.now) c.args.from.now c.requires.whole
+  known-stopped_first c.args.total c.args.block c.requires.inside (g.I.Image.bytes c.args.image.now) c.args.from.now c.requires.whole
       (ap length (sym c.bytes-bytes.ensures.same) ∙ c.bytes-bytes.ensures.len) (g.I.Image.bytes c.write_at.new.self)
       (rw c.state_place.ensures at c.in-Failed.ensures.1),
   c.in-Failed.ensures.0,
@@ -14,7 +14,7 @@ returns-in-Failed-clause-rule g c = (
 
 pub returns-in-Failed-write_at-clause-rule : goal.returns-in-Failed-write_at-clause-rule
 returns-in-Failed-write_at-clause-rule g c = (
-  told-stopped_second c.args.total c.args.block c.requires.inside (g.I.Image.bytes c.args.image.now) c.args.from.now c.requires.whole
+  known-stopped_second c.args.total c.args.block c.requires.inside (g.I.Image.bytes c.args.image.now) c.args.from.now c.requires.whole
       (ap length (sym c.bytes-bytes.ensures.same) ∙ c.bytes-bytes.ensures.len) (g.I.Image.bytes c.write_at.new.self) (g.I.Image.bytes c.write_at-2.new.self)
       (rw c.state_place.ensures at c.in-Done.ensures.changed) (rw (c.data_place.ensures, c.bytes-bytes.ensures.same) at c.in-Failed-write_at.ensures.1),
   omega (arith, c.in-Done.ensures.count, c.in-Failed-write_at.ensures.0),
@@ -25,7 +25,7 @@ write_at-requires-3 g c x is =
     omega (
       arith,
       c.state_place-2.ensures,
-      told-second_long c.args.total c.args.block c.requires.inside (g.I.Image.bytes c.args.image.now) c.args.from.now c.requires.whole
+      known-second_long c.args.total c.args.block c.requires.inside (g.I.Image.bytes c.args.image.now) c.args.from.now c.requires.whole
           (ap length (sym c.bytes-bytes.ensures.same) ∙ c.bytes-bytes.ensures.len) (g.I.Image.bytes c.write_at.new.self) (g.I.Image.bytes c.write_at-2.new.self)
           (rw c.state_place.ensures at c.in-Done.ensures.changed) (rw (c.data_place.ensures, c.bytes-bytes.ensures.same) at c.in-Done-write_at.ensures.changed) x is,
     )

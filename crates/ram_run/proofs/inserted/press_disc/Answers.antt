@@ -1,5 +1,5 @@
 use Rattle.std.proofs.Common.{subst}
-use Rattle.model_bytes.specs.Told.{WhereTold}
+use Rattle.model_bytes.specs.Known.{WhereKnown}
 use Rattle.model_geometry.specs.Geometry.{Shape, IsLawful, shape_of}
 use Rattle.model_image.specs.Image.{PressesImage}
 use Rattle.ram_run.proofs.Opens.{press_stopped, press_opened, press_refused}
@@ -14,7 +14,7 @@ pub returns-in-Ok-open-clause-step : goal.returns-in-Ok-open-clause-step
 returns-in-Ok-open-clause-step g c s h =
     press_opened g.D.Sectors g.D.Image.Image s (shape_of c.args.zones c.args.scale c.args.psa) (subst (λ (z : Shape). IsLawful z) c.in-Ok.ensures.0 c.in-Ok.ensures.1)
     (g.D.Image.Image.bytes c.into_image-image.result) c.press.new.image (c.into_image-image.ensures.left s h)
-    (subst (λ (z : Shape). WhereTold (g.D.Image.Image.bytes c.into_image-image.result) (g.D.Image.Image.bytes c.press.new.image) (PressesImage z)) c.in-Ok.ensures.0 c.in-Done.ensures.0)
+    (subst (λ (z : Shape). WhereKnown (g.D.Image.Image.bytes c.into_image-image.result) (g.D.Image.Image.bytes c.press.new.image) (PressesImage z)) c.in-Ok.ensures.0 c.in-Done.ensures.0)
     c.in-Ok-open.disc c.in-Ok-open.ensures.opened
 
 pub returns-in-Err-clause-step : goal.returns-in-Err-clause-step
@@ -22,5 +22,5 @@ returns-in-Err-clause-step g c s h =
     rw c.from.ensures
     (press_refused g.D.Sectors g.D.Image.Image s (shape_of c.args.zones c.args.scale c.args.psa) (subst (λ (z : Shape). IsLawful z) c.in-Ok.ensures.0 c.in-Ok.ensures.1)
     (g.D.Image.Image.bytes c.into_image-image.result) c.press.new.image (c.into_image-image.ensures.left s h)
-    (subst (λ (z : Shape). WhereTold (g.D.Image.Image.bytes c.into_image-image.result) (g.D.Image.Image.bytes c.press.new.image) (PressesImage z)) c.in-Ok.ensures.0 c.in-Done.ensures.0)
+    (subst (λ (z : Shape). WhereKnown (g.D.Image.Image.bytes c.into_image-image.result) (g.D.Image.Image.bytes c.press.new.image) (PressesImage z)) c.in-Ok.ensures.0 c.in-Done.ensures.0)
     c.in-Err.image (g.D.Image.Image.faults c.press.new.image) (g.D.Image.Image.faults c.in-Err.image) c.in-Err.fault c.in-Err.ensures)

@@ -1,6 +1,6 @@
 use Rattle.ram_run.specs.declared.line.Work.TheVariants as works
 use Rattle.ram_run.specs.Inserted.{Stands, faults_of}
-use Rattle.ram_run.specs.Progress.{view_of}
+use Rattle.ram_run.specs.Progress.{run_view}
 use Rattle.std.specs.Prelude.{None}
 use Rattle.ram_run.proofs.CountsRise.{line_counts}
 use Rattle.ram_run.proofs.Turns.{answered_line}
@@ -9,9 +9,9 @@ use Rattle.ram_run.proofs.serve.press_line.Goals as goal
 pub returns-clause-turn : goal.returns-clause-turn
 returns-clause-turn g c first far left stands t =
     let pressed = c.press_disc-inserted.ensures.step far.now stands in
-    answered_line first far (view_of left (g.K.Sink.written c.args.report.now) c.args.state.now) (works.Press c.args.zones c.args.scale c.args.psa) c.args.state.now.payload.items t
+    answered_line first far (run_view left (g.K.Sink.written c.args.report.now) c.args.state.now) (works.Press c.args.zones c.args.scale c.args.psa) c.args.state.now.payload.items t
     (Stands g.D.Sectors g.D.Image.Image c.press_disc-inserted.result.0) c.args.state.now.data_in.items
-    (view_of left (g.K.Sink.written c.tell-reported.new.report) c.tell-reported.new.state)
+    (run_view left (g.K.Sink.written c.tell-reported.new.report) c.tell-reported.new.state)
     (faults_of g.D.Sectors g.D.Image.Image c.args.inserted) (faults_of g.D.Sectors g.D.Image.Image c.press_disc-inserted.result.0) c.press_disc-inserted.result.1 c.tell-reported.result
     (record { state = pressed.state; step = (pressed.step, c.requires.empty); stands = pressed.stands }) c.press_disc-inserted.ensures.count (c.tell-reported.ensures.tells left)
 
@@ -19,5 +19,5 @@ pub returns-clause-counts : goal.returns-clause-counts
 returns-clause-counts g c source =
     line_counts source (g.K.Sink.faults c.args.report.now) (g.K.Sink.faults c.tell-reported.new.report)
     (faults_of g.D.Sectors g.D.Image.Image c.args.inserted) (faults_of g.D.Sectors g.D.Image.Image c.press_disc-inserted.result.0)
-    (view_of None (g.K.Sink.written c.args.report.now) c.args.state.now) (view_of None (g.K.Sink.written c.tell-reported.new.report) c.tell-reported.new.state) c.args.state.now.data_in.items
+    (run_view None (g.K.Sink.written c.args.report.now) c.args.state.now) (run_view None (g.K.Sink.written c.tell-reported.new.report) c.tell-reported.new.state) c.args.state.now.data_in.items
     c.press_disc-inserted.result.1 c.tell-reported.result c.press_disc-inserted.ensures.count c.tell-reported.ensures.count (c.tell-reported.ensures.tells None)

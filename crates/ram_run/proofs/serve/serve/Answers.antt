@@ -1,6 +1,6 @@
 use Rattle.ram_text.specs.Writer.{due}
 use Rattle.ram_run.specs.Inserted.{Stands, faults_of}
-use Rattle.ram_run.specs.Progress.{view_of}
+use Rattle.ram_run.specs.Progress.{run_view}
 use Rattle.ram_run.proofs.CountsRise.{status_counts}
 use Rattle.ram_run.proofs.Finishes.{begins, left_by}
 use Rattle.ram_run.proofs.serve.serve.Goals as goal
@@ -8,7 +8,7 @@ use Rattle.ram_run.proofs.serve.serve.Goals as goal
 pub returns-clause-leaves : goal.returns-clause-leaves
 returns-clause-leaves g c first b =
     left_by first (Stands g.D.Sectors g.D.Image.Image c.serve_lines-inserted.result.0) (g.D.Image.Image.bytes c.into_image.result) c.into_image.ensures.left
-    (view_of (g.S.Source.left c.serve_lines-inserted.new.script) (g.K.Sink.written c.serve_lines-inserted.new.report) c.serve_lines-inserted.new.state) (g.K.Sink.written c.finish-status.new.report)
+    (run_view (g.S.Source.left c.serve_lines-inserted.new.script) (g.K.Sink.written c.serve_lines-inserted.new.report) c.serve_lines-inserted.new.state) (g.K.Sink.written c.finish-status.new.report)
     c.serve_lines-inserted.result.1 (g.K.Sink.written c.serve_lines-inserted.new.report) (g.K.Sink.faults c.serve_lines-inserted.new.report) (g.K.Sink.faults c.finish-status.new.report) c.finish-status.result
     (c.serve_lines-inserted.ensures.ends first
     (begins first (Stands g.D.Sectors g.D.Image.Image c.in-Ok.inserted) (g.S.Source.left c.args.script.now) (g.K.Sink.written c.args.report.now) c.args.state.now c.requires.fresh b.left_is b.written_is

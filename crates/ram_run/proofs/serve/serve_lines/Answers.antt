@@ -3,7 +3,7 @@ use Rattle.ram_text.specs.Lines.{Reading}
 use Rattle.ram_run.specs.declared.reply.Reply.TheVariants as replies
 use Rattle.ram_run.specs.Inserted.{Stands, faults_of}
 use Rattle.ram_run.specs.RunCounts.{counts_of}
-use Rattle.ram_run.specs.Progress.{view_of}
+use Rattle.ram_run.specs.Progress.{run_view}
 use Rattle.ram_run.proofs.CountsRise.{none_rose, why_counts, line_counts}
 use Rattle.ram_run.proofs.FewLines.{few_more, few_still}
 use Rattle.ram_run.proofs.Turns.{ends_between, nothing_done}
@@ -13,7 +13,7 @@ pub returns-in-Err-clause-ends : goal.returns-in-Err-clause-ends
 returns-in-Err-clause-ends g c first b =
     let now = c.loop-stopped.invariant.between first b in
     let stops = c.in-Err.ensures.next first now.far now.at in
-    ends_between first (Stands g.D.Sectors g.D.Image.Image c.loop-stopped.inserted) now.far (view_of (g.S.Source.left c.next_work.new.script) (g.K.Sink.written c.next_work.new.report) c.next_work.new.state) c.in-Err.stopped now.stands_now stops.0 stops.1
+    ends_between first (Stands g.D.Sectors g.D.Image.Image c.loop-stopped.inserted) now.far (run_view (g.S.Source.left c.next_work.new.script) (g.K.Sink.written c.next_work.new.report) c.next_work.new.state) c.in-Err.stopped now.stands_now stops.0 stops.1
 
 pub returns-in-Err-clause-counts : goal.returns-in-Err-clause-counts
 returns-in-Err-clause-counts g c =
@@ -38,16 +38,16 @@ loop-stopped-preserved-in-Ok g c =
     let reader = ap (λ (r : Reading). r.taken) c.tell.ensures.same_reader in
     let tally = c.next_work.ensures.same_tally in
     record {
-      between = λ first b. let now = c.loop-stopped.invariant.between first b in nothing_done first (Stands g.D.Sectors g.D.Image.Image c.loop-stopped.inserted) (view_of (g.S.Source.left c.loop-stopped.script) (g.K.Sink.written c.loop-stopped.report) c.loop-stopped.state) (view_of (g.S.Source.left c.next_work.new.script) (g.K.Sink.written c.next_work.new.report) c.next_work.new.state)
-          (view_of (g.S.Source.left c.next_work.new.script) (g.K.Sink.written c.tell.new.report) c.tell.new.state)
+      between = λ first b. let now = c.loop-stopped.invariant.between first b in nothing_done first (Stands g.D.Sectors g.D.Image.Image c.loop-stopped.inserted) (run_view (g.S.Source.left c.loop-stopped.script) (g.K.Sink.written c.loop-stopped.report) c.loop-stopped.state) (run_view (g.S.Source.left c.next_work.new.script) (g.K.Sink.written c.next_work.new.report) c.next_work.new.state)
+          (run_view (g.S.Source.left c.next_work.new.script) (g.K.Sink.written c.tell.new.report) c.tell.new.state)
           now c.next_work.new.state.payload.items c.next_work.new.state.data_in.items (Ok tt) (rw (c.in-Ok-Some-Nothing.is, c.in-Ok-Some-Nothing.field-0-is, c.in-Ok-Some-Nothing.field-0-0-is) at (c.next_work.ensures.next first now.far now.at)) c.next_work.ensures.empty (c.in-Ok.ensures.tells (g.S.Source.left c.next_work.new.script));
       counts = none_rose (counts_of (g.S.Source.faults c.args.script.now) (g.K.Sink.faults c.args.report.now) (faults_of g.D.Sectors g.D.Image.Image c.args.inserted)) (counts_of (g.S.Source.faults c.next_work.new.script) (g.K.Sink.faults c.next_work.new.report) (faults_of g.D.Sectors g.D.Image.Image c.loop-stopped.inserted))
           (counts_of (g.S.Source.faults c.next_work.new.script) (g.K.Sink.faults c.tell.new.report) (faults_of g.D.Sectors g.D.Image.Image c.loop-stopped.inserted))
           (none_rose (counts_of (g.S.Source.faults c.args.script.now) (g.K.Sink.faults c.args.report.now) (faults_of g.D.Sectors g.D.Image.Image c.args.inserted)) (counts_of (g.S.Source.faults c.loop-stopped.script) (g.K.Sink.faults c.loop-stopped.report) (faults_of g.D.Sectors g.D.Image.Image c.loop-stopped.inserted))
           (counts_of (g.S.Source.faults c.next_work.new.script) (g.K.Sink.faults c.next_work.new.report) (faults_of g.D.Sectors g.D.Image.Image c.loop-stopped.inserted))
           c.loop-stopped.invariant.counts (rw c.in-Ok-Some-Nothing.is at (c.next_work.ensures.counts (faults_of g.D.Sectors g.D.Image.Image c.loop-stopped.inserted)))) (line_counts (g.S.Source.faults c.next_work.new.script) (g.K.Sink.faults c.next_work.new.report) (g.K.Sink.faults c.tell.new.report) (faults_of g.D.Sectors g.D.Image.Image c.loop-stopped.inserted) (faults_of g.D.Sectors g.D.Image.Image c.loop-stopped.inserted)
-          (view_of (g.S.Source.left c.next_work.new.script) (g.K.Sink.written c.next_work.new.report) c.next_work.new.state)
-          (view_of (g.S.Source.left c.next_work.new.script) (g.K.Sink.written c.tell.new.report) c.tell.new.state)
+          (run_view (g.S.Source.left c.next_work.new.script) (g.K.Sink.written c.next_work.new.report) c.next_work.new.state)
+          (run_view (g.S.Source.left c.next_work.new.script) (g.K.Sink.written c.tell.new.report) c.tell.new.state)
           c.next_work.new.state.data_in.items (Ok replies.Nothing) (Ok tt) refl c.in-Ok.ensures.count (c.in-Ok.ensures.tells (g.S.Source.left c.next_work.new.script)));
       room = c.tell.ensures.room c.next_work.ensures.room;
       few = few_more c.loop-stopped.state.tally c.next_work.new.state.tally c.tell.new.state.tally c.loop-stopped.state.reader.taken c.next_work.new.state.reader.taken c.tell.new.state.reader.taken c.loop-stopped.invariant.few takes.0 reader tally more;
@@ -57,8 +57,8 @@ loop-stopped-preserved-in-Ok g c =
 pub returns-in-Err-tell-clause-ends : goal.returns-in-Err-tell-clause-ends
 returns-in-Err-tell-clause-ends g c first b =
     let now = c.loop-stopped.invariant.between first b in
-    nothing_done first (Stands g.D.Sectors g.D.Image.Image c.loop-stopped.inserted) (view_of (g.S.Source.left c.loop-stopped.script) (g.K.Sink.written c.loop-stopped.report) c.loop-stopped.state) (view_of (g.S.Source.left c.next_work.new.script) (g.K.Sink.written c.next_work.new.report) c.next_work.new.state)
-    (view_of (g.S.Source.left c.next_work.new.script) (g.K.Sink.written c.tell.new.report) c.tell.new.state)
+    nothing_done first (Stands g.D.Sectors g.D.Image.Image c.loop-stopped.inserted) (run_view (g.S.Source.left c.loop-stopped.script) (g.K.Sink.written c.loop-stopped.report) c.loop-stopped.state) (run_view (g.S.Source.left c.next_work.new.script) (g.K.Sink.written c.next_work.new.report) c.next_work.new.state)
+    (run_view (g.S.Source.left c.next_work.new.script) (g.K.Sink.written c.tell.new.report) c.tell.new.state)
     now c.next_work.new.state.payload.items c.next_work.new.state.data_in.items (Err c.in-Err-tell.stopped) (rw (c.in-Ok-Some-Nothing.is, c.in-Ok-Some-Nothing.field-0-is, c.in-Ok-Some-Nothing.field-0-0-is) at (c.next_work.ensures.next first now.far now.at)) c.next_work.ensures.empty (c.in-Err-tell.ensures.tells (g.S.Source.left c.next_work.new.script))
 
 pub returns-in-Err-tell-clause-counts : goal.returns-in-Err-tell-clause-counts
@@ -69,8 +69,8 @@ returns-in-Err-tell-clause-counts g c =
     (none_rose (counts_of (g.S.Source.faults c.args.script.now) (g.K.Sink.faults c.args.report.now) (faults_of g.D.Sectors g.D.Image.Image c.args.inserted)) (counts_of (g.S.Source.faults c.loop-stopped.script) (g.K.Sink.faults c.loop-stopped.report) (faults_of g.D.Sectors g.D.Image.Image c.loop-stopped.inserted))
     (counts_of (g.S.Source.faults c.next_work.new.script) (g.K.Sink.faults c.next_work.new.report) (faults_of g.D.Sectors g.D.Image.Image c.loop-stopped.inserted))
     c.loop-stopped.invariant.counts (rw c.in-Ok-Some-Nothing.is at (c.next_work.ensures.counts (faults_of g.D.Sectors g.D.Image.Image c.loop-stopped.inserted)))) (line_counts (g.S.Source.faults c.next_work.new.script) (g.K.Sink.faults c.next_work.new.report) (g.K.Sink.faults c.tell.new.report) (faults_of g.D.Sectors g.D.Image.Image c.loop-stopped.inserted) (faults_of g.D.Sectors g.D.Image.Image c.loop-stopped.inserted)
-    (view_of (g.S.Source.left c.next_work.new.script) (g.K.Sink.written c.next_work.new.report) c.next_work.new.state)
-    (view_of (g.S.Source.left c.next_work.new.script) (g.K.Sink.written c.tell.new.report) c.tell.new.state)
+    (run_view (g.S.Source.left c.next_work.new.script) (g.K.Sink.written c.next_work.new.report) c.next_work.new.state)
+    (run_view (g.S.Source.left c.next_work.new.script) (g.K.Sink.written c.tell.new.report) c.tell.new.state)
     c.next_work.new.state.data_in.items (Ok replies.Nothing) (Err c.in-Err-tell.stopped) refl c.in-Err-tell.ensures.count (c.in-Err-tell.ensures.tells (g.S.Source.left c.next_work.new.script)))
 
 pub returns-in-Err-tell-clause-few : goal.returns-in-Err-tell-clause-few

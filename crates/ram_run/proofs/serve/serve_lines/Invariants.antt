@@ -2,13 +2,13 @@ use Rattle.std.proofs.Common.{◌≤◌, ◌-◌}
 use Rattle.ram_run.specs.Inserted.{Stands, faults_of}
 use Rattle.ram_run.specs.RunCounts.{SameCounts, counts_of}
 use Rattle.ram_run.specs.RunState.{HasRoom, IsFewLines}
-use Rattle.ram_run.specs.Progress.{Beginning, Between, view_of}
+use Rattle.ram_run.specs.Progress.{Beginning, Between, run_view}
 use Rattle.ram_run.proofs.serve.serve_lines.Given as goal
 
 abbrev pub invariant-loop-stopped : goal.invariant-loop-stopped
 invariant-loop-stopped g l = record {
-  between : (first : Beginning) → Between first (Stands g.D.Sectors g.D.Image.Image l.fn.inserted) (view_of (g.S.Source.left l.fn.script) (g.K.Sink.written l.fn.report) l.fn.state)
-      → Between first (Stands g.D.Sectors g.D.Image.Image l.inserted) (view_of (g.S.Source.left l.script) (g.K.Sink.written l.report) l.state);
+  between : (first : Beginning) → Between first (Stands g.D.Sectors g.D.Image.Image l.fn.inserted) (run_view (g.S.Source.left l.fn.script) (g.K.Sink.written l.fn.report) l.fn.state)
+      → Between first (Stands g.D.Sectors g.D.Image.Image l.inserted) (run_view (g.S.Source.left l.script) (g.K.Sink.written l.report) l.state);
   counts : SameCounts (counts_of (g.S.Source.faults l.fn.script) (g.K.Sink.faults l.fn.report) (faults_of g.D.Sectors g.D.Image.Image l.fn.inserted))
       (counts_of (g.S.Source.faults l.script) (g.K.Sink.faults l.report) (faults_of g.D.Sectors g.D.Image.Image l.inserted));
   room : HasRoom l.state;

@@ -13,7 +13,7 @@ returns-in_default-2 c =
     let none = rw c.in_default-2.is at c.in_ok-entries.ensures in
     let Q : List PdlEntry → List ℕ → Type 0 = λ l. Spells pdl_entry_bytes 4 l in
     let R : List ℕ → Type 0 = λ block. (value : Dds) → IsDdsText value block → ⊥ in
-    subst R c.bytes-bytes.ensures.same (no_text c.in-Some.front.state c.in-Some.front.counter c.in-Some.front.psa c.in-Some.front.count bytes c.in-Some.ensures.1 c.in-Some.ensures.2 (λ entries long lawful spells. none entries long record { rise = lawful.rise; all_fit = lawful.numbers } (subst (Q entries) (sym (rest_of 2052 bytes)) spells)))
+    subst R c.bytes-bytes.ensures.same (no_text c.in-Some.header.state c.in-Some.header.counter c.in-Some.header.psa c.in-Some.header.count bytes c.in-Some.ensures.1 c.in-Some.ensures.2 (λ entries long lawful spells. none entries long record { rise = lawful.rise; all_fit = lawful.numbers } (subst (Q entries) (sym (rest_of 2052 bytes)) spells)))
 
 pub returns : goal.returns
 returns c =
@@ -21,7 +21,7 @@ returns c =
     let some = rw c.in-Some-2.is at c.in_ok-entries.ensures in
     let entries = c.in-Some-2.entries.items in
     let Q : List ℕ → Type 0 = Spells pdl_entry_bytes 4 entries in
-    let value : List PdlEntry → Dds = λ l. record { counter = c.in-Some.front.counter; state = c.in-Some.front.state; psa = c.in-Some.front.psa; entries = l } in
+    let value : List PdlEntry → Dds = λ l. record { counter = c.in-Some.header.counter; state = c.in-Some.header.state; psa = c.in-Some.header.psa; entries = l } in
     let R : List ℕ → Type 0 = IsDdsText (value c.from_vec.result) in
     let S : List PdlEntry → Type 0 = λ l. IsDdsText (value l) bytes in
-    subst R c.bytes-bytes.ensures.same (subst S (sym c.from_vec.ensures) (text_read (value entries) c.in-Some.front.count bytes c.in-Some.ensures.0 c.bytes-bytes.ensures.len c.in-Some.ensures.1 c.in-Some.ensures.2 some.0 record { rise = some.1.rise; numbers = some.1.all_fit } (subst Q (rest_of 2052 bytes) some.2)))
+    subst R c.bytes-bytes.ensures.same (subst S (sym c.from_vec.ensures) (text_read (value entries) c.in-Some.header.count bytes c.in-Some.ensures.0 c.bytes-bytes.ensures.len c.in-Some.ensures.1 c.in-Some.ensures.2 some.0 record { rise = some.1.rise; numbers = some.1.all_fit } (subst Q (rest_of 2052 bytes) some.2)))

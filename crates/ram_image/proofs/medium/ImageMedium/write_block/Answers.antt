@@ -1,6 +1,6 @@
 use Rattle.std.proofs.Common.{◌∙◌, subst}
 use Rattle.model_geometry.specs.Geometry.{Shape, total}
-use Rattle.model_bytes.specs.Told.{WhereTold}
+use Rattle.model_bytes.specs.Known.{WhereKnown}
 use Rattle.model_image.specs.Writes.{StopsInBytes}
 use Rattle.ram_image.specs.Medium.{machine_in, bytes_in}
 use Rattle.ram_image.specs.Begun.{WriteCutBytes}
@@ -24,6 +24,6 @@ returns-in-Failed-leave g c = record {
   exactly = failed_write (machine_in c.args.self.now) (machine_in c.begin.new.self) (machine_in c.leave.new.self) c.args.block c.if-not-self.false c.in-On.ensures.rule.1 c.args.from.now
       c.in-Failed-leave.ensures.rule;
   same_shape = c.in-Failed-leave.ensures.same_shape ∙ c.in-On.ensures.same_shape;
-  bytes = stops_then _ c.args.block _ _ _ c.in-On.ensures.bytes (total c.args.self.now.geometry) c.args.from.now (subst (λ (s : Shape). WhereTold (bytes_in c.begin.new.self) (bytes_in c.leave.new.self) (StopsInBytes (total s) c.args.block c.args.from.now)) c.in-On.ensures.same_shape
+  bytes = stops_then _ c.args.block _ _ _ c.in-On.ensures.bytes (total c.args.self.now.geometry) c.args.from.now (subst (λ (s : Shape). WhereKnown (bytes_in c.begin.new.self) (bytes_in c.leave.new.self) (StopsInBytes (total s) c.args.block c.args.from.now)) c.in-On.ensures.same_shape
       c.in-Failed-leave.ensures.bytes);
 }

@@ -1,14 +1,14 @@
-use Rattle.model_medium.proofs.Rules.{read_rule, read_goes}
-use Rattle.model_image.proofs.ToldCells.{shows_none_untold}
+use Rattle.model_medium.proofs.Rules.{read_rule, read_continues}
+use Rattle.model_image.proofs.KnownCells.{shows_none_unknown}
 use Rattle.ram_image.specs.Medium.{shape_of_medium, machine_in}
 use Rattle.ram_image.proofs.medium.ImageMediumMedium.read.Goals as goal
 
 pub returns-clause-rule : goal.returns-clause-rule
 returns-clause-rule g c =
     read_rule (machine_in c.args.self.now) (machine_in c.read_block.new.self) c.args.block c.args.into.now c.read_block.new.into c.read_block.result
-    (shows_none_untold (shape_of_medium c.args.self.now) (g.I.Image.bytes c.args.self.now.image)) c.read_block.ensures.exactly
+    (shows_none_unknown (shape_of_medium c.args.self.now) (g.I.Image.bytes c.args.self.now.image)) c.read_block.ensures.exactly
 
-pub returns-clause-goes : goal.returns-clause-goes
-returns-clause-goes g c =
-    read_goes (machine_in c.args.self.now) (machine_in c.read_block.new.self) c.args.block c.args.into.now c.read_block.new.into c.read_block.result c.args.self.now.armed.to_come
+pub returns-clause-continues : goal.returns-clause-continues
+returns-clause-continues g c =
+    read_continues (machine_in c.args.self.now) (machine_in c.read_block.new.self) c.args.block c.args.into.now c.read_block.new.into c.read_block.result c.args.self.now.armed.to_come
     c.read_block.ensures.exactly

@@ -1,4 +1,4 @@
-use Rattle.model_medium.proofs.Rules.{read_rule, read_goes}
+use Rattle.model_medium.proofs.Rules.{read_rule, read_continues}
 use Rattle.ram_medium.specs.Memory.{mem_machine}
 use Rattle.ram_medium.proofs.memory.MemMediumMedium.read.Goals as goal
 
@@ -6,7 +6,7 @@ pub returns-clause-rule : goal.returns-clause-rule
 returns-clause-rule c =
     read_rule (mem_machine c.args.self.now) (mem_machine c.read_block.new.self) c.args.block c.args.into.now c.read_block.new.into c.read_block.result tt c.read_block.ensures.event.exactly
 
-pub returns-clause-goes : goal.returns-clause-goes
-returns-clause-goes c =
-    read_goes (mem_machine c.args.self.now) (mem_machine c.read_block.new.self) c.args.block c.args.into.now c.read_block.new.into c.read_block.result c.args.self.now.armed.to_come
+pub returns-clause-continues : goal.returns-clause-continues
+returns-clause-continues c =
+    read_continues (mem_machine c.args.self.now) (mem_machine c.read_block.new.self) c.args.block c.args.into.now c.read_block.new.into c.read_block.result c.args.self.now.armed.to_come
     c.read_block.ensures.event.exactly

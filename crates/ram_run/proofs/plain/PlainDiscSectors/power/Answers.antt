@@ -1,5 +1,5 @@
 use Rattle.std.proofs.Common.{sym, ◌∙◌}
-use Rattle.model_sectors.proofs.Found.{power_told, some_after_power}
+use Rattle.model_sectors.proofs.Found.{power_known, some_after_power}
 use Rattle.ram_run.specs.Plain.Disc.{shown_by, stands_for}
 use Rattle.ram_run.proofs.plain.PlainDiscSectors.power.Goals as goal
 
@@ -8,7 +8,7 @@ invariant_of-self g c =
     let old = c.args.self.now.mechanism in
     let new = c.cycle_power.new.self in
     record {
-      some = λ told. some_after_power (shown_by old) (shown_by new) (stands_for old) (stands_for new)
-          (c.args.self.now.some (sym (power_told (shown_by old) (shown_by new) c.cycle_power.result c.cycle_power.ensures.cause) ∙ told))
+      some = λ known. some_after_power (shown_by old) (shown_by new) (stands_for old) (stands_for new)
+          (c.args.self.now.some (sym (power_known (shown_by old) (shown_by new) c.cycle_power.result c.cycle_power.ensures.cause) ∙ known))
           c.cycle_power.result c.cycle_power.ensures.step;
     }

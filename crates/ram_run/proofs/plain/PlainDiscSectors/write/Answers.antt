@@ -1,5 +1,5 @@
 use Rattle.std.proofs.Common.{sym, ◌∙◌}
-use Rattle.model_sectors.proofs.Found.{write_told, some_after_write}
+use Rattle.model_sectors.proofs.Found.{write_known, some_after_write}
 use Rattle.ram_run.specs.Plain.Disc.{shown_by, stands_for}
 use Rattle.ram_run.proofs.plain.PlainDiscSectors.write.Goals as goal
 
@@ -8,7 +8,7 @@ invariant_of-self g c =
     let old = c.args.self.now.mechanism in
     let new = c.write.new.self in
     record {
-      some = λ told. some_after_write (shown_by old) (shown_by new) (stands_for old) (stands_for new)
-          (c.args.self.now.some (sym (write_told (shown_by old) (shown_by new) c.args.lba c.args.n c.write.result c.write.ensures.cause) ∙ told))
+      some = λ known. some_after_write (shown_by old) (shown_by new) (stands_for old) (stands_for new)
+          (c.args.self.now.some (sym (write_known (shown_by old) (shown_by new) c.args.lba c.args.n c.write.result c.write.ensures.cause) ∙ known))
           c.args.lba c.args.n c.args.from.now c.write.result c.write.ensures.step;
     }

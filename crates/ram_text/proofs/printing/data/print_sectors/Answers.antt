@@ -1,4 +1,4 @@
--- One sector more, or a front of its line.
+-- One sector more, or a prefix of its line.
 use Rattle.std.proofs.Common.{◌+◌, ◌/◌, ◌++◌, length, ap, sym, ◌∙◌}
 use Rattle.std.proofs.lemmas.Result.{err_from_is_err_and}
 use Rattle.ram_text.specs.ReportLines.{sectors_text, sector_text}

@@ -1,16 +1,16 @@
 -- By the lemmas on fronts.
 use Rattle.std.proofs.Common.{take, drop, refl, arith}
 use Rattle.std.proofs.lemmas.Bool.{false≢true}
-use Rattle.ram_dds.proofs.Fronts.{other_front, front_read, no_gap}
-use Rattle.ram_dds.proofs.front.front_of.Goals as goal
+use Rattle.ram_dds.proofs.Headers.{other_header, header_read, no_gap}
+use Rattle.ram_dds.proofs.header.header_of.Goals as goal
 
 pub returns-then-not-is_zero : goal.returns-then-not-is_zero
 returns-then-not-is_zero c =
-    λ state counter psa count limits front. no_gap state counter psa count c.args.bytes.now (take 2038 (drop 10 c.args.bytes.now)) refl (λ zero. false≢true (c.if-not-is_zero.ensures.1 zero)) front
+    λ state counter psa count limits header. no_gap state counter psa count c.args.bytes.now (take 2038 (drop 10 c.args.bytes.now)) refl (λ zero. false≢true (c.if-not-is_zero.ensures.1 zero)) header
 
 pub returns-then-not-is_within_limits : goal.returns-then-not-is_within_limits
 returns-then-not-is_within_limits c =
-    λ state counter psa count limits front. false≢true (c.if-not-is_within_limits.ensures.1 (other_front c.in_ok-state.state state c.get_u16-psa.result c.get_u16-count.result counter psa count c.args.bytes.now record {
+    λ state counter psa count limits header. false≢true (c.if-not-is_within_limits.ensures.1 (other_header c.in_ok-state.state state c.get_u16-psa.result c.get_u16-count.result counter psa count c.args.bytes.now record {
       long = c.requires;
       small = λ k. omega (arith, c.type_inv.bytes k);
       begins = c.in_ok-state.ensures;
@@ -18,13 +18,13 @@ returns-then-not-is_within_limits c =
       count_fits = c.get_u16-count.type_inv;
       psa_is = c.get_u16-psa.ensures;
       count_is = c.get_u16-count.ensures;
-    } limits front))
+    } limits header))
 
 pub returns : goal.returns
 returns c = (
   c.get_u32.type_inv,
   c.if-not-is_within_limits.ensures.0 refl,
-  front_read c.in_ok-state.state c.get_u32.result c.get_u16-psa.result c.get_u16-count.result c.args.bytes.now (take 2038 (drop 10 c.args.bytes.now)) record {
+  header_read c.in_ok-state.state c.get_u32.result c.get_u16-psa.result c.get_u16-count.result c.args.bytes.now (take 2038 (drop 10 c.args.bytes.now)) record {
     long = c.requires;
     small = λ k. omega (arith, c.type_inv.bytes k);
     begins = c.in_ok-state.ensures;

@@ -4,14 +4,14 @@ ghost use Rattle.std.specs.Prelude.{◌≡◌, ℕ, ◌+◌, ◌<◌, ◌≤◌,
 ghost use Rattle.byteorder.specs.Endian.{big_bytes};
 ghost use Rattle.model_lists.specs.declared.dds.DdsState.{DdsState};
 ghost use Rattle.model_lists.specs.Values.{IsWithinDdsLimits};
-ghost use Rattle.model_lists.specs.Texts.{IsDdsFront, state_byte};
+ghost use Rattle.model_lists.specs.Texts.{IsDdsHeader, state_byte};
 
 use model_lists::{DdsState, MOST_SPARES};
 use ram_bytes::{get_u16, get_u32, is_zero};
 
 /// What the bytes before the entries say.
 #[derive(Clone, Copy)]
-pub struct Front {
+pub struct Header {
     pub state: DdsState,
     pub counter: u32,
     pub psa: u32,
@@ -74,13 +74,13 @@ fn is_within_limits(state: DdsState, psa: u32, count: usize) -> bool
 }
 
 /// What the bytes before the entries say, where they are within the limits.
-pub fn front_of(bytes: &[u8]) -> Option<Front>
+pub fn header_of(bytes: &[u8]) -> Option<Header>
     requires { 2052 ≤ length bytes.now }
     ensures { MatchOption result
         ((state : DdsState) (counter psa count : ℕ) → IsWithinDdsLimits state psa count
-        → IsDdsFront state counter psa count bytes.now → ⊥)
-        (λ front. (front.counter < 2 ^ 32) × IsWithinDdsLimits front.state front.psa front.count
-        × IsDdsFront front.state front.counter front.psa front.count bytes.now) }
+        → IsDdsHeader state counter psa count bytes.now → ⊥)
+        (λ header. (header.counter < 2 ^ 32) × IsWithinDdsLimits header.state header.psa header.count
+        × IsDdsHeader header.state header.counter header.psa header.count bytes.now) }
 {
     let state = state_of(bytes)?;
     if !begins_list(&bytes[2_048..2_050]) {
@@ -94,7 +94,7 @@ pub fn front_of(bytes: &[u8]) -> Option<Front>
     if !is_within_limits(state, psa, count) {
         return None;
     }
-    Some(Front {
+    Some(Header {
         state,
         counter: get_u32(bytes, 4),
         psa,
