@@ -8,7 +8,7 @@ use Rattle.hex.proofs.HexLemmas.{IsDigits-lower_digits}
 use Rattle.ram_sense.specs.declared.sense.Sense.{Sense}
 use Rattle.ram_sense.specs.declared.answer.Answer.{Answer}
 use Rattle.ram_sense.specs.declared.answer.Answer.TheVariants.{Good, Check, Cut, Off, Fault, NoMemory}
-use Rattle.ram_text.specs.ReportLines.{answer_words, sense_code, info_words, SenseFits, IsKnown}
+use Rattle.ram_text.specs.ReportLines.{answer_words, sense_code, info_words, SenseFits, HasWords}
 
 digit_same : (a b : ℕ) → a < 16 → b < 16 → get_or lower_digits a 0 ≡ get_or lower_digits b 0 → a ≡ b
 digit_same a b low low' h =
@@ -66,7 +66,7 @@ check_same s t r q h =
 differ : {A : Type 0} (xs ys : List ℕ) (k x y : ℕ) → xs ≡ ys → get_or xs k 0 ≡ x → get_or ys k 0 ≡ y → (x ≡ y → ⊥) → A
 differ xs ys k x y h at_x at_y ne = absurd (ne (sym at_x ∙ ap (λ zs. get_or zs k 0) h ∙ at_y))
 
-pub answers_same : (a b : Answer) → IsKnown a → IsKnown b → answer_words a ≡ answer_words b → a ≡ b
+pub answers_same : (a b : Answer) → HasWords a → HasWords b → answer_words a ≡ answer_words b → a ≡ b
 answers_same Good Good r q h = refl
 answers_same Good (Check t) r q h = differ _ _ 0 103 99 h refl refl (λ e. omega arith)
 answers_same Good Cut r q h = differ _ _ 0 103 99 h refl refl (λ e. omega arith)

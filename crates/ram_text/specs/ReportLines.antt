@@ -120,10 +120,10 @@ pub record SenseFits (sense : Sense) : Type 0 where
   pub info : IfSome sense.info (λ info. info < 2 ^ 32)
 
 -- an answer that is printed, and whose sense is in range (this project's own)
-abbrev pub IsKnown : Answer → Type 0
-IsKnown answers.Good = Unit {0}
-IsKnown (answers.Check sense) = SenseFits sense
-IsKnown answers.Cut = Unit {0}
-IsKnown answers.Off = Unit {0}
-IsKnown answers.Fault = ⊥
-IsKnown answers.NoMemory = ⊥
+abbrev pub HasWords : Answer → Type 0
+HasWords answers.Good = Unit {0}
+HasWords (answers.Check sense) = SenseFits sense
+HasWords answers.Cut = Unit {0}
+HasWords answers.Off = Unit {0}
+HasWords answers.Fault = ⊥
+HasWords answers.NoMemory = ⊥

@@ -3,11 +3,11 @@ ghost use Rattle.std.specs.Prelude.{◌≡◌, ◌≢◌, ◌<◌, ℕ, Option, 
 ghost use Rattle.ram_text.specs.ScriptWords.{words_of, space};
 ghost use Rattle.ram_text.specs.Lines.{GivesLine, LineIsTooLong, ScriptIsTooLong};
 ghost use Rattle.ram_text.specs.Script.{Reads};
-ghost use Rattle.ram_text.specs.ReportLines.{answer_words, IsKnown};
+ghost use Rattle.ram_text.specs.ReportLines.{answer_words, HasWords};
 ghost use Rattle.ram_text.specs.declared.lines.TheConstants.{LINE_LIMIT, SCRIPT_LIMIT};
 ghost use Rattle.ram_text.specs.declared.payload.TheConstants.{PAYLOAD_ROOM};
 ghost use Rattle.ram_text.specs.declared.script.Line.{Line as Read};
-ghost use Rattle.ram_sense.specs.declared.answer.Answer.{Answer as Known};
+ghost use Rattle.ram_sense.specs.declared.answer.Answer.{Answer as Reported};
 
 /// How many bytes a line has at most, a script, and the data of a command.
 pub fn limits_are_these()
@@ -17,7 +17,7 @@ pub fn limits_are_these()
 {}
 
 /// A limit is told exactly where it is passed first: of the two limits one alone is, and where one is, no line comes.
-pub fn a_limit_is_known_where_it_is_passed_first()
+pub fn a_limit_is_reported_where_it_is_passed_first()
     ensures one { (left : Option (List ℕ)) (taken : ℕ) → LineIsTooLong left taken → ¬ ScriptIsTooLong left taken }
     ensures line { (held : List ℕ) (left : Option (List ℕ)) (taken taken' : ℕ) (line : List ℕ) (faults faults' : ℕ)
         → GivesLine (Some held) left taken taken' line faults faults' → ¬ LineIsTooLong (Some held) taken }
@@ -42,5 +42,5 @@ pub fn words_stand_between_spaces()
 
 /// Two answers to commands that read the same are the same, with all parts of their sense.
 pub fn answers_are_distinct()
-    ensures { (a b : Known) → IsKnown a → IsKnown b → answer_words a ≡ answer_words b → a ≡ b }
+    ensures { (a b : Reported) → HasWords a → HasWords b → answer_words a ≡ answer_words b → a ≡ b }
 {}

@@ -181,7 +181,7 @@ fn a_script_has_its_limit(rt: HostRuntime) -> Result<(), Fail> {
 }
 
 #[test]
-fn a_failing_source_is_known_and_asked_again(rt: HostRuntime) -> Result<(), Fail> {
+fn a_failing_source_is_reported_and_asked_again(rt: HostRuntime) -> Result<(), Fail> {
     for (failing, lines) in [(1, b"".as_slice()), (2, b"one|"), (3, b"one|two|")] {
         let (text, last) = joined(rt.alloc(), b"one\ntwo\nthree", 4, failing)?;
         assert_eq!(rt; text.as_slice(), lines);

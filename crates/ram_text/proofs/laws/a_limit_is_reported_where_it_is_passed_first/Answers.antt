@@ -1,7 +1,7 @@
 -- No line comes where a limit is passed first.
 use Rattle.std.proofs.Common.{arith}
 use Rattle.ram_text.proofs.Limits.{line_not_long, script_not_long}
-use Rattle.ram_text.proofs.laws.a_limit_is_known_where_it_is_passed_first.Goals as goal
+use Rattle.ram_text.proofs.laws.a_limit_is_reported_where_it_is_passed_first.Goals as goal
 
 pub returns-clause-line : goal.returns-clause-line
 returns-clause-line c = line_not_long
