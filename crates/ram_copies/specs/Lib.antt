@@ -1,0 +1,5 @@
+pub mod Values
+pub mod Puts
+pub mod Writes
+pub mod Repairs
+pub mod Calls
