@@ -4,3 +4,7 @@ pub mod Counting
 pub mod Mending
 pub mod Repairing
 pub mod Lifting
+pub mod Best
+pub mod Halting
+pub mod Choosing
+pub mod Answering

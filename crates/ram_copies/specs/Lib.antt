@@ -3,3 +3,5 @@ pub mod Puts
 pub mod Writes
 pub mod Repairs
 pub mod Calls
+pub mod Choices
+pub mod Chooses

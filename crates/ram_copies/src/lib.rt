@@ -3,7 +3,9 @@
 #![tactic(auto)]
 
 mod blocks;
+mod choice;
 mod lists;
+mod looks;
 mod puts;
 mod repairs;
 mod scratch;
@@ -11,5 +13,6 @@ mod updates;
 mod writes;
 
 pub use blocks::{Accept, ListBlock};
+pub use choice::{Chosen, choose};
 pub use scratch::Scratch;
 pub use updates::{Updated, repair, update};
