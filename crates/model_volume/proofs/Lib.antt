@@ -8,3 +8,6 @@ pub mod Starting
 pub mod OneStart
 pub mod Choosing
 pub mod Covering
+pub mod LookUps
+pub mod Moved
+pub mod Updates

@@ -3,6 +3,7 @@
 #![tactic(auto)]
 
 mod laws;
+mod move_laws;
 mod start_laws;
 
 pub use laws::{
@@ -11,6 +12,7 @@ pub use laws::{
     one_pair_is_chosen, seen_lists_were_given, settled_lists_are_given_alone,
     three_causes_choose_none,
 };
+pub use move_laws::{a_write_at_home_is_covered, covers_in_an_update, one_home_moves};
 pub use start_laws::{
     a_choice_is_made, a_disc_gives_sixteen_pairs_at_most, a_disc_has_a_start, a_disc_has_one_start,
     a_start_covers_what_is_given,
