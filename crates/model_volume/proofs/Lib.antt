@@ -11,3 +11,4 @@ pub mod Covering
 pub mod LookUps
 pub mod Moved
 pub mod Updates
+pub mod SampleFacts

@@ -5,6 +5,7 @@
 mod laws;
 mod move_laws;
 mod start_laws;
+mod worked;
 
 pub use laws::{
     a_bare_disc_gives_none, a_repair_gives_no_other_lists, a_stopped_update_gives_one_of_two,
@@ -17,3 +18,4 @@ pub use start_laws::{
     a_choice_is_made, a_disc_gives_sixteen_pairs_at_most, a_disc_has_a_start, a_disc_has_one_start,
     a_start_covers_what_is_given,
 };
+pub use worked::{worked_differing_copies, worked_homes, worked_lists};
