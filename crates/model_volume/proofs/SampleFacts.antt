@@ -3,7 +3,6 @@ use Rattle.std.specs.Prelude.{◌≡◌, ℕ, zero, suc, ◌^◌, ◌<◌, ◌�
 use Rattle.std.proofs.Common.{refl, sym, ap, inl, inr, subst, arith}
 use Rattle.std.specs.List.{All, Contains, IsDistinct}
 use Rattle.std.specs.List.Sorted.{IsStrictlyIncreasing}
-use Rattle.std.proofs.lemmas.Bool.{cases_eq}
 use Rattle.std.proofs.lemmas.List.Elements.{All-cons}
 use Rattle.model_geometry.specs.Geometry.{zone_start, is_data, data_blocks, dds_block, sdl_block}
 use Rattle.model_lists.specs.declared.sdl.SdlEntry.{SdlEntry}
@@ -13,7 +12,7 @@ use Rattle.model_lists.proofs.DdsTexts as dds_texts
 use Rattle.model_lists.proofs.SdlTexts as sdl_texts
 use Rattle.model_medium.specs.Cells.{Cell, Dead, cell_at}
 use Rattle.model_sectors.specs.Discs.{Off}
-use Rattle.model_copies.specs.Copies.{IsArea, Holds, HasDdsCopy, HasSdlCopy}
+use Rattle.model_copies.specs.Copies.{Holds, HasDdsCopy, HasSdlCopy}
 use Rattle.model_places.specs.Places.{Lists, unslipped, logical_blocks, spares}
 use Rattle.model_places.specs.Valid.{IsValidPdl, IsValidSsa, AreValid}
 use Rattle.model_places.specs.Worked.{pair}
@@ -21,6 +20,7 @@ use Rattle.model_volume.specs.Given.{IsGiven, AreChosen}
 use Rattle.model_volume.specs.Starts.{Found, IsFound, Precedes, disc_under, IsDiscStart}
 use Rattle.model_volume.specs.Samples.{small_shape, lists_before, lists_after, differing_cells, differing_pairs}
 use Rattle.model_volume.proofs.GivenFacts.{same_lists}
+use Rattle.model_volume.proofs.Losses.{area_cases}
 
 -- ---- the lists are lawful and valid
 
@@ -139,18 +139,6 @@ after_valid = record {
 }
 
 -- ---- what the cells give
-
-area_cases : (area : ℕ) → IsArea area → (area ≡ 1) ⊎ (area ≡ 2) ⊎ (area ≡ 3) ⊎ (area ≡ 4)
-area_cases area is = elim (cases_eq area 1) [
-  | inl e ↦ inl e
-  | inr a ↦ elim (cases_eq area 2) [
-    | inl e ↦ inr (inl e)
-    | inr b ↦ elim (cases_eq area 3) [
-      | inl e ↦ inr (inr (inl e))
-      | inr c ↦ inr (inr (inr (omega (arith, is.0, is.1, a, b, c))))
-    ]
-  ]
-]
 
 module _ (d old new : List ℕ) (is_d : IsDdsText lists_before.dds d) (is_old : IsSdlText lists_before.sdl old) (is_new : IsSdlText lists_after.sdl new) where
   dds_third : cell_at (differing_cells d old new) (dds_block small_shape 3) ≡ Dead
