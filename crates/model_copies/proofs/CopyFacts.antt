@@ -1,6 +1,6 @@
 -- What copies hold, over any text of which a block is the text of one value at most.
-use Rattle.std.specs.Prelude.{◌≡◌, ℕ, zero, suc, ◌+◌, ◌<◌, ◌≤◌, ◌⊎◌, List}
-use Rattle.std.proofs.Common.{refl, sym, ap, ap₂, ◌∙◌, inl, inr, subst, arith}
+use Rattle.std.specs.Prelude.{◌≡◌, ℕ, zero, suc, ◌≤◌, ◌⊎◌, List}
+use Rattle.std.proofs.Common.{refl, sym, ap, inl, inr, subst, arith}
 use Rattle.model_medium.specs.Cells.{Cell, Blank, Good, Torn, Dead, IsSameOrDead, cell_at}
 use Rattle.model_copies.specs.Copies.{IsArea, Holds, HoldsOrDead, HoldsEither, MayHold, HasCopy, Settled, Between, IsSeen, AllLost, one_if_good, good_count}
 

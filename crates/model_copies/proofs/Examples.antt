@@ -1,6 +1,6 @@
 -- The greatest mark of the copies of the worked examples.
-use Rattle.std.specs.Prelude.{◌≡◌, ℕ, ◌<◌, ◌≤◌, ◌⊎◌, ◌∷◌, [], List}
-use Rattle.std.proofs.Common.{refl, sym, ap, ◌∙◌, inl, inr, subst, arith}
+use Rattle.std.specs.Prelude.{◌≡◌, ℕ, ◌≤◌, ◌⊎◌, ◌∷◌, [], List}
+use Rattle.std.proofs.Common.{refl, ap, inl, inr, subst, arith}
 use Rattle.std.proofs.lemmas.Bool.{cases_eq}
 use Rattle.model_medium.specs.Cells.{Cell, Blank, Good, cell_at}
 use Rattle.model_copies.specs.Copies.{IsArea, Holds, HasCopy, IsGreatestMark}
