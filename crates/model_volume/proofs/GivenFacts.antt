@@ -124,6 +124,15 @@ pair_between shape cells dds a b other settled between given =
       | inr is_b ↦ inr (same_lists other (lists_of dds b) first is_b)
     ]
 
+pub pair_between_dds : (shape : Shape) (cells : List Cell) (a b : Dds) (sdl : Sdl) (other : Lists) → Between IsDdsText (dds_block shape) cells a b → Settled IsSdlText (sdl_block shape) cells sdl
+    → IsGiven shape cells other → (other ≡ lists_of a sdl) ⊎ (other ≡ lists_of b sdl)
+pair_between_dds shape cells a b sdl other between settled given =
+    let second = copy_settled IsSdlText sdl_texts.one_value (sdl_block shape) cells sdl other.sdl given.sdl_area settled given.sdl_copy in
+    elim (dds_between shape cells a b other between given) [
+      | inl is_a ↦ inl (same_lists other (lists_of a sdl) is_a second)
+      | inr is_b ↦ inr (same_lists other (lists_of b sdl) is_b second)
+    ]
+
 -- ---- a disc that is not formatted, after its structure was repaired
 
 pub bare_without_dds : (shape : Shape) (cells : List Cell) → NoDdsChosen shape cells → GivesNone shape cells

@@ -83,6 +83,10 @@ pub fn a_stopped_update_gives_one_of_two()
         → Settled IsDdsText (dds_block shape) cells dds
         → Between IsSdlText (sdl_block shape) cells a b → IsGiven shape cells lists
         → (lists ≡ record { dds = dds; sdl = a }) ⊎ (lists ≡ record { dds = dds; sdl = b }) }
+    ensures dds_pair { (shape : Shape) (cells : List Cell) (a b : Dds) (sdl : Sdl) (lists : Lists)
+        → Between IsDdsText (dds_block shape) cells a b
+        → Settled IsSdlText (sdl_block shape) cells sdl → IsGiven shape cells lists
+        → (lists ≡ record { dds = a; sdl = sdl }) ⊎ (lists ≡ record { dds = b; sdl = sdl }) }
 {}
 
 /// While chosen copies are repaired, wherever that is stopped, what is given was given before.
