@@ -18,4 +18,6 @@ pub use start_laws::{
     a_choice_is_made, a_disc_gives_sixteen_pairs_at_most, a_disc_has_a_start, a_disc_has_one_start,
     a_disc_without_sectors_fits_no_lists, a_start_covers_what_is_given,
 };
-pub use worked::{worked_differing_copies, worked_homes, worked_lists};
+pub use worked::{
+    worked_differing_copies, worked_homes, worked_lists, worked_moves, worked_settled,
+};
