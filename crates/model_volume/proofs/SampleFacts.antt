@@ -1,9 +1,8 @@
 -- The small disc of the worked examples: its lists are lawful and valid, and what its cells give.
-use Rattle.std.specs.Prelude.{◌≡◌, ℕ, zero, suc, ◌^◌, ◌<◌, ◌≤◌, ◌⊎◌, IsSome, IsNone, List, [], ◌∷◌, map, length, get_or}
+use Rattle.std.specs.Prelude.{◌≡◌, ℕ, zero, suc, ◌^◌, ◌<◌, ◌≤◌, ◌⊎◌, IsSome, IsNone, List, [], ◌∷◌, map, length, get_or, slice_index}
 use Rattle.std.proofs.Common.{refl, sym, ap, inl, inr, subst, arith}
 use Rattle.std.specs.List.{All, Contains, IsDistinct}
 use Rattle.std.specs.List.Sorted.{IsStrictlyIncreasing}
-use Rattle.std.proofs.lemmas.Bool.{cases_eq}
 use Rattle.std.proofs.lemmas.List.Elements.{All-cons}
 use Rattle.model_geometry.specs.Geometry.{zone_start, is_data, data_blocks, dds_block, sdl_block}
 use Rattle.model_lists.specs.declared.sdl.SdlEntry.{SdlEntry}
@@ -11,16 +10,18 @@ use Rattle.model_lists.specs.Values.{Dds, Sdl, IsLawfulDds, IsLawfulSdl, HasNumb
 use Rattle.model_lists.specs.Texts.{IsDdsText, IsSdlText}
 use Rattle.model_lists.proofs.DdsTexts as dds_texts
 use Rattle.model_lists.proofs.SdlTexts as sdl_texts
-use Rattle.model_medium.specs.Cells.{Cell, Dead, cell_at}
+use Rattle.model_medium.specs.Cells.{Cell, Dead, cell_at, Good}
 use Rattle.model_sectors.specs.Discs.{Off}
-use Rattle.model_copies.specs.Copies.{IsArea, Holds, HasDdsCopy, HasSdlCopy}
-use Rattle.model_places.specs.Places.{Lists, unslipped, logical_blocks, spares}
+use Rattle.model_copies.specs.Copies.{Holds, HasDdsCopy, HasSdlCopy, IsArea, HoldsOrDead}
+use Rattle.model_places.specs.Places.{Lists, unslipped, logical_blocks, spares, free_spares}
 use Rattle.model_places.specs.Valid.{IsValidPdl, IsValidSsa, AreValid}
 use Rattle.model_places.specs.Worked.{pair}
-use Rattle.model_volume.specs.Given.{IsGiven, AreChosen}
+use Rattle.model_volume.specs.Given.{IsGiven, AreChosen, AreSettled}
 use Rattle.model_volume.specs.Starts.{Found, IsFound, Precedes, disc_under, IsDiscStart}
+use Rattle.model_volume.specs.Moves.{IsNextSpare, tried_of}
 use Rattle.model_volume.specs.Samples.{small_shape, lists_before, lists_after, differing_cells, differing_pairs}
 use Rattle.model_volume.proofs.GivenFacts.{same_lists}
+use Rattle.model_volume.proofs.Losses.{area_cases}
 
 -- ---- the lists are lawful and valid
 
@@ -139,18 +140,6 @@ after_valid = record {
 }
 
 -- ---- what the cells give
-
-area_cases : (area : ℕ) → IsArea area → (area ≡ 1) ⊎ (area ≡ 2) ⊎ (area ≡ 3) ⊎ (area ≡ 4)
-area_cases area is = elim (cases_eq area 1) [
-  | inl e ↦ inl e
-  | inr a ↦ elim (cases_eq area 2) [
-    | inl e ↦ inr (inl e)
-    | inr b ↦ elim (cases_eq area 3) [
-      | inl e ↦ inr (inr (inl e))
-      | inr c ↦ inr (inr (inr (omega (arith, is.0, is.1, a, b, c))))
-    ]
-  ]
-]
 
 module _ (d old new : List ℕ) (is_d : IsDdsText lists_before.dds d) (is_old : IsSdlText lists_before.sdl old) (is_new : IsSdlText lists_after.sdl new) where
   dds_third : cell_at (differing_cells d old new) (dds_block small_shape 3) ≡ Dead
@@ -277,3 +266,61 @@ module _ (d old new : List ℕ) (is_d : IsDdsText lists_before.dds d) (is_old : 
 
 pub texts_exist : ((d : List ℕ) × IsDdsText lists_before.dds d) × ((old : List ℕ) × IsSdlText lists_before.sdl old) × ((new : List ℕ) × IsSdlText lists_after.sdl new)
 texts_exist = (dds_texts.has_text lists_before.dds dds_lawful, sdl_texts.has_text lists_before.sdl before_lawful, sdl_texts.has_text lists_after.sdl after_lawful)
+
+-- ---- settled copies
+
+module _ (d old : List ℕ) (is_d : IsDdsText lists_before.dds d) (is_old : IsSdlText lists_before.sdl old) where
+  dds_settled : (area : ℕ) → IsArea area → HoldsOrDead IsDdsText (cell_at (Good d ∷ Good old ∷ []) (dds_block small_shape area)) lists_before.dds
+  unfolding zone_start
+  dds_settled area is = elim (area_cases area is) [
+    | inl e ↦ subst (λ (k : ℕ). HoldsOrDead IsDdsText (cell_at (Good d ∷ Good old ∷ []) (dds_block small_shape k)) lists_before.dds) (sym e) is_d
+    | inr (inl e) ↦ subst (λ (k : ℕ). HoldsOrDead IsDdsText (cell_at (Good d ∷ Good old ∷ []) (dds_block small_shape k)) lists_before.dds) (sym e) tt
+    | inr (inr (inl e)) ↦ subst (λ (k : ℕ). HoldsOrDead IsDdsText (cell_at (Good d ∷ Good old ∷ []) (dds_block small_shape k)) lists_before.dds) (sym e) tt
+    | inr (inr (inr e)) ↦ subst (λ (k : ℕ). HoldsOrDead IsDdsText (cell_at (Good d ∷ Good old ∷ []) (dds_block small_shape k)) lists_before.dds) (sym e) tt
+  ]
+
+  sdl_settled : (area : ℕ) → IsArea area → HoldsOrDead IsSdlText (cell_at (Good d ∷ Good old ∷ []) (sdl_block small_shape area)) lists_before.sdl
+  unfolding zone_start
+  sdl_settled area is = elim (area_cases area is) [
+    | inl e ↦ subst (λ (k : ℕ). HoldsOrDead IsSdlText (cell_at (Good d ∷ Good old ∷ []) (sdl_block small_shape k)) lists_before.sdl) (sym e) is_old
+    | inr (inl e) ↦ subst (λ (k : ℕ). HoldsOrDead IsSdlText (cell_at (Good d ∷ Good old ∷ []) (sdl_block small_shape k)) lists_before.sdl) (sym e) tt
+    | inr (inr (inl e)) ↦ subst (λ (k : ℕ). HoldsOrDead IsSdlText (cell_at (Good d ∷ Good old ∷ []) (sdl_block small_shape k)) lists_before.sdl) (sym e) tt
+    | inr (inr (inr e)) ↦ subst (λ (k : ℕ). HoldsOrDead IsSdlText (cell_at (Good d ∷ Good old ∷ []) (sdl_block small_shape k)) lists_before.sdl) (sym e) tt
+  ]
+
+  pub before_settled : AreSettled small_shape (Good d ∷ Good old ∷ []) lists_before
+  before_settled = record { dds = dds_settled; sdl = sdl_settled }
+
+pub differing_not_settled : (d old new : List ℕ) → IsSdlText lists_before.sdl old → IsSdlText lists_after.sdl new → ¬ AreSettled small_shape (differing_cells d old new) lists_before
+differing_not_settled d old new is_old is_new settled =
+    let one = sdl_texts.one_value lists_before.sdl lists_after.sdl new (settled.sdl 2 (omega arith, omega arith)) is_new in
+    let e : 1 ≡ 2 = ap (λ (v : Sdl). v.counter) one in
+    omega (arith, e)
+
+-- ---- moves
+
+free_before : free_spares small_shape lists_before ≡ 12 ∷ 11 ∷ 10 ∷ 9 ∷ []
+unfolding zone_start is_data data_blocks unslipped
+free_before = refl
+
+free_after : free_spares small_shape lists_after ≡ 11 ∷ 10 ∷ 9 ∷ []
+unfolding zone_start is_data data_blocks unslipped
+free_after = refl
+
+next_of : (lists : Lists) (free : List ℕ) (tried : ℕ) (failed : List ℕ) (spare : ℕ) → free_spares small_shape lists ≡ free → tried < length free → failed ≡ tried_of free tried → spare ≡ slice_index free tried
+    → IsNextSpare small_shape lists failed spare
+next_of lists free tried failed spare same inside failed_are spare_is = record {
+  tried = tried;
+  failed_are = subst (λ (xs : List ℕ). failed ≡ tried_of xs tried) (sym same) failed_are;
+  inside = subst (λ (xs : List ℕ). tried < length xs) (sym same) inside;
+  spare_is = subst (λ (xs : List ℕ). spare ≡ slice_index xs tried) (sym same) spare_is;
+}
+
+pub first_next : IsNextSpare small_shape lists_before [] 12
+first_next = next_of lists_before (12 ∷ 11 ∷ 10 ∷ 9 ∷ []) 0 [] 12 free_before (omega arith) refl refl
+
+pub second_next : IsNextSpare small_shape lists_before (12 ∷ []) 11
+second_next = next_of lists_before (12 ∷ 11 ∷ 10 ∷ 9 ∷ []) 1 (12 ∷ []) 11 free_before (omega arith) refl refl
+
+pub later_next : IsNextSpare small_shape lists_after [] 11
+later_next = next_of lists_after (11 ∷ 10 ∷ 9 ∷ []) 0 [] 11 free_after (omega arith) refl refl
