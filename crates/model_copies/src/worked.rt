@@ -1,0 +1,33 @@
+//! Worked examples, over copies whose text is one byte: the counter. The copy of area k lies in block k.
+
+ghost use Rattle.std.specs.Prelude.{◌≡◌, ℕ, ◌∷◌, [], List};
+ghost use Rattle.model_medium.specs.Cells.{Blank, Good, Torn, Dead};
+ghost use Rattle.model_copies.specs.Copies.{IsArea, Holds, HoldsOrDead, HoldsEither, HasCopy, Settled, IsChosen, NoneChosen, IsGreatestMark, AllLost, IsSeen, good_count};
+
+/// What single cells hold.
+pub fn worked_copies()
+    ensures holds { Holds (λ (v : ℕ) (b : List ℕ). b ≡ v ∷ []) (Good (7 ∷ [])) 7 }
+    ensures torn { ¬ Holds (λ (v : ℕ) (b : List ℕ). b ≡ v ∷ []) Torn 7 }
+    ensures dead { HoldsOrDead (λ (v : ℕ) (b : List ℕ). b ≡ v ∷ []) Dead 7 }
+    ensures blank { ¬ HoldsOrDead (λ (v : ℕ) (b : List ℕ). b ≡ v ∷ []) Blank 7 }
+    ensures either { HoldsEither (λ (v : ℕ) (b : List ℕ). b ≡ v ∷ []) (Good (7 ∷ [])) 2 7 }
+{}
+
+/// Two of these copies can be read; of dead ones none can.
+pub fn worked_counts()
+    ensures two { good_count (λ k. k) (Blank ∷ Dead ∷ Good (7 ∷ []) ∷ Torn ∷ Good (2 ∷ []) ∷ []) 4 ≡ 2 }
+    ensures none { good_count (λ k. k) (Blank ∷ Dead ∷ Dead ∷ Dead ∷ Dead ∷ []) 4 ≡ 0 }
+{}
+
+/// Of counters 2, 7, 7 and a blank copy the one in area 2 is chosen, where all are accepted.
+pub fn worked_choice()
+    ensures { IsChosen (λ (v : ℕ) (b : List ℕ). b ≡ v ∷ []) (λ k. k)
+        (Blank ∷ Good (2 ∷ []) ∷ Good (7 ∷ []) ∷ Good (7 ∷ []) ∷ Blank ∷ []) (λ (v : ℕ). v)
+        (λ (v : ℕ). Unit {0}) 7 2 }
+{}
+
+/// The greatest mark of the same copies is 7.
+pub fn worked_marks()
+    ensures { IsGreatestMark (λ (v : ℕ) (b : List ℕ). b ≡ v ∷ []) (λ k. k)
+        (Blank ∷ Good (2 ∷ []) ∷ Good (7 ∷ []) ∷ Good (7 ∷ []) ∷ Blank ∷ []) (λ (v : ℕ). v) 7 }
+{}

@@ -1,0 +1,10 @@
+pub mod Putting
+pub mod Writing
+pub mod Counting
+pub mod Mending
+pub mod Repairing
+pub mod Lifting
+pub mod Best
+pub mod Halting
+pub mod Choosing
+pub mod Answering

@@ -1,0 +1,11 @@
+use Rattle.std.specs.Prelude.{◌≡◌, ◌≤◌}
+use Rattle.ram_zones.specs.ListKind.{list_block}
+use Rattle.ram_copies.specs.Repairs.{HasRepaired}
+use Rattle.ram_copies.proofs.repairs.mend_copies.Given as goal
+
+abbrev pub invariant-loop-k : goal.invariant-loop-k
+invariant-loop-k g l = record {
+  so_far : HasRepaired g.M.Medium.world g.M.Medium.reaches l.fn.medium l.medium (λ area. list_block l.geometry area l.list) l.text l.k l.readable;
+  as_many : g.M.Medium.block_count l.medium ≡ g.M.Medium.block_count l.fn.medium;
+  few : l.readable ≤ l.k;
+}

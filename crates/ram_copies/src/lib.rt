@@ -1,0 +1,18 @@
+//! The four copies of a list on a disc: one is chosen, all are updated, or repaired. Generic in the list, the medium
+//! and what is accepted; it touches the copies of that list alone.
+#![tactic(auto)]
+
+mod blocks;
+mod choice;
+mod lists;
+mod looks;
+mod puts;
+mod repairs;
+mod scratch;
+mod updates;
+mod writes;
+
+pub use blocks::{Accept, ListBlock};
+pub use choice::{Chosen, choose};
+pub use scratch::Scratch;
+pub use updates::{Updated, repair, update};

@@ -1,0 +1,23 @@
+//! The two blocks of memory that work on copies needs.
+
+use ram_bytes::Block;
+use std::alloc::{AllocError, Global};
+
+/// Two blocks of memory: one for the text of a list, one for a copy that is read.
+#[derive(Drop)]
+pub struct Scratch {
+    /// The text of the list that is written.
+    pub text: Block,
+    /// What was read last.
+    pub room: Block,
+}
+
+impl Scratch {
+    /// Takes the memory of both blocks.
+    pub fn new(alloc: Global) -> Result<Scratch, AllocError> {
+        Ok(Scratch {
+            text: Block::zeros(alloc)?,
+            room: Block::zeros(alloc)?,
+        })
+    }
+}
