@@ -1,0 +1,4 @@
+pub mod Given
+pub mod Starts
+pub mod Covers
+pub mod Moves
