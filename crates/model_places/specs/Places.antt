@@ -1,5 +1,5 @@
 -- How a disc with defect lists is numbered: slipping, logical blocks, spares and homes: for a volume.
-use Rattle.std.specs.Prelude.{ℕ, ◌+◌, ◌-◌, ◌*◌, Bool, not, ◌||◌, ◌==◌, Option, unwrap_or, option_and_then, List, ◌++◌, length, take, drop, reverse, slice_index}
+use Rattle.std.specs.Prelude.{ℕ, ◌+◌, ◌-◌, ◌*◌, Bool, not, ◌||◌, ◌==◌, Option, unwrap_or, option_and_then, List, [], ◌++◌, length, take, drop, reverse, slice_index}
 use Rattle.std.specs.List.{count_by, filter, filter_map, find, list_any, after_first}
 use Rattle.model_geometry.specs.Geometry.{Shape, data_blocks}
 use Rattle.model_lists.specs.declared.sdl.SdlEntry.{SdlEntry}
@@ -10,6 +10,10 @@ use Rattle.model_lists.specs.Values.{Dds, Sdl, pdl_blocks, defectives}
 pub record Lists : Type 0 where
   pub dds : Dds
   pub sdl : Sdl
+
+-- The lists with this structure and so many supplementary spares, of which none replaces a block. (This project's own.)
+abbrev pub unreplaced : Dds → ℕ → Lists
+unreplaced structure s = record { dds = structure; sdl = record { counter = 1; dds_counter = structure.counter; ssa = s; entries = [] } }
 
 -- the block is one of the list
 abbrev pub is_listed : List ℕ → ℕ → Bool
