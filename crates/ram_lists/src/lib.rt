@@ -1,0 +1,8 @@
+//! Both defect lists of a disc: which are valid, and the mount, which chooses and repairs them.
+#![tactic(auto)]
+
+mod entries;
+mod fits;
+
+pub use entries::is_valid_sdl;
+pub use fits::{DdsFits, NoneFits, SdlFits};
