@@ -97,8 +97,8 @@ module _ (kind : ListKind) (place : ℕ → ℕ) (accepted : ListValue → Type 
               | inr same ↦
                   let one : counter_of w ≡ counter_of v = ap counter_of (one_copy w v (here w where_is same other) copy) in
                   elim (cases_eq (counter_of w) (counter_of u)) [
-                  | inl e ↦ inr (e, omega (arith, same, before.0.early))
-                  | inr ne ↦ inl (omega (arith, one, most, ne))
+                    | inl e ↦ inr (e, omega (arith, same, before.0.early))
+                    | inr ne ↦ inl (omega (arith, one, most, ne))
                   ]
             ];
           },

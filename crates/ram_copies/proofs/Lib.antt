@@ -8,3 +8,4 @@ pub mod Best
 pub mod Halting
 pub mod Choosing
 pub mod Answering
+pub mod EachList

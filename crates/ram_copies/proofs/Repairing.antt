@@ -37,6 +37,14 @@ module _ (exact : Cell → Type 0) (place : ℕ → ℕ) (old mid new : List Cel
       by_cases (inl was) = inl (was.0, subst (Rewrites exact place old new k) (sym was.1) (rewrites_same k n same before))
       by_cases (inr was) = inr (was.0, (n, was.1, rewrites_same k n same before))
 
+-- the number of copies that were not exact is one number
+pub one_number : (exact : Cell → Type 0) (place : ℕ → ℕ) (old new : List Cell) (k m n : ℕ) → Rewrites exact place old new k m → Rewrites exact place old new k n → m ≡ n
+one_number exact place old new zero m n one two = one ∙ sym two
+one_number exact place old new (suc k) m n (inl one) (inl two) = one_number exact place old new k m n one.1 two.1
+one_number exact place old new (suc k) m n (inl one) (inr two) = absurd (two.0 one.0)
+one_number exact place old new (suc k) m n (inr one) (inl two) = absurd (one.0 two.0)
+one_number exact place old new (suc k) m n (inr one) (inr two) = one.1.1 ∙ ap (λ (b : ℕ). b + 1) (one_number exact place old new k one.1.0 two.1.0 one.1.2 two.1.2) ∙ sym two.1.1
+
 abbrev IsText : List ℕ → Cell → Type 0
 IsText text c = c ≡ Good text
 

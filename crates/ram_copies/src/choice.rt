@@ -82,12 +82,6 @@ pub fn choose<T: ListBlock, M: Medium, A: Accept<T>>(
     if !medium.powered() {
         return Chosen::Off;
     }
-    let ended = look_at_copies::<T, M, A>(
-        alloc,
-        medium,
-        geometry,
-        accept,
-        &mut scratch.room,
-    );
+    let ended = look_at_copies::<T, M, A>(alloc, medium, geometry, accept, &mut scratch.room);
     answer_of(ended)
 }

@@ -4,6 +4,7 @@
 
 mod blocks;
 mod choice;
+mod laws;
 mod lists;
 mod looks;
 mod puts;
@@ -14,5 +15,12 @@ mod writes;
 
 pub use blocks::{Accept, ListBlock};
 pub use choice::{Chosen, choose};
+pub use laws::{
+    a_stopped_update_leaves_one_or_the_other, decoding_gives_what_was_encoded,
+    rewritten_copies_are_one_number, texts_of_lists_are_exact,
+};
 pub use scratch::Scratch;
 pub use updates::{Updated, repair, update};
+
+#[cfg(test)]
+mod tests;
