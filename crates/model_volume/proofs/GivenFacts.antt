@@ -1,6 +1,6 @@
 -- Which lists cells may give.
 use Rattle.std.specs.Prelude.{◌≡◌, ℕ, ◌<◌, ◌≤◌, ◌⊎◌, List}
-use Rattle.std.proofs.Common.{sym, ap, ◌∙◌, inl, inr, subst, arith}
+use Rattle.std.proofs.Common.{refl, sym, ap, ◌∙◌, inl, inr, subst, arith}
 use Rattle.model_geometry.specs.Geometry.{Shape, dds_block, sdl_block}
 use Rattle.model_lists.specs.declared.dds.DdsState.TheVariants.{Formatting, Formatted}
 use Rattle.model_lists.specs.Values.{Dds, Sdl}
@@ -8,7 +8,7 @@ use Rattle.model_lists.specs.Texts.{IsDdsText, IsSdlText}
 use Rattle.model_lists.proofs.DdsTexts as dds_texts
 use Rattle.model_lists.proofs.SdlTexts as sdl_texts
 use Rattle.model_medium.specs.Cells.{Cell, IsSameOrDead, cell_at}
-use Rattle.model_copies.specs.Copies.{IsArea, Holds, MayHold, HasCopy, HasDdsCopy, HasSdlCopy, Settled, Between, IsChosen}
+use Rattle.model_copies.specs.Copies.{IsArea, Holds, MayHold, HasCopy, HasDdsCopy, HasSdlCopy, Settled, Between, IsChosen, Mark}
 use Rattle.model_copies.proofs.CopyFacts.{OneValue, copy_before, copy_seen, copy_settled, copy_between, one_held, one_list}
 use Rattle.model_places.specs.Places.{Lists}
 use Rattle.model_places.specs.Valid.{IsValidPdl, AreValid}
@@ -124,6 +124,15 @@ pair_between shape cells dds a b other settled between given =
       | inr is_b ↦ inr (same_lists other (lists_of dds b) first is_b)
     ]
 
+pub pair_between_dds : (shape : Shape) (cells : List Cell) (a b : Dds) (sdl : Sdl) (other : Lists) → Between IsDdsText (dds_block shape) cells a b → Settled IsSdlText (sdl_block shape) cells sdl
+    → IsGiven shape cells other → (other ≡ lists_of a sdl) ⊎ (other ≡ lists_of b sdl)
+pair_between_dds shape cells a b sdl other between settled given =
+    let second = copy_settled IsSdlText sdl_texts.one_value (sdl_block shape) cells sdl other.sdl given.sdl_area settled given.sdl_copy in
+    elim (dds_between shape cells a b other between given) [
+      | inl is_a ↦ inl (same_lists other (lists_of a sdl) is_a second)
+      | inr is_b ↦ inr (same_lists other (lists_of b sdl) is_b second)
+    ]
+
 -- ---- a disc that is not formatted, after its structure was repaired
 
 pub bare_without_dds : (shape : Shape) (cells : List Cell) → NoDdsChosen shape cells → GivesNone shape cells
@@ -185,3 +194,11 @@ given_in_dds_repair shape old new chosen a copy dds sdl lists given =
       sdl_copy = copy_before IsSdlText (sdl_block shape) old new lists.sdl given.sdl_area (sdl given.sdl_area given.sdl_copy.is_area) given.sdl_copy;
       valid = given.valid;
     }
+
+-- settled lists that belong together have the structure's counter as the mark
+pub settled_mark : (shape : Shape) (cells : List Cell) (lists : Lists) (area : ℕ) → AreSettled shape cells lists → lists.sdl.dds_counter ≡ lists.dds.counter → HasDdsCopy shape cells lists.dds area → Mark shape cells lists.dds.counter
+settled_mark shape cells lists area settled same copy = record {
+  dds = λ v at c. let e = ap (λ (d : Dds). d.counter) (copy_settled IsDdsText dds_texts.one_value (dds_block shape) cells lists.dds v at settled.dds c) in omega (arith, e);
+  sdl = λ v at c. let e = ap (λ (s : Sdl). s.dds_counter) (copy_settled IsSdlText sdl_texts.one_value (sdl_block shape) cells lists.sdl v at settled.sdl c) in omega (arith, e, same);
+  reached = inr (inl (record { value = lists.dds; area = area; copy = copy; has = refl }));
+}

@@ -11,3 +11,5 @@ pub mod Covering
 pub mod LookUps
 pub mod Moved
 pub mod Updates
+pub mod Losses
+pub mod SampleFacts

@@ -1,10 +1,11 @@
 -- Which lists a disc has: those that are given, those that are chosen, and those that are settled: for the mount.
-use Rattle.std.specs.Prelude.{◌≡◌, ℕ, List}
+use Rattle.std.specs.Prelude.{◌≡◌, ℕ, ◌⊎◌, List, [], ◌∷◌, ◌++◌, map}
+use Rattle.std.specs.List.{Contains}
 use Rattle.model_geometry.specs.Geometry.{Shape, dds_block, sdl_block}
 use Rattle.model_lists.specs.declared.dds.DdsState.TheVariants.{Formatted}
 use Rattle.model_lists.specs.Values.{Dds, Sdl}
 use Rattle.model_lists.specs.Texts.{IsDdsText, IsSdlText}
-use Rattle.model_medium.specs.Cells.{Cell}
+use Rattle.model_medium.specs.Cells.{Cell, Dead, cell_at}
 use Rattle.model_copies.specs.Copies.{HasDdsCopy, HasSdlCopy, Settled, IsChosen, NoneChosen, IsSeen}
 use Rattle.model_places.specs.Places.{Lists}
 use Rattle.model_places.specs.Valid.{IsValidPdl, BelongTogether, AreValid}
@@ -29,12 +30,14 @@ FitsDds shape dds sdl = BelongTogether shape (record { dds = dds; sdl = sdl })
 -- The disc definition structure that is chosen, with its area: of the copies that can be read and whose primary list is
 -- valid for the geometry, whatever state they say. (This project's own.)
 abbrev pub IsChosenDds : Shape → List Cell → Dds → ℕ → Type 0
-IsChosenDds shape cells dds area = IsChosen IsDdsText (dds_block shape) cells (λ (list : Dds). list.counter) (IsValidPdl shape) dds area
+IsChosenDds shape cells dds area =
+    IsChosen IsDdsText (dds_block shape) cells (λ (list : Dds). list.counter) (IsValidPdl shape) dds area
 
 -- The secondary list that is chosen under a structure, with its area: of the copies that can be read and belong to it.
 -- (This project's own.)
 abbrev pub IsChosenSdl : Shape → List Cell → Dds → Sdl → ℕ → Type 0
-IsChosenSdl shape cells dds sdl area = IsChosen IsSdlText (sdl_block shape) cells (λ (list : Sdl). list.counter) (FitsDds shape dds) sdl area
+IsChosenSdl shape cells dds sdl area =
+    IsChosen IsSdlText (sdl_block shape) cells (λ (list : Sdl). list.counter) (FitsDds shape dds) sdl area
 
 -- The lists that are chosen: the structure, which says Formatted, and the secondary list under it. (This project's own.)
 pub record AreChosen (shape : Shape) (cells : List Cell) (lists : Lists) : Type 0 where
@@ -66,3 +69,12 @@ pub record AreSettled (shape : Shape) (cells : List Cell) (lists : Lists) : Type
 pub record AreSeen (shape : Shape) (old seen new : List Cell) : Type 0 where
   pub dds : IsSeen (dds_block shape) old seen new
   pub sdl : IsSeen (sdl_block shape) old seen new
+
+-- the eight blocks of both lists: of each the four areas' (after ECMA-330)
+abbrev pub list_blocks : Shape → List ℕ
+list_blocks shape = map (dds_block shape) (1 ∷ 2 ∷ 3 ∷ 4 ∷ []) ++ map (sdl_block shape) (1 ∷ 2 ∷ 3 ∷ 4 ∷ [])
+
+-- Some cells of the lists turned dead, and nothing else changed. (This project's own.)
+abbrev pub LosesListCells : Shape → List Cell → List Cell → Type 0
+LosesListCells shape old new = (block : ℕ) → (cell_at new block ≡ cell_at old block)
+    ⊎ ((cell_at new block ≡ Dead) × Contains (list_blocks shape) block)

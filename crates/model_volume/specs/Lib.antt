@@ -2,3 +2,4 @@ pub mod Given
 pub mod Starts
 pub mod Covers
 pub mod Moves
+pub mod Samples

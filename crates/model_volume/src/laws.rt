@@ -6,10 +6,10 @@ ghost use Rattle.model_medium.specs.Cells.{Cell, IsSameOrDead, cell_at};
 ghost use Rattle.model_lists.specs.declared.dds.DdsState.TheVariants.{Formatting};
 ghost use Rattle.model_lists.specs.Values.{Dds, Sdl};
 ghost use Rattle.model_lists.specs.Texts.{IsDdsText, IsSdlText};
-ghost use Rattle.model_copies.specs.Copies.{IsArea, MayHold, HasDdsCopy, HasSdlCopy, Settled, Between};
+ghost use Rattle.model_copies.specs.Copies.{IsArea, MayHold, HasDdsCopy, HasSdlCopy, Settled, Between, Mark};
 ghost use Rattle.model_places.specs.Places.{Lists, logical_count};
 ghost use Rattle.model_places.specs.Valid.{AreValid};
-ghost use Rattle.model_volume.specs.Given.{IsGiven, GivesNone, IsChosenDds, IsChosenSdl, AreChosen, ChoosesNone, NoDdsChosen, NoSdlChosen, AreSettled, AreSeen};
+ghost use Rattle.model_volume.specs.Given.{IsGiven, GivesNone, IsChosenDds, IsChosenSdl, AreChosen, ChoosesNone, NoDdsChosen, NoSdlChosen, AreSettled, AreSeen, LosesListCells};
 
 /// The lists that are chosen are given.
 pub fn chosen_lists_are_given()
@@ -83,6 +83,10 @@ pub fn a_stopped_update_gives_one_of_two()
         → Settled IsDdsText (dds_block shape) cells dds
         → Between IsSdlText (sdl_block shape) cells a b → IsGiven shape cells lists
         → (lists ≡ record { dds = dds; sdl = a }) ⊎ (lists ≡ record { dds = dds; sdl = b }) }
+    ensures dds_pair { (shape : Shape) (cells : List Cell) (a b : Dds) (sdl : Sdl) (lists : Lists)
+        → Between IsDdsText (dds_block shape) cells a b
+        → Settled IsSdlText (sdl_block shape) cells sdl → IsGiven shape cells lists
+        → (lists ≡ record { dds = a; sdl = sdl }) ⊎ (lists ≡ record { dds = b; sdl = sdl }) }
 {}
 
 /// While chosen copies are repaired, wherever that is stopped, what is given was given before.
@@ -114,4 +118,19 @@ pub fn a_bare_disc_gives_none()
     ensures no_sdl { (shape : Shape) (cells : List Cell) (dds : Dds)
         → Settled IsDdsText (dds_block shape) cells dds → NoSdlChosen shape cells dds
         → GivesNone shape cells }
+{}
+
+/// The lists that are given are just those that a choice gives after some list cells have turned dead.
+pub fn given_lists_are_what_a_choice_may_give()
+    ensures may { (shape : Shape) (cells : List Cell) (lists : Lists) → IsGiven shape cells lists
+        → (after : List Cell) × LosesListCells shape cells after × AreChosen shape after lists }
+    ensures no_other { (shape : Shape) (cells after : List Cell) (lists : Lists)
+        → LosesListCells shape cells after → AreChosen shape after lists → IsGiven shape cells lists }
+{}
+
+/// Where settled lists belong together, the structure's counter is the mark of the disc.
+pub fn settled_lists_have_the_mark()
+    ensures { (shape : Shape) (cells : List Cell) (lists : Lists) (area : ℕ)
+        → AreSettled shape cells lists → lists.sdl.dds_counter ≡ lists.dds.counter
+        → HasDdsCopy shape cells lists.dds area → Mark shape cells lists.dds.counter }
 {}

@@ -1,12 +1,13 @@
 //! The laws about what a disc stands for when its image is opened, and about choices: functions with an empty body.
 
-ghost use Rattle.std.specs.Prelude.{◌≡◌, ℕ, ◌≤◌, ◌⊎◌, List, map, length};
+ghost use Rattle.std.specs.Prelude.{◌≡◌, ℕ, ◌≤◌, ◌⊎◌, List, [], map, length};
 ghost use Rattle.model_geometry.specs.Geometry.{Shape};
 ghost use Rattle.model_medium.specs.Cells.{Cell};
 ghost use Rattle.model_lists.specs.declared.dds.DdsState.TheVariants.{Formatting};
 ghost use Rattle.model_lists.specs.Values.{Dds};
 ghost use Rattle.model_sectors.specs.Discs.{Standing, Off};
 ghost use Rattle.model_places.specs.Places.{Lists};
+ghost use Rattle.model_places.specs.Valid.{AreValid};
 ghost use Rattle.model_volume.specs.Given.{IsChosenDds, AreChosen, ChoosesNone, NoDdsChosen, NoSdlChosen};
 ghost use Rattle.model_volume.specs.Starts.{Found, disc_under, IsDiscStart};
 ghost use Rattle.model_volume.specs.Covers.{AreWhole, FitsUnder, Cover};
@@ -50,4 +51,10 @@ pub fn a_start_covers_what_is_given()
     ensures covers { (shape : Shape) (cells : List Cell) → AreWhole cells
         → (all : List Found) (standing : Standing) → IsDiscStart shape cells all standing
         → Cover shape cells (map (disc_under shape cells) all) }
+{}
+
+/// A disc without sectors fits under no valid lists.
+pub fn a_disc_without_sectors_fits_no_lists()
+    ensures { (shape : Shape) (cells : List Cell) (lists : Lists)
+        → AreValid shape lists → ¬ FitsUnder shape cells lists [] }
 {}

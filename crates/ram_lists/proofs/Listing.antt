@@ -1,9 +1,9 @@
 -- The entries of a secondary defect list, one after another.
-use Rattle.std.proofs.Common.{◌≡◌, ℕ, zero, suc, ◌+◌, ◌-◌, ◌<◌, ◌≤◌, inl, inr, Bool, true, IsTrue, eqb, List, [], ◌∷◌, length, get_or, Option, Some, None, IfSome, refl, sym, ap, ◌∙◌, subst, arith}
+use Rattle.std.proofs.Common.{◌≡◌, ◌≢◌, ◌⊎◌, ℕ, zero, suc, ◌+◌, ◌-◌, ◌<◌, ◌≤◌, inl, inr, Bool, true, IsTrue, eqb, List, [], ◌∷◌, length, get_or, Option, Some, None, IfSome, refl, sym, ap, ◌∙◌, subst, arith}
 use Rattle.std.specs.Prelude.{slice_get, option_and_then}
 use Rattle.std.specs.List.{All, AllPairs, Contains, IsDistinct, cons_option}
 use Rattle.std.specs.List.Sorted.{IsStrictlyIncreasing}
-use Rattle.std.proofs.lemmas.Bool.{cases_eq}
+use Rattle.std.proofs.lemmas.Bool.{cases_eq, cases_lt}
 use Rattle.std.proofs.lemmas.Bool.Decides.{Decides-eqb}
 use Rattle.std.proofs.lemmas.List.{length-map, get_or-map, get_or_default}
 use Rattle.std.proofs.lemmas.List.Elements.{All-cons, All-map, All-contains, All-from_get_or, Contains-get_or}
@@ -115,13 +115,10 @@ pub apart_distinct : (entries : List SdlEntry) (n : ℕ) → length entries ≤ 
 apart_distinct entries n past apart = IsDistinct-from_AllPairs Decides-eqb (replacements entries) (apart_pairs entries inside)
   where
     inside : (i j r : ℕ) → i < j → replacement_at entries i ≡ Some r → replacement_at entries j ≡ Some r → ⊥
-    inside i j r less is is' = elim (before_or_past j) [
+    inside i j r less is is' = elim (cases_lt j (length entries)) [
       | inl below ↦ apart i j r less (omega (arith, below, past)) is is'
-      | inr late ↦ at_past entries j r late is'
+      | inr late ↦ at_past entries j r (omega (arith, late)) is'
     ]
-      where
-        before_or_past : (j : ℕ) → (j < length entries) ⊎ (length entries ≤ j)
-        before_or_past j = omega arith
 
 -- one entry more: it has no replacement, or one that no earlier one has
 pub apart_none : (entries : List SdlEntry) (n : ℕ) (d : SdlEntry) → n < length entries → AreApart entries n → (get_or entries n d).replacement ≡ None → AreApart entries (n + 1)
@@ -156,17 +153,17 @@ not_here entries k b d below other before named =
 -- ---- all of it
 
 module _ (shape : Shape) (lists : Lists) where
-  spread : {Q : ℕ → Type 0} (entries : List SdlEntry) → All (λ (e : SdlEntry). IfSome e.replacement Q) entries → All Q (replacements entries)
-  spread [] all = λ k d below. absurd (omega (arith, below))
-  spread {Q = Q} (e ∷ es) all = over e.replacement (all 0 e (omega arith)) (spread es (λ k d below. all (suc k) d (omega (arith, below))))
+  spread : (Q : ℕ → Type 0) (entries : List SdlEntry) → All (λ (e : SdlEntry). IfSome e.replacement Q) entries → All Q (replacements entries)
+  spread Q [] all = λ k d below. absurd (omega (arith, below))
+  spread Q (e ∷ es) all = over e.replacement (all 0 e (omega arith)) (spread Q es (λ k d below. all (suc k) d (omega (arith, below))))
     where
       over : (o : Option ℕ) → IfSome o Q → All Q (replacements es) → All Q (cons_option o (replacements es))
       over None first later = later
       over (Some x) first later = All-cons Q x (replacements es) first later
 
-  gather : {Q : ℕ → Type 0} (entries : List SdlEntry) → All Q (replacements entries) → All (λ (e : SdlEntry). IfSome e.replacement Q) entries
-  gather [] all = λ k d below. absurd (omega (arith, below))
-  gather {Q = Q} (e ∷ es) all = All-cons (λ (f : SdlEntry). IfSome f.replacement Q) e es (first e.replacement all) (gather es (rest e.replacement all))
+  gather : (Q : ℕ → Type 0) (entries : List SdlEntry) → All Q (replacements entries) → All (λ (e : SdlEntry). IfSome e.replacement Q) entries
+  gather Q [] all = λ k d below. absurd (omega (arith, below))
+  gather Q (e ∷ es) all = All-cons (λ (f : SdlEntry). IfSome f.replacement Q) e es (first e.replacement all) (gather Q es (rest e.replacement all))
     where
       first : (o : Option ℕ) → All Q (cons_option o (replacements es)) → IfSome o Q
       first None all = tt
@@ -195,9 +192,9 @@ module _ (shape : Shape) (lists : Lists) where
     rising = rising;
     logical_replaced = λ k d below. (all k d below).replaced;
     spares_retired = λ k d below. (all k d below).retired;
-    from_spares = spread lists.sdl.entries (λ k d below. first_of (get_or lists.sdl.entries k d).replacement (all k d below).sound);
+    from_spares = spread (Contains (spares shape lists)) lists.sdl.entries (λ k d below. first_of (get_or lists.sdl.entries k d).replacement (all k d below).sound);
     different = different;
-    sound = spread lists.sdl.entries (λ k d below. second_of (get_or lists.sdl.entries k d).replacement (all k d below).sound);
+    sound = spread (λ b. ¬ Contains (defectives lists.sdl.entries) b) lists.sdl.entries (λ k d below. second_of (get_or lists.sdl.entries k d).replacement (all k d below).sound);
   }
 
   pub entries_valid : IsValidSdl shape lists → All (IsEntryValid shape lists) lists.sdl.entries
@@ -205,5 +202,5 @@ module _ (shape : Shape) (lists : Lists) where
     within = subst (Contains (unslipped shape lists.dds)) (block_at lists.sdl.entries k d below) (v.within k 0 (omega (arith, below, long lists.sdl.entries)));
     replaced = v.logical_replaced k d below;
     retired = v.spares_retired k d below;
-    sound = both_of (get_or lists.sdl.entries k d).replacement (gather lists.sdl.entries v.from_spares k d below) (gather lists.sdl.entries v.sound k d below);
+    sound = both_of (get_or lists.sdl.entries k d).replacement (gather (Contains (spares shape lists)) lists.sdl.entries v.from_spares k d below) (gather (λ b. ¬ Contains (defectives lists.sdl.entries) b) lists.sdl.entries v.sound k d below);
   }

@@ -1,6 +1,7 @@
 //! What a choice of the lists of a disc accepts.
 
 ghost use Rattle.std.specs.Prelude.{◌≡◌};
+ghost use Rattle.std.proofs.Props.{props};
 ghost use Rattle.model_places.specs.Valid.{IsValidPdl};
 ghost use Rattle.ram_dds.specs.Dds.{dds_of};
 
@@ -33,7 +34,7 @@ impl<'a> Accept<DdsPdl> for DdsFits<'a> {
 pub struct SdlFits<'a, 'b> {
     geometry: &'a Geometry,
     dds: &'b DdsPdl,
-    ghost valid: { ∥ IsValidPdl geometry.now (dds_of dds.now) ∥₁ },
+    ghost valid: { ¬ ¬ IsValidPdl geometry.now (dds_of dds.now) } by { Prim.hlevel props },
 }
 
 impl<'a, 'b> SdlFits<'a, 'b> {
