@@ -95,8 +95,8 @@ distinct_apart (e ∷ es) d zero (suc j) r less is is' = alone_in_cons_option e.
 distinct_apart (e ∷ es) d (suc i) (suc j) r less is is' = distinct_apart es (IsDistinct-cons_option e.replacement (replacements es) d) i j r (omega (arith, less)) is is'
 
 all_cons_option : (r : ℕ) (o : Option ℕ) (xs : List ℕ) → (o ≡ Some r → ⊥) → All (λ y. r ≢ y) xs → All (λ y. r ≢ y) (cons_option o xs)
-all_cons_option r None xs no all = all
-all_cons_option r (Some x) xs no all = All-cons (λ y. r ≢ y) x xs (λ e. no (ap Some (sym e))) all
+all_cons_option r None xs differs all = all
+all_cons_option r (Some x) xs differs all = All-cons (λ y. r ≢ y) x xs (λ e. differs (ap Some (sym e))) all
 
 none_there : (r : ℕ) (es : List SdlEntry) → ((j : ℕ) → replacement_at es j ≡ Some r → ⊥) → All (λ y. r ≢ y) (replacements es)
 none_there r [] none = λ k d below. absurd (omega (arith, below))

@@ -5,4 +5,4 @@ mod entries;
 mod fits;
 
 pub use entries::is_valid_sdl;
-pub use fits::{DdsFits, NoneFits, SdlFits};
+pub use fits::{DdsFits, SdlFits};
