@@ -1,6 +1,5 @@
 //! What a choice of the lists of a disc accepts.
 
-ghost use Rattle.std.specs.Prelude.{◌≡◌};
 ghost use Rattle.std.proofs.Props.{props};
 ghost use Rattle.model_places.specs.Valid.{IsValidPdl};
 ghost use Rattle.ram_dds.specs.Dds.{dds_of};
@@ -32,20 +31,11 @@ impl<'a> Accept<DdsPdl> for DdsFits<'a> {
 /// Accepts the secondary defect lists that belong to a structure that [`DdsFits`] accepts.
 #[derive(Clone, Copy)]
 pub struct SdlFits<'a, 'b> {
-    geometry: &'a Geometry,
-    dds: &'b DdsPdl,
+    /// The geometry.
+    pub geometry: &'a Geometry,
+    /// The structure.
+    pub dds: &'b DdsPdl,
     ghost valid: { ¬ ¬ IsValidPdl geometry.now (dds_of dds.now) } by { Prim.hlevel props },
-}
-
-impl<'a, 'b> SdlFits<'a, 'b> {
-    /// The acceptance under this structure.
-    pub fn new(geometry: &'a Geometry, dds: &'b DdsPdl) -> SdlFits<'a, 'b>
-        requires { IsValidPdl geometry.now (dds_of dds.now) }
-        ensures geometry { result.geometry.now ≡ geometry.now }
-        ensures dds { result.dds.now ≡ dds.now }
-    {
-        SdlFits { geometry, dds }
-    }
 }
 
 impl<'a, 'b> Accept<Sdl> for SdlFits<'a, 'b> {
