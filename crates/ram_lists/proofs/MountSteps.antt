@@ -1,0 +1,419 @@
+-- How a mount goes.
+use Rattle.std.specs.Prelude.{◌≡◌, ◌≢◌, ℕ, ◌+◌, ◌*◌, ◌≤◌, ◌⊎◌, Bool, true, false, IsTrue, Option, Some, None, List, []}
+use Rattle.std.proofs.Common.{refl, sym, ap, ◌∙◌, inl, inr, subst, arith}
+use Rattle.std.specs.Bool.{OnFalse}
+use Rattle.std.proofs.lemmas.Bool.{cases_Bool, true≢false}
+use Rattle.model_counts.specs.Counts.{counted, Rose}
+use Rattle.model_geometry.specs.Geometry.{Shape, dds_block, sdl_block}
+use Rattle.model_lists.specs.Values.{Dds, Sdl, IsLawfulDds, IsLawfulSdl}
+use Rattle.model_lists.specs.Texts.{IsDdsText, IsSdlText}
+use Rattle.model_lists.specs.declared.dds.DdsState.{DdsState}
+use Rattle.model_lists.specs.declared.dds.DdsState.TheVariants.{Formatting, Formatted}
+use Rattle.model_medium.specs.Cells.{Cell, Blank, Good, Torn, Dead, IsSameOrDead, cell_at}
+use Rattle.model_medium.specs.World.{World, UseContinues, IsCut, HasFailed, IsOff}
+use Rattle.model_stops.specs.Stops.{Continues, Stops}
+use Rattle.model_stops.specs.declared.Stop.{Stop}
+use Rattle.model_stops.specs.declared.Stop.TheVariants as stops
+use Rattle.model_copies.specs.Copies.{IsArea, Holds, HoldsOrDead, MayHold, HasCopy, HasDdsCopy, HasSdlCopy, Settled, IsChosen, NoneChosen, IsMarked, IsGreatestMark, Mark, IsSeen}
+use Rattle.model_places.specs.Places.{Lists}
+use Rattle.model_places.specs.Valid.{IsValidPdl, AreValid}
+use Rattle.model_volume.specs.Given.{IsGiven, GivesNone, FitsDds, IsChosenDds, IsChosenSdl, AreChosen, ChoosesNone, NoDdsChosen, NoSdlChosen, AreSettled, AreSeen}
+use Rattle.model_lists.proofs.SdlTexts as sdl_texts
+use Rattle.model_volume.proofs.Updates.{dds_no_sdl}
+use Rattle.model_volume.proofs.GivenFacts.{copy_spread, one_dds, none_without_dds, none_formatting, none_without_sdl, given_before, bare_without_dds, bare_formatting, bare_without_sdl, may_hold, given_in_repair, given_in_dds_repair}
+use Rattle.ram_medium.specs.Laws.{MediumLaws}
+use Rattle.ram_medium.proofs.Parts.{continues_none, continues_then, stops_later, stops_within}
+use Rattle.ram_zones.specs.declared.list_kind.ListKind.{ListKind}
+use Rattle.ram_zones.specs.declared.list_kind.ListKind.TheVariants as kinds
+use Rattle.ram_zones.specs.ListKind.{list_block}
+use Rattle.ram_copies.specs.Values.{ListValue, DdsValue, SdlValue, IsText, counter_of, mark_of}
+use Rattle.ram_copies.specs.Calls.{StopCounts, ChangesCopiesAlone, Ends, IsStopped, MayLeaveCopies}
+use Rattle.ram_copies.specs.Chooses.{SawCopies, RunsOutOfMemory, IsMarkSeen, Finds, FindsNone}
+use Rattle.ram_copies.proofs.EachList.{dds_settled, dds_chosen, dds_none, dds_marked, dds_may_hold, sdl_settled, sdl_chosen, sdl_none, sdl_marked, sdl_may_hold}
+use Rattle.ram_lists.specs.Lists.{AcceptsDds, AcceptsSdl, AcceptsNothing}
+use Rattle.ram_lists.specs.Parts.{HasPicked, EndsPicking, PicksBest, HasMended, EndsMending}
+use Rattle.ram_lists.specs.Mounts.{IsNoListBlock, KeepsGiven, FindsLists, FindsNoLists, HasEnded, WasStopped, WasOutOfMemory, EndsBare, EndRule}
+use Rattle.ram_lists.specs.declared.ends.End.{End}
+use Rattle.ram_lists.specs.declared.ends.End.TheVariants as ends
+
+-- ---- cells
+
+seen_left : (place : ℕ → ℕ) (old new : List Cell) → IsSeen place old new new → (area : ℕ) → IsArea area → IsSameOrDead (cell_at old (place area)) (cell_at new (place area))
+seen_left place old new seen area is = elim (seen area is) [ inl same ↦ inl same | inr dead ↦ inr dead.0 ]
+
+settled_may_hold : {V : Type 0} (text : V → List ℕ → Type 0) (old cell : Cell) (v : V) → HoldsOrDead text cell v → MayHold text old v cell
+settled_may_hold text old Blank v h = absurd h
+settled_may_hold text old (Good bytes) v h = inr (inl h)
+settled_may_hold text old Torn v h = absurd h
+settled_may_hold text old Dead v h = inr (inr (inr refl))
+
+none_held : {V : Type 0} (text : V → List ℕ → Type 0) (place : ℕ → ℕ) (cells : List Cell) → cells ≡ [] → (v : V) (area : ℕ) → HasCopy text place cells v area → ⊥
+none_held text place cells none v area copy = subst (λ (cs : List Cell). Holds text (cell_at cs (place area)) v) none copy.holds
+
+none_given : (shape : Shape) (cells : List Cell) → cells ≡ [] → GivesNone shape cells
+none_given shape cells none lists given = none_held IsDdsText (dds_block shape) cells none lists.dds given.dds_area given.dds_copy
+
+module _ {V : Type 0} (text : V → List ℕ → Type 0) (place : ℕ → ℕ) (one two : List Cell) (same : (area : ℕ) → cell_at two (place area) ≡ cell_at one (place area)) where
+  copy_same : (v : V) (area : ℕ) → HasCopy text place one v area → HasCopy text place two v area
+  copy_same v area copy = record { is_area = copy.is_area; holds = subst (λ (c : Cell). Holds text c v) (sym (same area)) copy.holds }
+
+  copy_back : (v : V) (area : ℕ) → HasCopy text place two v area → HasCopy text place one v area
+  copy_back v area copy = record { is_area = copy.is_area; holds = subst (λ (c : Cell). Holds text c v) (same area) copy.holds }
+
+  chosen_same : (counter : V → ℕ) (accepted : V → Type 0) (v : V) (area : ℕ) → IsChosen text place one counter accepted v area → IsChosen text place two counter accepted v area
+  chosen_same counter accepted v area chosen = record { copy = copy_same v area chosen.copy; fits = chosen.fits; no_better = λ other at copy fits. chosen.no_better other at (copy_back other at copy) fits }
+
+  none_same : (accepted : V → Type 0) → NoneChosen text place one accepted → NoneChosen text place two accepted
+  none_same accepted none v area copy fits = none v area (copy_back v area copy) fits
+
+  marked_same : (marks : V → ℕ) (mark : ℕ) → IsGreatestMark text place one marks mark → IsGreatestMark text place two marks mark
+  marked_same marks mark g = record {
+    within = λ v area copy. g.within v area (copy_back v area copy);
+    reached = elim g.reached [ inl none ↦ inl none | inr m ↦ inr (record { value = m.value; area = m.area; copy = copy_same m.value m.area m.copy; has = m.has }) ];
+  }
+
+  settled_same : (v : V) → Settled text place one v → Settled text place two v
+  settled_same v settled area is = subst (λ (c : Cell). HoldsOrDead text c v) (sym (same area)) (settled area is)
+
+greater_mark : (shape : Shape) (cells : List Cell) (m n mark : ℕ) → IsGreatestMark IsDdsText (dds_block shape) cells (λ (d : Dds). d.counter) m → IsGreatestMark IsSdlText (sdl_block shape) cells (λ (s : Sdl). s.dds_counter) n
+    → m ≤ mark → n ≤ mark → (mark ≡ m) ⊎ (mark ≡ n) → Mark shape cells mark
+greater_mark shape cells m n mark a b low low' is = record {
+  dds = λ v area copy. let le = a.within v area copy in omega (arith, le, low);
+  sdl = λ v area copy. let le = b.within v area copy in omega (arith, le, low');
+  reached = elim is [
+    | inl e ↦ elim a.reached [ inl none ↦ inl (e ∙ none) | inr x ↦ inr (inl (record { value = x.value; area = x.area; copy = x.copy; has = x.has ∙ sym e })) ]
+    | inr e ↦ elim b.reached [ inl none ↦ inl (e ∙ none) | inr x ↦ inr (inr (record { value = x.value; area = x.area; copy = x.copy; has = x.has ∙ sym e })) ]
+  ];
+}
+
+-- ---- what each step keeps
+
+keeps_then : (shape : Shape) (a b c : World) → KeepsGiven shape a b → KeepsGiven shape b c → KeepsGiven shape a c
+keeps_then shape a b c one two = record {
+  as_known = two.as_known ∙ one.as_known;
+  others = λ block away. two.others block away ∙ one.others block away;
+  given = λ lists given. one.given lists (two.given lists given);
+}
+
+module _ {M : Type 0} (world : M → World) (block_count : M → ℕ) (reaches : M → M → ℕ → Type 0) (laws : MediumLaws world block_count reaches) (shape : Shape) where
+  by_known : (m : M) (P : Type 0) → ((world m).known ≡ true → P) → ((world m).cells ≡ [] → P) → P
+  by_known m P known unknown = elim (cases_Bool (world m).known) [
+    | inl yes' ↦ known yes'
+    | inr no' ↦ unknown (subst (λ (b : Bool). OnFalse b ((world m).cells ≡ [])) no' (laws.unknown m))
+  ]
+
+  -- the cells of the other list stay
+  sdl_stay : (old new : M) → ChangesCopiesAlone world reaches kinds.Dds shape old new → (a : ℕ) → cell_at (world new).cells (sdl_block shape a) ≡ cell_at (world old).cells (sdl_block shape a)
+  sdl_stay old new alone a = alone.others (sdl_block shape a) (λ at is same. dds_no_sdl shape at a (sym same))
+
+  dds_stay : (old new : M) → ChangesCopiesAlone world reaches kinds.Sdl shape old new → (a : ℕ) → cell_at (world new).cells (dds_block shape a) ≡ cell_at (world old).cells (dds_block shape a)
+  dds_stay old new alone a = alone.others (dds_block shape a) (λ at is same. dds_no_sdl shape a at same)
+
+  dds_look_keeps : (old new : M) → ChangesCopiesAlone world reaches kinds.Dds shape old new → SawCopies world reaches kinds.Dds shape old new → KeepsGiven shape (world old) (world new)
+  dds_look_keeps old new alone saw = record {
+    as_known = alone.as_known;
+    others = λ block away. alone.others block (λ at is same. (away at is).0 same);
+    given = λ lists given. given_before shape (world old).cells (world new).cells lists (seen_left (dds_block shape) (world old).cells (world new).cells saw) (λ a is. inl (sdl_stay old new alone a)) given;
+  }
+
+  sdl_look_keeps : (old new : M) → ChangesCopiesAlone world reaches kinds.Sdl shape old new → SawCopies world reaches kinds.Sdl shape old new → KeepsGiven shape (world old) (world new)
+  sdl_look_keeps old new alone saw = record {
+    as_known = alone.as_known;
+    others = λ block away. alone.others block (λ at is same. (away at is).1 same);
+    given = λ lists given. given_before shape (world old).cells (world new).cells lists (λ a is. inl (dds_stay old new alone a)) (seen_left (sdl_block shape) (world old).cells (world new).cells saw) given;
+  }
+
+  dds_mend_keeps : (old new : M) (d : Dds) (area : ℕ) → ((world old).known ≡ true → HasDdsCopy shape (world old).cells d area) → ChangesCopiesAlone world reaches kinds.Dds shape old new
+      → MayLeaveCopies world reaches kinds.Dds shape old new (DdsValue d) → KeepsGiven shape (world old) (world new)
+  dds_mend_keeps old new d area copy alone left = record {
+    as_known = alone.as_known;
+    others = λ block away. alone.others block (λ at is same. (away at is).0 same);
+    given = λ lists given. by_known new (IsGiven shape (world old).cells lists)
+        (λ known. given_in_dds_repair shape (world old).cells (world new).cells d area (copy (sym alone.as_known ∙ known))
+        (λ a is. dds_may_hold (cell_at (world old).cells (dds_block shape a)) (cell_at (world new).cells (dds_block shape a)) d (left a is)) (λ a is. inl (sdl_stay old new alone a)) lists given)
+        (λ none. absurd (none_given shape (world new).cells none lists given));
+  }
+
+  sdl_mend_keeps : (old new : M) (s : Sdl) (area : ℕ) → ((world old).known ≡ true → HasSdlCopy shape (world old).cells s area) → ChangesCopiesAlone world reaches kinds.Sdl shape old new
+      → MayLeaveCopies world reaches kinds.Sdl shape old new (SdlValue s) → KeepsGiven shape (world old) (world new)
+  sdl_mend_keeps old new s area copy alone left = record {
+    as_known = alone.as_known;
+    others = λ block away. alone.others block (λ at is same. (away at is).1 same);
+    given = λ lists given. by_known new (IsGiven shape (world old).cells lists)
+        (λ known. let was = copy_spread IsSdlText sdl_texts.one_value (sdl_block shape) (world old).cells (world new).cells s area (copy (sym alone.as_known ∙ known))
+        (λ a is. sdl_may_hold (cell_at (world old).cells (sdl_block shape a)) (cell_at (world new).cells (sdl_block shape a)) s (left a is)) lists.sdl given.sdl_area given.sdl_copy in
+        record {
+          dds_area = given.dds_area;
+          dds_copy = copy_back IsDdsText (dds_block shape) (world old).cells (world new).cells (dds_stay old new alone) lists.dds given.dds_area given.dds_copy;
+          sdl_area = was.0;
+          sdl_copy = was.1;
+          valid = given.valid;
+        })
+        (λ none. absurd (none_given shape (world new).cells none lists given));
+  }
+
+  -- ---- how far it went
+
+  pub record Gone (old mid : M) (uses : ℕ) : Type 0 where
+    pub was_on : IsTrue (world old).power
+    pub continues : Continues world reaches old mid uses
+    pub counts : UseContinues (world old) (world mid)
+    pub keeps : KeepsGiven shape (world old) (world mid)
+
+  gone_first : (kind : ListKind) (old new : M) (k : ℕ) → Ends world reaches kind shape old new k → KeepsGiven shape (world old) (world new) → Gone old new k
+  gone_first kind old new k ended keeps = record { was_on = ended.was_on; continues = ended.continues; counts = ended.counts; keeps = keeps }
+
+  gone_then : (kind : ListKind) (old mid new : M) (j k : ℕ) → Gone old mid j → Ends world reaches kind shape mid new k → KeepsGiven shape (world mid) (world new) → Gone old new (j + k)
+  gone_then kind old mid new j k gone ended keeps = record {
+    was_on = gone.was_on;
+    continues = continues_then world block_count reaches laws old mid new j k gone.continues ended.continues;
+    counts = record { stays_on = ended.counts.stays_on; no_cut = ended.counts.no_cut ∙ gone.counts.no_cut; no_fault = ended.counts.no_fault ∙ gone.counts.no_fault };
+    keeps = keeps_then shape (world old) (world mid) (world new) gone.keeps keeps;
+  }
+
+  counts_later : (old mid new : M) (stop : Stop) → UseContinues (world old) (world mid) → StopCounts (world mid) (world new) stop → StopCounts (world old) (world new) stop
+  counts_later old mid new stops.Cut first cut = record { turns_off = cut.turns_off; one_cut = subst (λ (n : ℕ). (world new).cuts ≡ counted n 1) first.no_cut cut.one_cut; no_fault = cut.no_fault ∙ first.no_fault }
+  counts_later old mid new stops.Off first off = absurd (off.was_off first.stays_on)
+  counts_later old mid new stops.Fault first fail = record { turns_off = fail.turns_off; no_cut = fail.no_cut ∙ first.no_cut; fault = subst (λ (n : ℕ). Rose n (world new).faults) first.no_fault fail.fault }
+
+  stopped_later : (kind : ListKind) (old mid new : M) (j most : ℕ) (stop : Stop) → j + most ≤ 32 → Gone old mid j → IsStopped world reaches kind shape mid new most stop → KeepsGiven shape (world mid) (world new) → WasStopped world reaches shape old new stop
+  stopped_later kind old mid new j most stop few gone stopped keeps = record {
+    was_on = gone.was_on;
+    stops = stops_within world block_count reaches laws old new (j + most) 32 stop few (stops_later world block_count reaches laws old mid new j most stop gone.continues stopped.stops);
+    counts = counts_later old mid new stop gone.counts stopped.counts;
+    keeps = keeps_then shape (world old) (world mid) (world new) gone.keeps keeps;
+  }
+
+  -- the first choice ended before its end
+  pub first_ends : (old new : M) (end : End) → EndsPicking world reaches kinds.Dds shape old new end → EndRule world reaches shape old new end
+  first_ends old new ends.Cut (stopped, saw) = record { was_on = stopped.was_on; stops = stops_within world block_count reaches laws old new 4 32 stops.Cut (omega arith) stopped.stops; counts = stopped.counts; keeps = dds_look_keeps old new stopped.alone saw }
+  first_ends old new ends.Off off = off
+  first_ends old new ends.Fault (stopped, saw) = record { was_on = stopped.was_on; stops = stops_within world block_count reaches laws old new 4 32 stops.Fault (omega arith) stopped.stops; counts = stopped.counts; keeps = dds_look_keeps old new stopped.alone saw }
+  first_ends old new ends.NoMemory (out, saw) = record { was_on = out.was_on; uses = out.uses; few = let f = out.few in omega (arith, f); continues = out.continues; counts = out.counts; keeps = dds_look_keeps old new out.alone saw }
+
+  module _ (old one : M) (accepted : ListValue → Type 0) (best1 : Option (ListValue × ℕ)) (m : ℕ) (look1 : HasPicked world reaches kinds.Dds shape old one accepted best1 m) where
+    gone_one : Gone old one 4
+    gone_one = gone_first kinds.Dds old one 4 look1.ended (dds_look_keeps old one look1.ended.alone look1.saw)
+
+    -- the second choice did
+    pub second_ends : (new : M) (end : End) → EndsPicking world reaches kinds.Sdl shape one new end → EndRule world reaches shape old new end
+    second_ends new ends.Cut (stopped, saw) = stopped_later kinds.Sdl old one new 4 4 stops.Cut (omega arith) gone_one stopped (sdl_look_keeps one new stopped.alone saw)
+    second_ends new ends.Off off = absurd (off.was_off gone_one.continues.is_on)
+    second_ends new ends.Fault (stopped, saw) = stopped_later kinds.Sdl old one new 4 4 stops.Fault (omega arith) gone_one stopped (sdl_look_keeps one new stopped.alone saw)
+    second_ends new ends.NoMemory (out, saw) = record {
+      was_on = gone_one.was_on;
+      uses = 4 + out.uses;
+      few = let f = out.few in omega (arith, f);
+      continues = continues_then world block_count reaches laws old one new 4 out.uses gone_one.continues out.continues;
+      counts = record { stays_on = out.counts.stays_on; no_cut = out.counts.no_cut ∙ gone_one.counts.no_cut; no_fault = out.counts.no_fault ∙ gone_one.counts.no_fault };
+      keeps = keeps_then shape (world old) (world one) (world new) gone_one.keeps (sdl_look_keeps one new out.alone saw);
+    }
+
+    module _ (two : M) (accepted2 : ListValue → Type 0) (best2 : Option (ListValue × ℕ)) (n : ℕ) (look2 : HasPicked world reaches kinds.Sdl shape one two accepted2 best2 n) where
+      gone_two : Gone old two (4 + 4)
+      gone_two = gone_then kinds.Sdl old one two 4 4 gone_one look2.ended (sdl_look_keeps one two look2.ended.alone look2.saw)
+
+      same_dds : (a : ℕ) → cell_at (world two).cells (dds_block shape a) ≡ cell_at (world one).cells (dds_block shape a)
+      same_dds = dds_stay one two look2.ended.alone
+
+      -- what was seen, where dead cells stayed dead since
+      are_seen : (new : M) → ((block : ℕ) → cell_at (world two).cells block ≡ Dead → cell_at (world new).cells block ≡ Dead) → AreSeen shape (world old).cells (world two).cells (world new).cells
+      are_seen new stays = record {
+        dds = λ a is. elim (look1.saw a is) [
+          | inl same ↦ inl (same_dds a ∙ same)
+          | inr dead ↦ inr (same_dds a ∙ dead.0, stays (dds_block shape a) (same_dds a ∙ dead.0))
+        ];
+        sdl = λ a is. elim (look2.saw a is) [
+          | inl same ↦ inl (same ∙ sdl_stay old one look1.ended.alone a)
+          | inr dead ↦ inr (dead.0, stays (sdl_block shape a) dead.0)
+        ];
+      }
+
+      stays_from : (new : M) (k : ℕ) → Continues world reaches two new k → (block : ℕ) → cell_at (world two).cells block ≡ Dead → cell_at (world new).cells block ≡ Dead
+      stays_from new k continues block dead = (laws.follows two new k continues.reach).lasts.stays_dead block dead
+
+      known_one : (world old).known ≡ true → (world one).known ≡ true
+      known_one known = look1.ended.alone.as_known ∙ known
+
+      known_back : (world two).known ≡ true → (world old).known ≡ true
+      known_back known = sym (look2.ended.alone.as_known ∙ look1.ended.alone.as_known) ∙ known
+
+      mark_both : (mark : ℕ) → m ≤ mark → n ≤ mark → (mark ≡ m) ⊎ (mark ≡ n) → (world old).known ≡ true → Mark shape (world two).cells mark
+      mark_both mark low low' is known = greater_mark shape (world two).cells m n mark
+          (marked_same IsDdsText (dds_block shape) (world one).cells (world two).cells same_dds (λ (d : Dds). d.counter) m (dds_marked shape (world one).cells m (look1.mark_is known)))
+          (sdl_marked shape (world two).cells n (look2.mark_is (known_one known))) low low' is
+
+      -- no structure was chosen
+      pub nothing_found : (mark : ℕ) → m ≤ mark → n ≤ mark → (mark ≡ m) ⊎ (mark ≡ n) → FindsNone world reaches kinds.Dds shape old one (AcceptsDds shape) → EndsBare world reaches shape old two mark
+      nothing_found mark low low' is none = record {
+        repairs = 0;
+        few_repairs = omega arith;
+        ended = record { was_on = gone_two.was_on; rewritten = 0; few = omega arith; continues = gone_two.continues; counts = gone_two.counts; keeps = gone_two.keeps };
+        finds = record {
+          gives_none = by_known two (GivesNone shape (world two).cells) (λ known. bare_without_dds shape (world two).cells (no_dds (known_back known))) (none_given shape (world two).cells);
+          seen = (world two).cells;
+          are_seen = are_seen two (λ block dead. dead);
+          none = λ known. none_without_dds shape (world two).cells (no_dds known);
+          mark_is = mark_both mark low low' is;
+          settled = λ known d area chosen. absurd (no_dds known d area chosen.copy chosen.fits);
+        };
+      }
+        where
+          no_dds : (world old).known ≡ true → NoDdsChosen shape (world two).cells
+          no_dds known = none_same IsDdsText (dds_block shape) (world one).cells (world two).cells same_dds (IsValidPdl shape) (dds_none shape (world one).cells (AcceptsDds shape) (none known))
+
+      -- a structure was chosen
+      module _ (d : Dds) (d_area : ℕ) (found : Finds world reaches kinds.Dds shape old one (AcceptsDds shape) (DdsValue d) d_area) where
+        first_is : (world old).known ≡ true → IsChosenDds shape (world two).cells d d_area
+        first_is known = chosen_same IsDdsText (dds_block shape) (world one).cells (world two).cells same_dds (λ (x : Dds). x.counter) (IsValidPdl shape) d d_area (dds_chosen shape (world one).cells (AcceptsDds shape) d d_area (found.chosen known))
+
+        first_keeps : (three : M) → ChangesCopiesAlone world reaches kinds.Dds shape two three → MayLeaveCopies world reaches kinds.Dds shape two three (DdsValue d) → KeepsGiven shape (world two) (world three)
+        first_keeps three alone left = dds_mend_keeps two three d d_area (λ known. (first_is (known_back known)).copy) alone left
+
+        pub third_ends : (new : M) (end : End) → EndsMending world reaches kinds.Dds shape two new (DdsValue d) end → EndRule world reaches shape old new end
+        third_ends new ends.Cut (stopped, left) = stopped_later kinds.Dds old two new (4 + 4) 12 stops.Cut (omega arith) gone_two stopped (first_keeps new stopped.alone left)
+        third_ends new ends.Off off = absurd (off.was_off gone_two.continues.is_on)
+        third_ends new ends.Fault (stopped, left) = stopped_later kinds.Dds old two new (4 + 4) 12 stops.Fault (omega arith) gone_two stopped (first_keeps new stopped.alone left)
+        third_ends new ends.NoMemory never = absurd never
+
+        module _ (three : M) (mended : HasMended world reaches kinds.Dds shape two three (DdsValue d)) where
+          gone_three : Gone old three (4 + 4 + (4 + 2 * mended.rewritten))
+          gone_three = gone_then kinds.Dds old two three (4 + 4) (4 + 2 * mended.rewritten) gone_two mended.ended
+              (first_keeps three mended.ended.alone (λ a is. settled_may_hold (IsText kinds.Dds) (cell_at (world two).cells (dds_block shape a)) (cell_at (world three).cells (dds_block shape a)) (DdsValue d) (mended.settled a is)))
+
+          d_settled : Settled IsDdsText (dds_block shape) (world three).cells d
+          d_settled = dds_settled shape (world three).cells d mended.settled
+
+          same_sdl : (a : ℕ) → cell_at (world three).cells (sdl_block shape a) ≡ cell_at (world two).cells (sdl_block shape a)
+          same_sdl = sdl_stay two three mended.ended.alone
+
+          back_three : (world three).known ≡ true → (world old).known ≡ true
+          back_three known = known_back (sym mended.ended.alone.as_known ∙ known)
+
+          ends_bare : (mark : ℕ) → m ≤ mark → n ≤ mark → (mark ≡ m) ⊎ (mark ≡ n) → ((world old).known ≡ true → GivesNone shape (world three).cells) → ((world old).known ≡ true → ChoosesNone shape (world two).cells) → EndsBare world reaches shape old three mark
+          ends_bare mark low low' is bare none = record {
+            repairs = 1;
+            few_repairs = omega arith;
+            ended = record {
+              was_on = gone_three.was_on;
+              rewritten = mended.rewritten;
+              few = let f = mended.few in omega (arith, f);
+              continues = subst (Continues world reaches old three) (omega arith) gone_three.continues;
+              counts = gone_three.counts;
+              keeps = gone_three.keeps;
+            };
+            finds = record {
+              gives_none = by_known three (GivesNone shape (world three).cells) (λ known. bare (back_three known)) (none_given shape (world three).cells);
+              seen = (world two).cells;
+              are_seen = are_seen three (stays_from three (4 + 2 * mended.rewritten) mended.ended.continues);
+              none = none;
+              mark_is = mark_both mark low low' is;
+              settled = λ known other area chosen. subst (Settled IsDdsText (dds_block shape) (world three).cells) (one_dds shape (world two).cells d other d_area area (first_is known) chosen) d_settled;
+            };
+          }
+
+          pub formatting_found : (mark : ℕ) → m ≤ mark → n ≤ mark → (mark ≡ m) ⊎ (mark ≡ n) → d.state ≡ Formatting → EndsBare world reaches shape old three mark
+          formatting_found mark low low' is state = ends_bare mark low low' is (λ known. bare_formatting shape (world three).cells d d_settled state) (λ known. none_formatting shape (world two).cells d d_area (first_is known) state)
+
+          pub lone_found : (mark : ℕ) → m ≤ mark → n ≤ mark → (mark ≡ m) ⊎ (mark ≡ n) → FindsNone world reaches kinds.Sdl shape one two (AcceptsSdl shape d) → EndsBare world reaches shape old three mark
+          lone_found mark low low' is none = ends_bare mark low low' is
+              (λ known. bare_without_sdl shape (world three).cells d d_settled (none_same IsSdlText (sdl_block shape) (world two).cells (world three).cells same_sdl (FitsDds shape d) (no_sdl known)))
+              (λ known. none_without_sdl shape (world two).cells d d_area (first_is known) (no_sdl known))
+            where
+              no_sdl : (world old).known ≡ true → NoSdlChosen shape (world two).cells d
+              no_sdl known = sdl_none shape (world two).cells (AcceptsSdl shape d) (none (known_one known))
+
+          -- a secondary list was chosen
+          module _ (s : Sdl) (s_area : ℕ) (below : Finds world reaches kinds.Sdl shape one two (AcceptsSdl shape d) (SdlValue s) s_area) where
+            second_is : (world old).known ≡ true → IsChosenSdl shape (world two).cells d s s_area
+            second_is known = sdl_chosen shape (world two).cells (AcceptsSdl shape d) s s_area (below.chosen (known_one known))
+
+            second_keeps : (four : M) → ChangesCopiesAlone world reaches kinds.Sdl shape three four → MayLeaveCopies world reaches kinds.Sdl shape three four (SdlValue s) → KeepsGiven shape (world three) (world four)
+            second_keeps four alone left = sdl_mend_keeps three four s s_area
+                (λ known. copy_same IsSdlText (sdl_block shape) (world two).cells (world three).cells same_sdl s s_area (second_is (back_three known)).copy) alone left
+
+            fits_32 : (4 + 4 + (4 + 2 * mended.rewritten)) + 12 ≤ 32
+            fits_32 = let f = mended.few in omega (arith, f)
+
+            pub fourth_ends : (new : M) (end : End) → EndsMending world reaches kinds.Sdl shape three new (SdlValue s) end → EndRule world reaches shape old new end
+            fourth_ends new ends.Cut (stopped, left) = stopped_later kinds.Sdl old three new (4 + 4 + (4 + 2 * mended.rewritten)) 12 stops.Cut fits_32 gone_three stopped (second_keeps new stopped.alone left)
+            fourth_ends new ends.Off off = absurd (off.was_off gone_three.continues.is_on)
+            fourth_ends new ends.Fault (stopped, left) = stopped_later kinds.Sdl old three new (4 + 4 + (4 + 2 * mended.rewritten)) 12 stops.Fault fits_32 gone_three stopped (second_keeps new stopped.alone left)
+            fourth_ends new ends.NoMemory never = absurd never
+
+            module _ (four : M) (done : HasMended world reaches kinds.Sdl shape three four (SdlValue s)) where
+              gone_four : Gone old four (4 + 4 + (4 + 2 * mended.rewritten) + (4 + 2 * done.rewritten))
+              gone_four = gone_then kinds.Sdl old three four (4 + 4 + (4 + 2 * mended.rewritten)) (4 + 2 * done.rewritten) gone_three done.ended
+                  (second_keeps four done.ended.alone (λ a is. settled_may_hold (IsText kinds.Sdl) (cell_at (world three).cells (sdl_block shape a)) (cell_at (world four).cells (sdl_block shape a)) (SdlValue s) (done.settled a is)))
+
+              pub both_found : d.state ≡ Formatted → HasEnded world reaches shape old four 2 × FindsLists shape (world old) (world four) (record { dds = d; sdl = s })
+              both_found state = (
+                record {
+                  was_on = gone_four.was_on;
+                  rewritten = mended.rewritten + done.rewritten;
+                  few = let f = mended.few in let g = done.few in omega (arith, f, g);
+                  continues = subst (Continues world reaches old four) (omega arith) gone_four.continues;
+                  counts = gone_four.counts;
+                  keeps = gone_four.keeps;
+                },
+                record {
+                  valid = record { primary = found.fits; together = below.fits; formatted = state };
+                  lawful_dds = found.in_grammar;
+                  lawful_sdl = below.in_grammar;
+                  settled = record {
+                    dds = settled_same IsDdsText (dds_block shape) (world three).cells (world four).cells (dds_stay three four done.ended.alone) d d_settled;
+                    sdl = sdl_settled shape (world four).cells s done.settled;
+                  };
+                  seen = (world two).cells;
+                  are_seen = are_seen four (λ block dead. stays_dead_on block (stays_from three (4 + 2 * mended.rewritten) mended.ended.continues block dead));
+                  chosen = λ known. record { dds_area = d_area; dds_chosen = first_is known; sdl_area = s_area; sdl_chosen = second_is known; formatted = state };
+                },
+              )
+                where
+                  stays_dead_on : (block : ℕ) → cell_at (world three).cells block ≡ Dead → cell_at (world four).cells block ≡ Dead
+                  stays_dead_on block dead = (laws.follows three four (4 + 2 * done.rewritten) done.ended.continues.reach).lasts.stays_dead block dead
+
+  -- ---- the same, by what the parts answered
+
+  pub nothing_by : (old one two : M) (best1 : Option (ListValue × ℕ)) (m n mark : ℕ) → HasPicked world reaches kinds.Dds shape old one (AcceptsDds shape) best1 m → HasPicked world reaches kinds.Sdl shape one two AcceptsNothing None n
+      → best1 ≡ None → m ≤ mark → n ≤ mark → (mark ≡ m) ⊎ (mark ≡ n) → EndsBare world reaches shape old two mark
+  nothing_by old one two best1 m n mark look1 look2 e low low' is = nothing_found old one (AcceptsDds shape) best1 m look1 two AcceptsNothing None n look2 mark low low' is
+      (subst (PicksBest world reaches kinds.Dds shape old one (AcceptsDds shape)) e look1.best_is)
+
+  module _ (old one two : M) (best1 best2 : Option (ListValue × ℕ)) (m n : ℕ) (d : Dds) (d_area : ℕ) (look1 : HasPicked world reaches kinds.Dds shape old one (AcceptsDds shape) best1 m)
+      (e : best1 ≡ Some (DdsValue d, d_area)) (look2 : HasPicked world reaches kinds.Sdl shape one two (AcceptsSdl shape d) best2 n) where
+    found_by : Finds world reaches kinds.Dds shape old one (AcceptsDds shape) (DdsValue d) d_area
+    found_by = subst (PicksBest world reaches kinds.Dds shape old one (AcceptsDds shape)) e look1.best_is
+
+    pub third_by : (new : M) (end : End) → EndsMending world reaches kinds.Dds shape two new (DdsValue d) end → EndRule world reaches shape old new end
+    third_by new end ended = third_ends old one (AcceptsDds shape) best1 m look1 two (AcceptsSdl shape d) best2 n look2 d d_area found_by new end ended
+
+    module _ (three : M) (mended : HasMended world reaches kinds.Dds shape two three (DdsValue d)) where
+      pub formatting_by : (mark : ℕ) → m ≤ mark → n ≤ mark → (mark ≡ m) ⊎ (mark ≡ n) → d.state ≡ Formatting → EndsBare world reaches shape old three mark
+      formatting_by mark low low' is state = formatting_found old one (AcceptsDds shape) best1 m look1 two (AcceptsSdl shape d) best2 n look2 d d_area found_by three mended mark low low' is state
+
+      pub lone_by : (mark : ℕ) → m ≤ mark → n ≤ mark → (mark ≡ m) ⊎ (mark ≡ n) → best2 ≡ None → EndsBare world reaches shape old three mark
+      lone_by mark low low' is none = lone_found old one (AcceptsDds shape) best1 m look1 two (AcceptsSdl shape d) best2 n look2 d d_area found_by three mended mark low low' is
+          (subst (PicksBest world reaches kinds.Sdl shape one two (AcceptsSdl shape d)) none look2.best_is)
+
+      module _ (s : Sdl) (s_area : ℕ) (e2 : best2 ≡ Some (SdlValue s, s_area)) where
+        below_by : Finds world reaches kinds.Sdl shape one two (AcceptsSdl shape d) (SdlValue s) s_area
+        below_by = subst (PicksBest world reaches kinds.Sdl shape one two (AcceptsSdl shape d)) e2 look2.best_is
+
+        pub fourth_by : (new : M) (end : End) → EndsMending world reaches kinds.Sdl shape three new (SdlValue s) end → EndRule world reaches shape old new end
+        fourth_by new end ended = fourth_ends old one (AcceptsDds shape) best1 m look1 two (AcceptsSdl shape d) best2 n look2 d d_area found_by three mended s s_area below_by new end ended
+
+        pub both_by : (four : M) → HasMended world reaches kinds.Sdl shape three four (SdlValue s) → d.state ≡ Formatted → HasEnded world reaches shape old four 2 × FindsLists shape (world old) (world four) (record { dds = d; sdl = s })
+        both_by four done state = both_found old one (AcceptsDds shape) best1 m look1 two (AcceptsSdl shape d) best2 n look2 d d_area found_by three mended s s_area below_by four done state
+
+pub not_formatted : (s : DdsState) (b : Bool) → (s ≡ Formatted → IsTrue b) → b ≡ false → s ≡ Formatting
+not_formatted Formatting b h e = refl
+not_formatted Formatted b h e = absurd (true≢false (sym (h refl) ∙ e))
+
+pub fits_picked : {M : Type 0} (world : M → World) (reaches : M → M → ℕ → Type 0) (shape : Shape) (old new : M) (d : Dds) (area m : ℕ) (best : Option (ListValue × ℕ)) → HasPicked world reaches kinds.Dds shape old new (AcceptsDds shape) best m
+    → best ≡ Some (DdsValue d, area) → Finds world reaches kinds.Dds shape old new (AcceptsDds shape) (DdsValue d) area
+fits_picked world reaches shape old new d area m best look e = subst (PicksBest world reaches kinds.Dds shape old new (AcceptsDds shape)) e look.best_is
+
+pub sdl_picked : {M : Type 0} (world : M → World) (reaches : M → M → ℕ → Type 0) (shape : Shape) (old new : M) (d : Dds) (s : Sdl) (area m : ℕ) (best : Option (ListValue × ℕ)) → HasPicked world reaches kinds.Sdl shape old new (AcceptsSdl shape d) best m
+    → best ≡ Some (SdlValue s, area) → Finds world reaches kinds.Sdl shape old new (AcceptsSdl shape d) (SdlValue s) area
+sdl_picked world reaches shape old new d s area m best look e = subst (PicksBest world reaches kinds.Sdl shape old new (AcceptsSdl shape d)) e look.best_is

@@ -1,0 +1,47 @@
+-- Which entries of a secondary defect list are valid, one by one: for the test of such a list.
+use Rattle.std.specs.Prelude.{◌≡◌, ℕ, ◌<◌, Option, Some, None, IsSome, IsNone, IfSome, option_and_then, slice_get, List}
+use Rattle.std.specs.List.{Contains}
+use Rattle.model_geometry.specs.Geometry.{Shape}
+use Rattle.model_lists.specs.declared.sdl.SdlEntry.{SdlEntry}
+use Rattle.model_lists.specs.Values.{defectives}
+use Rattle.model_places.specs.Places.{Lists, unslipped, logical_blocks, spares}
+use Rattle.ram_slip.specs.declared.place.Place.{Place}
+use Rattle.ram_slip.specs.declared.place.Place.TheVariants as places
+
+module _ (shape : Shape) (lists : Lists) where
+  -- A block may replace another: it is a spare, and not itself defective. (This project's own, as all here.)
+  abbrev pub MayReplace : ℕ → Type 0
+  MayReplace block = Contains (spares shape lists) block × ¬ Contains (defectives lists.sdl.entries) block
+
+  -- The entry is valid by itself: its block is not slipped, a logical block has a replacement, a spare has none, and the
+  -- replacement is one that may replace.
+  pub record IsEntryValid (entry : SdlEntry) : Type 0 where
+    pub within : Contains (unslipped shape lists.dds) entry.defective
+    pub replaced : Contains (logical_blocks shape lists) entry.defective → IsSome entry.replacement
+    pub retired : Contains (spares shape lists) entry.defective → IsNone entry.replacement
+    pub sound : IfSome entry.replacement MayReplace
+
+  -- the same, by what the block is to the disc
+  abbrev pub IsValidAt : Place → Option ℕ → Type 0
+  IsValidAt (places.Logical i) None = ⊥
+  IsValidAt (places.Logical i) (Some spare) = MayReplace spare
+  IsValidAt places.Primary None = Unit {0}
+  IsValidAt places.Primary (Some spare) = ⊥
+  IsValidAt places.Supplementary None = Unit {0}
+  IsValidAt places.Supplementary (Some spare) = ⊥
+  IsValidAt places.Slipped replacement = ⊥
+  IsValidAt places.Outside replacement = ⊥
+
+-- what the entry at a place has as its replacement
+abbrev pub replacement_at : List SdlEntry → ℕ → Option ℕ
+replacement_at entries k = option_and_then (λ (e : SdlEntry). e.replacement) (slice_get entries k)
+
+-- one of the first so many entries has this replacement
+pub record IsNamedWithin (entries : List SdlEntry) (n block : ℕ) : Type 0 where
+  pub place : ℕ
+  pub early : place < n
+  pub has : replacement_at entries place ≡ Some block
+
+-- no two of the first so many entries have one replacement
+abbrev pub AreApart : List SdlEntry → ℕ → Type 0
+AreApart entries n = (i j block : ℕ) → i < j → j < n → replacement_at entries i ≡ Some block → replacement_at entries j ≡ Some block → ⊥

@@ -1,0 +1,177 @@
+//! The test of a secondary defect list under a primary one.
+
+ghost use Rattle.std.specs.Prelude.{◌↔◌, ℕ, ◌≤◌, IsTrue, nat_eq, length};
+ghost use Rattle.std.specs.List.{All, Contains, IsDistinct};
+ghost use Rattle.std.specs.List.Sorted.{IsStrictlyIncreasing};
+ghost use Rattle.model_lists.specs.Values.{defectives};
+ghost use Rattle.model_places.specs.Places.{spares, replacements};
+ghost use Rattle.model_places.specs.Valid.{IsValidPdl, IsValidSsa, IsValidSdl};
+ghost use Rattle.ram_dds.specs.Dds.{dds_of};
+ghost use Rattle.ram_sdl.specs.Sdl.{sdl_of};
+ghost use Rattle.ram_lists.specs.Entries.{MayReplace, IsEntryValid, IsValidAt, IsNamedWithin};
+
+use model_lists::SdlEntry;
+use ram_dds::DdsPdl;
+use ram_sdl::Sdl;
+use ram_slip::{Place, is_valid_ssa, place_of};
+use ram_zones::Geometry;
+
+/// Whether each entry names a later defective block than the one before.
+fn rise(entries: &[SdlEntry]) -> bool
+    ensures { IsTrue result ↔ IsStrictlyIncreasing (defectives entries.now) }
+{
+    for k in 1..entries.len() {
+        if entries[k].defective <= entries[k - 1].defective {
+            return false;
+        }
+    }
+    true
+}
+
+/// Whether the block is a spare.
+fn is_spare(geometry: &Geometry, dds: &DdsPdl, sdl: &Sdl, block: u32) -> bool
+    requires valid { IsValidPdl geometry.now (dds_of dds.now) }
+    requires area { IsValidSsa geometry.now sdl.now.ssa }
+    ensures { IsTrue result
+        ↔ Contains (spares geometry.now (record { dds = dds_of dds.now; sdl = sdl_of sdl.now })) block }
+{
+    match place_of(geometry, dds, sdl.ssa, block) {
+        Place::Logical { i: _ } => false,
+        Place::Primary => true,
+        Place::Supplementary => true,
+        Place::Slipped => false,
+        Place::Outside => false,
+    }
+}
+
+/// Whether an entry names the block as defective.
+fn is_defective(sdl: &Sdl, block: u32) -> bool
+    requires { IsStrictlyIncreasing (defectives sdl.now.entries.list) }
+    ensures { IsTrue result ↔ Contains (defectives sdl.now.entries.list) block }
+{
+    match sdl.find(block) {
+        Some(_) => true,
+        None => false,
+    }
+}
+
+/// Whether the block may replace another.
+fn may_replace(geometry: &Geometry, dds: &DdsPdl, sdl: &Sdl, block: u32) -> bool
+    requires valid { IsValidPdl geometry.now (dds_of dds.now) }
+    requires area { IsValidSsa geometry.now sdl.now.ssa }
+    requires rising { IsStrictlyIncreasing (defectives sdl.now.entries.list) }
+    ensures { IsTrue result
+        ↔ MayReplace geometry.now (record { dds = dds_of dds.now; sdl = sdl_of sdl.now }) block }
+{
+    is_spare(geometry, dds, sdl, block) && !is_defective(sdl, block)
+}
+
+/// Whether a block that is this to the disc may have this replacement, or none.
+fn is_valid_at(
+    geometry: &Geometry,
+    dds: &DdsPdl,
+    sdl: &Sdl,
+    place: Place,
+    replacement: Option<u32>,
+) -> bool
+    requires valid { IsValidPdl geometry.now (dds_of dds.now) }
+    requires area { IsValidSsa geometry.now sdl.now.ssa }
+    requires rising { IsStrictlyIncreasing (defectives sdl.now.entries.list) }
+    ensures { IsTrue result
+        ↔ IsValidAt geometry.now (record { dds = dds_of dds.now; sdl = sdl_of sdl.now }) place replacement }
+{
+    match (place, replacement) {
+        (Place::Logical { i: _ }, None) => false,
+        (Place::Logical { i: _ }, Some(spare)) => may_replace(geometry, dds, sdl, spare),
+        (Place::Primary, None) => true,
+        (Place::Primary, Some(_)) => false,
+        (Place::Supplementary, None) => true,
+        (Place::Supplementary, Some(_)) => false,
+        (Place::Slipped, _) => false,
+        (Place::Outside, _) => false,
+    }
+}
+
+/// Whether the entry is valid by itself.
+fn is_entry_valid(geometry: &Geometry, dds: &DdsPdl, sdl: &Sdl, entry: SdlEntry) -> bool
+    requires valid { IsValidPdl geometry.now (dds_of dds.now) }
+    requires area { IsValidSsa geometry.now sdl.now.ssa }
+    requires rising { IsStrictlyIncreasing (defectives sdl.now.entries.list) }
+    ensures { IsTrue result
+        ↔ IsEntryValid geometry.now (record { dds = dds_of dds.now; sdl = sdl_of sdl.now }) entry }
+{
+    let place = place_of(geometry, dds, sdl.ssa, entry.defective);
+    is_valid_at(geometry, dds, sdl, place, entry.replacement)
+}
+
+/// Whether each entry is valid by itself.
+fn are_entries_valid(geometry: &Geometry, dds: &DdsPdl, sdl: &Sdl) -> bool
+    requires valid { IsValidPdl geometry.now (dds_of dds.now) }
+    requires area { IsValidSsa geometry.now sdl.now.ssa }
+    requires rising { IsStrictlyIncreasing (defectives sdl.now.entries.list) }
+    ensures { IsTrue result
+        ↔ All (IsEntryValid geometry.now (record { dds = dds_of dds.now; sdl = sdl_of sdl.now }))
+        sdl.now.entries.list }
+{
+    let entries = sdl.entries.as_slice();
+    for k in 0..entries.len() {
+        if !is_entry_valid(geometry, dds, sdl, entries[k]) {
+            return false;
+        }
+    }
+    true
+}
+
+/// Whether one of the first `n` entries has this replacement.
+fn is_named(entries: &[SdlEntry], n: usize, block: u32) -> bool
+    requires { n ≤ length entries.now }
+    ensures { IsTrue result ↔ IsNamedWithin entries.now n block }
+{
+    for k in 0..n {
+        match entries[k].replacement {
+            Some(other) => {
+                if other == block {
+                    return true;
+                }
+            }
+            None => {}
+        }
+    }
+    false
+}
+
+/// Whether no two entries have one replacement.
+fn are_different(entries: &[SdlEntry]) -> bool
+    ensures { IsTrue result ↔ IsDistinct nat_eq (replacements entries.now) }
+{
+    for k in 0..entries.len() {
+        match entries[k].replacement {
+            Some(block) => {
+                if is_named(entries, k, block) {
+                    return false;
+                }
+            }
+            None => {}
+        }
+    }
+    true
+}
+
+/// Whether the secondary defect list is valid under the structure, whose primary one is valid.
+pub fn is_valid_sdl(geometry: &Geometry, dds: &DdsPdl, sdl: &Sdl) -> bool
+    requires valid { IsValidPdl geometry.now (dds_of dds.now) }
+    ensures { IsTrue result
+        ↔ IsValidSdl geometry.now (record { dds = dds_of dds.now; sdl = sdl_of sdl.now }) }
+{
+    let entries = sdl.entries.as_slice();
+    if !is_valid_ssa(geometry, sdl.ssa) {
+        return false;
+    }
+    if !rise(entries) {
+        return false;
+    }
+    if !are_entries_valid(geometry, dds, sdl) {
+        return false;
+    }
+    are_different(entries)
+}
