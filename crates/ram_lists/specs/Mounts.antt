@@ -13,9 +13,7 @@ use Rattle.model_places.specs.Places as places
 use Rattle.model_places.specs.Valid.{AreValid}
 use Rattle.model_volume.specs.Given.{IsGiven, GivesNone, IsChosenDds, AreChosen, ChoosesNone, AreSettled, AreSeen}
 use Rattle.ram_copies.specs.Calls.{StopCounts}
-use Rattle.ram_dds.specs.Dds.{dds_of}
-use Rattle.ram_sdl.specs.Sdl.{sdl_of}
-use Rattle.ram_lists.specs.declared.lists.Lists.{Lists}
+use Rattle.ram_lists.specs.Lists.{lists_of}
 use Rattle.ram_lists.specs.declared.mounting.Mounted.{Mounted}
 use Rattle.ram_lists.specs.declared.mounting.Mounted.TheVariants as mounts
 use Rattle.ram_lists.specs.declared.ends.End.{End}
@@ -23,11 +21,7 @@ use Rattle.ram_lists.specs.declared.ends.End.TheVariants as ends
 use Rattle.ram_lists.specs.declared.mounting.Disc.{Disc}
 use Rattle.ram_lists.specs.declared.mounting.Disc.TheVariants as discs
 
--- both lists as one value (this project's own, as all here)
-abbrev pub lists_of : Lists → places.Lists
-lists_of held = record { dds = dds_of held.dds; sdl = sdl_of held.sdl }
-
--- the block is a copy of neither list
+-- The block is a copy of neither list. (This project's own, as all here.)
 abbrev pub IsNoListBlock : Shape → ℕ → Type 0
 IsNoListBlock shape block = (area : ℕ) → IsArea area → (block ≢ dds_block shape area) × (block ≢ sdl_block shape area)
 

@@ -10,5 +10,5 @@ mod parts;
 
 pub use entries::is_valid_sdl;
 pub use fits::{DdsFits, SdlFits};
-pub use lists::Lists;
+pub use lists::{Lists, home};
 pub use mounting::{Mounted, mount};
