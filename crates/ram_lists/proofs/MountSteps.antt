@@ -27,7 +27,7 @@ use Rattle.ram_zones.specs.declared.list_kind.ListKind.{ListKind}
 use Rattle.ram_zones.specs.declared.list_kind.ListKind.TheVariants as kinds
 use Rattle.ram_zones.specs.ListKind.{list_block}
 use Rattle.ram_copies.specs.Values.{ListValue, DdsValue, SdlValue, IsText, counter_of, mark_of}
-use Rattle.ram_copies.specs.Calls.{StopCounts, ChangesCopiesAlone, Ends, IsStopped, MayLeaveCopies}
+use Rattle.ram_copies.specs.Calls.{StoppedCounts, ChangesCopiesAlone, Ends, IsStopped, MayLeaveCopies}
 use Rattle.ram_copies.specs.Chooses.{SawCopies, RunsOutOfMemory, IsMarkSeen, Finds, FindsNone}
 use Rattle.ram_copies.proofs.EachList.{dds_settled, dds_chosen, dds_none, dds_marked, dds_may_hold, sdl_settled, sdl_chosen, sdl_none, sdl_marked, sdl_may_hold}
 use Rattle.ram_lists.specs.Lists.{AcceptsDds, AcceptsSdl, AcceptsNothing}
@@ -171,7 +171,7 @@ module _ {M : Type 0} (world : M → World) (block_count : M → ℕ) (reaches :
     keeps = keeps_then shape (world old) (world mid) (world new) gone.keeps keeps;
   }
 
-  counts_later : (old mid new : M) (stop : Stop) → UseContinues (world old) (world mid) → StopCounts (world mid) (world new) stop → StopCounts (world old) (world new) stop
+  counts_later : (old mid new : M) (stop : Stop) → UseContinues (world old) (world mid) → StoppedCounts (world mid) (world new) stop → StoppedCounts (world old) (world new) stop
   counts_later old mid new stops.Cut first cut = record { turns_off = cut.turns_off; one_cut = subst (λ (n : ℕ). (world new).cuts ≡ counted n 1) first.no_cut cut.one_cut; no_fault = cut.no_fault ∙ first.no_fault }
   counts_later old mid new stops.Off first off = absurd (off.was_off first.stays_on)
   counts_later old mid new stops.Fault first fail = record { turns_off = fail.turns_off; no_cut = fail.no_cut ∙ first.no_cut; fault = subst (λ (n : ℕ). Rose n (world new).faults) first.no_fault fail.fault }

@@ -12,7 +12,7 @@ use Rattle.model_copies.specs.Copies.{IsArea, Settled, Mark}
 use Rattle.model_places.specs.Places as places
 use Rattle.model_places.specs.Valid.{AreValid}
 use Rattle.model_volume.specs.Given.{IsGiven, GivesNone, IsChosenDds, AreChosen, ChoosesNone, AreSettled, AreSeen}
-use Rattle.ram_copies.specs.Calls.{StopCounts}
+use Rattle.ram_copies.specs.Calls.{StoppedCounts}
 use Rattle.ram_lists.specs.Lists.{lists_of}
 use Rattle.ram_lists.specs.declared.mounting.Mounted.{Mounted}
 use Rattle.ram_lists.specs.declared.mounting.Mounted.TheVariants as mounts
@@ -66,7 +66,7 @@ module _ {M : Type 0} (world : M → World) (reaches : M → M → ℕ → Type 
   pub record WasStopped (stop : Stop) : Type 0 where
     pub was_on : IsTrue (world old).power
     pub stops : Stops world reaches old new 32 stop
-    pub counts : StopCounts (world old) (world new) stop
+    pub counts : StoppedCounts (world old) (world new) stop
     pub keeps : KeepsGiven shape (world old) (world new)
 
   -- it was out of memory within 8 uses: the power was on and is on, and neither a cut nor a fault is counted
