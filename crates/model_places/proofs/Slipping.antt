@@ -12,7 +12,8 @@ use Rattle.std.proofs.lemmas.Map.Made.{length-from_same_keys}
 use Rattle.std.proofs.lemmas.Option.{slice_get-get_or, slice_get_within, get_or_from_slice_get}
 use Rattle.model_geometry.specs.Geometry.{Shape, data_blocks}
 use Rattle.model_geometry.proofs.DataBlocks.{data_blocks_rise}
-use Rattle.model_places.specs.Places.{is_listed, unslipped}
+use Rattle.model_lists.specs.Values.{Dds}
+use Rattle.model_places.specs.Places.{is_listed, slipped, unslipped}
 use Rattle.model_places.specs.Valid.{IsValidPdl}
 use Rattle.model_places.proofs.Listed.{Decides-is_listed, is_listed-filter, is_member_is, listed_in_filter, Contains-filter, IsDistinct-from_increasing}
 
@@ -85,13 +86,13 @@ place_without xs ys rise rise' all n x within is apart =
 
 -- A data block that is not slipped: its place among those that are not is its place among all, less the slipped
 -- blocks before it.
-pub slice_get-unslipped : (shape : Shape) (psa : ℕ) (pdl : List ℕ) → IsValidPdl shape psa pdl → (n m block : ℕ)
-    → slice_get (data_blocks shape) n ≡ Some block → length (below block pdl) ≡ m → ¬ Contains pdl block
-    → (m ≤ n) × (slice_get (unslipped shape pdl) (n - m) ≡ Some block)
+pub slice_get-unslipped : (shape : Shape) (dds : Dds) → IsValidPdl shape dds → (n m block : ℕ)
+    → slice_get (data_blocks shape) n ≡ Some block → length (below block (slipped dds)) ≡ m → ¬ Contains (slipped dds) block
+    → (m ≤ n) × (slice_get (unslipped shape dds) (n - m) ≡ Some block)
 unfolding unslipped
-slice_get-unslipped shape psa pdl valid n m block at passed apart =
-    let without = filter (λ b. not (is_listed pdl b)) (data_blocks shape) in
+slice_get-unslipped shape dds valid n m block at passed apart =
+    let without = filter (λ b. not (is_listed (slipped dds) b)) (data_blocks shape) in
     let within = slice_get_within (data_blocks shape) n block at in
-    let found = place_without (data_blocks shape) pdl (data_blocks_rise shape) valid.rising valid.data_only n block within (get_or_from_slice_get (data_blocks shape) n block 0 at) apart in
+    let found = place_without (data_blocks shape) (slipped dds) (data_blocks_rise shape) valid.rising valid.data_only n block within (get_or_from_slice_get (data_blocks shape) n block 0 at) apart in
     let place : n - m ≡ found.0 = omega (arith, found.1) in
     (omega (arith, found.1), ap (slice_get without) place ∙ slice_get-get_or without found.0 0 found.2 ∙ ap Some found.3)

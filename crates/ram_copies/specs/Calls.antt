@@ -16,10 +16,10 @@ use Rattle.ram_copies.specs.declared.updates.Updated.TheVariants as updates
 
 -- Which count rose in work that was stopped: that of cuts for a cut, that of faults for a fault, none with the power
 -- off, where nothing changed. (This project's own, as all here.)
-abbrev pub CountsAtStop : World → World → Stop → Type 0
-CountsAtStop old new stops.Cut = IsCut old new
-CountsAtStop old new stops.Off = IsOff old new
-CountsAtStop old new stops.Fault = HasFailed old new
+abbrev pub StoppedCounts : World → World → Stop → Type 0
+StoppedCounts old new stops.Cut = IsCut old new
+StoppedCounts old new stops.Off = IsOff old new
+StoppedCounts old new stops.Fault = HasFailed old new
 
 module _ {M : Type 0} (world : M → World) (reaches : M → M → ℕ → Type 0) (kind : ListKind) (shape : Shape) (old new : M) where
   -- no cell changed but those of the list's four copies
@@ -39,7 +39,7 @@ module _ {M : Type 0} (world : M → World) (reaches : M → M → ℕ → Type 
   pub record StoppedWithin (most : ℕ) (stop : Stop) : Type 0 where
     pub was_on : IsTrue (world old).power
     pub stops : Stops world reaches old new most stop
-    pub counts : CountsAtStop (world old) (world new) stop
+    pub counts : StoppedCounts (world old) (world new) stop
     pub alone : ChangesCopiesAlone
 
   -- no copy is left: all four are dead now

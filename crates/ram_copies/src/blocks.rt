@@ -35,8 +35,8 @@ pub trait ListBlock: Sized + Drop {
     /// The value whose text this block is, or none where it is the text of no value.
     fn decode(alloc: Global, from: &Block) -> Result<Option<Self>, AllocError>
         ensures says { IfOk result (λ (found : Option Self). Decodes value LIST found from.now) }
-        ensures in_grammar { IfOk result
-            (λ (found : Option Self). IfSome found (λ list. IsInGrammar LIST (value list))) };
+        ensures in_grammar { IfOk result (λ (found : Option Self).
+            IfSome found (λ list. IsInGrammar LIST (value list))) };
 }
 
 /// What a choice asks of a list beside its grammar.

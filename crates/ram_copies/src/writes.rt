@@ -22,8 +22,8 @@ pub fn write_copies<M: Medium>(
     requires on { IsTrue (M.world medium.old).power }
     ensures rule { MatchResult result
         (HasWritten M.world M.reaches medium.old medium.new (λ area. list_block geometry.now area list) text.now 4)
-        (StopsWriting M.world M.reaches medium.old medium.new (λ area. list_block geometry.now area list)
-        text.now 8) }
+        (StopsWriting M.world M.reaches medium.old medium.new
+        (λ area. list_block geometry.now area list) text.now 8) }
     ensures counts { IfOk result
         (CountsReadable M.world M.reaches medium.old medium.new (λ area. list_block geometry.now area list) text.now 4) }
     ensures as_many { M.block_count medium.new ≡ M.block_count medium.old }

@@ -14,7 +14,6 @@ use Rattle.model_image.proofs.Headers.{one_header}
 use Rattle.model_image.proofs.Writes.{cell_at-cells_of}
 use Rattle.model_sectors.specs.Discs.{Standing, Off, Shown, IsShown, first_disc}
 use Rattle.ram_outside.specs.declared.image.Image.{Ghosts as Images}
-use Rattle.ram_outside.specs.Image.{IsUnchanged}
 use Rattle.ram_image.specs.Medium.{world_of, machine_in}
 use Rattle.ram_sectors.specs.declared.Sectors.{Ghosts as Drives}
 use Rattle.ram_image.specs.Opening.{IsOpened, IsRefused}
@@ -194,10 +193,3 @@ module _ {D I : Type 0} (drives : Drives D) (images : Images I) (image : I) wher
       of_other_length bytes known r =
           let bad : (other.0 ≡ length bytes) × ((other.0 < 16) ⊎ ((z : Shape) × HasHeader z bytes × (other.0 ≢ image_len (total z)))) = subst (λ o. IfSome o (λ held. (other.0 ≡ length held) × ((other.0 < 16) ⊎ ((z : Shape) × HasHeader z held × (other.0 ≢ image_len (total z)))))) known r.1 in
           record { state = Unopened bytes; first = (refl, λ shape there. clash bytes shape bad.0 there bad.1); stands_first = r.0.same ∙ known }
-
--- there was no memory for the disc, and the image is as it was
-pub handed_back_unopened : {I : Type 0} (images : Images I) (image : I) (medium medium' : ImageMedium I images) (geometry : Shape) (image' : I) → IsOpened image medium geometry → medium' ≡ medium → image' ≡ medium'.image
-    → IsUnchanged (images.bytes image) (images.bytes image') (images.faults image) (images.faults image')
-handed_back_unopened {I} images image medium medium' geometry image' opened same handed =
-    let back : image' ≡ medium.image = handed ∙ ap (λ (m : ImageMedium I images). m.image) same in
-    record { same = ap images.bytes back ∙ opened.same_image; count = ap images.faults back ∙ opened.count }

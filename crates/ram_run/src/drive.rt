@@ -18,8 +18,8 @@ pub trait Drive: Sectors {
     /// The image.
     type Image: Image;
 
-    /// The drive over the disc that the image holds, with the power off. Else the image is handed back, with the
-    /// reason.
+    /// The drive over the disc that the image holds, with the power off. Else the image is handed back with the bytes
+    /// that it had, and the reason: it has no disc's header or length, it failed, or there was no memory.
     fn open(alloc: Global, image: Self::Image) -> Result<Self, (Self::Image, OpenFault)>
         ensures { MatchResult result (λ drive. Opens (Self.Image.bytes image)
             (Self.Image.faults image) (Self.shape drive) (Self.shows drive) (Self.stands drive))
@@ -35,8 +35,9 @@ pub trait Drive: Sectors {
     fn powered(&self) -> bool
         ensures { IsTrue result ↔ IsOn (Self.shows self.now) };
 
-    /// Makes a block of the medium dead, with the power on or off. What is buffered stays so, unless the power goes
-    /// off.
+    /// Makes block `block` of the medium dead, counted from 0, with the power on or off: `Done`. There is no such block:
+    /// `NoBlock`, with how many there are. The image failed: `Failed`, and the power is off. What is buffered stays so,
+    /// unless the power goes off.
     fn fail(&mut self, block: u32) -> FailEnd
         ensures rule { FailRule (total (Self.shape self.old)) (Self.shows self.old).medium
             (Self.shows self.new).medium block result }
@@ -46,7 +47,8 @@ pub trait Drive: Sectors {
         ensures stands { (s : Standing) → Self.stands self.old s
             → Self.stands self.new (stands_after_fail s result) };
 
-    /// Makes a block of the medium dead at its `n`-th use from now on. At most 64 arms stand.
+    /// Makes block `block` of the medium dead at its `n`-th use from now on, the next one being the first: `Set`. There
+    /// is no such block: `NoBlock`. As many arms stand as can, 64: `Full`.
     fn wear(&mut self, block: u32, n: u32) -> Arm
         requires { 1 ≤ n }
         ensures rule { WearRule (total (Self.shape self.old)) (Self.shows self.old).medium
@@ -55,8 +57,8 @@ pub trait Drive: Sectors {
         ensures buffered { (Self.shows self.new).buffered ≡ (Self.shows self.old).buffered }
         ensures stands { (s : Standing) → Self.stands self.old s → Self.stands self.new s };
 
-    /// Cuts the power at the `n`-th use of the medium from now on, with this fate of a write that is cut. The cut
-    /// takes the place of one that was armed.
+    /// Cuts the power at the `n`-th use of any block from now on, the next one being the first, with this fate of a write
+    /// that is cut. The cut takes the place of one that was armed.
     fn arm_cut(&mut self, n: u32, fate: Fate)
         requires { 1 ≤ n }
         ensures rule { (Self.shows self.new).medium ≡ with_armed_cut n fate (Self.shows self.old).medium }

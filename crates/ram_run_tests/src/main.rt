@@ -2,7 +2,8 @@
 //! `stdin`, and what they must be answered in `stdout`. What no row can tell is in `tests`.
 //!
 //! A row begins with `== TITLE`. Its script runs over an empty image, or, where the title begins with `then`, over the
-//! image that the row before left. Rows have the short forms of `shorthand`.
+//! image that the row before left. Where the title begins with `each`, each line is a script of its own. Rows have the
+//! short forms of `shorthand`.
 #![tactic(auto)]
 
 mod runs;
@@ -18,25 +19,26 @@ use std::io;
 fn main(rt: HostRuntime) -> io::Result<()> {
     let mut script = String::new(rt.alloc());
     let mut image = Vec::new(rt.alloc());
-    let mut begun = false;
+    let mut alone = true;
     for line in rt.lines(rt.alloc()) {
         let line = line?;
-        match line.strip_prefix("== ") {
-            None => add_line(&mut script, line.as_str())?,
-            Some(title) => {
-                if begun {
-                    image = end_row(&rt, script.as_bytes(), image)?;
-                }
-                begun = true;
-                script.clear();
-                if !title.starts_with("then") {
-                    image.clear();
-                }
-                println!(rt; "== {title}")?;
+        let title = line.strip_prefix("== ");
+        if title.is_none() {
+            add_line(&mut script, line.as_str())?;
+        }
+        if !script.is_empty() && (alone || title.is_some()) {
+            image = end_row(&rt, script.as_bytes(), image)?;
+            script.clear();
+        }
+        if let Some(title) = title {
+            alone = title.starts_with("each");
+            if !title.starts_with("then") {
+                image.clear();
             }
+            println!(rt; "== {title}")?;
         }
     }
-    if begun {
+    if !script.is_empty() {
         end_row(&rt, script.as_bytes(), image)?;
     }
     Ok(())

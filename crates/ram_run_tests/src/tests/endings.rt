@@ -10,7 +10,12 @@ use std::alloc::{AllocError, Global};
 use std::test::Fail;
 
 /// Scripts with a carriage return, a tab or no line feed at their end, with their statuses and reports.
-const ENDINGS: [(&str, Status, &str); 9] = [
+const ENDINGS: [(&str, Status, &str); 10] = [
+    (
+        "\rpower\n",
+        Status::Script,
+        "1 not in the script language\n",
+    ),
     ("", Status::Done, "end 0\n"),
     ("# nothing\n\n   \n\r\n#\n", Status::Done, "end 0\n"),
     ("press 1 1 4", Status::Done, "1 pressed\nend 1\n"),

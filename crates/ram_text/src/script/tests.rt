@@ -1,4 +1,4 @@
-//! Lines of each form, and near misses.
+//! Lines of each form. Near misses are rows of `ram_run_tests`.
 use super::{Line, Unread, parse_line};
 use crate::{LINE_LIMIT, PAYLOAD_ROOM};
 use model_medium::Fate;
@@ -16,98 +16,6 @@ fn parsed(
     let mut payload = Vec::with_capacity(alloc, PAYLOAD_ROOM)?;
     let read = parse_line(line, &mut payload);
     Ok((read, payload))
-}
-
-#[test]
-fn lines_without_an_answer(rt: HostRuntime) -> Result<(), Fail> {
-    let lines: [&[u8]; 8] = [
-        b"",
-        b"\r",
-        b" ",
-        b"    \r",
-        b"#",
-        b"# press 1 1 4",
-        b"#\r",
-        b"#\xff\t cdb",
-    ];
-    for line in lines {
-        let (read, payload) = parsed(&rt, rt.alloc(), line)?;
-        assert_eq!(rt; read, Ok(Line::Empty), "{line:?}");
-        assert!(rt; payload.is_empty(), "{line:?}");
-    }
-    Ok(())
-}
-
-#[test]
-fn lines_outside_the_language(rt: HostRuntime) -> Result<(), Fail> {
-    let lines: [&[u8]; 60] = [
-        b" # press",
-        b"\t",
-        b"power\t",
-        b"\rpower",
-        b"power\r\r",
-        b"Power",
-        b"POWER",
-        b"powers",
-        b"powe",
-        b"power 1",
-        b"off",
-        b"press",
-        b"press 1 1",
-        b"press 1 1 4 4",
-        b"press1 1 4",
-        b"press 1 1 x",
-        b"press 1 1 -4",
-        b"press 1 1 +4",
-        b"press 1 1 4294967296",
-        b"press 1 1 00000000004",
-        b"press 1 1 99999999999",
-        b"press 1,1,4",
-        b"PRESS 1 1 4",
-        b"fail",
-        b"fail 1 2",
-        b"fail 0x1",
-        b"fail 9999999999",
-        b"wear 1",
-        b"wear 1 0",
-        b"wear 1 0000000000",
-        b"wear 1 1 1",
-        b"wear x 1",
-        b"cut 1",
-        b"cut old",
-        b"cut 0 old",
-        b"cut 1 Old",
-        b"cut 1 olds",
-        b"cut 1 old old",
-        b"cut old 1",
-        b"cdb",
-        b"cdb 0",
-        b"cdb 0g",
-        b"cdb 0x00",
-        b"cdb 00 00",
-        b"cdb 00 fill",
-        b"cdb 00 fill 0",
-        b"cdb 00 fill 000",
-        b"cdb 00 fill 0000",
-        b"cdb 00 fill 0g",
-        b"cdb 00 fill 00 00",
-        b"cdb 00 FILL 00",
-        b"cdb 00 count",
-        b"cdb 00 count 0",
-        b"cdb 00 count 1000",
-        b"cdb 00 hex",
-        b"cdb 00 hex 0",
-        b"cdb 00 hex 000",
-        b"cdb 00 hex 00 00",
-        b"cdb 00 data 00",
-        b"cdb 0000000000000000000000000000000000",
-    ];
-    for line in lines {
-        let (read, payload) = parsed(&rt, rt.alloc(), line)?;
-        assert_eq!(rt; read, Err(Unread), "{line:?}");
-        assert!(rt; payload.is_empty(), "{line:?}");
-    }
-    Ok(())
 }
 
 #[test]

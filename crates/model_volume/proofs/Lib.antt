@@ -1,0 +1,15 @@
+pub mod GivenFacts
+pub mod Decided
+pub mod SdlDecided
+pub mod DdsDecided
+pub mod ValidDecided
+pub mod CopiesDecided
+pub mod Starting
+pub mod OneStart
+pub mod Choosing
+pub mod Covering
+pub mod LookUps
+pub mod Moved
+pub mod Updates
+pub mod Losses
+pub mod SampleFacts

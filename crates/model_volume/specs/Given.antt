@@ -1,0 +1,80 @@
+-- Which lists a disc has: those that are given, those that are chosen, and those that are settled: for the mount.
+use Rattle.std.specs.Prelude.{◌≡◌, ℕ, ◌⊎◌, List, [], ◌∷◌, ◌++◌, map}
+use Rattle.std.specs.List.{Contains}
+use Rattle.model_geometry.specs.Geometry.{Shape, dds_block, sdl_block}
+use Rattle.model_lists.specs.declared.dds.DdsState.TheVariants.{Formatted}
+use Rattle.model_lists.specs.Values.{Dds, Sdl}
+use Rattle.model_lists.specs.Texts.{IsDdsText, IsSdlText}
+use Rattle.model_medium.specs.Cells.{Cell, Dead, cell_at}
+use Rattle.model_copies.specs.Copies.{HasDdsCopy, HasSdlCopy, Settled, IsChosen, NoneChosen, IsSeen}
+use Rattle.model_places.specs.Places.{Lists}
+use Rattle.model_places.specs.Valid.{IsValidPdl, BelongTogether, AreValid}
+
+-- The lists that a choice can give, also after some list cells have turned dead: a copy of each can be read, and they are
+-- valid. That a disc may always give none goes without saying. (This project's own.)
+pub record IsGiven (shape : Shape) (cells : List Cell) (lists : Lists) : Type 0 where
+  pub dds_area : ℕ
+  pub dds_copy : HasDdsCopy shape cells lists.dds dds_area
+  pub sdl_area : ℕ
+  pub sdl_copy : HasSdlCopy shape cells lists.sdl sdl_area
+  pub valid : AreValid shape lists
+
+-- The cells give no lists. (This project's own.)
+abbrev pub GivesNone : Shape → List Cell → Type 0
+GivesNone shape cells = (lists : Lists) → ¬ IsGiven shape cells lists
+
+-- what the choice of a secondary list accepts: one that belongs to this structure (this project's own)
+abbrev pub FitsDds : Shape → Dds → Sdl → Type 0
+FitsDds shape dds sdl = BelongTogether shape (record { dds = dds; sdl = sdl })
+
+-- The disc definition structure that is chosen, with its area: of the copies that can be read and whose primary list is
+-- valid for the geometry, whatever state they say. (This project's own.)
+abbrev pub IsChosenDds : Shape → List Cell → Dds → ℕ → Type 0
+IsChosenDds shape cells dds area =
+    IsChosen IsDdsText (dds_block shape) cells (λ (list : Dds). list.counter) (IsValidPdl shape) dds area
+
+-- The secondary list that is chosen under a structure, with its area: of the copies that can be read and belong to it.
+-- (This project's own.)
+abbrev pub IsChosenSdl : Shape → List Cell → Dds → Sdl → ℕ → Type 0
+IsChosenSdl shape cells dds sdl area =
+    IsChosen IsSdlText (sdl_block shape) cells (λ (list : Sdl). list.counter) (FitsDds shape dds) sdl area
+
+-- The lists that are chosen: the structure, which says Formatted, and the secondary list under it. (This project's own.)
+pub record AreChosen (shape : Shape) (cells : List Cell) (lists : Lists) : Type 0 where
+  pub dds_area : ℕ
+  pub dds_chosen : IsChosenDds shape cells lists.dds dds_area
+  pub sdl_area : ℕ
+  pub sdl_chosen : IsChosenSdl shape cells lists.dds lists.sdl sdl_area
+  pub formatted : lists.dds.state ≡ Formatted
+
+-- The choice gives no lists: the disc is not formatted. (This project's own.)
+abbrev pub ChoosesNone : Shape → List Cell → Type 0
+ChoosesNone shape cells = (lists : Lists) → ¬ AreChosen shape cells lists
+
+-- no copy of a structure can be chosen
+abbrev pub NoDdsChosen : Shape → List Cell → Type 0
+NoDdsChosen shape cells = NoneChosen IsDdsText (dds_block shape) cells (IsValidPdl shape)
+
+-- no copy of a secondary list can be chosen under this structure
+abbrev pub NoSdlChosen : Shape → List Cell → Dds → Type 0
+NoSdlChosen shape cells dds = NoneChosen IsSdlText (sdl_block shape) cells (FitsDds shape dds)
+
+-- Each copy of each of both lists is exactly its text, or dead. (This project's own.)
+pub record AreSettled (shape : Shape) (cells : List Cell) (lists : Lists) : Type 0 where
+  pub dds : Settled IsDdsText (dds_block shape) cells lists.dds
+  pub sdl : Settled IsSdlText (sdl_block shape) cells lists.sdl
+
+-- What a call saw of the copies of both lists: each as it was at entry, or dead and then still dead now. (This project's
+-- own.)
+pub record AreSeen (shape : Shape) (old seen new : List Cell) : Type 0 where
+  pub dds : IsSeen (dds_block shape) old seen new
+  pub sdl : IsSeen (sdl_block shape) old seen new
+
+-- the eight blocks of both lists: of each the four areas' (after ECMA-330)
+abbrev pub list_blocks : Shape → List ℕ
+list_blocks shape = map (dds_block shape) (1 ∷ 2 ∷ 3 ∷ 4 ∷ []) ++ map (sdl_block shape) (1 ∷ 2 ∷ 3 ∷ 4 ∷ [])
+
+-- Some cells of the lists turned dead, and nothing else changed. (This project's own.)
+abbrev pub LosesListCells : Shape → List Cell → List Cell → Type 0
+LosesListCells shape old new = (block : ℕ) → (cell_at new block ≡ cell_at old block)
+    ⊎ ((cell_at new block ≡ Dead) × Contains (list_blocks shape) block)

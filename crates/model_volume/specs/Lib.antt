@@ -1,0 +1,5 @@
+pub mod Given
+pub mod Starts
+pub mod Covers
+pub mod Moves
+pub mod Samples

@@ -1,0 +1,136 @@
+//! The laws about given, chosen and settled lists: functions with an empty body, of which the contract is the law.
+
+ghost use Rattle.std.specs.Prelude.{◌≡◌, ℕ, ◌<◌, ◌⊎◌, List};
+ghost use Rattle.model_geometry.specs.Geometry.{Shape, dds_block, sdl_block};
+ghost use Rattle.model_medium.specs.Cells.{Cell, IsSameOrDead, cell_at};
+ghost use Rattle.model_lists.specs.declared.dds.DdsState.TheVariants.{Formatting};
+ghost use Rattle.model_lists.specs.Values.{Dds, Sdl};
+ghost use Rattle.model_lists.specs.Texts.{IsDdsText, IsSdlText};
+ghost use Rattle.model_copies.specs.Copies.{IsArea, MayHold, HasDdsCopy, HasSdlCopy, Settled, Between, Mark};
+ghost use Rattle.model_places.specs.Places.{Lists, logical_count};
+ghost use Rattle.model_places.specs.Valid.{AreValid};
+ghost use Rattle.model_volume.specs.Given.{IsGiven, GivesNone, IsChosenDds, IsChosenSdl, AreChosen, ChoosesNone, NoDdsChosen, NoSdlChosen, AreSettled, AreSeen, LosesListCells};
+
+/// The lists that are chosen are given.
+pub fn chosen_lists_are_given()
+    ensures { (shape : Shape) (cells : List Cell) (lists : Lists)
+        → AreChosen shape cells lists → IsGiven shape cells lists }
+{}
+
+/// Given and chosen lists are valid, and have a logical block. So a disc without sectors fits none.
+pub fn given_lists_are_valid()
+    ensures given { (shape : Shape) (cells : List Cell) (lists : Lists)
+        → IsGiven shape cells lists → AreValid shape lists }
+    ensures chosen { (shape : Shape) (cells : List Cell) (lists : Lists)
+        → AreChosen shape cells lists → AreValid shape lists }
+    ensures block { (shape : Shape) (cells : List Cell) (lists : Lists)
+        → IsGiven shape cells lists → 0 < logical_count shape lists }
+{}
+
+/// Of each list one copy is chosen at most, and so one pair of lists.
+pub fn one_pair_is_chosen()
+    ensures dds { (shape : Shape) (cells : List Cell) (v w : Dds) (a b : ℕ)
+        → IsChosenDds shape cells v a → IsChosenDds shape cells w b → v ≡ w }
+    ensures sdl { (shape : Shape) (cells : List Cell) (dds : Dds) (v w : Sdl) (a b : ℕ)
+        → IsChosenSdl shape cells dds v a → IsChosenSdl shape cells dds w b → v ≡ w }
+    ensures pair { (shape : Shape) (cells : List Cell) (one two : Lists)
+        → AreChosen shape cells one → AreChosen shape cells two → one ≡ two }
+{}
+
+/// No lists are chosen where no structure is, where the one that is chosen says Formatting, and where no secondary list
+/// belongs to it.
+pub fn three_causes_choose_none()
+    ensures no_dds { (shape : Shape) (cells : List Cell)
+        → NoDdsChosen shape cells → ChoosesNone shape cells }
+    ensures formatting { (shape : Shape) (cells : List Cell) (dds : Dds) (area : ℕ)
+        → IsChosenDds shape cells dds area → dds.state ≡ Formatting → ChoosesNone shape cells }
+    ensures no_sdl { (shape : Shape) (cells : List Cell) (dds : Dds) (area : ℕ)
+        → IsChosenDds shape cells dds area → NoSdlChosen shape cells dds → ChoosesNone shape cells }
+{}
+
+/// A list cell that turns dead adds no given pair.
+pub fn dead_list_cells_give_no_other_lists()
+    ensures { (shape : Shape) (old new : List Cell) (lists : Lists)
+        → ((area : ℕ) → IsArea area
+        → IsSameOrDead (cell_at old (dds_block shape area)) (cell_at new (dds_block shape area)))
+        → ((area : ℕ) → IsArea area
+        → IsSameOrDead (cell_at old (sdl_block shape area)) (cell_at new (sdl_block shape area)))
+        → IsGiven shape new lists → IsGiven shape old lists }
+{}
+
+/// Lists that a call saw given were given at entry.
+pub fn seen_lists_were_given()
+    ensures { (shape : Shape) (old seen new : List Cell) (lists : Lists)
+        → AreSeen shape old seen new → IsGiven shape seen lists → IsGiven shape old lists }
+{}
+
+/// Lists that are settled leave themselves as the only given pair.
+pub fn settled_lists_are_given_alone()
+    ensures { (shape : Shape) (cells : List Cell) (lists other : Lists)
+        → AreSettled shape cells lists → IsGiven shape cells other → other ≡ lists }
+{}
+
+/// Between two texts of one list each given pair has the one or the other; with the other list settled, these are two
+/// pairs.
+pub fn a_stopped_update_gives_one_of_two()
+    ensures dds { (shape : Shape) (cells : List Cell) (a b : Dds) (lists : Lists)
+        → Between IsDdsText (dds_block shape) cells a b → IsGiven shape cells lists
+        → (lists.dds ≡ a) ⊎ (lists.dds ≡ b) }
+    ensures sdl { (shape : Shape) (cells : List Cell) (a b : Sdl) (lists : Lists)
+        → Between IsSdlText (sdl_block shape) cells a b → IsGiven shape cells lists
+        → (lists.sdl ≡ a) ⊎ (lists.sdl ≡ b) }
+    ensures pair { (shape : Shape) (cells : List Cell) (dds : Dds) (a b : Sdl) (lists : Lists)
+        → Settled IsDdsText (dds_block shape) cells dds
+        → Between IsSdlText (sdl_block shape) cells a b → IsGiven shape cells lists
+        → (lists ≡ record { dds = dds; sdl = a }) ⊎ (lists ≡ record { dds = dds; sdl = b }) }
+    ensures dds_pair { (shape : Shape) (cells : List Cell) (a b : Dds) (sdl : Sdl) (lists : Lists)
+        → Between IsDdsText (dds_block shape) cells a b
+        → Settled IsSdlText (sdl_block shape) cells sdl → IsGiven shape cells lists
+        → (lists ≡ record { dds = a; sdl = sdl }) ⊎ (lists ≡ record { dds = b; sdl = sdl }) }
+{}
+
+/// While chosen copies are repaired, wherever that is stopped, what is given was given before.
+pub fn a_repair_gives_no_other_lists()
+    ensures dds { (shape : Shape) (old new : List Cell) (chosen : Dds) (a : ℕ)
+        → HasDdsCopy shape old chosen a
+        → ((area : ℕ) → IsArea area
+        → MayHold IsDdsText (cell_at old (dds_block shape area)) chosen (cell_at new (dds_block shape area)))
+        → ((area : ℕ) → IsArea area
+        → IsSameOrDead (cell_at old (sdl_block shape area)) (cell_at new (sdl_block shape area)))
+        → (lists : Lists) → IsGiven shape new lists → IsGiven shape old lists }
+    ensures both { (shape : Shape) (old new : List Cell) (chosen : Lists) (a b : ℕ)
+        → HasDdsCopy shape old chosen.dds a → HasSdlCopy shape old chosen.sdl b
+        → ((area : ℕ) → IsArea area
+        → MayHold IsDdsText (cell_at old (dds_block shape area)) chosen.dds (cell_at new (dds_block shape area)))
+        → ((area : ℕ) → IsArea area
+        → MayHold IsSdlText (cell_at old (sdl_block shape area)) chosen.sdl (cell_at new (sdl_block shape area)))
+        → (lists : Lists) → IsGiven shape new lists → IsGiven shape old lists }
+{}
+
+/// A disc gives no lists where no structure is chosen, and, once all copies of the chosen one are its text or dead, where
+/// it says Formatting or no secondary list belongs to it.
+pub fn a_bare_disc_gives_none()
+    ensures no_dds { (shape : Shape) (cells : List Cell)
+        → NoDdsChosen shape cells → GivesNone shape cells }
+    ensures formatting { (shape : Shape) (cells : List Cell) (dds : Dds)
+        → Settled IsDdsText (dds_block shape) cells dds → dds.state ≡ Formatting
+        → GivesNone shape cells }
+    ensures no_sdl { (shape : Shape) (cells : List Cell) (dds : Dds)
+        → Settled IsDdsText (dds_block shape) cells dds → NoSdlChosen shape cells dds
+        → GivesNone shape cells }
+{}
+
+/// The lists that are given are just those that a choice gives after some list cells have turned dead.
+pub fn given_lists_are_what_a_choice_may_give()
+    ensures may { (shape : Shape) (cells : List Cell) (lists : Lists) → IsGiven shape cells lists
+        → (after : List Cell) × LosesListCells shape cells after × AreChosen shape after lists }
+    ensures no_other { (shape : Shape) (cells after : List Cell) (lists : Lists)
+        → LosesListCells shape cells after → AreChosen shape after lists → IsGiven shape cells lists }
+{}
+
+/// Where settled lists belong together, the structure's counter is the mark of the disc.
+pub fn settled_lists_have_the_mark()
+    ensures { (shape : Shape) (cells : List Cell) (lists : Lists) (area : ℕ)
+        → AreSettled shape cells lists → lists.sdl.dds_counter ≡ lists.dds.counter
+        → HasDdsCopy shape cells lists.dds area → Mark shape cells lists.dds.counter }
+{}

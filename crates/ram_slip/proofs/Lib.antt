@@ -1,0 +1,4 @@
+pub mod Named
+pub mod Slips
+pub mod OnePlace
+pub mod Validity

@@ -1,0 +1,77 @@
+-- What the tests of validity find.
+use Rattle.std.proofs.Common.{◌≡◌, ℕ, ◌+◌, ◌-◌, ◌<◌, ◌≤◌, inl, inr, Bool, IsTrue, List, length, get_or, Some, sym, ap, ◌∙◌, subst, arith}
+use Rattle.std.specs.Prelude.{slice_get, slice_index}
+use Rattle.std.specs.List.{All, Contains}
+use Rattle.std.specs.List.Sorted.{IsStrictlyIncreasing}
+use Rattle.std.proofs.lemmas.Bool.{cases_eq}
+use Rattle.std.proofs.lemmas.List.{length-map}
+use Rattle.std.proofs.lemmas.List.Elements.{All-from_get_or}
+use Rattle.model_geometry.specs.Geometry.{Shape, data_blocks}
+use Rattle.model_geometry.proofs.DataBlocks.{Contains-slice_get}
+use Rattle.model_lists.specs.declared.dds.PdlEntry.{PdlEntry}
+use Rattle.model_lists.specs.Values.{Dds, pdl_blocks}
+use Rattle.model_places.specs.Valid.{IsValidPdl}
+use Rattle.ram_slip.proofs.Named.{block_at}
+
+long : (entries : List PdlEntry) → length (pdl_blocks entries) ≡ length entries
+long entries = length-map entries (λ (e : PdlEntry). e.block)
+
+-- ---- entries that rise
+
+-- one that does not rise
+pub not_rising : (entries : List PdlEntry) (n : ℕ) (d : PdlEntry) → 1 ≤ n → n < length entries → (get_or entries n d).block ≤ (get_or entries (n - 1) d).block → ¬ IsStrictlyIncreasing (pdl_blocks entries)
+not_rising entries n d some below less rise =
+    let next : n - 1 + 1 ≡ n = omega (arith, some) in
+    let up = subst (λ (m : ℕ). get_or (pdl_blocks entries) (n - 1) 0 < get_or (pdl_blocks entries) m 0) next (rise (n - 1) (omega (arith, some, below, long entries))) in
+    omega (arith, up, less, block_at entries (n - 1) d (omega (arith, below)), block_at entries n d below)
+
+-- one more that rises
+pub rising_more : (entries : List PdlEntry) (n : ℕ) (d : PdlEntry) → 1 ≤ n → n < length entries
+    → ((k : ℕ) → k + 1 < n → slice_index (pdl_blocks entries) k < slice_index (pdl_blocks entries) (k + 1)) → (get_or entries (n - 1) d).block < (get_or entries n d).block
+    → (k : ℕ) → k + 1 < n + 1 → slice_index (pdl_blocks entries) k < slice_index (pdl_blocks entries) (k + 1)
+rising_more entries n d some below before up k within =
+    elim (cases_eq (k + 1) n) [
+      | inl last ↦ (let at : k ≡ n - 1 = omega (arith, last) in
+          let low = ap (λ (m : ℕ). get_or (pdl_blocks entries) m 0) at in
+          let high = ap (λ (m : ℕ). get_or (pdl_blocks entries) m 0) last in
+          omega (arith, up, low, high, block_at entries (n - 1) d (omega (arith, below)), block_at entries n d below))
+      | inr earlier ↦ before k (omega (arith, within, earlier))
+    ]
+
+-- ---- entries that name data blocks
+
+-- one that names none
+pub not_data : (shape : Shape) (entries : List PdlEntry) (n : ℕ) (d : PdlEntry) → n < length entries → ¬ Contains (data_blocks shape) (get_or entries n d).block → ¬ All (Contains (data_blocks shape)) (pdl_blocks entries)
+not_data shape entries n d below none all =
+    none (subst (Contains (data_blocks shape)) (block_at entries n d below) (all n 0 (omega (arith, below, long entries))))
+
+-- one more that names one
+pub data_more : (shape : Shape) (entries : List PdlEntry) (n index : ℕ) (d : PdlEntry) → n < length entries
+    → ((k : ℕ) → k < n → Contains (data_blocks shape) (slice_index (pdl_blocks entries) k)) → slice_get (data_blocks shape) index ≡ Some (get_or entries n d).block
+    → (k : ℕ) → k < n + 1 → Contains (data_blocks shape) (slice_index (pdl_blocks entries) k)
+data_more shape entries n index d below before at k within =
+    elim (cases_eq k n) [
+      | inl last ↦ subst (Contains (data_blocks shape)) (sym (block_at entries n d below) ∙ ap (λ (m : ℕ). get_or (pdl_blocks entries) m 0) (sym last)) (Contains-slice_get (data_blocks shape) index (get_or entries n d).block at)
+      | inr earlier ↦ before k (omega (arith, within, earlier))
+    ]
+
+-- all
+pub data_all : (shape : Shape) (entries : List PdlEntry) (n : ℕ) → length entries ≤ n → ((k : ℕ) → k < n → Contains (data_blocks shape) (slice_index (pdl_blocks entries) k)) → All (Contains (data_blocks shape)) (pdl_blocks entries)
+data_all shape entries n past before =
+    All-from_get_or (Contains (data_blocks shape)) (pdl_blocks entries) 0 (λ k below. before k (omega (arith, below, past, long entries)))
+
+-- ---- both
+
+-- where all but the data blocks is as it is to be, these decide
+pub valid_if_data : (shape : Shape) (dds : Dds) (entries : List PdlEntry) (psa limit : ℕ) (found : Bool) → entries ≡ dds.entries → dds.psa ≡ psa → psa ≡ shape.psa → length entries ≤ limit → limit ≡ shape.psa
+    → IsStrictlyIncreasing (pdl_blocks entries) → (IsTrue found → All (Contains (data_blocks shape)) (pdl_blocks entries)) × (All (Contains (data_blocks shape)) (pdl_blocks entries) → IsTrue found)
+    → (IsTrue found → IsValidPdl shape dds) × (IsValidPdl shape dds → IsTrue found)
+valid_if_data shape dds entries psa limit found same named psa_is few limit_is rise tells = (
+  λ t. record {
+    same_psa = named ∙ psa_is;
+    data_only = subst (λ (es : List PdlEntry). All (Contains (data_blocks shape)) (pdl_blocks es)) same (tells.0 t);
+    rising = subst (λ (es : List PdlEntry). IsStrictlyIncreasing (pdl_blocks es)) same rise;
+    few = omega (arith, few, limit_is, ap (λ (es : List PdlEntry). length es) same);
+  },
+  λ valid. tells.1 (subst (λ (es : List PdlEntry). All (Contains (data_blocks shape)) (pdl_blocks es)) (sym same) valid.data_only),
+)

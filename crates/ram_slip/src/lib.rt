@@ -1,0 +1,15 @@
+//! Slipping: which block a logical block is, and what a block is to a disc, by sums over the zones and the blocks that
+//! are slipped, without a list of all data blocks.
+#![tactic(auto)]
+
+mod entries;
+mod place;
+mod slip;
+mod valid;
+
+pub use place::{Place, a_block_has_one_place};
+pub use slip::{physical, place_of};
+pub use valid::{is_valid_pdl, is_valid_ssa};
+
+#[cfg(test)]
+mod tests;

@@ -1,0 +1,34 @@
+//! What a block is to a disc with a primary defect list.
+
+ghost use Rattle.std.specs.Prelude.{◌≡◌, ℕ};
+ghost use Rattle.model_geometry.specs.Geometry.{Shape};
+ghost use Rattle.model_lists.specs.Values.{Dds};
+ghost use Rattle.model_places.specs.Valid.{IsValidPdl, IsValidSsa};
+ghost use Rattle.ram_slip.specs.declared.place.Place.{Place};
+ghost use Rattle.ram_slip.specs.Place.{IsPlaced};
+
+/// What a block is to a disc.
+#[derive(Clone, Copy, Debug, PartialEq, Eq)]
+pub enum Place {
+    /// A logical block.
+    Logical {
+        /// Its number, counted from 0.
+        i: u32,
+    },
+    /// A primary spare.
+    Primary,
+    /// A supplementary spare.
+    Supplementary,
+    /// A block of the primary defect list, which is never used.
+    Slipped,
+    /// No data block.
+    Outside,
+}
+
+/// A block is one of these things at most, and one logical block at most. So each answer of `place_of` comes exactly
+/// where it says what the block is.
+pub fn a_block_has_one_place()
+    ensures { (shape : Shape) (dds : Dds) (ssa block : ℕ) (a b : Place)
+        → IsValidPdl shape dds → IsValidSsa shape ssa
+        → IsPlaced shape dds ssa block a → IsPlaced shape dds ssa block b → a ≡ b }
+{}

@@ -1,0 +1,87 @@
+//! From a logical block to its block, and from a block to what it is. Only the entries of the primary defect list are
+//! looked at; the data blocks are counted by sums.
+
+ghost use Rattle.std.specs.Prelude.{◌≡◌, ◌+◌, ◌<◌, length, slice_index};
+ghost use Rattle.std.specs.List.Sorted.{IsStrictlyIncreasing};
+ghost use Rattle.model_geometry.specs.Geometry.{IsLawful, data_blocks};
+ghost use Rattle.model_lists.specs.Values.{pdl_blocks};
+ghost use Rattle.model_places.specs.Places.{unslipped, primary_count, logical_block};
+ghost use Rattle.model_places.specs.Valid.{IsValidPdl, IsValidSsa};
+ghost use Rattle.ram_dds.specs.Dds.{dds_of};
+ghost use Rattle.ram_slip.specs.Counts.{IsCountPassed};
+ghost use Rattle.ram_slip.specs.Place.{IsPlaced};
+
+use crate::entries::{count_before, is_named};
+use crate::place::Place;
+use ram_dds::{DdsPdl, PdlEntry};
+use ram_zones::Geometry;
+
+/// The `n`-th data block, which there is.
+fn data_block(geometry: &Geometry, n: u32) -> u32
+    requires { n < length (data_blocks geometry.now) }
+    ensures { result ≡ slice_index (data_blocks geometry.now) n }
+{
+    match geometry.data_block(n) {
+        Some(block) => block,
+        None => unreachable!(),
+    }
+}
+
+/// How many slipped blocks come before the block at this place of those that are not slipped, by halving.
+fn count_passed(geometry: &Geometry, entries: &[PdlEntry], place: u32) -> usize
+    requires lawful { IsLawful geometry.now }
+    requires rising { IsStrictlyIncreasing (pdl_blocks entries.now) }
+    requires inside { place + length entries.now < length (data_blocks geometry.now) }
+    ensures { IsCountPassed geometry.now entries.now place result }
+{
+    let mut low = 0;
+    let mut high = entries.len();
+    while low < high {
+        let middle = low + (high - low) / 2;
+        if entries[middle].block <= data_block(geometry, place + middle as u32) {
+            low = middle + 1;
+        } else {
+            high = middle;
+        }
+    }
+    low
+}
+
+/// The block of logical block `i`, or of the supplementary spare that comes as many places after logical block 0.
+pub fn physical(geometry: &Geometry, dds: &DdsPdl, i: u32) -> u32
+    requires valid { IsValidPdl geometry.now (dds_of dds.now) }
+    requires inside { primary_count geometry.now (dds_of dds.now) + i
+        < length (unslipped geometry.now (dds_of dds.now)) }
+    ensures { result ≡ logical_block geometry.now (dds_of dds.now) i }
+{
+    let entries = dds.entries.as_slice();
+    let place = geometry.psa() - entries.len() as u32 + i;
+    let passed = count_passed(geometry, entries, place);
+    data_block(geometry, place + passed as u32)
+}
+
+/// What a block is to a disc with so many supplementary spares.
+pub fn place_of(geometry: &Geometry, dds: &DdsPdl, ssa: u32, block: u32) -> Place
+    requires valid { IsValidPdl geometry.now (dds_of dds.now) }
+    requires area { IsValidSsa geometry.now ssa }
+    ensures { IsPlaced geometry.now (dds_of dds.now) ssa block result }
+{
+    let Some(index) = geometry.data_index(block) else {
+        return Place::Outside;
+    };
+    let entries = dds.entries.as_slice();
+    let before = count_before(entries, block);
+    if is_named(entries, before, block) {
+        return Place::Slipped;
+    }
+    let place = index - before as u32;
+    let primary = geometry.psa() - entries.len() as u32;
+    if place < primary {
+        return Place::Primary;
+    }
+    let i = place - primary;
+    if i < geometry.data_blocks() - geometry.psa() - ssa {
+        return Place::Logical { i };
+    }
+    Place::Supplementary
+}
