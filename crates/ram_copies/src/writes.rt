@@ -25,7 +25,8 @@ pub fn write_copies<M: Medium>(
         (StopsWriting M.world M.reaches medium.old medium.new
         (λ area. list_block geometry.now area list) text.now 8) }
     ensures counts { IfOk result
-        (CountsReadable M.world M.reaches medium.old medium.new (λ area. list_block geometry.now area list) text.now 4) }
+        (CountsReadable M.world M.reaches medium.old medium.new
+        (λ area. list_block geometry.now area list) text.now 4) }
     ensures as_many { M.block_count medium.new ≡ M.block_count medium.old }
 {
     let mut readable = 0;
