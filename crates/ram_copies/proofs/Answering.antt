@@ -1,19 +1,18 @@
 -- From the looks at all copies to the answer of a choice.
-use Rattle.std.specs.Prelude.{◌≡◌, ℕ, ◌+◌, ◌≤◌, ◌⊎◌, true, IsTrue, MatchResult, IfOk, IfSome, Option, Some, None, List}
-use Rattle.std.proofs.Common.{Result, Ok, Err, refl, sym, ap, ◌∙◌, inl, inr, subst, arith}
+use Rattle.std.specs.Prelude.{◌≡◌, ℕ, ◌⊎◌, IsTrue, MatchResult, IfOk, IfSome, Option, Some, None, List}
+use Rattle.std.proofs.Common.{Result, Ok, Err, inl, inr}
 use Rattle.model_geometry.specs.Geometry.{Shape}
 use Rattle.model_medium.specs.Cells.{Cell, Dead, IsSameOrDead, cell_at}
 use Rattle.model_medium.specs.World.{World}
-use Rattle.model_stops.specs.declared.Stop.{Stop}
 use Rattle.model_stops.specs.declared.Stop.TheVariants as stops
-use Rattle.model_copies.specs.Copies.{IsArea, HasCopy, IsChosen, NoneChosen, IsGreatestMark, IsSeen}
+use Rattle.model_copies.specs.Copies.{IsChosen, NoneChosen, IsGreatestMark}
 use Rattle.ram_medium.specs.Laws.{MediumLaws}
 use Rattle.ram_zones.specs.declared.list_kind.ListKind.{ListKind}
 use Rattle.ram_zones.specs.ListKind.{list_block}
 use Rattle.ram_copies.specs.Values.{ListValue, IsText, IsInGrammar, counter_of, mark_of}
-use Rattle.ram_copies.specs.Calls.{ChangesCopiesAlone, Ends, IsStopped}
-use Rattle.ram_copies.specs.Choices.{BestUpTo, NoneUpTo, IsBest, IsGreatestMarkUpTo, held_of, OnlyLooks, HasLooked, HaltsLookingAt}
-use Rattle.ram_copies.specs.Chooses.{SawCopies, RunsOutOfMemory, IsMarkSeen, Finds, FindsNone, ChooseRule, found_of, chosen_of}
+use Rattle.ram_copies.specs.Calls.{ChangesCopiesAlone}
+use Rattle.ram_copies.specs.Choices.{NoneUpTo, IsBest, IsGreatestMarkUpTo, held_of, OnlyLooks, HasLooked, HaltsLookingAt}
+use Rattle.ram_copies.specs.Chooses.{SawCopies, ChooseRule, found_of, chosen_of}
 use Rattle.ram_copies.specs.declared.looks.Held.{Held}
 use Rattle.ram_copies.specs.declared.looks.Choice.{Choice}
 use Rattle.ram_copies.specs.declared.looks.Halt.{Halt}

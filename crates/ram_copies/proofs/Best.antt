@@ -1,15 +1,15 @@
 -- The best of the copies so far, and one more.
 use Rattle.std.specs.Prelude.{◌≡◌, ℕ, ◌+◌, ◌<◌, ◌≤◌, ◌⊎◌, Option, Some, None, List}
-use Rattle.std.proofs.Common.{refl, sym, ap, ◌∙◌, inl, inr, subst, arith}
+use Rattle.std.proofs.Common.{refl, sym, ap, inl, inr, subst, arith}
 use Rattle.std.proofs.lemmas.Bool.{cases_eq}
 use Rattle.model_lists.proofs.DdsTexts as dds_texts
 use Rattle.model_lists.proofs.SdlTexts as sdl_texts
 use Rattle.model_medium.specs.Cells.{Cell, Blank, Good, Torn, Dead, cell_at}
-use Rattle.model_copies.specs.Copies.{IsArea, Holds, HasCopy}
+use Rattle.model_copies.specs.Copies.{Holds, HasCopy}
 use Rattle.ram_zones.specs.declared.list_kind.ListKind.{ListKind}
 use Rattle.ram_zones.specs.declared.list_kind.ListKind.TheVariants as kinds
 use Rattle.ram_copies.specs.Values.{ListValue, DdsValue, SdlValue, IsText, counter_of, mark_of}
-use Rattle.ram_copies.specs.Choices.{IsBest, NoneUpTo, BestUpTo, SeenAt, IsGreatestMarkUpTo, IsMarkedUpTo}
+use Rattle.ram_copies.specs.Choices.{IsBest, NoneUpTo, BestUpTo, SeenAt, IsGreatestMarkUpTo}
 
 -- a block is the text of one value at most
 pub one_value : (kind : ListKind) (v w : ListValue) (block : List ℕ) → IsText kind v block → IsText kind w block → v ≡ w

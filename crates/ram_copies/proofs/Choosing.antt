@@ -1,9 +1,9 @@
 -- How the copies of a list are looked at, one after another.
-use Rattle.std.specs.Prelude.{◌≡◌, ◌≢◌, ℕ, ◌+◌, ◌<◌, ◌≤◌, ◌⊎◌, true, IsTrue, Option, Some, None, List}
-use Rattle.std.proofs.Common.{refl, sym, ap, ◌∙◌, inl, inr, subst, arith}
+use Rattle.std.specs.Prelude.{◌≡◌, ◌≢◌, ℕ, ◌+◌, ◌<◌, ◌≤◌, IsTrue, Option, Some, None, List}
+use Rattle.std.proofs.Common.{refl, sym, ◌∙◌, inl, inr, subst, arith}
 use Rattle.std.proofs.lemmas.Bool.{cases_eq}
 use Rattle.model_geometry.specs.Geometry.{Shape}
-use Rattle.model_medium.specs.Cells.{Cell, Dead, IsSameOrDead, cell_at}
+use Rattle.model_medium.specs.Cells.{Cell, IsSameOrDead, cell_at}
 use Rattle.model_medium.specs.World.{World}
 use Rattle.model_copies.specs.Copies.{IsArea, Holds, HasCopy}
 use Rattle.ram_medium.specs.Laws.{MediumLaws}
@@ -11,8 +11,8 @@ use Rattle.ram_medium.proofs.Parts.{continues_none, continues_then}
 use Rattle.ram_zones.specs.declared.list_kind.ListKind.{ListKind}
 use Rattle.ram_zones.specs.ListKind.{list_block}
 use Rattle.ram_copies.proofs.Writing.{places_apart}
-use Rattle.ram_copies.specs.Values.{ListValue, IsText, mark_of}
-use Rattle.ram_copies.specs.Choices.{IsBest, NoneUpTo, BestUpTo, SeenAt, IsGreatestMarkUpTo, IsMarkedUpTo}
+use Rattle.ram_copies.specs.Values.{ListValue, IsText}
+use Rattle.ram_copies.specs.Choices.{BestUpTo, SeenAt, IsGreatestMarkUpTo}
 use Rattle.ram_copies.specs.Choices.{CellSays, LooksAt, HasLooked, HaltsLooking, OnlyLooks, HaltsLookingAt}
 use Rattle.ram_copies.specs.declared.looks.Halt.{Halt}
 use Rattle.ram_copies.proofs.Halting.{halts_later}

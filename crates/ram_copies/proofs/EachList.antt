@@ -1,5 +1,5 @@
 -- A copy of either kind of list as one of its own list, and back.
-use Rattle.std.specs.Prelude.{◌≡◌, ℕ, ◌<◌, ◌≤◌, ◌⊎◌, Option, Some, None, List}
+use Rattle.std.specs.Prelude.{◌≡◌, ℕ, Option, Some, None, List}
 use Rattle.std.proofs.Common.{refl, sym, ap, ◌∙◌, inl, inr, subst}
 use Rattle.model_geometry.specs.Geometry.{Shape, dds_block, sdl_block}
 use Rattle.model_lists.specs.Values.{Dds, Sdl}
@@ -7,7 +7,7 @@ use Rattle.model_lists.specs.Texts.{IsDdsText, IsSdlText}
 use Rattle.model_lists.proofs.DdsTexts as dds_texts
 use Rattle.model_lists.proofs.SdlTexts as sdl_texts
 use Rattle.model_medium.specs.Cells.{Cell, Blank, Good, Torn, Dead, cell_at}
-use Rattle.model_copies.specs.Copies.{IsArea, Holds, HoldsOrDead, MayHold, HasCopy, Settled, IsChosen, NoneChosen, IsMarked, IsGreatestMark}
+use Rattle.model_copies.specs.Copies.{Holds, HoldsOrDead, MayHold, HasCopy, Settled, IsChosen, NoneChosen, IsGreatestMark}
 use Rattle.ram_zones.specs.declared.list_kind.ListKind.{ListKind}
 use Rattle.ram_zones.specs.declared.list_kind.ListKind.TheVariants as kinds
 use Rattle.ram_zones.specs.ListKind.{list_block}

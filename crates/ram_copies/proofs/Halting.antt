@@ -1,14 +1,14 @@
 -- Uses up to a halt add up.
-use Rattle.std.specs.Prelude.{◌≡◌, ℕ, ◌+◌, ◌≤◌, IsTrue}
+use Rattle.std.specs.Prelude.{ℕ, ◌+◌, ◌≤◌}
 use Rattle.std.proofs.Common.{arith}
 use Rattle.model_medium.specs.World.{World}
-use Rattle.model_stops.specs.Stops.{Continues, Stops}
+use Rattle.model_stops.specs.Stops.{Continues}
 use Rattle.ram_medium.specs.Laws.{MediumLaws}
-use Rattle.ram_medium.proofs.Parts.{continues_none, continues_then, stops_later, stops_within}
+use Rattle.ram_medium.proofs.Parts.{continues_then, stops_later, stops_within}
 use Rattle.ram_zones.specs.declared.list_kind.ListKind.{ListKind}
 use Rattle.ram_copies.specs.declared.looks.Halt.{Halt}
 use Rattle.ram_copies.specs.declared.looks.Halt.TheVariants as halts
-use Rattle.ram_copies.specs.Choices.{ContinuesWithin, HaltsWithin}
+use Rattle.ram_copies.specs.Choices.{HaltsWithin}
 
 module _ {M : Type 0} (world : M → World) (block_count : M → ℕ) (reaches : M → M → ℕ → Type 0) (laws : MediumLaws world block_count reaches) (kind : ListKind) (old mid new : M) (j k most : ℕ) (fits : j + k ≤ most) (first : Continues world reaches old mid j) where
   pub halts_later : (halt : Halt) → HaltsWithin world reaches kind mid new k halt → HaltsWithin world reaches kind old new most halt

@@ -20,7 +20,7 @@ use Rattle.ram_zones.specs.ListKind.{list_block}
 use Rattle.ram_copies.specs.Values.{ListValue, DdsValue, SdlValue, IsText}
 use Rattle.ram_copies.specs.Writes.{HasWritten, StopsWriting, CountsReadable}
 use Rattle.ram_copies.specs.Repairs.{Rewrites, MendLeaves, HasRepaired, StopsRepairing}
-use Rattle.ram_copies.specs.Calls.{StoppedCounts, ChangesCopiesAlone, Ends, IsStopped, Keeps, MayLeaveCopies, SparesExactCopies, UpdateRule, Repairs, RepairRule, updated_of}
+use Rattle.ram_copies.specs.Calls.{StoppedCounts, ChangesCopiesAlone, Ends, StoppedWithin, Keeps, MayLeaveCopies, SparesExactCopies, UpdateRule, Repairs, RepairRule, updated_of}
 use Rattle.ram_copies.specs.declared.updates.Updated.TheVariants as updates
 
 -- each value has one text
@@ -104,7 +104,7 @@ module _ {M : Type 0} (world : M → World) (block_count : M → ℕ) (reaches :
   ends_by : (uses : ℕ) → Continues world reaches old new uses → ChangesCopiesAlone world reaches kind shape old new → Ends world reaches kind shape old new uses
   ends_by uses continues alone = record { was_on = on; continues = continues; counts = quiet_counts world block_count reaches laws old new uses continues; alone = alone }
 
-  stopped_by : (most : ℕ) (stop : Stop) → Stops world reaches old new most stop → StoppedCounts (world old) (world new) stop → ChangesCopiesAlone world reaches kind shape old new → IsStopped world reaches kind shape old new most stop
+  stopped_by : (most : ℕ) (stop : Stop) → Stops world reaches old new most stop → StoppedCounts (world old) (world new) stop → ChangesCopiesAlone world reaches kind shape old new → StoppedWithin world reaches kind shape old new most stop
   stopped_by most stop stops counts alone = record { was_on = on; stops = stops; counts = counts; alone = alone }
 
   keeps_by : (n : ℕ) → ((area : ℕ) → 1 ≤ area → area ≤ 4 → (cell_at (world new).cells (list_block shape area kind) ≡ Good text) ⊎ (cell_at (world new).cells (list_block shape area kind) ≡ Dead))

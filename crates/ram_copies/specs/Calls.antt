@@ -36,7 +36,7 @@ module _ {M : Type 0} (world : M → World) (reaches : M → M → ℕ → Type 
     pub alone : ChangesCopiesAlone
 
   -- The call was stopped within so many uses, for a cause that its count shows.
-  pub record IsStopped (most : ℕ) (stop : Stop) : Type 0 where
+  pub record StoppedWithin (most : ℕ) (stop : Stop) : Type 0 where
     pub was_on : IsTrue (world old).power
     pub stops : Stops world reaches old new most stop
     pub counts : StoppedCounts (world old) (world new) stop
@@ -68,9 +68,9 @@ module _ {M : Type 0} (world : M → World) (reaches : M → M → ℕ → Type 
     abbrev pub UpdateRule : Updated → Type 0
     UpdateRule (updates.Kept readable) = Ends 8 × Keeps readable
     UpdateRule updates.NoCopy = Ends 8 × LeavesNone
-    UpdateRule updates.Cut = IsStopped 8 stops.Cut × MayLeaveCopies
+    UpdateRule updates.Cut = StoppedWithin 8 stops.Cut × MayLeaveCopies
     UpdateRule updates.Off = IsOff (world old) (world new)
-    UpdateRule updates.Fault = IsStopped 8 stops.Fault × MayLeaveCopies
+    UpdateRule updates.Fault = StoppedWithin 8 stops.Fault × MayLeaveCopies
 
     -- a repair went to its end: it read each copy, and wrote and read back those that were not exactly the text
     pub record Repairs : Type 0 where
@@ -85,9 +85,9 @@ module _ {M : Type 0} (world : M → World) (reaches : M → M → ℕ → Type 
     abbrev pub RepairRule : Updated → Type 0
     RepairRule (updates.Kept readable) = Repairs × Keeps readable
     RepairRule updates.NoCopy = Repairs × LeavesNone
-    RepairRule updates.Cut = IsStopped 12 stops.Cut × MayLeaveCopies × SparesExactCopies
+    RepairRule updates.Cut = StoppedWithin 12 stops.Cut × MayLeaveCopies × SparesExactCopies
     RepairRule updates.Off = IsOff (world old) (world new)
-    RepairRule updates.Fault = IsStopped 12 stops.Fault × MayLeaveCopies × SparesExactCopies
+    RepairRule updates.Fault = StoppedWithin 12 stops.Fault × MayLeaveCopies × SparesExactCopies
 
 -- the answer for the number of copies that can be read, or the cause of a stop
 abbrev pub updated_of : Result ℕ Stop → Updated

@@ -1,9 +1,8 @@
 -- What looking at the copies of a list finds, area after area: for `look_at`, `consider`, `higher` and `look_at_copies`.
-use Rattle.std.specs.Prelude.{◌≡◌, ◌≢◌, ℕ, ◌+◌, ◌<◌, ◌≤◌, ◌⊎◌, true, IsTrue, Option, Some, None, option_map, List}
+use Rattle.std.specs.Prelude.{◌≡◌, ◌≢◌, ℕ, ◌<◌, ◌≤◌, ◌⊎◌, true, Option, Some, None, List}
 use Rattle.model_medium.specs.Cells.{Cell, IsSameOrDead, cell_at}
 use Rattle.model_medium.specs.World.{World}
 use Rattle.model_stops.specs.Stops.{Continues, Stops}
-use Rattle.model_stops.specs.declared.Stop.{Stop}
 use Rattle.model_copies.specs.Copies.{IsArea, Holds, HasCopy}
 use Rattle.ram_zones.specs.declared.list_kind.ListKind.{ListKind}
 use Rattle.ram_copies.specs.Values.{ListValue, IsText, counter_of, mark_of}

@@ -8,7 +8,7 @@ use Rattle.model_copies.specs.Copies.{IsChosen, NoneChosen, IsGreatestMark, IsSe
 use Rattle.ram_zones.specs.declared.list_kind.ListKind.{ListKind}
 use Rattle.ram_zones.specs.ListKind.{list_block}
 use Rattle.ram_copies.specs.Values.{ListValue, IsText, IsInGrammar, counter_of, mark_of}
-use Rattle.ram_copies.specs.Calls.{ChangesCopiesAlone, Ends, IsStopped}
+use Rattle.ram_copies.specs.Calls.{ChangesCopiesAlone, Ends, StoppedWithin}
 use Rattle.ram_copies.specs.declared.choice.Chosen.{Chosen}
 use Rattle.ram_copies.specs.declared.choice.Chosen.TheVariants as chosens
 use Rattle.ram_copies.specs.declared.looks.Held.{Held}
@@ -50,9 +50,9 @@ module _ {M : Type 0} (world : M → World) (reaches : M → M → ℕ → Type 
     abbrev pub ChooseRule : {T : Type 0} → (T → ListValue) → Chosen T → Type 0
     ChooseRule value_of (chosens.Found value area mark) = Ends world reaches kind shape old new 4 × SawCopies × Finds (value_of value) area × IsMarkSeen mark
     ChooseRule value_of (chosens.Nothing mark) = Ends world reaches kind shape old new 4 × SawCopies × FindsNone × IsMarkSeen mark
-    ChooseRule value_of chosens.Cut = IsStopped world reaches kind shape old new 4 stops.Cut × SawCopies
+    ChooseRule value_of chosens.Cut = StoppedWithin world reaches kind shape old new 4 stops.Cut × SawCopies
     ChooseRule value_of chosens.Off = IsOff (world old) (world new)
-    ChooseRule value_of chosens.Fault = IsStopped world reaches kind shape old new 4 stops.Fault × SawCopies
+    ChooseRule value_of chosens.Fault = StoppedWithin world reaches kind shape old new 4 stops.Fault × SawCopies
     ChooseRule value_of chosens.NoMemory = RunsOutOfMemory × SawCopies
 
 -- the answer for what was found

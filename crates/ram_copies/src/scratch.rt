@@ -1,5 +1,8 @@
 //! The two blocks of memory that work on copies needs.
 
+ghost use Rattle.std.specs.Prelude.{◌≡◌, IfOk, replicate};
+ghost use Rattle.ram_bytes.specs.declared.block.TheConstants.{BLOCK_BYTES};
+
 use ram_bytes::Block;
 use std::alloc::{AllocError, Global};
 
@@ -13,8 +16,11 @@ pub struct Scratch {
 }
 
 impl Scratch {
-    /// Takes the memory of both blocks.
-    pub fn new(alloc: Global) -> Result<Scratch, AllocError> {
+    /// Takes the memory of both blocks, which are zeros.
+    pub fn new(alloc: Global) -> Result<Scratch, AllocError>
+        ensures { IfOk result
+            (λ s. (s.text ≡ replicate BLOCK_BYTES 0) × (s.room ≡ replicate BLOCK_BYTES 0)) }
+    {
         Ok(Scratch {
             text: Block::zeros(alloc)?,
             room: Block::zeros(alloc)?,

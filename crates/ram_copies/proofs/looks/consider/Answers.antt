@@ -1,5 +1,4 @@
-use Rattle.std.specs.Prelude.{◌≡◌, Option, Some, None, option_map}
-use Rattle.std.proofs.Common.{sym, refl, ap, ◌∙◌, subst, arith}
+use Rattle.std.proofs.Common.{sym, ◌∙◌, arith}
 use Rattle.std.proofs.lemmas.Bool.{true≢false}
 use Rattle.ram_copies.specs.Choices.{held_of}
 use Rattle.ram_copies.proofs.Best.{nothing_there, refused_there, first_there, greater_there, kept_there}

@@ -1,6 +1,5 @@
-use Rattle.std.specs.Prelude.{◌≡◌, ℕ, ◌+◌, Option, Some, None, option_map}
-use Rattle.std.proofs.Common.{sym, refl, ap, ◌∙◌, subst, arith}
-use Rattle.model_medium.specs.Cells.{Cell}
+use Rattle.std.specs.Prelude.{ℕ, ◌+◌}
+use Rattle.std.proofs.Common.{sym, subst, arith}
 use Rattle.ram_copies.specs.Choices.{IsGreatestMarkUpTo}
 use Rattle.ram_copies.proofs.Best.{mark_none, mark_kept, mark_raised}
 use Rattle.ram_copies.specs.Values.{ListValue}

@@ -1,5 +1,5 @@
 use Rattle.std.specs.Prelude.{option_map, ℕ, ◌≡◌}
-use Rattle.std.proofs.Common.{sym, refl, ap, ◌∙◌, subst, arith}
+use Rattle.std.proofs.Common.{refl, ◌∙◌, subst, arith}
 use Rattle.std.proofs.lemmas.Result.{err_from_is_err_and}
 use Rattle.ram_zones.specs.ListKind.{list_block}
 use Rattle.ram_copies.specs.Choices.{held_of, HasLooked}
