@@ -27,7 +27,7 @@ use Rattle.ram_zones.specs.declared.list_kind.ListKind.{ListKind}
 use Rattle.ram_zones.specs.declared.list_kind.ListKind.TheVariants as kinds
 use Rattle.ram_zones.specs.ListKind.{list_block}
 use Rattle.ram_copies.specs.Values.{ListValue, DdsValue, SdlValue, IsText, counter_of, mark_of}
-use Rattle.ram_copies.specs.Calls.{StoppedCounts, ChangesCopiesAlone, Ends, IsStopped, MayLeaveCopies}
+use Rattle.ram_copies.specs.Calls.{StoppedCounts, ChangesCopiesAlone, Ends, StoppedWithin, MayLeaveCopies}
 use Rattle.ram_copies.specs.Chooses.{SawCopies, RunsOutOfMemory, IsMarkSeen, Finds, FindsNone}
 use Rattle.ram_copies.proofs.EachList.{dds_settled, dds_chosen, dds_none, dds_marked, dds_may_hold, sdl_settled, sdl_chosen, sdl_none, sdl_marked, sdl_may_hold}
 use Rattle.ram_lists.specs.Lists.{AcceptsDds, AcceptsSdl, AcceptsNothing}
@@ -176,7 +176,7 @@ module _ {M : Type 0} (world : M → World) (block_count : M → ℕ) (reaches :
   counts_later old mid new stops.Off first off = absurd (off.was_off first.stays_on)
   counts_later old mid new stops.Fault first fail = record { turns_off = fail.turns_off; no_cut = fail.no_cut ∙ first.no_cut; fault = subst (λ (n : ℕ). Rose n (world new).faults) first.no_fault fail.fault }
 
-  stopped_later : (kind : ListKind) (old mid new : M) (j most : ℕ) (stop : Stop) → j + most ≤ 32 → Gone old mid j → IsStopped world reaches kind shape mid new most stop → KeepsGiven shape (world mid) (world new) → WasStopped world reaches shape old new stop
+  stopped_later : (kind : ListKind) (old mid new : M) (j most : ℕ) (stop : Stop) → j + most ≤ 32 → Gone old mid j → StoppedWithin world reaches kind shape mid new most stop → KeepsGiven shape (world mid) (world new) → WasStopped world reaches shape old new stop
   stopped_later kind old mid new j most stop few gone stopped keeps = record {
     was_on = gone.was_on;
     stops = stops_within world block_count reaches laws old new (j + most) 32 stop few (stops_later world block_count reaches laws old mid new j most stop gone.continues stopped.stops);

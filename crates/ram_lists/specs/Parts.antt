@@ -7,7 +7,7 @@ use Rattle.model_copies.specs.Copies.{Settled}
 use Rattle.ram_zones.specs.declared.list_kind.ListKind.{ListKind}
 use Rattle.ram_zones.specs.ListKind.{list_block}
 use Rattle.ram_copies.specs.Values.{ListValue, IsText}
-use Rattle.ram_copies.specs.Calls.{Ends, IsStopped, MayLeaveCopies}
+use Rattle.ram_copies.specs.Calls.{Ends, StoppedWithin, MayLeaveCopies}
 use Rattle.ram_copies.specs.Chooses.{SawCopies, RunsOutOfMemory, IsMarkSeen, Finds, FindsNone}
 use Rattle.ram_lists.specs.declared.parts.Picked.{Picked}
 use Rattle.ram_lists.specs.declared.ends.End.{End}
@@ -34,9 +34,9 @@ module _ {M : Type 0} (world : M → World) (reaches : M → M → ℕ → Type 
 
   -- the choice ended before its end
   abbrev pub EndsPicking : End → Type 0
-  EndsPicking ends.Cut = IsStopped world reaches kind shape old new 4 stops.Cut × SawCopies world reaches kind shape old new
+  EndsPicking ends.Cut = StoppedWithin world reaches kind shape old new 4 stops.Cut × SawCopies world reaches kind shape old new
   EndsPicking ends.Off = IsOff (world old) (world new)
-  EndsPicking ends.Fault = IsStopped world reaches kind shape old new 4 stops.Fault × SawCopies world reaches kind shape old new
+  EndsPicking ends.Fault = StoppedWithin world reaches kind shape old new 4 stops.Fault × SawCopies world reaches kind shape old new
   EndsPicking ends.NoMemory = RunsOutOfMemory world reaches kind shape old new × SawCopies world reaches kind shape old new
 
   module _ (value : ListValue) where
@@ -49,7 +49,7 @@ module _ {M : Type 0} (world : M → World) (reaches : M → M → ℕ → Type 
 
     -- the repair ended before its end
     abbrev pub EndsMending : End → Type 0
-    EndsMending ends.Cut = IsStopped world reaches kind shape old new 12 stops.Cut × MayLeaveCopies world reaches kind shape old new value
+    EndsMending ends.Cut = StoppedWithin world reaches kind shape old new 12 stops.Cut × MayLeaveCopies world reaches kind shape old new value
     EndsMending ends.Off = IsOff (world old) (world new)
-    EndsMending ends.Fault = IsStopped world reaches kind shape old new 12 stops.Fault × MayLeaveCopies world reaches kind shape old new value
+    EndsMending ends.Fault = StoppedWithin world reaches kind shape old new 12 stops.Fault × MayLeaveCopies world reaches kind shape old new value
     EndsMending ends.NoMemory = ⊥
