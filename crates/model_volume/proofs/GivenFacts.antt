@@ -36,6 +36,11 @@ chosen_given shape cells lists chosen = record {
   valid = chosen_valid shape cells lists chosen;
 }
 
+pub chosen_given_later : (shape : Shape) (old new : List Cell) (lists : Lists) (dds_area sdl_area : ℕ) → AreChosen shape old lists
+    → HasDdsCopy shape new lists.dds dds_area → HasSdlCopy shape new lists.sdl sdl_area → IsGiven shape new lists
+chosen_given_later shape old new lists dds_area sdl_area chosen dds sdl =
+    record { dds_area = dds_area; dds_copy = dds; sdl_area = sdl_area; sdl_copy = sdl; valid = chosen_valid shape old lists chosen }
+
 -- of two counters and areas, each no worse than the other, the areas are the same
 same_area : (c d a b : ℕ) → (d < c) ⊎ ((d ≡ c) × (a ≤ b)) → (c < d) ⊎ ((c ≡ d) × (b ≤ a)) → a ≡ b
 same_area c d a b one two = grind (arith, one, two)

@@ -11,10 +11,14 @@ ghost use Rattle.model_places.specs.Places.{Lists, logical_count};
 ghost use Rattle.model_places.specs.Valid.{AreValid};
 ghost use Rattle.model_volume.specs.Given.{IsGiven, GivesNone, IsChosenDds, IsChosenSdl, AreChosen, ChoosesNone, NoDdsChosen, NoSdlChosen, AreSettled, AreSeen, LosesListCells};
 
-/// The lists that are chosen are given.
+/// The lists that are chosen are given, and still are where the cells have changed, while a copy of each can be read.
 pub fn chosen_lists_are_given()
-    ensures { (shape : Shape) (cells : List Cell) (lists : Lists)
+    ensures now { (shape : Shape) (cells : List Cell) (lists : Lists)
         → AreChosen shape cells lists → IsGiven shape cells lists }
+    ensures later { (shape : Shape) (old new : List Cell) (lists : Lists) (dds_area sdl_area : ℕ)
+        → AreChosen shape old lists
+        → HasDdsCopy shape new lists.dds dds_area → HasSdlCopy shape new lists.sdl sdl_area
+        → IsGiven shape new lists }
 {}
 
 /// Given and chosen lists are valid, and have a logical block. So a disc without sectors fits none.
