@@ -12,3 +12,6 @@ pub use entries::is_valid_sdl;
 pub use fits::{DdsFits, SdlFits};
 pub use lists::{Lists, home};
 pub use mounting::{Mounted, mount};
+
+#[cfg(test)]
+mod tests;
