@@ -2,7 +2,7 @@
 use Rattle.std.specs.Prelude.{◌≡◌, ℕ, zero, suc, ◌≤◌, ◌⊎◌, List}
 use Rattle.std.proofs.Common.{refl, sym, ap, inl, inr, subst, arith}
 use Rattle.model_medium.specs.Cells.{Cell, Blank, Good, Torn, Dead, IsSameOrDead, cell_at}
-use Rattle.model_copies.specs.Copies.{IsArea, Holds, HoldsOrDead, HoldsEither, MayHold, HasCopy, Settled, Between, IsSeen, AllLost, one_if_good, good_count}
+use Rattle.model_copies.specs.Copies.{IsArea, Holds, HoldsOrDead, HoldsEither, MayHold, HasCopy, Settled, AreBetween, IsSeen, AllLost, one_if_good, good_count}
 
 -- a block is the text of one value at most
 abbrev pub OneValue : {V : Type 0} → (V → List ℕ → Type 0) → Type 0
@@ -44,8 +44,8 @@ module _ {V : Type 0} (text : V → List ℕ → Type 0) where
   either_left old new a b was (inr (inr (inl torn))) = subst (λ (c : Cell). HoldsEither text c a b) (sym torn) tt
   either_left old new a b was (inr (inr (inr dead))) = subst (λ (c : Cell). HoldsEither text c a b) (sym dead) tt
 
-  pub between_left : (place : ℕ → ℕ) (old new : List Cell) (a b : V) → Between text place old a a
-      → ((area : ℕ) → IsArea area → MayHold text (cell_at old (place area)) b (cell_at new (place area))) → Between text place new a b
+  pub between_left : (place : ℕ → ℕ) (old new : List Cell) (a b : V) → AreBetween text place old a a
+      → ((area : ℕ) → IsArea area → MayHold text (cell_at old (place area)) b (cell_at new (place area))) → AreBetween text place new a b
   between_left place old new a b was left = λ area is. either_left (cell_at old (place area)) (cell_at new (place area)) a b (was area is) (left area is)
 
   module _ (one_value : OneValue text) where
@@ -76,7 +76,7 @@ module _ {V : Type 0} (text : V → List ℕ → Type 0) where
     pub copy_settled : (place : ℕ → ℕ) (cells : List Cell) (a v : V) (area : ℕ) → Settled text place cells a → HasCopy text place cells v area → v ≡ a
     copy_settled place cells a v area settled copy = same_value (cell_at cells (place area)) a v (settled area copy.is_area) copy.holds
 
-    pub copy_between : (place : ℕ → ℕ) (cells : List Cell) (a b v : V) (area : ℕ) → Between text place cells a b → HasCopy text place cells v area → (v ≡ a) ⊎ (v ≡ b)
+    pub copy_between : (place : ℕ → ℕ) (cells : List Cell) (a b v : V) (area : ℕ) → AreBetween text place cells a b → HasCopy text place cells v area → (v ≡ a) ⊎ (v ≡ b)
     copy_between place cells a b v area between copy = either_value (cell_at cells (place area)) a b v (between area copy.is_area) copy.holds
 
 pub lost_counts : (place : ℕ → ℕ) (cells : List Cell) (k : ℕ) → k ≤ 4 → AllLost place cells → good_count place cells k ≡ 0

@@ -48,8 +48,8 @@ module _ {V : Type 0} (text : V → List ℕ → Type 0) where
     Settled value = (area : ℕ) → IsArea area → HoldsOrDead (cell_at cells (place area)) value
 
     -- Each of the four copies that can be read is the text of one of two values. (This project's own.)
-    abbrev pub Between : V → V → Type 0
-    Between a b = (area : ℕ) → IsArea area → HoldsEither (cell_at cells (place area)) a b
+    abbrev pub AreBetween : V → V → Type 0
+    AreBetween a b = (area : ℕ) → IsArea area → HoldsEither (cell_at cells (place area)) a b
 
     -- The copy of this area is the one that is chosen: no other that is accepted has a greater counter, and none of an
     -- equal counter lies in a lower area. (This project's own.)

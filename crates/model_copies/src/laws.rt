@@ -5,7 +5,7 @@ ghost use Rattle.model_geometry.specs.Geometry.{Shape, dds_block, sdl_block};
 ghost use Rattle.model_medium.specs.Cells.{Cell, IsSameOrDead, cell_at};
 ghost use Rattle.model_lists.specs.Values.{Dds, Sdl};
 ghost use Rattle.model_lists.specs.Texts.{IsDdsText, IsSdlText};
-ghost use Rattle.model_copies.specs.Copies.{IsArea, MayHold, HasDdsCopy, HasSdlCopy, Settled, Between, IsGreatestMark, Mark, AllLost, IsSeen, good_count};
+ghost use Rattle.model_copies.specs.Copies.{IsArea, MayHold, HasDdsCopy, HasSdlCopy, Settled, AreBetween, IsGreatestMark, Mark, AllLost, IsSeen, good_count};
 
 /// Two copies with one text tell one list.
 pub fn one_text_tells_one_list()
@@ -48,25 +48,25 @@ pub fn settled_copies_hold_one_value()
 /// Between two texts each copy holds the one or the other.
 pub fn two_texts_are_held_between()
     ensures dds { (shape : Shape) (cells : List Cell) (a b v : Dds) (area : ℕ)
-        → Between IsDdsText (dds_block shape) cells a b
+        → AreBetween IsDdsText (dds_block shape) cells a b
         → HasDdsCopy shape cells v area → (v ≡ a) ⊎ (v ≡ b) }
     ensures sdl { (shape : Shape) (cells : List Cell) (a b v : Sdl) (area : ℕ)
-        → Between IsSdlText (sdl_block shape) cells a b
+        → AreBetween IsSdlText (sdl_block shape) cells a b
         → HasSdlCopy shape cells v area → (v ≡ a) ⊎ (v ≡ b) }
 {}
 
 /// Where each readable copy held the text of one value, an update to another that is stopped leaves each between both.
 pub fn a_stopped_update_leaves_one_of_two()
     ensures dds { (shape : Shape) (old new : List Cell) (a b : Dds)
-        → Between IsDdsText (dds_block shape) old a a
+        → AreBetween IsDdsText (dds_block shape) old a a
         → ((area : ℕ) → IsArea area
         → MayHold IsDdsText (cell_at old (dds_block shape area)) b (cell_at new (dds_block shape area)))
-        → Between IsDdsText (dds_block shape) new a b }
+        → AreBetween IsDdsText (dds_block shape) new a b }
     ensures sdl { (shape : Shape) (old new : List Cell) (a b : Sdl)
-        → Between IsSdlText (sdl_block shape) old a a
+        → AreBetween IsSdlText (sdl_block shape) old a a
         → ((area : ℕ) → IsArea area
         → MayHold IsSdlText (cell_at old (sdl_block shape area)) b (cell_at new (sdl_block shape area)))
-        → Between IsSdlText (sdl_block shape) new a b }
+        → AreBetween IsSdlText (sdl_block shape) new a b }
 {}
 
 /// Where all copies are dead none is counted.

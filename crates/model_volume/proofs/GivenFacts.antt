@@ -8,7 +8,7 @@ use Rattle.model_lists.specs.Texts.{IsDdsText, IsSdlText}
 use Rattle.model_lists.proofs.DdsTexts as dds_texts
 use Rattle.model_lists.proofs.SdlTexts as sdl_texts
 use Rattle.model_medium.specs.Cells.{Cell, IsSameOrDead, cell_at}
-use Rattle.model_copies.specs.Copies.{IsArea, Holds, MayHold, HasCopy, HasDdsCopy, HasSdlCopy, Settled, Between, IsChosen, Mark}
+use Rattle.model_copies.specs.Copies.{IsArea, Holds, MayHold, HasCopy, HasDdsCopy, HasSdlCopy, Settled, AreBetween, IsChosen, Mark}
 use Rattle.model_copies.proofs.CopyFacts.{OneValue, copy_before, copy_seen, copy_settled, copy_between, one_held, one_list}
 use Rattle.model_places.specs.Places.{Lists}
 use Rattle.model_places.specs.Valid.{IsValidPdl, AreValid}
@@ -113,14 +113,14 @@ settled_alone shape cells lists other settled given =
     (copy_settled IsSdlText sdl_texts.one_value (sdl_block shape) cells lists.sdl other.sdl given.sdl_area settled.sdl given.sdl_copy)
 
 -- each list of a given pair has one of two texts, where its copies hold one of two
-pub dds_between : (shape : Shape) (cells : List Cell) (a b : Dds) (lists : Lists) → Between IsDdsText (dds_block shape) cells a b → IsGiven shape cells lists → (lists.dds ≡ a) ⊎ (lists.dds ≡ b)
+pub dds_between : (shape : Shape) (cells : List Cell) (a b : Dds) (lists : Lists) → AreBetween IsDdsText (dds_block shape) cells a b → IsGiven shape cells lists → (lists.dds ≡ a) ⊎ (lists.dds ≡ b)
 dds_between shape cells a b lists between given = copy_between IsDdsText dds_texts.one_value (dds_block shape) cells a b lists.dds given.dds_area between given.dds_copy
 
-pub sdl_between : (shape : Shape) (cells : List Cell) (a b : Sdl) (lists : Lists) → Between IsSdlText (sdl_block shape) cells a b → IsGiven shape cells lists → (lists.sdl ≡ a) ⊎ (lists.sdl ≡ b)
+pub sdl_between : (shape : Shape) (cells : List Cell) (a b : Sdl) (lists : Lists) → AreBetween IsSdlText (sdl_block shape) cells a b → IsGiven shape cells lists → (lists.sdl ≡ a) ⊎ (lists.sdl ≡ b)
 sdl_between shape cells a b lists between given = copy_between IsSdlText sdl_texts.one_value (sdl_block shape) cells a b lists.sdl given.sdl_area between given.sdl_copy
 
 -- with the first list settled, and the second between two, one of both pairs is given
-pub pair_between : (shape : Shape) (cells : List Cell) (dds : Dds) (a b : Sdl) (other : Lists) → Settled IsDdsText (dds_block shape) cells dds → Between IsSdlText (sdl_block shape) cells a b
+pub pair_between : (shape : Shape) (cells : List Cell) (dds : Dds) (a b : Sdl) (other : Lists) → Settled IsDdsText (dds_block shape) cells dds → AreBetween IsSdlText (sdl_block shape) cells a b
     → IsGiven shape cells other → (other ≡ lists_of dds a) ⊎ (other ≡ lists_of dds b)
 pair_between shape cells dds a b other settled between given =
     let first = copy_settled IsDdsText dds_texts.one_value (dds_block shape) cells dds other.dds given.dds_area settled given.dds_copy in
@@ -129,7 +129,7 @@ pair_between shape cells dds a b other settled between given =
       | inr is_b ↦ inr (same_lists other (lists_of dds b) first is_b)
     ]
 
-pub pair_between_dds : (shape : Shape) (cells : List Cell) (a b : Dds) (sdl : Sdl) (other : Lists) → Between IsDdsText (dds_block shape) cells a b → Settled IsSdlText (sdl_block shape) cells sdl
+pub pair_between_dds : (shape : Shape) (cells : List Cell) (a b : Dds) (sdl : Sdl) (other : Lists) → AreBetween IsDdsText (dds_block shape) cells a b → Settled IsSdlText (sdl_block shape) cells sdl
     → IsGiven shape cells other → (other ≡ lists_of a sdl) ⊎ (other ≡ lists_of b sdl)
 pair_between_dds shape cells a b sdl other between settled given =
     let second = copy_settled IsSdlText sdl_texts.one_value (sdl_block shape) cells sdl other.sdl given.sdl_area settled given.sdl_copy in

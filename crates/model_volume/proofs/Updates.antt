@@ -8,7 +8,7 @@ use Rattle.model_lists.specs.Texts.{IsDdsText, IsSdlText}
 use Rattle.model_medium.specs.Cells.{Cell, Good, IsGood, cell_at}
 use Rattle.model_sectors.specs.Discs.{Agrees, block_of}
 use Rattle.model_sectors.proofs.Fitting.{agrees_not_good}
-use Rattle.model_copies.specs.Copies.{Settled, Between, HoldsOrDead}
+use Rattle.model_copies.specs.Copies.{Settled, AreBetween, HoldsOrDead}
 use Rattle.model_places.specs.Places.{Lists, logical_count, home_of}
 use Rattle.model_places.specs.Valid.{AreValid}
 use Rattle.model_volume.specs.Given.{AreSettled}
@@ -101,7 +101,7 @@ module _ (shape : Shape) (lists : Lists) (valid : AreValid shape lists) (i : ℕ
 
       -- In an update of the second list, one of the two discs fits under the lists that are given, whichever these are.
       pub cover_between : AreSettled shape old lists → ¬ IsGood (cell_at new (home_of shape lists i))
-          → Between IsSdlText (sdl_block shape) new lists.sdl (sdl_moved shape lists i failed spare) → Cover shape new (disc ∷ disc' ∷ [])
+          → AreBetween IsSdlText (sdl_block shape) new lists.sdl (sdl_moved shape lists i failed spare) → Cover shape new (disc ∷ disc' ∷ [])
       cover_between settled dead between other given = elim (pair_between shape new lists.dds lists.sdl (sdl_moved shape lists i failed spare) other (dds_settled settled) between given) [
         | inl before ↦ inl (subst (λ (l : Lists). FitsUnder shape new l disc) (sym before) (fits_before disc (inr dead) fits))
         | inr after ↦ inr (inl (subst (λ (l : Lists). FitsUnder shape new l disc') (sym after) fits_moved))

@@ -6,7 +6,7 @@ ghost use Rattle.model_medium.specs.Cells.{Cell, IsSameOrDead, cell_at};
 ghost use Rattle.model_lists.specs.declared.dds.DdsState.TheVariants.{Formatting};
 ghost use Rattle.model_lists.specs.Values.{Dds, Sdl};
 ghost use Rattle.model_lists.specs.Texts.{IsDdsText, IsSdlText};
-ghost use Rattle.model_copies.specs.Copies.{IsArea, MayHold, HasDdsCopy, HasSdlCopy, Settled, Between, Mark};
+ghost use Rattle.model_copies.specs.Copies.{IsArea, MayHold, HasDdsCopy, HasSdlCopy, Settled, AreBetween, Mark};
 ghost use Rattle.model_places.specs.Places.{Lists, logical_count};
 ghost use Rattle.model_places.specs.Valid.{AreValid};
 ghost use Rattle.model_volume.specs.Given.{IsGiven, GivesNone, IsChosenDds, IsChosenSdl, AreChosen, ChoosesNone, NoDdsChosen, NoSdlChosen, AreSettled, AreSeen, LosesListCells};
@@ -78,17 +78,17 @@ pub fn settled_lists_are_given_alone()
 /// pairs.
 pub fn a_stopped_update_gives_one_of_two()
     ensures dds { (shape : Shape) (cells : List Cell) (a b : Dds) (lists : Lists)
-        → Between IsDdsText (dds_block shape) cells a b → IsGiven shape cells lists
+        → AreBetween IsDdsText (dds_block shape) cells a b → IsGiven shape cells lists
         → (lists.dds ≡ a) ⊎ (lists.dds ≡ b) }
     ensures sdl { (shape : Shape) (cells : List Cell) (a b : Sdl) (lists : Lists)
-        → Between IsSdlText (sdl_block shape) cells a b → IsGiven shape cells lists
+        → AreBetween IsSdlText (sdl_block shape) cells a b → IsGiven shape cells lists
         → (lists.sdl ≡ a) ⊎ (lists.sdl ≡ b) }
     ensures pair { (shape : Shape) (cells : List Cell) (dds : Dds) (a b : Sdl) (lists : Lists)
         → Settled IsDdsText (dds_block shape) cells dds
-        → Between IsSdlText (sdl_block shape) cells a b → IsGiven shape cells lists
+        → AreBetween IsSdlText (sdl_block shape) cells a b → IsGiven shape cells lists
         → (lists ≡ record { dds = dds; sdl = a }) ⊎ (lists ≡ record { dds = dds; sdl = b }) }
     ensures dds_pair { (shape : Shape) (cells : List Cell) (a b : Dds) (sdl : Sdl) (lists : Lists)
-        → Between IsDdsText (dds_block shape) cells a b
+        → AreBetween IsDdsText (dds_block shape) cells a b
         → Settled IsSdlText (sdl_block shape) cells sdl → IsGiven shape cells lists
         → (lists ≡ record { dds = a; sdl = sdl }) ⊎ (lists ≡ record { dds = b; sdl = sdl }) }
 {}

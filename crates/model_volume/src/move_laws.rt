@@ -4,7 +4,7 @@ ghost use Rattle.std.specs.Prelude.{◌≡◌, ◌≢◌, ℕ, ◌<◌, ◌⊎�
 ghost use Rattle.model_geometry.specs.Geometry.{Shape, sdl_block};
 ghost use Rattle.model_medium.specs.Cells.{Cell, Good, IsGood, cell_at};
 ghost use Rattle.model_lists.specs.Texts.{IsSdlText};
-ghost use Rattle.model_copies.specs.Copies.{Between};
+ghost use Rattle.model_copies.specs.Copies.{AreBetween};
 ghost use Rattle.model_places.specs.Places.{Lists, logical_count, home_of};
 ghost use Rattle.model_places.specs.Valid.{AreValid};
 ghost use Rattle.model_volume.specs.Given.{AreSettled};
@@ -43,7 +43,7 @@ pub fn covers_in_an_update()
         → AreValid shape lists → i < logical_count shape lists → OnlyMoves shape old new lists i
         → IsNextSpare shape lists failed spare → cell_at new spare ≡ Good bytes
         → AreSettled shape old lists → (¬ IsGood (cell_at new (home_of shape lists i)))
-        → Between IsSdlText (sdl_block shape) new lists.sdl (sdl_moved shape lists i failed spare)
+        → AreBetween IsSdlText (sdl_block shape) new lists.sdl (sdl_moved shape lists i failed spare)
         → DiffersAt i bytes disc disc' → FitsUnder shape old lists disc
         → Cover shape new (disc ∷ disc' ∷ []) }
 {}

@@ -9,7 +9,7 @@ use Rattle.model_copies.specs.Copies.{one_if_good, good_count}
 use Rattle.ram_zones.specs.declared.list_kind.ListKind.{ListKind}
 use Rattle.ram_zones.specs.ListKind.{list_block}
 use Rattle.ram_copies.specs.Puts.{IsBlockPut, IsBlockLost}
-use Rattle.ram_copies.specs.Writes.{HasWritten, CountsReadable}
+use Rattle.ram_copies.specs.Writes.{HasWrittenCopies, CountsReadable}
 use Rattle.ram_copies.proofs.Writing.{places_apart}
 
 pub suc_is : (k : ℕ) → suc k ≡ k + 1
@@ -43,7 +43,7 @@ module _ {M : Type 0} (world : M → World) (reaches : M → M → ℕ → Type 
     count_lost dead known = let none = ap one_if_good (dead known) in let next = count_next (λ area. list_block shape area list) (world mid).cells (world new).cells k earlier in omega (arith, before known, none, next)
 
   -- the same of an update
-  module _ (mid new : M) (k readable : ℕ) (so_far : HasWritten world reaches old mid (λ area. list_block shape area list) text k readable) (small : k < 4)
+  module _ (mid new : M) (k readable : ℕ) (so_far : HasWrittenCopies world reaches old mid (λ area. list_block shape area list) text k readable) (small : k < 4)
       (before : CountsReadable world reaches old mid (λ area. list_block shape area list) text k readable) where
     pub kept_counts : IsBlockPut world reaches mid new (list_block shape (k + 1) list) text → CountsReadable world reaches old new (λ area. list_block shape area list) text (k + 1) (readable + 1)
     kept_counts put = count_kept mid new k readable small put.others before

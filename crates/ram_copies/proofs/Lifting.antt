@@ -18,9 +18,9 @@ use Rattle.ram_zones.specs.declared.list_kind.ListKind.{ListKind}
 use Rattle.ram_zones.specs.declared.list_kind.ListKind.TheVariants as kinds
 use Rattle.ram_zones.specs.ListKind.{list_block}
 use Rattle.ram_copies.specs.Values.{ListValue, DdsValue, SdlValue, IsText}
-use Rattle.ram_copies.specs.Writes.{HasWritten, StopsWriting, CountsReadable}
+use Rattle.ram_copies.specs.Writes.{HasWrittenCopies, StopsWriting, CountsReadable}
 use Rattle.ram_copies.specs.Repairs.{Rewrites, MendLeaves, HasRepaired, StopsRepairing}
-use Rattle.ram_copies.specs.Calls.{StoppedCounts, ChangesCopiesAlone, Ends, StoppedWithin, Keeps, MayLeaveCopies, SparesExactCopies, UpdateRule, Repairs, RepairRule, updated_of}
+use Rattle.ram_copies.specs.Calls.{StoppedCounts, ChangesCopiesAlone, CallEnds, StoppedWithin, Keeps, MayLeaveCopies, SparesExactCopies, UpdateRule, Repairs, RepairRule, updated_of}
 use Rattle.ram_copies.specs.declared.updates.Updated.TheVariants as updates
 
 -- each value has one text
@@ -101,7 +101,7 @@ module _ {M : Type 0} (world : M → World) (block_count : M → ℕ) (reaches :
 
 module _ {M : Type 0} (world : M → World) (block_count : M → ℕ) (reaches : M → M → ℕ → Type 0) (laws : MediumLaws world block_count reaches)
     (kind : ListKind) (shape : Shape) (old new : M) (value : ListValue) (text : List ℕ) (spells : IsText kind value text) (on : IsTrue (world old).power) where
-  ends_by : (uses : ℕ) → Continues world reaches old new uses → ChangesCopiesAlone world reaches kind shape old new → Ends world reaches kind shape old new uses
+  ends_by : (uses : ℕ) → Continues world reaches old new uses → ChangesCopiesAlone world reaches kind shape old new → CallEnds world reaches kind shape old new uses
   ends_by uses continues alone = record { was_on = on; continues = continues; counts = quiet_counts world block_count reaches laws old new uses continues; alone = alone }
 
   stopped_by : (most : ℕ) (stop : Stop) → Stops world reaches old new most stop → StoppedCounts (world old) (world new) stop → ChangesCopiesAlone world reaches kind shape old new → StoppedWithin world reaches kind shape old new most stop
@@ -117,7 +117,7 @@ module _ {M : Type 0} (world : M → World) (block_count : M → ℕ) (reaches :
   }
 
   -- an update
-  pub update_rule : (ended : Result ℕ Stop) → MatchResult ended (HasWritten world reaches old new (λ area. list_block shape area kind) text 4) (StopsWriting world reaches old new (λ area. list_block shape area kind) text 8)
+  pub update_rule : (ended : Result ℕ Stop) → MatchResult ended (HasWrittenCopies world reaches old new (λ area. list_block shape area kind) text 4) (StopsWriting world reaches old new (λ area. list_block shape area kind) text 8)
       → IfOk ended (CountsReadable world reaches old new (λ area. list_block shape area kind) text 4)
       → UpdateRule world reaches kind shape old new value (updated_of ended)
   update_rule (Ok zero) h counts = (ends_by 8 h.continues (record { as_known = h.as_known; others = λ block apart. h.others block (λ area some most. apart area (some, most)) }), λ area is. h.lost refl area is.0 is.1)

@@ -10,8 +10,8 @@ use Rattle.model_stops.specs.declared.Stop.TheVariants as stops
 use Rattle.ram_medium.specs.Laws.{MediumLaws}
 use Rattle.ram_medium.specs.WholeBlocks.{StoppedRead}
 use Rattle.ram_medium.proofs.Parts.{continues_then, stops_later, stops_within}
-use Rattle.ram_copies.specs.Puts.{Puts, StopsPutting}
-use Rattle.ram_copies.specs.Repairs.{MendLeaves, HasMended, StopsMending}
+use Rattle.ram_copies.specs.Puts.{PutsCopy, StopsPutting}
+use Rattle.ram_copies.specs.Repairs.{MendLeaves, HasMendedCopy, StopsMending}
 
 may_then : (a b c : Cell) (bytes : List ℕ) → IsSameOrDead a b → MayLeave b bytes c → MayLeave a bytes c
 may_then a b c bytes (inl same) (inl as_was) = inl (as_was ∙ same)
@@ -53,7 +53,7 @@ module _ {M : Type 0} (world : M → World) (block_count : M → ℕ) (reaches :
   stops_reading new into into' stops.Fault h stopped = record { stops = stops_within world block_count reaches laws old new 1 3 stops.Fault (omega arith) stopped; as_known = h.one.as_known; others = h.one.others; left = same_may (cell_at (world old).cells block) (cell_at (world new).cells block) text h.left }
 
   -- the copy is exactly the text
-  pub mended_as_was : (new : M) (read : List ℕ) → ReadsCell (world old) (world new) block read → Continues world reaches old new 1 → read ≡ text → HasMended world reaches old new block text true
+  pub mended_as_was : (new : M) (read : List ℕ) → ReadsCell (world old) (world new) block read → Continues world reaches old new 1 → read ≡ text → HasMendedCopy world reaches old new block text true
   mended_as_was new read h continues same = record {
     as_known = h.one.as_known;
     others = h.one.others;
@@ -73,7 +73,7 @@ module _ {M : Type 0} (world : M → World) (block_count : M → ℕ) (reaches :
     both others at ne = others at ne ∙ one.others at ne
 
     -- the copy was written again
-    mended_by : (kept : Bool) → Puts world reaches mid new block text kept → HasMended world reaches old new block text kept
+    mended_by : (kept : Bool) → PutsCopy world reaches mid new block text kept → HasMendedCopy world reaches old new block text kept
     mended_by true put = record {
       as_known = put.as_known ∙ one.as_known;
       others = both put.others;
@@ -102,22 +102,22 @@ module _ {M : Type 0} (world : M → World) (block_count : M → ℕ) (reaches :
       left = (may_then (cell_at (world old).cells block) (cell_at (world mid).cells block) (cell_at (world new).cells block) text same stopped.left, λ exact. inr (stopped.stays_dead (other exact)));
     }
 
-    written_again : (result : Result Bool Stop) → MatchResult result (λ kept. Puts world reaches mid new block text kept) (λ stop. StopsPutting world reaches mid new block text stop)
-        → MatchResult result (HasMended world reaches old new block text) (StopsMending world reaches old new block text)
+    written_again : (result : Result Bool Stop) → MatchResult result (λ kept. PutsCopy world reaches mid new block text kept) (λ stop. StopsPutting world reaches mid new block text stop)
+        → MatchResult result (HasMendedCopy world reaches old new block text) (StopsMending world reaches old new block text)
     written_again (Ok kept) put = mended_by kept put
     written_again (Err stop) put = stopped_by stop put
 
   -- the read found no bytes
   pub mended_unread : (mid new : M) (into into' : List ℕ) → FindsNoBytes (world old) (world mid) block into into' → Continues world reaches old mid 1 → (result : Result Bool Stop)
-      → MatchResult result (λ kept. Puts world reaches mid new block text kept) (λ stop. StopsPutting world reaches mid new block text stop)
-      → MatchResult result (HasMended world reaches old new block text) (StopsMending world reaches old new block text)
+      → MatchResult result (λ kept. PutsCopy world reaches mid new block text kept) (λ stop. StopsPutting world reaches mid new block text stop)
+      → MatchResult result (HasMendedCopy world reaches old new block text) (StopsMending world reaches old new block text)
   mended_unread mid new into into' h first result put = written_again mid new h.one first h.left
       (λ exact. elim h.left [ inl same ↦ absurd (h.not_good (subst IsGood (sym (same ∙ exact)) tt)) | inr dead ↦ dead ]) result put
 
   -- the read found other bytes
   pub mended_other : (mid new : M) (read : List ℕ) → ReadsCell (world old) (world mid) block read → Continues world reaches old mid 1 → ¬ (read ≡ text) → (result : Result Bool Stop)
-      → MatchResult result (λ kept. Puts world reaches mid new block text kept) (λ stop. StopsPutting world reaches mid new block text stop)
-      → MatchResult result (HasMended world reaches old new block text) (StopsMending world reaches old new block text)
+      → MatchResult result (λ kept. PutsCopy world reaches mid new block text kept) (λ stop. StopsPutting world reaches mid new block text stop)
+      → MatchResult result (HasMendedCopy world reaches old new block text) (StopsMending world reaches old new block text)
   mended_other mid new read h first unlike result put = written_again mid new h.one first (inl (ap (λ (cs : List Cell). cell_at cs block) h.same))
       (λ exact. absurd (not_text (world mid).known (world mid).cells block read text (laws.unknown mid) (subst (λ (b : Bool). OnTrue b (cell_at (world mid).cells block ≡ Good read)) (sym h.one.as_known) h.gives) unlike
       (ap (λ (cs : List Cell). cell_at cs block) h.same ∙ exact))) result put

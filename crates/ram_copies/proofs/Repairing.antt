@@ -12,7 +12,7 @@ use Rattle.ram_medium.specs.Laws.{MediumLaws}
 use Rattle.ram_medium.proofs.Parts.{continues_none, continues_then, stops_later, stops_within}
 use Rattle.ram_zones.specs.declared.list_kind.ListKind.{ListKind}
 use Rattle.ram_zones.specs.ListKind.{list_block}
-use Rattle.ram_copies.specs.Repairs.{WasExact, Rewrites, MendLeaves, HasMended, StopsMending, HasRepaired, StopsRepairing}
+use Rattle.ram_copies.specs.Repairs.{WasExact, Rewrites, MendLeaves, HasMendedCopy, StopsMending, HasRepaired, StopsRepairing}
 use Rattle.ram_copies.proofs.Writing.{places_apart}
 use Rattle.ram_copies.proofs.Counting.{suc_is, count_kept, count_lost}
 
@@ -109,7 +109,7 @@ module _ {M : Type 0} (world : M → World) (block_count : M → ℕ) (reaches :
     WasHere = WasExact (IsText text) (λ area. list_block shape area list) (world old).cells (world new).cells (k + 1)
 
     -- one more, with what is known of it
-    repaired_by : (kept : Bool) (readable' : ℕ) → HasMended world reaches mid new (list_block shape (k + 1) list) text kept
+    repaired_by : (kept : Bool) (readable' : ℕ) → HasMendedCopy world reaches mid new (list_block shape (k + 1) list) text kept
         → (readable' ≡ 0 → (area : ℕ) → 1 ≤ area → area ≤ k + 1 → cell_at (world new).cells (list_block shape area list) ≡ Dead)
         → ((world old).known ≡ true → readable' ≡ good_count (λ area. list_block shape area list) (world new).cells (k + 1))
         → HasRepaired world reaches old new (λ area. list_block shape area list) text (k + 1) readable'
@@ -140,11 +140,11 @@ module _ {M : Type 0} (world : M → World) (block_count : M → ℕ) (reaches :
       }
     ]
 
-    pub repaired_kept : HasMended world reaches mid new (list_block shape (k + 1) list) text true → HasRepaired world reaches old new (λ area. list_block shape area list) text (k + 1) (readable + 1)
+    pub repaired_kept : HasMendedCopy world reaches mid new (list_block shape (k + 1) list) text true → HasRepaired world reaches old new (λ area. list_block shape area list) text (k + 1) (readable + 1)
     repaired_kept one = repaired_by true (readable + 1) one (λ empty. absurd (omega (arith, empty)))
         (count_kept world reaches old shape list text mid new k readable small one.others so_far.counts (λ known. one.good refl (so_far.as_known ∙ known)))
 
-    pub repaired_lost : HasMended world reaches mid new (list_block shape (k + 1) list) text false → HasRepaired world reaches old new (λ area. list_block shape area list) text (k + 1) readable
+    pub repaired_lost : HasMendedCopy world reaches mid new (list_block shape (k + 1) list) text false → HasRepaired world reaches old new (λ area. list_block shape area list) text (k + 1) readable
     repaired_lost one = repaired_by false readable one (losts one.others (one.dead refl))
         (count_lost world reaches old shape list text mid new k readable small one.others so_far.counts (λ known. one.dead refl))
 

@@ -15,7 +15,7 @@ use Rattle.ram_zones.specs.declared.list_kind.ListKind.{ListKind}
 use Rattle.ram_zones.specs.declared.list_kind.ListKind.TheVariants as lists
 use Rattle.ram_zones.specs.ListKind.{list_block}
 use Rattle.ram_copies.specs.Puts.{IsBlockPut, IsBlockLost, StopsPutting}
-use Rattle.ram_copies.specs.Writes.{HasWritten, StopsWriting}
+use Rattle.ram_copies.specs.Writes.{HasWrittenCopies, StopsWriting}
 
 -- two areas have two blocks
 pub places_apart : (shape : Shape) (list : ListKind) (a b : ℕ) → 1 ≤ a → a < b → b ≤ 4 → list_block shape a list ≢ list_block shape b list
@@ -25,7 +25,7 @@ places_apart shape lists.Sdl a b some less most same = let rise = list_blocks_ri
 module _ {M : Type 0} (world : M → World) (block_count : M → ℕ) (reaches : M → M → ℕ → Type 0) (laws : MediumLaws world block_count reaches)
     (old : M) (shape : Shape) (list : ListKind) (text : List ℕ) where
   -- before the first area
-  pub written_none : IsTrue (world old).power → HasWritten world reaches old old (λ area. list_block shape area list) text 0 0
+  pub written_none : IsTrue (world old).power → HasWrittenCopies world reaches old old (λ area. list_block shape area list) text 0 0
   written_none on = record {
     continues = continues_none world block_count reaches laws old on;
     as_known = refl;
@@ -35,7 +35,7 @@ module _ {M : Type 0} (world : M → World) (block_count : M → ℕ) (reaches :
     few = omega arith;
   }
 
-  module _ (mid new : M) (k readable : ℕ) (so_far : HasWritten world reaches old mid (λ area. list_block shape area list) text k readable) (small : k < 4) where
+  module _ (mid new : M) (k readable : ℕ) (so_far : HasWrittenCopies world reaches old mid (λ area. list_block shape area list) text k readable) (small : k < 4) where
     -- an earlier copy is not that of the next area
     earlier : (area : ℕ) → 1 ≤ area → area ≤ k → list_block shape area list ≢ list_block shape (k + 1) list
     earlier area some most = places_apart shape list area (k + 1) some (omega arith) (omega arith)
@@ -68,7 +68,7 @@ module _ {M : Type 0} (world : M → World) (block_count : M → ℕ) (reaches :
         uses k = omega arith
 
     -- the next copy can be read
-    pub written_kept : IsBlockPut world reaches mid new (list_block shape (k + 1) list) text → HasWritten world reaches old new (λ area. list_block shape area list) text (k + 1) (readable + 1)
+    pub written_kept : IsBlockPut world reaches mid new (list_block shape (k + 1) list) text → HasWrittenCopies world reaches old new (λ area. list_block shape area list) text (k + 1) (readable + 1)
     written_kept put = record {
       continues = goes_further put.continues;
       as_known = put.as_known ∙ so_far.as_known;
@@ -79,7 +79,7 @@ module _ {M : Type 0} (world : M → World) (block_count : M → ℕ) (reaches :
     }
 
     -- the next copy is dead
-    pub written_lost : IsBlockLost world reaches mid new (list_block shape (k + 1) list) text → HasWritten world reaches old new (λ area. list_block shape area list) text (k + 1) readable
+    pub written_lost : IsBlockLost world reaches mid new (list_block shape (k + 1) list) text → HasWrittenCopies world reaches old new (λ area. list_block shape area list) text (k + 1) readable
     written_lost lost = record {
       continues = goes_further lost.continues;
       as_known = lost.as_known ∙ so_far.as_known;

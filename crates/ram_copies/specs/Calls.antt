@@ -29,7 +29,7 @@ module _ {M : Type 0} (world : M → World) (reaches : M → M → ℕ → Type 
         → cell_at (world new).cells block ≡ cell_at (world old).cells block
 
   -- The call went to its end by so many uses. The power was on and is on, and neither a cut nor a fault is counted.
-  pub record Ends (uses : ℕ) : Type 0 where
+  pub record CallEnds (uses : ℕ) : Type 0 where
     pub was_on : IsTrue (world old).power
     pub continues : Continues world reaches old new uses
     pub counts : UseContinues (world old) (world new)
@@ -66,8 +66,8 @@ module _ {M : Type 0} (world : M → World) (reaches : M → M → ℕ → Type 
 
     -- What an update does, by its answer: each copy was written and read back, in 8 uses.
     abbrev pub UpdateRule : Updated → Type 0
-    UpdateRule (updates.Kept readable) = Ends 8 × Keeps readable
-    UpdateRule updates.NoCopy = Ends 8 × LeavesNone
+    UpdateRule (updates.Kept readable) = CallEnds 8 × Keeps readable
+    UpdateRule updates.NoCopy = CallEnds 8 × LeavesNone
     UpdateRule updates.Cut = StoppedWithin 8 stops.Cut × MayLeaveCopies
     UpdateRule updates.Off = IsOff (world old) (world new)
     UpdateRule updates.Fault = StoppedWithin 8 stops.Fault × MayLeaveCopies
@@ -76,7 +76,7 @@ module _ {M : Type 0} (world : M → World) (reaches : M → M → ℕ → Type 
     pub record Repairs : Type 0 where
       pub rewritten : ℕ
       pub few : rewritten ≤ 4
-      pub ends : Ends (4 + 2 * rewritten)
+      pub ends : CallEnds (4 + 2 * rewritten)
       pub rewrites : (world old).known ≡ true
           → Rewrites (λ cell. Holds (IsText kind) cell value) (λ area. list_block shape area kind) (world old).cells (world new).cells 4 rewritten
       pub spares : SparesExactCopies

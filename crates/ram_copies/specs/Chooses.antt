@@ -8,7 +8,7 @@ use Rattle.model_copies.specs.Copies.{IsChosen, NoneChosen, IsGreatestMark, IsSe
 use Rattle.ram_zones.specs.declared.list_kind.ListKind.{ListKind}
 use Rattle.ram_zones.specs.ListKind.{list_block}
 use Rattle.ram_copies.specs.Values.{ListValue, IsText, IsInGrammar, counter_of, mark_of}
-use Rattle.ram_copies.specs.Calls.{ChangesCopiesAlone, Ends, StoppedWithin}
+use Rattle.ram_copies.specs.Calls.{ChangesCopiesAlone, CallEnds, StoppedWithin}
 use Rattle.ram_copies.specs.declared.choice.Chosen.{Chosen}
 use Rattle.ram_copies.specs.declared.choice.Chosen.TheVariants as chosens
 use Rattle.ram_copies.specs.declared.looks.Held.{Held}
@@ -23,7 +23,7 @@ module _ {M : Type 0} (world : M → World) (reaches : M → M → ℕ → Type 
   SawCopies = IsSeen (λ area. list_block shape area kind) (world old).cells (world new).cells (world new).cells
 
   -- out of memory within 4 uses: the power was on and is on, and neither a cut nor a fault is counted
-  pub record RunsOutOfMemory : Type 0 where
+  pub record ChoosesOutOfMemory : Type 0 where
     pub was_on : IsTrue (world old).power
     pub uses : ℕ
     pub few : uses ≤ 4
@@ -48,12 +48,12 @@ module _ {M : Type 0} (world : M → World) (reaches : M → M → ℕ → Type 
 
     -- What a choice does, by its answer: it reads each copy once, in 4 uses.
     abbrev pub ChooseRule : {T : Type 0} → (T → ListValue) → Chosen T → Type 0
-    ChooseRule value_of (chosens.Found value area mark) = Ends world reaches kind shape old new 4 × SawCopies × Finds (value_of value) area × IsMarkSeen mark
-    ChooseRule value_of (chosens.Nothing mark) = Ends world reaches kind shape old new 4 × SawCopies × FindsNone × IsMarkSeen mark
+    ChooseRule value_of (chosens.Found value area mark) = CallEnds world reaches kind shape old new 4 × SawCopies × Finds (value_of value) area × IsMarkSeen mark
+    ChooseRule value_of (chosens.Nothing mark) = CallEnds world reaches kind shape old new 4 × SawCopies × FindsNone × IsMarkSeen mark
     ChooseRule value_of chosens.Cut = StoppedWithin world reaches kind shape old new 4 stops.Cut × SawCopies
     ChooseRule value_of chosens.Off = IsOff (world old) (world new)
     ChooseRule value_of chosens.Fault = StoppedWithin world reaches kind shape old new 4 stops.Fault × SawCopies
-    ChooseRule value_of chosens.NoMemory = RunsOutOfMemory × SawCopies
+    ChooseRule value_of chosens.NoMemory = ChoosesOutOfMemory × SawCopies
 
 -- the answer for what was found
 abbrev pub found_of : {T : Type 0} → Option (Held T) → ℕ → Chosen T

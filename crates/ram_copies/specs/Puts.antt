@@ -22,8 +22,8 @@ module _ {M : Type 0} (world : M → World) (reaches : M → M → ℕ → Type 
     pub others : (other : ℕ) → other ≢ block → cell_at (world new).cells other ≡ cell_at (world old).cells other
     pub dead : cell_at (world new).cells block ≡ Dead
 
-  abbrev pub Puts : Bool → Type 0
-  Puts kept = MatchBool kept IsBlockPut IsBlockLost
+  abbrev pub PutsCopy : Bool → Type 0
+  PutsCopy kept = MatchBool kept IsBlockPut IsBlockLost
 
   -- the write or the read was stopped
   pub record StopsPutting (stop : Stop) : Type 0 where

@@ -24,7 +24,7 @@ MendLeaves old text cell = MayLeave old text cell × (old ≡ Good text → IsSa
 
 module _ {M : Type 0} (world : M → World) (reaches : M → M → ℕ → Type 0) (old new : M) (block : ℕ) (text : List ℕ) where
   -- the copy was read, and written again and read back where it was not exactly the text
-  pub record HasMended (kept : Bool) : Type 0 where
+  pub record HasMendedCopy (kept : Bool) : Type 0 where
     pub as_known : (world new).known ≡ (world old).known
     pub others : (other : ℕ) → other ≢ block → cell_at (world new).cells other ≡ cell_at (world old).cells other
     pub left : (cell_at (world new).cells block ≡ Good text) ⊎ (cell_at (world new).cells block ≡ Dead)

@@ -9,7 +9,7 @@ use Rattle.model_copies.specs.Copies.{IsArea, good_count}
 module _ {M : Type 0} (world : M → World) (reaches : M → M → ℕ → Type 0) (old new : M) (place : ℕ → ℕ) (text : List ℕ) where
   -- The copies of the first so many areas were written and read back, and so many of them can be read. (This project's
   -- own, as all here.)
-  pub record HasWritten (k readable : ℕ) : Type 0 where
+  pub record HasWrittenCopies (k readable : ℕ) : Type 0 where
     pub continues : Continues world reaches old new (2 * k)
     pub as_known : (world new).known ≡ (world old).known
     pub others : (block : ℕ) → ((area : ℕ) → 1 ≤ area → area ≤ k → block ≢ place area) → cell_at (world new).cells block ≡ cell_at (world old).cells block

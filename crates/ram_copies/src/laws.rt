@@ -2,7 +2,7 @@
 
 ghost use Rattle.std.specs.Prelude.{◌≡◌, ℕ, List, Option, Some};
 ghost use Rattle.model_medium.specs.Cells.{Cell, cell_at};
-ghost use Rattle.model_copies.specs.Copies.{IsArea, Holds, MayHold, Between};
+ghost use Rattle.model_copies.specs.Copies.{IsArea, Holds, MayHold, AreBetween};
 ghost use Rattle.ram_zones.specs.declared.list_kind.ListKind.{ListKind};
 ghost use Rattle.ram_copies.specs.Values.{ListValue, IsText, IsInGrammar, Decodes};
 ghost use Rattle.ram_copies.specs.Repairs.{Rewrites};
@@ -29,10 +29,10 @@ pub fn decoding_gives_what_was_encoded()
 /// Where each readable copy held the text of one value, a stopped update to another leaves each between both.
 pub fn a_stopped_update_leaves_one_or_the_other()
     ensures { (kind : ListKind) (place : ℕ → ℕ) (old new : List Cell) (a b : ListValue)
-        → Between (IsText kind) place old a a
+        → AreBetween (IsText kind) place old a a
         → ((area : ℕ) → IsArea area
         → MayHold (IsText kind) (cell_at old (place area)) b (cell_at new (place area)))
-        → Between (IsText kind) place new a b }
+        → AreBetween (IsText kind) place new a b }
 {}
 
 /// The number of copies that were not exactly the text when they were read is one number, by the cells before and after.

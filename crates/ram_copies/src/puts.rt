@@ -1,7 +1,7 @@
 //! One block written and read back. It touches that block alone.
 
 ghost use Rattle.std.specs.Prelude.{◌≡◌, ◌<◌, IsTrue, MatchResult};
-ghost use Rattle.ram_copies.specs.Puts.{Puts, StopsPutting};
+ghost use Rattle.ram_copies.specs.Puts.{PutsCopy, StopsPutting};
 
 use ram_bytes::Block;
 use ram_medium::{Medium, Stop, read_whole, write_whole};
@@ -16,7 +16,7 @@ pub fn put_block<M: Medium>(
     requires inside { block < M.block_count medium.old }
     requires on { IsTrue (M.world medium.old).power }
     ensures rule { MatchResult result
-        (λ kept. Puts M.world M.reaches medium.old medium.new block from.now kept)
+        (λ kept. PutsCopy M.world M.reaches medium.old medium.new block from.now kept)
         (λ stop. StopsPutting M.world M.reaches medium.old medium.new block from.now stop) }
     ensures as_many { M.block_count medium.new ≡ M.block_count medium.old }
 {

@@ -3,7 +3,7 @@
 ghost use Rattle.std.specs.Prelude.{◌≡◌, ◌<◌, IsTrue, MatchResult};
 ghost use Rattle.model_geometry.specs.Geometry.{total};
 ghost use Rattle.ram_zones.specs.ListKind.{list_block};
-ghost use Rattle.ram_copies.specs.Repairs.{HasMended, StopsMending, HasRepaired, StopsRepairing};
+ghost use Rattle.ram_copies.specs.Repairs.{HasMendedCopy, StopsMending, HasRepaired, StopsRepairing};
 
 use crate::puts::put_block;
 use ram_bytes::Block;
@@ -20,7 +20,7 @@ fn mend_copy<M: Medium>(
     requires inside { block < M.block_count medium.old }
     requires on { IsTrue (M.world medium.old).power }
     ensures rule { MatchResult result
-        (HasMended M.world M.reaches medium.old medium.new block text.now)
+        (HasMendedCopy M.world M.reaches medium.old medium.new block text.now)
         (StopsMending M.world M.reaches medium.old medium.new block text.now) }
     ensures as_many { M.block_count medium.new ≡ M.block_count medium.old }
 {

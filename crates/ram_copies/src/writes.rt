@@ -3,7 +3,7 @@
 ghost use Rattle.std.specs.Prelude.{◌≡◌, ℕ, IsTrue, MatchResult, IfOk};
 ghost use Rattle.model_geometry.specs.Geometry.{total};
 ghost use Rattle.ram_zones.specs.ListKind.{list_block};
-ghost use Rattle.ram_copies.specs.Writes.{HasWritten, StopsWriting, CountsReadable};
+ghost use Rattle.ram_copies.specs.Writes.{HasWrittenCopies, StopsWriting, CountsReadable};
 
 use crate::puts::put_block;
 use ram_bytes::Block;
@@ -21,7 +21,7 @@ pub fn write_copies<M: Medium>(
     requires size { M.block_count medium.old ≡ total geometry.now }
     requires on { IsTrue (M.world medium.old).power }
     ensures rule { MatchResult result
-        (HasWritten M.world M.reaches medium.old medium.new (λ area. list_block geometry.now area list) text.now 4)
+        (HasWrittenCopies M.world M.reaches medium.old medium.new (λ area. list_block geometry.now area list) text.now 4)
         (StopsWriting M.world M.reaches medium.old medium.new
         (λ area. list_block geometry.now area list) text.now 8) }
     ensures counts { IfOk result

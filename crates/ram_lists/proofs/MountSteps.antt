@@ -27,12 +27,12 @@ use Rattle.ram_zones.specs.declared.list_kind.ListKind.{ListKind}
 use Rattle.ram_zones.specs.declared.list_kind.ListKind.TheVariants as kinds
 use Rattle.ram_zones.specs.ListKind.{list_block}
 use Rattle.ram_copies.specs.Values.{ListValue, DdsValue, SdlValue, IsText, counter_of, mark_of}
-use Rattle.ram_copies.specs.Calls.{StoppedCounts, ChangesCopiesAlone, Ends, StoppedWithin, MayLeaveCopies}
-use Rattle.ram_copies.specs.Chooses.{SawCopies, RunsOutOfMemory, IsMarkSeen, Finds, FindsNone}
+use Rattle.ram_copies.specs.Calls.{StoppedCounts, ChangesCopiesAlone, CallEnds, StoppedWithin, MayLeaveCopies}
+use Rattle.ram_copies.specs.Chooses.{SawCopies, ChoosesOutOfMemory, IsMarkSeen, Finds, FindsNone}
 use Rattle.ram_copies.proofs.EachList.{dds_settled, dds_chosen, dds_none, dds_marked, dds_may_hold, sdl_settled, sdl_chosen, sdl_none, sdl_marked, sdl_may_hold}
 use Rattle.ram_lists.specs.Lists.{AcceptsDds, AcceptsSdl, AcceptsNothing}
-use Rattle.ram_lists.specs.Parts.{HasPicked, EndsPicking, PicksBest, HasMended, EndsMending}
-use Rattle.ram_lists.specs.Mounts.{IsNoListBlock, KeepsGiven, FindsLists, FindsNoLists, HasEnded, WasStopped, WasOutOfMemory, EndsBare, EndRule}
+use Rattle.ram_lists.specs.Parts.{HasPicked, EndsPicking, PicksBest, IsMended, EndsMending}
+use Rattle.ram_lists.specs.Mounts.{IsNoListBlock, KeepsGiven, FindsLists, FindsNoLists, MountHasEnded, WasStopped, WasOutOfMemory, EndsBare, EndRule}
 use Rattle.ram_lists.specs.declared.ends.End.{End}
 use Rattle.ram_lists.specs.declared.ends.End.TheVariants as ends
 
@@ -160,10 +160,10 @@ module _ {M : Type 0} (world : M → World) (block_count : M → ℕ) (reaches :
     pub counts : UseContinues (world old) (world mid)
     pub keeps : KeepsGiven shape (world old) (world mid)
 
-  gone_first : (kind : ListKind) (old new : M) (k : ℕ) → Ends world reaches kind shape old new k → KeepsGiven shape (world old) (world new) → Gone old new k
+  gone_first : (kind : ListKind) (old new : M) (k : ℕ) → CallEnds world reaches kind shape old new k → KeepsGiven shape (world old) (world new) → Gone old new k
   gone_first kind old new k ended keeps = record { was_on = ended.was_on; continues = ended.continues; counts = ended.counts; keeps = keeps }
 
-  gone_then : (kind : ListKind) (old mid new : M) (j k : ℕ) → Gone old mid j → Ends world reaches kind shape mid new k → KeepsGiven shape (world mid) (world new) → Gone old new (j + k)
+  gone_then : (kind : ListKind) (old mid new : M) (j k : ℕ) → Gone old mid j → CallEnds world reaches kind shape mid new k → KeepsGiven shape (world mid) (world new) → Gone old new (j + k)
   gone_then kind old mid new j k gone ended keeps = record {
     was_on = gone.was_on;
     continues = continues_then world block_count reaches laws old mid new j k gone.continues ended.continues;
@@ -276,7 +276,7 @@ module _ {M : Type 0} (world : M → World) (block_count : M → ℕ) (reaches :
         third_ends new ends.Fault (stopped, left) = stopped_later kinds.Dds old two new (4 + 4) 12 stops.Fault (omega arith) gone_two stopped (first_keeps new stopped.alone left)
         third_ends new ends.NoMemory never = absurd never
 
-        module _ (three : M) (mended : HasMended world reaches kinds.Dds shape two three (DdsValue d)) where
+        module _ (three : M) (mended : IsMended world reaches kinds.Dds shape two three (DdsValue d)) where
           gone_three : Gone old three (4 + 4 + (4 + 2 * mended.rewritten))
           gone_three = gone_then kinds.Dds old two three (4 + 4) (4 + 2 * mended.rewritten) gone_two mended.ended
               (first_keeps three mended.ended.alone (λ a is. settled_may_hold (IsText kinds.Dds) (cell_at (world two).cells (dds_block shape a)) (cell_at (world three).cells (dds_block shape a)) (DdsValue d) (mended.settled a is)))
@@ -341,12 +341,12 @@ module _ {M : Type 0} (world : M → World) (block_count : M → ℕ) (reaches :
             fourth_ends new ends.Fault (stopped, left) = stopped_later kinds.Sdl old three new (4 + 4 + (4 + 2 * mended.rewritten)) 12 stops.Fault fits_32 gone_three stopped (second_keeps new stopped.alone left)
             fourth_ends new ends.NoMemory never = absurd never
 
-            module _ (four : M) (done : HasMended world reaches kinds.Sdl shape three four (SdlValue s)) where
+            module _ (four : M) (done : IsMended world reaches kinds.Sdl shape three four (SdlValue s)) where
               gone_four : Gone old four (4 + 4 + (4 + 2 * mended.rewritten) + (4 + 2 * done.rewritten))
               gone_four = gone_then kinds.Sdl old three four (4 + 4 + (4 + 2 * mended.rewritten)) (4 + 2 * done.rewritten) gone_three done.ended
                   (second_keeps four done.ended.alone (λ a is. settled_may_hold (IsText kinds.Sdl) (cell_at (world three).cells (sdl_block shape a)) (cell_at (world four).cells (sdl_block shape a)) (SdlValue s) (done.settled a is)))
 
-              pub both_found : d.state ≡ Formatted → HasEnded world reaches shape old four 2 × FindsLists shape (world old) (world four) (record { dds = d; sdl = s })
+              pub both_found : d.state ≡ Formatted → MountHasEnded world reaches shape old four 2 × FindsLists shape (world old) (world four) (record { dds = d; sdl = s })
               both_found state = (
                 record {
                   was_on = gone_four.was_on;
@@ -388,7 +388,7 @@ module _ {M : Type 0} (world : M → World) (block_count : M → ℕ) (reaches :
     pub third_by : (new : M) (end : End) → EndsMending world reaches kinds.Dds shape two new (DdsValue d) end → EndRule world reaches shape old new end
     third_by new end ended = third_ends old one (AcceptsDds shape) best1 m look1 two (AcceptsSdl shape d) best2 n look2 d d_area found_by new end ended
 
-    module _ (three : M) (mended : HasMended world reaches kinds.Dds shape two three (DdsValue d)) where
+    module _ (three : M) (mended : IsMended world reaches kinds.Dds shape two three (DdsValue d)) where
       pub formatting_by : (mark : ℕ) → m ≤ mark → n ≤ mark → (mark ≡ m) ⊎ (mark ≡ n) → d.state ≡ Formatting → EndsBare world reaches shape old three mark
       formatting_by mark low low' is state = formatting_found old one (AcceptsDds shape) best1 m look1 two (AcceptsSdl shape d) best2 n look2 d d_area found_by three mended mark low low' is state
 
@@ -403,7 +403,7 @@ module _ {M : Type 0} (world : M → World) (block_count : M → ℕ) (reaches :
         pub fourth_by : (new : M) (end : End) → EndsMending world reaches kinds.Sdl shape three new (SdlValue s) end → EndRule world reaches shape old new end
         fourth_by new end ended = fourth_ends old one (AcceptsDds shape) best1 m look1 two (AcceptsSdl shape d) best2 n look2 d d_area found_by three mended s s_area below_by new end ended
 
-        pub both_by : (four : M) → HasMended world reaches kinds.Sdl shape three four (SdlValue s) → d.state ≡ Formatted → HasEnded world reaches shape old four 2 × FindsLists shape (world old) (world four) (record { dds = d; sdl = s })
+        pub both_by : (four : M) → IsMended world reaches kinds.Sdl shape three four (SdlValue s) → d.state ≡ Formatted → MountHasEnded world reaches shape old four 2 × FindsLists shape (world old) (world four) (record { dds = d; sdl = s })
         both_by four done state = both_found old one (AcceptsDds shape) best1 m look1 two (AcceptsSdl shape d) best2 n look2 d d_area found_by three mended s s_area below_by four done state
 
 pub not_formatted : (s : DdsState) (b : Bool) → (s ≡ Formatted → IsTrue b) → b ≡ false → s ≡ Formatting

@@ -12,7 +12,7 @@ use Rattle.model_places.proofs.Listed.{Decides-is_listed, Contains-from_filter}
 use Rattle.model_places.proofs.Pools.{unslipped_are_data, Contains-logical_block, logical_is_no_spare, logical_is_unslipped, spare_is_unslipped}
 use Rattle.ram_slip.specs.declared.place.Place.{Place}
 use Rattle.ram_slip.specs.declared.place.Place.TheVariants as places
-use Rattle.ram_slip.specs.Place.{IsPlaced}
+use Rattle.ram_slip.specs.Place.{IsAtPlace}
 use Rattle.ram_lists.specs.Entries.{MayReplace, IsEntryValid, IsValidAt}
 
 -- a block that is not slipped is none that is slipped
@@ -23,25 +23,25 @@ not_slipped shape dds b has listed =
     true≢false (sym ((Decides-is_listed (slipped dds) b).1 listed) ∙ not-true (is_listed (slipped dds) b) passes)
 
 module _ (shape : Shape) (lists : Lists) (valid : IsValidPdl shape lists.dds) (area : IsValidSsa shape lists.sdl.ssa) (block : ℕ) where
-  pub primary_spare : IsPlaced shape lists.dds lists.sdl.ssa block places.Primary → Contains (spares shape lists) block
+  pub primary_spare : IsAtPlace shape lists.dds lists.sdl.ssa block places.Primary → Contains (spares shape lists) block
   primary_spare has = Contains-append_left (primary_spares shape lists.dds) (supplementary_spares shape lists) block has
 
-  pub supplementary_spare : IsPlaced shape lists.dds lists.sdl.ssa block places.Supplementary → Contains (spares shape lists) block
+  pub supplementary_spare : IsAtPlace shape lists.dds lists.sdl.ssa block places.Supplementary → Contains (spares shape lists) block
   supplementary_spare has = Contains-append_right (primary_spares shape lists.dds) (supplementary_spares shape lists) block has
 
-  logical_has : (i : ℕ) → IsPlaced shape lists.dds lists.sdl.ssa block (places.Logical i) → Contains (logical_blocks shape lists) block
+  logical_has : (i : ℕ) → IsAtPlace shape lists.dds lists.sdl.ssa block (places.Logical i) → Contains (logical_blocks shape lists) block
   logical_has i (within, is) = subst (Contains (logical_blocks shape lists)) is (Contains-logical_block shape lists valid area i within)
 
-  logical_unslipped : (i : ℕ) → IsPlaced shape lists.dds lists.sdl.ssa block (places.Logical i) → Contains (unslipped shape lists.dds) block
+  logical_unslipped : (i : ℕ) → IsAtPlace shape lists.dds lists.sdl.ssa block (places.Logical i) → Contains (unslipped shape lists.dds) block
   logical_unslipped i (within, is) = subst (Contains (unslipped shape lists.dds)) is (logical_is_unslipped shape lists valid area i within)
 
-  pub logical_no_spare : (i : ℕ) → IsPlaced shape lists.dds lists.sdl.ssa block (places.Logical i) → ¬ Contains (spares shape lists) block
+  pub logical_no_spare : (i : ℕ) → IsAtPlace shape lists.dds lists.sdl.ssa block (places.Logical i) → ¬ Contains (spares shape lists) block
   logical_no_spare i placed = logical_is_no_spare shape lists valid area block (logical_has i placed)
 
-  pub slipped_no_spare : IsPlaced shape lists.dds lists.sdl.ssa block places.Slipped → ¬ Contains (spares shape lists) block
+  pub slipped_no_spare : IsAtPlace shape lists.dds lists.sdl.ssa block places.Slipped → ¬ Contains (spares shape lists) block
   slipped_no_spare listed has = not_slipped shape lists.dds block (spare_is_unslipped shape lists block has) listed
 
-  pub outside_no_spare : IsPlaced shape lists.dds lists.sdl.ssa block places.Outside → ¬ Contains (spares shape lists) block
+  pub outside_no_spare : IsAtPlace shape lists.dds lists.sdl.ssa block places.Outside → ¬ Contains (spares shape lists) block
   outside_no_spare none has = none (unslipped_are_data shape lists.dds block (spare_is_unslipped shape lists block has))
 
   spare_valid : Contains (spares shape lists) block → IsEntryValid shape lists (record { defective = block; replacement = None })
@@ -53,7 +53,7 @@ module _ (shape : Shape) (lists : Lists) (valid : IsValidPdl shape lists.dds) (a
   }
 
   -- an entry of the block is valid as its place says
-  valid_here : (place : Place) (o : Option ℕ) → IsPlaced shape lists.dds lists.sdl.ssa block place → IsValidAt shape lists place o → IsEntryValid shape lists (record { defective = block; replacement = o })
+  valid_here : (place : Place) (o : Option ℕ) → IsAtPlace shape lists.dds lists.sdl.ssa block place → IsValidAt shape lists place o → IsEntryValid shape lists (record { defective = block; replacement = o })
   valid_here (places.Logical i) None placed v = absurd v
   valid_here (places.Logical i) (Some s) placed v = record {
     within = logical_unslipped i placed;
@@ -68,7 +68,7 @@ module _ (shape : Shape) (lists : Lists) (valid : IsValidPdl shape lists.dds) (a
   valid_here places.Slipped o placed v = absurd v
   valid_here places.Outside o placed v = absurd v
 
-  here_valid : (place : Place) (o : Option ℕ) → IsPlaced shape lists.dds lists.sdl.ssa block place → IsEntryValid shape lists (record { defective = block; replacement = o }) → IsValidAt shape lists place o
+  here_valid : (place : Place) (o : Option ℕ) → IsAtPlace shape lists.dds lists.sdl.ssa block place → IsEntryValid shape lists (record { defective = block; replacement = o }) → IsValidAt shape lists place o
   here_valid (places.Logical i) None placed v = absurd (let f = v.replaced (logical_has i placed) in cc)
   here_valid (places.Logical i) (Some s) placed v = v.sound
   here_valid places.Primary None placed v = tt
@@ -78,6 +78,6 @@ module _ (shape : Shape) (lists : Lists) (valid : IsValidPdl shape lists.dds) (a
   here_valid places.Slipped o placed v = absurd (not_slipped shape lists.dds block v.within placed)
   here_valid places.Outside o placed v = absurd (placed (unslipped_are_data shape lists.dds block v.within))
 
-  pub entry_exact : (place : Place) (o : Option ℕ) (result : Bool) → IsPlaced shape lists.dds lists.sdl.ssa block place → (IsTrue result → IsValidAt shape lists place o) × (IsValidAt shape lists place o → IsTrue result)
+  pub entry_exact : (place : Place) (o : Option ℕ) (result : Bool) → IsAtPlace shape lists.dds lists.sdl.ssa block place → (IsTrue result → IsValidAt shape lists place o) × (IsValidAt shape lists place o → IsTrue result)
       → (IsTrue result → IsEntryValid shape lists (record { defective = block; replacement = o })) × (IsEntryValid shape lists (record { defective = block; replacement = o }) → IsTrue result)
   entry_exact place o result placed same = (λ t. valid_here place o placed (same.0 t), λ v. same.1 (here_valid place o placed v))

@@ -54,7 +54,7 @@ pub record FindsNoLists (shape : Shape) (old new : World) (mark : ℕ) : Type 0 
 module _ {M : Type 0} (world : M → World) (reaches : M → M → ℕ → Type 0) (shape : Shape) (old new : M) where
   -- The mount went to its end: it read eight copies, repaired one list or two or none, and rewrote so many copies. The
   -- power was on and is on, and neither a cut nor a fault is counted.
-  pub record HasEnded (repairs : ℕ) : Type 0 where
+  pub record MountHasEnded (repairs : ℕ) : Type 0 where
     pub was_on : IsTrue (world old).power
     pub rewritten : ℕ
     pub few : rewritten ≤ 4 * repairs
@@ -82,7 +82,7 @@ module _ {M : Type 0} (world : M → World) (reaches : M → M → ℕ → Type 
   pub record EndsBare (mark : ℕ) : Type 0 where
     pub repairs : ℕ
     pub few_repairs : repairs ≤ 1
-    pub ended : HasEnded repairs
+    pub ended : MountHasEnded repairs
     pub finds : FindsNoLists shape (world old) (world new) mark
 
   -- How a mount ended before its end.
@@ -93,13 +93,13 @@ module _ {M : Type 0} (world : M → World) (reaches : M → M → ℕ → Type 
   EndRule ends.NoMemory = WasOutOfMemory
 
   -- What a mount found.
-  abbrev pub DiscRule : Disc → Type 0
-  DiscRule (discs.Formatted lists) = HasEnded 2 × FindsLists shape (world old) (world new) (lists_of lists)
-  DiscRule (discs.Bare mark) = EndsBare mark
+  abbrev pub FoundRule : Disc → Type 0
+  FoundRule (discs.Formatted lists) = MountHasEnded 2 × FindsLists shape (world old) (world new) (lists_of lists)
+  FoundRule (discs.Bare mark) = EndsBare mark
 
   -- What a mount does, by its answer.
   abbrev pub MountRule : Mounted → Type 0
-  MountRule (mounts.Lists lists) = HasEnded 2 × FindsLists shape (world old) (world new) (lists_of lists)
+  MountRule (mounts.Lists lists) = MountHasEnded 2 × FindsLists shape (world old) (world new) (lists_of lists)
   MountRule (mounts.Bare mark) = EndsBare mark
   MountRule mounts.Cut = WasStopped stops.Cut
   MountRule mounts.Off = IsOff (world old) (world new)

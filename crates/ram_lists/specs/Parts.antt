@@ -7,8 +7,8 @@ use Rattle.model_copies.specs.Copies.{Settled}
 use Rattle.ram_zones.specs.declared.list_kind.ListKind.{ListKind}
 use Rattle.ram_zones.specs.ListKind.{list_block}
 use Rattle.ram_copies.specs.Values.{ListValue, IsText}
-use Rattle.ram_copies.specs.Calls.{Ends, StoppedWithin, MayLeaveCopies}
-use Rattle.ram_copies.specs.Chooses.{SawCopies, RunsOutOfMemory, IsMarkSeen, Finds, FindsNone}
+use Rattle.ram_copies.specs.Calls.{CallEnds, StoppedWithin, MayLeaveCopies}
+use Rattle.ram_copies.specs.Chooses.{SawCopies, ChoosesOutOfMemory, IsMarkSeen, Finds, FindsNone}
 use Rattle.ram_lists.specs.declared.parts.Picked.{Picked}
 use Rattle.ram_lists.specs.declared.ends.End.{End}
 use Rattle.ram_lists.specs.declared.ends.End.TheVariants as ends
@@ -27,7 +27,7 @@ module _ {M : Type 0} (world : M → World) (reaches : M → M → ℕ → Type 
 
     -- A list was chosen, or none, in 4 uses, and this is the greatest mark.
     pub record HasPicked (best : Option (ListValue × ℕ)) (mark : ℕ) : Type 0 where
-      pub ended : Ends world reaches kind shape old new 4
+      pub ended : CallEnds world reaches kind shape old new 4
       pub saw : SawCopies world reaches kind shape old new
       pub best_is : PicksBest best
       pub mark_is : IsMarkSeen world reaches kind shape old new mark
@@ -37,14 +37,14 @@ module _ {M : Type 0} (world : M → World) (reaches : M → M → ℕ → Type 
   EndsPicking ends.Cut = StoppedWithin world reaches kind shape old new 4 stops.Cut × SawCopies world reaches kind shape old new
   EndsPicking ends.Off = IsOff (world old) (world new)
   EndsPicking ends.Fault = StoppedWithin world reaches kind shape old new 4 stops.Fault × SawCopies world reaches kind shape old new
-  EndsPicking ends.NoMemory = RunsOutOfMemory world reaches kind shape old new × SawCopies world reaches kind shape old new
+  EndsPicking ends.NoMemory = ChoosesOutOfMemory world reaches kind shape old new × SawCopies world reaches kind shape old new
 
   module _ (value : ListValue) where
     -- the copies are settled, and so many of them were written again
-    pub record HasMended : Type 0 where
+    pub record IsMended : Type 0 where
       pub rewritten : ℕ
       pub few : rewritten ≤ 4
-      pub ended : Ends world reaches kind shape old new (4 + 2 * rewritten)
+      pub ended : CallEnds world reaches kind shape old new (4 + 2 * rewritten)
       pub settled : Settled (IsText kind) (λ area. list_block shape area kind) (world new).cells value
 
     -- the repair ended before its end

@@ -3,7 +3,7 @@
 ghost use Rattle.std.specs.Prelude.{◌≡◌, ◌↔◌, IsTrue, MatchResult};
 ghost use Rattle.model_lists.specs.declared.dds.DdsState.TheVariants.{Formatted};
 ghost use Rattle.model_geometry.specs.Geometry.{total};
-ghost use Rattle.ram_lists.specs.Mounts.{MountRule, DiscRule, EndRule};
+ghost use Rattle.ram_lists.specs.Mounts.{MountRule, FoundRule, EndRule};
 
 use crate::ends::End;
 use crate::lists::Lists;
@@ -74,7 +74,7 @@ fn mount_lists<M: Medium>(
 ) -> Result<Disc, End>
     requires size { M.block_count medium.old ≡ total geometry.now }
     ensures rule { MatchResult result
-        (DiscRule M.world M.reaches geometry.now medium.old medium.new)
+        (FoundRule M.world M.reaches geometry.now medium.old medium.new)
         (EndRule M.world M.reaches geometry.now medium.old medium.new) }
     ensures as_many { M.block_count medium.new ≡ M.block_count medium.old }
 {

@@ -9,7 +9,7 @@ ghost use Rattle.ram_dds.specs.Dds.{dds_of};
 ghost use Rattle.ram_sdl.specs.Sdl.{sdl_of};
 ghost use Rattle.ram_copies.specs.Values.{DdsValue, SdlValue, IsInGrammar};
 ghost use Rattle.ram_lists.specs.Lists.{AcceptsDds, AcceptsSdl, AcceptsNothing};
-ghost use Rattle.ram_lists.specs.Parts.{HasPicked, EndsPicking, HasMended, EndsMending, picked_of};
+ghost use Rattle.ram_lists.specs.Parts.{HasPicked, EndsPicking, IsMended, EndsMending, picked_of};
 
 use crate::ends::End;
 use crate::fits::{DdsFits, NoneFits, SdlFits};
@@ -131,7 +131,7 @@ pub fn mend<T: ListBlock, M: Medium>(
     requires size { M.block_count medium.old ≡ total geometry.now }
     requires in_grammar { IsInGrammar T.LIST (T.value value.now) }
     ensures rule { MatchResult result
-        (λ done. HasMended M.world M.reaches T.LIST geometry.now medium.old medium.new (T.value value.now))
+        (λ done. IsMended M.world M.reaches T.LIST geometry.now medium.old medium.new (T.value value.now))
         (λ end. EndsMending M.world M.reaches T.LIST geometry.now medium.old medium.new (T.value value.now) end) }
     ensures as_many { M.block_count medium.new ≡ M.block_count medium.old }
 {

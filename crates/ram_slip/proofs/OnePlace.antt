@@ -11,7 +11,7 @@ use Rattle.model_places.proofs.Listed.{Decides-is_listed, Contains-from_filter, 
 use Rattle.model_places.proofs.Pools.{unslipped_rise, unslipped_are_data, pools_are_all, Contains-logical_block, logical_block_differs, logical_is_no_spare, logical_is_unslipped, spare_is_unslipped}
 use Rattle.ram_slip.specs.declared.place.Place.{Place}
 use Rattle.ram_slip.specs.declared.place.Place.TheVariants as places
-use Rattle.ram_slip.specs.Place.{IsPlaced}
+use Rattle.ram_slip.specs.Place.{IsAtPlace}
 
 -- a block that is not slipped is none that is slipped
 not_slipped : (shape : Shape) (dds : Dds) (b : ℕ) → Contains (unslipped shape dds) b → ¬ Contains (slipped dds) b
@@ -27,12 +27,12 @@ module _ (shape : Shape) (dds : Dds) (ssa block : ℕ) (valid : IsValidPdl shape
   from_supplementary : Contains (supplementary_spares shape (unreplaced dds ssa)) block → Contains (spares shape (unreplaced dds ssa)) block
   from_supplementary has = Contains-append_right (primary_spares shape dds) (supplementary_spares shape (unreplaced dds ssa)) block has
 
-  no_spare : (i : ℕ) → IsPlaced shape dds ssa block (places.Logical i) → ¬ Contains (spares shape (unreplaced dds ssa)) block
+  no_spare : (i : ℕ) → IsAtPlace shape dds ssa block (places.Logical i) → ¬ Contains (spares shape (unreplaced dds ssa)) block
   no_spare i (within, is) =
       logical_is_no_spare shape (unreplaced dds ssa) valid area block
       (subst (Contains (logical_blocks shape (unreplaced dds ssa))) is (Contains-logical_block shape (unreplaced dds ssa) valid area i within))
 
-  logical_unslipped : (i : ℕ) → IsPlaced shape dds ssa block (places.Logical i) → Contains (unslipped shape dds) block
+  logical_unslipped : (i : ℕ) → IsAtPlace shape dds ssa block (places.Logical i) → Contains (unslipped shape dds) block
   logical_unslipped i (within, is) =
       subst (Contains (unslipped shape dds)) is (logical_is_unslipped shape (unreplaced dds ssa) valid area i within)
 
@@ -50,7 +50,7 @@ module _ (shape : Shape) (dds : Dds) (ssa block : ℕ) (valid : IsValidPdl shape
   slipped_data has = All-contains (Contains (data_blocks shape)) (slipped dds) block valid.data_only has
 
   -- by cases on both places
-  pub one_place : (a b : Place) → IsPlaced shape dds ssa block a → IsPlaced shape dds ssa block b → a ≡ b
+  pub one_place : (a b : Place) → IsAtPlace shape dds ssa block a → IsAtPlace shape dds ssa block b → a ≡ b
   one_place (places.Logical i) (places.Logical j) (within, is) (within', is') =
       ap (λ (k : ℕ). places.Logical k) (logical_block_differs shape (unreplaced dds ssa) valid area i j within within' (is ∙ sym is'))
   one_place (places.Logical i) places.Primary x y = absurd (no_spare i x (from_primary y))

@@ -5,7 +5,7 @@ ghost use Rattle.model_geometry.specs.Geometry.{Shape};
 ghost use Rattle.model_lists.specs.Values.{Dds};
 ghost use Rattle.model_places.specs.Valid.{IsValidPdl, IsValidSsa};
 ghost use Rattle.ram_slip.specs.declared.place.Place.{Place};
-ghost use Rattle.ram_slip.specs.Place.{IsPlaced};
+ghost use Rattle.ram_slip.specs.Place.{IsAtPlace};
 
 /// What a block is to a disc.
 #[derive(Clone, Copy, Debug, PartialEq, Eq)]
@@ -30,5 +30,5 @@ pub enum Place {
 pub fn a_block_has_one_place()
     ensures { (shape : Shape) (dds : Dds) (ssa block : ℕ) (a b : Place)
         → IsValidPdl shape dds → IsValidSsa shape ssa
-        → IsPlaced shape dds ssa block a → IsPlaced shape dds ssa block b → a ≡ b }
+        → IsAtPlace shape dds ssa block a → IsAtPlace shape dds ssa block b → a ≡ b }
 {}

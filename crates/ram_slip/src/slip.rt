@@ -9,7 +9,7 @@ ghost use Rattle.model_places.specs.Places.{unslipped, primary_count, logical_bl
 ghost use Rattle.model_places.specs.Valid.{IsValidPdl, IsValidSsa};
 ghost use Rattle.ram_dds.specs.Dds.{dds_of};
 ghost use Rattle.ram_slip.specs.Counts.{IsCountPassed};
-ghost use Rattle.ram_slip.specs.Place.{IsPlaced};
+ghost use Rattle.ram_slip.specs.Place.{IsAtPlace};
 
 use crate::entries::{count_before, is_named};
 use crate::place::Place;
@@ -64,7 +64,7 @@ pub fn physical(geometry: &Geometry, dds: &DdsPdl, i: u32) -> u32
 pub fn place_of(geometry: &Geometry, dds: &DdsPdl, ssa: u32, block: u32) -> Place
     requires valid { IsValidPdl geometry.now (dds_of dds.now) }
     requires area { IsValidSsa geometry.now ssa }
-    ensures { IsPlaced geometry.now (dds_of dds.now) ssa block result }
+    ensures { IsAtPlace geometry.now (dds_of dds.now) ssa block result }
 {
     let Some(index) = geometry.data_index(block) else {
         return Place::Outside;
