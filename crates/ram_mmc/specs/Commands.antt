@@ -97,8 +97,8 @@ module _ (old new : Shown) (before after : Standing → Type 0) where
 
 -- The same of a drive, before and after.
 module _ {D : Type 0} (drives : Drives D) (old new : D) where
-  abbrev pub Reads : (lba n : ℕ) → Answer → List ℕ → Type 0
-  Reads lba n answer data_in =
+  abbrev pub AnswersRead : (lba n : ℕ) → Answer → List ℕ → Type 0
+  AnswersRead lba n answer data_in =
       IsRead (drives.shows old) (drives.shows new) (drives.stands old) (drives.stands new) lba n answer data_in
 
   abbrev pub Transfers : List ℕ → Result Answer Sense → List ℕ → Result Transfer Sense → Type 0

@@ -2,7 +2,7 @@
 ghost use Rattle.std.specs.Prelude.{◌≡◌, ◌*◌, ◌≤◌, [], length, vec_capacity};
 ghost use Rattle.model_commands.specs.Commands.{transfer_limit};
 ghost use Rattle.ram_mmc.specs.Asked.{asked};
-ghost use Rattle.ram_mmc.specs.Commands.{read_answer, write_answer, Reads, Transfers};
+ghost use Rattle.ram_mmc.specs.Commands.{read_answer, write_answer, AnswersRead, Transfers};
 
 use model_commands::Operation;
 use ram_bytes::{Cdb, SECTOR_BYTES, get_u16, get_u32};
@@ -89,7 +89,7 @@ fn read<D: Sectors>(disc: &mut D, lba: u32, n: u32, data_in: &mut Vec<u8>) -> An
     requires few { n ≤ transfer_limit }
     requires empty { data_in.old.items ≡ [] }
     requires room { 2048 * transfer_limit ≤ vec_capacity data_in.old }
-    ensures rule { Reads D.Sectors disc.old disc.new lba n result data_in.new.items }
+    ensures rule { AnswersRead D.Sectors disc.old disc.new lba n result data_in.new.items }
     ensures same_shape { D.shape disc.new ≡ D.shape disc.old }
     ensures room { vec_capacity data_in.old ≤ vec_capacity data_in.new }
 {

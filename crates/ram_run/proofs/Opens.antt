@@ -24,7 +24,7 @@ use Rattle.ram_text.specs.declared.printing.Event.TheVariants as events
 use Rattle.ram_run.specs.declared.inserted.Inserted.TheVariants as inserts
 use Rattle.ram_run.specs.declared.stopped.Stopped.TheVariants as whys
 use Rattle.ram_run.specs.Homes.{plain_homes}
-use Rattle.ram_run.specs.Drive.{IsStart, IsMade, IsOpenedBy, Opens}
+use Rattle.ram_run.specs.Drive.{IsStart, IsMade, IsOpenedBy, OpensDrive}
 use Rattle.ram_run.specs.Replies.{event, stopped_by}
 use Rattle.ram_run.specs.States.{State, Loaded, Unopened, Disc, IsOpenedOn}
 use Rattle.ram_run.specs.Inserted.{Stands, LeavesImage, IsPressAnswered}
@@ -112,7 +112,7 @@ module _ {I : Type 0} {d : Images I} (image : I) (medium : ImageMedium I d) (geo
       by_bytes (Some bytes) e = none (Off (first_disc (plain_homes geometry) (world_of medium).cells ∷ [])) (made.starts (start bytes e))
 
   -- the same, and nothing failed
-  pub opens : Opens (d.bytes image) (d.faults image) shape shown stands
+  pub opens : OpensDrive (d.bytes image) (d.faults image) shape shown stands
   opens = record { opened = opened_by; count = ap (λ (m : Machine). m.world.faults) made.medium_is ∙ opened.count }
 
 -- an image that was left and then pressed tells the bytes of a new disc

@@ -33,7 +33,7 @@ pub record IsOpenedBy (bytes : List ℕ) (shape : Shape) (shown : Shown) (stands
   pub is_in : IsIn shape shown stands state
 
 -- An image that has failed so often was opened as a disc, where its bytes are known, and it did not fail.
-pub record Opens (image : Option (List ℕ)) (faults : ℕ) (shape : Shape) (shown : Shown) (stands : Standing → Type 0) : Type 0 where
+pub record OpensDrive (image : Option (List ℕ)) (faults : ℕ) (shape : Shape) (shown : Shown) (stands : Standing → Type 0) : Type 0 where
   pub opened : (bytes : List ℕ) → image ≡ Some bytes → IsOpenedBy bytes shape shown stands
   pub count : shown.medium.world.faults ≡ faults
 

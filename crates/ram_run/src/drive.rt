@@ -4,7 +4,7 @@ ghost use Rattle.model_geometry.specs.Geometry.{total};
 ghost use Rattle.model_sectors.specs.Discs.{Standing, IsOn};
 ghost use Rattle.ram_image.specs.Opening.{IsRefused};
 ghost use Rattle.ram_medium.specs.Control.{FailRule, WearRule, with_armed_cut};
-ghost use Rattle.ram_run.specs.Drive.{Opens, HasCells, DriveLaws};
+ghost use Rattle.ram_run.specs.Drive.{OpensDrive, HasCells, DriveLaws};
 ghost use Rattle.ram_run.specs.Control.{buffer_after_fail, stands_after_fail};
 
 use ram_image::OpenFault;
@@ -21,7 +21,7 @@ pub trait Drive: Sectors {
     /// The drive over the disc that the image holds, with the power off. Else the image is handed back with the bytes
     /// that it had, and the reason: it has no disc's header or length, it failed, or there was no memory.
     fn open(alloc: Global, image: Self::Image) -> Result<Self, (Self::Image, OpenFault)>
-        ensures { MatchResult result (λ drive. Opens (Self.Image.bytes image)
+        ensures { MatchResult result (λ drive. OpensDrive (Self.Image.bytes image)
             (Self.Image.faults image) (Self.shape drive) (Self.shows drive) (Self.stands drive))
             (λ refused. IsRefused (Self.Image.bytes image) (Self.Image.bytes refused.0)
             (Self.Image.faults image) (Self.Image.faults refused.0) refused.1) };

@@ -16,7 +16,7 @@ use Rattle.ram_image.specs.declared.medium.ImageMedium.{ImageMedium}
 use Rattle.ram_image.specs.Medium.{shape_of_medium, world_of, ImageReaches}
 use Rattle.ram_run.specs.declared.plain.mechanism.Mechanism.{Mechanism}
 use Rattle.ram_run.specs.Plain.Disc.{shown_by, stands_for}
-use Rattle.ram_run.specs.Plain.Blocks.{Stays, OthersSame, IsPut, IsLost, PutStopped}
+use Rattle.ram_run.specs.Plain.Blocks.{Stays, OthersSame, IsPutHome, IsLost, PutStopped}
 use Rattle.ram_run.specs.Plain.Writing.{rest_uses, HasRest, RestStopped, HasDied, IsPlaced, PlaceStopped}
 use Rattle.ram_run.proofs.plain.ImageLaws.{image_laws}
 use Rattle.model_sectors.proofs.Merges.{length_with_part, block_of-with_part, other_block-with_part, merged_whole}
@@ -97,7 +97,7 @@ module _ {I : Type 0} {d : Ghosts I} (old : Mechanism I d) (lba n : ℕ) (bytes 
 
     module _ (new : Mechanism I d) where
       -- the home has it
-      pub placed : IsPut merged new block → IsPlaced old new lba n bytes block
+      pub placed : IsPutHome merged new block → IsPlaced old new lba n bytes block
       placed put = record {
         stays = stays_then old merged new (rest_uses (numbers_in old.buffer) lba n block) 2 stays_merged put.stays;
         buffered = ap numbers_in put.buffer_is ∙ numbers_in-with_newest block new.scratch ready.buffer

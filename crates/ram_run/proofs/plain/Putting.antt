@@ -18,7 +18,7 @@ use Rattle.ram_image.specs.Medium.{shape_of_medium, world_of, ImageReaches}
 use Rattle.ram_run.specs.declared.plain.mechanism.Mechanism.{Mechanism}
 use Rattle.ram_run.specs.Homes.{plain_homes}
 use Rattle.ram_run.specs.Plain.Disc.{shown_by}
-use Rattle.ram_run.specs.Plain.Blocks.{OthersSame, IsPut, IsLost, PutStopped}
+use Rattle.ram_run.specs.Plain.Blocks.{OthersSame, IsPutHome, IsLost, PutStopped}
 use Rattle.ram_run.proofs.plain.ImageLaws.{image_laws}
 
 -- a use of a block, whatever else was stopped
@@ -124,7 +124,7 @@ module _ {I : Type 0} {d : Ghosts I} (old new : Mechanism I d) (i block : ℕ) (
 
     -- the read back found the bytes
     pub is_put : ReadsCell (world_of mid) (world_of new.medium) block new.scratch
-        → Continues (λ (m : ImageMedium I d). world_of m) ImageReaches mid new.medium 1 → new.buffer ≡ with_newest i new.scratch old.buffer → IsPut old new i
+        → Continues (λ (m : ImageMedium I d). world_of m) ImageReaches mid new.medium 1 → new.buffer ≡ with_newest i new.scratch old.buffer → IsPutHome old new i
     is_put rule continues put =
         let known : (world_of mid).known ≡ (world_of old.medium).known = wrote.one.as_known in
         let found : OnTrue (world_of old.medium).known (home_cell (shown_by new) i ≡ Good new.scratch) =

@@ -69,7 +69,7 @@ module _ {I : Type 0} {d : Ghosts I} (old new : Mechanism I d) where
     pub few : length old.buffer ≤ BUFFERED_BLOCKS
 
   -- the home has the scratch block, which is buffered
-  pub record IsPut (i : ℕ) : Type 0 where
+  pub record IsPutHome (i : ℕ) : Type 0 where
     pub stays : Stays 2
     pub others : OthersSame i
     pub has : OnTrue (world_of old.medium).known (home_cell (shown_by new) i ≡ Good old.scratch)
@@ -85,7 +85,7 @@ module _ {I : Type 0} {d : Ghosts I} (old new : Mechanism I d) where
 
   -- what putting a block to its home does, by whether the home has it
   abbrev pub PutsHome : ℕ → Bool → Type 0
-  PutsHome i kept = MatchBool kept (IsPut i) (IsLost i)
+  PutsHome i kept = MatchBool kept (IsPutHome i) (IsLost i)
 
   -- it was stopped: the home may be anything that a stopped write leaves
   pub record PutStopped (i : ℕ) (stop : Stop) : Type 0 where
