@@ -21,7 +21,8 @@ pub fn write_copies<M: Medium>(
     requires size { M.block_count medium.old ≡ total geometry.now }
     requires on { IsTrue (M.world medium.old).power }
     ensures rule { MatchResult result
-        (HasWrittenCopies M.world M.reaches medium.old medium.new (λ area. list_block geometry.now area list) text.now 4)
+        (HasWrittenCopies M.world M.reaches medium.old medium.new
+        (λ area. list_block geometry.now area list) text.now 4)
         (StopsWriting M.world M.reaches medium.old medium.new
         (λ area. list_block geometry.now area list) text.now 8) }
     ensures counts { IfOk result
