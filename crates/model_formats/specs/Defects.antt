@@ -1,6 +1,6 @@
 -- Which blocks a full format keeps as defective, which it certifies, and which it finds: for certification and formats.
 use Rattle.std.specs.Prelude.{◌≡◌, ◌≢◌, ℕ, ◌+◌, ◌⊎◌, Bool, true, false, Option, Some, None, List, length}
-use Rattle.std.specs.List.{Contains}
+use Rattle.std.specs.List.{All, Contains}
 use Rattle.std.specs.List.Sorted.{IsStrictlyIncreasing}
 use Rattle.model_geometry.specs.Geometry.{Shape, data_blocks}
 use Rattle.model_lists.specs.declared.dds.PdlEntry.{PdlEntry}
@@ -36,7 +36,7 @@ kind_found (Some lists) = kinds.G1
 -- The entries that a format keeps, as a list: data blocks that rise. (This project's own.)
 pub record AreKept (shape : Shape) (kept : List PdlEntry) : Type 0 where
   pub rise : IsStrictlyIncreasing (pdl_blocks kept)
-  pub data_blocks_only : (block : ℕ) → Contains (pdl_blocks kept) block → Contains (data_blocks shape) block
+  pub data_only : All (Contains (data_blocks shape)) (pdl_blocks kept)
 
 module _ (shape : Shape) (keeps : PdlEntry → Type 0) where
   -- The format certifies the block: it is a data block that is not kept. (This project's own.)
