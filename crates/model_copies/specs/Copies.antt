@@ -95,6 +95,12 @@ pub record Mark (shape : Shape) (cells : List Cell) (mark : ℕ) : Type 0 where
   pub reached : (mark ≡ 0) ⊎ IsMarked IsDdsText (dds_block shape) cells (λ (list : Dds). list.counter) mark
       ⊎ IsMarked IsSdlText (sdl_block shape) cells (λ (list : Sdl). list.dds_counter) mark
 
+-- No copy of either list that can be read has a counter, or names one, that is greater than this one. (This project's
+-- own.)
+pub record AreMarkedWithin (shape : Shape) (cells : List Cell) (most : ℕ) : Type 0 where
+  pub dds : IsMarkedWithin IsDdsText (dds_block shape) cells (λ (list : Dds). list.counter) most
+  pub sdl : IsMarkedWithin IsSdlText (sdl_block shape) cells (λ (list : Sdl). list.dds_counter) most
+
 -- A list has no copy left: all four of its cells are dead. (This project's own.)
 abbrev pub AllLost : (ℕ → ℕ) → List Cell → Type 0
 AllLost place cells = (area : ℕ) → IsArea area → cell_at cells (place area) ≡ Dead
@@ -115,3 +121,16 @@ one_if_good Dead = 0
 abbrev pub good_count : (ℕ → ℕ) → List Cell → ℕ → ℕ
 good_count place cells zero = 0
 good_count place cells (suc k) = good_count place cells k + one_if_good (cell_at cells (place (suc k)))
+
+-- Which copies were exact, where a test says which cells are exactly the text.
+module _ (exact : Cell → Type 0) (place : ℕ → ℕ) (old new : List Cell) where
+  -- The copy was exactly the text when it was read: it was at entry, and is it now. (This project's own.)
+  abbrev pub WasExact : ℕ → Type 0
+  WasExact area = exact (cell_at old (place area)) × exact (cell_at new (place area))
+
+  -- Of the copies of the first so many areas, so many were not exactly the text when they were read: a repair wrote them
+  -- again. (This project's own.)
+  abbrev pub Rewrites : ℕ → ℕ → Type 0
+  Rewrites zero count = count ≡ 0
+  Rewrites (suc k) count = (WasExact (suc k) × Rewrites k count)
+      ⊎ (¬ WasExact (suc k) × ((before : ℕ) × (count ≡ before + 1) × Rewrites k before))

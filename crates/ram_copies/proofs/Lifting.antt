@@ -10,7 +10,7 @@ use Rattle.model_stops.specs.Stops.{FailsInUse, Continues, Stops}
 use Rattle.model_counts.specs.Counts.{Rose}
 use Rattle.model_stops.specs.declared.Stop.{Stop}
 use Rattle.model_stops.specs.declared.Stop.TheVariants as stops
-use Rattle.model_copies.specs.Copies.{IsArea, Holds, HoldsOrDead, MayHold, good_count}
+use Rattle.model_copies.specs.Copies.{IsArea, Holds, HoldsOrDead, MayHold, good_count, Rewrites}
 use Rattle.model_copies.proofs.CopyFacts.{lost_counts}
 use Rattle.ram_medium.specs.Laws.{MediumLaws}
 use Rattle.ram_medium.proofs.Parts.{continues_quiet, use_failed}
@@ -19,7 +19,7 @@ use Rattle.ram_zones.specs.declared.list_kind.ListKind.TheVariants as kinds
 use Rattle.ram_zones.specs.ListKind.{list_block}
 use Rattle.ram_copies.specs.Values.{ListValue, DdsValue, SdlValue, IsText}
 use Rattle.ram_copies.specs.Writes.{HasWrittenCopies, StopsWriting, CountsReadable}
-use Rattle.ram_copies.specs.Repairs.{Rewrites, MendLeaves, HasRepaired, StopsRepairing}
+use Rattle.ram_copies.specs.Repairs.{MendLeaves, HasRepaired, StopsRepairing}
 use Rattle.ram_copies.specs.Calls.{StoppedCounts, ChangesCopiesAlone, CallEnds, StoppedWithin, Keeps, MayLeaveCopies, SparesExactCopies, UpdateRule, Repairs, RepairRule, updated_of}
 use Rattle.ram_copies.specs.declared.updates.Updated.TheVariants as updates
 

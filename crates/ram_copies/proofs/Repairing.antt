@@ -7,12 +7,12 @@ use Rattle.model_medium.specs.Cells.{Cell, Good, Dead, cell_at}
 use Rattle.model_medium.specs.World.{World}
 use Rattle.model_stops.specs.Stops.{Continues}
 use Rattle.model_stops.specs.declared.Stop.{Stop}
-use Rattle.model_copies.specs.Copies.{IsArea, good_count}
+use Rattle.model_copies.specs.Copies.{IsArea, good_count, WasExact, Rewrites}
 use Rattle.ram_medium.specs.Laws.{MediumLaws}
 use Rattle.ram_medium.proofs.Parts.{continues_none, continues_then, stops_later, stops_within}
 use Rattle.ram_zones.specs.declared.list_kind.ListKind.{ListKind}
 use Rattle.ram_zones.specs.ListKind.{list_block}
-use Rattle.ram_copies.specs.Repairs.{WasExact, Rewrites, MendLeaves, HasMendedCopy, StopsMending, HasRepaired, StopsRepairing}
+use Rattle.ram_copies.specs.Repairs.{MendLeaves, HasMendedCopy, StopsMending, HasRepaired, StopsRepairing}
 use Rattle.ram_copies.proofs.Writing.{places_apart}
 use Rattle.ram_copies.proofs.Counting.{suc_is, count_kept, count_lost}
 

@@ -2,10 +2,9 @@
 
 ghost use Rattle.std.specs.Prelude.{◌≡◌, ℕ, List, Option, Some};
 ghost use Rattle.model_medium.specs.Cells.{Cell, cell_at};
-ghost use Rattle.model_copies.specs.Copies.{IsArea, Holds, MayHold, AreBetween};
+ghost use Rattle.model_copies.specs.Copies.{IsArea, Holds, MayHold, AreBetween, Rewrites};
 ghost use Rattle.ram_zones.specs.declared.list_kind.ListKind.{ListKind};
 ghost use Rattle.ram_copies.specs.Values.{ListValue, IsText, IsInGrammar, Decodes};
-ghost use Rattle.ram_copies.specs.Repairs.{Rewrites};
 
 /// Each list of the grammar has just one text, and each block is the text of at most one value, which is of the
 /// grammar.
