@@ -1,0 +1,10 @@
+pub mod Shown
+pub mod Sound
+pub mod Parts
+pub mod Reads
+pub mod Repairs
+pub mod Power
+pub mod FullFormats
+pub mod Rewriting
+pub mod Formats
+pub mod Runs

@@ -1,0 +1,40 @@
+//! What a drive with defect management shows, what it stands for, and what each of its calls may answer. Definitions
+//! alone, and their laws.
+#![tactic(auto)]
+
+/// What a format is to do. (After the two formats of ECMA-330: with and without certification.)
+#[derive(Clone, Copy, Debug, PartialEq, Eq)]
+pub enum Kind {
+    /// It certifies the disc, which leaves zeros, and makes new lists.
+    Full {
+        /// Whether the defective blocks of the secondary list are forgotten.
+        drop_sdl: bool,
+    },
+    /// It writes the copies of both lists again, and keeps the disc.
+    Rewrite,
+}
+
+/// How a format ended. (This project's own.)
+#[derive(Clone, Copy, Debug, PartialEq, Eq)]
+pub enum FormatOut {
+    /// The disc is formatted.
+    Good,
+    /// More blocks are defective than the primary list may slip.
+    TooMany {
+        /// How many are defective.
+        found: u32,
+    },
+    /// The mark has no room for two more, or a list could not be written.
+    NoUpdate {
+        /// The mark that has no room, or the counter that was to be written.
+        counter: u32,
+    },
+    /// The power was cut in this format.
+    Cut,
+    /// The power was off already, and nothing was done.
+    Off,
+    /// What the medium lies on failed, and counted it. The power is off.
+    Fault,
+    /// Memory was refused, and nothing was done.
+    NoMemory,
+}
