@@ -7,14 +7,14 @@ use Rattle.model_sectors.specs.Discs.{Standing, On, Off, zeros}
 use Rattle.model_stops.specs.declared.Stop.{Stop}
 use Rattle.model_stops.specs.declared.Stop.TheVariants as stops
 use Rattle.model_places.specs.Places.{Lists}
-use Rattle.model_volume.specs.Given.{IsGiven}
+use Rattle.model_volume.specs.Given.{IsGiven, GivesNone}
 use Rattle.model_formats.specs.Kept.{kept_count}
 use Rattle.model_formats.specs.Fresh.{fresh_sdl, fresh_lists}
 use Rattle.model_formats.specs.Defective.{AreDefective, AreZeroedOrDead, OnlyFormatted}
 use Rattle.model_drive.specs.declared.FormatOut.{FormatOut}
 use Rattle.model_drive.specs.declared.FormatOut.TheVariants as outs
 use Rattle.model_drive.specs.Shown.{Shown, WhenKnown, IsOn, cells_in, HasLostDds, HasLostSdl}
-use Rattle.model_drive.specs.Parts.{WasOff, EndsBy, IsStopped}
+use Rattle.model_drive.specs.Parts.{WasOff, EndsBy, IsStopped, OnlyLists, GivesNoOthers}
 use Rattle.model_drive.specs.Repairs.{dds_update_uses, sdl_update_uses}
 
 -- the uses of a certification: each data block that is not kept is written and read back
@@ -113,17 +113,24 @@ abbrev pub LosesList : Shown → Shown → Bool → ℕ → Type 0
 LosesList old new drop_sdl counter = LosesFirstDds old new drop_sdl counter
     ⊎ LosesSdl old new drop_sdl counter ⊎ LosesLastDds old new drop_sdl counter
 
--- lists that the cells give now they gave before, or they are new ones
-abbrev pub GivesOldOrFresh : Shown → Shown → Type 0
-GivesOldOrFresh old new = (lists : Lists) → IsGiven old.shape (cells_in new) lists
-    → IsGiven old.shape (cells_in old) lists ⊎ ((entries : List PdlEntry) × (lists ≡ fresh_lists old.shape old.mark entries))
+-- The cells give the new lists alone, and the blocks were certified.
+pub record GivesFreshAlone (old new : Shown) (drop_sdl : Bool) : Type 0 where
+  pub entries : List PdlEntry
+  pub alone : (lists : Lists) → IsGiven old.shape (cells_in new) lists → lists ≡ fresh_lists old.shape old.mark entries
+  pub certified : HasCertified old new drop_sdl entries
 
--- It was stopped.
+-- How far a format had come when it was stopped, as the cells show: no data block changed, and lists that they give now
+-- they gave before; or they give none; or they give the new ones.
+abbrev pub GivesInFormat : Shown → Shown → Bool → Type 0
+GivesInFormat old new drop_sdl = (OnlyLists old new × GivesNoOthers old new)
+    ⊎ GivesNone old.shape (cells_in new) ⊎ GivesFreshAlone old new drop_sdl
+
+-- it was stopped
 pub record StopsInFormat (old new : Shown) (drop_sdl : Bool) (stop : Stop) : Type 0 where
   pub was_on : IsOn old
   pub room : MarkHasRoom old
   pub only : OnlyFormatted old.shape old.lists drop_sdl (cells_in old) (cells_in new)
-  pub given : WhenKnown old (GivesOldOrFresh old new)
+  pub given : WhenKnown old (GivesInFormat old new drop_sdl)
   pub stopped : IsStopped old new (uses_of_format old drop_sdl) stop
 
 -- memory was refused, and nothing was done

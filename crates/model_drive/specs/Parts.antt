@@ -1,9 +1,9 @@
 -- What the clauses of all calls share: why a call is refused, how it ends, and what it keeps. (This project's own, as all
 -- here.)
-use Rattle.std.specs.Prelude.{◌≡◌, ◌≢◌, ℕ, ◌+◌, ◌<◌, ◌≤◌, None, []}
+use Rattle.std.specs.Prelude.{◌≡◌, ◌≢◌, ℕ, ◌+◌, ◌<◌, ◌≤◌, None, List, []}
 use Rattle.std.specs.List.{Contains}
 use Rattle.model_counts.specs.Counts.{Rose}
-use Rattle.model_medium.specs.Cells.{IsGood, IsSameOrDead, cell_at}
+use Rattle.model_medium.specs.Cells.{Cell, IsGood, IsSameOrDead, cell_at}
 use Rattle.model_medium.specs.Machine.{Machine}
 use Rattle.model_medium.specs.Reach.{Reach}
 use Rattle.model_stops.specs.Stops.{Continues, Stops}
@@ -61,6 +61,10 @@ pub record NoneRose (old new : Shown) : Type 0 where
 -- no cell changed
 abbrev pub SameCells : Shown → Shown → Type 0
 SameCells old new = (block : ℕ) → cell_at (cells_in new) block ≡ cell_at (cells_in old) block
+
+-- each cell is as it was, or dead
+abbrev pub AreSameOrDead : List Cell → List Cell → Type 0
+AreSameOrDead old new = (block : ℕ) → IsSameOrDead (cell_at old block) (cell_at new block)
 
 -- no cell changed but that of this block, which is as it was or dead
 pub record OnlyDies (old new : Shown) (block : ℕ) : Type 0 where

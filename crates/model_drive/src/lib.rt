@@ -2,6 +2,15 @@
 //! alone, and their laws.
 #![tactic(auto)]
 
+mod laws;
+
+pub use laws::{
+    a_format_is_of_one_kind, a_full_format_makes_a_disc_of_zeros, a_mount_finds_the_disc,
+    a_read_keeps_the_disc, a_rewriting_format_keeps_the_disc, a_verification_keeps_the_disc,
+    calls_that_can_end_well_do, dying_cells_keep_the_disc, lists_in_use_are_given_alone,
+    some_disc_fits_first_under_lists,
+};
+
 /// What a format is to do. (After the two formats of ECMA-330: with and without certification.)
 #[derive(Clone, Copy, Debug, PartialEq, Eq)]
 pub enum Kind {

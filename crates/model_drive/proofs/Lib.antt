@@ -1,0 +1,7 @@
+pub mod Fitting
+pub mod Ends
+pub mod Dying
+pub mod Powers
+pub mod Formatting
+pub mod Completing
+pub mod FormatSteps
