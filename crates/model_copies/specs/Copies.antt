@@ -95,12 +95,6 @@ pub record Mark (shape : Shape) (cells : List Cell) (mark : ℕ) : Type 0 where
   pub reached : (mark ≡ 0) ⊎ IsMarked IsDdsText (dds_block shape) cells (λ (list : Dds). list.counter) mark
       ⊎ IsMarked IsSdlText (sdl_block shape) cells (λ (list : Sdl). list.dds_counter) mark
 
--- No copy of either list that can be read has a counter, or names one, that is greater than this one. (This project's
--- own.)
-pub record AreMarkedWithin (shape : Shape) (cells : List Cell) (most : ℕ) : Type 0 where
-  pub dds : IsMarkedWithin IsDdsText (dds_block shape) cells (λ (list : Dds). list.counter) most
-  pub sdl : IsMarkedWithin IsSdlText (sdl_block shape) cells (λ (list : Sdl). list.dds_counter) most
-
 -- A list has no copy left: all four of its cells are dead. (This project's own.)
 abbrev pub AllLost : (ℕ → ℕ) → List Cell → Type 0
 AllLost place cells = (area : ℕ) → IsArea area → cell_at cells (place area) ≡ Dead

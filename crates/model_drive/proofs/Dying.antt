@@ -5,22 +5,20 @@ use Rattle.std.proofs.lemmas.Bool.{cases_eq}
 use Rattle.model_geometry.specs.Geometry.{Shape, dds_block, sdl_block}
 use Rattle.model_lists.specs.Texts.{IsDdsText, IsSdlText}
 use Rattle.model_medium.specs.Cells.{Cell, IsSameOrDead, cell_at}
-use Rattle.model_sectors.specs.Discs.{Standing, On, Off, sectors_of}
+use Rattle.model_sectors.specs.Discs.{Standing, On, Off, Agrees, block_of, sectors_of}
 use Rattle.model_sectors.specs.declared.ReadOut.{ReadOut}
 use Rattle.model_sectors.specs.declared.ReadOut.TheVariants as outs
 use Rattle.model_stops.specs.declared.Stop.{Stop}
 use Rattle.model_stops.specs.declared.Stop.TheVariants as stops
 use Rattle.model_copies.specs.Copies.{HoldsOrDead, Settled}
-use Rattle.model_places.specs.Places.{Lists}
-use Rattle.model_places.specs.Valid.{AreValid}
+use Rattle.model_places.specs.Places.{Lists, home_of}
 use Rattle.model_volume.specs.Given.{IsGiven, AreSettled}
-use Rattle.model_volume.specs.Covers.{FitsUnder, Cover}
+use Rattle.model_volume.specs.Covers.{FitsUnder, SomeFit, Cover}
 use Rattle.model_volume.proofs.GivenFacts.{given_before, settled_alone}
 use Rattle.model_drive.specs.Shown.{Shown, IsKnown, IsOn, cells_in, HoldsBlocksOf, Stands, StandsBy}
 use Rattle.model_drive.specs.Sound.{IsSound}
 use Rattle.model_drive.specs.Parts.{KeepsLists, AreSameOrDead, OnlyDies}
 use Rattle.model_drive.specs.Reads.{StopsInRead, ReadCause, ReadStep, VerifyCause, VerifyStep}
-use Rattle.model_drive.proofs.Fitting.{KeepsData, fits_kept, some_kept, dead_not_good}
 use Rattle.model_drive.proofs.Ends.{stop_known, stop_off}
 
 -- a drive that is on with a disc covers what its cells give by that disc alone
@@ -40,12 +38,19 @@ one_dies old new block only other = elim (cases_eq other block) [
 ]
 
 module _ (shape : Shape) (old new : List Cell) (dies : AreSameOrDead old new) where
-  data_dies : KeepsData shape old new
-  data_dies block is_data = elim (dies block) [ inl same ↦ inl same | inr dead ↦ inr (dead_not_good (cell_at new block) dead) ]
-
   -- a disc fits as before
-  pub fits_dies : (lists : Lists) → AreValid shape lists → (disc : List ℕ) → FitsUnder shape old lists disc → FitsUnder shape new lists disc
-  fits_dies lists valid = fits_kept shape old new data_dies lists valid
+  pub fits_dies : (lists : Lists) (disc : List ℕ) → FitsUnder shape old lists disc → FitsUnder shape new lists disc
+  fits_dies lists disc fits = record {
+    as_long = fits.as_long;
+    agrees = λ i h. elim (dies (home_of shape lists i)) [
+      | inl same ↦ subst (λ (c : Cell). Agrees c (block_of disc i)) (sym same) (fits.agrees i h)
+      | inr dead ↦ subst (λ (c : Cell). Agrees c (block_of disc i)) (sym dead) tt
+    ];
+  }
+
+  some_dies : (lists : Lists) (discs : List (List ℕ)) → SomeFit shape old lists discs → SomeFit shape new lists discs
+  some_dies lists [] none = none
+  some_dies lists (d ∷ discs) some = elim some [ inl fits ↦ inl (fits_dies lists d fits) | inr later ↦ inr (some_dies lists discs later) ]
 
   -- no other lists are given
   pub given_dies : (lists : Lists) → IsGiven shape new lists → IsGiven shape old lists
@@ -53,7 +58,7 @@ module _ (shape : Shape) (old new : List Cell) (dies : AreSameOrDead old new) wh
 
   -- the same discs cover what is given
   pub cover_dies : (discs : List (List ℕ)) → Cover shape old discs → Cover shape new discs
-  cover_dies discs cover lists given = some_kept shape old new data_dies lists given.valid discs (cover lists (given_dies lists given))
+  cover_dies discs cover lists given = some_dies lists discs (cover lists (given_dies lists given))
 
   module _ {V : Type 0} (text : V → List ℕ → Type 0) (place : ℕ → ℕ) where
     copies_die : (value : V) → Settled text place old value → Settled text place new value
@@ -71,7 +76,7 @@ module _ (shape : Shape) (old new : List Cell) (dies : AreSameOrDead old new) wh
   stands_dies : (lists : Option Lists) (before after : List (ℕ × List ℕ)) (disc : List ℕ) → (lists ≡ None → after ≡ []) → HoldsBlocksOf disc after → StandsBy shape old lists before disc → StandsBy shape new lists after disc
   stands_dies None before after disc empty holds stands = (stands.0, empty refl, λ lists given. stands.2 lists (given_dies lists given))
   stands_dies (Some lists) before after disc empty holds stands =
-      record { valid = stands.valid; settled = settled_dies lists stands.settled; fits = fits_dies lists stands.valid disc stands.fits; holds = holds }
+      record { valid = stands.valid; settled = settled_dies lists stands.settled; fits = fits_dies lists disc stands.fits; holds = holds }
 
 -- the buffer of a drive holds blocks of its disc
 holds_before : (shape : Shape) (cells : List Cell) (lists : Option Lists) (buffer : List (ℕ × List ℕ)) (disc : List ℕ) → StandsBy shape cells lists buffer disc → HoldsBlocksOf disc buffer

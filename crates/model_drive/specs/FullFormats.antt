@@ -1,20 +1,20 @@
 -- What a full format may do: why each answer comes, with the uses, the lists and the mark, and what it makes of the disc.
 -- (This project's own, as all here.)
 use Rattle.std.specs.Prelude.{◌≡◌, ℕ, ◌+◌, ◌-◌, ◌*◌, ◌<◌, ◌≤◌, ◌⊎◌, Bool, Some, None, List, [], ◌∷◌, length}
-use Rattle.model_geometry.specs.Geometry.{Shape, data_blocks, formattable}
+use Rattle.model_geometry.specs.Geometry.{Shape, data_blocks}
 use Rattle.model_lists.specs.declared.dds.PdlEntry.{PdlEntry}
-use Rattle.model_sectors.specs.Discs.{Standing, On, Off, zeros}
+use Rattle.model_sectors.specs.Discs.{Standing, On, Off}
 use Rattle.model_stops.specs.declared.Stop.{Stop}
 use Rattle.model_stops.specs.declared.Stop.TheVariants as stops
 use Rattle.model_places.specs.Places.{Lists}
-use Rattle.model_volume.specs.Given.{IsGiven, GivesNone}
-use Rattle.model_formats.specs.Kept.{kept_count}
+use Rattle.model_volume.specs.Given.{IsGiven}
+use Rattle.model_formats.specs.Defects.{IsKept, kept_count, kind_found, AreCertified, ChangesFormatted, AreDefective}
 use Rattle.model_formats.specs.Fresh.{fresh_sdl, fresh_lists}
-use Rattle.model_formats.specs.Defective.{AreDefective, AreZeroedOrDead, OnlyFormatted}
+use Rattle.model_formats.specs.Stopped.{zero_disc, CoversStopped}
 use Rattle.model_drive.specs.declared.FormatOut.{FormatOut}
 use Rattle.model_drive.specs.declared.FormatOut.TheVariants as outs
 use Rattle.model_drive.specs.Shown.{Shown, WhenKnown, IsOn, cells_in, HasLostDds, HasLostSdl}
-use Rattle.model_drive.specs.Parts.{WasOff, EndsBy, IsStopped, OnlyLists, GivesNoOthers}
+use Rattle.model_drive.specs.Parts.{WasOff, EndsBy, IsStopped}
 use Rattle.model_drive.specs.Repairs.{dds_update_uses, sdl_update_uses}
 
 -- the uses of a certification: each data block that is not kept is written and read back
@@ -36,18 +36,28 @@ uses_of_format old drop_sdl = uses_to_sdl old drop_sdl + dds_update_uses
 abbrev pub MarkHasRoom : Shown → Type 0
 MarkHasRoom old = old.mark + 2 ≤ 4294967295
 
+-- these entries are those that the format keeps and those of the blocks that are dead now, rising
+abbrev pub AreFoundIn : Shown → Shown → Bool → List PdlEntry → Type 0
+AreFoundIn old new drop_sdl entries =
+    AreDefective old.shape (IsKept old.lists drop_sdl) (kind_found old.lists) (cells_in new) entries
+
+-- no cell changed but those of both lists and of the blocks that are certified
+abbrev pub OnlyFormatted : Shown → Shown → Bool → Type 0
+OnlyFormatted old new drop_sdl = ChangesFormatted old.shape (IsKept old.lists drop_sdl) (cells_in old) (cells_in new)
+
 -- What every full format that used the medium and was not stopped has kept and dropped.
 pub record FormatsAny (old new : Shown) (drop_sdl : Bool) (uses : ℕ) : Type 0 where
   pub was_on : IsOn old
   pub room : MarkHasRoom old
   pub ends : EndsBy old new uses
-  pub only : OnlyFormatted old.shape old.lists drop_sdl (cells_in old) (cells_in new)
+  pub only : OnlyFormatted old new drop_sdl
   pub unbuffered : new.buffer ≡ []
 
--- The blocks were certified: these are defective now, kept and found, and the others have zeros.
-pub record HasCertified (old new : Shown) (drop_sdl : Bool) (entries : List PdlEntry) : Type 0 where
-  pub defective : WhenKnown old (AreDefective old.shape old.lists drop_sdl (cells_in new) entries)
-  pub zeroed : WhenKnown old (AreZeroedOrDead old.shape old.lists drop_sdl (cells_in new))
+-- The blocks that a format keeps were passed over, and the others certified: these are defective now, and each block that
+-- was certified has zeros or is dead.
+pub record HasFoundDefective (old new : Shown) (drop_sdl : Bool) (entries : List PdlEntry) : Type 0 where
+  pub defective : WhenKnown old (AreFoundIn old new drop_sdl entries)
+  pub zeroed : WhenKnown old (AreCertified old.shape (IsKept old.lists drop_sdl) (cells_in new))
 
 -- The disc is formatted, and its lists are new.
 pub record FormatsAll (old new : Shown) (drop_sdl : Bool) : Type 0 where
@@ -56,7 +66,7 @@ pub record FormatsAll (old new : Shown) (drop_sdl : Bool) : Type 0 where
   pub lists_are : new.lists ≡ Some (fresh_lists old.shape old.mark entries)
   pub mark_is : new.mark ≡ old.mark + 2
   pub few : length entries ≤ old.shape.psa
-  pub certified : HasCertified old new drop_sdl entries
+  pub certified : HasFoundDefective old new drop_sdl entries
   pub has_dds : WhenKnown old (¬ HasLostDds new)
   pub has_sdl : WhenKnown old (¬ HasLostSdl new)
 
@@ -68,7 +78,7 @@ pub record FindsTooMany (old new : Shown) (drop_sdl : Bool) (found : ℕ) : Type
   pub many : old.shape.psa < found
   pub entries : List PdlEntry
   pub found_is : found ≡ length entries
-  pub certified : HasCertified old new drop_sdl entries
+  pub certified : HasFoundDefective old new drop_sdl entries
 
 -- The mark has no room, and nothing was done.
 pub record MarkLacksRoom (old new : Shown) (counter : ℕ) : Type 0 where
@@ -80,7 +90,7 @@ pub record MarkLacksRoom (old new : Shown) (counter : ℕ) : Type 0 where
 -- the defective blocks are no more than may be slipped
 abbrev pub AreFewDefective : Shown → Shown → Bool → Type 0
 AreFewDefective old new drop_sdl = (entries : List PdlEntry)
-    → AreDefective old.shape old.lists drop_sdl (cells_in new) entries → length entries ≤ old.shape.psa
+    → AreFoundIn old new drop_sdl entries → length entries ≤ old.shape.psa
 
 -- the first update of the structure left no copy of it
 pub record LosesFirstDds (old new : Shown) (drop_sdl : Bool) (counter : ℕ) : Type 0 where
@@ -113,24 +123,18 @@ abbrev pub LosesList : Shown → Shown → Bool → ℕ → Type 0
 LosesList old new drop_sdl counter = LosesFirstDds old new drop_sdl counter
     ⊎ LosesSdl old new drop_sdl counter ⊎ LosesLastDds old new drop_sdl counter
 
--- The cells give the new lists alone, and the blocks were certified.
-pub record GivesFreshAlone (old new : Shown) (drop_sdl : Bool) : Type 0 where
-  pub entries : List PdlEntry
-  pub alone : (lists : Lists) → IsGiven old.shape (cells_in new) lists → lists ≡ fresh_lists old.shape old.mark entries
-  pub certified : HasCertified old new drop_sdl entries
-
--- How far a format had come when it was stopped, as the cells show: no data block changed, and lists that they give now
--- they gave before; or they give none; or they give the new ones.
-abbrev pub GivesInFormat : Shown → Shown → Bool → Type 0
-GivesInFormat old new drop_sdl = (OnlyLists old new × GivesNoOthers old new)
-    ⊎ GivesNone old.shape (cells_in new) ⊎ GivesFreshAlone old new drop_sdl
+-- lists that the cells give now they gave before, or they are new ones
+abbrev pub GivesOldOrFresh : Shown → Shown → Type 0
+GivesOldOrFresh old new = (lists : Lists) → IsGiven old.shape (cells_in new) lists
+    → IsGiven old.shape (cells_in old) lists ⊎ ((entries : List PdlEntry) × (lists ≡ fresh_lists old.shape old.mark entries))
 
 -- it was stopped
 pub record StopsInFormat (old new : Shown) (drop_sdl : Bool) (stop : Stop) : Type 0 where
   pub was_on : IsOn old
   pub room : MarkHasRoom old
-  pub only : OnlyFormatted old.shape old.lists drop_sdl (cells_in old) (cells_in new)
-  pub given : WhenKnown old (GivesInFormat old new drop_sdl)
+  pub only : OnlyFormatted old new drop_sdl
+  pub given : WhenKnown old (GivesOldOrFresh old new)
+  pub covers : WhenKnown old (CoversStopped old.shape (cells_in old) (cells_in new))
   pub stopped : IsStopped old new (uses_of_format old drop_sdl) stop
 
 -- memory was refused, and nothing was done
@@ -148,10 +152,6 @@ FullCause old new drop_sdl outs.Cut = StopsInFormat old new drop_sdl stops.Cut
 FullCause old new drop_sdl outs.Off = WasOff old new
 FullCause old new drop_sdl outs.Fault = StopsInFormat old new drop_sdl stops.Fault
 FullCause old new drop_sdl outs.NoMemory = FormatLacksMemory old new
-
--- the disc of zeros that a full format gives
-abbrev pub zero_disc : Shape → List ℕ
-zero_disc shape = zeros (2048 * formattable shape)
 
 -- What a full format that was stopped may leave: the disc as it was, or none; none; or none, or the disc of zeros.
 abbrev pub StandsInFormat : Shape → (Standing → Type 0) → List ℕ → Type 0

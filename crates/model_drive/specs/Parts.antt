@@ -1,7 +1,6 @@
 -- What the clauses of all calls share: why a call is refused, how it ends, and what it keeps. (This project's own, as all
 -- here.)
 use Rattle.std.specs.Prelude.{◌≡◌, ◌≢◌, ℕ, ◌+◌, ◌<◌, ◌≤◌, None, List, []}
-use Rattle.std.specs.List.{Contains}
 use Rattle.model_counts.specs.Counts.{Rose}
 use Rattle.model_medium.specs.Cells.{Cell, IsGood, IsSameOrDead, cell_at}
 use Rattle.model_medium.specs.Machine.{Machine}
@@ -9,7 +8,7 @@ use Rattle.model_medium.specs.Reach.{Reach}
 use Rattle.model_stops.specs.Stops.{Continues, Stops}
 use Rattle.model_stops.specs.declared.Stop.{Stop}
 use Rattle.model_places.specs.Places.{Lists}
-use Rattle.model_volume.specs.Given.{IsGiven, list_blocks}
+use Rattle.model_volume.specs.Given.{IsGiven, IsNoListBlock}
 use Rattle.model_drive.specs.Shown.{Shown, IsOn, IsFormatted, cells_in, capacity, home_cell}
 
 -- The power was off, and nothing changed. A drive that is off answers so, and no other does.
@@ -73,8 +72,8 @@ pub record OnlyDies (old new : Shown) (block : ℕ) : Type 0 where
 
 -- no cell changed but those of the copies of both lists
 abbrev pub OnlyLists : Shown → Shown → Type 0
-OnlyLists old new = (block : ℕ) → ¬ Contains (list_blocks old.shape) block
-    → cell_at (cells_in new) block ≡ cell_at (cells_in old) block
+OnlyLists old new =
+    (block : ℕ) → IsNoListBlock old.shape block → cell_at (cells_in new) block ≡ cell_at (cells_in old) block
 
 -- lists that the cells give now they gave before
 abbrev pub GivesNoOthers : Shown → Shown → Type 0

@@ -1,12 +1,12 @@
 -- Which lists a disc has: those that are given, those that are chosen, and those that are settled: for the mount.
-use Rattle.std.specs.Prelude.{◌≡◌, ℕ, ◌⊎◌, List, [], ◌∷◌, ◌++◌, map}
+use Rattle.std.specs.Prelude.{◌≡◌, ◌≢◌, ℕ, ◌⊎◌, List, [], ◌∷◌, ◌++◌, map}
 use Rattle.std.specs.List.{Contains}
 use Rattle.model_geometry.specs.Geometry.{Shape, dds_block, sdl_block}
 use Rattle.model_lists.specs.declared.dds.DdsState.TheVariants.{Formatted}
 use Rattle.model_lists.specs.Values.{Dds, Sdl}
 use Rattle.model_lists.specs.Texts.{IsDdsText, IsSdlText}
 use Rattle.model_medium.specs.Cells.{Cell, Dead, cell_at}
-use Rattle.model_copies.specs.Copies.{HasDdsCopy, HasSdlCopy, Settled, IsChosen, NoneChosen, IsSeen}
+use Rattle.model_copies.specs.Copies.{IsArea, HasDdsCopy, HasSdlCopy, Settled, IsChosen, NoneChosen, IsMarkedWithin, IsSeen}
 use Rattle.model_places.specs.Places.{Lists}
 use Rattle.model_places.specs.Valid.{IsValidPdl, BelongTogether, AreValid}
 
@@ -69,6 +69,16 @@ pub record AreSettled (shape : Shape) (cells : List Cell) (lists : Lists) : Type
 pub record AreSeen (shape : Shape) (old seen new : List Cell) : Type 0 where
   pub dds : IsSeen (dds_block shape) old seen new
   pub sdl : IsSeen (sdl_block shape) old seen new
+
+-- No copy of either list that can be read has a counter, or names one, above this: the mark of the disc is no greater.
+-- (This project's own.)
+pub record AreMarkedWithin (shape : Shape) (cells : List Cell) (most : ℕ) : Type 0 where
+  pub dds : IsMarkedWithin IsDdsText (dds_block shape) cells (λ (list : Dds). list.counter) most
+  pub sdl : IsMarkedWithin IsSdlText (sdl_block shape) cells (λ (list : Sdl). list.dds_counter) most
+
+-- The block is a copy of neither list. (This project's own.)
+abbrev pub IsNoListBlock : Shape → ℕ → Type 0
+IsNoListBlock shape block = (area : ℕ) → IsArea area → (block ≢ dds_block shape area) × (block ≢ sdl_block shape area)
 
 -- the eight blocks of both lists: of each the four areas' (after ECMA-330)
 abbrev pub list_blocks : Shape → List ℕ

@@ -32,7 +32,8 @@ use Rattle.ram_copies.specs.Chooses.{SawCopies, ChoosesOutOfMemory, IsMarkSeen, 
 use Rattle.ram_copies.proofs.EachList.{dds_settled, dds_chosen, dds_none, dds_marked, dds_may_hold, sdl_settled, sdl_chosen, sdl_none, sdl_marked, sdl_may_hold}
 use Rattle.ram_lists.specs.Lists.{AcceptsDds, AcceptsSdl, AcceptsNothing}
 use Rattle.ram_lists.specs.Parts.{HasPicked, EndsPicking, PicksBest, IsMended, EndsMending}
-use Rattle.ram_lists.specs.Mounts.{IsNoListBlock, KeepsGiven, FindsLists, FindsNoLists, MountHasEnded, WasStopped, WasOutOfMemory, EndsBare, EndRule}
+use Rattle.model_volume.specs.Given.{IsNoListBlock}
+use Rattle.ram_lists.specs.Mounts.{KeepsGiven, FindsLists, FindsNoLists, MountHasEnded, WasStopped, WasOutOfMemory, EndsBare, EndRule}
 use Rattle.ram_lists.specs.declared.ends.End.{End}
 use Rattle.ram_lists.specs.declared.ends.End.TheVariants as ends
 

@@ -1,5 +1,5 @@
 -- What a mount does, by its answer: for `mount`.
-use Rattle.std.specs.Prelude.{◌≡◌, ◌≢◌, ℕ, ◌+◌, ◌*◌, ◌≤◌, ◌⊎◌, true, IsTrue, Option, Some, None, List}
+use Rattle.std.specs.Prelude.{◌≡◌, ℕ, ◌+◌, ◌*◌, ◌≤◌, true, IsTrue, List}
 use Rattle.model_geometry.specs.Geometry.{Shape, dds_block, sdl_block}
 use Rattle.model_lists.specs.Values.{Dds, IsLawfulDds, IsLawfulSdl}
 use Rattle.model_lists.specs.Texts.{IsDdsText}
@@ -8,10 +8,10 @@ use Rattle.model_medium.specs.World.{World, UseContinues, IsOff}
 use Rattle.model_stops.specs.Stops.{Continues, Stops}
 use Rattle.model_stops.specs.declared.Stop.{Stop}
 use Rattle.model_stops.specs.declared.Stop.TheVariants as stops
-use Rattle.model_copies.specs.Copies.{IsArea, Settled, Mark}
+use Rattle.model_copies.specs.Copies.{Settled, Mark}
 use Rattle.model_places.specs.Places as places
 use Rattle.model_places.specs.Valid.{AreValid}
-use Rattle.model_volume.specs.Given.{IsGiven, GivesNone, IsChosenDds, AreChosen, ChoosesNone, AreSettled, AreSeen}
+use Rattle.model_volume.specs.Given.{IsGiven, GivesNone, IsChosenDds, AreChosen, ChoosesNone, AreSettled, AreSeen, IsNoListBlock}
 use Rattle.ram_copies.specs.Calls.{StoppedCounts}
 use Rattle.ram_lists.specs.Lists.{lists_of}
 use Rattle.ram_lists.specs.declared.mounting.Mounted.{Mounted}
@@ -21,11 +21,8 @@ use Rattle.ram_lists.specs.declared.ends.End.TheVariants as ends
 use Rattle.ram_lists.specs.declared.mounting.Disc.{Disc}
 use Rattle.ram_lists.specs.declared.mounting.Disc.TheVariants as discs
 
--- The block is a copy of neither list. (This project's own, as all here.)
-abbrev pub IsNoListBlock : Shape → ℕ → Type 0
-IsNoListBlock shape block = (area : ℕ) → IsArea area → (block ≢ dds_block shape area) × (block ≢ sdl_block shape area)
-
--- No cell changed but those of lists, and lists that the cells give now they gave before.
+-- No cell changed but those of lists, and lists that the cells give now they gave before. (This project's own, as all
+-- here.)
 pub record KeepsGiven (shape : Shape) (old new : World) : Type 0 where
   pub as_known : new.known ≡ old.known
   pub others : (block : ℕ) → IsNoListBlock shape block → cell_at new.cells block ≡ cell_at old.cells block
