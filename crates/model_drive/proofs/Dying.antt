@@ -15,7 +15,7 @@ use Rattle.model_places.specs.Places.{Lists, home_of}
 use Rattle.model_volume.specs.Given.{IsGiven, AreSettled}
 use Rattle.model_volume.specs.Covers.{FitsUnder, SomeFit, Cover}
 use Rattle.model_volume.proofs.GivenFacts.{given_before, settled_alone}
-use Rattle.model_drive.specs.Shown.{Shown, IsKnown, IsOn, cells_in, HoldsBlocksOf, Stands, StandsBy}
+use Rattle.model_drive.specs.Shown.{Shown, IsKnown, IsOn, cells_in, HoldsBlocksOf, StandsFor, StandsBy}
 use Rattle.model_drive.specs.Sound.{IsSound}
 use Rattle.model_drive.specs.Parts.{KeepsLists, AreSameOrDead, OnlyDies}
 use Rattle.model_drive.specs.Reads.{StopsInRead, ReadCause, ReadStep, VerifyCause, VerifyStep}
@@ -27,7 +27,7 @@ covers_on shape cells None buffer disc stands other given = absurd (stands.2 oth
 covers_on shape cells (Some lists) buffer disc stands other given =
     inl (subst (λ (l : Lists). FitsUnder shape cells l disc) (sym (settled_alone shape cells lists other stands.settled given)) stands.fits)
 
-pub stands_covers : (shown : Shown) (disc : List ℕ) → Stands shown (On disc) → Cover shown.shape (cells_in shown) (disc ∷ [])
+pub stands_covers : (shown : Shown) (disc : List ℕ) → StandsFor shown (On disc) → Cover shown.shape (cells_in shown) (disc ∷ [])
 stands_covers shown disc stands = covers_on shown.shape (cells_in shown) shown.lists shown.buffer disc stands.2
 
 -- no cell changed, or one died
@@ -93,7 +93,7 @@ empty_before shape cells (Some lists) buffer disc stands none = absurd cc
 module _ (old new : Shown) (same_shape : new.shape ≡ old.shape) where
   -- a drive that keeps its lists while cells die stands for the same disc, if its buffer holds blocks of it
   pub still_on : new.medium.world.known ≡ old.medium.world.known → KeepsLists old new → IsOn new → AreSameOrDead (cells_in old) (cells_in new) → (disc : List ℕ)
-      → (new.lists ≡ None → new.buffer ≡ []) → HoldsBlocksOf disc new.buffer → Stands old (On disc) → Stands new (On disc)
+      → (new.lists ≡ None → new.buffer ≡ []) → HoldsBlocksOf disc new.buffer → StandsFor old (On disc) → StandsFor new (On disc)
   still_on as_known keeps on dies disc empty holds stood = (
     as_known ∙ stood.0,
     on,
@@ -104,13 +104,13 @@ module _ (old new : Shown) (same_shape : new.shape ≡ old.shape) where
 
   -- with the same buffer it needs nothing more
   pub same_on : new.medium.world.known ≡ old.medium.world.known → KeepsLists old new → new.buffer ≡ old.buffer → IsOn new → AreSameOrDead (cells_in old) (cells_in new) → (disc : List ℕ)
-      → Stands old (On disc) → Stands new (On disc)
+      → StandsFor old (On disc) → StandsFor new (On disc)
   same_on as_known keeps same on dies disc stood = still_on as_known keeps on dies disc
       (λ none. same ∙ empty_before old.shape (cells_in old) old.lists old.buffer disc stood.2 (sym keeps.same_lists ∙ none))
       (subst (HoldsBlocksOf disc) (sym same) (holds_before old.shape (cells_in old) old.lists old.buffer disc stood.2)) stood
 
   -- with the power off it has the disc as a candidate
-  pub same_off : new.medium.world.known ≡ old.medium.world.known → ¬ IsOn new → AreSameOrDead (cells_in old) (cells_in new) → (disc : List ℕ) → Stands old (On disc) → Stands new (Off (disc ∷ []))
+  pub same_off : new.medium.world.known ≡ old.medium.world.known → ¬ IsOn new → AreSameOrDead (cells_in old) (cells_in new) → (disc : List ℕ) → StandsFor old (On disc) → StandsFor new (Off (disc ∷ []))
   same_off as_known off dies disc stood = (
     as_known ∙ stood.0,
     off,
@@ -118,21 +118,21 @@ module _ (old new : Shown) (same_shape : new.shape ≡ old.shape) where
   )
 
   -- and with the power off all along the same candidates
-  pub same_candidates : new.medium.world.known ≡ old.medium.world.known → ¬ IsOn new → AreSameOrDead (cells_in old) (cells_in new) → (discs : List (List ℕ)) → Stands old (Off discs) → Stands new (Off discs)
+  pub same_candidates : new.medium.world.known ≡ old.medium.world.known → ¬ IsOn new → AreSameOrDead (cells_in old) (cells_in new) → (discs : List (List ℕ)) → StandsFor old (Off discs) → StandsFor new (Off discs)
   same_candidates as_known off dies discs stood = (
     as_known ∙ stood.0,
     off,
     subst (λ (s : Shape). Cover s (cells_in new) discs) (sym same_shape) (cover_dies old.shape (cells_in old) (cells_in new) dies discs stood.2),
   )
 
-  stopped_off : (lba n most : ℕ) (stop : Stop) → StopsInRead old new lba n most stop → (disc : List ℕ) → Stands old (On disc) → Stands new (Off (disc ∷ []))
+  stopped_off : (lba n most : ℕ) (stop : Stop) → StopsInRead old new lba n most stop → (disc : List ℕ) → StandsFor old (On disc) → StandsFor new (Off (disc ∷ []))
   stopped_off lba n most stop cause disc stood =
       same_off (stop_known old.medium new.medium most stop cause.stopped.stops) (stop_off old.medium new.medium most stop cause.stopped.stops) (one_dies old new _ cause.dies) disc stood
 
-  pub verify_step : (lba n : ℕ) (s : Standing) (out : ReadOut) → VerifyCause old new lba n out → Stands old s → VerifyStep (Stands new) s out
+  pub verify_step : (lba n : ℕ) (s : Standing) (out : ReadOut) → VerifyCause old new lba n out → StandsFor old s → VerifyStep (StandsFor new) s out
   verify_step lba n (On disc) outs.Good cause stood = same_on cause.ends.reach.lasts.as_known cause.keeps cause.same_buffer cause.ends.is_on (λ block. inl (cause.same_cells block)) disc stood
-  verify_step lba n (On disc) outs.NotFormatted cause stood = subst (λ (x : Shown). Stands x (On disc)) (sym cause.nothing) stood
-  verify_step lba n (On disc) (outs.Range known) cause stood = subst (λ (x : Shown). Stands x (On disc)) (sym cause.nothing) stood
+  verify_step lba n (On disc) outs.NotFormatted cause stood = subst (λ (x : Shown). StandsFor x (On disc)) (sym cause.nothing) stood
+  verify_step lba n (On disc) (outs.Range known) cause stood = subst (λ (x : Shown). StandsFor x (On disc)) (sym cause.nothing) stood
   verify_step lba n (On disc) (outs.Unread named block) cause stood = same_on cause.ends.reach.lasts.as_known cause.keeps cause.same_buffer cause.ends.is_on (one_dies old new block cause.dies) disc stood
   verify_step lba n (On disc) outs.Cut cause stood = stopped_off lba n _ stops.Cut cause disc stood
   verify_step lba n (On disc) outs.Off cause stood = cause.off stood.1
@@ -142,7 +142,7 @@ module _ (old new : Shown) (same_shape : new.shape ≡ old.shape) where
   verify_step lba n (Off discs) (outs.Range known) cause stood = stood.1 cause.on
   verify_step lba n (Off discs) (outs.Unread named block) cause stood = stood.1 cause.inside.on
   verify_step lba n (Off discs) outs.Cut cause stood = stood.1 cause.inside.on
-  verify_step lba n (Off discs) outs.Off cause stood = subst (λ (x : Shown). Stands x (Off discs)) (sym cause.nothing) stood
+  verify_step lba n (Off discs) outs.Off cause stood = subst (λ (x : Shown). StandsFor x (Off discs)) (sym cause.nothing) stood
   verify_step lba n (Off discs) outs.Fault cause stood = stood.1 cause.inside.on
 
   -- no disc without lists has sectors
@@ -154,28 +154,28 @@ module _ (old new : Shown) (same_shape : new.shape ≡ old.shape) where
   not_none : {P : Type 0} → is_some old.lists ≡ true → new.lists ≡ old.lists → new.lists ≡ None → P
   not_none formatted same none = absurd (let e : false ≡ true = sym (ap is_some (sym same ∙ none)) ∙ formatted in cc)
 
-  pub read_step_on : (lba n : ℕ) (disc into : List ℕ) (out : ReadOut) → ReadCause old new lba n out → Stands old (On disc) → HoldsBlocksOf disc new.buffer → (out ≡ outs.Good → into ≡ sectors_of disc lba n)
-      → ReadStep (Stands new) (On disc) lba n into out
+  pub read_step_on : (lba n : ℕ) (disc into : List ℕ) (out : ReadOut) → ReadCause old new lba n out → StandsFor old (On disc) → HoldsBlocksOf disc new.buffer → (out ≡ outs.Good → into ≡ sectors_of disc lba n)
+      → ReadStep (StandsFor new) (On disc) lba n into out
   read_step_on lba n disc into outs.Good cause stood holds gives = (
     gives refl,
     still_on cause.ends.reach.lasts.as_known cause.keeps cause.ends.is_on (λ block. inl (cause.same_cells block)) disc (not_none cause.inside.formatted cause.keeps.same_lists) holds stood,
   )
   read_step_on lba n disc into outs.NotFormatted cause stood holds gives =
-      (unformatted_disc old.shape (cells_in old) old.lists old.buffer disc cause.unformatted stood.2, subst (λ (x : Shown). Stands x (On disc)) (sym cause.nothing) stood)
-  read_step_on lba n disc into (outs.Range known) cause stood holds gives = subst (λ (x : Shown). Stands x (On disc)) (sym cause.nothing) stood
+      (unformatted_disc old.shape (cells_in old) old.lists old.buffer disc cause.unformatted stood.2, subst (λ (x : Shown). StandsFor x (On disc)) (sym cause.nothing) stood)
+  read_step_on lba n disc into (outs.Range known) cause stood holds gives = subst (λ (x : Shown). StandsFor x (On disc)) (sym cause.nothing) stood
   read_step_on lba n disc into (outs.Unread named block) cause stood holds gives =
       still_on cause.ends.reach.lasts.as_known cause.keeps cause.ends.is_on (one_dies old new block cause.dies) disc (not_none cause.inside.formatted cause.keeps.same_lists) holds stood
   read_step_on lba n disc into outs.Cut cause stood holds gives = stopped_off lba n _ stops.Cut cause disc stood
   read_step_on lba n disc into outs.Off cause stood holds gives = cause.off stood.1
   read_step_on lba n disc into outs.Fault cause stood holds gives = stopped_off lba n _ stops.Fault cause disc stood
 
-  pub read_step_off : (lba n : ℕ) (discs : List (List ℕ)) (into : List ℕ) (out : ReadOut) → ReadCause old new lba n out → Stands old (Off discs) → ReadStep (Stands new) (Off discs) lba n into out
+  pub read_step_off : (lba n : ℕ) (discs : List (List ℕ)) (into : List ℕ) (out : ReadOut) → ReadCause old new lba n out → StandsFor old (Off discs) → ReadStep (StandsFor new) (Off discs) lba n into out
   read_step_off lba n discs into outs.Good cause stood = stood.1 cause.inside.on
   read_step_off lba n discs into outs.NotFormatted cause stood = stood.1 cause.on
   read_step_off lba n discs into (outs.Range known) cause stood = stood.1 cause.on
   read_step_off lba n discs into (outs.Unread named block) cause stood = stood.1 cause.inside.on
   read_step_off lba n discs into outs.Cut cause stood = stood.1 cause.inside.on
-  read_step_off lba n discs into outs.Off cause stood = subst (λ (x : Shown). Stands x (Off discs)) (sym cause.nothing) stood
+  read_step_off lba n discs into outs.Off cause stood = subst (λ (x : Shown). StandsFor x (Off discs)) (sym cause.nothing) stood
   read_step_off lba n discs into outs.Fault cause stood = stood.1 cause.inside.on
 
 -- lists in use are given alone, whatever cells turn dead

@@ -8,7 +8,7 @@ use Rattle.model_stops.specs.Stops.{Stops, FailsInUse}
 use Rattle.model_stops.specs.declared.Stop.{Stop}
 use Rattle.model_stops.specs.declared.Stop.TheVariants as stops
 use Rattle.model_drive.specs.Shown.{Shown, IsOn}
-use Rattle.model_drive.specs.Parts.{IsStopped, NoneRose}
+use Rattle.model_drive.specs.Parts.{IsStopped, NoneCounted}
 
 -- a use that failed
 pub use_failed : (old new : World) (block : ℕ) → FailsInUse old new block → HasFailed old new
@@ -32,7 +32,7 @@ stop_off old new most stops.Off stopped = subst (λ (w : World). ¬ IsTrue w.pow
 stop_off old new most stops.Fault stopped = (use_failed stopped.mid.world new.world stopped.block stopped.fails).turns_off
 
 -- where no count rose nothing was stopped
-pub none_stopped : (old new : Shown) (most : ℕ) (stop : Stop) → IsOn old → NoneRose old new → IsStopped old new most stop → ⊥
+pub none_stopped : (old new : Shown) (most : ℕ) (stop : Stop) → IsOn old → NoneCounted old new → IsStopped old new most stop → ⊥
 none_stopped old new most stops.Cut on none s = let c = s.stops.cut.one_cut in none.cuts (omega (arith, c))
 none_stopped old new most stops.Off on none s = s.stops.was_off on
 none_stopped old new most stops.Fault on none s =

@@ -7,7 +7,7 @@ use Rattle.model_drive.specs.declared.Kind.{Kind}
 use Rattle.model_drive.specs.declared.Kind.TheVariants as kinds
 use Rattle.model_drive.specs.declared.FormatOut.{FormatOut}
 use Rattle.model_drive.specs.declared.FormatOut.TheVariants as outs
-use Rattle.model_drive.specs.Shown.{Shown, IsOn, Stands}
+use Rattle.model_drive.specs.Shown.{Shown, IsOn, StandsFor}
 use Rattle.model_drive.specs.Sound.{IsSound}
 use Rattle.model_drive.specs.FullFormats.{FullCause}
 use Rattle.model_drive.specs.Rewriting.{RewriteCause}
@@ -49,18 +49,18 @@ module _ (old new : Shown) where
   nothing_off (Some lists) kinds.Rewrite cause = cause.nothing
 
   module _ (same_shape : new.shape ≡ old.shape) (sound : IsSound new) where
-    step_by : (lists : Option Lists) → old.lists ≡ lists → (disc : List ℕ) → Stands old (On disc) → (kind : Kind) (out : FormatOut) → FormatCauseBy old new lists kind out → FormatStepBy old new lists (Stands new) disc kind out
+    step_by : (lists : Option Lists) → old.lists ≡ lists → (disc : List ℕ) → StandsFor old (On disc) → (kind : Kind) (out : FormatOut) → FormatCauseBy old new lists kind out → FormatStepBy old new lists (StandsFor new) disc kind out
     step_by lists in_use disc stood (kinds.Full drop_sdl) out cause = full_step old new same_shape sound disc stood drop_sdl out cause
     step_by None in_use disc stood kinds.Rewrite out cause = full_step old new same_shape sound disc stood false out cause
     step_by (Some lists) in_use disc stood kinds.Rewrite out cause = rewrite_step old new same_shape sound lists in_use disc stood out cause
 
-    off_step : (discs : List (List ℕ)) → Stands old (Off discs) → (kind : Kind) (out : FormatOut) → FormatCause old new kind out → FormatStep old new (Stands new) (Off discs) kind out
+    off_step : (discs : List (List ℕ)) → StandsFor old (Off discs) → (kind : Kind) (out : FormatOut) → FormatCause old new kind out → FormatStep old new (StandsFor new) (Off discs) kind out
     off_step discs stood kind out cause =
         let is = needs_power old.lists kind out cause stood.1 in
         let nothing = nothing_off old.lists kind (subst (FormatCause old new kind) is cause) in
-        subst (FormatStep old new (Stands new) (Off discs) kind) (sym is) (subst (λ (x : Shown). Stands x (Off discs)) (sym nothing) stood)
+        subst (FormatStep old new (StandsFor new) (Off discs) kind) (sym is) (subst (λ (x : Shown). StandsFor x (Off discs)) (sym nothing) stood)
 
-    pub format_step : (s : Standing) → Stands old s → (kind : Kind) (out : FormatOut) → FormatCause old new kind out → FormatStep old new (Stands new) s kind out
+    pub format_step : (s : Standing) → StandsFor old s → (kind : Kind) (out : FormatOut) → FormatCause old new kind out → FormatStep old new (StandsFor new) s kind out
     format_step (On disc) stood kind out cause = step_by old.lists refl disc stood kind out cause
     format_step (Off discs) stood kind out cause = off_step discs stood kind out cause
 

@@ -15,7 +15,7 @@ use Rattle.model_formats.specs.Stopped.{zero_disc}
 use Rattle.model_formats.proofs.Fresh.{zeros_fit}
 use Rattle.model_drive.specs.declared.FormatOut.{FormatOut}
 use Rattle.model_drive.specs.declared.FormatOut.TheVariants as outs
-use Rattle.model_drive.specs.Shown.{Shown, IsKnown, cells_in, Stands}
+use Rattle.model_drive.specs.Shown.{Shown, IsKnown, cells_in, StandsFor}
 use Rattle.model_drive.specs.Sound.{IsSound}
 use Rattle.model_drive.specs.FullFormats.{HasFoundDefective, FullCause, FullStep, StandsInFormat, StopsInFormat, LosesList}
 use Rattle.model_drive.proofs.Ends.{stop_known, stop_off}
@@ -37,11 +37,11 @@ zeros_fit_found old new drop_sdl entries known found valid =
       not_kept = λ entry kept same. out (subst (Contains (pdl_blocks entries)) same (block_member entries entry ((found.defective known).kept entry kept)));
     }))
 
-module _ (old new : Shown) (same_shape : new.shape ≡ old.shape) (sound : IsSound new) (disc : List ℕ) (stood : Stands old (On disc)) where
-  bare : new.medium.world.known ≡ old.medium.world.known → (on : IsTrue new.medium.world.power) → new.lists ≡ None → new.buffer ≡ [] → Stands new (On [])
+module _ (old new : Shown) (same_shape : new.shape ≡ old.shape) (sound : IsSound new) (disc : List ℕ) (stood : StandsFor old (On disc)) where
+  bare : new.medium.world.known ≡ old.medium.world.known → (on : IsTrue new.medium.world.power) → new.lists ≡ None → new.buffer ≡ [] → StandsFor new (On [])
   bare as_known on none empty = stands_bare old new same_shape sound (as_known ∙ stood.0) on none empty
 
-  loses : (drop_sdl : Bool) (counter : ℕ) → LosesList old new drop_sdl counter → FullStep old new (Stands new) disc (outs.NoUpdate counter)
+  loses : (drop_sdl : Bool) (counter : ℕ) → LosesList old new drop_sdl counter → FullStep old new (StandsFor new) disc (outs.NoUpdate counter)
   loses drop_sdl counter (inl cause) = inr (cause.any.room, bare cause.any.ends.reach.lasts.as_known cause.any.ends.is_on cause.no_lists cause.any.unbuffered)
   loses drop_sdl counter (inr (inl cause)) = inr (cause.any.room, bare cause.any.ends.reach.lasts.as_known cause.any.ends.is_on cause.no_lists cause.any.unbuffered)
   loses drop_sdl counter (inr (inr cause)) = inr (cause.any.room, bare cause.any.ends.reach.lasts.as_known cause.any.ends.is_on cause.no_lists cause.any.unbuffered)
@@ -50,21 +50,21 @@ module _ (old new : Shown) (same_shape : new.shape ≡ old.shape) (sound : IsSou
   more_cover : (discs : List (List ℕ)) → Cover old.shape (cells_in new) (disc ∷ []) → Cover old.shape (cells_in new) (disc ∷ discs)
   more_cover discs cover lists given = elim (cover lists given) [ inl fits ↦ inl fits | inr none ↦ absurd none ]
 
-  stopped : (drop_sdl : Bool) (stop : Stop) → StopsInFormat old new drop_sdl stop → StandsInFormat old.shape (Stands new) disc
+  stopped : (drop_sdl : Bool) (stop : Stop) → StopsInFormat old new drop_sdl stop → StandsInFormat old.shape (StandsFor new) disc
   stopped drop_sdl stop cause = elim (cause.covers stood.0) [
     | inl first ↦ inl (stands (disc ∷ [] ∷ []) (more_cover ([] ∷ []) (first (disc ∷ []) (stands_covers old disc stood))))
     | inr (inl none) ↦ inr (inl (stands ([] ∷ []) (λ lists given. absurd (none lists given))))
     | inr (inr fresh) ↦ inr (inr (stands ([] ∷ zero_disc old.shape ∷ []) (λ lists given. inr (fresh lists given))))
   ]
     where
-      stands : (discs : List (List ℕ)) → Cover old.shape (cells_in new) discs → Stands new (Off discs)
+      stands : (discs : List (List ℕ)) → Cover old.shape (cells_in new) discs → StandsFor new (Off discs)
       stands discs cover = (
         stop_known old.medium new.medium _ stop cause.stopped.stops ∙ stood.0,
         stop_off old.medium new.medium _ stop cause.stopped.stops,
         subst (λ (shape : Shape). Cover shape (cells_in new) discs) (sym same_shape) cover,
       )
 
-  pub full_step : (drop_sdl : Bool) (out : FormatOut) → FullCause old new drop_sdl out → FullStep old new (Stands new) disc out
+  pub full_step : (drop_sdl : Bool) (out : FormatOut) → FullCause old new drop_sdl out → FullStep old new (StandsFor new) disc out
   full_step drop_sdl outs.Good cause =
       let known = cause.any.ends.reach.lasts.as_known ∙ stood.0 in
       let valid = subst (λ (shape : Shape). AreValid shape (fresh_lists old.shape old.mark cause.entries)) same_shape (sound.in_use (fresh_lists old.shape old.mark cause.entries) cause.lists_are).valid in
@@ -72,9 +72,9 @@ module _ (old new : Shown) (same_shape : new.shape ≡ old.shape) (sound : IsSou
       stands_fitting old new same_shape sound known cause.any.ends.is_on (fresh_lists old.shape old.mark cause.entries) cause.lists_are cause.any.unbuffered (zero_disc old.shape)
       (subst (λ (shape : Shape). FitsUnder shape (cells_in new) (fresh_lists old.shape old.mark cause.entries) (zero_disc old.shape)) (sym same_shape) fits)
   full_step drop_sdl (outs.TooMany found) cause = bare cause.any.ends.reach.lasts.as_known cause.any.ends.is_on cause.no_lists cause.any.unbuffered
-  full_step drop_sdl (outs.NoUpdate counter) (inl cause) = inl (cause, subst (λ (x : Shown). Stands x (On disc)) (sym cause.nothing) stood)
+  full_step drop_sdl (outs.NoUpdate counter) (inl cause) = inl (cause, subst (λ (x : Shown). StandsFor x (On disc)) (sym cause.nothing) stood)
   full_step drop_sdl (outs.NoUpdate counter) (inr cause) = loses drop_sdl counter cause
   full_step drop_sdl outs.Cut cause = stopped drop_sdl stops.Cut cause
   full_step drop_sdl outs.Off cause = cause.off stood.1
   full_step drop_sdl outs.Fault cause = stopped drop_sdl stops.Fault cause
-  full_step drop_sdl outs.NoMemory cause = subst (λ (x : Shown). Stands x (On disc)) (sym cause.nothing) stood
+  full_step drop_sdl outs.NoMemory cause = subst (λ (x : Shown). StandsFor x (On disc)) (sym cause.nothing) stood

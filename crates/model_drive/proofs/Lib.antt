@@ -5,3 +5,4 @@ pub mod Powers
 pub mod Formatting
 pub mod Completing
 pub mod FormatSteps
+pub mod BlankMount

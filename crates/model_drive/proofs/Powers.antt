@@ -14,7 +14,7 @@ use Rattle.model_formats.proofs.Phases.{fits_data, some_fit_data, cover_data}
 use Rattle.model_volume.proofs.GivenFacts.{given_seen, chosen_given}
 use Rattle.model_drive.specs.declared.FormatOut.{FormatOut}
 use Rattle.model_drive.specs.declared.FormatOut.TheVariants as formats
-use Rattle.model_drive.specs.Shown.{Shown, IsKnown, IsOn, cells_in, HoldsBlocksOf, Stands, StandsBy}
+use Rattle.model_drive.specs.Shown.{Shown, IsKnown, IsOn, cells_in, HoldsBlocksOf, StandsFor, StandsBy}
 use Rattle.model_drive.specs.Sound.{IsSound}
 use Rattle.model_drive.specs.Parts.{OnlyLists, GivesNoOthers}
 use Rattle.model_drive.specs.Power.{turned_on, MountsAny, MountsLists, StopsInMount, PowerCause, PowerStep}
@@ -30,11 +30,11 @@ holds_nothing disc buffer empty i bytes has = absurd (nothing (subst (λ (b : Li
     nothing : ¬ Contains {X = ℕ × List ℕ} [] (i, bytes)
     nothing (k, within, is) = omega arith
 
-pub covers_candidates : (old : Shown) (s : Standing) → Stands old s → Cover old.shape (cells_in old) (candidates s)
+pub covers_candidates : (old : Shown) (s : Standing) → StandsFor old s → Cover old.shape (cells_in old) (candidates s)
 covers_candidates old (On disc) stood = stands_covers old disc stood
 covers_candidates old (Off discs) stood = stood.2
 
-known_before : (old : Shown) (s : Standing) → Stands old s → IsKnown old
+known_before : (old : Shown) (s : Standing) → StandsFor old s → IsKnown old
 known_before old (On disc) stood = stood.0
 known_before old (Off discs) stood = stood.0
 
@@ -48,12 +48,12 @@ module _ (old new : Shown) (only : OnlyLists old new) where
 
 module _ (old new : Shown) (same_shape : new.shape ≡ old.shape) (sound : IsSound new) where
   -- a drive that is on, with no lists in use, stands for the disc without sectors
-  pub stands_bare : IsKnown new → IsOn new → new.lists ≡ None → new.buffer ≡ [] → Stands new (On [])
+  pub stands_bare : IsKnown new → IsOn new → new.lists ≡ None → new.buffer ≡ [] → StandsFor new (On [])
   stands_bare known on none empty =
       (known, on, subst (λ (o : Option Lists). StandsBy new.shape (cells_in new) o new.buffer []) (sym none) (refl, empty, (sound.bare on none).gives_none known))
 
   -- with lists in use, and no block buffered, it stands for a disc that fits
-  pub stands_fitting : IsKnown new → IsOn new → (lists : Lists) → new.lists ≡ Some lists → new.buffer ≡ [] → (disc : List ℕ) → FitsUnder new.shape (cells_in new) lists disc → Stands new (On disc)
+  pub stands_fitting : IsKnown new → IsOn new → (lists : Lists) → new.lists ≡ Some lists → new.buffer ≡ [] → (disc : List ℕ) → FitsUnder new.shape (cells_in new) lists disc → StandsFor new (On disc)
   stands_fitting known on lists in_use empty disc fits = (
     known,
     on,
@@ -65,18 +65,18 @@ module _ (old new : Shown) (same_shape : new.shape ≡ old.shape) (sound : IsSou
     }),
   )
 
-  module _ (s : Standing) (stood : Stands old s) where
-    still_off : new.medium.world.known ≡ old.medium.world.known → MountsAny old new → ¬ IsOn new → Stands new (Off (candidates s))
+  module _ (s : Standing) (stood : StandsFor old s) where
+    still_off : new.medium.world.known ≡ old.medium.world.known → MountsAny old new → ¬ IsOn new → StandsFor new (Off (candidates s))
     still_off as_known any off = (
       as_known ∙ known_before old s stood,
       off,
       subst (λ (shape : Shape). Cover shape (cells_in new) (candidates s)) (sym same_shape) (cover_kept old new any.only (any.given (known_before old s stood)) (candidates s) (covers_candidates old s stood)),
     )
 
-    stopped : (stop : Stop) → StopsInMount old new stop → Stands new (Off (candidates s))
+    stopped : (stop : Stop) → StopsInMount old new stop → StandsFor new (Off (candidates s))
     stopped stop cause = still_off (stop_known (turned_on old).medium new.medium _ stop cause.stopped.stops) cause.any (stop_off (turned_on old).medium new.medium _ stop cause.stopped.stops)
 
-    mounted : (known : ℕ) → MountsLists old new known → PowerStep new (Stands new) s (powers.Ready known)
+    mounted : (known : ℕ) → MountsLists old new known → PowerStep new (StandsFor new) s (powers.Ready known)
     mounted known m =
         let was = known_before old s stood in
         let given = given_seen old.shape (cells_in old) m.seen (cells_in new) m.lists (m.sees was) (chosen_given old.shape m.seen m.lists (m.chosen was)) in
@@ -90,28 +90,28 @@ module _ (old new : Shown) (same_shape : new.shape ≡ old.shape) (sound : IsSou
           found = stands_fitting (m.ends.reach.lasts.as_known ∙ was) m.ends.is_on m.lists m.in_use m.any.unbuffered found.0 found.2;
         }
 
-    pub power_step : (out : PowerOut) → PowerCause old new out → PowerStep new (Stands new) s out
+    pub power_step : (out : PowerOut) → PowerCause old new out → PowerStep new (StandsFor new) s out
     power_step (powers.Ready known) cause = mounted known cause
     power_step powers.NotFormatted cause = stands_bare (cause.ends.reach.lasts.as_known ∙ known_before old s stood) cause.ends.is_on cause.no_lists cause.any.unbuffered
     power_step powers.Cut cause = stopped stops.Cut cause
     power_step powers.Fault cause = stopped stops.Fault cause
     power_step powers.NoMemory cause = still_off cause.reach.lasts.as_known cause.any cause.off
 
-  module _ (lists : Lists) (in_use : old.lists ≡ Some lists) (disc : List ℕ) (stood : Stands old (On disc)) where
-    both_repaired : RepairsBoth old new lists → Stands new (On disc)
+  module _ (lists : Lists) (in_use : old.lists ≡ Some lists) (disc : List ℕ) (stood : StandsFor old (On disc)) where
+    both_repaired : RepairsBoth old new lists → StandsFor new (On disc)
     both_repaired both =
         let was = subst (λ (o : Option Lists). StandsBy old.shape (cells_in old) o old.buffer disc) in_use stood.2 in
         stands_fitting (both.ends.reach.lasts.as_known ∙ stood.0) both.ends.is_on lists (both.keeps.same_lists ∙ in_use) both.unbuffered disc
         (subst (λ (shape : Shape). FitsUnder shape (cells_in new) lists disc) (sym same_shape) (fits_data old.shape (cells_in old) (cells_in new) (data_same old new both.only) lists was.valid disc was.fits))
 
-    rewrite_stopped : (stop : Stop) → StopsInRewrite old new stop → Stands new (Off (disc ∷ []))
+    rewrite_stopped : (stop : Stop) → StopsInRewrite old new stop → StandsFor new (Off (disc ∷ []))
     rewrite_stopped stop cause = (
       stop_known old.medium new.medium _ stop cause.stopped.stops ∙ stood.0,
       stop_off old.medium new.medium _ stop cause.stopped.stops,
       subst (λ (shape : Shape). Cover shape (cells_in new) (disc ∷ [])) (sym same_shape) (cover_kept old new cause.only (cause.given stood.0) (disc ∷ []) (stands_covers old disc stood)),
     )
 
-    pub rewrite_step : (out : FormatOut) → RewriteCause old new lists out → RewriteStep (Stands new) disc out
+    pub rewrite_step : (out : FormatOut) → RewriteCause old new lists out → RewriteStep (StandsFor new) disc out
     rewrite_step formats.Good cause = both_repaired cause.both
     rewrite_step (formats.TooMany found) cause = cause
     rewrite_step (formats.NoUpdate counter) cause = both_repaired cause.both

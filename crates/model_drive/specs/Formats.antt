@@ -8,7 +8,7 @@ use Rattle.model_drive.specs.declared.Kind.TheVariants as kinds
 use Rattle.model_drive.specs.declared.FormatOut.{FormatOut}
 use Rattle.model_drive.specs.declared.FormatOut.TheVariants as outs
 use Rattle.model_drive.specs.Shown.{Shown, WhenKnown, IsOn, HasLostDds, HasLostSdl}
-use Rattle.model_drive.specs.Parts.{NoneRose}
+use Rattle.model_drive.specs.Parts.{NoneCounted}
 use Rattle.model_drive.specs.FullFormats.{MarkHasRoom, AreFewDefective, FullCause, FullStep}
 use Rattle.model_drive.specs.Rewriting.{RewriteCause, RewriteStep}
 
@@ -38,7 +38,7 @@ FormatStep old new after (Off discs) kind _ = ⊥
 -- the power was on, no cut and no fault came, and both lists have copies now
 pub record KeepsCopies (old new : Shown) : Type 0 where
   pub on : IsOn old
-  pub none_rose : NoneRose old new
+  pub none_rose : NoneCounted old new
   pub has_dds : ¬ HasLostDds new
   pub has_sdl : ¬ HasLostSdl new
 

@@ -8,3 +8,4 @@ pub mod FullFormats
 pub mod Rewriting
 pub mod Formats
 pub mod Runs
+pub mod Worked

@@ -53,7 +53,7 @@ pub record KeepsLists (old new : Shown) : Type 0 where
   pub same_mark : new.mark ≡ old.mark
 
 -- neither a cut nor a fault was counted
-pub record NoneRose (old new : Shown) : Type 0 where
+pub record NoneCounted (old new : Shown) : Type 0 where
   pub cuts : ¬ Rose old.medium.world.cuts new.medium.world.cuts
   pub faults : ¬ Rose old.medium.world.faults new.medium.world.faults
 

@@ -5,7 +5,7 @@ use Rattle.model_geometry.specs.Geometry.{Shape}
 use Rattle.model_medium.specs.Cells.{Cell}
 use Rattle.model_sectors.specs.Discs.{Standing}
 use Rattle.model_volume.specs.Starts.{Found, IsDiscStart}
-use Rattle.model_drive.specs.Shown.{Shown, IsOn, Stands, cells_in}
+use Rattle.model_drive.specs.Shown.{Shown, IsOn, StandsFor, cells_in}
 use Rattle.model_drive.specs.Sound.{IsSound}
 
 -- A disc in the drive: what the drive shows, which is sound, and one thing that it stands for.
@@ -13,7 +13,7 @@ pub record Loaded : Type 0 where
   pub shown : Shown
   pub standing : Standing
   pub sound : IsSound shown
-  pub stands : Stands shown standing
+  pub stands : StandsFor shown standing
 
 -- The disc of an image that was just opened: these cells, nothing armed, counted or kept, and the power off.
 pub record IsOpenedOn (shape : Shape) (cells : List Cell) (s : Loaded) : Type 0 where

@@ -94,10 +94,10 @@ module _ (shape : Shape) (cells : List Cell) where
 -- What a drive stands for: with the power on a disc, and with the power off some discs: whichever lists the cells give,
 -- one of these fits under them. A block whose home has no whole bytes has its last acknowledged bytes all the same, so
 -- this is a relation, and no function of what is shown.
-abbrev pub Stands : Shown → Standing → Type 0
-Stands shown (On disc) = IsKnown shown × IsOn shown
+abbrev pub StandsFor : Shown → Standing → Type 0
+StandsFor shown (On disc) = IsKnown shown × IsOn shown
     × StandsBy shown.shape (cells_in shown) shown.lists shown.buffer disc
-Stands shown (Off discs) = IsKnown shown × ¬ IsOn shown × Cover shown.shape (cells_in shown) discs
+StandsFor shown (Off discs) = IsKnown shown × ¬ IsOn shown × Cover shown.shape (cells_in shown) discs
 
 -- this is the first of these discs that fits under the lists
 abbrev pub IsFirstUnder : Shape → List Cell → Lists → List (List ℕ) → List ℕ → Type 0

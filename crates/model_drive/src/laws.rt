@@ -13,7 +13,7 @@ ghost use Rattle.model_volume.specs.Covers.{FitsUnder, SomeFit};
 ghost use Rattle.model_drive.specs.declared.Kind.{Kind};
 ghost use Rattle.model_drive.specs.declared.FormatOut.{FormatOut};
 ghost use Rattle.model_drive.specs.declared.FormatOut.TheVariants as formats;
-ghost use Rattle.model_drive.specs.Shown.{Shown, IsKnown, IsOn, HoldsBlocksOf, Stands, IsFirstUnder, cells_in};
+ghost use Rattle.model_drive.specs.Shown.{Shown, IsKnown, IsOn, HoldsBlocksOf, StandsFor, IsFirstUnder, cells_in};
 ghost use Rattle.model_drive.specs.Sound.{IsSound};
 ghost use Rattle.model_drive.specs.Parts.{KeepsLists, AreSameOrDead};
 ghost use Rattle.model_drive.specs.Reads.{ReadCause, ReadStep, ReadCompletes, VerifyCause, VerifyStep};
@@ -38,63 +38,63 @@ pub fn dying_cells_keep_the_disc()
     ensures on { (old new : Shown) → new.shape ≡ old.shape
         → new.medium.world.known ≡ old.medium.world.known → KeepsLists old new
         → new.buffer ≡ old.buffer → IsOn new → AreSameOrDead (cells_in old) (cells_in new)
-        → (disc : List ℕ) → Stands old (On disc) → Stands new (On disc) }
+        → (disc : List ℕ) → StandsFor old (On disc) → StandsFor new (On disc) }
     ensures turned_off { (old new : Shown) → new.shape ≡ old.shape
         → new.medium.world.known ≡ old.medium.world.known → ¬ IsOn new
         → AreSameOrDead (cells_in old) (cells_in new)
-        → (disc : List ℕ) → Stands old (On disc) → Stands new (Off (disc ∷ [])) }
+        → (disc : List ℕ) → StandsFor old (On disc) → StandsFor new (Off (disc ∷ [])) }
     ensures off { (old new : Shown) → new.shape ≡ old.shape
         → new.medium.world.known ≡ old.medium.world.known → ¬ IsOn new
         → AreSameOrDead (cells_in old) (cells_in new)
-        → (discs : List (List ℕ)) → Stands old (Off discs) → Stands new (Off discs) }
+        → (discs : List (List ℕ)) → StandsFor old (Off discs) → StandsFor new (Off discs) }
 {}
 
 /// What a read makes of what the drive stood for follows from its cause, where the buffered blocks are the disc's still
 /// and the bytes that it gave are the sectors'.
 pub fn a_read_keeps_the_disc()
     ensures on { (old new : Shown) → new.shape ≡ old.shape → (lba n : ℕ) (disc into : List ℕ) (out : ReadOut)
-        → ReadCause old new lba n out → Stands old (On disc) → HoldsBlocksOf disc new.buffer
+        → ReadCause old new lba n out → StandsFor old (On disc) → HoldsBlocksOf disc new.buffer
         → (out ≡ reads.Good → into ≡ sectors_of disc lba n)
-        → ReadStep (Stands new) (On disc) lba n into out }
+        → ReadStep (StandsFor new) (On disc) lba n into out }
     ensures off { (old new : Shown) → new.shape ≡ old.shape
         → (lba n : ℕ) (discs : List (List ℕ)) (into : List ℕ) (out : ReadOut)
-        → ReadCause old new lba n out → Stands old (Off discs)
-        → ReadStep (Stands new) (Off discs) lba n into out }
+        → ReadCause old new lba n out → StandsFor old (Off discs)
+        → ReadStep (StandsFor new) (Off discs) lba n into out }
 {}
 
 /// What a verification makes of what the drive stood for follows from its cause.
 pub fn a_verification_keeps_the_disc()
     ensures { (old new : Shown) → new.shape ≡ old.shape → (lba n : ℕ) (s : Standing) (out : ReadOut)
-        → VerifyCause old new lba n out → Stands old s → VerifyStep (Stands new) s out }
+        → VerifyCause old new lba n out → StandsFor old s → VerifyStep (StandsFor new) s out }
 {}
 
 /// What a drive stands for after the power went off and on again follows from the cause, and from what always holds.
 pub fn a_mount_finds_the_disc()
     ensures { (old new : Shown) → new.shape ≡ old.shape → IsSound new
-        → (s : Standing) → Stands old s → (out : PowerOut) → PowerCause old new out
-        → PowerStep new (Stands new) s out }
+        → (s : Standing) → StandsFor old s → (out : PowerOut) → PowerCause old new out
+        → PowerStep new (StandsFor new) s out }
 {}
 
 /// What a full format makes of the disc follows from its cause, and from what always holds: where it ended, and where it
 /// was stopped.
 pub fn a_full_format_makes_a_disc_of_zeros()
     ensures { (old new : Shown) → new.shape ≡ old.shape → IsSound new
-        → (disc : List ℕ) → Stands old (On disc) → (drop_sdl : Bool) (out : FormatOut)
-        → FullCause old new drop_sdl out → FullStep old new (Stands new) disc out }
+        → (disc : List ℕ) → StandsFor old (On disc) → (drop_sdl : Bool) (out : FormatOut)
+        → FullCause old new drop_sdl out → FullStep old new (StandsFor new) disc out }
 {}
 
 /// What a rewriting format makes of the disc follows from its cause, and from what always holds.
 pub fn a_rewriting_format_keeps_the_disc()
     ensures { (old new : Shown) → new.shape ≡ old.shape → IsSound new
-        → (lists : Lists) → old.lists ≡ Some lists → (disc : List ℕ) → Stands old (On disc)
-        → (out : FormatOut) → RewriteCause old new lists out → RewriteStep (Stands new) disc out }
+        → (lists : Lists) → old.lists ≡ Some lists → (disc : List ℕ) → StandsFor old (On disc)
+        → (out : FormatOut) → RewriteCause old new lists out → RewriteStep (StandsFor new) disc out }
 {}
 
 /// So does what a format of either kind makes of what the drive stood for.
 pub fn a_format_is_of_one_kind()
     ensures { (old new : Shown) → new.shape ≡ old.shape → IsSound new
-        → (s : Standing) → Stands old s → (kind : Kind) (out : FormatOut)
-        → FormatCause old new kind out → FormatStep old new (Stands new) s kind out }
+        → (s : Standing) → StandsFor old s → (kind : Kind) (out : FormatOut)
+        → FormatCause old new kind out → FormatStep old new (StandsFor new) s kind out }
 {}
 
 /// Lists in use are the only ones that the cells give, whatever cells turn dead later. After a format that is done some

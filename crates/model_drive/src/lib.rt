@@ -3,6 +3,7 @@
 #![tactic(auto)]
 
 mod laws;
+mod worked;
 
 pub use laws::{
     a_format_is_of_one_kind, a_full_format_makes_a_disc_of_zeros, a_mount_finds_the_disc,
@@ -10,6 +11,7 @@ pub use laws::{
     calls_that_can_end_well_do, dying_cells_keep_the_disc, lists_in_use_are_given_alone,
     some_disc_fits_first_under_lists,
 };
+pub use worked::{worked_blank_mount, worked_small_disc, worked_uses};
 
 /// What a format is to do. (After the two formats of ECMA-330: with and without certification.)
 #[derive(Clone, Copy, Debug, PartialEq, Eq)]
