@@ -6,3 +6,5 @@ pub mod Formatting
 pub mod Completing
 pub mod FormatSteps
 pub mod BlankMount
+pub mod Found
+pub mod Faults

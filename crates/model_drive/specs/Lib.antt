@@ -8,4 +8,5 @@ pub mod FullFormats
 pub mod Rewriting
 pub mod Formats
 pub mod Runs
+pub mod Faults
 pub mod Worked

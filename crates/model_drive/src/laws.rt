@@ -20,6 +20,7 @@ ghost use Rattle.model_drive.specs.Reads.{ReadCause, ReadStep, ReadCompletes, Ve
 ghost use Rattle.model_drive.specs.Power.{PowerCause, PowerStep};
 ghost use Rattle.model_drive.specs.FullFormats.{FullCause, FullStep};
 ghost use Rattle.model_drive.specs.Rewriting.{RewriteCause, RewriteStep};
+ghost use Rattle.model_drive.specs.Faults.{ReadFaults, PowerFaults, FormatFaults};
 ghost use Rattle.model_drive.specs.Formats.{FormatCause, FormatStep, FormatCompletes};
 
 /// Of discs one of which fits under lists there is a first that fits, and one alone.
@@ -115,4 +116,15 @@ pub fn calls_that_can_end_well_do()
         → VerifyCause old new lba n out → ReadCompletes old new lba n out }
     ensures formats { (old new : Shown) (kind : Kind) (out : FormatOut)
         → FormatCause old new kind out → FormatCompletes old new kind out }
+{}
+
+/// A call that fails counts it, and no other call counts a fault.
+pub fn a_fault_alone_is_counted()
+    ensures read { (old new : Shown) (lba n : ℕ) (out : ReadOut)
+        → ReadCause old new lba n out → ReadFaults old new out }
+    ensures verify { (old new : Shown) (lba n : ℕ) (out : ReadOut)
+        → VerifyCause old new lba n out → ReadFaults old new out }
+    ensures power { (old new : Shown) (out : PowerOut) → PowerCause old new out → PowerFaults old new out }
+    ensures format { (old new : Shown) (kind : Kind) (out : FormatOut)
+        → FormatCause old new kind out → FormatFaults old new out }
 {}

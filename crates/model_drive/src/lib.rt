@@ -6,10 +6,10 @@ mod laws;
 mod worked;
 
 pub use laws::{
-    a_format_is_of_one_kind, a_full_format_makes_a_disc_of_zeros, a_mount_finds_the_disc,
-    a_read_keeps_the_disc, a_rewriting_format_keeps_the_disc, a_verification_keeps_the_disc,
-    calls_that_can_end_well_do, dying_cells_keep_the_disc, lists_in_use_are_given_alone,
-    some_disc_fits_first_under_lists,
+    a_fault_alone_is_counted, a_format_is_of_one_kind, a_full_format_makes_a_disc_of_zeros,
+    a_mount_finds_the_disc, a_read_keeps_the_disc, a_rewriting_format_keeps_the_disc,
+    a_verification_keeps_the_disc, calls_that_can_end_well_do, dying_cells_keep_the_disc,
+    lists_in_use_are_given_alone, some_disc_fits_first_under_lists,
 };
 pub use worked::{worked_blank_mount, worked_small_disc, worked_uses};
 
