@@ -43,7 +43,8 @@ AreFoundIn old new drop_sdl entries =
 
 -- no cell changed but those of both lists and of the blocks that are certified
 abbrev pub OnlyFormatted : Shown → Shown → Bool → Type 0
-OnlyFormatted old new drop_sdl = ChangesFormatted old.shape (IsKept old.lists drop_sdl) (cells_in old) (cells_in new)
+OnlyFormatted old new drop_sdl =
+    ChangesFormatted old.shape (IsKept old.lists drop_sdl) (cells_in old) (cells_in new)
 
 -- What every full format that used the medium and was not stopped has kept and dropped.
 pub record FormatsAny (old new : Shown) (drop_sdl : Bool) (uses : ℕ) : Type 0 where
@@ -126,7 +127,8 @@ LosesList old new drop_sdl counter = LosesFirstDds old new drop_sdl counter
 -- lists that the cells give now they gave before, or they are new ones
 abbrev pub GivesOldOrFresh : Shown → Shown → Type 0
 GivesOldOrFresh old new = (lists : Lists) → IsGiven old.shape (cells_in new) lists
-    → IsGiven old.shape (cells_in old) lists ⊎ ((entries : List PdlEntry) × (lists ≡ fresh_lists old.shape old.mark entries))
+    → IsGiven old.shape (cells_in old) lists
+    ⊎ ((entries : List PdlEntry) × (lists ≡ fresh_lists old.shape old.mark entries))
 
 -- it was stopped
 pub record StopsInFormat (old new : Shown) (drop_sdl : Bool) (stop : Stop) : Type 0 where
