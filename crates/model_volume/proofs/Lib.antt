@@ -11,6 +11,7 @@ pub mod Covering
 pub mod LookUps
 pub mod Moved
 pub mod Updates
+pub mod ListCells
 pub mod Losses
 pub mod SampleFacts
 pub mod OneProof

@@ -10,7 +10,8 @@ mod worked;
 pub use laws::{
     a_bare_disc_gives_none, a_repair_gives_no_other_lists, a_stopped_update_gives_one_of_two,
     chosen_lists_are_given, dead_list_cells_give_no_other_lists, given_lists_are_valid,
-    given_lists_are_what_a_choice_may_give, one_pair_is_chosen, seen_lists_were_given,
+    given_lists_are_what_a_choice_may_give, list_cells_hold_no_data,
+    nothing_new_gives_no_other_lists, one_pair_is_chosen, seen_lists_were_given,
     settled_lists_are_given_alone, settled_lists_have_the_mark, three_causes_choose_none,
 };
 pub use move_laws::{a_write_at_home_is_covered, covers_in_an_update, one_home_moves};
