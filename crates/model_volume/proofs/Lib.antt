@@ -15,3 +15,4 @@ pub mod ListCells
 pub mod Losses
 pub mod SampleFacts
 pub mod OneProof
+pub mod ChosenFirst

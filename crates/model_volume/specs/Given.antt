@@ -66,6 +66,11 @@ LacksLists shape cells None = NoDdsChosen shape cells
 LacksLists shape cells (Some dds) =
     ((area : ℕ) × IsChosenDds shape cells dds area) × ((dds.state ≡ Formatting) ⊎ NoSdlChosen shape cells dds)
 
+-- Of one counter there is one structure among the readable copies, as on a disc that one drive wrote. (This project's
+-- own.)
+abbrev pub HaveOneStructure : Shape → List Cell → Type 0
+HaveOneStructure shape cells = (v w : Dds) (a b : ℕ) → HasDdsCopy shape cells v a → HasDdsCopy shape cells w b → v.counter ≡ w.counter → v ≡ w
+
 -- Each copy of each of both lists is exactly its text, or dead. (This project's own.)
 pub record AreSettled (shape : Shape) (cells : List Cell) (lists : Lists) : Type 0 where
   pub dds : Settled IsDdsText (dds_block shape) cells lists.dds

@@ -17,7 +17,7 @@ pub use laws::{
 pub use move_laws::{a_write_at_home_is_covered, covers_in_an_update, one_home_moves};
 pub use start_laws::{
     a_choice_is_made, a_disc_gives_sixteen_pairs_at_most, a_disc_has_a_start, a_disc_has_one_start,
-    a_disc_without_sectors_fits_no_lists, a_start_covers_what_is_given,
+    a_disc_without_sectors_fits_no_lists, a_start_covers_what_is_given, chosen_lists_stand_first,
 };
 pub use worked::{
     worked_differing_copies, worked_homes, worked_lists, worked_moves, worked_settled,
