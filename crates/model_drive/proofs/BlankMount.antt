@@ -48,10 +48,9 @@ blank_mount = record {
   any = record { only = λ block none. refl; given = λ known lists given. given; unbuffered = refl };
   no_lists = refl;
   seen = replicate 41 Blank;
-  sees = λ known. record { dds = λ area is. inl refl; sdl = λ area is. inl refl };
+  sees = λ known block. inl refl;
   mark_is = λ known. record {
-    dds = λ v area copy. absurd (no_dds v area copy);
-    sdl = λ v area copy. absurd (no_sdl v area copy);
+    within = record { dds = λ v area copy. absurd (no_dds v area copy); sdl = λ v area copy. absurd (no_sdl v area copy) };
     reached = inl refl;
   };
   chosen = None;

@@ -1,8 +1,7 @@
 -- What a drive stands for after the power went off and on again, and after a rewriting format.
 use Rattle.std.proofs.Common.{◌≡◌, ℕ, Option, Some, None, List, [], ◌∷◌, refl, sym, ◌∙◌, subst, arith}
 use Rattle.std.specs.List.{Contains}
-use Rattle.model_geometry.specs.Geometry.{Shape, data_blocks}
-use Rattle.model_medium.specs.Cells.{cell_at}
+use Rattle.model_geometry.specs.Geometry.{Shape}
 use Rattle.model_sectors.specs.Discs.{Standing, On, Off, candidates}
 use Rattle.model_sectors.specs.declared.PowerOut.{PowerOut}
 use Rattle.model_sectors.specs.declared.PowerOut.TheVariants as powers
@@ -10,16 +9,15 @@ use Rattle.model_stops.specs.declared.Stop.{Stop}
 use Rattle.model_stops.specs.declared.Stop.TheVariants as stops
 use Rattle.model_places.specs.Places.{Lists}
 use Rattle.model_volume.specs.Covers.{FitsUnder, SomeFit, Cover}
-use Rattle.model_formats.proofs.Phases.{fits_data, some_fit_data, cover_data}
+use Rattle.model_volume.proofs.ListCells.{fits_still, some_fits, covers_still}
 use Rattle.model_volume.proofs.GivenFacts.{given_seen, chosen_given}
 use Rattle.model_drive.specs.declared.FormatOut.{FormatOut}
 use Rattle.model_drive.specs.declared.FormatOut.TheVariants as formats
 use Rattle.model_drive.specs.Shown.{Shown, IsKnown, IsOn, cells_in, HoldsBlocksOf, StandsFor, StandsBy}
 use Rattle.model_drive.specs.Sound.{IsSound}
-use Rattle.model_drive.specs.Parts.{OnlyLists, GivesNoOthers}
 use Rattle.model_drive.specs.Power.{turned_on, MountsAny, MountsLists, StopsInMount, PowerCause, PowerStep}
 use Rattle.model_drive.specs.Rewriting.{RepairsBoth, StopsInRewrite, RewriteCause, RewriteStep}
-use Rattle.model_drive.proofs.Fitting.{data_is_no_list, first_under}
+use Rattle.model_drive.proofs.Fitting.{first_under}
 use Rattle.model_drive.proofs.Ends.{stop_known, stop_off}
 use Rattle.model_drive.proofs.Dying.{stands_covers}
 
@@ -37,14 +35,6 @@ covers_candidates old (Off discs) stood = stood.2
 known_before : (old : Shown) (s : Standing) → StandsFor old s → IsKnown old
 known_before old (On disc) stood = stood.0
 known_before old (Off discs) stood = stood.0
-
-module _ (old new : Shown) (only : OnlyLists old new) where
-  pub data_same : (block : ℕ) → Contains (data_blocks old.shape) block → cell_at (cells_in new) block ≡ cell_at (cells_in old) block
-  data_same block is_data = only block (data_is_no_list old.shape block is_data)
-
-  -- what covered the given lists covers them still
-  pub cover_kept : GivesNoOthers old new → (discs : List (List ℕ)) → Cover old.shape (cells_in old) discs → Cover old.shape (cells_in new) discs
-  cover_kept given discs cover = cover_data old.shape (cells_in old) (cells_in new) data_same given discs cover
 
 module _ (old new : Shown) (same_shape : new.shape ≡ old.shape) (sound : IsSound new) where
   -- a drive that is on, with no lists in use, stands for the disc without sectors
@@ -70,7 +60,7 @@ module _ (old new : Shown) (same_shape : new.shape ≡ old.shape) (sound : IsSou
     still_off as_known any off = (
       as_known ∙ known_before old s stood,
       off,
-      subst (λ (shape : Shape). Cover shape (cells_in new) (candidates s)) (sym same_shape) (cover_kept old new any.only (any.given (known_before old s stood)) (candidates s) (covers_candidates old s stood)),
+      subst (λ (shape : Shape). Cover shape (cells_in new) (candidates s)) (sym same_shape) (covers_still old.shape (cells_in old) (cells_in new) any.only (candidates s) (any.given (known_before old s stood)) (covers_candidates old s stood)),
     )
 
     stopped : (stop : Stop) → StopsInMount old new stop → StandsFor new (Off (candidates s))
@@ -80,7 +70,7 @@ module _ (old new : Shown) (same_shape : new.shape ≡ old.shape) (sound : IsSou
     mounted known m =
         let was = known_before old s stood in
         let given = given_seen old.shape (cells_in old) m.seen (cells_in new) m.lists (m.sees was) (chosen_given old.shape m.seen m.lists (m.chosen was)) in
-        let some = some_fit_data old.shape (cells_in old) (cells_in new) (data_same old new m.any.only) m.lists given.valid (candidates s) (covers_candidates old s stood m.lists given) in
+        let some = some_fits old.shape (cells_in old) (cells_in new) m.any.only m.lists (candidates s) given.valid (covers_candidates old s stood m.lists given) in
         let found = first_under new.shape (cells_in new) m.lists (candidates s) (subst (λ (shape : Shape). SomeFit shape (cells_in new) m.lists (candidates s)) (sym same_shape) some) in
         record {
           lists = m.lists;
@@ -102,13 +92,13 @@ module _ (old new : Shown) (same_shape : new.shape ≡ old.shape) (sound : IsSou
     both_repaired both =
         let was = subst (λ (o : Option Lists). StandsBy old.shape (cells_in old) o old.buffer disc) in_use stood.2 in
         stands_fitting (both.ends.reach.lasts.as_known ∙ stood.0) both.ends.is_on lists (both.keeps.same_lists ∙ in_use) both.unbuffered disc
-        (subst (λ (shape : Shape). FitsUnder shape (cells_in new) lists disc) (sym same_shape) (fits_data old.shape (cells_in old) (cells_in new) (data_same old new both.only) lists was.valid disc was.fits))
+        (subst (λ (shape : Shape). FitsUnder shape (cells_in new) lists disc) (sym same_shape) (fits_still old.shape (cells_in old) (cells_in new) both.only lists disc was.valid was.fits))
 
     rewrite_stopped : (stop : Stop) → StopsInRewrite old new stop → StandsFor new (Off (disc ∷ []))
     rewrite_stopped stop cause = (
       stop_known old.medium new.medium _ stop cause.stopped.stops ∙ stood.0,
       stop_off old.medium new.medium _ stop cause.stopped.stops,
-      subst (λ (shape : Shape). Cover shape (cells_in new) (disc ∷ [])) (sym same_shape) (cover_kept old new cause.only (cause.given stood.0) (disc ∷ []) (stands_covers old disc stood)),
+      subst (λ (shape : Shape). Cover shape (cells_in new) (disc ∷ [])) (sym same_shape) (covers_still old.shape (cells_in old) (cells_in new) cause.only (disc ∷ []) (cause.given stood.0) (stands_covers old disc stood)),
     )
 
     pub rewrite_step : (out : FormatOut) → RewriteCause old new lists out → RewriteStep (StandsFor new) disc out

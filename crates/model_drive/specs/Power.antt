@@ -1,7 +1,6 @@
 -- What turning the power off and on again may do: the mount. For the trait of a drive. (This project's own, as all here.)
-use Rattle.std.specs.Prelude.{◌≡◌, ℕ, ◌+◌, ◌≤◌, ◌⊎◌, true, Option, Some, None, List, []}
-use Rattle.model_geometry.specs.Geometry.{Shape, dds_block}
-use Rattle.model_lists.specs.declared.dds.DdsState.TheVariants.{Formatting}
+use Rattle.std.specs.Prelude.{◌≡◌, ℕ, ◌+◌, ◌≤◌, true, Option, Some, None, List, []}
+use Rattle.model_geometry.specs.Geometry.{dds_block}
 use Rattle.model_lists.specs.Values.{Dds}
 use Rattle.model_lists.specs.Texts.{IsDdsText}
 use Rattle.model_medium.specs.Cells.{Cell}
@@ -13,10 +12,10 @@ use Rattle.model_stops.specs.declared.Stop.{Stop}
 use Rattle.model_stops.specs.declared.Stop.TheVariants as stops
 use Rattle.model_copies.specs.Copies.{Settled, Mark}
 use Rattle.model_places.specs.Places.{Lists}
-use Rattle.model_volume.specs.Given.{IsChosenDds, AreChosen, NoDdsChosen, NoSdlChosen, AreSeen}
+use Rattle.model_volume.specs.Given.{AreChosen, LacksLists, OnlyLists, AreSeen}
 use Rattle.model_drive.specs.Shown.{Shown, WhenKnown, IsOn, cells_in, capacity, IsFirstUnder}
-use Rattle.model_drive.specs.Parts.{EndsBy, IsStopped, OnlyLists, GivesNoOthers}
-use Rattle.model_drive.specs.Repairs.{choice_uses, repair_uses, mount_most, RewritesDds, RewritesSdl}
+use Rattle.model_drive.specs.Parts.{EndsBy, IsStopped, GivesNoOthers}
+use Rattle.model_drive.specs.Repairs.{choice_uses, mount_most, RepairsDds, RepairsSdl}
 
 -- the drive with its power turned on, from when on uses count
 abbrev pub turned_on : Shown → Shown
@@ -26,7 +25,7 @@ turned_on shown = record shown {
 
 -- What every end of a mount keeps: the cells of data blocks, and what the cells may give. No block is buffered.
 pub record MountsAny (old new : Shown) : Type 0 where
-  pub only : OnlyLists old new
+  pub only : OnlyLists old.shape (cells_in old) (cells_in new)
   pub given : WhenKnown old (GivesNoOthers old new)
   pub unbuffered : new.buffer ≡ []
 
@@ -44,24 +43,16 @@ pub record MountsLists (old new : Shown) (known : ℕ) : Type 0 where
   pub seen : List Cell
   pub sees : SeesCopies old seen new
   pub chosen : WhenKnown old (AreChosen old.shape seen lists)
-  pub dds_rewritten : ℕ
-  pub dds : RewritesDds old new lists.dds dds_rewritten
-  pub sdl_rewritten : ℕ
-  pub sdl : RewritesSdl old new lists.sdl sdl_rewritten
-  pub ends : EndsBy (turned_on old) new (choice_uses + repair_uses dds_rewritten + repair_uses sdl_rewritten)
+  pub dds_uses : ℕ
+  pub dds : RepairsDds old new lists.dds dds_uses
+  pub sdl_uses : ℕ
+  pub sdl : RepairsSdl old new lists.sdl sdl_uses
+  pub ends : EndsBy (turned_on old) new (choice_uses + (dds_uses + sdl_uses))
 
--- Why no lists are chosen, by the structure that is: there is none; or it says Formatting, or no secondary list belongs to
--- it.
-abbrev pub LacksLists : Shape → List Cell → Option Dds → Type 0
-LacksLists shape cells None = NoDdsChosen shape cells
-LacksLists shape cells (Some dds) =
-    ((area : ℕ) × IsChosenDds shape cells dds area) × ((dds.state ≡ Formatting) ⊎ NoSdlChosen shape cells dds)
-
--- the uses of the repair of the structure that was chosen, if one was
-abbrev pub RepairsDds : Shown → Shown → Option Dds → ℕ → Type 0
-RepairsDds old new None uses = uses ≡ 0
-RepairsDds old new (Some dds) uses =
-    ((rewritten : ℕ) × RewritesDds old new dds rewritten × (uses ≡ repair_uses rewritten))
+-- the repair of the structure that was chosen, if one was, and its uses
+abbrev pub RepairsChosenDds : Shown → Shown → Option Dds → ℕ → Type 0
+RepairsChosenDds old new None uses = uses ≡ 0
+RepairsChosenDds old new (Some dds) uses = RepairsDds old new dds uses
     × WhenKnown old (Settled IsDdsText (dds_block old.shape) (cells_in new) dds)
 
 -- No lists were chosen. The structure was repaired, where one was chosen.
@@ -74,7 +65,7 @@ pub record MountsNone (old new : Shown) : Type 0 where
   pub chosen : Option Dds
   pub lacks : WhenKnown old (LacksLists old.shape seen chosen)
   pub uses : ℕ
-  pub repaired : RepairsDds old new chosen uses
+  pub repaired : RepairsChosenDds old new chosen uses
   pub ends : EndsBy (turned_on old) new (choice_uses + uses)
 
 -- the mount was stopped

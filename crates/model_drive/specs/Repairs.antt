@@ -1,6 +1,6 @@
 -- How many uses of the medium it takes to update a list and to repair it, and which copies a repair writes again: for the
 -- mount and for formats. (This project's own, as all here.)
-use Rattle.std.specs.Prelude.{ℕ, ◌+◌, ◌*◌, ◌≤◌, List}
+use Rattle.std.specs.Prelude.{◌≡◌, ℕ, ◌+◌, ◌*◌, ◌≤◌, List}
 use Rattle.model_geometry.specs.Geometry.{dds_block, sdl_block}
 use Rattle.model_lists.specs.Values.{Dds, Sdl}
 use Rattle.model_lists.specs.Texts.{IsDdsText, IsSdlText}
@@ -28,16 +28,19 @@ abbrev pub mount_most : ℕ
 mount_most = choice_uses + repair_uses 4 + repair_uses 4
 
 module _ {V : Type 0} (text : V → List ℕ → Type 0) (place : ℕ → ℕ) (old new : Shown) where
-  -- A repair wrote so many copies of a list again: those that were not exactly the value's text when they were read.
-  pub record RewritesCopies (value : V) (rewritten : ℕ) : Type 0 where
+  -- A repair of a list's copies took so many uses: it wrote those again that were not exactly the value's text when they
+  -- were read.
+  pub record RepairsList (value : V) (uses : ℕ) : Type 0 where
+    pub rewritten : ℕ
     pub few : rewritten ≤ 4
-    pub are : WhenKnown old
+    pub uses_are : uses ≡ repair_uses rewritten
+    pub rewrites : WhenKnown old
         (Rewrites (λ cell. Holds text cell value) place (cells_in old) (cells_in new) 4 rewritten)
 
--- so many copies of the disc definition structure were written again
-abbrev pub RewritesDds : Shown → Shown → Dds → ℕ → Type 0
-RewritesDds old new dds rewritten = RewritesCopies IsDdsText (dds_block old.shape) old new dds rewritten
+-- the repair of the disc definition structure took so many uses
+abbrev pub RepairsDds : Shown → Shown → Dds → ℕ → Type 0
+RepairsDds old new dds uses = RepairsList IsDdsText (dds_block old.shape) old new dds uses
 
--- so many copies of the secondary list were
-abbrev pub RewritesSdl : Shown → Shown → Sdl → ℕ → Type 0
-RewritesSdl old new sdl rewritten = RewritesCopies IsSdlText (sdl_block old.shape) old new sdl rewritten
+-- that of the secondary list did
+abbrev pub RepairsSdl : Shown → Shown → Sdl → ℕ → Type 0
+RepairsSdl old new sdl uses = RepairsList IsSdlText (sdl_block old.shape) old new sdl uses

@@ -5,23 +5,24 @@ use Rattle.model_sectors.specs.Discs.{Standing, On, Off}
 use Rattle.model_stops.specs.declared.Stop.{Stop}
 use Rattle.model_stops.specs.declared.Stop.TheVariants as stops
 use Rattle.model_places.specs.Places.{Lists}
+use Rattle.model_volume.specs.Given.{OnlyLists}
 use Rattle.model_drive.specs.declared.FormatOut.{FormatOut}
 use Rattle.model_drive.specs.declared.FormatOut.TheVariants as outs
-use Rattle.model_drive.specs.Shown.{Shown, WhenKnown, IsOn, HasLostDds, HasLostSdl}
-use Rattle.model_drive.specs.Parts.{WasOff, EndsBy, IsStopped, KeepsLists, OnlyLists, GivesNoOthers}
-use Rattle.model_drive.specs.Repairs.{repair_uses, RewritesDds, RewritesSdl}
+use Rattle.model_drive.specs.Shown.{Shown, WhenKnown, IsOn, cells_in, HasLostDds, HasLostSdl}
+use Rattle.model_drive.specs.Parts.{WasOff, EndsBy, IsStopped, KeepsLists, GivesNoOthers}
+use Rattle.model_drive.specs.Repairs.{repair_uses, RepairsDds, RepairsSdl}
 
 -- The copies of both lists were repaired. The lists stay in use.
 pub record RepairsBoth (old new : Shown) (lists : Lists) : Type 0 where
   pub was_on : IsOn old
-  pub only : OnlyLists old new
+  pub only : OnlyLists old.shape (cells_in old) (cells_in new)
   pub keeps : KeepsLists old new
   pub unbuffered : new.buffer ≡ []
-  pub dds_rewritten : ℕ
-  pub dds : RewritesDds old new lists.dds dds_rewritten
-  pub sdl_rewritten : ℕ
-  pub sdl : RewritesSdl old new lists.sdl sdl_rewritten
-  pub ends : EndsBy old new (repair_uses dds_rewritten + repair_uses sdl_rewritten)
+  pub dds_uses : ℕ
+  pub dds : RepairsDds old new lists.dds dds_uses
+  pub sdl_uses : ℕ
+  pub sdl : RepairsSdl old new lists.sdl sdl_uses
+  pub ends : EndsBy old new (dds_uses + sdl_uses)
 
 -- both lists have copies now
 pub record RewritesLists (old new : Shown) (lists : Lists) : Type 0 where
@@ -38,7 +39,7 @@ pub record RewritesInVain (old new : Shown) (lists : Lists) (counter : ℕ) : Ty
 -- the repair of one list or the other was stopped
 pub record StopsInRewrite (old new : Shown) (stop : Stop) : Type 0 where
   pub was_on : IsOn old
-  pub only : OnlyLists old new
+  pub only : OnlyLists old.shape (cells_in old) (cells_in new)
   pub given : WhenKnown old (GivesNoOthers old new)
   pub stopped : IsStopped old new (repair_uses 4 + repair_uses 4) stop
 

@@ -4,9 +4,10 @@ use Rattle.std.specs.Prelude.{◌≡◌, ◌≤◌, Some, None, [], All, length}
 use Rattle.model_geometry.specs.Geometry.{total}
 use Rattle.model_medium.specs.Machine.{IsToCome}
 use Rattle.model_medium.specs.declared.WornBlock.{WornBlock}
+use Rattle.model_copies.specs.Copies.{AreMarkedWithin}
 use Rattle.model_places.specs.Places.{Lists}
 use Rattle.model_places.specs.Valid.{AreValid}
-use Rattle.model_volume.specs.Given.{GivesNone, AreSettled, AreMarkedWithin}
+use Rattle.model_volume.specs.Given.{GivesNone, AreSettled}
 use Rattle.model_drive.specs.Shown.{Shown, WhenKnown, IsOn, cells_in}
 
 -- With the power off nothing is kept in memory.

@@ -6,7 +6,7 @@ use Rattle.model_medium.specs.World.{World, UseContinues, IsCut, HasFailed, IsOf
 use Rattle.model_stops.specs.Stops.{Continues, Stops}
 use Rattle.model_stops.specs.declared.Stop.{Stop}
 use Rattle.model_stops.specs.declared.Stop.TheVariants as stops
-use Rattle.model_copies.specs.Copies.{IsArea, Holds, MayHold, Settled, AllLost, good_count, Rewrites}
+use Rattle.model_copies.specs.Copies.{IsArea, Holds, MayHold, Settled, AllLost, Rewrites, good_count}
 use Rattle.ram_zones.specs.declared.list_kind.ListKind.{ListKind}
 use Rattle.ram_zones.specs.ListKind.{list_block}
 use Rattle.ram_copies.specs.Values.{ListValue, IsText}

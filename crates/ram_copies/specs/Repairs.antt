@@ -4,10 +4,10 @@ use Rattle.model_medium.specs.Cells.{Cell, Good, Dead, MayLeave, IsSameOrDead, c
 use Rattle.model_medium.specs.World.{World}
 use Rattle.model_stops.specs.Stops.{Continues, Stops}
 use Rattle.model_stops.specs.declared.Stop.{Stop}
-use Rattle.model_copies.specs.Copies.{IsArea, good_count, WasExact, Rewrites}
+use Rattle.model_copies.specs.Copies.{IsArea, WasExact, Rewrites, good_count}
 
 -- What a repair that is stopped leaves of a cell: what a stopped write may, and a cell that is exactly the text is as
--- it was or dead.
+-- it was or dead. (This project's own, as all here.)
 abbrev pub MendLeaves : Cell → List ℕ → Cell → Type 0
 MendLeaves old text cell = MayLeave old text cell × (old ≡ Good text → IsSameOrDead old cell)
 
