@@ -17,3 +17,6 @@ pub mod SampleFacts
 pub mod Different
 pub mod OneProof
 pub mod ChosenFirst
+pub mod Validity
+pub mod NewLists
+pub mod Shrinks
