@@ -4,9 +4,12 @@ pub mod Parts
 pub mod Reads
 pub mod Repairs
 pub mod Power
+pub mod Course
+pub mod Writes
+pub mod Blocks
 pub mod FullFormats
 pub mod Rewriting
 pub mod Formats
-pub mod Runs
 pub mod Faults
+pub mod Runs
 pub mod Worked

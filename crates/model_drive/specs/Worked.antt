@@ -8,7 +8,8 @@ use Rattle.model_drive.specs.Shown.{Shown}
 
 -- a medium with these cells, which are known, after so many uses (this project's own)
 abbrev pub small_world : List Cell → (power : Bool) → (uses : ℕ) → World
-small_world cells power uses = record { known = true; cells = cells; power = power; uses = uses; cuts = 0; faults = 0 }
+small_world cells power uses =
+    record { known = true; cells = cells; power = power; uses = uses; cuts = 0; faults = 0 }
 
 -- A drive with these cells and these lists in use, with the power on: nothing is armed or buffered. (This project's own.)
 abbrev pub small_drive : List Cell → Option Lists → (mark uses : ℕ) → Shown

@@ -13,6 +13,43 @@ pub use laws::{
 };
 pub use worked::{worked_blank_mount, worked_small_disc, worked_uses};
 
+/// How a write of sectors ended. (After INCITS MMC's answers to WRITE.)
+#[derive(Clone, Copy, Debug, PartialEq, Eq)]
+pub enum WriteOut {
+    /// All of them were written, and read back.
+    Good,
+    /// The disc is not formatted.
+    NotFormatted,
+    /// Some of them are none of the disc's.
+    Range {
+        /// How many sectors the disc has.
+        capacity: u32,
+    },
+    /// A block is written in part, and the rest of it cannot be read.
+    Unread {
+        /// The first sector of the request in that block.
+        lba: u32,
+        /// The block of the medium.
+        block: u32,
+    },
+    /// A block is dead, and no spare is left for it.
+    NoSpare {
+        /// The first sector of the request in that block.
+        lba: u32,
+    },
+    /// A block is dead, a spare has its bytes, and the list that would say so could not be written.
+    NoUpdate {
+        /// The counter of the secondary list in use.
+        counter: u32,
+    },
+    /// The power was cut in this write.
+    Cut,
+    /// The power was off already, and nothing was done.
+    Off,
+    /// What the medium lies on failed, and counted it. The power is off.
+    Fault,
+}
+
 /// What a format is to do. (After the two formats of ECMA-330: with and without certification.)
 #[derive(Clone, Copy, Debug, PartialEq, Eq)]
 pub enum Kind {

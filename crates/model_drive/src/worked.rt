@@ -36,8 +36,8 @@ pub fn worked_uses()
 /// A disc that was just pressed stands for the discs of its lists, which are none. Its mount reads eight blank cells, and
 /// answers that it is not formatted; then it stands for the disc without sectors.
 pub fn worked_blank_mount()
-    ensures cause { PowerCause (small_drive_off (replicate 41 Blank)) (small_drive (replicate 41 Blank) None 0 8)
-        powers.NotFormatted }
+    ensures cause { PowerCause (small_drive_off (replicate 41 Blank))
+        (small_drive (replicate 41 Blank) None 0 8) powers.NotFormatted }
     ensures before { StandsFor (small_drive_off (replicate 41 Blank)) (Off []) }
     ensures after { StandsFor (small_drive (replicate 41 Blank) None 0 8) (On []) }
 {}
