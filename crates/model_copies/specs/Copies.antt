@@ -79,6 +79,12 @@ module _ {V : Type 0} (text : V → List ℕ → Type 0) where
       pub within : IsMarkedWithin mark_of mark
       pub reached : (mark ≡ 0) ⊎ IsMarked mark_of mark
 
+  -- The copies of a list hold nothing new: each cell is as it was, or torn or dead, or holds what some copy held before.
+  -- (This project's own.)
+  abbrev pub HoldNothingNew : (ℕ → ℕ) → List Cell → List Cell → Type 0
+  HoldNothingNew place old new = (area : ℕ) → IsArea area → (cell_at new (place area) ≡ cell_at old (place area)) ⊎ (cell_at new (place area) ≡ Torn)
+      ⊎ (cell_at new (place area) ≡ Dead) ⊎ ((value : V) × (at : ℕ) × HasCopy place old value at × Holds (cell_at new (place area)) value)
+
 -- The disc's copy of its disc definition structure in this area is the text of this value. (After ECMA-330.)
 abbrev pub HasDdsCopy : Shape → List Cell → Dds → ℕ → Type 0
 HasDdsCopy shape cells value area = HasCopy IsDdsText (dds_block shape) cells value area
@@ -87,11 +93,16 @@ HasDdsCopy shape cells value area = HasCopy IsDdsText (dds_block shape) cells va
 abbrev pub HasSdlCopy : Shape → List Cell → Sdl → ℕ → Type 0
 HasSdlCopy shape cells value area = HasCopy IsSdlText (sdl_block shape) cells value area
 
+-- No readable copy of a disc definition structure has, and no readable secondary list names, a greater counter of a
+-- structure than this. (This project's own.)
+pub record AreMarkedWithin (shape : Shape) (cells : List Cell) (most : ℕ) : Type 0 where
+  pub dds : IsMarkedWithin IsDdsText (dds_block shape) cells (λ (list : Dds). list.counter) most
+  pub sdl : IsMarkedWithin IsSdlText (sdl_block shape) cells (λ (list : Sdl). list.dds_counter) most
+
 -- The mark of a disc: the greatest counter of a disc definition structure that a readable copy of one has or that a
 -- readable secondary list names, and 0 where there is none. (This project's own.)
 pub record Mark (shape : Shape) (cells : List Cell) (mark : ℕ) : Type 0 where
-  pub dds : IsMarkedWithin IsDdsText (dds_block shape) cells (λ (list : Dds). list.counter) mark
-  pub sdl : IsMarkedWithin IsSdlText (sdl_block shape) cells (λ (list : Sdl). list.dds_counter) mark
+  pub within : AreMarkedWithin shape cells mark
   pub reached : (mark ≡ 0) ⊎ IsMarked IsDdsText (dds_block shape) cells (λ (list : Dds). list.counter) mark
       ⊎ IsMarked IsSdlText (sdl_block shape) cells (λ (list : Sdl). list.dds_counter) mark
 
@@ -115,3 +126,24 @@ one_if_good Dead = 0
 abbrev pub good_count : (ℕ → ℕ) → List Cell → ℕ → ℕ
 good_count place cells zero = 0
 good_count place cells (suc k) = good_count place cells k + one_if_good (cell_at cells (place (suc k)))
+
+-- Which copies a repair found to be exactly the text, where a test says which cells are.
+module _ (exact : Cell → Type 0) (place : ℕ → ℕ) (old new : List Cell) where
+  -- The copy was exactly the text when it was read: it was at entry, and is it now. (This project's own.)
+  abbrev pub WasExact : ℕ → Type 0
+  WasExact area = exact (cell_at old (place area)) × exact (cell_at new (place area))
+
+  -- Of the copies of the first so many areas, so many were not exactly the text when they were read. (This project's
+  -- own.)
+  abbrev pub Rewrites : ℕ → ℕ → Type 0
+  Rewrites zero count = count ≡ 0
+  Rewrites (suc k) count = (WasExact (suc k) × Rewrites k count) ⊎ (¬ WasExact (suc k) × ((before : ℕ) × (count ≡ before + 1) × Rewrites k before))
+
+-- A repair of the disc's copies of its disc definition structure to this one wrote so many of the four again: those that
+-- were not exactly its text when they were read. (This project's own.)
+abbrev pub RewritesDds : Shape → List Cell → List Cell → Dds → ℕ → Type 0
+RewritesDds shape old new value count = Rewrites (λ cell. Holds IsDdsText cell value) (dds_block shape) old new 4 count
+
+-- The same of its copies of its secondary defect list. (This project's own.)
+abbrev pub RewritesSdl : Shape → List Cell → List Cell → Sdl → ℕ → Type 0
+RewritesSdl shape old new value count = Rewrites (λ cell. Holds IsSdlText cell value) (sdl_block shape) old new 4 count

@@ -13,7 +13,7 @@ use Rattle.model_sectors.specs.Discs.{Agrees, block_of, zeros}
 use Rattle.model_sectors.proofs.Fitting.{agrees_not_good, length-zeros}
 use Rattle.model_places.specs.Places.{is_listed, unslipped, logical_block, logical_count}
 use Rattle.model_places.specs.Valid.{IsValidPdl, AreValid}
-use Rattle.model_places.proofs.Listed.{Contains-from_filter, Decides-is_listed}
+use Rattle.model_places.proofs.Listed.{Contains-from_filter, Decides-is_listed, listed-All}
 use Rattle.model_places.proofs.Pools.{logical_is_unslipped, unslipped_are_data}
 use Rattle.model_volume.specs.Covers.{FitsUnder}
 use Rattle.model_formats.specs.Fresh.{fresh_lists}
@@ -27,7 +27,7 @@ nothing_twice = tt
 pub fresh_valid : (shape : Shape) (mark : ℕ) (entries : List PdlEntry) → IsLawful shape → IsStrictlyIncreasing (pdl_blocks entries)
     → All (Contains (data_blocks shape)) (pdl_blocks entries) → length entries ≤ shape.psa → AreValid shape (fresh_lists shape mark entries)
 fresh_valid shape mark entries lawful rise blocks few = record {
-  primary = record { same_psa = refl; data_only = blocks; rising = rise; few = few };
+  primary = record { same_psa = refl; data_only = listed-All (data_blocks shape) (pdl_blocks entries) blocks; rising = rise; few = few };
   together = record {
     same_counter = refl;
     secondary = record {

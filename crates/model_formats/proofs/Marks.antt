@@ -7,10 +7,10 @@ use Rattle.model_lists.specs.Texts.{IsDdsText, IsSdlText}
 use Rattle.model_lists.proofs.DdsTexts as dds_texts
 use Rattle.model_lists.proofs.SdlTexts as sdl_texts
 use Rattle.model_medium.specs.Cells.{Cell, cell_at}
-use Rattle.model_copies.specs.Copies.{Holds, HasCopy, Settled, AllLost, Mark}
+use Rattle.model_copies.specs.Copies.{Holds, HasCopy, Settled, AllLost, AreMarkedWithin, Mark}
 use Rattle.model_copies.proofs.CopyFacts.{copy_settled}
 use Rattle.model_places.specs.Places.{Lists}
-use Rattle.model_volume.specs.Given.{AreSettled, AreMarkedWithin}
+use Rattle.model_volume.specs.Given.{AreSettled}
 use Rattle.model_formats.specs.Fresh.{formatting_dds, fresh_sdl}
 
 lost_copy : {V : Type 0} (text : V → List ℕ → Type 0) (place : ℕ → ℕ) (cells : List Cell) → AllLost place cells → (v : V) (area : ℕ) → HasCopy text place cells v area → ⊥
@@ -65,4 +65,4 @@ marked_settled shape cells lists settled same = record {
 
 -- the mark of a disc is no less than that of any copy
 pub marked_by_mark : (shape : Shape) (cells : List Cell) (mark : ℕ) → Mark shape cells mark → AreMarkedWithin shape cells mark
-marked_by_mark shape cells mark is = record { dds = is.dds; sdl = is.sdl }
+marked_by_mark shape cells mark is = is.within

@@ -1,0 +1,15 @@
+pub mod Shown
+pub mod Sound
+pub mod Parts
+pub mod Reads
+pub mod Repairs
+pub mod Power
+pub mod Course
+pub mod Writes
+pub mod Blocks
+pub mod FullFormats
+pub mod Rewriting
+pub mod Formats
+pub mod Faults
+pub mod Runs
+pub mod Worked
