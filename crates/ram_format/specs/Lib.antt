@@ -1,0 +1,4 @@
+pub mod Merging
+pub mod Phases
+pub mod Full
+pub mod Rooms
