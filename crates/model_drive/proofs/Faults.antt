@@ -14,7 +14,10 @@ use Rattle.model_drive.specs.declared.Kind.TheVariants as kinds
 use Rattle.model_drive.specs.declared.FormatOut.{FormatOut}
 use Rattle.model_drive.specs.declared.FormatOut.TheVariants as formats
 use Rattle.model_drive.specs.Shown.{Shown}
-use Rattle.model_drive.specs.Faults.{faults, ReadFaults, PowerFaults, FormatFaults}
+use Rattle.model_drive.specs.declared.WriteOut.{WriteOut}
+use Rattle.model_drive.specs.declared.WriteOut.TheVariants as writes
+use Rattle.model_drive.specs.Writes.{WriteCause}
+use Rattle.model_drive.specs.Faults.{faults, ReadFaults, WriteFaults, PowerFaults, FormatFaults}
 use Rattle.model_drive.specs.Reads.{ReadCause, VerifyCause}
 use Rattle.model_drive.specs.Power.{PowerCause}
 use Rattle.model_drive.specs.FullFormats.{FullCause}
@@ -48,6 +51,17 @@ module _ (old new : Shown) where
   verify_faults lba n reads.Cut cause = cause.stopped.stops.reach.lasts.no_fault
   verify_faults lba n reads.Off cause = same_faults cause.nothing
   verify_faults lba n reads.Fault cause = fault_counts old.medium new.medium _ cause.stopped.stops
+
+  pub write_faults : (lba n : ℕ) (out : WriteOut) → WriteCause old new lba n out → WriteFaults old new out
+  write_faults lba n writes.Good cause = cause.ends.ends.reach.lasts.no_fault
+  write_faults lba n writes.NotFormatted cause = same_faults cause.nothing
+  write_faults lba n (writes.Range known) cause = same_faults cause.nothing
+  write_faults lba n (writes.Unread named block) cause = cause.ends.ends.reach.lasts.no_fault
+  write_faults lba n (writes.NoSpare named) cause = cause.ends.ends.reach.lasts.no_fault
+  write_faults lba n (writes.NoUpdate counter) cause = cause.ends.ends.reach.lasts.no_fault
+  write_faults lba n writes.Cut cause = cause.stopped.stops.reach.lasts.no_fault
+  write_faults lba n writes.Off cause = same_faults cause.nothing
+  write_faults lba n writes.Fault cause = fault_counts old.medium new.medium _ cause.stopped.stops
 
   pub power_faults : (out : PowerOut) → PowerCause old new out → PowerFaults old new out
   power_faults (powers.Ready known) cause = cause.ends.reach.lasts.no_fault

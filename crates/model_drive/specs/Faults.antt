@@ -6,6 +6,8 @@ use Rattle.model_sectors.specs.declared.ReadOut.{ReadOut}
 use Rattle.model_sectors.specs.declared.ReadOut.TheVariants as reads
 use Rattle.model_sectors.specs.declared.PowerOut.{PowerOut}
 use Rattle.model_sectors.specs.declared.PowerOut.TheVariants as powers
+use Rattle.model_drive.specs.declared.WriteOut.{WriteOut}
+use Rattle.model_drive.specs.declared.WriteOut.TheVariants as writes
 use Rattle.model_drive.specs.declared.FormatOut.{FormatOut}
 use Rattle.model_drive.specs.declared.FormatOut.TheVariants as formats
 use Rattle.model_drive.specs.Shown.{Shown}
@@ -18,6 +20,11 @@ faults shown = shown.medium.world.faults
 abbrev pub ReadFaults : Shown → Shown → ReadOut → Type 0
 ReadFaults old new reads.Fault = Rose (faults old) (faults new)
 ReadFaults old new _ = faults new ≡ faults old
+
+-- what a write leaves of it
+abbrev pub WriteFaults : Shown → Shown → WriteOut → Type 0
+WriteFaults old new writes.Fault = Rose (faults old) (faults new)
+WriteFaults old new _ = faults new ≡ faults old
 
 -- what the turning on of the power leaves of it
 abbrev pub PowerFaults : Shown → Shown → PowerOut → Type 0

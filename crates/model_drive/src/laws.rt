@@ -8,8 +8,10 @@ ghost use Rattle.model_sectors.specs.declared.ReadOut.{ReadOut};
 ghost use Rattle.model_sectors.specs.declared.ReadOut.TheVariants as reads;
 ghost use Rattle.model_sectors.specs.declared.PowerOut.{PowerOut};
 ghost use Rattle.model_places.specs.Places.{Lists};
+ghost use Rattle.model_places.specs.Valid.{AreValid};
 ghost use Rattle.model_volume.specs.Given.{IsGiven};
 ghost use Rattle.model_volume.specs.Covers.{FitsUnder, SomeFit};
+ghost use Rattle.model_drive.specs.declared.WriteOut.{WriteOut};
 ghost use Rattle.model_drive.specs.declared.Kind.{Kind};
 ghost use Rattle.model_drive.specs.declared.FormatOut.{FormatOut};
 ghost use Rattle.model_drive.specs.declared.FormatOut.TheVariants as formats;
@@ -17,10 +19,11 @@ ghost use Rattle.model_drive.specs.Shown.{Shown, IsKnown, IsOn, HoldsBlocksOf, S
 ghost use Rattle.model_drive.specs.Sound.{IsSound};
 ghost use Rattle.model_drive.specs.Parts.{KeepsLists, AreSameOrDead};
 ghost use Rattle.model_drive.specs.Reads.{ReadCause, ReadStep, ReadCompletes, VerifyCause, VerifyStep};
+ghost use Rattle.model_drive.specs.Writes.{WriteCause, WriteCompletes};
 ghost use Rattle.model_drive.specs.Power.{PowerCause, PowerStep};
 ghost use Rattle.model_drive.specs.FullFormats.{FullCause, FullStep};
 ghost use Rattle.model_drive.specs.Rewriting.{RewriteCause, RewriteStep};
-ghost use Rattle.model_drive.specs.Faults.{ReadFaults, PowerFaults, FormatFaults};
+ghost use Rattle.model_drive.specs.Faults.{ReadFaults, WriteFaults, PowerFaults, FormatFaults};
 ghost use Rattle.model_drive.specs.Formats.{FormatCause, FormatStep, FormatCompletes};
 
 /// Of discs one of which fits under lists there is a first that fits, and one alone.
@@ -114,6 +117,9 @@ pub fn calls_that_can_end_well_do()
         → ReadCause old new lba n out → ReadCompletes old new lba n out }
     ensures verifies { (old new : Shown) (lba n : ℕ) (out : ReadOut)
         → VerifyCause old new lba n out → ReadCompletes old new lba n out }
+    ensures writes { (old new : Shown) (lba n : ℕ)
+        → ((lists : Lists) → old.lists ≡ Some lists → AreValid old.shape lists) → new.shape ≡ old.shape
+        → (out : WriteOut) → WriteCause old new lba n out → WriteCompletes old new lba n out }
     ensures formats { (old new : Shown) (kind : Kind) (out : FormatOut)
         → FormatCause old new kind out → FormatCompletes old new kind out }
 {}
@@ -124,6 +130,8 @@ pub fn a_fault_alone_is_counted()
         → ReadCause old new lba n out → ReadFaults old new out }
     ensures verify { (old new : Shown) (lba n : ℕ) (out : ReadOut)
         → VerifyCause old new lba n out → ReadFaults old new out }
+    ensures write { (old new : Shown) (lba n : ℕ) (out : WriteOut)
+        → WriteCause old new lba n out → WriteFaults old new out }
     ensures power { (old new : Shown) (out : PowerOut) → PowerCause old new out → PowerFaults old new out }
     ensures format { (old new : Shown) (kind : Kind) (out : FormatOut)
         → FormatCause old new kind out → FormatFaults old new out }

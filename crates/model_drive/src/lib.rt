@@ -4,6 +4,7 @@
 
 mod laws;
 mod worked;
+mod write_laws;
 
 pub use laws::{
     a_fault_alone_is_counted, a_format_is_of_one_kind, a_full_format_makes_a_disc_of_zeros,
@@ -11,7 +12,12 @@ pub use laws::{
     a_verification_keeps_the_disc, calls_that_can_end_well_do, dying_cells_keep_the_disc,
     lists_in_use_are_given_alone, some_disc_fits_first_under_lists,
 };
-pub use worked::{worked_blank_mount, worked_small_disc, worked_uses};
+pub use worked::{worked_blank_mount, worked_small_disc, worked_uses, worked_write};
+pub use write_laws::{
+    a_refused_write_keeps_the_disc, a_write_is_refused_at_a_block, a_write_makes_a_disc,
+    a_write_stops_in_a_block, courses_keep_their_blocks, one_more_block_changes_one,
+    one_more_block_extends_a_course, writes_go_by_turns,
+};
 
 /// How a write of sectors ended. (After INCITS MMC's answers to WRITE.)
 #[derive(Clone, Copy, Debug, PartialEq, Eq)]

@@ -4,9 +4,11 @@ ghost use Rattle.std.specs.Prelude.{◌≡◌, ℕ, ◌+◌, Some, None, List, [
 ghost use Rattle.model_medium.specs.Cells.{Cell, Blank};
 ghost use Rattle.model_sectors.specs.Discs.{On, Off};
 ghost use Rattle.model_sectors.specs.declared.PowerOut.TheVariants as powers;
+ghost use Rattle.model_places.specs.Places.{Lists};
 ghost use Rattle.model_volume.specs.Samples.{lists_before, lists_after};
 ghost use Rattle.model_drive.specs.Shown.{StandsFor, block_count, capacity, home};
 ghost use Rattle.model_drive.specs.Repairs.{choice_uses, repair_uses, mount_most};
+ghost use Rattle.model_drive.specs.Course.{ToHome, ToSpare, course_uses};
 ghost use Rattle.model_drive.specs.Power.{PowerCause};
 ghost use Rattle.model_drive.specs.FullFormats.{uses_to_certify, uses_of_format};
 ghost use Rattle.model_drive.specs.Worked.{small_drive, small_drive_off};
@@ -40,4 +42,10 @@ pub fn worked_blank_mount()
         (small_drive (replicate 41 Blank) None 0 8) powers.NotFormatted }
     ensures before { StandsFor (small_drive_off (replicate 41 Blank)) (Off []) }
     ensures after { StandsFor (small_drive (replicate 41 Blank) None 0 8) (On []) }
+{}
+
+/// A write of seventeen sectors from the first one on, of which the first block goes to a spare, takes fifteen uses: twelve
+/// for that block, and three for the next, whose rest is read.
+pub fn worked_write()
+    ensures { (lists : Lists) → course_uses lists [] 0 17 (ToHome ∷ ToSpare 0 ∷ []) ≡ 15 }
 {}
