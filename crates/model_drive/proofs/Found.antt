@@ -15,6 +15,9 @@ use Rattle.model_sectors.specs.Requests.{block_with, blocks_covered}
 use Rattle.model_drive.specs.declared.WriteOut.{WriteOut}
 use Rattle.model_drive.specs.declared.WriteOut.TheVariants as writes
 use Rattle.model_drive.specs.Writes.{disc_after, WriteCause, WriteOnDisc, WriteStep}
+use Rattle.model_drive.specs.declared.ExpandOut.{ExpandOut}
+use Rattle.model_drive.specs.declared.ExpandOut.TheVariants as expands
+use Rattle.model_drive.specs.Expands.{ExpandCause, ExpandStep, shortened}
 use Rattle.model_drive.specs.declared.FormatOut.{FormatOut}
 use Rattle.model_drive.specs.declared.FormatOut.TheVariants as formats
 use Rattle.model_drive.specs.Shown.{Shown}
@@ -92,6 +95,22 @@ module _ (after : Standing → Type 0) where
   power_found new s powers.Cut step = (Off (candidates s), step, refl)
   power_found new s powers.Fault step = (Off (candidates s), step, refl)
   power_found new s powers.NoMemory step = (Off (candidates s), step, refl)
+
+  pub expand_found : (s : Standing) (sectors : ℕ) (out : ExpandOut) → ExpandStep after s sectors out → (t : Standing) × after t × ExpandStep (λ x. x ≡ t) s sectors out
+  expand_found (On disc) sectors expands.Good step = (On (shortened sectors disc), step, refl)
+  expand_found (On disc) sectors expands.NotFormatted step = (On disc, step.1, (step.0, refl))
+  expand_found (On disc) sectors (expands.Refused known) step = (On disc, step, refl)
+  expand_found (On disc) sectors (expands.NoUpdate counter) step = (On disc, step, refl)
+  expand_found (On disc) sectors expands.Cut step = (Off (disc ∷ shortened sectors disc ∷ []), step, refl)
+  expand_found (On disc) sectors expands.Off step = absurd step
+  expand_found (On disc) sectors expands.Fault step = (Off (disc ∷ shortened sectors disc ∷ []), step, refl)
+  expand_found (Off discs) sectors expands.Good step = absurd step
+  expand_found (Off discs) sectors expands.NotFormatted step = absurd step
+  expand_found (Off discs) sectors (expands.Refused known) step = absurd step
+  expand_found (Off discs) sectors (expands.NoUpdate counter) step = absurd step
+  expand_found (Off discs) sectors expands.Cut step = absurd step
+  expand_found (Off discs) sectors expands.Off step = (Off discs, step, refl)
+  expand_found (Off discs) sectors expands.Fault step = absurd step
 
   module _ (old new : Shown) where
     stopped_found : (disc : List ℕ) → StandsInFormat old.shape after disc → (t : Standing) × after t × StandsInFormat old.shape (λ x. x ≡ t) disc
@@ -175,6 +194,16 @@ module _ (old new : Shown) where
   power_known powers.Cut cause = stop_known (turned_on old).medium new.medium _ stops.Cut cause.stopped.stops
   power_known powers.Fault cause = stop_known (turned_on old).medium new.medium _ stops.Fault cause.stopped.stops
   power_known powers.NoMemory cause = cause.reach.lasts.as_known
+
+  pub expand_known : (sectors : ℕ) (out : ExpandOut) → ExpandCause old new sectors out → new.medium.world.known ≡ old.medium.world.known
+  expand_known sectors expands.Good (inl cause) = cause.ends.reach.lasts.as_known
+  expand_known sectors expands.Good (inr cause) = cause.ends.reach.lasts.as_known
+  expand_known sectors expands.NotFormatted cause = same_known cause.nothing
+  expand_known sectors (expands.Refused known) cause = same_known cause.nothing
+  expand_known sectors (expands.NoUpdate counter) cause = cause.ends.reach.lasts.as_known
+  expand_known sectors expands.Cut cause = stopped_known _ stops.Cut cause.stopped
+  expand_known sectors expands.Off cause = same_known cause.nothing
+  expand_known sectors expands.Fault cause = stopped_known _ stops.Fault cause.stopped
 
   full_known : (drop_sdl : Bool) (out : FormatOut) → FullCause old new drop_sdl out → new.medium.world.known ≡ old.medium.world.known
   full_known drop_sdl formats.Good cause = cause.any.ends.reach.lasts.as_known

@@ -15,3 +15,4 @@ pub mod WriteCompleting
 pub mod WriteStops
 pub mod WriteSteps
 pub mod WriteBytes
+pub mod ExpandSteps

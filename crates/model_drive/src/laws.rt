@@ -12,6 +12,7 @@ ghost use Rattle.model_places.specs.Valid.{AreValid};
 ghost use Rattle.model_volume.specs.Given.{IsGiven};
 ghost use Rattle.model_volume.specs.Covers.{FitsUnder, SomeFit};
 ghost use Rattle.model_drive.specs.declared.WriteOut.{WriteOut};
+ghost use Rattle.model_drive.specs.declared.ExpandOut.{ExpandOut};
 ghost use Rattle.model_drive.specs.declared.Kind.{Kind};
 ghost use Rattle.model_drive.specs.declared.FormatOut.{FormatOut};
 ghost use Rattle.model_drive.specs.declared.FormatOut.TheVariants as formats;
@@ -19,11 +20,12 @@ ghost use Rattle.model_drive.specs.Shown.{Shown, IsKnown, IsOn, HoldsBlocksOf, S
 ghost use Rattle.model_drive.specs.Sound.{IsSound};
 ghost use Rattle.model_drive.specs.Parts.{KeepsLists, AreSameOrDead};
 ghost use Rattle.model_drive.specs.Reads.{ReadCause, ReadStep, ReadCompletes, VerifyCause, VerifyStep};
-ghost use Rattle.model_drive.specs.Writes.{WriteCause, WriteCompletes};
+ghost use Rattle.model_drive.specs.Writes.{WriteCause, WriteStep, WriteCompletes};
 ghost use Rattle.model_drive.specs.Power.{PowerCause, PowerStep};
+ghost use Rattle.model_drive.specs.Expands.{ExpandCause, ExpandStep, ExpandCompletes};
 ghost use Rattle.model_drive.specs.FullFormats.{FullCause, FullStep};
 ghost use Rattle.model_drive.specs.Rewriting.{RewriteCause, RewriteStep};
-ghost use Rattle.model_drive.specs.Faults.{ReadFaults, WriteFaults, PowerFaults, FormatFaults};
+ghost use Rattle.model_drive.specs.Faults.{ReadFaults, WriteFaults, PowerFaults, ExpandFaults, FormatFaults};
 ghost use Rattle.model_drive.specs.Formats.{FormatCause, FormatStep, FormatCompletes};
 
 /// Of discs one of which fits under lists there is a first that fits, and one alone.
@@ -101,6 +103,16 @@ pub fn a_format_is_of_one_kind()
         → FormatCause old new kind out → FormatStep old new (StandsFor new) s kind out }
 {}
 
+/// What an expansion makes of the disc follows from its cause, and from what always holds.
+pub fn an_expansion_keeps_the_first_sectors()
+    ensures on { (old new : Shown) → new.shape ≡ old.shape → IsSound new → (sectors : ℕ) (disc : List ℕ)
+        → StandsFor old (On disc) → (out : ExpandOut) → ExpandCause old new sectors out
+        → ExpandStep (StandsFor new) (On disc) sectors out }
+    ensures off { (old new : Shown) (sectors : ℕ) (discs : List (List ℕ)) → StandsFor old (Off discs)
+        → (out : ExpandOut) → ExpandCause old new sectors out
+        → ExpandStep (StandsFor new) (Off discs) sectors out }
+{}
+
 /// Lists in use are the only ones that the cells give, whatever cells turn dead later. After a format that is done some
 /// are in use.
 pub fn lists_in_use_are_given_alone()
@@ -120,6 +132,8 @@ pub fn calls_that_can_end_well_do()
     ensures writes { (old new : Shown) (lba n : ℕ)
         → ((lists : Lists) → old.lists ≡ Some lists → AreValid old.shape lists) → new.shape ≡ old.shape
         → (out : WriteOut) → WriteCause old new lba n out → WriteCompletes old new lba n out }
+    ensures expands { (old new : Shown) (sectors : ℕ) (out : ExpandOut)
+        → ExpandCause old new sectors out → ExpandCompletes old new sectors out }
     ensures formats { (old new : Shown) (kind : Kind) (out : FormatOut)
         → FormatCause old new kind out → FormatCompletes old new kind out }
 {}
@@ -133,6 +147,28 @@ pub fn a_fault_alone_is_counted()
     ensures write { (old new : Shown) (lba n : ℕ) (out : WriteOut)
         → WriteCause old new lba n out → WriteFaults old new out }
     ensures power { (old new : Shown) (out : PowerOut) → PowerCause old new out → PowerFaults old new out }
+    ensures expand { (old new : Shown) (sectors : ℕ) (out : ExpandOut)
+        → ExpandCause old new sectors out → ExpandFaults old new out }
     ensures format { (old new : Shown) (kind : Kind) (out : FormatOut)
         → FormatCause old new kind out → FormatFaults old new out }
+{}
+
+/// What a drive stands for after a call is one thing: a caller that needs it finds it in the step.
+pub fn calls_leave_a_state()
+    ensures read { (shown : Shown) (s : Standing) (lba n : ℕ) (into : List ℕ) (out : ReadOut)
+        → ReadStep (StandsFor shown) s lba n into out
+        → (t : Standing) × StandsFor shown t × ReadStep (λ x. x ≡ t) s lba n into out }
+    ensures verify { (shown : Shown) (s : Standing) (out : ReadOut) → VerifyStep (StandsFor shown) s out
+        → (t : Standing) × StandsFor shown t × VerifyStep (λ x. x ≡ t) s out }
+    ensures write { (shown new : Shown) (s : Standing) (lba n : ℕ) (bytes : List ℕ) (out : WriteOut)
+        → WriteStep new (StandsFor shown) s lba n bytes out
+        → (t : Standing) × StandsFor shown t × WriteStep new (λ x. x ≡ t) s lba n bytes out }
+    ensures power { (shown new : Shown) (s : Standing) (out : PowerOut) → PowerStep new (StandsFor shown) s out
+        → (t : Standing) × StandsFor shown t × PowerStep new (λ x. x ≡ t) s out }
+    ensures expand { (shown : Shown) (s : Standing) (sectors : ℕ) (out : ExpandOut)
+        → ExpandStep (StandsFor shown) s sectors out
+        → (t : Standing) × StandsFor shown t × ExpandStep (λ x. x ≡ t) s sectors out }
+    ensures format { (shown old new : Shown) (s : Standing) (kind : Kind) (out : FormatOut)
+        → FormatStep old new (StandsFor shown) s kind out
+        → (t : Standing) × StandsFor shown t × FormatStep old new (λ x. x ≡ t) s kind out }
 {}

@@ -9,8 +9,9 @@ mod write_laws;
 pub use laws::{
     a_fault_alone_is_counted, a_format_is_of_one_kind, a_full_format_makes_a_disc_of_zeros,
     a_mount_finds_the_disc, a_read_keeps_the_disc, a_rewriting_format_keeps_the_disc,
-    a_verification_keeps_the_disc, calls_that_can_end_well_do, dying_cells_keep_the_disc,
-    lists_in_use_are_given_alone, some_disc_fits_first_under_lists,
+    a_verification_keeps_the_disc, an_expansion_keeps_the_first_sectors, calls_leave_a_state,
+    calls_that_can_end_well_do, dying_cells_keep_the_disc, lists_in_use_are_given_alone,
+    some_disc_fits_first_under_lists,
 };
 pub use worked::{worked_blank_mount, worked_small_disc, worked_uses, worked_write};
 pub use write_laws::{
@@ -91,4 +92,50 @@ pub enum FormatOut {
     Fault,
     /// Memory was refused, and nothing was done.
     NoMemory,
+}
+
+/// How an expansion of the supplementary spare area ended. (This project's own.)
+#[derive(Clone, Copy, Debug, PartialEq, Eq)]
+pub enum ExpandOut {
+    /// The disc has so many sectors.
+    Good,
+    /// The disc is not formatted.
+    NotFormatted,
+    /// The disc cannot have so many sectors.
+    Refused {
+        /// How many it has.
+        capacity: u32,
+    },
+    /// The secondary list could not be written.
+    NoUpdate {
+        /// The counter of the list in use.
+        counter: u32,
+    },
+    /// The power was cut in this expansion.
+    Cut,
+    /// The power was off already, and nothing was done.
+    Off,
+    /// What the medium lies on failed, and counted it. The power is off.
+    Fault,
+}
+
+/// What a drive tells of its disc, in blocks where nothing else is said. (This project's own.)
+#[derive(Clone, Copy, Debug, PartialEq, Eq)]
+pub struct DriveCounts {
+    /// Whether the power is on.
+    pub powered: bool,
+    /// Whether the disc is formatted.
+    pub formatted: bool,
+    /// How many sectors the disc has.
+    pub capacity: u32,
+    /// How many primary spares the geometry has.
+    pub psa: u32,
+    /// How many supplementary spares there are.
+    pub ssa: u32,
+    /// How many primary spares are free.
+    pub free_primary: u32,
+    /// How many supplementary spares are free.
+    pub free_supplementary: u32,
+    /// How many sectors a full format gives.
+    pub formattable: u32,
 }
