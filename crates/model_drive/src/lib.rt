@@ -13,7 +13,9 @@ pub use laws::{
     calls_that_can_end_well_do, dying_cells_keep_the_disc, lists_in_use_are_given_alone,
     some_disc_fits_first_under_lists,
 };
-pub use worked::{worked_blank_mount, worked_small_disc, worked_uses, worked_write};
+pub use worked::{
+    worked_blank_mount, worked_expansion_sizes, worked_small_disc, worked_uses, worked_write,
+};
 pub use write_laws::{
     a_refused_write_keeps_the_disc, a_write_is_refused_at_a_block, a_write_makes_a_disc,
     a_write_stops_in_a_block, courses_keep_their_blocks, one_more_block_changes_one,

@@ -5,12 +5,13 @@ ghost use Rattle.model_medium.specs.Cells.{Cell, Blank};
 ghost use Rattle.model_sectors.specs.Discs.{On, Off};
 ghost use Rattle.model_sectors.specs.declared.PowerOut.TheVariants as powers;
 ghost use Rattle.model_places.specs.Places.{Lists};
-ghost use Rattle.model_volume.specs.Samples.{lists_before, lists_after};
+ghost use Rattle.model_volume.specs.Samples.{small_shape, lists_before, lists_after};
 ghost use Rattle.model_drive.specs.Shown.{StandsFor, block_count, capacity, home};
 ghost use Rattle.model_drive.specs.Repairs.{choice_uses, repair_uses, mount_most};
 ghost use Rattle.model_drive.specs.Course.{ToHome, ToSpare, course_uses};
 ghost use Rattle.model_drive.specs.Power.{PowerCause};
 ghost use Rattle.model_drive.specs.FullFormats.{uses_to_certify, uses_of_format};
+ghost use Rattle.model_drive.specs.Expands.{ssa_for, IsLawfulSize};
 ghost use Rattle.model_drive.specs.Worked.{small_drive, small_drive_off};
 
 /// A disc of one zone with four primary spares has 19 logical blocks, and one that is not formatted has none. Its first
@@ -48,4 +49,13 @@ pub fn worked_blank_mount()
 /// for that block, and three for the next, whose rest is read.
 pub fn worked_write()
     ensures { (lists : Lists) → course_uses lists [] 0 17 (ToHome ∷ ToSpare 0 ∷ []) ≡ 15 }
+{}
+
+/// A disc of 19 logical blocks that is to have 240 sectors gets four supplementary spares; more than it has are refused, and
+/// so is a part of a block.
+pub fn worked_expansion_sizes()
+    ensures area { ssa_for small_shape 240 ≡ 4 }
+    ensures lawful { (cells : List Cell) → IsLawfulSize (small_drive cells (Some lists_before) 2 0) 240 }
+    ensures too_many { (cells : List Cell) → ¬ IsLawfulSize (small_drive cells (Some lists_before) 2 0) 320 }
+    ensures not_whole { (cells : List Cell) → ¬ IsLawfulSize (small_drive cells (Some lists_before) 2 0) 241 }
 {}
