@@ -16,3 +16,4 @@ pub mod WriteStops
 pub mod WriteSteps
 pub mod WriteBytes
 pub mod ExpandSteps
+pub mod BlockTurns

@@ -10,7 +10,6 @@ use Rattle.model_medium.specs.Reach.{Reach}
 use Rattle.model_medium.proofs.Compose.{reach_then}
 use Rattle.model_sectors.specs.Discs.{On}
 use Rattle.model_sectors.specs.Requests.{block_with, blocks_covered}
-use Rattle.model_sectors.specs.Uses.{touched_from}
 use Rattle.model_stops.specs.Stops.{Stops, FailsInUse}
 use Rattle.model_stops.specs.declared.Stop.{Stop}
 use Rattle.model_stops.specs.declared.Stop.TheVariants as stops
@@ -20,7 +19,7 @@ use Rattle.model_volume.specs.Covers.{FitsUnder, Cover}
 use Rattle.model_volume.specs.Moves.{DiffersAt}
 use Rattle.model_drive.specs.Shown.{Shown, buffered, cells_in, StandsFor}
 use Rattle.model_drive.specs.Course.{Placing, course_uses, uses_of_rest, most_uses}
-use Rattle.model_drive.specs.Writes.{EndsWriting, disc_after, StopsInWrite, StopsInBlock}
+use Rattle.model_drive.specs.Writes.{WroteCourse, disc_after, StopsInWrite, StopsInBlock}
 use Rattle.model_drive.specs.Blocks.{StopsAtBlock}
 use Rattle.model_drive.proofs.Ends.{stop_off}
 use Rattle.model_drive.proofs.WriteTurns.{begun}
@@ -62,13 +61,13 @@ dead_in_use old new block (inr (bytes, f)) other dead = elim (cases_eq other blo
   | inr ne ↦ f.one.others other ne ∙ dead
 ]
 
-dead_stopped : (a b : Machine) (most : ℕ) (why : Stop) → IsTrue a.world.power → Stops (λ (m : Machine). m.world) Reach a b most why → (other : ℕ) → cell_at a.world.cells other ≡ Dead → cell_at b.world.cells other ≡ Dead
+pub dead_stopped : (a b : Machine) (most : ℕ) (why : Stop) → IsTrue a.world.power → Stops (λ (m : Machine). m.world) Reach a b most why → (other : ℕ) → cell_at a.world.cells other ≡ Dead → cell_at b.world.cells other ≡ Dead
 dead_stopped a b most stops.Cut on s other dead = s.reach.lasts.stays_dead other dead
 dead_stopped a b most stops.Off on s other dead = absurd (s.was_off on)
 dead_stopped a b most stops.Fault on s other dead = dead_in_use s.mid.world b.world s.block s.fails other (s.reach.lasts.stays_dead other dead)
 
 module _ (old mid new : Shown) (lba n : ℕ) (course : List Placing) (lists reached : Lists) (put : List ℕ)
-    (so_far : EndsWriting old mid lists lba n course 0 reached (course_uses lists (buffered old) lba n course) (touched_from (buffered old) (block_with lba) (length course)))
+    (so_far : WroteCourse old mid lists lba n course reached)
     (valid : AreValid old.shape lists) (covered : length course < blocks_covered lba n) (as_known : mid.medium.world.known ≡ old.medium.world.known)
     (stop : Stop) (at : StopsAtBlock (λ (m : Machine). m.world) Reach old.shape mid.medium new.medium reached (block_with lba + length course) put stop) where
   pub stops_in_write : new.lists ≡ None → new.mark ≡ 0 → new.buffer ≡ [] → StopsInWrite old new lba n stop

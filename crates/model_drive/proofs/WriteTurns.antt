@@ -18,7 +18,7 @@ use Rattle.model_drive.specs.Shown.{Shown, IsKnown, buffered, cells_in, home, Ha
 use Rattle.model_drive.specs.Parts.{EndsBy, IsInRange}
 use Rattle.model_drive.specs.Repairs.{sdl_update_uses}
 use Rattle.model_drive.specs.Course.{Placing, free_at, free_for, lists_placed, lists_reached, WentTo, CanPlace, AreDead, OnlyWritten, placing_uses, uses_of_rest, course_uses}
-use Rattle.model_drive.specs.Writes.{WroteSoFar, EndsWriting, WritesAll, LacksSpare, LacksUpdate, LacksRest}
+use Rattle.model_drive.specs.Writes.{WroteSoFar, EndsWriting, WroteCourse, WritesAll, LacksSpare, LacksUpdate, LacksRest}
 use Rattle.model_drive.proofs.Courses.{after_valid}
 use Rattle.model_drive.proofs.Turns.{only_more, placed_before}
 
@@ -46,7 +46,7 @@ inside_count old lba n k lists in_use inside h =
     covered_inside lba n k (logical_count old.shape lists) (omega (arith, few)) h
 
 module _ (old mid new : Shown) (lba n : ℕ) (course : List Placing) (lists reached : Lists)
-    (so_far : EndsWriting old mid lists lba n course 0 reached (course_uses lists (buffered old) lba n course) (touched_from (buffered old) (block_with lba) (length course)))
+    (so_far : WroteCourse old mid lists lba n course reached)
     (valid : AreValid old.shape lists) (covered : length course < blocks_covered lba n) where
   within : block_with lba + length course < logical_count old.shape lists
   within = inside_count old lba n (length course) lists so_far.wrote.in_use so_far.wrote.inside covered
@@ -76,8 +76,7 @@ module _ (old mid new : Shown) (lba n : ℕ) (course : List Placing) (lists reac
     module _ (placing : Placing) (can : CanPlace old.shape reached (block_with lba + length course) placing) (placed : IsKnown old → WentTo old.shape (cells_in new) reached (block_with lba + length course) placing)
         (ends : EndsBy mid new (uses_of_rest (buffered old) lba n (length course) + placing_uses lists placing))
         (now_in_use : new.lists ≡ Some (lists_placed old.shape reached (block_with lba + length course) placing)) (same_mark : new.mark ≡ mid.mark) (touched : buffered new ≡ touched_one (buffered mid) (block_with lba + length course)) where
-      pub ends_more : EndsWriting old new lists lba n (placing ∷ course) 0 (lists_placed old.shape reached (block_with lba + length course) placing)
-          (course_uses lists (buffered old) lba n (placing ∷ course)) (touched_from (buffered old) (block_with lba) (length (placing ∷ course)))
+      pub ends_more : WroteCourse old new lists lba n (placing ∷ course) (lists_placed old.shape reached (block_with lba + length course) placing)
       unfolding begun
       ends_more = record {
         wrote = record {
@@ -96,11 +95,11 @@ module _ (old mid new : Shown) (lba n : ℕ) (course : List Placing) (lists reac
 
 -- the whole request is written
 pub writes_all : (old new : Shown) (lba n : ℕ) (course : List Placing) (lists reached : Lists) → length course ≡ blocks_covered lba n
-    → EndsWriting old new lists lba n course 0 reached (course_uses lists (buffered old) lba n course) (touched_from (buffered old) (block_with lba) (length course)) → WritesAll old new lba n
+    → WroteCourse old new lists lba n course reached → WritesAll old new lba n
 writes_all old new lba n course lists reached all ends = record { lists = lists; course = course; all = all; reached = reached; ends = ends }
 
 module _ (old mid new : Shown) (lba n : ℕ) (course : List Placing) (lists reached : Lists)
-    (so_far : EndsWriting old mid lists lba n course 0 reached (course_uses lists (buffered old) lba n course) (touched_from (buffered old) (block_with lba) (length course)))
+    (so_far : WroteCourse old mid lists lba n course reached)
     (valid : AreValid old.shape lists) (covered : length course < blocks_covered lba n)
     (moves : OnlyMoves old.shape (cells_in mid) (cells_in new) reached (block_with lba + length course)) (dead : (block : ℕ) → cell_at (cells_in mid) block ≡ Dead → cell_at (cells_in new) block ≡ Dead) where
   -- a refusal at the next block: the lists stay

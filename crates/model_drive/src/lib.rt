@@ -18,8 +18,8 @@ pub use worked::{
 };
 pub use write_laws::{
     a_refused_write_keeps_the_disc, a_write_is_refused_at_a_block, a_write_makes_a_disc,
-    a_write_stops_in_a_block, courses_keep_their_blocks, one_more_block_changes_one,
-    one_more_block_extends_a_course, writes_go_by_turns,
+    a_write_stops_in_a_block, courses_keep_their_blocks, one_block_is_a_turn,
+    one_more_block_changes_one, one_more_block_extends_a_course, writes_go_by_turns,
 };
 
 /// How a write of sectors ended. (After INCITS MMC's answers to WRITE.)

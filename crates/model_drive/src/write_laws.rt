@@ -1,27 +1,29 @@
 //! Laws of writes: what a course keeps, the turns of the loop over a request, and what the drive stands for then.
 
-ghost use Rattle.std.specs.Prelude.{◌≡◌, ℕ, ◌+◌, ◌*◌, ◌<◌, ◌≤◌, ◌⊎◌, IsTrue, Some, None, List, [], ◌∷◌, length, slice_index};
+ghost use Rattle.std.specs.Prelude.{◌≡◌, ◌≢◌, ℕ, ◌+◌, ◌*◌, ◌<◌, ◌≤◌, ◌⊎◌, IsTrue, Some, None, List, [], ◌∷◌, length, slice_index};
 ghost use Rattle.model_buffer.specs.Buffer.{touched_one};
 ghost use Rattle.model_geometry.specs.Geometry.{Shape};
 ghost use Rattle.model_medium.specs.Cells.{Cell, Dead, IsGood, IsSameOrDead, cell_at};
 ghost use Rattle.model_medium.specs.Machine.{Machine};
 ghost use Rattle.model_medium.specs.Reach.{Reach};
+ghost use Rattle.model_stops.specs.Stops.{Stops};
 ghost use Rattle.model_stops.specs.declared.Stop.{Stop};
 ghost use Rattle.model_sectors.specs.Discs.{On, Off, block_of};
 ghost use Rattle.model_sectors.specs.Requests.{block_with, blocks_covered, merged_in, NamesBlock};
 ghost use Rattle.model_sectors.specs.Uses.{reads_rest, touched_refused};
 ghost use Rattle.model_places.specs.Places.{Lists, logical_count, home_of};
 ghost use Rattle.model_places.specs.Valid.{AreValid};
+ghost use Rattle.model_volume.specs.Given.{AreSettled};
 ghost use Rattle.model_volume.specs.Covers.{FitsUnder};
 ghost use Rattle.model_volume.specs.Moves.{DiffersAt, OnlyMoves};
 ghost use Rattle.model_drive.specs.declared.WriteOut.{WriteOut};
 ghost use Rattle.model_drive.specs.declared.WriteOut.TheVariants as outs;
 ghost use Rattle.model_drive.specs.Shown.{Shown, WhenKnown, HasLostSdl, HoldsBlocksOf, StandsFor, buffered, cells_in, home};
 ghost use Rattle.model_drive.specs.Sound.{IsSound};
-ghost use Rattle.model_drive.specs.Parts.{IsUnformatted, IsInRange, IsOutOfRange, EndsBy};
+ghost use Rattle.model_drive.specs.Parts.{IsUnformatted, IsInRange, IsOutOfRange, EndsBy, AreSameOrDead};
 ghost use Rattle.model_drive.specs.Course.{Placing, ToHome, ToSpare, free_at, lists_placed, lists_reached, WentTo, TookCourse, CanPlace, CanTakeCourse, AreDead, OnlyWritten, uses_of_rest, placing_uses, course_uses};
-ghost use Rattle.model_drive.specs.Blocks.{StopsAtBlock};
-ghost use Rattle.model_drive.specs.Writes.{EndsWriting, WritesAll, LacksRest, LacksSpare, LacksUpdate, StopsInWrite, StopsInBlock, WriteCause, WriteStep, uses_so_far, buffered_so_far, next_block, spareless_uses, unlisted_uses, disc_after};
+ghost use Rattle.model_drive.specs.Blocks.{PutsBlock, FindsNoSpare, FindsNoCopy, StopsAtBlock};
+ghost use Rattle.model_drive.specs.Writes.{EndsWriting, WritesAll, LacksRest, LacksSpare, LacksUpdate, StopsInWrite, StopsInBlock, WroteCourse, ReadRest, WriteCause, WriteStep, next_block, spareless_uses, unlisted_uses, disc_after};
 
 /// After a course that a write can take, the lists are valid, and each of its blocks has whole bytes in its home. What
 /// went so stays so while dead cells stay dead and these homes are as they were.
@@ -66,8 +68,7 @@ pub fn writes_go_by_turns()
     ensures none { (old : Shown) (lba n : ℕ) (lists : Lists) → IsInRange old lba n → old.lists ≡ Some lists
         → Reach old.medium old.medium 0 → EndsWriting old old lists lba n [] 0 lists 0 (buffered old) }
     ensures more { (old mid new : Shown) (lba n : ℕ) (course : List Placing) (lists reached : Lists)
-        → EndsWriting old mid lists lba n course 0 reached
-        (uses_so_far old lists lba n course) (buffered_so_far old lba course)
+        → WroteCourse old mid lists lba n course reached
         → AreValid old.shape lists → length course < blocks_covered lba n
         → OnlyMoves old.shape (cells_in mid) (cells_in new) reached (next_block lba course)
         → ((block : ℕ) → cell_at (cells_in mid) block ≡ Dead → cell_at (cells_in new) block ≡ Dead)
@@ -76,21 +77,18 @@ pub fn writes_go_by_turns()
         → EndsBy mid new (uses_of_rest (buffered old) lba n (length course) + placing_uses lists placing)
         → new.lists ≡ Some (lists_placed old.shape reached (next_block lba course) placing)
         → new.mark ≡ mid.mark → buffered new ≡ touched_one (buffered mid) (next_block lba course)
-        → EndsWriting old new lists lba n (placing ∷ course) 0
-        (lists_placed old.shape reached (next_block lba course) placing)
-        (uses_so_far old lists lba n (placing ∷ course)) (buffered_so_far old lba (placing ∷ course)) }
+        → WroteCourse old new lists lba n (placing ∷ course)
+        (lists_placed old.shape reached (next_block lba course) placing) }
     ensures all { (old new : Shown) (lba n : ℕ) (course : List Placing) (lists reached : Lists)
         → length course ≡ blocks_covered lba n
-        → EndsWriting old new lists lba n course 0 reached
-        (uses_so_far old lists lba n course) (buffered_so_far old lba course)
+        → WroteCourse old new lists lba n course reached
         → WriteCause old new lba n outs.Good }
 {}
 
 /// A write is refused at the next block: its rest cannot be read, no spare is left, or the list could not be written.
 pub fn a_write_is_refused_at_a_block()
     ensures rest { (old mid new : Shown) (lba n : ℕ) (course : List Placing) (lists reached : Lists)
-        → EndsWriting old mid lists lba n course 0 reached
-        (uses_so_far old lists lba n course) (buffered_so_far old lba course)
+        → WroteCourse old mid lists lba n course reached
         → AreValid old.shape lists → length course < blocks_covered lba n
         → OnlyMoves old.shape (cells_in mid) (cells_in new) reached (next_block lba course)
         → ((block : ℕ) → cell_at (cells_in mid) block ≡ Dead → cell_at (cells_in new) block ≡ Dead)
@@ -101,8 +99,7 @@ pub fn a_write_is_refused_at_a_block()
         → IsSameOrDead (cell_at (cells_in old) block) (cell_at (cells_in new) block)
         → WriteCause old new lba n (outs.Unread named block) }
     ensures spare { (old mid new : Shown) (lba n : ℕ) (course : List Placing) (lists reached : Lists)
-        → EndsWriting old mid lists lba n course 0 reached
-        (uses_so_far old lists lba n course) (buffered_so_far old lba course)
+        → WroteCourse old mid lists lba n course reached
         → AreValid old.shape lists → length course < blocks_covered lba n
         → OnlyMoves old.shape (cells_in mid) (cells_in new) reached (next_block lba course)
         → ((block : ℕ) → cell_at (cells_in mid) block ≡ Dead → cell_at (cells_in new) block ≡ Dead)
@@ -115,8 +112,7 @@ pub fn a_write_is_refused_at_a_block()
         (length (free_at old.shape reached (next_block lba course)))
         → WriteCause old new lba n (outs.NoSpare named) }
     ensures list { (old mid new : Shown) (lba n : ℕ) (course : List Placing) (lists reached : Lists)
-        → EndsWriting old mid lists lba n course 0 reached
-        (uses_so_far old lists lba n course) (buffered_so_far old lba course)
+        → WroteCourse old mid lists lba n course reached
         → AreValid old.shape lists → length course < blocks_covered lba n
         → OnlyMoves old.shape (cells_in mid) (cells_in new) reached (next_block lba course)
         → ((block : ℕ) → cell_at (cells_in mid) block ≡ Dead → cell_at (cells_in new) block ≡ Dead)
@@ -134,17 +130,15 @@ pub fn a_write_is_refused_at_a_block()
 
 /// A write is stopped in the next block: the cause, and the two discs, where these bytes were to be put.
 pub fn a_write_stops_in_a_block()
-    ensures cause { (old mid new : Shown) (lba n : ℕ) (course : List Placing) (lists reached : Lists) (put : List ℕ)
-        → EndsWriting old mid lists lba n course 0 reached
-        (uses_so_far old lists lba n course) (buffered_so_far old lba course)
+    ensures cause { (old mid new : Shown) (lba n : ℕ) (course : List Placing) (lists reached : Lists)
+        (put : List ℕ) → WroteCourse old mid lists lba n course reached
         → AreValid old.shape lists → length course < blocks_covered lba n
         → mid.medium.world.known ≡ old.medium.world.known → (stop : Stop)
         → StopsAtBlock (λ (m : Machine). m.world) Reach old.shape mid.medium new.medium reached
         (next_block lba course) put stop
         → new.lists ≡ None → new.mark ≡ 0 → new.buffer ≡ [] → StopsInWrite old new lba n stop }
-    ensures step { (old mid new : Shown) (lba n : ℕ) (course : List Placing) (lists reached : Lists) (put : List ℕ)
-        → EndsWriting old mid lists lba n course 0 reached
-        (uses_so_far old lists lba n course) (buffered_so_far old lba course)
+    ensures step { (old mid new : Shown) (lba n : ℕ) (course : List Placing) (lists reached : Lists)
+        (put : List ℕ) → WroteCourse old mid lists lba n course reached
         → AreValid old.shape lists → length course < blocks_covered lba n
         → mid.medium.world.known ≡ old.medium.world.known → (stop : Stop)
         → StopsAtBlock (λ (m : Machine). m.world) Reach old.shape mid.medium new.medium reached
@@ -203,4 +197,58 @@ pub fn a_refused_write_keeps_the_disc()
     ensures off { (old new : Shown) (lba n : ℕ) (bytes : List ℕ) (discs : List (List ℕ)) (out : WriteOut)
         → WriteCause old new lba n out → StandsFor old (Off discs)
         → WriteStep new (StandsFor new) (Off discs) lba n bytes out }
+{}
+
+/// What the write of one block does is a turn of the loop, also after the rest of the block was read: it is put, no spare is
+/// left for it, the secondary list could not be updated, or it is stopped.
+pub fn one_block_is_a_turn()
+    ensures put { (old mid new : Shown) (lba n : ℕ) (course : List Placing) (lists reached : Lists)
+        → WroteCourse old mid lists lba n course reached
+        → AreValid old.shape lists → length course < blocks_covered lba n
+        → (at : Machine) → ReadRest old mid lba n course at
+        → (put : List ℕ) (lists' : Lists)
+        → (puts : PutsBlock (λ (m : Machine). m.world) Reach old.shape at new.medium reached
+        (next_block lba course) put lists')
+        → new.lists ≡ Some lists' → new.mark ≡ mid.mark
+        → buffered new ≡ touched_one (buffered mid) (next_block lba course)
+        → WroteCourse old new lists lba n (puts.placing ∷ course)
+        (lists_placed old.shape reached (next_block lba course) puts.placing) }
+    ensures no_spare { (old mid new : Shown) (lba n : ℕ) (course : List Placing) (lists reached : Lists)
+        → WroteCourse old mid lists lba n course reached
+        → AreValid old.shape lists → length course < blocks_covered lba n
+        → (at : Machine) → ReadRest old mid lba n course at
+        → (put : List ℕ) (lists' : Lists)
+        → FindsNoSpare (λ (m : Machine). m.world) Reach old.shape at new.medium reached
+        (next_block lba course) put lists'
+        → (named : ℕ) → NamesBlock lba n named (length course)
+        → new.lists ≡ mid.lists → new.mark ≡ mid.mark → new.shape ≡ old.shape
+        → buffered new ≡ touched_refused (buffered old) lba n (length course) → LacksSpare old new lba n named }
+    ensures no_copy { (old mid new : Shown) (lba n : ℕ) (course : List Placing) (lists reached : Lists)
+        → WroteCourse old mid lists lba n course reached
+        → AreValid old.shape lists → length course < blocks_covered lba n
+        → (at : Machine) → ReadRest old mid lba n course at
+        → (put : List ℕ) (lists' : Lists) (counter : ℕ)
+        → FindsNoCopy (λ (m : Machine). m.world) Reach old.shape at new.medium reached
+        (next_block lba course) put lists' counter
+        → new.lists ≡ mid.lists → new.mark ≡ mid.mark → new.shape ≡ old.shape
+        → buffered new ≡ touched_refused (buffered old) lba n (length course)
+        → LacksUpdate old new lba n counter }
+    ensures stopped { (old mid new : Shown) (lba n : ℕ) (course : List Placing) (lists reached : Lists)
+        → WroteCourse old mid lists lba n course reached
+        → AreValid old.shape lists → length course < blocks_covered lba n
+        → (at : Machine) → ReadRest old mid lba n course at
+        → (put : List ℕ) (stop : Stop)
+        → StopsAtBlock (λ (m : Machine). m.world) Reach old.shape at new.medium reached
+        (next_block lba course) put stop
+        → new.lists ≡ None → new.mark ≡ 0 → new.buffer ≡ [] → StopsInWrite old new lba n stop }
+    ensures rest_stopped { (old mid new : Shown) (lba n : ℕ) (course : List Placing) (lists reached : Lists)
+        → WroteCourse old mid lists lba n course reached
+        → AreValid old.shape lists → length course < blocks_covered lba n
+        → (stop : Stop) → Stops (λ (m : Machine). m.world) Reach mid.medium new.medium 1 stop
+        → uses_of_rest (buffered old) lba n (length course) ≡ 1
+        → AreSameOrDead (cells_in mid) (cells_in new)
+        → ((block : ℕ) → block ≢ home_of old.shape reached (next_block lba course)
+        → cell_at (cells_in new) block ≡ cell_at (cells_in mid) block)
+        → WhenKnown old (AreSettled old.shape (cells_in mid) reached)
+        → new.lists ≡ None → new.mark ≡ 0 → new.buffer ≡ [] → StopsInWrite old new lba n stop }
 {}
