@@ -43,7 +43,8 @@ module _ (old new : Shown) (lists : Lists) (lba n : ℕ) where
     pub only : OnlyWritten old.shape (cells_in old) (cells_in new) lists (block_with lba) (length course + more)
 
   -- It went no farther, by so many uses. The lists that it reached are in use.
-  pub record EndsWriting (course : List Placing) (more : ℕ) (reached : Lists) (uses : ℕ) (buffered_now : List ℕ) : Type 0 where
+  pub record EndsWriting (course : List Placing) (more : ℕ) (reached : Lists)
+      (uses : ℕ) (buffered_now : List ℕ) : Type 0 where
     pub wrote : WroteSoFar course more reached
     pub ends : EndsBy old new uses
     pub now_in_use : new.lists ≡ Some reached
