@@ -2,6 +2,7 @@
 -- read before.
 use Rattle.std.proofs.Common.{◌≡◌, ◌≢◌, ℕ, ◌+◌, ◌*◌, ◌<◌, ◌⊎◌, true, Some, None, List, [], ◌∷◌, refl, sym, ap, ◌∙◌, subst, arith, length}
 use Rattle.model_buffer.specs.Buffer.{touched_one}
+use Rattle.model_drive.specs.declared.TheConstants.{LAST_COUNTER}
 use Rattle.model_geometry.specs.Geometry.{Shape, sdl_block}
 use Rattle.model_copies.specs.Copies.{AllLost}
 use Rattle.model_medium.specs.Cells.{Dead, cell_at}
@@ -74,7 +75,7 @@ module _ (old mid new : Shown) (lba n : ℕ) (course : List Placing) (lists reac
   no_copy_turn put lists' counter finds in_use mark shape touched =
       lacks_update old mid new lba n course lists reached so_far valid covered (moves_on finds.leaves.only) (dead_on (λ block was. finds.leaves.continues.reach.lasts.stays_dead block was))
       counter finds.tried finds.some_spare (ends_on _ finds.leaves.continues) in_use mark shape touched finds.counter_is
-      (subst (λ (s : Shape). AllLost (sdl_block s) (cells_in new) ⊎ (counter ≡ 4294967295)) (sym shape) finds.cause)
+      (subst (λ (s : Shape). AllLost (sdl_block s) (cells_in new) ⊎ (counter ≡ LAST_COUNTER)) (sym shape) finds.cause)
       finds.leaves.dead finds.tried_dead (λ known. finds.spare_has (as_known known))
 
   -- the write is stopped in the block, after its rest was read

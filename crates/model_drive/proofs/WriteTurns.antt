@@ -4,6 +4,7 @@ use Rattle.std.specs.Option.{option_map_or}
 use Rattle.std.specs.List.{Contains}
 use Rattle.std.proofs.lemmas.List.{get_or_default}
 use Rattle.model_buffer.specs.Buffer.{touched_one}
+use Rattle.model_drive.specs.declared.TheConstants.{LAST_COUNTER}
 use Rattle.model_geometry.specs.Geometry.{Shape}
 use Rattle.model_medium.specs.Cells.{Dead, IsGood, IsSameOrDead, cell_at}
 use Rattle.model_medium.specs.Reach.{Reach}
@@ -141,9 +142,9 @@ module _ (old mid new : Shown) (lba n : ℕ) (course : List Placing) (lists reac
 
   -- the second list could not be written for it
   pub lacks_update : (counter tried : ℕ) → tried < length (free_spares old.shape reached)
-      → EndsBy mid new (uses_of_rest (buffered old) lba n (length course) + (2 + (2 * tried + 2) + (if counter == 4294967295 then 0 else sdl_update_uses lists.sdl)))
+      → EndsBy mid new (uses_of_rest (buffered old) lba n (length course) + (2 + (2 * tried + 2) + (if counter == LAST_COUNTER then 0 else sdl_update_uses lists.sdl)))
       → new.lists ≡ mid.lists → new.mark ≡ mid.mark → new.shape ≡ old.shape → buffered new ≡ touched_refused (buffered old) lba n (length course)
-      → counter ≡ reached.sdl.counter → HasLostSdl new ⊎ (counter ≡ 4294967295) → cell_at (cells_in new) (home_of old.shape reached (block_with lba + length course)) ≡ Dead
+      → counter ≡ reached.sdl.counter → HasLostSdl new ⊎ (counter ≡ LAST_COUNTER) → cell_at (cells_in new) (home_of old.shape reached (block_with lba + length course)) ≡ Dead
       → AreDead (cells_in new) (free_spares old.shape reached) tried → (IsKnown old → IsGood (cell_at (cells_in new) (slice_index (free_spares old.shape reached) tried))) → LacksUpdate old new lba n counter
   lacks_update counter tried some ends same mark shape are counter_is cause is_dead tried_dead has = record {
     lists = lists;
@@ -152,7 +153,7 @@ module _ (old mid new : Shown) (lba n : ℕ) (course : List Placing) (lists reac
     reached = reached;
     tried = tried;
     some_spare = some;
-    ends = ends_begun (uses_of_rest (buffered old) lba n (length course) + (2 + (2 * tried + 2) + (if counter == 4294967295 then 0 else sdl_update_uses lists.sdl))) (touched_refused (buffered old) lba n (length course)) ends same mark are;
+    ends = ends_begun (uses_of_rest (buffered old) lba n (length course) + (2 + (2 * tried + 2) + (if counter == LAST_COUNTER then 0 else sdl_update_uses lists.sdl))) (touched_refused (buffered old) lba n (length course)) ends same mark are;
     counter_is = counter_is;
     cause = cause;
     dead = ap (cell_at (cells_in new)) (home_is same shape) ∙ is_dead;

@@ -2,6 +2,7 @@
 -- makes of the disc. (This project's own, as all here.)
 use Rattle.std.specs.Prelude.{◌≡◌, ◌≢◌, ℕ, ◌+◌, ◌-◌, ◌*◌, ◌/◌, ◌%◌, ◌<◌, ◌≤◌, ◌==◌, ◌⊎◌, if◌then◌else◌, Some, List, [], ◌∷◌, length, take}
 use Rattle.model_geometry.specs.declared.TheConstants.{MOST_SPARES}
+use Rattle.model_drive.specs.declared.TheConstants.{LAST_COUNTER}
 use Rattle.model_geometry.specs.Geometry.{Shape, data_blocks, sdl_block}
 use Rattle.model_medium.specs.Cells.{cell_at}
 use Rattle.model_sectors.specs.Discs.{Standing, On, Off}
@@ -55,7 +56,7 @@ pub record Grows (old new : Shown) (sectors : ℕ) : Type 0 where
   pub lists : Lists
   pub any : ExpandsAny old new sectors lists
   pub smaller : sectors < capacity old
-  pub room : lists.sdl.counter < 4294967295
+  pub room : lists.sdl.counter < LAST_COUNTER
   pub ends : EndsBy old new (sdl_update_uses lists.sdl)
   pub now_in_use : new.lists ≡ Some (lists_expanded old.shape lists (ssa_for old.shape sectors))
   pub same_mark : new.mark ≡ old.mark
@@ -76,8 +77,8 @@ pub record GrowsInVain (old new : Shown) (sectors counter : ℕ) : Type 0 where
   pub any : ExpandsAny old new sectors lists
   pub smaller : sectors < capacity old
   pub counter_is : counter ≡ lists.sdl.counter
-  pub cause : HasLostSdl new ⊎ (counter ≡ 4294967295)
-  pub ends : EndsBy old new (if counter == 4294967295 then 0 else sdl_update_uses lists.sdl)
+  pub cause : HasLostSdl new ⊎ (counter ≡ LAST_COUNTER)
+  pub ends : EndsBy old new (if counter == LAST_COUNTER then 0 else sdl_update_uses lists.sdl)
   pub keeps : KeepsLists old new
   pub unbuffered : new.buffer ≡ []
 
@@ -91,7 +92,7 @@ pub record StopsInExpansion (old new : Shown) (sectors : ℕ) (stop : Stop) : Ty
   pub lists : Lists
   pub any : ExpandsAny old new sectors lists
   pub smaller : sectors < capacity old
-  pub room : lists.sdl.counter < 4294967295
+  pub room : lists.sdl.counter < LAST_COUNTER
   pub given : WhenKnown old (GivesExpanded old new lists (ssa_for old.shape sectors))
   pub stopped : IsStopped old new (sdl_update_uses lists.sdl) stop
 
@@ -129,7 +130,7 @@ pub record CanExpand (old new : Shown) (sectors : ℕ) : Type 0 where
   pub none_counted : NoneCounted old new
   pub lawful : IsLawfulSize old sectors
   pub can : (sectors ≡ capacity old)
-      ⊎ (¬ HasLostSdl new × ((lists : Lists) → old.lists ≡ Some lists → lists.sdl.counter < 4294967295))
+      ⊎ (¬ HasLostSdl new × ((lists : Lists) → old.lists ≡ Some lists → lists.sdl.counter < LAST_COUNTER))
 
 -- An expansion that could end well does: one for which all of this holds.
 abbrev pub ExpandCompletes : Shown → Shown → ℕ → ExpandOut → Type 0

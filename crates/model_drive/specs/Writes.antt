@@ -12,6 +12,7 @@ use Rattle.model_stops.specs.declared.Stop.{Stop}
 use Rattle.model_stops.specs.declared.Stop.TheVariants as stops
 use Rattle.model_places.specs.Places.{Lists}
 use Rattle.model_volume.specs.Given.{IsGiven}
+use Rattle.model_drive.specs.declared.TheConstants.{LAST_COUNTER}
 use Rattle.model_drive.specs.declared.WriteOut.{WriteOut}
 use Rattle.model_drive.specs.declared.WriteOut.TheVariants as outs
 use Rattle.model_drive.specs.Shown.{Shown, WhenKnown, HasLostSdl, cells_in, buffered, home, home_cell}
@@ -105,7 +106,7 @@ pub record LacksSpare (old new : Shown) (lba n named : ℕ) : Type 0 where
 -- its end
 abbrev pub unlisted_uses : Shown → Lists → (lba n k tried counter : ℕ) → ℕ
 unlisted_uses old lists lba n k tried counter = uses_of_rest (buffered old) lba n k
-    + (2 + (2 * tried + 2) + (if counter == 4294967295 then 0 else sdl_update_uses lists.sdl))
+    + (2 + (2 * tried + 2) + (if counter == LAST_COUNTER then 0 else sdl_update_uses lists.sdl))
 
 -- The write met a block whose home is dead. A spare has its bytes, and the list that would say so has no copy left, or
 -- its counter stands at its end.
@@ -120,7 +121,7 @@ pub record LacksUpdate (old new : Shown) (lba n counter : ℕ) : Type 0 where
       (uses_so_far old lists lba n course + unlisted_uses old lists lba n (length course) tried counter)
       (touched_refused (buffered old) lba n (length course))
   pub counter_is : counter ≡ reached.sdl.counter
-  pub cause : HasLostSdl new ⊎ (counter ≡ 4294967295)
+  pub cause : HasLostSdl new ⊎ (counter ≡ LAST_COUNTER)
   pub dead : home_cell new (next_block lba course) ≡ Dead
   pub tried_dead : AreDead (cells_in new) (free_at old.shape reached (next_block lba course)) tried
   pub spare_has : WhenKnown old
@@ -217,7 +218,7 @@ pub record HasSpares (old new : Shown) (lba n : ℕ) : Type 0 where
   pub whole : (k : ℕ) → k < blocks_covered lba n → ¬ IsTrue (is_partly lba n (block_with lba + k))
   pub usable : (k : ℕ) → k < blocks_covered lba n → (spare : ℕ) × IsUsable new (block_with lba + k) spare
   pub not_lost : ¬ HasLostSdl new
-  pub room : (lists : Lists) → new.lists ≡ Some lists → lists.sdl.counter < 4294967295
+  pub room : (lists : Lists) → new.lists ≡ Some lists → lists.sdl.counter < LAST_COUNTER
 
 -- A write in range that could end well does: one in which nothing dies, or that has spares.
 abbrev pub WriteCompletes : Shown → Shown → (lba n : ℕ) → WriteOut → Type 0

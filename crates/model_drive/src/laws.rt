@@ -1,6 +1,6 @@
 //! Laws of the definitions, as functions with an empty body: the build fails where one is not proved.
 
-ghost use Rattle.std.specs.Prelude.{◌≡◌, ℕ, Bool, Some, List, [], ◌∷◌};
+ghost use Rattle.std.specs.Prelude.{◌≡◌, ℕ, ◌+◌, ◌^◌, Bool, Some, List, [], ◌∷◌};
 ghost use Rattle.model_geometry.specs.Geometry.{Shape};
 ghost use Rattle.model_medium.specs.Cells.{Cell};
 ghost use Rattle.model_sectors.specs.Discs.{Standing, On, Off, sectors_of};
@@ -11,6 +11,7 @@ ghost use Rattle.model_places.specs.Places.{Lists};
 ghost use Rattle.model_places.specs.Valid.{AreValid};
 ghost use Rattle.model_volume.specs.Given.{IsGiven};
 ghost use Rattle.model_volume.specs.Covers.{FitsUnder, SomeFit};
+ghost use Rattle.model_drive.specs.declared.TheConstants.{LAST_COUNTER};
 ghost use Rattle.model_drive.specs.declared.WriteOut.{WriteOut};
 ghost use Rattle.model_drive.specs.declared.ExpandOut.{ExpandOut};
 ghost use Rattle.model_drive.specs.declared.Kind.{Kind};
@@ -27,6 +28,11 @@ ghost use Rattle.model_drive.specs.FullFormats.{FullCause, FullStep};
 ghost use Rattle.model_drive.specs.Rewriting.{RewriteCause, RewriteStep};
 ghost use Rattle.model_drive.specs.Faults.{ReadFaults, WriteFaults, PowerFaults, ExpandFaults, FormatFaults};
 ghost use Rattle.model_drive.specs.Formats.{FormatCause, FormatStep, FormatCompletes};
+
+/// The number that contracts share with the code: counters have 32 bits.
+pub fn limits_of_counters_are_these()
+    ensures { LAST_COUNTER + 1 ≡ 2 ^ 32 }
+{}
 
 /// Of discs one of which fits under lists there is a first that fits, and one alone.
 pub fn some_disc_fits_first_under_lists()

@@ -10,8 +10,8 @@ pub use laws::{
     a_fault_alone_is_counted, a_format_is_of_one_kind, a_full_format_makes_a_disc_of_zeros,
     a_mount_finds_the_disc, a_read_keeps_the_disc, a_rewriting_format_keeps_the_disc,
     a_verification_keeps_the_disc, an_expansion_keeps_the_first_sectors, calls_leave_a_state,
-    calls_that_can_end_well_do, dying_cells_keep_the_disc, lists_in_use_are_given_alone,
-    some_disc_fits_first_under_lists,
+    calls_that_can_end_well_do, dying_cells_keep_the_disc, limits_of_counters_are_these,
+    lists_in_use_are_given_alone, some_disc_fits_first_under_lists,
 };
 pub use worked::{
     worked_blank_mount, worked_expansion_sizes, worked_small_disc, worked_uses, worked_write,
@@ -21,6 +21,9 @@ pub use write_laws::{
     a_write_stops_in_a_block, courses_keep_their_blocks, one_block_is_a_turn,
     one_more_block_changes_one, one_more_block_extends_a_course, writes_go_by_turns,
 };
+
+/// The greatest counter of a list: a list whose counter stands there is not updated. (After ECMA-330's counters of 32 bits.)
+pub const LAST_COUNTER: u32 = 4_294_967_295;
 
 /// How a write of sectors ended. (After INCITS MMC's answers to WRITE.)
 #[derive(Clone, Copy, Debug, PartialEq, Eq)]

@@ -16,6 +16,7 @@ ghost use Rattle.model_places.specs.Valid.{AreValid};
 ghost use Rattle.model_volume.specs.Given.{AreSettled};
 ghost use Rattle.model_volume.specs.Covers.{FitsUnder};
 ghost use Rattle.model_volume.specs.Moves.{DiffersAt, OnlyMoves};
+ghost use Rattle.model_drive.specs.declared.TheConstants.{LAST_COUNTER};
 ghost use Rattle.model_drive.specs.declared.WriteOut.{WriteOut};
 ghost use Rattle.model_drive.specs.declared.WriteOut.TheVariants as outs;
 ghost use Rattle.model_drive.specs.Shown.{Shown, WhenKnown, HasLostSdl, HoldsBlocksOf, StandsFor, buffered, cells_in, home};
@@ -120,7 +121,7 @@ pub fn a_write_is_refused_at_a_block()
         → EndsBy mid new (unlisted_uses old lists lba n (length course) tried counter)
         → new.lists ≡ mid.lists → new.mark ≡ mid.mark → new.shape ≡ old.shape
         → buffered new ≡ touched_refused (buffered old) lba n (length course)
-        → counter ≡ reached.sdl.counter → HasLostSdl new ⊎ (counter ≡ 4294967295)
+        → counter ≡ reached.sdl.counter → HasLostSdl new ⊎ (counter ≡ LAST_COUNTER)
         → cell_at (cells_in new) (home_of old.shape reached (next_block lba course)) ≡ Dead
         → AreDead (cells_in new) (free_at old.shape reached (next_block lba course)) tried
         → WhenKnown old (IsGood (cell_at (cells_in new)
