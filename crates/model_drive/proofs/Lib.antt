@@ -17,3 +17,4 @@ pub mod WriteSteps
 pub mod WriteBytes
 pub mod ExpandSteps
 pub mod BlockTurns
+pub mod Opening

@@ -1,7 +1,7 @@
 //! Laws of the definitions, as functions with an empty body: the build fails where one is not proved.
 
-ghost use Rattle.std.specs.Prelude.{◌≡◌, ℕ, ◌+◌, ◌^◌, Bool, Some, List, [], ◌∷◌};
-ghost use Rattle.model_geometry.specs.Geometry.{Shape};
+ghost use Rattle.std.specs.Prelude.{◌≡◌, ℕ, ◌+◌, ◌^◌, Bool, Some, List, [], ◌∷◌, length};
+ghost use Rattle.model_geometry.specs.Geometry.{Shape, total};
 ghost use Rattle.model_medium.specs.Cells.{Cell};
 ghost use Rattle.model_sectors.specs.Discs.{Standing, On, Off, sectors_of};
 ghost use Rattle.model_sectors.specs.declared.ReadOut.{ReadOut};
@@ -10,7 +10,7 @@ ghost use Rattle.model_sectors.specs.declared.PowerOut.{PowerOut};
 ghost use Rattle.model_places.specs.Places.{Lists};
 ghost use Rattle.model_places.specs.Valid.{AreValid};
 ghost use Rattle.model_volume.specs.Given.{IsGiven};
-ghost use Rattle.model_volume.specs.Covers.{FitsUnder, SomeFit};
+ghost use Rattle.model_volume.specs.Covers.{AreWhole, FitsUnder, SomeFit};
 ghost use Rattle.model_drive.specs.declared.TheConstants.{LAST_COUNTER};
 ghost use Rattle.model_drive.specs.declared.WriteOut.{WriteOut};
 ghost use Rattle.model_drive.specs.declared.ExpandOut.{ExpandOut};
@@ -26,6 +26,7 @@ ghost use Rattle.model_drive.specs.Power.{PowerCause, PowerStep};
 ghost use Rattle.model_drive.specs.Expands.{ExpandCause, ExpandStep, ExpandCompletes};
 ghost use Rattle.model_drive.specs.FullFormats.{FullCause, FullStep};
 ghost use Rattle.model_drive.specs.Rewriting.{RewriteCause, RewriteStep};
+ghost use Rattle.model_drive.specs.Runs.{Loaded, IsOpenedOn};
 ghost use Rattle.model_drive.specs.Faults.{ReadFaults, WriteFaults, PowerFaults, ExpandFaults, FormatFaults};
 ghost use Rattle.model_drive.specs.Formats.{FormatCause, FormatStep, FormatCompletes};
 
@@ -177,4 +178,13 @@ pub fn calls_leave_a_state()
     ensures format { (shown old new : Shown) (s : Standing) (kind : Kind) (out : FormatOut)
         → FormatStep old new (StandsFor shown) s kind out
         → (t : Standing) × StandsFor shown t × FormatStep old new (λ x. x ≡ t) s kind out }
+{}
+
+/// An image that was just opened is a disc in the drive, whatever its cells, if there are as many as the geometry says and
+/// its whole blocks are whole; and what that stands for is one thing.
+pub fn an_opened_image_is_one_disc()
+    ensures found { (shape : Shape) (cells : List Cell) → length cells ≡ total shape → AreWhole cells
+        → (s : Loaded) × IsOpenedOn shape cells s }
+    ensures alone { (shape : Shape) (cells : List Cell) (s t : Loaded)
+        → IsOpenedOn shape cells s → IsOpenedOn shape cells t → s.standing ≡ t.standing }
 {}

@@ -12,7 +12,8 @@ ghost use Rattle.model_drive.specs.Course.{ToHome, ToSpare, course_uses};
 ghost use Rattle.model_drive.specs.Power.{PowerCause};
 ghost use Rattle.model_drive.specs.FullFormats.{uses_to_certify, uses_of_format};
 ghost use Rattle.model_drive.specs.Expands.{ssa_for, IsLawfulSize};
-ghost use Rattle.model_drive.specs.Worked.{small_drive, small_drive_off};
+ghost use Rattle.model_drive.specs.Runs.{opened_drive};
+ghost use Rattle.model_drive.specs.Worked.{small_drive};
 
 /// A disc of one zone with four primary spares has 19 logical blocks, and one that is not formatted has none. Its first
 /// block lies in block 13, and after a move in spare 12.
@@ -39,9 +40,9 @@ pub fn worked_uses()
 /// A disc that was just pressed stands for the discs of its lists, which are none. Its mount reads eight blank cells, and
 /// answers that it is not formatted; then it stands for the disc without sectors.
 pub fn worked_blank_mount()
-    ensures cause { PowerCause (small_drive_off (replicate 41 Blank))
+    ensures cause { PowerCause (opened_drive small_shape (replicate 41 Blank))
         (small_drive (replicate 41 Blank) None 0 8) powers.NotFormatted }
-    ensures before { StandsFor (small_drive_off (replicate 41 Blank)) (Off []) }
+    ensures before { StandsFor (opened_drive small_shape (replicate 41 Blank)) (Off []) }
     ensures after { StandsFor (small_drive (replicate 41 Blank) None 0 8) (On []) }
 {}
 
