@@ -7,10 +7,8 @@ use Rattle.model_lists.specs.Texts.{IsDdsText, IsSdlText}
 use Rattle.model_lists.proofs.DdsTexts as dds_texts
 use Rattle.model_lists.proofs.SdlTexts as sdl_texts
 use Rattle.model_medium.specs.Cells.{Cell, cell_at}
-use Rattle.model_copies.specs.Copies.{Holds, HasCopy, Settled, AllLost, AreMarkedWithin, Mark}
+use Rattle.model_copies.specs.Copies.{Holds, HasCopy, Settled, AllLost, AreMarkedWithin}
 use Rattle.model_copies.proofs.CopyFacts.{copy_settled}
-use Rattle.model_places.specs.Places.{Lists}
-use Rattle.model_volume.specs.Given.{AreSettled}
 use Rattle.model_formats.specs.Fresh.{formatting_dds, fresh_sdl}
 
 lost_copy : {V : Type 0} (text : V → List ℕ → Type 0) (place : ℕ → ℕ) (cells : List Cell) → AllLost place cells → (v : V) (area : ℕ) → HasCopy text place cells v area → ⊥
@@ -55,14 +53,3 @@ module _ (shape : Shape) (mark : ℕ) where
         let e : v.dds_counter ≡ mark + 2 = ap (λ (s : Sdl). s.dds_counter) (copy_settled IsSdlText sdl_texts.one_value (sdl_block shape) cells (fresh_sdl mark) v area settled copy) in
         omega (arith, e);
   }
-
--- under settled lists that belong together no copy is marked above the structure's counter
-pub marked_settled : (shape : Shape) (cells : List Cell) (lists : Lists) → AreSettled shape cells lists → lists.sdl.dds_counter ≡ lists.dds.counter → AreMarkedWithin shape cells lists.dds.counter
-marked_settled shape cells lists settled same = record {
-  dds = λ v area copy. let e : v.counter ≡ lists.dds.counter = ap (λ (d : Dds). d.counter) (copy_settled IsDdsText dds_texts.one_value (dds_block shape) cells lists.dds v area settled.dds copy) in omega (arith, e);
-  sdl = λ v area copy. let e : v.dds_counter ≡ lists.sdl.dds_counter = ap (λ (s : Sdl). s.dds_counter) (copy_settled IsSdlText sdl_texts.one_value (sdl_block shape) cells lists.sdl v area settled.sdl copy) in omega (arith, e, same);
-}
-
--- the mark of a disc is no less than that of any copy
-pub marked_by_mark : (shape : Shape) (cells : List Cell) (mark : ℕ) → Mark shape cells mark → AreMarkedWithin shape cells mark
-marked_by_mark shape cells mark is = is.within

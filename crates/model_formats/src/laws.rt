@@ -9,10 +9,10 @@ ghost use Rattle.model_lists.specs.Values.{pdl_blocks};
 ghost use Rattle.model_lists.specs.Texts.{IsDdsText, IsSdlText};
 ghost use Rattle.model_medium.specs.Cells.{Cell, Good, Dead, cell_at};
 ghost use Rattle.model_sectors.specs.Discs.{zeros};
-ghost use Rattle.model_copies.specs.Copies.{IsArea, MayHold, Settled, AllLost, AreMarkedWithin, Mark};
+ghost use Rattle.model_copies.specs.Copies.{IsArea, MayHold, Settled, AllLost, AreMarkedWithin};
 ghost use Rattle.model_places.specs.Places.{Lists};
 ghost use Rattle.model_places.specs.Valid.{AreValid};
-ghost use Rattle.model_volume.specs.Given.{IsGiven, GivesNone, AreSettled};
+ghost use Rattle.model_volume.specs.Given.{IsGiven, GivesNone};
 ghost use Rattle.model_volume.specs.Covers.{FitsUnder, Cover};
 ghost use Rattle.model_formats.specs.Fresh.{formatting_dds, formatted_dds, fresh_sdl, fresh_lists};
 ghost use Rattle.model_formats.specs.Stopped.{zero_disc};
@@ -63,15 +63,6 @@ pub fn a_format_ends()
         → Settled IsDdsText (dds_block shape) old (formatting_dds shape mark)
         → Settled IsSdlText (sdl_block shape) new (fresh_sdl mark)
         → (lists : Lists) → IsGiven shape new lists → lists ≡ fresh_lists shape mark entries }
-{}
-
-/// No copy has a mark above that of the disc, nor above the counter of settled lists.
-pub fn marks_bound_copies()
-    ensures mark { (shape : Shape) (cells : List Cell) (mark : ℕ)
-        → Mark shape cells mark → AreMarkedWithin shape cells mark }
-    ensures settled { (shape : Shape) (cells : List Cell) (lists : Lists)
-        → AreSettled shape cells lists → lists.sdl.dds_counter ≡ lists.dds.counter
-        → AreMarkedWithin shape cells lists.dds.counter }
 {}
 
 /// The mark after each phase of a format: that of the first update, where it left no copy; of the certification; of the

@@ -1,12 +1,12 @@
 -- Which lists a disc has: those that are given, those that are chosen, and those that are settled: for the mount.
-use Rattle.std.specs.Prelude.{◌≡◌, ◌≢◌, ℕ, ◌⊎◌, Option, Some, None, List, [], ◌∷◌, ◌++◌, map}
+use Rattle.std.specs.Prelude.{◌≡◌, ℕ, ◌⊎◌, Option, Some, None, List, [], ◌∷◌, ◌++◌, map}
 use Rattle.std.specs.List.{Contains}
 use Rattle.model_geometry.specs.Geometry.{Shape, dds_block, sdl_block}
 use Rattle.model_lists.specs.declared.dds.DdsState.TheVariants.{Formatting, Formatted}
 use Rattle.model_lists.specs.Values.{Dds, Sdl}
 use Rattle.model_lists.specs.Texts.{IsDdsText, IsSdlText}
 use Rattle.model_medium.specs.Cells.{Cell, Dead, cell_at}
-use Rattle.model_copies.specs.Copies.{IsArea, HasDdsCopy, HasSdlCopy, Settled, IsChosen, NoneChosen}
+use Rattle.model_copies.specs.Copies.{HasDdsCopy, HasSdlCopy, Settled, IsChosen, NoneChosen}
 use Rattle.model_places.specs.Places.{Lists}
 use Rattle.model_places.specs.Valid.{IsValidPdl, BelongTogether, AreValid}
 
@@ -83,10 +83,6 @@ list_blocks shape = map (dds_block shape) (1 ∷ 2 ∷ 3 ∷ 4 ∷ []) ++ map (s
 -- the block is one of these
 abbrev pub IsListBlock : Shape → ℕ → Type 0
 IsListBlock shape block = Contains (list_blocks shape) block
-
--- The block is a copy of neither list. (This project's own.)
-abbrev pub IsNoListBlock : Shape → ℕ → Type 0
-IsNoListBlock shape block = (area : ℕ) → IsArea area → (block ≢ dds_block shape area) × (block ≢ sdl_block shape area)
 
 -- No cell changed but those of lists. (This project's own.)
 abbrev pub OnlyLists : Shape → List Cell → List Cell → Type 0
