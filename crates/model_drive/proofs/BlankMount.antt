@@ -13,7 +13,8 @@ use Rattle.model_volume.specs.Samples.{small_shape}
 use Rattle.model_volume.specs.Given.{GivesNone}
 use Rattle.model_drive.specs.Shown.{StandsFor}
 use Rattle.model_drive.specs.Power.{PowerCause}
-use Rattle.model_drive.specs.Worked.{small_drive, small_drive_off}
+use Rattle.model_drive.specs.Runs.{opened_drive}
+use Rattle.model_drive.specs.Worked.{small_drive}
 
 -- no cell of it is good
 blank_or_dead : (block : ℕ) → (cell_at (replicate 41 Blank) block ≡ Blank) ⊎ (cell_at (replicate 41 Blank) block ≡ Dead)
@@ -43,7 +44,7 @@ good_stays (Good bytes) good = tt
 good_stays Torn good = good
 good_stays Dead good = absurd good
 
-pub blank_mount : PowerCause (small_drive_off (replicate 41 Blank)) (small_drive (replicate 41 Blank) None 0 8) powers.NotFormatted
+pub blank_mount : PowerCause (opened_drive small_shape (replicate 41 Blank)) (small_drive (replicate 41 Blank) None 0 8) powers.NotFormatted
 blank_mount = record {
   any = record { only = λ block none. refl; given = λ known lists given. given; unbuffered = refl };
   no_lists = refl;
@@ -69,7 +70,7 @@ blank_mount = record {
   };
 }
 
-pub blank_before : StandsFor (small_drive_off (replicate 41 Blank)) (Off [])
+pub blank_before : StandsFor (opened_drive small_shape (replicate 41 Blank)) (Off [])
 blank_before = (refl, λ on. let e : false ≡ true = on in cc, λ lists given. absurd (gives_none lists given))
 
 pub blank_after : StandsFor (small_drive (replicate 41 Blank) None 0 8) (On [])

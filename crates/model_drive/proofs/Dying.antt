@@ -146,7 +146,7 @@ module _ (old new : Shown) (same_shape : new.shape ≡ old.shape) where
   verify_step lba n (Off discs) outs.Fault cause stood = stood.1 cause.inside.on
 
   -- no disc without lists has sectors
-  unformatted_disc : (shape : Shape) (cells : List Cell) (lists : Option Lists) (buffer : List (ℕ × List ℕ)) (disc : List ℕ) → ¬ (is_some lists ≡ true) → StandsBy shape cells lists buffer disc → disc ≡ []
+  pub unformatted_disc : (shape : Shape) (cells : List Cell) (lists : Option Lists) (buffer : List (ℕ × List ℕ)) (disc : List ℕ) → ¬ (is_some lists ≡ true) → StandsBy shape cells lists buffer disc → disc ≡ []
   unformatted_disc shape cells None buffer disc none stands = stands.0
   unformatted_disc shape cells (Some lists) buffer disc none stands = absurd (none refl)
 

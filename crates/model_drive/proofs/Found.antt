@@ -1,6 +1,6 @@
 -- A caller that needs the state itself finds it in the step; and what is known of the medium stays known in each call.
-use Rattle.std.proofs.Common.{◌≡◌, ℕ, inl, inr, false, Bool, Option, Some, None, List, [], ◌∷◌, refl, ap}
-use Rattle.model_sectors.specs.Discs.{Standing, On, Off, candidates}
+use Rattle.std.proofs.Common.{◌≡◌, ℕ, ◌+◌, inl, inr, false, Bool, Option, Some, None, List, [], ◌∷◌, refl, ap}
+use Rattle.model_sectors.specs.Discs.{Standing, On, Off, candidates, replaced}
 use Rattle.model_sectors.specs.declared.ReadOut.{ReadOut}
 use Rattle.model_sectors.specs.declared.ReadOut.TheVariants as reads
 use Rattle.model_sectors.specs.declared.PowerOut.{PowerOut}
@@ -11,6 +11,13 @@ use Rattle.model_places.specs.Places.{Lists}
 use Rattle.model_formats.specs.Stopped.{zero_disc}
 use Rattle.model_drive.specs.declared.Kind.{Kind}
 use Rattle.model_drive.specs.declared.Kind.TheVariants as kinds
+use Rattle.model_sectors.specs.Requests.{block_with, blocks_covered}
+use Rattle.model_drive.specs.declared.WriteOut.{WriteOut}
+use Rattle.model_drive.specs.declared.WriteOut.TheVariants as writes
+use Rattle.model_drive.specs.Writes.{disc_after, WriteCause, WriteOnDisc, WriteStep}
+use Rattle.model_drive.specs.declared.ExpandOut.{ExpandOut}
+use Rattle.model_drive.specs.declared.ExpandOut.TheVariants as expands
+use Rattle.model_drive.specs.Expands.{ExpandCause, ExpandStep, shortened}
 use Rattle.model_drive.specs.declared.FormatOut.{FormatOut}
 use Rattle.model_drive.specs.declared.FormatOut.TheVariants as formats
 use Rattle.model_drive.specs.Shown.{Shown}
@@ -55,6 +62,32 @@ module _ (after : Standing → Type 0) where
   verify_found (Off discs) reads.Off step = (Off discs, step, refl)
   verify_found (Off discs) reads.Fault step = absurd step
 
+  write_on_found : (new : Shown) (disc : List ℕ) (lba n : ℕ) (bytes : List ℕ) (out : WriteOut) → WriteOnDisc new after disc lba n bytes out → (t : Standing) × after t × WriteOnDisc new (λ x. x ≡ t) disc lba n bytes out
+  write_on_found new disc lba n bytes writes.Good step = (On (disc_after disc lba n bytes (blocks_covered lba n)), step, refl)
+  write_on_found new disc lba n bytes writes.NotFormatted step = (On disc, step.1, (step.0, refl))
+  write_on_found new disc lba n bytes (writes.Range known) step = (On disc, step, refl)
+  write_on_found new disc lba n bytes (writes.Unread named block) step = (On (replaced disc lba bytes (block_with named)), step, refl)
+  write_on_found new disc lba n bytes (writes.NoSpare named) step = (On (replaced disc lba bytes (block_with named)), step, refl)
+  write_on_found new disc lba n bytes (writes.NoUpdate counter) step =
+      (On (disc_after disc lba n bytes step.block), step.before, record { block = step.block; covered = step.covered; dead = step.dead; first = step.first; before = refl })
+  write_on_found new disc lba n bytes writes.Cut step =
+      (Off (disc_after disc lba n bytes step.block ∷ disc_after disc lba n bytes (step.block + 1) ∷ []), step.either, record { block = step.block; covered = step.covered; either = refl })
+  write_on_found new disc lba n bytes writes.Off step = absurd step
+  write_on_found new disc lba n bytes writes.Fault step =
+      (Off (disc_after disc lba n bytes step.block ∷ disc_after disc lba n bytes (step.block + 1) ∷ []), step.either, record { block = step.block; covered = step.covered; either = refl })
+
+  pub write_found : (new : Shown) (s : Standing) (lba n : ℕ) (bytes : List ℕ) (out : WriteOut) → WriteStep new after s lba n bytes out → (t : Standing) × after t × WriteStep new (λ x. x ≡ t) s lba n bytes out
+  write_found new (On disc) lba n bytes out step = write_on_found new disc lba n bytes out step
+  write_found new (Off discs) lba n bytes writes.Good step = absurd step
+  write_found new (Off discs) lba n bytes writes.NotFormatted step = absurd step
+  write_found new (Off discs) lba n bytes (writes.Range known) step = absurd step
+  write_found new (Off discs) lba n bytes (writes.Unread named block) step = absurd step
+  write_found new (Off discs) lba n bytes (writes.NoSpare named) step = absurd step
+  write_found new (Off discs) lba n bytes (writes.NoUpdate counter) step = absurd step
+  write_found new (Off discs) lba n bytes writes.Cut step = absurd step
+  write_found new (Off discs) lba n bytes writes.Off step = (Off discs, step, refl)
+  write_found new (Off discs) lba n bytes writes.Fault step = absurd step
+
   pub power_found : (new : Shown) (s : Standing) (out : PowerOut) → PowerStep new after s out → (t : Standing) × after t × PowerStep new (λ x. x ≡ t) s out
   power_found new s (powers.Ready known) step =
       (On step.disc, step.found, record { lists = step.lists; in_use = step.in_use; disc = step.disc; first = step.first; found = refl })
@@ -62,6 +95,22 @@ module _ (after : Standing → Type 0) where
   power_found new s powers.Cut step = (Off (candidates s), step, refl)
   power_found new s powers.Fault step = (Off (candidates s), step, refl)
   power_found new s powers.NoMemory step = (Off (candidates s), step, refl)
+
+  pub expand_found : (s : Standing) (sectors : ℕ) (out : ExpandOut) → ExpandStep after s sectors out → (t : Standing) × after t × ExpandStep (λ x. x ≡ t) s sectors out
+  expand_found (On disc) sectors expands.Good step = (On (shortened sectors disc), step, refl)
+  expand_found (On disc) sectors expands.NotFormatted step = (On disc, step.1, (step.0, refl))
+  expand_found (On disc) sectors (expands.Refused known) step = (On disc, step, refl)
+  expand_found (On disc) sectors (expands.NoUpdate counter) step = (On disc, step, refl)
+  expand_found (On disc) sectors expands.Cut step = (Off (disc ∷ shortened sectors disc ∷ []), step, refl)
+  expand_found (On disc) sectors expands.Off step = absurd step
+  expand_found (On disc) sectors expands.Fault step = (Off (disc ∷ shortened sectors disc ∷ []), step, refl)
+  expand_found (Off discs) sectors expands.Good step = absurd step
+  expand_found (Off discs) sectors expands.NotFormatted step = absurd step
+  expand_found (Off discs) sectors (expands.Refused known) step = absurd step
+  expand_found (Off discs) sectors (expands.NoUpdate counter) step = absurd step
+  expand_found (Off discs) sectors expands.Cut step = absurd step
+  expand_found (Off discs) sectors expands.Off step = (Off discs, step, refl)
+  expand_found (Off discs) sectors expands.Fault step = absurd step
 
   module _ (old new : Shown) where
     stopped_found : (disc : List ℕ) → StandsInFormat old.shape after disc → (t : Standing) × after t × StandsInFormat old.shape (λ x. x ≡ t) disc
@@ -128,12 +177,33 @@ module _ (old new : Shown) where
   verify_known lba n reads.Off cause = same_known cause.nothing
   verify_known lba n reads.Fault cause = stopped_known _ stops.Fault cause.stopped
 
+  pub write_known : (lba n : ℕ) (out : WriteOut) → WriteCause old new lba n out → new.medium.world.known ≡ old.medium.world.known
+  write_known lba n writes.Good cause = cause.ends.ends.reach.lasts.as_known
+  write_known lba n writes.NotFormatted cause = same_known cause.nothing
+  write_known lba n (writes.Range known) cause = same_known cause.nothing
+  write_known lba n (writes.Unread named block) cause = cause.ends.ends.reach.lasts.as_known
+  write_known lba n (writes.NoSpare named) cause = cause.ends.ends.reach.lasts.as_known
+  write_known lba n (writes.NoUpdate counter) cause = cause.ends.ends.reach.lasts.as_known
+  write_known lba n writes.Cut cause = stopped_known _ stops.Cut cause.stopped
+  write_known lba n writes.Off cause = same_known cause.nothing
+  write_known lba n writes.Fault cause = stopped_known _ stops.Fault cause.stopped
+
   pub power_known : (out : PowerOut) → PowerCause old new out → new.medium.world.known ≡ old.medium.world.known
   power_known (powers.Ready known) cause = cause.ends.reach.lasts.as_known
   power_known powers.NotFormatted cause = cause.ends.reach.lasts.as_known
   power_known powers.Cut cause = stop_known (turned_on old).medium new.medium _ stops.Cut cause.stopped.stops
   power_known powers.Fault cause = stop_known (turned_on old).medium new.medium _ stops.Fault cause.stopped.stops
   power_known powers.NoMemory cause = cause.reach.lasts.as_known
+
+  pub expand_known : (sectors : ℕ) (out : ExpandOut) → ExpandCause old new sectors out → new.medium.world.known ≡ old.medium.world.known
+  expand_known sectors expands.Good (inl cause) = cause.ends.reach.lasts.as_known
+  expand_known sectors expands.Good (inr cause) = cause.ends.reach.lasts.as_known
+  expand_known sectors expands.NotFormatted cause = same_known cause.nothing
+  expand_known sectors (expands.Refused known) cause = same_known cause.nothing
+  expand_known sectors (expands.NoUpdate counter) cause = cause.ends.reach.lasts.as_known
+  expand_known sectors expands.Cut cause = stopped_known _ stops.Cut cause.stopped
+  expand_known sectors expands.Off cause = same_known cause.nothing
+  expand_known sectors expands.Fault cause = stopped_known _ stops.Fault cause.stopped
 
   full_known : (drop_sdl : Bool) (out : FormatOut) → FullCause old new drop_sdl out → new.medium.world.known ≡ old.medium.world.known
   full_known drop_sdl formats.Good cause = cause.any.ends.reach.lasts.as_known

@@ -8,3 +8,13 @@ pub mod FormatSteps
 pub mod BlankMount
 pub mod Found
 pub mod Faults
+pub mod Courses
+pub mod Turns
+pub mod WriteTurns
+pub mod WriteCompleting
+pub mod WriteStops
+pub mod WriteSteps
+pub mod WriteBytes
+pub mod ExpandSteps
+pub mod BlockTurns
+pub mod Opening

@@ -1,6 +1,7 @@
 -- What the write of one logical block does: the parts of which the loop over a request is made. For whoever writes a home.
 -- (This project's own, as all here.)
 use Rattle.std.specs.Prelude.{◌≡◌, ℕ, ◌+◌, ◌*◌, ◌<◌, ◌==◌, ◌⊎◌, if◌then◌else◌, true, List, [], ◌∷◌, length, slice_index}
+use Rattle.model_drive.specs.declared.TheConstants.{LAST_COUNTER}
 use Rattle.model_geometry.specs.Geometry.{Shape, sdl_block}
 use Rattle.model_medium.specs.Cells.{Dead, IsGood, cell_at}
 use Rattle.model_medium.specs.World.{World}
@@ -50,9 +51,9 @@ module _ {M : Type 0} (world : M → World) (reaches : M → M → ℕ → Type 
       pub tried : ℕ
       pub some_spare : tried < length (free_at shape lists i)
       pub leaves : LeavesBlock lists'
-          (2 + (2 * tried + 2) + (if counter == 4294967295 then 0 else sdl_update_uses lists.sdl))
+          (2 + (2 * tried + 2) + (if counter == LAST_COUNTER then 0 else sdl_update_uses lists.sdl))
       pub counter_is : counter ≡ lists.sdl.counter
-      pub cause : AllLost (sdl_block shape) (world new).cells ⊎ (counter ≡ 4294967295)
+      pub cause : AllLost (sdl_block shape) (world new).cells ⊎ (counter ≡ LAST_COUNTER)
       pub tried_dead : AreDead (world new).cells (free_at shape lists i) tried
       pub spare_has : (world old).known ≡ true
           → IsGood (cell_at (world new).cells (slice_index (free_at shape lists i) tried))

@@ -3,6 +3,7 @@
 use Rattle.std.specs.Prelude.{◌≡◌, ◌≢◌, ℕ, ◌+◌, ◌*◌, ◌<◌, if◌then◌else◌, List, [], ◌∷◌, length, slice_index}
 use Rattle.std.specs.Option.{option_map_or}
 use Rattle.std.specs.List.{Contains}
+use Rattle.model_drive.specs.declared.TheConstants.{LAST_COUNTER}
 use Rattle.model_geometry.specs.Geometry.{Shape, sdl_block}
 use Rattle.model_medium.specs.Cells.{Cell, Dead, IsGood, cell_at}
 use Rattle.model_sectors.specs.Uses.{reads_rest}
@@ -68,7 +69,7 @@ TookCourse shape cells lists first (placing ∷ earlier) =
 abbrev pub CanPlace : Shape → Lists → ℕ → Placing → Type 0
 CanPlace shape lists i ToHome = Unit {0}
 CanPlace shape lists i (ToSpare tried) =
-    (tried < length (free_at shape lists i)) × (lists.sdl.counter < 4294967295)
+    (tried < length (free_at shape lists i)) × (lists.sdl.counter < LAST_COUNTER)
 
 -- so does each of a course
 abbrev pub CanTakeCourse : Shape → Lists → ℕ → List Placing → Type 0

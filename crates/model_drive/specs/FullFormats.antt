@@ -1,6 +1,7 @@
 -- What a full format may do: why each answer comes, with the uses, the lists and the mark, and what it makes of the disc.
 -- (This project's own, as all here.)
 use Rattle.std.specs.Prelude.{◌≡◌, ℕ, ◌+◌, ◌-◌, ◌*◌, ◌<◌, ◌≤◌, ◌⊎◌, Bool, Some, None, List, [], ◌∷◌, length}
+use Rattle.model_drive.specs.declared.TheConstants.{LAST_COUNTER}
 use Rattle.model_geometry.specs.Geometry.{Shape, data_blocks}
 use Rattle.model_lists.specs.declared.dds.PdlEntry.{PdlEntry}
 use Rattle.model_sectors.specs.Discs.{Standing, On, Off}
@@ -21,20 +22,21 @@ use Rattle.model_drive.specs.Repairs.{dds_update_uses, sdl_update_uses}
 abbrev pub certification_uses : Shown → Bool → ℕ
 certification_uses old drop_sdl = 2 * (length (data_blocks old.shape) - kept_count old.lists drop_sdl)
 
--- The uses of the phases of a full format, up to the end of each: an update of the structure, which says Formatting, the
--- certification, an update of the secondary list, and one of the structure, which says Formatted.
+-- The uses up to the end of the certification: an update of the structure, which says Formatting, comes before it.
 abbrev pub uses_to_certify : Shown → Bool → ℕ
 uses_to_certify old drop_sdl = dds_update_uses + certification_uses old drop_sdl
 
+-- the uses up to the end of the update of the secondary list, which comes next
 abbrev pub uses_to_sdl : Shown → Bool → ℕ
 uses_to_sdl old drop_sdl = uses_to_certify old drop_sdl + sdl_update_uses (fresh_sdl old.mark)
 
+-- the uses of all: the last update of the structure, which says Formatted, ends the format
 abbrev pub uses_of_format : Shown → Bool → ℕ
 uses_of_format old drop_sdl = uses_to_sdl old drop_sdl + dds_update_uses
 
--- a counter of 32 bits has room for two more than the mark
+-- a counter has room for two more than the mark
 abbrev pub MarkHasRoom : Shown → Type 0
-MarkHasRoom old = old.mark + 2 ≤ 4294967295
+MarkHasRoom old = old.mark + 2 ≤ LAST_COUNTER
 
 -- these entries are those that the format keeps and those of the blocks that are dead now, rising
 abbrev pub AreFoundIn : Shown → Shown → Bool → List PdlEntry → Type 0

@@ -5,10 +5,14 @@ use Rattle.model_medium.specs.Cells.{Dead, IsGood, IsSameOrDead, cell_at}
 use Rattle.model_sectors.specs.Discs.{Standing, On, Off, replaced}
 use Rattle.model_sectors.specs.Requests.{block_with, blocks_covered, is_partly, NamesBlock}
 use Rattle.model_sectors.specs.Uses.{touched_from, reads_rest, touched_refused}
+use Rattle.model_medium.specs.Machine.{Machine}
+use Rattle.model_medium.specs.Reach.{Reach}
+use Rattle.model_stops.specs.Stops.{Continues}
 use Rattle.model_stops.specs.declared.Stop.{Stop}
 use Rattle.model_stops.specs.declared.Stop.TheVariants as stops
 use Rattle.model_places.specs.Places.{Lists}
 use Rattle.model_volume.specs.Given.{IsGiven}
+use Rattle.model_drive.specs.declared.TheConstants.{LAST_COUNTER}
 use Rattle.model_drive.specs.declared.WriteOut.{WriteOut}
 use Rattle.model_drive.specs.declared.WriteOut.TheVariants as outs
 use Rattle.model_drive.specs.Shown.{Shown, WhenKnown, HasLostSdl, cells_in, buffered, home, home_cell}
@@ -28,10 +32,10 @@ uses_so_far old lists lba n course = course_uses lists (buffered old) lba n cour
 abbrev pub buffered_so_far : Shown → ℕ → List Placing → List ℕ
 buffered_so_far old lba course = touched_from (buffered old) (block_with lba) (length course)
 
-module _ (old new : Shown) (lists : Lists) (lba n : ℕ) (course : List Placing) (more : ℕ) (reached : Lists) where
+module _ (old new : Shown) (lists : Lists) (lba n : ℕ) where
   -- A write went so far: its first blocks took this course, and no cell changed but theirs and those of so many blocks
   -- more. These lists are reached by it.
-  pub record WroteSoFar : Type 0 where
+  pub record WroteSoFar (course : List Placing) (more : ℕ) (reached : Lists) : Type 0 where
     pub inside : IsInRange old lba n
     pub in_use : old.lists ≡ Some lists
     pub reached_are : reached ≡ lists_reached old.shape lists (block_with lba) course
@@ -40,12 +44,25 @@ module _ (old new : Shown) (lists : Lists) (lba n : ℕ) (course : List Placing)
     pub only : OnlyWritten old.shape (cells_in old) (cells_in new) lists (block_with lba) (length course + more)
 
   -- It went no farther, by so many uses. The lists that it reached are in use.
-  pub record EndsWriting (uses : ℕ) (buffered_now : List ℕ) : Type 0 where
-    pub wrote : WroteSoFar
+  pub record EndsWriting (course : List Placing) (more : ℕ) (reached : Lists)
+      (uses : ℕ) (buffered_now : List ℕ) : Type 0 where
+    pub wrote : WroteSoFar course more reached
     pub ends : EndsBy old new uses
     pub now_in_use : new.lists ≡ Some reached
     pub same_mark : new.mark ≡ old.mark
     pub buffered_are : buffered new ≡ buffered_now
+
+-- the blocks of this course were written, and nothing more
+abbrev pub WroteCourse : Shown → Shown → Lists → (lba n : ℕ) → List Placing → Lists → Type 0
+WroteCourse old new lists lba n course reached =
+    EndsWriting old new lists lba n course 0 reached
+    (uses_so_far old lists lba n course) (buffered_so_far old lba course)
+
+-- then the rest of the next block was read, where it is needed, and no cell changed
+pub record ReadRest (old mid : Shown) (lba n : ℕ) (course : List Placing) (at : Machine) : Type 0 where
+  pub continues : Continues (λ (m : Machine). m.world) Reach mid.medium at
+      (uses_of_rest (buffered old) lba n (length course))
+  pub same_cells : (block : ℕ) → cell_at at.world.cells block ≡ cell_at (cells_in mid) block
 
 -- all sectors were written
 pub record WritesAll (old new : Shown) (lba n : ℕ) : Type 0 where
@@ -53,8 +70,7 @@ pub record WritesAll (old new : Shown) (lba n : ℕ) : Type 0 where
   pub course : List Placing
   pub all : length course ≡ blocks_covered lba n
   pub reached : Lists
-  pub ends : EndsWriting old new lists lba n course 0 reached
-      (uses_so_far old lists lba n course) (buffered_so_far old lba course)
+  pub ends : WroteCourse old new lists lba n course reached
 
 -- The write met a block that it covers in part, that was not at hand, and whose home has no whole bytes.
 pub record LacksRest (old new : Shown) (lba n named block : ℕ) : Type 0 where
@@ -90,7 +106,7 @@ pub record LacksSpare (old new : Shown) (lba n named : ℕ) : Type 0 where
 -- its end
 abbrev pub unlisted_uses : Shown → Lists → (lba n k tried counter : ℕ) → ℕ
 unlisted_uses old lists lba n k tried counter = uses_of_rest (buffered old) lba n k
-    + (2 + (2 * tried + 2) + (if counter == 4294967295 then 0 else sdl_update_uses lists.sdl))
+    + (2 + (2 * tried + 2) + (if counter == LAST_COUNTER then 0 else sdl_update_uses lists.sdl))
 
 -- The write met a block whose home is dead. A spare has its bytes, and the list that would say so has no copy left, or
 -- its counter stands at its end.
@@ -105,7 +121,7 @@ pub record LacksUpdate (old new : Shown) (lba n counter : ℕ) : Type 0 where
       (uses_so_far old lists lba n course + unlisted_uses old lists lba n (length course) tried counter)
       (touched_refused (buffered old) lba n (length course))
   pub counter_is : counter ≡ reached.sdl.counter
-  pub cause : HasLostSdl new ⊎ (counter ≡ 4294967295)
+  pub cause : HasLostSdl new ⊎ (counter ≡ LAST_COUNTER)
   pub dead : home_cell new (next_block lba course) ≡ Dead
   pub tried_dead : AreDead (cells_in new) (free_at old.shape reached (next_block lba course)) tried
   pub spare_has : WhenKnown old
@@ -166,7 +182,8 @@ module _ (disc : List ℕ) (lba n : ℕ) (bytes : List ℕ) where
 
 -- What a write of these bytes makes of the disc, by its answer.
 abbrev pub WriteOnDisc : Shown → (Standing → Type 0) → List ℕ → (lba n : ℕ) → List ℕ → WriteOut → Type 0
-WriteOnDisc new after disc lba n bytes outs.Good = after (On (disc_after disc lba n bytes (blocks_covered lba n)))
+WriteOnDisc new after disc lba n bytes outs.Good =
+    after (On (disc_after disc lba n bytes (blocks_covered lba n)))
 WriteOnDisc new after disc lba n bytes outs.NotFormatted = (disc ≡ []) × after (On disc)
 WriteOnDisc new after disc lba n bytes (outs.Range known) = after (On disc)
 WriteOnDisc new after disc lba n bytes (outs.Unread named block) =
@@ -201,7 +218,7 @@ pub record HasSpares (old new : Shown) (lba n : ℕ) : Type 0 where
   pub whole : (k : ℕ) → k < blocks_covered lba n → ¬ IsTrue (is_partly lba n (block_with lba + k))
   pub usable : (k : ℕ) → k < blocks_covered lba n → (spare : ℕ) × IsUsable new (block_with lba + k) spare
   pub not_lost : ¬ HasLostSdl new
-  pub room : (lists : Lists) → new.lists ≡ Some lists → lists.sdl.counter < 4294967295
+  pub room : (lists : Lists) → new.lists ≡ Some lists → lists.sdl.counter < LAST_COUNTER
 
 -- A write in range that could end well does: one in which nothing dies, or that has spares.
 abbrev pub WriteCompletes : Shown → Shown → (lba n : ℕ) → WriteOut → Type 0

@@ -1,15 +1,19 @@
 //! Laws of the definitions, as functions with an empty body: the build fails where one is not proved.
 
-ghost use Rattle.std.specs.Prelude.{◌≡◌, ℕ, Bool, Some, List, [], ◌∷◌};
-ghost use Rattle.model_geometry.specs.Geometry.{Shape};
+ghost use Rattle.std.specs.Prelude.{◌≡◌, ℕ, ◌+◌, ◌^◌, Bool, Some, List, [], ◌∷◌, length};
+ghost use Rattle.model_geometry.specs.Geometry.{Shape, total};
 ghost use Rattle.model_medium.specs.Cells.{Cell};
 ghost use Rattle.model_sectors.specs.Discs.{Standing, On, Off, sectors_of};
 ghost use Rattle.model_sectors.specs.declared.ReadOut.{ReadOut};
 ghost use Rattle.model_sectors.specs.declared.ReadOut.TheVariants as reads;
 ghost use Rattle.model_sectors.specs.declared.PowerOut.{PowerOut};
 ghost use Rattle.model_places.specs.Places.{Lists};
+ghost use Rattle.model_places.specs.Valid.{AreValid};
 ghost use Rattle.model_volume.specs.Given.{IsGiven};
-ghost use Rattle.model_volume.specs.Covers.{FitsUnder, SomeFit};
+ghost use Rattle.model_volume.specs.Covers.{AreWhole, FitsUnder, SomeFit};
+ghost use Rattle.model_drive.specs.declared.TheConstants.{LAST_COUNTER};
+ghost use Rattle.model_drive.specs.declared.WriteOut.{WriteOut};
+ghost use Rattle.model_drive.specs.declared.ExpandOut.{ExpandOut};
 ghost use Rattle.model_drive.specs.declared.Kind.{Kind};
 ghost use Rattle.model_drive.specs.declared.FormatOut.{FormatOut};
 ghost use Rattle.model_drive.specs.declared.FormatOut.TheVariants as formats;
@@ -17,11 +21,19 @@ ghost use Rattle.model_drive.specs.Shown.{Shown, IsKnown, IsOn, HoldsBlocksOf, S
 ghost use Rattle.model_drive.specs.Sound.{IsSound};
 ghost use Rattle.model_drive.specs.Parts.{KeepsLists, AreSameOrDead};
 ghost use Rattle.model_drive.specs.Reads.{ReadCause, ReadStep, ReadCompletes, VerifyCause, VerifyStep};
+ghost use Rattle.model_drive.specs.Writes.{WriteCause, WriteStep, WriteCompletes};
 ghost use Rattle.model_drive.specs.Power.{PowerCause, PowerStep};
+ghost use Rattle.model_drive.specs.Expands.{ExpandCause, ExpandStep, ExpandCompletes};
 ghost use Rattle.model_drive.specs.FullFormats.{FullCause, FullStep};
 ghost use Rattle.model_drive.specs.Rewriting.{RewriteCause, RewriteStep};
-ghost use Rattle.model_drive.specs.Faults.{ReadFaults, PowerFaults, FormatFaults};
+ghost use Rattle.model_drive.specs.Runs.{Loaded, IsOpenedOn};
+ghost use Rattle.model_drive.specs.Faults.{ReadFaults, WriteFaults, PowerFaults, ExpandFaults, FormatFaults};
 ghost use Rattle.model_drive.specs.Formats.{FormatCause, FormatStep, FormatCompletes};
+
+/// The number that contracts share with the code: counters have 32 bits.
+pub fn limits_of_counters_are_these()
+    ensures { LAST_COUNTER + 1 ≡ 2 ^ 32 }
+{}
 
 /// Of discs one of which fits under lists there is a first that fits, and one alone.
 pub fn some_disc_fits_first_under_lists()
@@ -98,6 +110,16 @@ pub fn a_format_is_of_one_kind()
         → FormatCause old new kind out → FormatStep old new (StandsFor new) s kind out }
 {}
 
+/// What an expansion makes of the disc follows from its cause, and from what always holds.
+pub fn an_expansion_keeps_the_first_sectors()
+    ensures on { (old new : Shown) → new.shape ≡ old.shape → IsSound new → (sectors : ℕ) (disc : List ℕ)
+        → StandsFor old (On disc) → (out : ExpandOut) → ExpandCause old new sectors out
+        → ExpandStep (StandsFor new) (On disc) sectors out }
+    ensures off { (old new : Shown) (sectors : ℕ) (discs : List (List ℕ)) → StandsFor old (Off discs)
+        → (out : ExpandOut) → ExpandCause old new sectors out
+        → ExpandStep (StandsFor new) (Off discs) sectors out }
+{}
+
 /// Lists in use are the only ones that the cells give, whatever cells turn dead later. After a format that is done some
 /// are in use.
 pub fn lists_in_use_are_given_alone()
@@ -114,6 +136,11 @@ pub fn calls_that_can_end_well_do()
         → ReadCause old new lba n out → ReadCompletes old new lba n out }
     ensures verifies { (old new : Shown) (lba n : ℕ) (out : ReadOut)
         → VerifyCause old new lba n out → ReadCompletes old new lba n out }
+    ensures writes { (old new : Shown) (lba n : ℕ)
+        → ((lists : Lists) → old.lists ≡ Some lists → AreValid old.shape lists) → new.shape ≡ old.shape
+        → (out : WriteOut) → WriteCause old new lba n out → WriteCompletes old new lba n out }
+    ensures expands { (old new : Shown) (sectors : ℕ) (out : ExpandOut)
+        → ExpandCause old new sectors out → ExpandCompletes old new sectors out }
     ensures formats { (old new : Shown) (kind : Kind) (out : FormatOut)
         → FormatCause old new kind out → FormatCompletes old new kind out }
 {}
@@ -124,7 +151,40 @@ pub fn a_fault_alone_is_counted()
         → ReadCause old new lba n out → ReadFaults old new out }
     ensures verify { (old new : Shown) (lba n : ℕ) (out : ReadOut)
         → VerifyCause old new lba n out → ReadFaults old new out }
+    ensures write { (old new : Shown) (lba n : ℕ) (out : WriteOut)
+        → WriteCause old new lba n out → WriteFaults old new out }
     ensures power { (old new : Shown) (out : PowerOut) → PowerCause old new out → PowerFaults old new out }
+    ensures expand { (old new : Shown) (sectors : ℕ) (out : ExpandOut)
+        → ExpandCause old new sectors out → ExpandFaults old new out }
     ensures format { (old new : Shown) (kind : Kind) (out : FormatOut)
         → FormatCause old new kind out → FormatFaults old new out }
+{}
+
+/// What a drive stands for after a call is one thing: a caller that needs it finds it in the step.
+pub fn calls_leave_a_state()
+    ensures read { (shown : Shown) (s : Standing) (lba n : ℕ) (into : List ℕ) (out : ReadOut)
+        → ReadStep (StandsFor shown) s lba n into out
+        → (t : Standing) × StandsFor shown t × ReadStep (λ x. x ≡ t) s lba n into out }
+    ensures verify { (shown : Shown) (s : Standing) (out : ReadOut) → VerifyStep (StandsFor shown) s out
+        → (t : Standing) × StandsFor shown t × VerifyStep (λ x. x ≡ t) s out }
+    ensures write { (shown new : Shown) (s : Standing) (lba n : ℕ) (bytes : List ℕ) (out : WriteOut)
+        → WriteStep new (StandsFor shown) s lba n bytes out
+        → (t : Standing) × StandsFor shown t × WriteStep new (λ x. x ≡ t) s lba n bytes out }
+    ensures power { (shown new : Shown) (s : Standing) (out : PowerOut) → PowerStep new (StandsFor shown) s out
+        → (t : Standing) × StandsFor shown t × PowerStep new (λ x. x ≡ t) s out }
+    ensures expand { (shown : Shown) (s : Standing) (sectors : ℕ) (out : ExpandOut)
+        → ExpandStep (StandsFor shown) s sectors out
+        → (t : Standing) × StandsFor shown t × ExpandStep (λ x. x ≡ t) s sectors out }
+    ensures format { (shown old new : Shown) (s : Standing) (kind : Kind) (out : FormatOut)
+        → FormatStep old new (StandsFor shown) s kind out
+        → (t : Standing) × StandsFor shown t × FormatStep old new (λ x. x ≡ t) s kind out }
+{}
+
+/// An image that was just opened is a disc in the drive, whatever its cells, if there are as many as the geometry says and
+/// its whole blocks are whole; and what that stands for is one thing.
+pub fn an_opened_image_is_one_disc()
+    ensures found { (shape : Shape) (cells : List Cell) → length cells ≡ total shape → AreWhole cells
+        → (s : Loaded) × IsOpenedOn shape cells s }
+    ensures alone { (shape : Shape) (cells : List Cell) (s t : Loaded)
+        → IsOpenedOn shape cells s → IsOpenedOn shape cells t → s.standing ≡ t.standing }
 {}

@@ -20,3 +20,4 @@ pub mod ChosenFirst
 pub mod Validity
 pub mod NewLists
 pub mod Shrinks
+pub mod Expanding
