@@ -1,10 +1,13 @@
 use super::*;
 use ram_bytes::Block;
 use ram_copies::Scratch;
-use ram_medium::{Fate, Medium, MediumControl, MemMedium};
-use ram_zones::Geometry;
+use ram_medium::{Fate, Medium, MediumControl, MemMedium, ReadEnd};
+use ram_zones::{Geometry, ListKind};
 use std::alloc::{AllocError, Global};
 use std::test::Fail;
+
+mod mixtures;
+mod rows;
 
 /// The blocks of the structure in areas 1 to 4.
 const DDS_BLOCKS: [u32; 4] = [0, 2, 33, 35];
@@ -107,6 +110,15 @@ impl Disc {
                 self.medium.fail(block);
             }
         }
+    }
+
+    /// Whether the power is cut in the next use: so many uses were made since a cut was armed.
+    fn is_cut_next(&mut self, alloc: Global) -> Result<bool, AllocError> {
+        let mut into = Block::zeros(alloc)?;
+        if 8 < self.medium.blocks() {
+            return Ok(self.medium.read(8, &mut into) == ReadEnd::Cut);
+        }
+        Ok(false)
     }
 
     fn mount(&mut self, alloc: Global) -> Found {
