@@ -1,9 +1,9 @@
 -- The greatest mark of the copies of the worked examples.
-use Rattle.std.specs.Prelude.{◌≡◌, ℕ, ◌≤◌, ◌⊎◌, ◌∷◌, [], List}
+use Rattle.std.specs.Prelude.{◌≡◌, ℕ, ◌≤◌, ◌∷◌, [], List}
 use Rattle.std.proofs.Common.{refl, ap, inl, inr, subst, arith}
-use Rattle.std.proofs.lemmas.Bool.{cases_eq}
-use Rattle.model_medium.specs.Cells.{Cell, Blank, Good, cell_at}
-use Rattle.model_copies.specs.Copies.{IsArea, Holds, HasCopy, IsGreatestMark}
+use Rattle.model_medium.specs.Cells.{Cell, Blank, Good, Dead, cell_at}
+use Rattle.model_copies.specs.Copies.{Holds, HasCopy, IsGreatestMark, Rewrites}
+use Rattle.model_copies.proofs.CopyFacts.{area_cases}
 
 -- the text of a counter, in one byte
 abbrev pub Spelled : ℕ → List ℕ → Type 0
@@ -11,19 +11,6 @@ Spelled v b = b ≡ v ∷ []
 
 abbrev pub cells : List Cell
 cells = Blank ∷ Good (2 ∷ []) ∷ Good (7 ∷ []) ∷ Good (7 ∷ []) ∷ Blank ∷ []
-
--- the four areas
-area_cases : (area : ℕ) → IsArea area → (area ≡ 1) ⊎ (area ≡ 2) ⊎ (area ≡ 3) ⊎ (area ≡ 4)
-area_cases area is = elim (cases_eq area 1) [
-  | inl e ↦ inl e
-  | inr a ↦ elim (cases_eq area 2) [
-    | inl e ↦ inr (inl e)
-    | inr b ↦ elim (cases_eq area 3) [
-      | inl e ↦ inr (inr (inl e))
-      | inr c ↦ inr (inr (inr (omega (arith, is.0, is.1, a, b, c))))
-    ]
-  ]
-]
 
 first_of : List ℕ → ℕ
 first_of [] = 0
@@ -43,3 +30,24 @@ greatest = record {
   within = small;
   reached = inr (record { value = 7; area = 2; copy = record { is_area = (omega arith, omega arith); holds = refl }; has = refl });
 }
+
+pub rewritten : Rewrites (λ (cell : Cell). Holds Spelled cell 7) (λ (k : ℕ). k) (Blank ∷ Good (7 ∷ []) ∷ Good (2 ∷ []) ∷ Dead ∷ Good (7 ∷ []) ∷ []) (Blank ∷ Good (7 ∷ []) ∷ Good (7 ∷ []) ∷ Dead ∷ Dead ∷ []) 4 3
+unfolding first_of
+rewritten = inr (
+  λ was. absurd was.1,
+  (
+    2,
+    refl,
+    inr (
+      λ was. absurd was.1,
+      (
+        1,
+        refl,
+        inr (
+          λ was. let two = ap first_of was.0 in let n : 2 ≡ 7 = two in omega (arith, n),
+          (0, refl, inl ((refl, refl), refl)),
+        ),
+      ),
+    ),
+  ),
+)

@@ -115,3 +115,24 @@ one_if_good Dead = 0
 abbrev pub good_count : (ℕ → ℕ) → List Cell → ℕ → ℕ
 good_count place cells zero = 0
 good_count place cells (suc k) = good_count place cells k + one_if_good (cell_at cells (place (suc k)))
+
+-- Which copies a repair found to be exactly the text, where a test says which cells are.
+module _ (exact : Cell → Type 0) (place : ℕ → ℕ) (old new : List Cell) where
+  -- The copy was exactly the text when it was read: it was at entry, and is it now. (This project's own.)
+  abbrev pub WasExact : ℕ → Type 0
+  WasExact area = exact (cell_at old (place area)) × exact (cell_at new (place area))
+
+  -- Of the copies of the first so many areas, so many were not exactly the text when they were read. (This project's
+  -- own.)
+  abbrev pub Rewrites : ℕ → ℕ → Type 0
+  Rewrites zero count = count ≡ 0
+  Rewrites (suc k) count = (WasExact (suc k) × Rewrites k count) ⊎ (¬ WasExact (suc k) × ((before : ℕ) × (count ≡ before + 1) × Rewrites k before))
+
+-- A repair of the disc's copies of its disc definition structure to this one wrote so many of the four again: those that
+-- were not exactly its text when they were read. (This project's own.)
+abbrev pub RewritesDds : Shape → List Cell → List Cell → Dds → ℕ → Type 0
+RewritesDds shape old new value count = Rewrites (λ cell. Holds IsDdsText cell value) (dds_block shape) old new 4 count
+
+-- The same of its copies of its secondary defect list. (This project's own.)
+abbrev pub RewritesSdl : Shape → List Cell → List Cell → Sdl → ℕ → Type 0
+RewritesSdl shape old new value count = Rewrites (λ cell. Holds IsSdlText cell value) (sdl_block shape) old new 4 count

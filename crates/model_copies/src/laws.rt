@@ -5,7 +5,7 @@ ghost use Rattle.model_geometry.specs.Geometry.{Shape, dds_block, sdl_block};
 ghost use Rattle.model_medium.specs.Cells.{Cell, IsSameOrDead, cell_at};
 ghost use Rattle.model_lists.specs.Values.{Dds, Sdl};
 ghost use Rattle.model_lists.specs.Texts.{IsDdsText, IsSdlText};
-ghost use Rattle.model_copies.specs.Copies.{IsArea, MayHold, HasDdsCopy, HasSdlCopy, Settled, AreBetween, IsGreatestMark, Mark, AllLost, IsSeen, good_count};
+ghost use Rattle.model_copies.specs.Copies.{IsArea, MayHold, HasDdsCopy, HasSdlCopy, Settled, AreBetween, IsGreatestMark, Mark, AllLost, IsSeen, good_count, RewritesDds, RewritesSdl};
 
 /// Two copies with one text tell one list.
 pub fn one_text_tells_one_list()
@@ -80,4 +80,13 @@ pub fn the_greater_mark_is_the_discs()
         → IsGreatestMark IsDdsText (dds_block shape) cells (λ (list : Dds). list.counter) a
         → IsGreatestMark IsSdlText (sdl_block shape) cells (λ (list : Sdl). list.dds_counter) b
         → a ≤ mark → b ≤ mark → (mark ≡ a) ⊎ (mark ≡ b) → Mark shape cells mark }
+{}
+
+/// The number of copies that a repair wrote again is one number, by the cells before and after. So the number of its
+/// uses is exact.
+pub fn rewritten_copies_are_one_number()
+    ensures dds { (shape : Shape) (old new : List Cell) (v : Dds) (m n : ℕ)
+        → RewritesDds shape old new v m → RewritesDds shape old new v n → m ≡ n }
+    ensures sdl { (shape : Shape) (old new : List Cell) (v : Sdl) (m n : ℕ)
+        → RewritesSdl shape old new v m → RewritesSdl shape old new v n → m ≡ n }
 {}

@@ -7,7 +7,7 @@ mod worked;
 
 pub use laws::{
     a_dead_copy_adds_none, a_stopped_update_leaves_one_of_two, lost_copies_count_none,
-    one_text_tells_one_list, settled_copies_hold_one_value, the_greater_mark_is_the_discs,
-    two_texts_are_held_between, what_is_seen_was_there,
+    one_text_tells_one_list, rewritten_copies_are_one_number, settled_copies_hold_one_value,
+    the_greater_mark_is_the_discs, two_texts_are_held_between, what_is_seen_was_there,
 };
-pub use worked::{worked_choice, worked_copies, worked_counts, worked_marks};
+pub use worked::{worked_choice, worked_copies, worked_counts, worked_marks, worked_rewrites};

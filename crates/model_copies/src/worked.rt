@@ -2,7 +2,7 @@
 
 ghost use Rattle.std.specs.Prelude.{◌≡◌, ℕ, ◌∷◌, [], List};
 ghost use Rattle.model_medium.specs.Cells.{Blank, Good, Torn, Dead};
-ghost use Rattle.model_copies.specs.Copies.{IsArea, Holds, HoldsOrDead, HoldsEither, HasCopy, Settled, IsChosen, NoneChosen, IsGreatestMark, AllLost, IsSeen, good_count};
+ghost use Rattle.model_copies.specs.Copies.{IsArea, Holds, HoldsOrDead, HoldsEither, HasCopy, Settled, IsChosen, NoneChosen, IsGreatestMark, AllLost, IsSeen, good_count, Rewrites};
 
 /// What single cells hold.
 pub fn worked_copies()
@@ -30,4 +30,12 @@ pub fn worked_choice()
 pub fn worked_marks()
     ensures { IsGreatestMark (λ (v : ℕ) (b : List ℕ). b ≡ v ∷ []) (λ k. k)
         (Blank ∷ Good (2 ∷ []) ∷ Good (7 ∷ []) ∷ Good (7 ∷ []) ∷ Blank ∷ []) (λ (v : ℕ). v) 7 }
+{}
+
+/// Of copies 7, 2, a dead one and 7 a repair to 7 writes three again, where the last one dies in it: the copy of area 1
+/// alone was exact when it was read.
+pub fn worked_rewrites()
+    ensures { Rewrites (λ cell. Holds (λ (v : ℕ) (b : List ℕ). b ≡ v ∷ []) cell 7) (λ k. k)
+        (Blank ∷ Good (7 ∷ []) ∷ Good (2 ∷ []) ∷ Dead ∷ Good (7 ∷ []) ∷ [])
+        (Blank ∷ Good (7 ∷ []) ∷ Good (7 ∷ []) ∷ Dead ∷ Dead ∷ []) 4 3 }
 {}

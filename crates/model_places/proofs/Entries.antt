@@ -13,7 +13,7 @@ use Rattle.model_lists.specs.declared.sdl.SdlEntry.{SdlEntry}
 use Rattle.model_lists.specs.Values.{defectives}
 use Rattle.model_places.specs.Places.{Lists, unslipped, logical_blocks, spares, replacements}
 use Rattle.model_places.specs.Valid.{IsValidPdl, IsValidSdl}
-use Rattle.model_places.proofs.Listed.{Decides-is_listed, is_member_is, IsDistinct-from_increasing}
+use Rattle.model_places.proofs.Listed.{Decides-is_listed, one_listed, is_member_is, IsDistinct-from_increasing}
 use Rattle.model_places.proofs.Pools.{spare_or_logical, length-spares}
 use Rattle.model_places.proofs.Homes.{Contains-first, Contains-later, Contains-cons_option, Contains-cons_option_first, first_is_alone, IsDistinct-cons_option, alone_in_cons_option, replacement_cases}
 
@@ -99,10 +99,10 @@ used_are_spares : (shape : Shape) (lists : Lists) → IsValidPdl shape lists.dds
     → (x : ℕ) → Contains (map used lists.sdl.entries) x → Contains (spares shape lists) x
 used_are_spares shape lists primary secondary x has =
     ⊎_elim
-    (λ l. All-contains (Contains (spares shape lists)) (replacements lists.sdl.entries) x secondary.from_spares l)
+    (λ l. one_listed (spares shape lists) (replacements lists.sdl.entries) secondary.from_spares x l)
     (λ r.
     let block = subst (Contains (unslipped shape lists.dds)) r.block_is
-    (All-contains (Contains (unslipped shape lists.dds)) (defectives lists.sdl.entries) r.entry.defective secondary.within (Contains-defectives lists.sdl.entries r.entry r.has)) in
+    (one_listed (unslipped shape lists.dds) (defectives lists.sdl.entries) secondary.within r.entry.defective (Contains-defectives lists.sdl.entries r.entry r.has)) in
     let replaced = All-contains (λ (e : SdlEntry). Contains (logical_blocks shape lists) e.defective → IsSome e.replacement) lists.sdl.entries r.entry secondary.logical_replaced r.has in
     ⊎_elim (λ s. s)
     (λ logical. absurd (let some = replaced (subst (Contains (logical_blocks shape lists)) (sym r.block_is) logical) in let none = r.alone in cc))

@@ -12,7 +12,7 @@ use Rattle.model_lists.specs.declared.dds.PdlEntry.{PdlEntry}
 use Rattle.model_lists.specs.Values.{Dds}
 use Rattle.model_places.specs.Places.{Lists, is_listed, slipped, unslipped, primary_count, logical_count, logical_block, primary_spares, logical_blocks, supplementary_spares, spares}
 use Rattle.model_places.specs.Valid.{IsValidPdl, IsValidSsa}
-use Rattle.model_places.proofs.Listed.{IsDistinct-from_increasing, length-filter_listed, Contains-from_filter, StandsWithin, StandsWithin-take, StandsWithin-drop, parts_apart, same_index}
+use Rattle.model_places.proofs.Listed.{All-listed, IsDistinct-from_increasing, length-filter_listed, Contains-from_filter, StandsWithin, StandsWithin-take, StandsWithin-drop, parts_apart, same_index}
 
 -- the blocks that are not slipped rise
 pub unslipped_rise : (shape : Shape) (dds : Dds) → IsStrictlyIncreasing (unslipped shape dds)
@@ -33,7 +33,7 @@ pub length-unslipped : (shape : Shape) (dds : Dds) → IsValidPdl shape dds → 
 unfolding unslipped
 length-unslipped shape dds valid =
     let rise = IsStrictlyIncreasing-filter (is_listed (slipped dds)) (data_blocks shape) (data_blocks_rise shape) in
-    let listed = length-filter_listed (data_blocks shape) (slipped dds) (IsDistinct-from_increasing (filter (is_listed (slipped dds)) (data_blocks shape)) rise) (IsDistinct-from_increasing (slipped dds) valid.rising) valid.data_only in
+    let listed = length-filter_listed (data_blocks shape) (slipped dds) (IsDistinct-from_increasing (filter (is_listed (slipped dds)) (data_blocks shape)) rise) (IsDistinct-from_increasing (slipped dds) valid.rising) (All-listed (data_blocks shape) (slipped dds) valid.data_only) in
     omega (arith, listed, length-slipped dds, length-filter_both (is_listed (slipped dds)) (λ block. not (is_listed (slipped dds) block)) (λ _. refl) (data_blocks shape))
 
 -- both spare areas and the logical blocks are all of them

@@ -1,6 +1,6 @@
 -- How a disc with defect lists is numbered: slipping, logical blocks, spares and homes: for a volume.
-use Rattle.std.specs.Prelude.{ℕ, ◌+◌, ◌-◌, ◌*◌, Bool, not, ◌||◌, ◌==◌, Option, unwrap_or, option_and_then, List, [], ◌++◌, length, take, drop, reverse, slice_index}
-use Rattle.std.specs.List.{count_by, filter, filter_map, find, list_any, after_first}
+use Rattle.std.specs.Prelude.{ℕ, ◌+◌, ◌-◌, ◌*◌, Bool, IsTrue, not, ◌||◌, ◌==◌, Option, unwrap_or, option_and_then, List, [], ◌++◌, length, take, drop, reverse, slice_index}
+use Rattle.std.specs.List.{All, count_by, filter, filter_map, find, list_any, after_first}
 use Rattle.model_geometry.specs.Geometry.{Shape, data_blocks}
 use Rattle.model_lists.specs.declared.sdl.SdlEntry.{SdlEntry}
 use Rattle.model_lists.specs.Values.{Dds, Sdl, pdl_blocks, defectives}
@@ -18,6 +18,10 @@ unreplaced structure s = record { dds = structure; sdl = record { counter = 1; d
 -- the block is one of the list
 abbrev pub is_listed : List ℕ → ℕ → Bool
 is_listed blocks block = list_any (λ b. b == block) blocks
+
+-- each of these blocks is one of the list
+abbrev pub AreListed : List ℕ → List ℕ → Type 0
+AreListed blocks these = All (λ block. IsTrue (is_listed blocks block)) these
 
 -- the slipped blocks: those of the primary defect list (after ECMA-330's slipping, by whole blocks)
 abbrev pub slipped : Dds → List ℕ

@@ -7,13 +7,13 @@ use Rattle.model_geometry.specs.Geometry.{Shape, data_blocks}
 use Rattle.model_lists.specs.declared.dds.DdsState.TheVariants.{Formatted}
 use Rattle.model_lists.specs.declared.sdl.SdlEntry.{SdlEntry}
 use Rattle.model_lists.specs.Values.{Dds, defectives}
-use Rattle.model_places.specs.Places.{Lists, slipped, unslipped, logical_blocks, spares, replacements}
+use Rattle.model_places.specs.Places.{Lists, AreListed, slipped, unslipped, logical_blocks, spares, replacements}
 
 -- A primary defect list is valid for a geometry: its structure names the geometry's primary spares, and its blocks
 -- are data blocks that rise, no more than those spares. (This project's own.)
 pub record IsValidPdl (shape : Shape) (dds : Dds) : Type 0 where
   pub same_psa : dds.psa ≡ shape.psa
-  pub data_only : All (Contains (data_blocks shape)) (slipped dds)
+  pub data_only : AreListed (data_blocks shape) (slipped dds)
   pub rising : IsStrictlyIncreasing (slipped dds)
   pub few : length dds.entries ≤ shape.psa
 
@@ -28,11 +28,11 @@ pub record IsValidSsa (shape : Shape) (ssa : ℕ) : Type 0 where
 -- different, and none is itself defective. (This project's own.)
 pub record IsValidSdl (shape : Shape) (lists : Lists) : Type 0 where
   pub area : IsValidSsa shape lists.sdl.ssa
-  pub within : All (Contains (unslipped shape lists.dds)) (defectives lists.sdl.entries)
+  pub within : AreListed (unslipped shape lists.dds) (defectives lists.sdl.entries)
   pub rising : IsStrictlyIncreasing (defectives lists.sdl.entries)
   pub logical_replaced : All (λ (e : SdlEntry). Contains (logical_blocks shape lists) e.defective → IsSome e.replacement) lists.sdl.entries
   pub spares_retired : All (λ (e : SdlEntry). Contains (spares shape lists) e.defective → IsNone e.replacement) lists.sdl.entries
-  pub from_spares : All (Contains (spares shape lists)) (replacements lists.sdl.entries)
+  pub from_spares : AreListed (spares shape lists) (replacements lists.sdl.entries)
   pub different : IsDistinct nat_eq (replacements lists.sdl.entries)
   pub sound : All (λ b. ¬ Contains (defectives lists.sdl.entries) b) (replacements lists.sdl.entries)
 

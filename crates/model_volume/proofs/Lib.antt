@@ -13,3 +13,4 @@ pub mod Moved
 pub mod Updates
 pub mod Losses
 pub mod SampleFacts
+pub mod OneProof

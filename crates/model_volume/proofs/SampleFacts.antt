@@ -16,6 +16,7 @@ use Rattle.model_copies.specs.Copies.{Holds, HasDdsCopy, HasSdlCopy, IsArea, Hol
 use Rattle.model_places.specs.Places.{Lists, unslipped, logical_blocks, spares, free_spares}
 use Rattle.model_places.specs.Valid.{IsValidPdl, IsValidSsa, AreValid}
 use Rattle.model_places.specs.Worked.{pair}
+use Rattle.model_places.proofs.Listed.{listed-All}
 use Rattle.model_volume.specs.Given.{IsGiven, AreChosen, AreSettled}
 use Rattle.model_volume.specs.Starts.{Found, IsFound, Precedes, disc_under, IsDiscStart}
 use Rattle.model_volume.specs.Moves.{IsNextSpare, tried_of}
@@ -67,7 +68,7 @@ data_many = refl
 pdl_valid : IsValidPdl small_shape lists_before.dds
 pdl_valid = record {
   same_psa = refl;
-  data_only = all_none (Contains (data_blocks small_shape));
+  data_only = listed-All (data_blocks small_shape) [] (all_none (Contains (data_blocks small_shape)));
   rising = rise_none;
   few = omega arith;
 }
@@ -83,11 +84,11 @@ before_valid = record {
     same_counter = refl;
     secondary = record {
       area = ssa_valid;
-      within = all_none (Contains (unslipped small_shape lists_before.dds));
+      within = listed-All (unslipped small_shape lists_before.dds) [] (all_none (Contains (unslipped small_shape lists_before.dds)));
       rising = rise_none;
       logical_replaced = all_none (λ (e : SdlEntry). Contains (logical_blocks small_shape lists_before) e.defective → IsSome e.replacement);
       spares_retired = all_none (λ (e : SdlEntry). Contains (spares small_shape lists_before) e.defective → IsNone e.replacement);
-      from_spares = all_none (Contains (spares small_shape lists_before));
+      from_spares = listed-All (spares small_shape lists_before) [] (all_none (Contains (spares small_shape lists_before)));
       different = tt;
       sound = all_none (λ (b : ℕ). ¬ Contains [] b);
     };
@@ -126,12 +127,12 @@ after_valid = record {
     same_counter = refl;
     secondary = record {
       area = ssa_valid;
-      within = all_one (Contains (unslipped small_shape lists_after.dds)) 13 (4, omega (arith, unslipped_many), fifth_unslipped);
+      within = listed-All (unslipped small_shape lists_after.dds) (13 ∷ []) (all_one (Contains (unslipped small_shape lists_after.dds)) 13 (4, omega (arith, unslipped_many), fifth_unslipped));
       rising = rise_one 13;
       logical_replaced = all_one (λ (e : SdlEntry). Contains (logical_blocks small_shape lists_after) e.defective → IsSome e.replacement) (pair 13 12) (λ h. refl);
       spares_retired = all_one (λ (e : SdlEntry). Contains (spares small_shape lists_after) e.defective → IsNone e.replacement) (pair 13 12)
           (λ h. absurd (no_spare_13 (subst (λ (xs : List ℕ). Contains xs 13) spares_are h)));
-      from_spares = all_one (Contains (spares small_shape lists_after)) 12 (subst (λ (xs : List ℕ). Contains xs 12) (sym spares_are) (3, omega arith, refl));
+      from_spares = listed-All (spares small_shape lists_after) (12 ∷ []) (all_one (Contains (spares small_shape lists_after)) 12 (subst (λ (xs : List ℕ). Contains xs 12) (sym spares_are) (3, omega arith, refl)));
       different = (tt, tt);
       sound = all_one (λ (b : ℕ). ¬ Contains (13 ∷ []) b) 12 not_12;
     };

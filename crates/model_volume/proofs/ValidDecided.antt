@@ -1,5 +1,5 @@
 -- Whether lists are valid, decided (which nothing computes).
-use Rattle.std.proofs.Common.{◌≡◌, ℕ, suc, ◌+◌, ◌⊎◌, inl, inr, Bool, true, false, Option, Some, None, IsSome, IsNone, eqb, List, [], ◌∷◌, length, refl, arith}
+use Rattle.std.proofs.Common.{◌≡◌, ℕ, suc, ◌+◌, ◌⊎◌, inl, inr, Bool, true, false, IsTrue, Option, Some, None, IsSome, IsNone, eqb, List, [], ◌∷◌, length, refl, arith}
 use Rattle.std.specs.List.{All, AllByRecursion, Contains, IsDistinct}
 use Rattle.std.proofs.lemmas.Bool.{cases_eq, cases_lt, cases_Bool, both_ways}
 use Rattle.std.proofs.lemmas.List.Elements.{All-cons}
@@ -9,7 +9,7 @@ use Rattle.model_lists.specs.declared.dds.DdsState.{DdsState}
 use Rattle.model_lists.specs.declared.dds.DdsState.TheVariants.{Formatting, Formatted}
 use Rattle.model_lists.specs.declared.sdl.SdlEntry.{SdlEntry}
 use Rattle.model_lists.specs.Values.{Dds, defectives}
-use Rattle.model_places.specs.Places.{Lists, slipped, unslipped, logical_blocks, spares, replacements, is_listed}
+use Rattle.model_places.specs.Places.{Lists, slipped, unslipped, logical_blocks, spares, replacements, is_listed, AreListed}
 use Rattle.model_places.specs.Valid.{IsValidPdl, IsValidSsa, IsValidSdl, BelongTogether, AreValid}
 use Rattle.model_places.proofs.Listed.{Decides-is_listed}
 use Rattle.model_volume.proofs.Decided.{rising_decided}
@@ -45,6 +45,9 @@ all_decided P each (x ∷ xs) = elim (each x) [
   ]
 ]
 
+listed_decided : (xs ys : List ℕ) → Decided (AreListed xs ys)
+listed_decided xs ys = all_decided (λ (b : ℕ). IsTrue (is_listed xs b)) (λ b. bool_decided (is_listed xs b)) ys
+
 pub each_decided : {X : Type 0} (P : X → Type 0) → ((x : X) → Decided (P x)) → (xs : List X) → Decided (AllByRecursion P xs)
 each_decided P each [] = inl tt
 each_decided P each (x ∷ xs) = elim (each x) [
@@ -75,7 +78,7 @@ none_decided None = inl refl
 pub pdl_decided : (shape : Shape) (dds : Dds) → Decided (IsValidPdl shape dds)
 pdl_decided shape dds = elim (cases_eq dds.psa shape.psa) [
   | inr fails ↦ inr (λ v. fails v.same_psa)
-  | inl same ↦ elim (all_decided (Contains (data_blocks shape)) (contains_decided (data_blocks shape)) (slipped dds)) [
+  | inl same ↦ elim (listed_decided (data_blocks shape) (slipped dds)) [
     | inr fails ↦ inr (λ v. fails v.data_only)
     | inl data_only ↦ elim (rising_decided (slipped dds)) [
       | inr fails ↦ inr (λ v. fails v.rising)
@@ -111,7 +114,7 @@ module _ (shape : Shape) (lists : Lists) where
   pub sdl_decided : Decided (IsValidSdl shape lists)
   sdl_decided = elim (ssa_decided shape lists.sdl.ssa) [
     | inr fails ↦ inr (λ v. fails v.area)
-    | inl area ↦ elim (all_decided (Contains (unslipped shape lists.dds)) (contains_decided (unslipped shape lists.dds)) (defectives lists.sdl.entries)) [
+    | inl area ↦ elim (listed_decided (unslipped shape lists.dds) (defectives lists.sdl.entries)) [
       | inr fails ↦ inr (λ v. fails v.within)
       | inl within ↦ elim (rising_decided (defectives lists.sdl.entries)) [
         | inr fails ↦ inr (λ v. fails v.rising)
@@ -119,7 +122,7 @@ module _ (shape : Shape) (lists : Lists) where
           | inr fails ↦ inr (λ v. fails v.logical_replaced)
           | inl replaced ↦ elim retired_decided [
             | inr fails ↦ inr (λ v. fails v.spares_retired)
-            | inl retired ↦ elim (all_decided (Contains (spares shape lists)) (contains_decided (spares shape lists)) (replacements lists.sdl.entries)) [
+            | inl retired ↦ elim (listed_decided (spares shape lists) (replacements lists.sdl.entries)) [
               | inr fails ↦ inr (λ v. fails v.from_spares)
               | inl from ↦ elim (distinct_decided (replacements lists.sdl.entries)) [
                 | inr fails ↦ inr (λ v. fails v.different)

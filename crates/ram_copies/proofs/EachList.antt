@@ -7,7 +7,8 @@ use Rattle.model_lists.specs.Texts.{IsDdsText, IsSdlText}
 use Rattle.model_lists.proofs.DdsTexts as dds_texts
 use Rattle.model_lists.proofs.SdlTexts as sdl_texts
 use Rattle.model_medium.specs.Cells.{Cell, Blank, Good, Torn, Dead, cell_at}
-use Rattle.model_copies.specs.Copies.{Holds, HoldsOrDead, MayHold, HasCopy, Settled, IsChosen, NoneChosen, IsGreatestMark}
+use Rattle.model_copies.specs.Copies.{Holds, HoldsOrDead, MayHold, HasCopy, Settled, IsChosen, NoneChosen, IsGreatestMark, Rewrites, RewritesDds, RewritesSdl}
+use Rattle.model_copies.proofs.Rewriting.{rewrites_like}
 use Rattle.ram_zones.specs.declared.list_kind.ListKind.{ListKind}
 use Rattle.ram_zones.specs.declared.list_kind.ListKind.TheVariants as kinds
 use Rattle.ram_zones.specs.ListKind.{list_block}
@@ -57,19 +58,26 @@ module _ {V W : Type 0} (text : V → List ℕ → Type 0) (other : W → List �
   pub copy_to : (place : ℕ → ℕ) (cells : List Cell) (v : V) (area : ℕ) → HasCopy text place cells v area → HasCopy other place cells (to v) area
   copy_to place cells v area copy = record { is_area = copy.is_area; holds = holds_to (cell_at cells (place area)) v copy.holds }
 
+-- a cell that holds a text of the one kind or the other
+pub dds_held : (cell : Cell) (v : Dds) → Holds (IsText kinds.Dds) cell (DdsValue v) → Holds IsDdsText cell v
+dds_held Blank v h = h
+dds_held (Good bytes) v h = h
+dds_held Torn v h = h
+dds_held Dead v h = h
+
+pub sdl_held : (cell : Cell) (v : Sdl) → Holds (IsText kinds.Sdl) cell (SdlValue v) → Holds IsSdlText cell v
+sdl_held Blank v h = h
+sdl_held (Good bytes) v h = h
+sdl_held Torn v h = h
+sdl_held Dead v h = h
+
 module _ (shape : Shape) (cells : List Cell) where
   -- of the first list
   pub dds_any : (v : Dds) (area : ℕ) → HasCopy IsDdsText (dds_block shape) cells v area → HasCopy (IsText kinds.Dds) (λ (a : ℕ). list_block shape a kinds.Dds) cells (DdsValue v) area
   dds_any v area copy = copy_to IsDdsText (IsText kinds.Dds) DdsValue (λ w bytes h. h) (dds_block shape) cells v area copy
 
   pub dds_own : (v : Dds) (area : ℕ) → HasCopy (IsText kinds.Dds) (λ (a : ℕ). list_block shape a kinds.Dds) cells (DdsValue v) area → HasCopy IsDdsText (dds_block shape) cells v area
-  dds_own v area copy = record { is_area = copy.is_area; holds = own (cell_at cells (dds_block shape area)) copy.holds }
-    where
-      own : (cell : Cell) → Holds (IsText kinds.Dds) cell (DdsValue v) → Holds IsDdsText cell v
-      own Blank h = h
-      own (Good bytes) h = h
-      own Torn h = h
-      own Dead h = h
+  dds_own v area copy = record { is_area = copy.is_area; holds = dds_held (cell_at cells (dds_block shape area)) v copy.holds }
 
   -- a copy of the first list's kind is one of the first list
   dds_value : (v : ListValue) (area : ℕ) → HasCopy (IsText kinds.Dds) (λ (a : ℕ). list_block shape a kinds.Dds) cells v area → (d : Dds) × (v ≡ DdsValue d)
@@ -119,13 +127,7 @@ module _ (shape : Shape) (cells : List Cell) where
   sdl_any v area copy = copy_to IsSdlText (IsText kinds.Sdl) SdlValue (λ w bytes h. h) (sdl_block shape) cells v area copy
 
   pub sdl_own : (v : Sdl) (area : ℕ) → HasCopy (IsText kinds.Sdl) (λ (a : ℕ). list_block shape a kinds.Sdl) cells (SdlValue v) area → HasCopy IsSdlText (sdl_block shape) cells v area
-  sdl_own v area copy = record { is_area = copy.is_area; holds = own (cell_at cells (sdl_block shape area)) copy.holds }
-    where
-      own : (cell : Cell) → Holds (IsText kinds.Sdl) cell (SdlValue v) → Holds IsSdlText cell v
-      own Blank h = h
-      own (Good bytes) h = h
-      own Torn h = h
-      own Dead h = h
+  sdl_own v area copy = record { is_area = copy.is_area; holds = sdl_held (cell_at cells (sdl_block shape area)) v copy.holds }
 
   sdl_value : (v : ListValue) (area : ℕ) → HasCopy (IsText kinds.Sdl) (λ (a : ℕ). list_block shape a kinds.Sdl) cells v area → (s : Sdl) × (v ≡ SdlValue s)
   sdl_value (SdlValue s) area copy = (s, refl)
@@ -172,27 +174,26 @@ module _ (shape : Shape) (cells : List Cell) where
 -- what is left of a cell, of either list
 pub dds_may_hold : (old cell : Cell) (v : Dds) → MayHold (IsText kinds.Dds) old (DdsValue v) cell → MayHold IsDdsText old v cell
 dds_may_hold old cell v (inl as_was) = inl as_was
-dds_may_hold old cell v (inr (inl held)) = inr (inl (own cell held))
-  where
-    own : (cell : Cell) → Holds (IsText kinds.Dds) cell (DdsValue v) → Holds IsDdsText cell v
-    own Blank h = h
-    own (Good bytes) h = h
-    own Torn h = h
-    own Dead h = h
+dds_may_hold old cell v (inr (inl held)) = inr (inl (dds_held cell v held))
 dds_may_hold old cell v (inr (inr left)) = inr (inr left)
 
 pub sdl_may_hold : (old cell : Cell) (v : Sdl) → MayHold (IsText kinds.Sdl) old (SdlValue v) cell → MayHold IsSdlText old v cell
 sdl_may_hold old cell v (inl as_was) = inl as_was
-sdl_may_hold old cell v (inr (inl held)) = inr (inl (own cell held))
-  where
-    own : (cell : Cell) → Holds (IsText kinds.Sdl) cell (SdlValue v) → Holds IsSdlText cell v
-    own Blank h = h
-    own (Good bytes) h = h
-    own Torn h = h
-    own Dead h = h
+sdl_may_hold old cell v (inr (inl held)) = inr (inl (sdl_held cell v held))
 sdl_may_hold old cell v (inr (inr left)) = inr (inr left)
 
 -- what a text decodes to
 pub decoded : (kind : ListKind) (v : ListValue) (block : List ℕ) (found : Option ListValue) → IsText kind v block → Decodes (λ (w : ListValue). w) kind found block → found ≡ Some v
 decoded kind v block None text says = absurd (says v text)
 decoded kind v block (Some w) text says = ap Some (one_value kind w v block says text)
+
+-- how many copies of either list were written again
+pub dds_rewritten : (shape : Shape) (old new : List Cell) (v : Dds) (n : ℕ) → Rewrites (λ (c : Cell). Holds (IsText kinds.Dds) c (DdsValue v)) (λ (area : ℕ). list_block shape area kinds.Dds) old new 4 n → RewritesDds shape old new v n
+dds_rewritten shape old new v n = rewrites_like (λ (c : Cell). Holds (IsText kinds.Dds) c (DdsValue v)) (λ (area : ℕ). list_block shape area kinds.Dds) old new (λ (c : Cell). Holds IsDdsText c v) (dds_block shape) old new 4 n
+    (λ area some most was. (dds_held (cell_at old (dds_block shape area)) v was.0, dds_held (cell_at new (dds_block shape area)) v was.1))
+    (λ area some most was. (holds_to IsDdsText (IsText kinds.Dds) DdsValue (λ w bytes h. h) (cell_at old (dds_block shape area)) v was.0, holds_to IsDdsText (IsText kinds.Dds) DdsValue (λ w bytes h. h) (cell_at new (dds_block shape area)) v was.1))
+
+pub sdl_rewritten : (shape : Shape) (old new : List Cell) (v : Sdl) (n : ℕ) → Rewrites (λ (c : Cell). Holds (IsText kinds.Sdl) c (SdlValue v)) (λ (area : ℕ). list_block shape area kinds.Sdl) old new 4 n → RewritesSdl shape old new v n
+sdl_rewritten shape old new v n = rewrites_like (λ (c : Cell). Holds (IsText kinds.Sdl) c (SdlValue v)) (λ (area : ℕ). list_block shape area kinds.Sdl) old new (λ (c : Cell). Holds IsSdlText c v) (sdl_block shape) old new 4 n
+    (λ area some most was. (sdl_held (cell_at old (sdl_block shape area)) v was.0, sdl_held (cell_at new (sdl_block shape area)) v was.1))
+    (λ area some most was. (holds_to IsSdlText (IsText kinds.Sdl) SdlValue (λ w bytes h. h) (cell_at old (sdl_block shape area)) v was.0, holds_to IsSdlText (IsText kinds.Sdl) SdlValue (λ w bytes h. h) (cell_at new (sdl_block shape area)) v was.1))

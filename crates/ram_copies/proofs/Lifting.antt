@@ -10,8 +10,9 @@ use Rattle.model_stops.specs.Stops.{FailsInUse, Continues, Stops}
 use Rattle.model_counts.specs.Counts.{Rose}
 use Rattle.model_stops.specs.declared.Stop.{Stop}
 use Rattle.model_stops.specs.declared.Stop.TheVariants as stops
-use Rattle.model_copies.specs.Copies.{IsArea, Holds, HoldsOrDead, MayHold, good_count}
+use Rattle.model_copies.specs.Copies.{IsArea, Holds, HoldsOrDead, MayHold, Rewrites, good_count}
 use Rattle.model_copies.proofs.CopyFacts.{lost_counts}
+use Rattle.model_copies.proofs.Rewriting.{rewrites_like}
 use Rattle.ram_medium.specs.Laws.{MediumLaws}
 use Rattle.ram_medium.proofs.Parts.{continues_quiet, use_failed}
 use Rattle.ram_zones.specs.declared.list_kind.ListKind.{ListKind}
@@ -19,7 +20,7 @@ use Rattle.ram_zones.specs.declared.list_kind.ListKind.TheVariants as kinds
 use Rattle.ram_zones.specs.ListKind.{list_block}
 use Rattle.ram_copies.specs.Values.{ListValue, DdsValue, SdlValue, IsText}
 use Rattle.ram_copies.specs.Writes.{HasWrittenCopies, StopsWriting, CountsReadable}
-use Rattle.ram_copies.specs.Repairs.{Rewrites, MendLeaves, HasRepaired, StopsRepairing}
+use Rattle.ram_copies.specs.Repairs.{MendLeaves, HasRepaired, StopsRepairing}
 use Rattle.ram_copies.specs.Calls.{StoppedCounts, ChangesCopiesAlone, CallEnds, StoppedWithin, Keeps, MayLeaveCopies, SparesExactCopies, UpdateRule, Repairs, RepairRule, updated_of}
 use Rattle.ram_copies.specs.declared.updates.Updated.TheVariants as updates
 
@@ -57,12 +58,9 @@ module _ (kind : ListKind) (value : ListValue) (text : List ℕ) (spells : IsTex
   may_hold old new (inr (inr left)) = inr (inr left)
 
   rewrites_held : (place : ℕ → ℕ) (old new : List Cell) (k n : ℕ) → Rewrites (λ (c : Cell). c ≡ Good text) place old new k n → Rewrites (λ (c : Cell). Holds (IsText kind) c value) place old new k n
-  rewrites_held place old new zero n none = none
-  rewrites_held place old new (suc k) n (inl was) = inl ((holds_text (cell_at old (place (suc k))) was.0.0, holds_text (cell_at new (place (suc k))) was.0.1), rewrites_held place old new k n was.1)
-  rewrites_held place old new (suc k) n (inr was) = inr (
-    λ now. was.0 (is_text (cell_at old (place (suc k))) now.0, is_text (cell_at new (place (suc k))) now.1),
-    (was.1.0, was.1.1, rewrites_held place old new k was.1.0 was.1.2),
-  )
+  rewrites_held place old new k n = rewrites_like (λ (c : Cell). c ≡ Good text) place old new (λ (c : Cell). Holds (IsText kind) c value) place old new k n
+      (λ area some most was. (holds_text (cell_at old (place area)) was.0, holds_text (cell_at new (place area)) was.1))
+      (λ area some most was. (is_text (cell_at old (place area)) was.0, is_text (cell_at new (place area)) was.1))
 
 -- ---- counts
 

@@ -1,5 +1,5 @@
 -- How the copies of a list are mended, area after area.
-use Rattle.std.specs.Prelude.{◌≡◌, ◌≢◌, ℕ, zero, suc, ◌+◌, ◌*◌, ◌≤◌, ◌<◌, ◌⊎◌, Bool, true, false, IsTrue, List}
+use Rattle.std.specs.Prelude.{◌≡◌, ◌≢◌, ℕ, suc, ◌+◌, ◌*◌, ◌≤◌, ◌<◌, ◌⊎◌, Bool, true, false, IsTrue, List}
 use Rattle.std.proofs.Common.{refl, sym, ap, ◌∙◌, inl, inr, subst, arith}
 use Rattle.std.proofs.lemmas.Bool.{cases_eq, cases_lt}
 use Rattle.model_geometry.specs.Geometry.{Shape}
@@ -7,26 +7,21 @@ use Rattle.model_medium.specs.Cells.{Cell, Good, Dead, cell_at}
 use Rattle.model_medium.specs.World.{World}
 use Rattle.model_stops.specs.Stops.{Continues}
 use Rattle.model_stops.specs.declared.Stop.{Stop}
-use Rattle.model_copies.specs.Copies.{IsArea, good_count}
+use Rattle.model_copies.specs.Copies.{IsArea, WasExact, Rewrites, good_count}
+use Rattle.model_copies.proofs.Rewriting.{rewrites_like}
 use Rattle.ram_medium.specs.Laws.{MediumLaws}
 use Rattle.ram_medium.proofs.Parts.{continues_none, continues_then, stops_later, stops_within}
 use Rattle.ram_zones.specs.declared.list_kind.ListKind.{ListKind}
 use Rattle.ram_zones.specs.ListKind.{list_block}
-use Rattle.ram_copies.specs.Repairs.{WasExact, Rewrites, MendLeaves, HasMendedCopy, StopsMending, HasRepaired, StopsRepairing}
+use Rattle.ram_copies.specs.Repairs.{MendLeaves, HasMendedCopy, StopsMending, HasRepaired, StopsRepairing}
 use Rattle.ram_copies.proofs.Writing.{places_apart}
 use Rattle.ram_copies.proofs.Counting.{suc_is, count_kept, count_lost}
 
 module _ (exact : Cell → Type 0) (place : ℕ → ℕ) (old mid new : List Cell) where
-  was_exact_same : (area : ℕ) → cell_at new (place area) ≡ cell_at mid (place area) → WasExact exact place old mid area → WasExact exact place old new area
-  was_exact_same area same was = (was.0, subst exact (sym same) was.1)
-
-  was_exact_back : (area : ℕ) → cell_at new (place area) ≡ cell_at mid (place area) → WasExact exact place old new area → WasExact exact place old mid area
-  was_exact_back area same was = (was.0, subst exact same was.1)
-
   rewrites_same : (k n : ℕ) → ((area : ℕ) → 1 ≤ area → area ≤ k → cell_at new (place area) ≡ cell_at mid (place area)) → Rewrites exact place old mid k n → Rewrites exact place old new k n
-  rewrites_same zero n same none = none
-  rewrites_same (suc k) n same (inl was) = inl (was_exact_same (suc k) (same (suc k) (omega arith) (omega arith)) was.0, rewrites_same k n (λ area some most. same area some (omega arith)) was.1)
-  rewrites_same (suc k) n same (inr was) = inr (λ now. was.0 (was_exact_back (suc k) (same (suc k) (omega arith) (omega arith)) now), (was.1.0, was.1.1, rewrites_same k was.1.0 (λ area some most. same area some (omega arith)) was.1.2))
+  rewrites_same k n same = rewrites_like exact place old mid exact place old new k n
+      (λ area some most was. (was.0, subst exact (sym (same area some most)) was.1))
+      (λ area some most was. (was.0, subst exact (same area some most) was.1))
 
   rewrites_next : (k n n' : ℕ) → ((area : ℕ) → 1 ≤ area → area ≤ k → cell_at new (place area) ≡ cell_at mid (place area)) → Rewrites exact place old mid k n
       → (WasExact exact place old new (k + 1) × (n' ≡ n)) ⊎ (¬ WasExact exact place old new (k + 1) × (n' ≡ n + 1)) → Rewrites exact place old new (k + 1) n'
@@ -36,14 +31,6 @@ module _ (exact : Cell → Type 0) (place : ℕ → ℕ) (old mid new : List Cel
       by_cases : (WasExact exact place old new (suc k) × (n' ≡ n)) ⊎ (¬ WasExact exact place old new (suc k) × (n' ≡ n + 1)) → Rewrites exact place old new (suc k) n'
       by_cases (inl was) = inl (was.0, subst (Rewrites exact place old new k) (sym was.1) (rewrites_same k n same before))
       by_cases (inr was) = inr (was.0, (n, was.1, rewrites_same k n same before))
-
--- the number of copies that were not exact is one number
-pub one_number : (exact : Cell → Type 0) (place : ℕ → ℕ) (old new : List Cell) (k m n : ℕ) → Rewrites exact place old new k m → Rewrites exact place old new k n → m ≡ n
-one_number exact place old new zero m n one two = one ∙ sym two
-one_number exact place old new (suc k) m n (inl one) (inl two) = one_number exact place old new k m n one.1 two.1
-one_number exact place old new (suc k) m n (inl one) (inr two) = absurd (two.0 one.0)
-one_number exact place old new (suc k) m n (inr one) (inl two) = absurd (one.0 two.0)
-one_number exact place old new (suc k) m n (inr one) (inr two) = one.1.1 ∙ ap (λ (b : ℕ). b + 1) (one_number exact place old new k one.1.0 two.1.0 one.1.2 two.1.2) ∙ sym two.1.1
 
 abbrev IsText : List ℕ → Cell → Type 0
 IsText text c = c ≡ Good text

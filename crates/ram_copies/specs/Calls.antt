@@ -6,11 +6,10 @@ use Rattle.model_medium.specs.World.{World, UseContinues, IsCut, HasFailed, IsOf
 use Rattle.model_stops.specs.Stops.{Continues, Stops}
 use Rattle.model_stops.specs.declared.Stop.{Stop}
 use Rattle.model_stops.specs.declared.Stop.TheVariants as stops
-use Rattle.model_copies.specs.Copies.{IsArea, Holds, MayHold, Settled, AllLost, good_count}
+use Rattle.model_copies.specs.Copies.{IsArea, Holds, MayHold, Settled, AllLost, Rewrites, good_count}
 use Rattle.ram_zones.specs.declared.list_kind.ListKind.{ListKind}
 use Rattle.ram_zones.specs.ListKind.{list_block}
 use Rattle.ram_copies.specs.Values.{ListValue, IsText}
-use Rattle.ram_copies.specs.Repairs.{Rewrites}
 use Rattle.ram_copies.specs.declared.updates.Updated.{Updated}
 use Rattle.ram_copies.specs.declared.updates.Updated.TheVariants as updates
 

@@ -1,24 +1,13 @@
 -- What repairing the copies of a list does, area after area: for `mend_copy` and `mend_copies`.
-use Rattle.std.specs.Prelude.{◌≡◌, ◌≢◌, ℕ, zero, suc, ◌+◌, ◌*◌, ◌≤◌, ◌⊎◌, Bool, true, false, List}
+use Rattle.std.specs.Prelude.{◌≡◌, ◌≢◌, ℕ, ◌+◌, ◌*◌, ◌≤◌, ◌⊎◌, Bool, true, false, List}
 use Rattle.model_medium.specs.Cells.{Cell, Good, Dead, MayLeave, IsSameOrDead, cell_at}
 use Rattle.model_medium.specs.World.{World}
 use Rattle.model_stops.specs.Stops.{Continues, Stops}
 use Rattle.model_stops.specs.declared.Stop.{Stop}
-use Rattle.model_copies.specs.Copies.{IsArea, good_count}
-
--- Which copies were exact, where a test says which cells are exactly the text.
-module _ (exact : Cell → Type 0) (place : ℕ → ℕ) (old new : List Cell) where
-  -- The copy was exactly the text when it was read: it was at entry, and is it now. (This project's own, as all here.)
-  abbrev pub WasExact : ℕ → Type 0
-  WasExact area = exact (cell_at old (place area)) × exact (cell_at new (place area))
-
-  -- Of the copies of the first so many areas, so many were not exactly the text when they were read.
-  abbrev pub Rewrites : ℕ → ℕ → Type 0
-  Rewrites zero count = count ≡ 0
-  Rewrites (suc k) count = (WasExact (suc k) × Rewrites k count) ⊎ (¬ WasExact (suc k) × ((before : ℕ) × (count ≡ before + 1) × Rewrites k before))
+use Rattle.model_copies.specs.Copies.{IsArea, WasExact, Rewrites, good_count}
 
 -- What a repair that is stopped leaves of a cell: what a stopped write may, and a cell that is exactly the text is as
--- it was or dead.
+-- it was or dead. (This project's own, as all here.)
 abbrev pub MendLeaves : Cell → List ℕ → Cell → Type 0
 MendLeaves old text cell = MayLeave old text cell × (old ≡ Good text → IsSameOrDead old cell)
 

@@ -2,10 +2,9 @@
 
 ghost use Rattle.std.specs.Prelude.{◌≡◌, ℕ, List, Option, Some};
 ghost use Rattle.model_medium.specs.Cells.{Cell, cell_at};
-ghost use Rattle.model_copies.specs.Copies.{IsArea, Holds, MayHold, AreBetween};
+ghost use Rattle.model_copies.specs.Copies.{IsArea, MayHold, AreBetween};
 ghost use Rattle.ram_zones.specs.declared.list_kind.ListKind.{ListKind};
 ghost use Rattle.ram_copies.specs.Values.{ListValue, IsText, IsInGrammar, Decodes};
-ghost use Rattle.ram_copies.specs.Repairs.{Rewrites};
 
 /// Each list of the grammar has just one text, and each block is the text of at most one value, which is of the
 /// grammar.
@@ -33,11 +32,4 @@ pub fn a_stopped_update_leaves_one_or_the_other()
         → ((area : ℕ) → IsArea area
         → MayHold (IsText kind) (cell_at old (place area)) b (cell_at new (place area)))
         → AreBetween (IsText kind) place new a b }
-{}
-
-/// The number of copies that were not exactly the text when they were read is one number, by the cells before and after.
-pub fn rewritten_copies_are_one_number()
-    ensures { (kind : ListKind) (v : ListValue) (place : ℕ → ℕ) (old new : List Cell) (k m n : ℕ)
-        → Rewrites (λ cell. Holds (IsText kind) cell v) place old new k m
-        → Rewrites (λ cell. Holds (IsText kind) cell v) place old new k n → m ≡ n }
 {}

@@ -17,7 +17,7 @@ pub use blocks::{Accept, ListBlock};
 pub use choice::{Chosen, choose};
 pub use laws::{
     a_stopped_update_leaves_one_or_the_other, decoding_gives_what_was_encoded,
-    rewritten_copies_are_one_number, texts_of_lists_are_exact,
+    texts_of_lists_are_exact,
 };
 pub use scratch::Scratch;
 pub use updates::{Updated, repair, update};

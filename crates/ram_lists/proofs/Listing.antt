@@ -1,20 +1,21 @@
 -- The entries of a secondary defect list, one after another.
-use Rattle.std.proofs.Common.{◌≡◌, ◌≢◌, ◌⊎◌, ℕ, zero, suc, ◌+◌, ◌-◌, ◌<◌, ◌≤◌, inl, inr, Bool, true, IsTrue, eqb, List, [], ◌∷◌, length, get_or, Option, Some, None, IfSome, refl, sym, ap, ◌∙◌, subst, arith}
-use Rattle.std.specs.Prelude.{slice_get, option_and_then}
+use Rattle.std.proofs.Common.{◌≡◌, ◌≢◌, ℕ, zero, suc, ◌+◌, ◌-◌, ◌<◌, ◌≤◌, inl, inr, eqb, List, [], ◌∷◌, length, get_or, Option, Some, None, IfSome, refl, sym, ap, ◌∙◌, subst, arith}
+use Rattle.std.specs.Prelude.{option_and_then}
 use Rattle.std.specs.List.{All, AllPairs, Contains, IsDistinct, cons_option}
 use Rattle.std.specs.List.Sorted.{IsStrictlyIncreasing}
 use Rattle.std.proofs.lemmas.Bool.{cases_eq, cases_lt}
 use Rattle.std.proofs.lemmas.Bool.Decides.{Decides-eqb}
 use Rattle.std.proofs.lemmas.List.{length-map, get_or-map, get_or_default}
-use Rattle.std.proofs.lemmas.List.Elements.{All-cons, All-map, All-contains, All-from_get_or, Contains-get_or}
+use Rattle.std.proofs.lemmas.List.Elements.{All-cons, All-map, All-contains}
 use Rattle.std.proofs.lemmas.List.Kept.{AllPairs-cons}
 use Rattle.std.proofs.lemmas.Map.Made.{IsDistinct-from_AllPairs}
 use Rattle.std.proofs.lemmas.Option.{slice_get-get_or}
 use Rattle.model_geometry.specs.Geometry.{Shape}
 use Rattle.model_lists.specs.declared.sdl.SdlEntry.{SdlEntry}
 use Rattle.model_lists.specs.Values.{defectives, IsEntryOf}
-use Rattle.model_places.specs.Places.{Lists, unslipped, logical_blocks, spares, replacements}
+use Rattle.model_places.specs.Places.{Lists, unslipped, spares, replacements}
 use Rattle.model_places.specs.Valid.{IsValidSsa, IsValidSdl}
+use Rattle.model_places.proofs.Listed.{All-listed, listed-All}
 use Rattle.model_places.proofs.Homes.{Contains-cons_option, Contains-cons_option_first, IsDistinct-cons_option, alone_in_cons_option}
 use Rattle.ram_lists.specs.Entries.{MayReplace, IsEntryValid, IsNamedWithin, AreApart, replacement_at}
 
@@ -188,19 +189,19 @@ module _ (shape : Shape) (lists : Lists) where
   pub sdl_valid : IsValidSsa shape lists.sdl.ssa → IsStrictlyIncreasing (defectives lists.sdl.entries) → All (IsEntryValid shape lists) lists.sdl.entries → IsDistinct eqb (replacements lists.sdl.entries) → IsValidSdl shape lists
   sdl_valid area rising all different = record {
     area = area;
-    within = All-map (Contains (unslipped shape lists.dds)) (λ (e : SdlEntry). e.defective) lists.sdl.entries (λ k d below. (all k d below).within);
+    within = listed-All (unslipped shape lists.dds) (defectives lists.sdl.entries) (All-map (Contains (unslipped shape lists.dds)) (λ (e : SdlEntry). e.defective) lists.sdl.entries (λ k d below. (all k d below).within));
     rising = rising;
     logical_replaced = λ k d below. (all k d below).replaced;
     spares_retired = λ k d below. (all k d below).retired;
-    from_spares = spread (Contains (spares shape lists)) lists.sdl.entries (λ k d below. first_of (get_or lists.sdl.entries k d).replacement (all k d below).sound);
+    from_spares = listed-All (spares shape lists) (replacements lists.sdl.entries) (spread (Contains (spares shape lists)) lists.sdl.entries (λ k d below. first_of (get_or lists.sdl.entries k d).replacement (all k d below).sound));
     different = different;
     sound = spread (λ b. ¬ Contains (defectives lists.sdl.entries) b) lists.sdl.entries (λ k d below. second_of (get_or lists.sdl.entries k d).replacement (all k d below).sound);
   }
 
   pub entries_valid : IsValidSdl shape lists → All (IsEntryValid shape lists) lists.sdl.entries
   entries_valid v k d below = record {
-    within = subst (Contains (unslipped shape lists.dds)) (block_at lists.sdl.entries k d below) (v.within k 0 (omega (arith, below, long lists.sdl.entries)));
+    within = subst (Contains (unslipped shape lists.dds)) (block_at lists.sdl.entries k d below) (All-listed (unslipped shape lists.dds) (defectives lists.sdl.entries) v.within k 0 (omega (arith, below, long lists.sdl.entries)));
     replaced = v.logical_replaced k d below;
     retired = v.spares_retired k d below;
-    sound = both_of (get_or lists.sdl.entries k d).replacement (gather (Contains (spares shape lists)) lists.sdl.entries v.from_spares k d below) (gather (λ b. ¬ Contains (defectives lists.sdl.entries) b) lists.sdl.entries v.sound k d below);
+    sound = both_of (get_or lists.sdl.entries k d).replacement (gather (Contains (spares shape lists)) lists.sdl.entries (All-listed (spares shape lists) (replacements lists.sdl.entries) v.from_spares) k d below) (gather (λ b. ¬ Contains (defectives lists.sdl.entries) b) lists.sdl.entries v.sound k d below);
   }

@@ -1,26 +1,16 @@
 -- What a block's place says of it as a spare, and of an entry that names it.
-use Rattle.std.proofs.Common.{◌≡◌, ℕ, ◌<◌, Bool, IsTrue, not, Option, Some, None, refl, sym, ap, ◌∙◌, subst}
-use Rattle.std.specs.List.{All, Contains}
-use Rattle.std.proofs.lemmas.Bool.{true≢false, not-true}
+use Rattle.std.proofs.Common.{ℕ, Bool, IsTrue, Option, Some, None, refl, subst}
+use Rattle.std.specs.List.{Contains}
 use Rattle.std.proofs.lemmas.List.Elements.{Contains-append_left, Contains-append_right}
-use Rattle.model_geometry.specs.Geometry.{Shape, data_blocks}
-use Rattle.model_lists.specs.declared.sdl.SdlEntry.{SdlEntry}
-use Rattle.model_lists.specs.Values.{Dds}
-use Rattle.model_places.specs.Places.{Lists, is_listed, slipped, unslipped, logical_blocks, primary_spares, supplementary_spares, spares}
+use Rattle.model_geometry.specs.Geometry.{Shape}
+use Rattle.model_places.specs.Places.{Lists, unslipped, logical_blocks, primary_spares, supplementary_spares, spares}
 use Rattle.model_places.specs.Valid.{IsValidPdl, IsValidSsa}
-use Rattle.model_places.proofs.Listed.{Decides-is_listed, Contains-from_filter}
 use Rattle.model_places.proofs.Pools.{unslipped_are_data, Contains-logical_block, logical_is_no_spare, logical_is_unslipped, spare_is_unslipped}
 use Rattle.ram_slip.specs.declared.place.Place.{Place}
 use Rattle.ram_slip.specs.declared.place.Place.TheVariants as places
 use Rattle.ram_slip.specs.Place.{IsAtPlace}
-use Rattle.ram_lists.specs.Entries.{MayReplace, IsEntryValid, IsValidAt}
-
--- a block that is not slipped is none that is slipped
-not_slipped : (shape : Shape) (dds : Dds) (b : ℕ) → Contains (unslipped shape dds) b → ¬ Contains (slipped dds) b
-unfolding unslipped
-not_slipped shape dds b has listed =
-    let passes = (Contains-from_filter (λ block. not (is_listed (slipped dds) block)) (data_blocks shape) b has).0 in
-    true≢false (sym ((Decides-is_listed (slipped dds) b).1 listed) ∙ not-true (is_listed (slipped dds) b) passes)
+use Rattle.ram_slip.proofs.OnePlace.{not_slipped}
+use Rattle.ram_lists.specs.Entries.{IsEntryValid, IsValidAt}
 
 module _ (shape : Shape) (lists : Lists) (valid : IsValidPdl shape lists.dds) (area : IsValidSsa shape lists.sdl.ssa) (block : ℕ) where
   pub primary_spare : IsAtPlace shape lists.dds lists.sdl.ssa block places.Primary → Contains (spares shape lists) block

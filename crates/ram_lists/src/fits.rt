@@ -35,7 +35,7 @@ pub struct SdlFits<'a, 'b> {
     pub geometry: &'a Geometry,
     /// The structure.
     pub dds: &'b DdsPdl,
-    ghost valid: { ¬ ¬ IsValidPdl geometry.now (dds_of dds.now) } by { Prim.hlevel props },
+    ghost valid: { IsValidPdl geometry.now (dds_of dds.now) } by { Prim.hlevel props },
 }
 
 impl<'a, 'b> Accept<Sdl> for SdlFits<'a, 'b> {

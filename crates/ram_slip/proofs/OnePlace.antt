@@ -2,19 +2,19 @@
 use Rattle.std.proofs.Common.{◌≡◌, ℕ, ◌-◌, not, length, refl, sym, ap, ◌∙◌, subst, arith}
 use Rattle.std.specs.List.{Contains}
 use Rattle.std.proofs.lemmas.Bool.{true≢false, not-true}
-use Rattle.std.proofs.lemmas.List.Elements.{All-contains, Contains-append_left, Contains-append_right}
+use Rattle.std.proofs.lemmas.List.Elements.{Contains-append_left, Contains-append_right}
 use Rattle.model_geometry.specs.Geometry.{Shape, data_blocks}
 use Rattle.model_lists.specs.Values.{Dds}
 use Rattle.model_places.specs.Places.{unreplaced, is_listed, slipped, unslipped, primary_count, logical_blocks, primary_spares, supplementary_spares, spares}
 use Rattle.model_places.specs.Valid.{IsValidPdl, IsValidSsa}
-use Rattle.model_places.proofs.Listed.{Decides-is_listed, Contains-from_filter, StandsWithin-take, StandsWithin-drop, parts_apart}
+use Rattle.model_places.proofs.Listed.{Decides-is_listed, one_listed, Contains-from_filter, StandsWithin-take, StandsWithin-drop, parts_apart}
 use Rattle.model_places.proofs.Pools.{unslipped_rise, unslipped_are_data, pools_are_all, Contains-logical_block, logical_block_differs, logical_is_no_spare, logical_is_unslipped, spare_is_unslipped}
 use Rattle.ram_slip.specs.declared.place.Place.{Place}
 use Rattle.ram_slip.specs.declared.place.Place.TheVariants as places
 use Rattle.ram_slip.specs.Place.{IsAtPlace}
 
 -- a block that is not slipped is none that is slipped
-not_slipped : (shape : Shape) (dds : Dds) (b : ℕ) → Contains (unslipped shape dds) b → ¬ Contains (slipped dds) b
+pub not_slipped : (shape : Shape) (dds : Dds) (b : ℕ) → Contains (unslipped shape dds) b → ¬ Contains (slipped dds) b
 unfolding unslipped
 not_slipped shape dds b has listed =
     let passes = (Contains-from_filter (λ block. not (is_listed (slipped dds) block)) (data_blocks shape) b has).0 in
@@ -47,7 +47,7 @@ module _ (shape : Shape) (dds : Dds) (ssa block : ℕ) (valid : IsValidPdl shape
       (StandsWithin-take u (primary_count shape dds) block first) (StandsWithin-drop u (length u - ssa) block last)
 
   slipped_data : Contains (slipped dds) block → Contains (data_blocks shape) block
-  slipped_data has = All-contains (Contains (data_blocks shape)) (slipped dds) block valid.data_only has
+  slipped_data has = one_listed (data_blocks shape) (slipped dds) valid.data_only block has
 
   -- by cases on both places
   pub one_place : (a b : Place) → IsAtPlace shape dds ssa block a → IsAtPlace shape dds ssa block b → a ≡ b

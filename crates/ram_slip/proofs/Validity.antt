@@ -10,7 +10,9 @@ use Rattle.model_geometry.specs.Geometry.{Shape, data_blocks}
 use Rattle.model_geometry.proofs.DataBlocks.{Contains-slice_get}
 use Rattle.model_lists.specs.declared.dds.PdlEntry.{PdlEntry}
 use Rattle.model_lists.specs.Values.{Dds, pdl_blocks}
+use Rattle.model_places.specs.Places.{AreListed}
 use Rattle.model_places.specs.Valid.{IsValidPdl}
+use Rattle.model_places.proofs.Listed.{All-listed, listed-All}
 use Rattle.ram_slip.proofs.Named.{block_at}
 
 long : (entries : List PdlEntry) → length (pdl_blocks entries) ≡ length entries
@@ -69,9 +71,9 @@ pub valid_if_data : (shape : Shape) (dds : Dds) (entries : List PdlEntry) (psa l
 valid_if_data shape dds entries psa limit found same named psa_is few limit_is rise tells = (
   λ t. record {
     same_psa = named ∙ psa_is;
-    data_only = subst (λ (es : List PdlEntry). All (Contains (data_blocks shape)) (pdl_blocks es)) same (tells.0 t);
+    data_only = subst (λ (es : List PdlEntry). AreListed (data_blocks shape) (pdl_blocks es)) same (listed-All (data_blocks shape) (pdl_blocks entries) (tells.0 t));
     rising = subst (λ (es : List PdlEntry). IsStrictlyIncreasing (pdl_blocks es)) same rise;
     few = omega (arith, few, limit_is, ap (λ (es : List PdlEntry). length es) same);
   },
-  λ valid. tells.1 (subst (λ (es : List PdlEntry). All (Contains (data_blocks shape)) (pdl_blocks es)) (sym same) valid.data_only),
+  λ valid. tells.1 (All-listed (data_blocks shape) (pdl_blocks entries) (subst (λ (es : List PdlEntry). AreListed (data_blocks shape) (pdl_blocks es)) (sym same) valid.data_only)),
 )
