@@ -2,7 +2,7 @@ use Rattle.std.proofs.Common.{◌∙◌, sym}
 use Rattle.std.proofs.lemmas.Bool.{true≢false}
 use Rattle.std.proofs.lemmas.Result.{err_from_is_err_and}
 use Rattle.ram_copies.proofs.Mending.{stops_reading, mended_as_was, mended_unread, mended_other}
-use Rattle.ram_copies.proofs.repairs.mend_copy.Goals as goal
+use Rattle.ram_copies.proofs.repairs.mend_block.Goals as goal
 
 pub returns-in_err-read_whole-clause-rule : goal.returns-in_err-read_whole-clause-rule
 returns-in_err-read_whole-clause-rule g c =
