@@ -2,3 +2,4 @@ pub mod Merging
 pub mod Phases
 pub mod Full
 pub mod Rooms
+pub mod Rewriting

@@ -6,5 +6,7 @@ mod ends;
 mod full;
 mod merging;
 mod phases;
+mod rewriting;
 
 pub use full::{FullEnd, full_format};
+pub use rewriting::{Rewritten, rewrite};
