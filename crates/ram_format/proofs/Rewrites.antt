@@ -164,17 +164,27 @@ module _ {M : Type 0} (world : M → World) (block_count : M → ℕ) (reaches :
           both = record {
             was_on = did.repairs.ends.was_on;
             dds_uses = 4 + 2 * did.repairs.rewritten;
-            dds = record { rewritten = did.repairs.rewritten; few = did.repairs.few; uses_are = refl; rewrites = λ known.
-                rewrites_like (λ (c : Cell). Holds IsDdsText c lists.dds) (dds_block shape) (world old).cells (world one).cells (λ (c : Cell). Holds IsDdsText c lists.dds) (dds_block shape) (world old).cells (world two).cells 4 did.repairs.rewritten
-                (λ area some most was. (was.0, subst (λ (c : Cell). Holds IsDdsText c lists.dds) (sym (dds_stay one two done.repairs.ends.alone area)) was.1))
-                (λ area some most was. (was.0, subst (λ (c : Cell). Holds IsDdsText c lists.dds) (dds_stay one two done.repairs.ends.alone area) was.1))
-                (dds_rewritten shape (world old).cells (world one).cells lists.dds did.repairs.rewritten (did.repairs.rewrites known)) };
+            dds = record {
+              rewritten = did.repairs.rewritten;
+              few = did.repairs.few;
+              uses_are = refl;
+              rewrites = λ known.
+                  rewrites_like (λ (c : Cell). Holds IsDdsText c lists.dds) (dds_block shape) (world old).cells (world one).cells (λ (c : Cell). Holds IsDdsText c lists.dds) (dds_block shape) (world old).cells (world two).cells 4 did.repairs.rewritten
+                  (λ area some most was. (was.0, subst (λ (c : Cell). Holds IsDdsText c lists.dds) (sym (dds_stay one two done.repairs.ends.alone area)) was.1))
+                  (λ area some most was. (was.0, subst (λ (c : Cell). Holds IsDdsText c lists.dds) (dds_stay one two done.repairs.ends.alone area) was.1))
+                  (dds_rewritten shape (world old).cells (world one).cells lists.dds did.repairs.rewritten (did.repairs.rewrites known));
+            };
             sdl_uses = 4 + 2 * done.repairs.rewritten;
-            sdl = record { rewritten = done.repairs.rewritten; few = done.repairs.few; uses_are = refl; rewrites = λ known.
-                rewrites_like (λ (c : Cell). Holds IsSdlText c lists.sdl) (sdl_block shape) (world one).cells (world two).cells (λ (c : Cell). Holds IsSdlText c lists.sdl) (sdl_block shape) (world old).cells (world two).cells 4 done.repairs.rewritten
-                (λ area some most was. (subst (λ (c : Cell). Holds IsSdlText c lists.sdl) (sdl_stay old one did.repairs.ends.alone area) was.0, was.1))
-                (λ area some most was. (subst (λ (c : Cell). Holds IsSdlText c lists.sdl) (sym (sdl_stay old one did.repairs.ends.alone area)) was.0, was.1))
-                (sdl_rewritten shape (world one).cells (world two).cells lists.sdl done.repairs.rewritten (done.repairs.rewrites (did.repairs.ends.alone.as_known ∙ known))) };
+            sdl = record {
+              rewritten = done.repairs.rewritten;
+              few = done.repairs.few;
+              uses_are = refl;
+              rewrites = λ known.
+                  rewrites_like (λ (c : Cell). Holds IsSdlText c lists.sdl) (sdl_block shape) (world one).cells (world two).cells (λ (c : Cell). Holds IsSdlText c lists.sdl) (sdl_block shape) (world old).cells (world two).cells 4 done.repairs.rewritten
+                  (λ area some most was. (subst (λ (c : Cell). Holds IsSdlText c lists.sdl) (sdl_stay old one did.repairs.ends.alone area) was.0, was.1))
+                  (λ area some most was. (subst (λ (c : Cell). Holds IsSdlText c lists.sdl) (sym (sdl_stay old one did.repairs.ends.alone area)) was.0, was.1))
+                  (sdl_rewritten shape (world one).cells (world two).cells lists.sdl done.repairs.rewritten (done.repairs.rewrites (did.repairs.ends.alone.as_known ∙ known)));
+            };
             continues = continues_then world block_count reaches laws old one two (4 + 2 * did.repairs.rewritten) (4 + 2 * done.repairs.rewritten) did.repairs.ends.continues done.repairs.ends.continues;
             counts = record { stays_on = done.repairs.ends.counts.stays_on; no_cut = done.repairs.ends.counts.no_cut ∙ did.repairs.ends.counts.no_cut; no_fault = done.repairs.ends.counts.no_fault ∙ did.repairs.ends.counts.no_fault };
             as_known = done.repairs.ends.alone.as_known ∙ did.repairs.ends.alone.as_known;

@@ -10,3 +10,6 @@ mod rewriting;
 
 pub use full::{FullEnd, full_format};
 pub use rewriting::{Rewritten, rewrite};
+
+#[cfg(test)]
+mod tests;

@@ -44,7 +44,13 @@ pub fn merge(kept: &[PdlEntry], found: &[u32], kind: PdlKind, entries: &mut Vec<
             put(entries, kept[i]);
             i += 1;
         } else {
-            put(entries, PdlEntry { kind, block: found[j] });
+            put(
+                entries,
+                PdlEntry {
+                    kind,
+                    block: found[j],
+                },
+            );
             j += 1;
         }
     }

@@ -22,7 +22,7 @@ room_for_all psa kept count most room few = omega (arith, room, few)
 pub returns-then-psa-all-clause-rule : goal.returns-then-psa-all-clause-rule
 returns-then-psa-all-clause-rule g c = (
   finds_many g.M.Medium.world g.M.Medium.reaches c.args.geometry.now c.args.kept.now c.requires.kept c.args.kind c.args.medium.now c.certify.new.medium _ c.in-Done.count _ c.in-Done.ensures.rule
-  (length c.args.kept.now + c.in-Done.count) refl (rw c.psa-psa.ensures.spares at c.if-psa-all.true),
+      (length c.args.kept.now + c.in-Done.count) refl (rw c.psa-psa.ensures.spares at c.if-psa-all.true),
   refl,
 )
 
