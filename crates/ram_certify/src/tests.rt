@@ -146,7 +146,8 @@ fn dead_blocks_are_found_and_the_others_have_zeros(rt: HostRuntime) -> Result<()
 #[test]
 fn a_cut_at_any_use_leaves_the_blocks_behind_it(rt: HostRuntime) -> Result<(), Fail> {
     let alloc = rt.alloc();
-    for (k, fate) in (1..47u32).zip(FATES.into_iter().cycle()) {
+    for k in 1..47u32 {
+        let fate = FATES[k as usize % 3];
         let mut disc = Disc::new(alloc, &[])?;
         disc.medium.arm_cut(k, fate);
         let (ended, found) = disc.certify(alloc, &[], 4)?;
