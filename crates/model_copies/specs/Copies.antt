@@ -79,6 +79,12 @@ module _ {V : Type 0} (text : V → List ℕ → Type 0) where
       pub within : IsMarkedWithin mark_of mark
       pub reached : (mark ≡ 0) ⊎ IsMarked mark_of mark
 
+  -- The copies of a list hold nothing new: each cell is as it was, or torn or dead, or holds what some copy held before.
+  -- (This project's own.)
+  abbrev pub HoldNothingNew : (ℕ → ℕ) → List Cell → List Cell → Type 0
+  HoldNothingNew place old new = (area : ℕ) → IsArea area → (cell_at new (place area) ≡ cell_at old (place area)) ⊎ (cell_at new (place area) ≡ Torn)
+      ⊎ (cell_at new (place area) ≡ Dead) ⊎ ((value : V) × (at : ℕ) × HasCopy place old value at × Holds (cell_at new (place area)) value)
+
 -- The disc's copy of its disc definition structure in this area is the text of this value. (After ECMA-330.)
 abbrev pub HasDdsCopy : Shape → List Cell → Dds → ℕ → Type 0
 HasDdsCopy shape cells value area = HasCopy IsDdsText (dds_block shape) cells value area
@@ -87,11 +93,16 @@ HasDdsCopy shape cells value area = HasCopy IsDdsText (dds_block shape) cells va
 abbrev pub HasSdlCopy : Shape → List Cell → Sdl → ℕ → Type 0
 HasSdlCopy shape cells value area = HasCopy IsSdlText (sdl_block shape) cells value area
 
+-- No readable copy of a disc definition structure has, and no readable secondary list names, a greater counter of a
+-- structure than this. (This project's own.)
+pub record AreMarkedWithin (shape : Shape) (cells : List Cell) (most : ℕ) : Type 0 where
+  pub dds : IsMarkedWithin IsDdsText (dds_block shape) cells (λ (list : Dds). list.counter) most
+  pub sdl : IsMarkedWithin IsSdlText (sdl_block shape) cells (λ (list : Sdl). list.dds_counter) most
+
 -- The mark of a disc: the greatest counter of a disc definition structure that a readable copy of one has or that a
 -- readable secondary list names, and 0 where there is none. (This project's own.)
 pub record Mark (shape : Shape) (cells : List Cell) (mark : ℕ) : Type 0 where
-  pub dds : IsMarkedWithin IsDdsText (dds_block shape) cells (λ (list : Dds). list.counter) mark
-  pub sdl : IsMarkedWithin IsSdlText (sdl_block shape) cells (λ (list : Sdl). list.dds_counter) mark
+  pub within : AreMarkedWithin shape cells mark
   pub reached : (mark ≡ 0) ⊎ IsMarked IsDdsText (dds_block shape) cells (λ (list : Dds). list.counter) mark
       ⊎ IsMarked IsSdlText (sdl_block shape) cells (λ (list : Sdl). list.dds_counter) mark
 

@@ -1,5 +1,5 @@
 -- Which lists cells may give.
-use Rattle.std.specs.Prelude.{◌≡◌, ℕ, ◌<◌, ◌≤◌, ◌⊎◌, List}
+use Rattle.std.specs.Prelude.{◌≡◌, ℕ, ◌<◌, ◌≤◌, ◌⊎◌, Option, Some, None, List}
 use Rattle.std.proofs.Common.{refl, sym, ap, ◌∙◌, inl, inr, subst, arith}
 use Rattle.model_geometry.specs.Geometry.{Shape, dds_block, sdl_block}
 use Rattle.model_lists.specs.declared.dds.DdsState.TheVariants.{Formatting, Formatted}
@@ -8,11 +8,12 @@ use Rattle.model_lists.specs.Texts.{IsDdsText, IsSdlText}
 use Rattle.model_lists.proofs.DdsTexts as dds_texts
 use Rattle.model_lists.proofs.SdlTexts as sdl_texts
 use Rattle.model_medium.specs.Cells.{Cell, IsSameOrDead, cell_at}
-use Rattle.model_copies.specs.Copies.{IsArea, Holds, MayHold, HasCopy, HasDdsCopy, HasSdlCopy, Settled, AreBetween, IsChosen, Mark}
-use Rattle.model_copies.proofs.CopyFacts.{OneValue, copy_before, copy_seen, copy_settled, copy_between, one_held, one_list}
+use Rattle.model_copies.specs.Copies.{IsArea, MayHold, HoldNothingNew, HasDdsCopy, HasSdlCopy, Settled, AreBetween, IsChosen, AreMarkedWithin, Mark}
+use Rattle.model_copies.proofs.CopyFacts.{OneValue, copy_before, copy_settled, copy_between, one_list}
+use Rattle.model_copies.proofs.NothingNew.{nothing_new_from_dead, nothing_new_from_write, held_before}
 use Rattle.model_places.specs.Places.{Lists}
 use Rattle.model_places.specs.Valid.{IsValidPdl, AreValid}
-use Rattle.model_volume.specs.Given.{IsGiven, GivesNone, FitsDds, IsChosenDds, IsChosenSdl, AreChosen, ChoosesNone, NoDdsChosen, NoSdlChosen, AreSettled, AreSeen}
+use Rattle.model_volume.specs.Given.{IsGiven, GivesNone, FitsDds, IsChosenDds, IsChosenSdl, AreChosen, ChoosesNone, NoDdsChosen, NoSdlChosen, LacksLists, AreSettled, AreSeen}
 
 abbrev pub lists_of : Dds → Sdl → Lists
 lists_of dds sdl = record { dds = dds; sdl = sdl }
@@ -65,20 +66,14 @@ one_pair shape cells one two a b =
     let sdl = one_sdl shape cells one.dds one.sdl two.sdl a.sdl_area b.sdl_area a.sdl_chosen (subst (λ (d : Dds). IsChosenSdl shape cells d two.sdl b.sdl_area) (sym dds) b.sdl_chosen) in
     same_lists one two dds sdl
 
--- the three ways in which a choice gives none
-pub none_without_dds : (shape : Shape) (cells : List Cell) → NoDdsChosen shape cells → ChoosesNone shape cells
-none_without_dds shape cells none = λ lists chosen. none lists.dds chosen.dds_area chosen.dds_chosen.copy chosen.dds_chosen.fits
-
-pub none_formatting : (shape : Shape) (cells : List Cell) (dds : Dds) (area : ℕ) → IsChosenDds shape cells dds area → dds.state ≡ Formatting → ChoosesNone shape cells
-none_formatting shape cells dds area is state = λ lists chosen.
-    let same = one_dds shape cells lists.dds dds chosen.dds_area area chosen.dds_chosen is in
-    let says : Formatted ≡ Formatting = sym chosen.formatted ∙ ap (λ (d : Dds). d.state) same ∙ state in
-    cc
-
-pub none_without_sdl : (shape : Shape) (cells : List Cell) (dds : Dds) (area : ℕ) → IsChosenDds shape cells dds area → NoSdlChosen shape cells dds → ChoosesNone shape cells
-none_without_sdl shape cells dds area is none = λ lists chosen.
-    let same = one_dds shape cells lists.dds dds chosen.dds_area area chosen.dds_chosen is in
-    none lists.sdl chosen.sdl_area chosen.sdl_chosen.copy (subst (λ (d : Dds). FitsDds shape d lists.sdl) same chosen.sdl_chosen.fits)
+-- what a choice lacks that gives none
+pub none_lacking : (shape : Shape) (cells : List Cell) (dds : Option Dds) → LacksLists shape cells dds → ChoosesNone shape cells
+none_lacking shape cells None none = λ lists chosen. none lists.dds chosen.dds_area chosen.dds_chosen.copy chosen.dds_chosen.fits
+none_lacking shape cells (Some dds) ((area, is), why) = λ lists chosen. by_cause lists chosen (one_dds shape cells lists.dds dds chosen.dds_area area chosen.dds_chosen is) why
+  where
+    by_cause : (lists : Lists) → AreChosen shape cells lists → lists.dds ≡ dds → (dds.state ≡ Formatting) ⊎ NoSdlChosen shape cells dds → ⊥
+    by_cause lists chosen same (inl state) = (let says : Formatted ≡ Formatting = sym chosen.formatted ∙ ap (λ (d : Dds). d.state) same ∙ state in cc)
+    by_cause lists chosen same (inr none) = none lists.sdl chosen.sdl_area chosen.sdl_chosen.copy (subst (λ (d : Dds). FitsDds shape d lists.sdl) same chosen.sdl_chosen.fits)
 
 -- ---- what is given
 
@@ -99,11 +94,14 @@ given_before shape old new lists dds sdl given = record {
 pub given_seen : (shape : Shape) (old seen new : List Cell) (lists : Lists) → AreSeen shape old seen new → IsGiven shape seen lists → IsGiven shape old lists
 given_seen shape old seen new lists sees given = record {
   dds_area = given.dds_area;
-  dds_copy = copy_seen IsDdsText (dds_block shape) old seen new lists.dds given.dds_area sees.dds given.dds_copy;
+  dds_copy = copy_before IsDdsText (dds_block shape) old seen lists.dds given.dds_area (was_or_dead (dds_block shape given.dds_area)) given.dds_copy;
   sdl_area = given.sdl_area;
-  sdl_copy = copy_seen IsSdlText (sdl_block shape) old seen new lists.sdl given.sdl_area sees.sdl given.sdl_copy;
+  sdl_copy = copy_before IsSdlText (sdl_block shape) old seen lists.sdl given.sdl_area (was_or_dead (sdl_block shape given.sdl_area)) given.sdl_copy;
   valid = given.valid;
 }
+  where
+    was_or_dead : (block : ℕ) → IsSameOrDead (cell_at old block) (cell_at seen block)
+    was_or_dead block = elim (sees block) [ inl same ↦ inl same | inr dead ↦ inr dead.0 ]
 
 -- settled lists are given alone
 pub settled_alone : (shape : Shape) (cells : List Cell) (lists other : Lists) → AreSettled shape cells lists → IsGiven shape cells other → other ≡ lists
@@ -154,56 +152,40 @@ bare_without_sdl shape cells dds settled none = λ lists given.
     let same = copy_settled IsDdsText dds_texts.one_value (dds_block shape) cells dds lists.dds given.dds_area settled given.dds_copy in
     none lists.sdl given.sdl_area given.sdl_copy (subst (λ (d : Dds). FitsDds shape d lists.sdl) same given.valid.together)
 
--- ---- a repair that may be stopped
+-- ---- copies that are written again after others
 
-module _ {V : Type 0} (text : V → List ℕ → Type 0) (one_value : OneValue text) (place : ℕ → ℕ) (old new : List Cell) (chosen : V) (home : ℕ) (copy : HasCopy text place old chosen home)
-    (left : (area : ℕ) → IsArea area → MayHold text (cell_at old (place area)) chosen (cell_at new (place area))) where
-  -- a copy that holds a value now, after copies were written with the chosen one's text: some copy held it before
-  pub copy_spread : (v : V) (area : ℕ) → HasCopy text place new v area → (at : ℕ) × HasCopy text place old v at
-  copy_spread v area now = by_cases (left area now.is_area)
-    where
-      by_cases : MayHold text (cell_at old (place area)) chosen (cell_at new (place area)) → (at : ℕ) × HasCopy text place old v at
-      by_cases (inl same) = (area, record { is_area = now.is_area; holds = subst (λ (c : Cell). Holds text c v) same now.holds })
-      by_cases (inr (inl held)) =
-          let e : v ≡ chosen = one_held text one_value (cell_at new (place area)) v chosen now.holds held in
-          (home, subst (λ (w : V). HasCopy text place old w home) (sym e) copy)
-      by_cases (inr (inr (inl torn))) = absurd (subst (λ (c : Cell). Holds text c v) torn now.holds)
-      by_cases (inr (inr (inr dead))) = absurd (subst (λ (c : Cell). Holds text c v) dead now.holds)
-
--- a cell that is the same or dead is one that a write may leave
-pub may_hold : {V : Type 0} (text : V → List ℕ → Type 0) (old new : Cell) (v : V) → IsSameOrDead old new → MayHold text old v new
-may_hold text old new v (inl same) = inl same
-may_hold text old new v (inr dead) = inr (inr (inr dead))
+pub given_others : (shape : Shape) (old new : List Cell) → HoldNothingNew IsDdsText (dds_block shape) old new → HoldNothingNew IsSdlText (sdl_block shape) old new
+    → (lists : Lists) → IsGiven shape new lists → IsGiven shape old lists
+given_others shape old new dds sdl lists given =
+    let was = held_before IsDdsText (dds_block shape) old new dds lists.dds given.dds_area given.dds_copy dds_texts.one_value in
+    let was' = held_before IsSdlText (sdl_block shape) old new sdl lists.sdl given.sdl_area given.sdl_copy sdl_texts.one_value in
+    record { dds_area = was.0; dds_copy = was.1; sdl_area = was'.0; sdl_copy = was'.1; valid = given.valid }
 
 -- while the copies of both chosen lists are repaired, what is given was given before
 pub given_in_repair : (shape : Shape) (old new : List Cell) (chosen : Lists) (a b : ℕ) → HasDdsCopy shape old chosen.dds a → HasSdlCopy shape old chosen.sdl b
     → ((area : ℕ) → IsArea area → MayHold IsDdsText (cell_at old (dds_block shape area)) chosen.dds (cell_at new (dds_block shape area)))
     → ((area : ℕ) → IsArea area → MayHold IsSdlText (cell_at old (sdl_block shape area)) chosen.sdl (cell_at new (sdl_block shape area)))
     → (lists : Lists) → IsGiven shape new lists → IsGiven shape old lists
-given_in_repair shape old new chosen a b dds_copy sdl_copy dds sdl lists given =
-    let was = copy_spread IsDdsText dds_texts.one_value (dds_block shape) old new chosen.dds a dds_copy dds lists.dds given.dds_area given.dds_copy in
-    let was' = copy_spread IsSdlText sdl_texts.one_value (sdl_block shape) old new chosen.sdl b sdl_copy sdl lists.sdl given.sdl_area given.sdl_copy in
-    record { dds_area = was.0; dds_copy = was.1; sdl_area = was'.0; sdl_copy = was'.1; valid = given.valid }
+given_in_repair shape old new chosen a b dds_copy sdl_copy dds sdl =
+    given_others shape old new (nothing_new_from_write IsDdsText (dds_block shape) old new chosen.dds a dds_copy dds) (nothing_new_from_write IsSdlText (sdl_block shape) old new chosen.sdl b sdl_copy sdl)
 
 -- while the copies of a chosen structure are repaired, and the other list's copies stay or die, also
 pub given_in_dds_repair : (shape : Shape) (old new : List Cell) (chosen : Dds) (a : ℕ) → HasDdsCopy shape old chosen a
     → ((area : ℕ) → IsArea area → MayHold IsDdsText (cell_at old (dds_block shape area)) chosen (cell_at new (dds_block shape area)))
     → ((area : ℕ) → IsArea area → IsSameOrDead (cell_at old (sdl_block shape area)) (cell_at new (sdl_block shape area)))
     → (lists : Lists) → IsGiven shape new lists → IsGiven shape old lists
-given_in_dds_repair shape old new chosen a copy dds sdl lists given =
-    let was = copy_spread IsDdsText dds_texts.one_value (dds_block shape) old new chosen a copy dds lists.dds given.dds_area given.dds_copy in
-    record {
-      dds_area = was.0;
-      dds_copy = was.1;
-      sdl_area = given.sdl_area;
-      sdl_copy = copy_before IsSdlText (sdl_block shape) old new lists.sdl given.sdl_area (sdl given.sdl_area given.sdl_copy.is_area) given.sdl_copy;
-      valid = given.valid;
-    }
+given_in_dds_repair shape old new chosen a copy dds sdl =
+    given_others shape old new (nothing_new_from_write IsDdsText (dds_block shape) old new chosen a copy dds) (nothing_new_from_dead IsSdlText (sdl_block shape) old new sdl)
 
 -- settled lists that belong together have the structure's counter as the mark
-pub settled_mark : (shape : Shape) (cells : List Cell) (lists : Lists) (area : ℕ) → AreSettled shape cells lists → lists.sdl.dds_counter ≡ lists.dds.counter → HasDdsCopy shape cells lists.dds area → Mark shape cells lists.dds.counter
-settled_mark shape cells lists area settled same copy = record {
+pub settled_within : (shape : Shape) (cells : List Cell) (lists : Lists) → AreSettled shape cells lists → lists.sdl.dds_counter ≡ lists.dds.counter → AreMarkedWithin shape cells lists.dds.counter
+settled_within shape cells lists settled same = record {
   dds = λ v at c. let e = ap (λ (d : Dds). d.counter) (copy_settled IsDdsText dds_texts.one_value (dds_block shape) cells lists.dds v at settled.dds c) in omega (arith, e);
   sdl = λ v at c. let e = ap (λ (s : Sdl). s.dds_counter) (copy_settled IsSdlText sdl_texts.one_value (sdl_block shape) cells lists.sdl v at settled.sdl c) in omega (arith, e, same);
+}
+
+pub settled_mark : (shape : Shape) (cells : List Cell) (lists : Lists) (area : ℕ) → AreSettled shape cells lists → lists.sdl.dds_counter ≡ lists.dds.counter → HasDdsCopy shape cells lists.dds area → Mark shape cells lists.dds.counter
+settled_mark shape cells lists area settled same copy = record {
+  within = settled_within shape cells lists settled same;
   reached = inr (inl (record { value = lists.dds; area = area; copy = copy; has = refl }));
 }

@@ -11,6 +11,12 @@ pub mod Covering
 pub mod LookUps
 pub mod Moved
 pub mod Updates
+pub mod ListCells
 pub mod Losses
 pub mod SampleFacts
+pub mod Different
 pub mod OneProof
+pub mod ChosenFirst
+pub mod Validity
+pub mod NewLists
+pub mod Shrinks

@@ -22,7 +22,7 @@ use Rattle.model_volume.specs.Starts.{Found, IsFound, Precedes, disc_under, IsDi
 use Rattle.model_volume.specs.Moves.{IsNextSpare, tried_of}
 use Rattle.model_volume.specs.Samples.{small_shape, lists_before, lists_after, differing_cells, differing_pairs}
 use Rattle.model_volume.proofs.GivenFacts.{same_lists}
-use Rattle.model_volume.proofs.Losses.{area_cases}
+use Rattle.model_copies.proofs.CopyFacts.{area_cases}
 
 -- ---- the lists are lawful and valid
 

@@ -1,12 +1,12 @@
 -- Which lists a disc has: those that are given, those that are chosen, and those that are settled: for the mount.
-use Rattle.std.specs.Prelude.{◌≡◌, ℕ, ◌⊎◌, List, [], ◌∷◌, ◌++◌, map}
+use Rattle.std.specs.Prelude.{◌≡◌, ℕ, ◌⊎◌, Option, Some, None, List, [], ◌∷◌, ◌++◌, map}
 use Rattle.std.specs.List.{Contains}
 use Rattle.model_geometry.specs.Geometry.{Shape, dds_block, sdl_block}
-use Rattle.model_lists.specs.declared.dds.DdsState.TheVariants.{Formatted}
+use Rattle.model_lists.specs.declared.dds.DdsState.TheVariants.{Formatting, Formatted}
 use Rattle.model_lists.specs.Values.{Dds, Sdl}
 use Rattle.model_lists.specs.Texts.{IsDdsText, IsSdlText}
 use Rattle.model_medium.specs.Cells.{Cell, Dead, cell_at}
-use Rattle.model_copies.specs.Copies.{HasDdsCopy, HasSdlCopy, Settled, IsChosen, NoneChosen, IsSeen}
+use Rattle.model_copies.specs.Copies.{HasDdsCopy, HasSdlCopy, Settled, IsChosen, NoneChosen}
 use Rattle.model_places.specs.Places.{Lists}
 use Rattle.model_places.specs.Valid.{IsValidPdl, BelongTogether, AreValid}
 
@@ -59,22 +59,41 @@ NoDdsChosen shape cells = NoneChosen IsDdsText (dds_block shape) cells (IsValidP
 abbrev pub NoSdlChosen : Shape → List Cell → Dds → Type 0
 NoSdlChosen shape cells dds = NoneChosen IsSdlText (sdl_block shape) cells (FitsDds shape dds)
 
+-- Why no lists are chosen, by the structure that is chosen, if any: none is; or one is that says Formatting, or to which
+-- no secondary list belongs. (This project's own.)
+abbrev pub LacksLists : Shape → List Cell → Option Dds → Type 0
+LacksLists shape cells None = NoDdsChosen shape cells
+LacksLists shape cells (Some dds) =
+    ((area : ℕ) × IsChosenDds shape cells dds area) × ((dds.state ≡ Formatting) ⊎ NoSdlChosen shape cells dds)
+
+-- Of one counter there is one structure among the readable copies, as on a disc that one drive wrote. (This project's
+-- own.)
+abbrev pub HaveOneStructure : Shape → List Cell → Type 0
+HaveOneStructure shape cells = (v w : Dds) (a b : ℕ) → HasDdsCopy shape cells v a → HasDdsCopy shape cells w b → v.counter ≡ w.counter → v ≡ w
+
 -- Each copy of each of both lists is exactly its text, or dead. (This project's own.)
 pub record AreSettled (shape : Shape) (cells : List Cell) (lists : Lists) : Type 0 where
   pub dds : Settled IsDdsText (dds_block shape) cells lists.dds
   pub sdl : Settled IsSdlText (sdl_block shape) cells lists.sdl
 
--- What a call saw of the copies of both lists: each as it was at entry, or dead and then still dead now. (This project's
--- own.)
-pub record AreSeen (shape : Shape) (old seen new : List Cell) : Type 0 where
-  pub dds : IsSeen (dds_block shape) old seen new
-  pub sdl : IsSeen (sdl_block shape) old seen new
-
 -- the eight blocks of both lists: of each the four areas' (after ECMA-330)
 abbrev pub list_blocks : Shape → List ℕ
 list_blocks shape = map (dds_block shape) (1 ∷ 2 ∷ 3 ∷ 4 ∷ []) ++ map (sdl_block shape) (1 ∷ 2 ∷ 3 ∷ 4 ∷ [])
 
+-- the block is one of these
+abbrev pub IsListBlock : Shape → ℕ → Type 0
+IsListBlock shape block = Contains (list_blocks shape) block
+
+-- No cell changed but those of lists. (This project's own.)
+abbrev pub OnlyLists : Shape → List Cell → List Cell → Type 0
+OnlyLists shape old new = (block : ℕ) → ¬ IsListBlock shape block → cell_at new block ≡ cell_at old block
+
 -- Some cells of the lists turned dead, and nothing else changed. (This project's own.)
 abbrev pub LosesListCells : Shape → List Cell → List Cell → Type 0
 LosesListCells shape old new = (block : ℕ) → (cell_at new block ≡ cell_at old block)
-    ⊎ ((cell_at new block ≡ Dead) × Contains (list_blocks shape) block)
+    ⊎ ((cell_at new block ≡ Dead) × IsListBlock shape block)
+
+-- What a call saw of a disc: each cell as it was at entry, or a list's that was dead and still is. (This project's own.)
+abbrev pub AreSeen : Shape → List Cell → List Cell → List Cell → Type 0
+AreSeen shape old seen new = (block : ℕ) → (cell_at seen block ≡ cell_at old block)
+    ⊎ ((cell_at seen block ≡ Dead) × (cell_at new block ≡ Dead) × IsListBlock shape block)

@@ -1,15 +1,16 @@
 //! The laws about given, chosen and settled lists: functions with an empty body, of which the contract is the law.
 
-ghost use Rattle.std.specs.Prelude.{◌≡◌, ℕ, ◌<◌, ◌⊎◌, List};
+ghost use Rattle.std.specs.Prelude.{◌≡◌, ℕ, ◌<◌, ◌⊎◌, Option, List};
 ghost use Rattle.model_geometry.specs.Geometry.{Shape, dds_block, sdl_block};
 ghost use Rattle.model_medium.specs.Cells.{Cell, IsSameOrDead, cell_at};
 ghost use Rattle.model_lists.specs.declared.dds.DdsState.TheVariants.{Formatting};
 ghost use Rattle.model_lists.specs.Values.{Dds, Sdl};
 ghost use Rattle.model_lists.specs.Texts.{IsDdsText, IsSdlText};
-ghost use Rattle.model_copies.specs.Copies.{IsArea, MayHold, HasDdsCopy, HasSdlCopy, Settled, AreBetween, Mark};
+ghost use Rattle.model_copies.specs.Copies.{IsArea, MayHold, HasDdsCopy, HasSdlCopy, Settled, AreBetween, HoldNothingNew, AreMarkedWithin, Mark};
 ghost use Rattle.model_places.specs.Places.{Lists, logical_count};
 ghost use Rattle.model_places.specs.Valid.{AreValid};
-ghost use Rattle.model_volume.specs.Given.{IsGiven, GivesNone, IsChosenDds, IsChosenSdl, AreChosen, ChoosesNone, NoDdsChosen, NoSdlChosen, AreSettled, AreSeen, LosesListCells};
+ghost use Rattle.model_volume.specs.Given.{IsGiven, GivesNone, IsChosenDds, IsChosenSdl, AreChosen, ChoosesNone, NoDdsChosen, NoSdlChosen, LacksLists, AreSettled, OnlyLists, AreSeen, LosesListCells};
+ghost use Rattle.model_volume.specs.Covers.{FitsUnder, Cover};
 
 /// The lists that are chosen are given, and still are where the cells have changed, while a copy of each can be read.
 pub fn chosen_lists_are_given()
@@ -44,12 +45,8 @@ pub fn one_pair_is_chosen()
 /// No lists are chosen where no structure is, where the one that is chosen says Formatting, and where no secondary list
 /// belongs to it.
 pub fn three_causes_choose_none()
-    ensures no_dds { (shape : Shape) (cells : List Cell)
-        → NoDdsChosen shape cells → ChoosesNone shape cells }
-    ensures formatting { (shape : Shape) (cells : List Cell) (dds : Dds) (area : ℕ)
-        → IsChosenDds shape cells dds area → dds.state ≡ Formatting → ChoosesNone shape cells }
-    ensures no_sdl { (shape : Shape) (cells : List Cell) (dds : Dds) (area : ℕ)
-        → IsChosenDds shape cells dds area → NoSdlChosen shape cells dds → ChoosesNone shape cells }
+    ensures { (shape : Shape) (cells : List Cell) (dds : Option Dds)
+        → LacksLists shape cells dds → ChoosesNone shape cells }
 {}
 
 /// A list cell that turns dead adds no given pair.
@@ -111,6 +108,25 @@ pub fn a_repair_gives_no_other_lists()
         → (lists : Lists) → IsGiven shape new lists → IsGiven shape old lists }
 {}
 
+/// Where the copies of both lists hold nothing new, what is given was given before.
+pub fn nothing_new_gives_no_other_lists()
+    ensures { (shape : Shape) (old new : List Cell) (lists : Lists)
+        → HoldNothingNew IsDdsText (dds_block shape) old new → HoldNothingNew IsSdlText (sdl_block shape) old new
+        → IsGiven shape new lists → IsGiven shape old lists }
+{}
+
+/// While cells of lists alone change, a disc that fits under valid lists does so still; and discs that cover all lists
+/// that were given cover all that are, where these are no others.
+pub fn list_cells_hold_no_data()
+    ensures fits { (shape : Shape) (old new : List Cell) (lists : Lists) (disc : List ℕ)
+        → AreValid shape lists → OnlyLists shape old new
+        → FitsUnder shape old lists disc → FitsUnder shape new lists disc }
+    ensures covers { (shape : Shape) (old new : List Cell) (discs : List (List ℕ))
+        → OnlyLists shape old new
+        → ((lists : Lists) → IsGiven shape new lists → IsGiven shape old lists)
+        → Cover shape old discs → Cover shape new discs }
+{}
+
 /// A disc gives no lists where no structure is chosen, and, once all copies of the chosen one are its text or dead, where
 /// it says Formatting or no secondary list belongs to it.
 pub fn a_bare_disc_gives_none()
@@ -132,9 +148,13 @@ pub fn given_lists_are_what_a_choice_may_give()
         → LosesListCells shape cells after → AreChosen shape after lists → IsGiven shape cells lists }
 {}
 
-/// Where settled lists belong together, the structure's counter is the mark of the disc.
+/// Where settled lists belong together, no mark on the disc is greater than the structure's counter, and this is the mark
+/// while a copy of the structure can be read.
 pub fn settled_lists_have_the_mark()
-    ensures { (shape : Shape) (cells : List Cell) (lists : Lists) (area : ℕ)
+    ensures within { (shape : Shape) (cells : List Cell) (lists : Lists)
+        → AreSettled shape cells lists → lists.sdl.dds_counter ≡ lists.dds.counter
+        → AreMarkedWithin shape cells lists.dds.counter }
+    ensures mark { (shape : Shape) (cells : List Cell) (lists : Lists) (area : ℕ)
         → AreSettled shape cells lists → lists.sdl.dds_counter ≡ lists.dds.counter
         → HasDdsCopy shape cells lists.dds area → Mark shape cells lists.dds.counter }
 {}

@@ -1,27 +1,22 @@
 //! The laws about what a disc stands for when its image is opened, and about choices: functions with an empty body.
 
-ghost use Rattle.std.specs.Prelude.{◌≡◌, ℕ, ◌≤◌, ◌⊎◌, List, [], map, length};
+ghost use Rattle.std.specs.Prelude.{◌≡◌, ℕ, ◌≤◌, ◌⊎◌, Option, List, [], ◌∷◌, map, length};
 ghost use Rattle.model_geometry.specs.Geometry.{Shape};
 ghost use Rattle.model_medium.specs.Cells.{Cell};
-ghost use Rattle.model_lists.specs.declared.dds.DdsState.TheVariants.{Formatting};
 ghost use Rattle.model_lists.specs.Values.{Dds};
 ghost use Rattle.model_sectors.specs.Discs.{Standing, Off};
 ghost use Rattle.model_places.specs.Places.{Lists};
 ghost use Rattle.model_places.specs.Valid.{AreValid};
-ghost use Rattle.model_volume.specs.Given.{IsChosenDds, AreChosen, ChoosesNone, NoDdsChosen, NoSdlChosen};
+ghost use Rattle.model_volume.specs.Given.{AreChosen, ChoosesNone, LacksLists, HaveOneStructure};
 ghost use Rattle.model_volume.specs.Starts.{Found, disc_under, IsDiscStart};
 ghost use Rattle.model_volume.specs.Covers.{AreWhole, FitsUnder, Cover};
 
 /// Whatever cells a disc has, a pair of lists is chosen, or none is for one of three causes.
 pub fn a_choice_is_made()
     ensures made { (shape : Shape) (cells : List Cell)
-        → ((lists : Lists) × AreChosen shape cells lists) ⊎ NoDdsChosen shape cells
-        ⊎ ((dds : Dds) × (area : ℕ) × IsChosenDds shape cells dds area
-        × ((dds.state ≡ Formatting) ⊎ NoSdlChosen shape cells dds)) }
-    ensures none { (shape : Shape) (cells : List Cell) → ChoosesNone shape cells
-        → NoDdsChosen shape cells
-        ⊎ ((dds : Dds) × (area : ℕ) × IsChosenDds shape cells dds area
-        × ((dds.state ≡ Formatting) ⊎ NoSdlChosen shape cells dds)) }
+        → ((lists : Lists) × AreChosen shape cells lists) ⊎ ((dds : Option Dds) × LacksLists shape cells dds) }
+    ensures none { (shape : Shape) (cells : List Cell)
+        → ChoosesNone shape cells → (dds : Option Dds) × LacksLists shape cells dds }
 {}
 
 /// Whatever cells a disc has, it has a start.
@@ -42,6 +37,14 @@ pub fn a_disc_has_one_start()
 pub fn a_disc_gives_sixteen_pairs_at_most()
     ensures { (shape : Shape) (cells : List Cell) (all : List Found) (standing : Standing)
         → IsDiscStart shape cells all standing → length all ≤ 16 }
+{}
+
+/// Where of one counter there is one structure, the lists that are chosen stand first in a start, so their disc is tried
+/// first. Elsewhere they need not: under another structure of the same counter a greater secondary list may be valid.
+pub fn chosen_lists_stand_first()
+    ensures { (shape : Shape) (cells : List Cell) (all : List Found) (standing : Standing) (lists : Lists)
+        → IsDiscStart shape cells all standing → AreChosen shape cells lists → HaveOneStructure shape cells
+        → (found : Found) × (rest : List Found) × (all ≡ found ∷ rest) × (found.lists ≡ lists) }
 {}
 
 /// The disc that lists show fits under them, so the discs of a start cover all lists that its cells give.

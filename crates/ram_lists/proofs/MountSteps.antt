@@ -1,38 +1,42 @@
 -- How a mount goes.
-use Rattle.std.specs.Prelude.{◌≡◌, ◌≢◌, ℕ, ◌+◌, ◌*◌, ◌≤◌, ◌⊎◌, Bool, true, false, IsTrue, Option, Some, None, List, []}
+use Rattle.std.specs.Prelude.{◌≡◌, ℕ, ◌+◌, ◌*◌, ◌≤◌, ◌⊎◌, Bool, true, false, IsTrue, Option, Some, None, List, []}
 use Rattle.std.proofs.Common.{refl, sym, ap, ◌∙◌, inl, inr, subst, arith}
 use Rattle.std.specs.Bool.{OnFalse}
 use Rattle.std.proofs.lemmas.Bool.{cases_Bool, true≢false}
 use Rattle.model_counts.specs.Counts.{counted, Rose}
 use Rattle.model_geometry.specs.Geometry.{Shape, dds_block, sdl_block}
-use Rattle.model_lists.specs.Values.{Dds, Sdl, IsLawfulDds, IsLawfulSdl}
+use Rattle.model_lists.specs.Values.{Dds, Sdl}
 use Rattle.model_lists.specs.Texts.{IsDdsText, IsSdlText}
 use Rattle.model_lists.specs.declared.dds.DdsState.{DdsState}
 use Rattle.model_lists.specs.declared.dds.DdsState.TheVariants.{Formatting, Formatted}
 use Rattle.model_medium.specs.Cells.{Cell, Blank, Good, Torn, Dead, IsSameOrDead, cell_at}
-use Rattle.model_medium.specs.World.{World, UseContinues, IsCut, HasFailed, IsOff}
-use Rattle.model_stops.specs.Stops.{Continues, Stops}
+use Rattle.model_medium.specs.World.{World, UseContinues}
+use Rattle.model_stops.specs.Stops.{Continues}
 use Rattle.model_stops.specs.declared.Stop.{Stop}
 use Rattle.model_stops.specs.declared.Stop.TheVariants as stops
-use Rattle.model_copies.specs.Copies.{IsArea, Holds, HoldsOrDead, MayHold, HasCopy, HasDdsCopy, HasSdlCopy, Settled, IsChosen, NoneChosen, IsMarked, IsGreatestMark, Mark, IsSeen}
-use Rattle.model_places.specs.Places.{Lists}
-use Rattle.model_places.specs.Valid.{IsValidPdl, AreValid}
-use Rattle.model_volume.specs.Given.{IsGiven, GivesNone, FitsDds, IsChosenDds, IsChosenSdl, AreChosen, ChoosesNone, NoDdsChosen, NoSdlChosen, AreSettled, AreSeen}
+use Rattle.model_copies.specs.Copies.{IsArea, Holds, HoldsOrDead, MayHold, HasCopy, HasDdsCopy, HasSdlCopy, Settled, IsChosen, NoneChosen, IsGreatestMark, AreMarkedWithin, Mark, IsSeen, HoldNothingNew}
+use Rattle.model_copies.proofs.CopyFacts.{copy_settled}
+use Rattle.model_copies.proofs.Marking.{greater_mark}
+use Rattle.model_copies.proofs.Rewriting.{rewrites_seen}
+use Rattle.model_copies.proofs.NothingNew.{nothing_new_from_dead, nothing_new_from_write, nothing_new_then}
+use Rattle.model_places.specs.Valid.{IsValidPdl}
+use Rattle.model_volume.specs.Given.{GivesNone, FitsDds, IsChosenDds, IsChosenSdl, NoDdsChosen, NoSdlChosen, IsListBlock, OnlyLists, AreSeen}
+use Rattle.model_lists.proofs.DdsTexts as dds_texts
 use Rattle.model_lists.proofs.SdlTexts as sdl_texts
 use Rattle.model_volume.proofs.Updates.{dds_no_sdl}
-use Rattle.model_volume.proofs.GivenFacts.{copy_spread, one_dds, none_without_dds, none_formatting, none_without_sdl, given_before, bare_without_dds, bare_formatting, bare_without_sdl, may_hold, given_in_repair, given_in_dds_repair}
+use Rattle.model_volume.proofs.GivenFacts.{none_lacking, given_others, bare_without_dds, bare_formatting, bare_without_sdl}
+use Rattle.model_volume.proofs.ListCells.{dds_listed, sdl_listed, seen_by, dds_seen, sdl_seen, loses_seen}
 use Rattle.ram_medium.specs.Laws.{MediumLaws}
-use Rattle.ram_medium.proofs.Parts.{continues_none, continues_then, stops_later, stops_within}
+use Rattle.ram_medium.proofs.Parts.{continues_then, stops_later, stops_within}
 use Rattle.ram_zones.specs.declared.list_kind.ListKind.{ListKind}
 use Rattle.ram_zones.specs.declared.list_kind.ListKind.TheVariants as kinds
-use Rattle.ram_zones.specs.ListKind.{list_block}
-use Rattle.ram_copies.specs.Values.{ListValue, DdsValue, SdlValue, IsText, counter_of, mark_of}
+use Rattle.ram_copies.specs.Values.{ListValue, DdsValue, SdlValue, IsText}
 use Rattle.ram_copies.specs.Calls.{StoppedCounts, ChangesCopiesAlone, CallEnds, StoppedWithin, MayLeaveCopies}
-use Rattle.ram_copies.specs.Chooses.{SawCopies, ChoosesOutOfMemory, IsMarkSeen, Finds, FindsNone}
-use Rattle.ram_copies.proofs.EachList.{dds_settled, dds_chosen, dds_none, dds_marked, dds_may_hold, sdl_settled, sdl_chosen, sdl_none, sdl_marked, sdl_may_hold}
+use Rattle.ram_copies.specs.Chooses.{SawCopies, Finds, FindsNone}
+use Rattle.ram_copies.proofs.EachList.{dds_settled, dds_chosen, dds_none, dds_marked, dds_may_hold, dds_rewritten, sdl_settled, sdl_chosen, sdl_none, sdl_marked, sdl_may_hold, sdl_rewritten}
 use Rattle.ram_lists.specs.Lists.{AcceptsDds, AcceptsSdl, AcceptsNothing}
 use Rattle.ram_lists.specs.Parts.{HasPicked, EndsPicking, PicksBest, IsMended, EndsMending}
-use Rattle.ram_lists.specs.Mounts.{IsNoListBlock, KeepsGiven, FindsLists, FindsNoLists, MountHasEnded, WasStopped, WasOutOfMemory, EndsBare, EndRule}
+use Rattle.ram_lists.specs.Mounts.{KeepsGiven, RepairsCopies, WasStopped, EndsWithLists, EndsBare, EndRule}
 use Rattle.ram_lists.specs.declared.ends.End.{End}
 use Rattle.ram_lists.specs.declared.ends.End.TheVariants as ends
 
@@ -49,6 +53,16 @@ settled_may_hold text old Dead v h = inr (inr (inr refl))
 
 none_held : {V : Type 0} (text : V → List ℕ → Type 0) (place : ℕ → ℕ) (cells : List Cell) → cells ≡ [] → (v : V) (area : ℕ) → HasCopy text place cells v area → ⊥
 none_held text place cells none v area copy = subst (λ (cs : List Cell). Holds text (cell_at cs (place area)) v) none copy.holds
+
+-- cells that are not known have no mark, and copies that are none are dead
+none_marked : (shape : Shape) (cells : List Cell) (mark : ℕ) → cells ≡ [] → AreMarkedWithin shape cells mark
+none_marked shape cells mark none = record {
+  dds = λ v area copy. absurd (none_held IsDdsText (dds_block shape) cells none v area copy);
+  sdl = λ v area copy. absurd (none_held IsSdlText (sdl_block shape) cells none v area copy);
+}
+
+none_left : {V : Type 0} (text : V → List ℕ → Type 0) (place : ℕ → ℕ) (old new : List Cell) → new ≡ [] → HoldNothingNew text place old new
+none_left text place old new none area is = inr (inr (inl (ap (λ (cells : List Cell). cell_at cells (place area)) none)))
 
 none_given : (shape : Shape) (cells : List Cell) → cells ≡ [] → GivesNone shape cells
 none_given shape cells none lists given = none_held IsDdsText (dds_block shape) cells none lists.dds given.dds_area given.dds_copy
@@ -75,25 +89,28 @@ module _ {V : Type 0} (text : V → List ℕ → Type 0) (place : ℕ → ℕ) (
   settled_same : (v : V) → Settled text place one v → Settled text place two v
   settled_same v settled area is = subst (λ (c : Cell). HoldsOrDead text c v) (sym (same area)) (settled area is)
 
-greater_mark : (shape : Shape) (cells : List Cell) (m n mark : ℕ) → IsGreatestMark IsDdsText (dds_block shape) cells (λ (d : Dds). d.counter) m → IsGreatestMark IsSdlText (sdl_block shape) cells (λ (s : Sdl). s.dds_counter) n
-    → m ≤ mark → n ≤ mark → (mark ≡ m) ⊎ (mark ≡ n) → Mark shape cells mark
-greater_mark shape cells m n mark a b low low' is = record {
-  dds = λ v area copy. let le = a.within v area copy in omega (arith, le, low);
-  sdl = λ v area copy. let le = b.within v area copy in omega (arith, le, low');
-  reached = elim is [
-    | inl e ↦ elim a.reached [ inl none ↦ inl (e ∙ none) | inr x ↦ inr (inl (record { value = x.value; area = x.area; copy = x.copy; has = x.has ∙ sym e })) ]
-    | inr e ↦ elim b.reached [ inl none ↦ inl (e ∙ none) | inr x ↦ inr (inr (record { value = x.value; area = x.area; copy = x.copy; has = x.has ∙ sym e })) ]
-  ];
+-- a structure whose copies are settled is within a mark that it was within, while the other list's copies stay
+marked_still : (shape : Shape) (old new : List Cell) (mark : ℕ) (d : Dds) (area : ℕ) → AreMarkedWithin shape old mark → HasDdsCopy shape old d area → Settled IsDdsText (dds_block shape) new d
+    → ((a : ℕ) → cell_at new (sdl_block shape a) ≡ cell_at old (sdl_block shape a)) → AreMarkedWithin shape new mark
+marked_still shape old new mark d area within copy settled same = record {
+  dds = λ v at c.
+      let is : v ≡ d = copy_settled IsDdsText dds_texts.one_value (dds_block shape) new d v at settled c in
+      let counters = ap (λ (x : Dds). x.counter) is in
+      let low = within.dds d area copy in
+      omega (arith, counters, low);
+  sdl = λ v at c. within.sdl v at (copy_back IsSdlText (sdl_block shape) old new same v at c);
 }
 
 -- ---- what each step keeps
 
+keeps_by : (shape : Shape) (old new : World) → new.known ≡ old.known → OnlyLists shape old.cells new.cells → HoldNothingNew IsDdsText (dds_block shape) old.cells new.cells
+    → HoldNothingNew IsSdlText (sdl_block shape) old.cells new.cells → KeepsGiven shape old new
+keeps_by shape old new as_known only dds sdl = record { as_known = as_known; only = only; dds = dds; sdl = sdl; given = given_others shape old.cells new.cells dds sdl }
+
 keeps_then : (shape : Shape) (a b c : World) → KeepsGiven shape a b → KeepsGiven shape b c → KeepsGiven shape a c
-keeps_then shape a b c one two = record {
-  as_known = two.as_known ∙ one.as_known;
-  others = λ block away. two.others block away ∙ one.others block away;
-  given = λ lists given. one.given lists (two.given lists given);
-}
+keeps_then shape a b c one two = keeps_by shape a c (two.as_known ∙ one.as_known) (λ block away. two.only block away ∙ one.only block away)
+    (nothing_new_then IsDdsText (dds_block shape) a.cells b.cells c.cells dds_texts.one_value one.dds two.dds)
+    (nothing_new_then IsSdlText (sdl_block shape) a.cells b.cells c.cells sdl_texts.one_value one.sdl two.sdl)
 
 module _ {M : Type 0} (world : M → World) (block_count : M → ℕ) (reaches : M → M → ℕ → Type 0) (laws : MediumLaws world block_count reaches) (shape : Shape) where
   by_known : (m : M) (P : Type 0) → ((world m).known ≡ true → P) → ((world m).cells ≡ [] → P) → P
@@ -109,48 +126,42 @@ module _ {M : Type 0} (world : M → World) (block_count : M → ℕ) (reaches :
   dds_stay : (old new : M) → ChangesCopiesAlone world reaches kinds.Sdl shape old new → (a : ℕ) → cell_at (world new).cells (dds_block shape a) ≡ cell_at (world old).cells (dds_block shape a)
   dds_stay old new alone a = alone.others (dds_block shape a) (λ at is same. dds_no_sdl shape a at same)
 
+  dds_only : (old new : M) → ChangesCopiesAlone world reaches kinds.Dds shape old new → OnlyLists shape (world old).cells (world new).cells
+  dds_only old new alone block away = alone.others block (λ at is same. away (subst (IsListBlock shape) (sym same) (dds_listed shape at is)))
+
+  sdl_only : (old new : M) → ChangesCopiesAlone world reaches kinds.Sdl shape old new → OnlyLists shape (world old).cells (world new).cells
+  sdl_only old new alone block away = alone.others block (λ at is same. away (subst (IsListBlock shape) (sym same) (sdl_listed shape at is)))
+
+  dds_others : (old new : M) → ChangesCopiesAlone world reaches kinds.Sdl shape old new → HoldNothingNew IsDdsText (dds_block shape) (world old).cells (world new).cells
+  dds_others old new alone = nothing_new_from_dead IsDdsText (dds_block shape) (world old).cells (world new).cells (λ a is. inl (dds_stay old new alone a))
+
+  sdl_others : (old new : M) → ChangesCopiesAlone world reaches kinds.Dds shape old new → HoldNothingNew IsSdlText (sdl_block shape) (world old).cells (world new).cells
+  sdl_others old new alone = nothing_new_from_dead IsSdlText (sdl_block shape) (world old).cells (world new).cells (λ a is. inl (sdl_stay old new alone a))
+
   dds_look_keeps : (old new : M) → ChangesCopiesAlone world reaches kinds.Dds shape old new → SawCopies world reaches kinds.Dds shape old new → KeepsGiven shape (world old) (world new)
-  dds_look_keeps old new alone saw = record {
-    as_known = alone.as_known;
-    others = λ block away. alone.others block (λ at is same. (away at is).0 same);
-    given = λ lists given. given_before shape (world old).cells (world new).cells lists (seen_left (dds_block shape) (world old).cells (world new).cells saw) (λ a is. inl (sdl_stay old new alone a)) given;
-  }
+  dds_look_keeps old new alone saw = keeps_by shape (world old) (world new) alone.as_known (dds_only old new alone)
+      (nothing_new_from_dead IsDdsText (dds_block shape) (world old).cells (world new).cells (seen_left (dds_block shape) (world old).cells (world new).cells saw)) (sdl_others old new alone)
 
   sdl_look_keeps : (old new : M) → ChangesCopiesAlone world reaches kinds.Sdl shape old new → SawCopies world reaches kinds.Sdl shape old new → KeepsGiven shape (world old) (world new)
-  sdl_look_keeps old new alone saw = record {
-    as_known = alone.as_known;
-    others = λ block away. alone.others block (λ at is same. (away at is).1 same);
-    given = λ lists given. given_before shape (world old).cells (world new).cells lists (λ a is. inl (dds_stay old new alone a)) (seen_left (sdl_block shape) (world old).cells (world new).cells saw) given;
-  }
+  sdl_look_keeps old new alone saw = keeps_by shape (world old) (world new) alone.as_known (sdl_only old new alone) (dds_others old new alone)
+      (nothing_new_from_dead IsSdlText (sdl_block shape) (world old).cells (world new).cells (seen_left (sdl_block shape) (world old).cells (world new).cells saw))
 
   dds_mend_keeps : (old new : M) (d : Dds) (area : ℕ) → ((world old).known ≡ true → HasDdsCopy shape (world old).cells d area) → ChangesCopiesAlone world reaches kinds.Dds shape old new
       → MayLeaveCopies world reaches kinds.Dds shape old new (DdsValue d) → KeepsGiven shape (world old) (world new)
-  dds_mend_keeps old new d area copy alone left = record {
-    as_known = alone.as_known;
-    others = λ block away. alone.others block (λ at is same. (away at is).0 same);
-    given = λ lists given. by_known new (IsGiven shape (world old).cells lists)
-        (λ known. given_in_dds_repair shape (world old).cells (world new).cells d area (copy (sym alone.as_known ∙ known))
-        (λ a is. dds_may_hold (cell_at (world old).cells (dds_block shape a)) (cell_at (world new).cells (dds_block shape a)) d (left a is)) (λ a is. inl (sdl_stay old new alone a)) lists given)
-        (λ none. absurd (none_given shape (world new).cells none lists given));
-  }
+  dds_mend_keeps old new d area copy alone left = keeps_by shape (world old) (world new) alone.as_known (dds_only old new alone)
+      (by_known new (HoldNothingNew IsDdsText (dds_block shape) (world old).cells (world new).cells)
+      (λ known. nothing_new_from_write IsDdsText (dds_block shape) (world old).cells (world new).cells d area (copy (sym alone.as_known ∙ known))
+      (λ a is. dds_may_hold (cell_at (world old).cells (dds_block shape a)) (cell_at (world new).cells (dds_block shape a)) d (left a is)))
+      (none_left IsDdsText (dds_block shape) (world old).cells (world new).cells))
+      (sdl_others old new alone)
 
   sdl_mend_keeps : (old new : M) (s : Sdl) (area : ℕ) → ((world old).known ≡ true → HasSdlCopy shape (world old).cells s area) → ChangesCopiesAlone world reaches kinds.Sdl shape old new
       → MayLeaveCopies world reaches kinds.Sdl shape old new (SdlValue s) → KeepsGiven shape (world old) (world new)
-  sdl_mend_keeps old new s area copy alone left = record {
-    as_known = alone.as_known;
-    others = λ block away. alone.others block (λ at is same. (away at is).1 same);
-    given = λ lists given. by_known new (IsGiven shape (world old).cells lists)
-        (λ known. let was = copy_spread IsSdlText sdl_texts.one_value (sdl_block shape) (world old).cells (world new).cells s area (copy (sym alone.as_known ∙ known))
-        (λ a is. sdl_may_hold (cell_at (world old).cells (sdl_block shape a)) (cell_at (world new).cells (sdl_block shape a)) s (left a is)) lists.sdl given.sdl_area given.sdl_copy in
-        record {
-          dds_area = given.dds_area;
-          dds_copy = copy_back IsDdsText (dds_block shape) (world old).cells (world new).cells (dds_stay old new alone) lists.dds given.dds_area given.dds_copy;
-          sdl_area = was.0;
-          sdl_copy = was.1;
-          valid = given.valid;
-        })
-        (λ none. absurd (none_given shape (world new).cells none lists given));
-  }
+  sdl_mend_keeps old new s area copy alone left = keeps_by shape (world old) (world new) alone.as_known (sdl_only old new alone) (dds_others old new alone)
+      (by_known new (HoldNothingNew IsSdlText (sdl_block shape) (world old).cells (world new).cells)
+      (λ known. nothing_new_from_write IsSdlText (sdl_block shape) (world old).cells (world new).cells s area (copy (sym alone.as_known ∙ known))
+      (λ a is. sdl_may_hold (cell_at (world old).cells (sdl_block shape a)) (cell_at (world new).cells (sdl_block shape a)) s (left a is)))
+      (none_left IsSdlText (sdl_block shape) (world old).cells (world new).cells))
 
   -- ---- how far it went
 
@@ -189,11 +200,25 @@ module _ {M : Type 0} (world : M → World) (block_count : M → ℕ) (reaches :
   first_ends old new ends.Cut (stopped, saw) = record { was_on = stopped.was_on; stops = stops_within world block_count reaches laws old new 4 32 stops.Cut (omega arith) stopped.stops; counts = stopped.counts; keeps = dds_look_keeps old new stopped.alone saw }
   first_ends old new ends.Off off = off
   first_ends old new ends.Fault (stopped, saw) = record { was_on = stopped.was_on; stops = stops_within world block_count reaches laws old new 4 32 stops.Fault (omega arith) stopped.stops; counts = stopped.counts; keeps = dds_look_keeps old new stopped.alone saw }
-  first_ends old new ends.NoMemory (out, saw) = record { was_on = out.was_on; uses = out.uses; few = let f = out.few in omega (arith, f); continues = out.continues; counts = out.counts; keeps = dds_look_keeps old new out.alone saw }
+  first_ends old new ends.NoMemory (out, saw) = record { was_on = out.was_on; uses = out.uses; few = let f = out.few in omega (arith, f); continues = out.continues; counts = out.counts; keeps = dds_look_keeps old new out.alone saw; loses = loses_seen shape (world old).cells (world new).cells (seen_by shape (world old).cells (world new).cells (world new).cells (dds_only old new out.alone) saw (λ a is. inl (sdl_stay old new out.alone a))) }
 
   module _ (old one : M) (accepted : ListValue → Type 0) (best1 : Option (ListValue × ℕ)) (m : ℕ) (look1 : HasPicked world reaches kinds.Dds shape old one accepted best1 m) where
     gone_one : Gone old one 4
     gone_one = gone_first kinds.Dds old one 4 look1.ended (dds_look_keeps old one look1.ended.alone look1.saw)
+
+    -- what was seen in both choices, where dead cells stayed dead since
+    both_seen : (two new : M) → ChangesCopiesAlone world reaches kinds.Sdl shape one two → SawCopies world reaches kinds.Sdl shape one two
+        → ((block : ℕ) → cell_at (world two).cells block ≡ Dead → cell_at (world new).cells block ≡ Dead) → AreSeen shape (world old).cells (world two).cells (world new).cells
+    both_seen two new alone saw stays = seen_by shape (world old).cells (world two).cells (world new).cells
+        (λ block away. sdl_only one two alone block away ∙ dds_only old one look1.ended.alone block away)
+        (λ a is. elim (look1.saw a is) [
+          | inl same ↦ inl (dds_stay one two alone a ∙ same)
+          | inr dead ↦ inr (dds_stay one two alone a ∙ dead.0, stays (dds_block shape a) (dds_stay one two alone a ∙ dead.0))
+        ])
+        (λ a is. elim (saw a is) [
+          | inl same ↦ inl (same ∙ sdl_stay old one look1.ended.alone a)
+          | inr dead ↦ inr (dead.0, stays (sdl_block shape a) dead.0)
+        ])
 
     -- the second choice did
     pub second_ends : (new : M) (end : End) → EndsPicking world reaches kinds.Sdl shape one new end → EndRule world reaches shape old new end
@@ -207,6 +232,7 @@ module _ {M : Type 0} (world : M → World) (block_count : M → ℕ) (reaches :
       continues = continues_then world block_count reaches laws old one new 4 out.uses gone_one.continues out.continues;
       counts = record { stays_on = out.counts.stays_on; no_cut = out.counts.no_cut ∙ gone_one.counts.no_cut; no_fault = out.counts.no_fault ∙ gone_one.counts.no_fault };
       keeps = keeps_then shape (world old) (world one) (world new) gone_one.keeps (sdl_look_keeps one new out.alone saw);
+      loses = loses_seen shape (world old).cells (world new).cells (both_seen new new out.alone saw (λ block dead. dead));
     }
 
     module _ (two : M) (accepted2 : ListValue → Type 0) (best2 : Option (ListValue × ℕ)) (n : ℕ) (look2 : HasPicked world reaches kinds.Sdl shape one two accepted2 best2 n) where
@@ -216,24 +242,17 @@ module _ {M : Type 0} (world : M → World) (block_count : M → ℕ) (reaches :
       same_dds : (a : ℕ) → cell_at (world two).cells (dds_block shape a) ≡ cell_at (world one).cells (dds_block shape a)
       same_dds = dds_stay one two look2.ended.alone
 
-      -- what was seen, where dead cells stayed dead since
       are_seen : (new : M) → ((block : ℕ) → cell_at (world two).cells block ≡ Dead → cell_at (world new).cells block ≡ Dead) → AreSeen shape (world old).cells (world two).cells (world new).cells
-      are_seen new stays = record {
-        dds = λ a is. elim (look1.saw a is) [
-          | inl same ↦ inl (same_dds a ∙ same)
-          | inr dead ↦ inr (same_dds a ∙ dead.0, stays (dds_block shape a) (same_dds a ∙ dead.0))
-        ];
-        sdl = λ a is. elim (look2.saw a is) [
-          | inl same ↦ inl (same ∙ sdl_stay old one look1.ended.alone a)
-          | inr dead ↦ inr (dead.0, stays (sdl_block shape a) dead.0)
-        ];
-      }
+      are_seen new = both_seen two new look2.ended.alone look2.saw
 
       stays_from : (new : M) (k : ℕ) → Continues world reaches two new k → (block : ℕ) → cell_at (world two).cells block ≡ Dead → cell_at (world new).cells block ≡ Dead
       stays_from new k continues block dead = (laws.follows two new k continues.reach).lasts.stays_dead block dead
 
       known_one : (world old).known ≡ true → (world one).known ≡ true
       known_one known = look1.ended.alone.as_known ∙ known
+
+      known_two : (world old).known ≡ true → (world two).known ≡ true
+      known_two known = look2.ended.alone.as_known ∙ known_one known
 
       known_back : (world two).known ≡ true → (world old).known ≡ true
       known_back known = sym (look2.ended.alone.as_known ∙ look1.ended.alone.as_known) ∙ known
@@ -246,16 +265,18 @@ module _ {M : Type 0} (world : M → World) (block_count : M → ℕ) (reaches :
       -- no structure was chosen
       pub nothing_found : (mark : ℕ) → m ≤ mark → n ≤ mark → (mark ≡ m) ⊎ (mark ≡ n) → FindsNone world reaches kinds.Dds shape old one (AcceptsDds shape) → EndsBare world reaches shape old two mark
       nothing_found mark low low' is none = record {
-        repairs = 0;
-        few_repairs = omega arith;
-        ended = record { was_on = gone_two.was_on; rewritten = 0; few = omega arith; continues = gone_two.continues; counts = gone_two.counts; keeps = gone_two.keeps };
+        dds = None;
+        uses = 0;
+        repaired = refl;
+        ended = record { was_on = gone_two.was_on; continues = gone_two.continues; counts = gone_two.counts; keeps = gone_two.keeps };
         finds = record {
           gives_none = by_known two (GivesNone shape (world two).cells) (λ known. bare_without_dds shape (world two).cells (no_dds (known_back known))) (none_given shape (world two).cells);
+          marked = by_known two (AreMarkedWithin shape (world two).cells mark) (λ known. (mark_both mark low low' is (known_back known)).within) (none_marked shape (world two).cells mark);
           seen = (world two).cells;
           are_seen = are_seen two (λ block dead. dead);
-          none = λ known. none_without_dds shape (world two).cells (no_dds known);
+          none = λ known. none_lacking shape (world two).cells None (no_dds known);
+          lacks = no_dds;
           mark_is = mark_both mark low low' is;
-          settled = λ known d area chosen. absurd (no_dds known d area chosen.copy chosen.fits);
         };
       }
         where
@@ -277,48 +298,66 @@ module _ {M : Type 0} (world : M → World) (block_count : M → ℕ) (reaches :
         third_ends new ends.NoMemory never = absurd never
 
         module _ (three : M) (mended : IsMended world reaches kinds.Dds shape two three (DdsValue d)) where
-          gone_three : Gone old three (4 + 4 + (4 + 2 * mended.rewritten))
-          gone_three = gone_then kinds.Dds old two three (4 + 4) (4 + 2 * mended.rewritten) gone_two mended.ended
-              (first_keeps three mended.ended.alone (λ a is. settled_may_hold (IsText kinds.Dds) (cell_at (world two).cells (dds_block shape a)) (cell_at (world three).cells (dds_block shape a)) (DdsValue d) (mended.settled a is)))
+          gone_three : Gone old three (4 + 4 + (4 + 2 * mended.repairs.rewritten))
+          gone_three = gone_then kinds.Dds old two three (4 + 4) (4 + 2 * mended.repairs.rewritten) gone_two mended.repairs.ends
+              (first_keeps three mended.repairs.ends.alone (λ a is. settled_may_hold (IsText kinds.Dds) (cell_at (world two).cells (dds_block shape a)) (cell_at (world three).cells (dds_block shape a)) (DdsValue d) (mended.settled a is)))
 
           d_settled : Settled IsDdsText (dds_block shape) (world three).cells d
           d_settled = dds_settled shape (world three).cells d mended.settled
 
           same_sdl : (a : ℕ) → cell_at (world three).cells (sdl_block shape a) ≡ cell_at (world two).cells (sdl_block shape a)
-          same_sdl = sdl_stay two three mended.ended.alone
+          same_sdl = sdl_stay two three mended.repairs.ends.alone
+
+          known_three : (world old).known ≡ true → (world three).known ≡ true
+          known_three known = mended.repairs.ends.alone.as_known ∙ known_two known
 
           back_three : (world three).known ≡ true → (world old).known ≡ true
-          back_three known = known_back (sym mended.ended.alone.as_known ∙ known)
+          back_three known = known_back (sym mended.repairs.ends.alone.as_known ∙ known)
 
-          ends_bare : (mark : ℕ) → m ≤ mark → n ≤ mark → (mark ≡ m) ⊎ (mark ≡ n) → ((world old).known ≡ true → GivesNone shape (world three).cells) → ((world old).known ≡ true → ChoosesNone shape (world two).cells) → EndsBare world reaches shape old three mark
-          ends_bare mark low low' is bare none = record {
-            repairs = 1;
-            few_repairs = omega arith;
+          -- the structure's repair, as a part of the mount, where its copies stay after it
+          dds_repaired : (new : M) → ((block : ℕ) → cell_at (world two).cells block ≡ Dead → cell_at (world new).cells block ≡ Dead) → ((a : ℕ) → cell_at (world new).cells (dds_block shape a) ≡ cell_at (world three).cells (dds_block shape a))
+              → RepairsCopies IsDdsText (dds_block shape) (world old) (world new) d (4 + 2 * mended.repairs.rewritten)
+          dds_repaired new stays stay = record {
+            rewritten = mended.repairs.rewritten;
+            few = mended.repairs.few;
+            uses_are = refl;
+            rewrites = λ known. rewrites_seen IsDdsText (dds_block shape) d (world old).cells (world two).cells (world three).cells (world new).cells
+                (dds_seen shape (world old).cells (world two).cells (world new).cells (are_seen new stays)) stay mended.repairs.rewritten
+                (dds_rewritten shape (world two).cells (world three).cells d mended.repairs.rewritten (mended.repairs.rewrites (known_two known)));
+          }
+
+          ends_bare : (mark : ℕ) → m ≤ mark → n ≤ mark → (mark ≡ m) ⊎ (mark ≡ n) → ((world old).known ≡ true → GivesNone shape (world three).cells)
+              → ((world old).known ≡ true → (d.state ≡ Formatting) ⊎ NoSdlChosen shape (world two).cells d) → EndsBare world reaches shape old three mark
+          ends_bare mark low low' is bare why = record {
+            dds = Some d;
+            uses = 4 + 2 * mended.repairs.rewritten;
+            repaired = (dds_repaired three (stays_from three (4 + 2 * mended.repairs.rewritten) mended.repairs.ends.continues) (λ a. refl), d_settled);
             ended = record {
               was_on = gone_three.was_on;
-              rewritten = mended.rewritten;
-              few = let f = mended.few in omega (arith, f);
               continues = subst (Continues world reaches old three) (omega arith) gone_three.continues;
               counts = gone_three.counts;
               keeps = gone_three.keeps;
             };
             finds = record {
               gives_none = by_known three (GivesNone shape (world three).cells) (λ known. bare (back_three known)) (none_given shape (world three).cells);
+              marked = by_known three (AreMarkedWithin shape (world three).cells mark)
+                  (λ known. marked_still shape (world two).cells (world three).cells mark d d_area (mark_both mark low low' is (back_three known)).within (first_is (back_three known)).copy d_settled same_sdl)
+                  (none_marked shape (world three).cells mark);
               seen = (world two).cells;
-              are_seen = are_seen three (stays_from three (4 + 2 * mended.rewritten) mended.ended.continues);
-              none = none;
+              are_seen = are_seen three (stays_from three (4 + 2 * mended.repairs.rewritten) mended.repairs.ends.continues);
+              none = λ known. none_lacking shape (world two).cells (Some d) ((d_area, first_is known), why known);
+              lacks = λ known. ((d_area, first_is known), why known);
               mark_is = mark_both mark low low' is;
-              settled = λ known other area chosen. subst (Settled IsDdsText (dds_block shape) (world three).cells) (one_dds shape (world two).cells d other d_area area (first_is known) chosen) d_settled;
             };
           }
 
           pub formatting_found : (mark : ℕ) → m ≤ mark → n ≤ mark → (mark ≡ m) ⊎ (mark ≡ n) → d.state ≡ Formatting → EndsBare world reaches shape old three mark
-          formatting_found mark low low' is state = ends_bare mark low low' is (λ known. bare_formatting shape (world three).cells d d_settled state) (λ known. none_formatting shape (world two).cells d d_area (first_is known) state)
+          formatting_found mark low low' is state = ends_bare mark low low' is (λ known. bare_formatting shape (world three).cells d d_settled state) (λ known. inl state)
 
           pub lone_found : (mark : ℕ) → m ≤ mark → n ≤ mark → (mark ≡ m) ⊎ (mark ≡ n) → FindsNone world reaches kinds.Sdl shape one two (AcceptsSdl shape d) → EndsBare world reaches shape old three mark
           lone_found mark low low' is none = ends_bare mark low low' is
               (λ known. bare_without_sdl shape (world three).cells d d_settled (none_same IsSdlText (sdl_block shape) (world two).cells (world three).cells same_sdl (FitsDds shape d) (no_sdl known)))
-              (λ known. none_without_sdl shape (world two).cells d d_area (first_is known) (no_sdl known))
+              (λ known. inr (no_sdl known))
             where
               no_sdl : (world old).known ≡ true → NoSdlChosen shape (world two).cells d
               no_sdl known = sdl_none shape (world two).cells (AcceptsSdl shape d) (none (known_one known))
@@ -332,46 +371,68 @@ module _ {M : Type 0} (world : M → World) (block_count : M → ℕ) (reaches :
             second_keeps four alone left = sdl_mend_keeps three four s s_area
                 (λ known. copy_same IsSdlText (sdl_block shape) (world two).cells (world three).cells same_sdl s s_area (second_is (back_three known)).copy) alone left
 
-            fits_32 : (4 + 4 + (4 + 2 * mended.rewritten)) + 12 ≤ 32
-            fits_32 = let f = mended.few in omega (arith, f)
+            fits_32 : (4 + 4 + (4 + 2 * mended.repairs.rewritten)) + 12 ≤ 32
+            fits_32 = let f = mended.repairs.few in omega (arith, f)
 
             pub fourth_ends : (new : M) (end : End) → EndsMending world reaches kinds.Sdl shape three new (SdlValue s) end → EndRule world reaches shape old new end
-            fourth_ends new ends.Cut (stopped, left) = stopped_later kinds.Sdl old three new (4 + 4 + (4 + 2 * mended.rewritten)) 12 stops.Cut fits_32 gone_three stopped (second_keeps new stopped.alone left)
+            fourth_ends new ends.Cut (stopped, left) = stopped_later kinds.Sdl old three new (4 + 4 + (4 + 2 * mended.repairs.rewritten)) 12 stops.Cut fits_32 gone_three stopped (second_keeps new stopped.alone left)
             fourth_ends new ends.Off off = absurd (off.was_off gone_three.continues.is_on)
-            fourth_ends new ends.Fault (stopped, left) = stopped_later kinds.Sdl old three new (4 + 4 + (4 + 2 * mended.rewritten)) 12 stops.Fault fits_32 gone_three stopped (second_keeps new stopped.alone left)
+            fourth_ends new ends.Fault (stopped, left) = stopped_later kinds.Sdl old three new (4 + 4 + (4 + 2 * mended.repairs.rewritten)) 12 stops.Fault fits_32 gone_three stopped (second_keeps new stopped.alone left)
             fourth_ends new ends.NoMemory never = absurd never
 
             module _ (four : M) (done : IsMended world reaches kinds.Sdl shape three four (SdlValue s)) where
-              gone_four : Gone old four (4 + 4 + (4 + 2 * mended.rewritten) + (4 + 2 * done.rewritten))
-              gone_four = gone_then kinds.Sdl old three four (4 + 4 + (4 + 2 * mended.rewritten)) (4 + 2 * done.rewritten) gone_three done.ended
-                  (second_keeps four done.ended.alone (λ a is. settled_may_hold (IsText kinds.Sdl) (cell_at (world three).cells (sdl_block shape a)) (cell_at (world four).cells (sdl_block shape a)) (SdlValue s) (done.settled a is)))
+              gone_four : Gone old four (4 + 4 + (4 + 2 * mended.repairs.rewritten) + (4 + 2 * done.repairs.rewritten))
+              gone_four = gone_then kinds.Sdl old three four (4 + 4 + (4 + 2 * mended.repairs.rewritten)) (4 + 2 * done.repairs.rewritten) gone_three done.repairs.ends
+                  (second_keeps four done.repairs.ends.alone (λ a is. settled_may_hold (IsText kinds.Sdl) (cell_at (world three).cells (sdl_block shape a)) (cell_at (world four).cells (sdl_block shape a)) (SdlValue s) (done.settled a is)))
 
-              pub both_found : d.state ≡ Formatted → MountHasEnded world reaches shape old four 2 × FindsLists shape (world old) (world four) (record { dds = d; sdl = s })
-              both_found state = (
-                record {
+              stays_four : (block : ℕ) → cell_at (world three).cells block ≡ Dead → cell_at (world four).cells block ≡ Dead
+              stays_four block dead = (laws.follows three four (4 + 2 * done.repairs.rewritten) done.repairs.ends.continues.reach).lasts.stays_dead block dead
+
+              stays_both : (block : ℕ) → cell_at (world two).cells block ≡ Dead → cell_at (world four).cells block ≡ Dead
+              stays_both block dead = stays_four block (stays_from three (4 + 2 * mended.repairs.rewritten) mended.repairs.ends.continues block dead)
+
+              -- the copies of the secondary list were, before their repair, as they were seen
+              sdl_before : IsSeen (sdl_block shape) (world old).cells (world three).cells (world four).cells
+              sdl_before a is = elim (sdl_seen shape (world old).cells (world two).cells (world four).cells (are_seen four stays_both) a is) [
+                | inl same ↦ inl (same_sdl a ∙ same)
+                | inr dead ↦ inr (same_sdl a ∙ dead.0, dead.1)
+              ]
+
+              sdl_repaired : RepairsCopies IsSdlText (sdl_block shape) (world old) (world four) s (4 + 2 * done.repairs.rewritten)
+              sdl_repaired = record {
+                rewritten = done.repairs.rewritten;
+                few = done.repairs.few;
+                uses_are = refl;
+                rewrites = λ known. rewrites_seen IsSdlText (sdl_block shape) s (world old).cells (world three).cells (world four).cells (world four).cells
+                    sdl_before (λ a. refl) done.repairs.rewritten
+                    (sdl_rewritten shape (world three).cells (world four).cells s done.repairs.rewritten (done.repairs.rewrites (known_three known)));
+              }
+
+              pub both_found : d.state ≡ Formatted → EndsWithLists world reaches shape old four (record { dds = d; sdl = s })
+              both_found state = record {
+                dds_uses = 4 + 2 * mended.repairs.rewritten;
+                dds = dds_repaired four stays_both (dds_stay three four done.repairs.ends.alone);
+                sdl_uses = 4 + 2 * done.repairs.rewritten;
+                sdl = sdl_repaired;
+                ended = record {
                   was_on = gone_four.was_on;
-                  rewritten = mended.rewritten + done.rewritten;
-                  few = let f = mended.few in let g = done.few in omega (arith, f, g);
                   continues = subst (Continues world reaches old four) (omega arith) gone_four.continues;
                   counts = gone_four.counts;
                   keeps = gone_four.keeps;
-                },
-                record {
+                };
+                finds = record {
                   valid = record { primary = found.fits; together = below.fits; formatted = state };
                   lawful_dds = found.in_grammar;
                   lawful_sdl = below.in_grammar;
                   settled = record {
-                    dds = settled_same IsDdsText (dds_block shape) (world three).cells (world four).cells (dds_stay three four done.ended.alone) d d_settled;
+                    dds = settled_same IsDdsText (dds_block shape) (world three).cells (world four).cells (dds_stay three four done.repairs.ends.alone) d d_settled;
                     sdl = sdl_settled shape (world four).cells s done.settled;
                   };
                   seen = (world two).cells;
-                  are_seen = are_seen four (λ block dead. stays_dead_on block (stays_from three (4 + 2 * mended.rewritten) mended.ended.continues block dead));
+                  are_seen = are_seen four stays_both;
                   chosen = λ known. record { dds_area = d_area; dds_chosen = first_is known; sdl_area = s_area; sdl_chosen = second_is known; formatted = state };
-                },
-              )
-                where
-                  stays_dead_on : (block : ℕ) → cell_at (world three).cells block ≡ Dead → cell_at (world four).cells block ≡ Dead
-                  stays_dead_on block dead = (laws.follows three four (4 + 2 * done.rewritten) done.ended.continues.reach).lasts.stays_dead block dead
+                };
+              }
 
   -- ---- the same, by what the parts answered
 
@@ -403,7 +464,7 @@ module _ {M : Type 0} (world : M → World) (block_count : M → ℕ) (reaches :
         pub fourth_by : (new : M) (end : End) → EndsMending world reaches kinds.Sdl shape three new (SdlValue s) end → EndRule world reaches shape old new end
         fourth_by new end ended = fourth_ends old one (AcceptsDds shape) best1 m look1 two (AcceptsSdl shape d) best2 n look2 d d_area found_by three mended s s_area below_by new end ended
 
-        pub both_by : (four : M) → IsMended world reaches kinds.Sdl shape three four (SdlValue s) → d.state ≡ Formatted → MountHasEnded world reaches shape old four 2 × FindsLists shape (world old) (world four) (record { dds = d; sdl = s })
+        pub both_by : (four : M) → IsMended world reaches kinds.Sdl shape three four (SdlValue s) → d.state ≡ Formatted → EndsWithLists world reaches shape old four (record { dds = d; sdl = s })
         both_by four done state = both_found old one (AcceptsDds shape) best1 m look1 two (AcceptsSdl shape d) best2 n look2 d d_area found_by three mended s s_area below_by four done state
 
 pub not_formatted : (s : DdsState) (b : Bool) → (s ≡ Formatted → IsTrue b) → b ≡ false → s ≡ Formatting

@@ -1,17 +1,17 @@
 -- What a mount does, by its answer: for `mount`.
-use Rattle.std.specs.Prelude.{◌≡◌, ◌≢◌, ℕ, ◌+◌, ◌*◌, ◌≤◌, ◌⊎◌, true, IsTrue, Option, Some, None, List}
+use Rattle.std.specs.Prelude.{◌≡◌, ℕ, ◌+◌, ◌*◌, ◌≤◌, true, IsTrue, Option, Some, None, List}
 use Rattle.model_geometry.specs.Geometry.{Shape, dds_block, sdl_block}
 use Rattle.model_lists.specs.Values.{Dds, IsLawfulDds, IsLawfulSdl}
-use Rattle.model_lists.specs.Texts.{IsDdsText}
-use Rattle.model_medium.specs.Cells.{Cell, cell_at}
+use Rattle.model_lists.specs.Texts.{IsDdsText, IsSdlText}
+use Rattle.model_medium.specs.Cells.{Cell}
 use Rattle.model_medium.specs.World.{World, UseContinues, IsOff}
 use Rattle.model_stops.specs.Stops.{Continues, Stops}
 use Rattle.model_stops.specs.declared.Stop.{Stop}
 use Rattle.model_stops.specs.declared.Stop.TheVariants as stops
-use Rattle.model_copies.specs.Copies.{IsArea, Settled, Mark}
+use Rattle.model_copies.specs.Copies.{Holds, Settled, HoldNothingNew, AreMarkedWithin, Mark, Rewrites}
 use Rattle.model_places.specs.Places as places
 use Rattle.model_places.specs.Valid.{AreValid}
-use Rattle.model_volume.specs.Given.{IsGiven, GivesNone, IsChosenDds, AreChosen, ChoosesNone, AreSettled, AreSeen}
+use Rattle.model_volume.specs.Given.{IsGiven, GivesNone, AreChosen, ChoosesNone, LacksLists, AreSettled, OnlyLists, LosesListCells, AreSeen}
 use Rattle.ram_copies.specs.Calls.{StoppedCounts}
 use Rattle.ram_lists.specs.Lists.{lists_of}
 use Rattle.ram_lists.specs.declared.mounting.Mounted.{Mounted}
@@ -21,17 +21,31 @@ use Rattle.ram_lists.specs.declared.ends.End.TheVariants as ends
 use Rattle.ram_lists.specs.declared.mounting.Disc.{Disc}
 use Rattle.ram_lists.specs.declared.mounting.Disc.TheVariants as discs
 
--- The block is a copy of neither list. (This project's own, as all here.)
-abbrev pub IsNoListBlock : Shape → ℕ → Type 0
-IsNoListBlock shape block = (area : ℕ) → IsArea area → (block ≢ dds_block shape area) × (block ≢ sdl_block shape area)
-
--- No cell changed but those of lists, and lists that the cells give now they gave before.
+-- No cell changed but those of lists; each copy of a list is as it was, or torn or dead, or holds what some copy of it
+-- held; and lists that the cells give now they gave before. (This project's own, as all here.)
 pub record KeepsGiven (shape : Shape) (old new : World) : Type 0 where
   pub as_known : new.known ≡ old.known
-  pub others : (block : ℕ) → IsNoListBlock shape block → cell_at new.cells block ≡ cell_at old.cells block
+  pub only : OnlyLists shape old.cells new.cells
+  pub dds : HoldNothingNew IsDdsText (dds_block shape) old.cells new.cells
+  pub sdl : HoldNothingNew IsSdlText (sdl_block shape) old.cells new.cells
   pub given : (lists : places.Lists) → IsGiven shape new.cells lists → IsGiven shape old.cells lists
 
--- The disc is formatted: these lists were chosen among the copies as they were read, and are settled now.
+-- The copies of a list were repaired in so many uses: one for each, and two for each that was not exactly its text when
+-- it was read, and so was written again.
+module _ {V : Type 0} (text : V → List ℕ → Type 0) (place : ℕ → ℕ) (old new : World) (value : V) where
+  pub record RepairsCopies (uses : ℕ) : Type 0 where
+    pub rewritten : ℕ
+    pub few : rewritten ≤ 4
+    pub uses_are : uses ≡ 4 + 2 * rewritten
+    pub rewrites : old.known ≡ true → Rewrites (λ cell. Holds text cell value) place old.cells new.cells 4 rewritten
+
+-- the copies of the structure that was chosen were repaired, and are exactly its text or dead; none were where none was
+abbrev pub RepairsChosen : Shape → World → World → Option Dds → ℕ → Type 0
+RepairsChosen shape old new None uses = uses ≡ 0
+RepairsChosen shape old new (Some dds) uses =
+    RepairsCopies IsDdsText (dds_block shape) old new dds uses × Settled IsDdsText (dds_block shape) new.cells dds
+
+-- The disc is formatted: these lists were chosen among the copies as they were read.
 pub record FindsLists (shape : Shape) (old new : World) (lists : places.Lists) : Type 0 where
   pub valid : AreValid shape lists
   pub lawful_dds : IsLawfulDds lists.dds
@@ -41,24 +55,23 @@ pub record FindsLists (shape : Shape) (old new : World) (lists : places.Lists) :
   pub are_seen : AreSeen shape old.cells seen new.cells
   pub chosen : old.known ≡ true → AreChosen shape seen lists
 
--- The disc is not formatted: no lists were chosen among the copies as they were read, the mark is theirs, the copies of a
--- structure that was chosen are settled now, and the cells give no lists.
-pub record FindsNoLists (shape : Shape) (old new : World) (mark : ℕ) : Type 0 where
+-- The disc is not formatted: no lists were chosen among the copies as they were read, and that for the structure that
+-- was; the mark is theirs, and no less than one on the disc now; and the cells give no lists.
+pub record FindsNoLists (shape : Shape) (old new : World) (dds : Option Dds) (mark : ℕ) : Type 0 where
   pub gives_none : GivesNone shape new.cells
+  pub marked : AreMarkedWithin shape new.cells mark
   pub seen : List Cell
   pub are_seen : AreSeen shape old.cells seen new.cells
   pub none : old.known ≡ true → ChoosesNone shape seen
+  pub lacks : old.known ≡ true → LacksLists shape seen dds
   pub mark_is : old.known ≡ true → Mark shape seen mark
-  pub settled : old.known ≡ true → (dds : Dds) (area : ℕ) → IsChosenDds shape seen dds area → Settled IsDdsText (dds_block shape) new.cells dds
 
 module _ {M : Type 0} (world : M → World) (reaches : M → M → ℕ → Type 0) (shape : Shape) (old new : M) where
-  -- The mount went to its end: it read eight copies, repaired one list or two or none, and rewrote so many copies. The
-  -- power was on and is on, and neither a cut nor a fault is counted.
+  -- The mount went to its end: it read eight copies, and repaired lists in so many uses. The power was on and is on, and
+  -- neither a cut nor a fault is counted.
   pub record MountHasEnded (repairs : ℕ) : Type 0 where
     pub was_on : IsTrue (world old).power
-    pub rewritten : ℕ
-    pub few : rewritten ≤ 4 * repairs
-    pub continues : Continues world reaches old new (8 + 4 * repairs + 2 * rewritten)
+    pub continues : Continues world reaches old new (8 + repairs)
     pub counts : UseContinues (world old) (world new)
     pub keeps : KeepsGiven shape (world old) (world new)
 
@@ -69,7 +82,8 @@ module _ {M : Type 0} (world : M → World) (reaches : M → M → ℕ → Type 
     pub counts : StoppedCounts (world old) (world new) stop
     pub keeps : KeepsGiven shape (world old) (world new)
 
-  -- it was out of memory within 8 uses: the power was on and is on, and neither a cut nor a fault is counted
+  -- It was out of memory within 8 uses: the power was on and is on, neither a cut nor a fault is counted, and at most
+  -- some copies died.
   pub record WasOutOfMemory : Type 0 where
     pub was_on : IsTrue (world old).power
     pub uses : ℕ
@@ -77,13 +91,24 @@ module _ {M : Type 0} (world : M → World) (reaches : M → M → ℕ → Type 
     pub continues : Continues world reaches old new uses
     pub counts : UseContinues (world old) (world new)
     pub keeps : KeepsGiven shape (world old) (world new)
+    pub loses : LosesListCells shape (world old).cells (world new).cells
 
-  -- one repair or none where no lists were found
+  -- both lists were found, and their copies repaired
+  pub record EndsWithLists (lists : places.Lists) : Type 0 where
+    pub dds_uses : ℕ
+    pub dds : RepairsCopies IsDdsText (dds_block shape) (world old) (world new) lists.dds dds_uses
+    pub sdl_uses : ℕ
+    pub sdl : RepairsCopies IsSdlText (sdl_block shape) (world old) (world new) lists.sdl sdl_uses
+    pub ended : MountHasEnded (dds_uses + sdl_uses)
+    pub finds : FindsLists shape (world old) (world new) lists
+
+  -- none were, and the copies of the structure that was chosen were repaired, if one was
   pub record EndsBare (mark : ℕ) : Type 0 where
-    pub repairs : ℕ
-    pub few_repairs : repairs ≤ 1
-    pub ended : MountHasEnded repairs
-    pub finds : FindsNoLists shape (world old) (world new) mark
+    pub dds : Option Dds
+    pub uses : ℕ
+    pub repaired : RepairsChosen shape (world old) (world new) dds uses
+    pub ended : MountHasEnded uses
+    pub finds : FindsNoLists shape (world old) (world new) dds mark
 
   -- How a mount ended before its end.
   abbrev pub EndRule : End → Type 0
@@ -94,12 +119,12 @@ module _ {M : Type 0} (world : M → World) (reaches : M → M → ℕ → Type 
 
   -- What a mount found.
   abbrev pub FoundRule : Disc → Type 0
-  FoundRule (discs.Formatted lists) = MountHasEnded 2 × FindsLists shape (world old) (world new) (lists_of lists)
+  FoundRule (discs.Formatted lists) = EndsWithLists (lists_of lists)
   FoundRule (discs.Bare mark) = EndsBare mark
 
   -- What a mount does, by its answer.
   abbrev pub MountRule : Mounted → Type 0
-  MountRule (mounts.Lists lists) = MountHasEnded 2 × FindsLists shape (world old) (world new) (lists_of lists)
+  MountRule (mounts.Lists lists) = EndsWithLists (lists_of lists)
   MountRule (mounts.Bare mark) = EndsBare mark
   MountRule mounts.Cut = WasStopped stops.Cut
   MountRule mounts.Off = IsOff (world old) (world new)

@@ -1,5 +1,5 @@
 -- What the choice and the repair of one list do within a mount: for `pick` and `mend`.
-use Rattle.std.specs.Prelude.{◌≡◌, ℕ, ◌+◌, ◌*◌, ◌≤◌, true, Option, Some, None}
+use Rattle.std.specs.Prelude.{ℕ, Option, Some, None}
 use Rattle.model_geometry.specs.Geometry.{Shape}
 use Rattle.model_medium.specs.World.{World, IsOff}
 use Rattle.model_stops.specs.declared.Stop.TheVariants as stops
@@ -7,7 +7,7 @@ use Rattle.model_copies.specs.Copies.{Settled}
 use Rattle.ram_zones.specs.declared.list_kind.ListKind.{ListKind}
 use Rattle.ram_zones.specs.ListKind.{list_block}
 use Rattle.ram_copies.specs.Values.{ListValue, IsText}
-use Rattle.ram_copies.specs.Calls.{CallEnds, StoppedWithin, MayLeaveCopies}
+use Rattle.ram_copies.specs.Calls.{CallEnds, StoppedWithin, MayLeaveCopies, Repairs}
 use Rattle.ram_copies.specs.Chooses.{SawCopies, ChoosesOutOfMemory, IsMarkSeen, Finds, FindsNone}
 use Rattle.ram_lists.specs.declared.parts.Picked.{Picked}
 use Rattle.ram_lists.specs.declared.ends.End.{End}
@@ -40,11 +40,9 @@ module _ {M : Type 0} (world : M → World) (reaches : M → M → ℕ → Type 
   EndsPicking ends.NoMemory = ChoosesOutOfMemory world reaches kind shape old new × SawCopies world reaches kind shape old new
 
   module _ (value : ListValue) where
-    -- the copies are settled, and so many of them were written again
+    -- the copies were repaired, and are settled
     pub record IsMended : Type 0 where
-      pub rewritten : ℕ
-      pub few : rewritten ≤ 4
-      pub ended : CallEnds world reaches kind shape old new (4 + 2 * rewritten)
+      pub repairs : Repairs world reaches kind shape old new value
       pub settled : Settled (IsText kind) (λ area. list_block shape area kind) (world new).cells value
 
     -- the repair ended before its end

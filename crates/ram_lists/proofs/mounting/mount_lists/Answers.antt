@@ -1,11 +1,11 @@
-use Rattle.std.proofs.Common.{sym, ap}
+use Rattle.std.proofs.Common.{ap}
 use Rattle.std.proofs.lemmas.Result.{err_from_is_err_and}
 use Rattle.ram_dds.specs.Dds.{dds_of}
 use Rattle.ram_sdl.specs.Sdl.{sdl_of}
 use Rattle.ram_copies.specs.Values.{DdsValue, SdlValue}
 use Rattle.ram_lists.specs.Lists.{AcceptsDds}
 use Rattle.ram_lists.specs.Parts.{picked_of}
-use Rattle.ram_lists.proofs.MountSteps.{first_ends, second_ends, nothing_by, third_by, formatting_by, lone_by, fourth_by, both_by, not_formatted, fits_picked, sdl_picked}
+use Rattle.ram_lists.proofs.MountSteps.{first_ends, second_ends, nothing_by, third_by, formatting_by, lone_by, fourth_by, both_by, not_formatted}
 use Rattle.ram_lists.proofs.mounting.mount_lists.Goals as goal
 
 pub returns-in_err-best-clause-rule : goal.returns-in_err-best-clause-rule
