@@ -1,0 +1,2 @@
+mod Powering
+mod TurningOff
