@@ -16,7 +16,7 @@ ghost use Rattle.ram_lists.specs.Lists.{lists_of};
 ghost use Rattle.ram_volume.specs.OneProof.{lawful_dds-prop};
 
 use ram_buffer::BlockBuffer;
-use ram_bytes::Block;
+use ram_bytes::{Block, SECTORS_PER_BLOCK};
 use ram_copies::Scratch;
 use ram_lists::Lists;
 use ram_medium::MediumControl;
@@ -138,5 +138,19 @@ impl<M: MediumControl> NotFormatted<M> {
         ensures { result ≡ self.now.mark }
     {
         self.mark
+    }
+}
+
+impl<M: MediumControl> Ready<M> {
+    ghost use Rattle.std.specs.Prelude.{◌≡◌};
+    ghost use Rattle.model_drive.specs.Shown.{capacity};
+    ghost use Rattle.ram_volume.specs.Shown.{shown_ready};
+
+    /// How many sectors the disc has.
+    pub fn capacity(&self) -> u32
+        ensures { result ≡ capacity (shown_ready self.now) }
+    {
+        let blocks = self.geometry.data_blocks() - self.geometry.psa() - self.lists.sdl.ssa;
+        blocks * SECTORS_PER_BLOCK as u32
     }
 }
