@@ -20,7 +20,7 @@ use Rattle.model_drive.specs.Sound.{IsSound}
 use Rattle.model_drive.specs.Expands.{ssa_for, OnlySdl, ExpandsAny, StaysAsLarge, Grows, GrowsInVain, StopsInExpansion, ExpandCause, ExpandStep, ExpandCompletes, shortened}
 use Rattle.model_drive.proofs.Ends.{stop_known, stop_off, none_stopped}
 use Rattle.model_drive.proofs.Dying.{unformatted_disc}
-use Rattle.model_drive.proofs.Powers.{stands_fitting}
+use Rattle.model_drive.proofs.Powers.{keeps_right, stands_fitting}
 
 -- the copies of the secondary list are cells of lists
 only_lists : (old new : Shown) → OnlySdl old new → OnlyLists old.shape (cells_in old) (cells_in new)
@@ -79,7 +79,7 @@ module _ (old new : Shown) (same_shape : new.shape ≡ old.shape) (sound : IsSou
 
   fitting : (lists : Lists) → new.medium.world.known ≡ old.medium.world.known → IsOn new → new.lists ≡ Some lists → new.buffer ≡ [] → (d : List ℕ) → FitsUnder old.shape (cells_in new) lists d → StandsFor new (On d)
   fitting lists as_known on in_use empty d fits =
-      stands_fitting old new same_shape sound (as_known ∙ stood.0) on lists in_use empty d (subst (λ (s : Shape). FitsUnder s (cells_in new) lists d) (sym same_shape) fits)
+      stands_fitting old new same_shape (keeps_right new sound) (as_known ∙ stood.0) on lists in_use empty d (subst (λ (s : Shape). FitsUnder s (cells_in new) lists d) (sym same_shape) fits)
 
   stopped : (stop : Stop) → StopsInExpansion old new sectors stop → StandsFor new (Off (disc ∷ shortened sectors disc ∷ []))
   stopped stop cause =

@@ -12,7 +12,7 @@ use Rattle.model_drive.specs.Sound.{IsSound}
 use Rattle.model_drive.specs.FullFormats.{FullCause}
 use Rattle.model_drive.specs.Rewriting.{RewriteCause}
 use Rattle.model_drive.specs.Formats.{FormatCause, FormatCauseBy, FormatStep, FormatStepBy}
-use Rattle.model_drive.proofs.Powers.{rewrite_step}
+use Rattle.model_drive.proofs.Powers.{keeps_right, rewrite_step}
 use Rattle.model_drive.proofs.Formatting.{full_step}
 
 module _ (old new : Shown) where
@@ -52,7 +52,7 @@ module _ (old new : Shown) where
     step_by : (lists : Option Lists) → old.lists ≡ lists → (disc : List ℕ) → StandsFor old (On disc) → (kind : Kind) (out : FormatOut) → FormatCauseBy old new lists kind out → FormatStepBy old new lists (StandsFor new) disc kind out
     step_by lists in_use disc stood (kinds.Full drop_sdl) out cause = full_step old new same_shape sound disc stood drop_sdl out cause
     step_by None in_use disc stood kinds.Rewrite out cause = full_step old new same_shape sound disc stood false out cause
-    step_by (Some lists) in_use disc stood kinds.Rewrite out cause = rewrite_step old new same_shape sound lists in_use disc stood out cause
+    step_by (Some lists) in_use disc stood kinds.Rewrite out cause = rewrite_step old new same_shape (keeps_right new sound) lists in_use disc stood out cause
 
     off_step : (discs : List (List ℕ)) → StandsFor old (Off discs) → (kind : Kind) (out : FormatOut) → FormatCause old new kind out → FormatStep old new (StandsFor new) (Off discs) kind out
     off_step discs stood kind out cause =

@@ -20,7 +20,7 @@ use Rattle.model_drive.specs.Sound.{IsSound}
 use Rattle.model_drive.specs.FullFormats.{HasFoundDefective, FullCause, FullStep, StandsInFormat, StopsInFormat, LosesList}
 use Rattle.model_drive.proofs.Ends.{stop_known, stop_off}
 use Rattle.model_drive.proofs.Dying.{stands_covers}
-use Rattle.model_drive.proofs.Powers.{stands_bare, stands_fitting}
+use Rattle.model_drive.proofs.Powers.{keeps_right, stands_bare, stands_fitting}
 
 -- the block of an entry is one of the list's
 block_member : (entries : List PdlEntry) (entry : PdlEntry) → Contains entries entry → Contains (pdl_blocks entries) entry.block
@@ -39,7 +39,7 @@ zeros_fit_found old new drop_sdl entries known found valid =
 
 module _ (old new : Shown) (same_shape : new.shape ≡ old.shape) (sound : IsSound new) (disc : List ℕ) (stood : StandsFor old (On disc)) where
   bare : new.medium.world.known ≡ old.medium.world.known → (on : IsTrue new.medium.world.power) → new.lists ≡ None → new.buffer ≡ [] → StandsFor new (On [])
-  bare as_known on none empty = stands_bare old new same_shape sound (as_known ∙ stood.0) on none empty
+  bare as_known on none empty = stands_bare old new same_shape (keeps_right new sound) (as_known ∙ stood.0) on none empty
 
   loses : (drop_sdl : Bool) (counter : ℕ) → LosesList old new drop_sdl counter → FullStep old new (StandsFor new) disc (outs.NoUpdate counter)
   loses drop_sdl counter (inl cause) = inr (cause.any.room, bare cause.any.ends.reach.lasts.as_known cause.any.ends.is_on cause.no_lists cause.any.unbuffered)
@@ -69,7 +69,7 @@ module _ (old new : Shown) (same_shape : new.shape ≡ old.shape) (sound : IsSou
       let known = cause.any.ends.reach.lasts.as_known ∙ stood.0 in
       let valid = subst (λ (shape : Shape). AreValid shape (fresh_lists old.shape old.mark cause.entries)) same_shape (sound.in_use (fresh_lists old.shape old.mark cause.entries) cause.lists_are).valid in
       let fits = zeros_fit_found old new drop_sdl cause.entries stood.0 cause.certified valid in
-      stands_fitting old new same_shape sound known cause.any.ends.is_on (fresh_lists old.shape old.mark cause.entries) cause.lists_are cause.any.unbuffered (zero_disc old.shape)
+      stands_fitting old new same_shape (keeps_right new sound) known cause.any.ends.is_on (fresh_lists old.shape old.mark cause.entries) cause.lists_are cause.any.unbuffered (zero_disc old.shape)
       (subst (λ (shape : Shape). FitsUnder shape (cells_in new) (fresh_lists old.shape old.mark cause.entries) (zero_disc old.shape)) (sym same_shape) fits)
   full_step drop_sdl (outs.TooMany found) cause = bare cause.any.ends.reach.lasts.as_known cause.any.ends.is_on cause.no_lists cause.any.unbuffered
   full_step drop_sdl (outs.NoUpdate counter) (inl cause) = inl (cause, subst (λ (x : Shown). StandsFor x (On disc)) (sym cause.nothing) stood)

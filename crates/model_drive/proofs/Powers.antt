@@ -14,7 +14,7 @@ use Rattle.model_volume.proofs.GivenFacts.{given_seen, chosen_given}
 use Rattle.model_drive.specs.declared.FormatOut.{FormatOut}
 use Rattle.model_drive.specs.declared.FormatOut.TheVariants as formats
 use Rattle.model_drive.specs.Shown.{Shown, IsKnown, IsOn, cells_in, HoldsBlocksOf, StandsFor, StandsBy}
-use Rattle.model_drive.specs.Sound.{IsSound}
+use Rattle.model_drive.specs.Sound.{IsBare, AreInUse, IsSound}
 use Rattle.model_drive.specs.Power.{turned_on, MountsAny, MountsLists, StopsInMount, PowerCause, PowerStep}
 use Rattle.model_drive.specs.Rewriting.{RepairsBoth, StopsInRewrite, RewriteCause, RewriteStep}
 use Rattle.model_drive.proofs.Fitting.{first_under}
@@ -36,7 +36,15 @@ known_before : (old : Shown) (s : Standing) → StandsFor old s → IsKnown old
 known_before old (On disc) stood = stood.0
 known_before old (Off discs) stood = stood.0
 
-module _ (old new : Shown) (same_shape : new.shape ≡ old.shape) (sound : IsSound new) where
+-- What is kept in memory is right: all that a standing needs of a sound drive.
+pub record KeepsRight (shown : Shown) : Type 0 where
+  pub bare : IsOn shown → shown.lists ≡ None → IsBare shown
+  pub in_use : (lists : Lists) → shown.lists ≡ Some lists → AreInUse shown lists
+
+pub keeps_right : (shown : Shown) → IsSound shown → KeepsRight shown
+keeps_right shown sound = record { bare = sound.bare; in_use = sound.in_use }
+
+module _ (old new : Shown) (same_shape : new.shape ≡ old.shape) (sound : KeepsRight new) where
   -- a drive that is on, with no lists in use, stands for the disc without sectors
   pub stands_bare : IsKnown new → IsOn new → new.lists ≡ None → new.buffer ≡ [] → StandsFor new (On [])
   stands_bare known on none empty =
