@@ -11,9 +11,8 @@ mod shorthand;
 #[cfg(test)]
 mod tests;
 
-use crate::runs::{PIECE, run_words};
+use crate::runs::{PIECE, Ran, run_script};
 use crate::shorthand::add_line;
-use ram_run::status::Status;
 use std::io;
 
 fn main(rt: HostRuntime) -> io::Result<()> {
@@ -27,7 +26,7 @@ fn main(rt: HostRuntime) -> io::Result<()> {
             add_line(&mut script, line.as_str())?;
         }
         if !script.is_empty() && (alone || title.is_some()) {
-            image = end_row(&rt, script.as_bytes(), image)?;
+            image = end_row(&rt, script.as_bytes(), &image)?;
             script.clear();
         }
         if let Some(title) = title {
@@ -39,19 +38,21 @@ fn main(rt: HostRuntime) -> io::Result<()> {
         }
     }
     if !script.is_empty() {
-        end_row(&rt, script.as_bytes(), image)?;
+        end_row(&rt, script.as_bytes(), &image)?;
     }
     Ok(())
 }
 
 /// Runs the script of a row, prints its report and its exit status, and gives the image that it leaves.
-fn end_row<R: Print + AllocGlobal>(rt: &R, script: &[u8], image: Vec<u8>) -> io::Result<Vec<u8>> {
-    let words = ["run", "disc"];
-    let ran = run_words(rt.alloc(), &words, script, image.as_slice(), PIECE, None)?;
-    print!(rt;
-        "{}",
-        str::from_utf8(ran.report.bytes()).unwrap_or("no text\n")
-    )?;
-    println!(rt; "exit status {}", ran.status.exit_number())?;
-    Ok(ran.image_bytes().to_vec(rt.alloc())?)
+fn end_row<R: Print + AllocGlobal>(rt: &R, script: &[u8], image: &[u8]) -> io::Result<Vec<u8>> {
+    let ran = run_script(rt.alloc(), script, image, PIECE, None)?;
+    print_report(rt, &ran)?;
+    Ok(ran.image)
+}
+
+/// Prints the report of a run, and its exit status.
+fn print_report<R: Print>(rt: &R, ran: &Ran) -> io::Result<()> {
+    let report = str::from_utf8(&ran.report).unwrap_or("no text\n");
+    print!(rt; "{report}")?;
+    println!(rt; "exit status {}", ran.status.exit_number())
 }

@@ -6,6 +6,9 @@ use ram_run::run::run;
 use ram_run::status::Status;
 use std::alloc::{AllocError, Global};
 
+/// The words of the program in each run.
+pub const WORDS: [&str; 2] = ["run", "disc"];
+
 /// How many bytes the image of a disc of one zone, scale 1 and four primary spares has.
 pub const IMAGE_BYTES: usize = 1_343_545;
 
@@ -31,29 +34,34 @@ pub struct Failure {
     pub call: u64,
 }
 
-/// How a run ended, and what it leaves.
+/// How often each object was called, of the calls that may fail.
+#[derive(Clone, Copy, Debug, PartialEq, Eq)]
+pub struct CallCounts {
+    pub source: u64,
+    pub sink: u64,
+    pub image: u64,
+}
+
+/// How a run ended, and what it leaves: its report, and the bytes of the image that was handed back, none where no
+/// image was.
 #[derive(Drop)]
 pub struct Ran {
     pub status: Status,
-    pub script: MemSource,
-    pub report: MemSink,
-    pub opener: MemOpener,
+    pub report: Vec<u8>,
+    pub image: Vec<u8>,
+    pub calls: CallCounts,
 }
 
 impl Ran {
-    /// The bytes of the image that was handed back; none where no image was.
-    pub fn image_bytes(&self) -> &[u8] {
-        match self.opener.returned() {
-            Some(image) => image.bytes(),
-            None => b"",
-        }
+    /// Whether the run has this status and this report.
+    pub fn has(&self, status: Status, report: &[u8]) -> bool {
+        self.status == status && self.report.as_slice() == report
     }
 }
 
-/// Runs these words over a script and an image of these bytes. Source and sink move at most `piece` bytes at once.
-pub fn run_words(
+/// Runs a script over an image of these bytes. Source and sink move at most `piece` bytes at once.
+pub fn run_script(
     alloc: Global,
-    words: &[&str],
     script: &[u8],
     image: &[u8],
     piece: usize,
@@ -61,24 +69,82 @@ pub fn run_words(
 ) -> Result<Ran, AllocError>
     requires { 0 < piece }
 {
-    let mut bytes = Vec::with_capacity(alloc, IMAGE_BYTES)?;
-    bytes.extend_from_slice(image)?;
-    let calls = failing(alloc, failure, Outside::Image)?;
-    let image = MemImage::new(bytes, calls);
-    let calls = failing(alloc, failure, Outside::Source)?;
-    let mut script = MemSource::new(script.to_vec(alloc)?, piece, calls);
-    let calls = failing(alloc, failure, Outside::Sink)?;
-    let mut report = MemSink::new(alloc, piece, calls);
-    report.reserve(REPORT_BYTES)?;
-    let calls = failing(alloc, failure, Outside::Opener)?;
-    let mut opener = MemOpener::new(image, calls);
-    let status = run(alloc, words, &mut script, &mut report, &mut opener);
+    let script = source(alloc, script, piece, failure)?;
+    let report = sink(alloc, piece, failure)?;
+    let opener = opener(alloc, image, failure)?;
+    run_over(alloc, script, report, opener)
+}
+
+/// Runs a script over the image that the opener gives.
+fn run_over(
+    alloc: Global,
+    script: MemSource,
+    report: MemSink,
+    opener: MemOpener,
+) -> Result<Ran, AllocError> {
+    let (mut script, mut report, mut opener) = (script, report, opener);
+    let status = run(alloc, &WORDS, &mut script, &mut report, &mut opener);
+    what_is_left(alloc, status, &script, &report, &opener)
+}
+
+fn what_is_left(
+    alloc: Global,
+    status: Status,
+    script: &MemSource,
+    report: &MemSink,
+    opener: &MemOpener,
+) -> Result<Ran, AllocError> {
+    let (image, calls) = match opener.returned() {
+        Some(image) => (image.bytes(), image.calls()),
+        None => (b"".as_slice(), 0),
+    };
+    let calls = CallCounts {
+        source: script.calls(),
+        sink: report.calls(),
+        image: calls,
+    };
+    let report = report.bytes().to_vec(alloc)?;
+    let image = image.to_vec(alloc)?;
     Ok(Ran {
         status,
-        script,
         report,
-        opener,
+        image,
+        calls,
     })
+}
+
+/// A source of these bytes.
+fn source(
+    alloc: Global,
+    script: &[u8],
+    piece: usize,
+    failure: Option<Failure>,
+) -> Result<MemSource, AllocError>
+    requires { 0 < piece }
+{
+    let calls = failing(alloc, failure, Outside::Source)?;
+    Ok(MemSource::new(script.to_vec(alloc)?, piece, calls))
+}
+
+/// A sink with room for the longest report.
+pub fn sink(alloc: Global, piece: usize, failure: Option<Failure>) -> Result<MemSink, AllocError>
+    requires { 0 < piece }
+{
+    let mut report = MemSink::new(alloc, piece, failing(alloc, failure, Outside::Sink)?);
+    report.reserve(REPORT_BYTES)?;
+    Ok(report)
+}
+
+/// An opener of an image of these bytes, with room for those of a disc.
+pub fn opener(
+    alloc: Global,
+    image: &[u8],
+    failure: Option<Failure>,
+) -> Result<MemOpener, AllocError> {
+    let mut bytes = Vec::with_capacity(alloc, IMAGE_BYTES)?;
+    bytes.extend_from_slice(image)?;
+    let image = MemImage::new(bytes, failing(alloc, failure, Outside::Image)?);
+    Ok(MemOpener::new(image, failing(alloc, failure, Outside::Opener)?))
 }
 
 /// The numbers of the calls of this object that fail.

@@ -1,9 +1,9 @@
 //! How a run ends: the last line of the report, and the status.
 ghost use Rattle.std.specs.Prelude.{None};
 
-use super::run_over;
-use crate::runs::{PIECE, REPORT_BYTES, run_words};
-use ram_outside::{MemImage, MemOpener, MemSink, Source, Take};
+use super::{ends, ends_in_pieces};
+use crate::runs::{PIECE, Ran, WORDS, opener, run_script, sink};
+use ram_outside::{Source, Take};
 use ram_run::run::run;
 use ram_run::status::Status;
 use std::alloc::{AllocError, Global};
@@ -50,9 +50,8 @@ const ENDINGS: [(&str, Status, &str); 10] = [
 #[test]
 fn a_script_may_end_anyhow(rt: HostRuntime) -> Result<(), Fail> {
     for (script, status, report) in ENDINGS {
-        let ran = run_over(rt.alloc(), script.as_bytes(), b"", None)?;
-        assert_eq!(rt; ran.report.bytes(), report.as_bytes(), "{script}");
-        assert_eq!(rt; ran.status, status, "{script}");
+        let is_so = ends(rt.alloc(), script.as_bytes(), PIECE, status, report)?;
+        assert!(rt; is_so, "{script}");
     }
     Ok(())
 }
@@ -87,34 +86,49 @@ const LONG_LINES: [(usize, &str, Status, &str); 6] = [
     (70_001, "", Status::Script, "1 pressed\n2 too long\n"),
 ];
 
+/// A press, a comment of so many bytes, and then this.
+fn long_script(alloc: Global, len: usize, end: &str) -> Result<Vec<u8>, AllocError> {
+    let mut script = b"press 1 1 4\n".to_vec(alloc)?;
+    script.resize(script.len().saturating_add(len), b'#')?;
+    script.extend_from_slice(end.as_bytes())?;
+    Ok(script)
+}
+
+/// Whether that script has this status and this report.
+fn long_script_ends(
+    alloc: Global,
+    len: usize,
+    end: &str,
+    status: Status,
+    report: &str,
+) -> Result<bool, AllocError> {
+    let script = long_script(alloc, len, end)?;
+    ends_in_pieces(alloc, &script, status, report)
+}
+
 #[test]
 fn a_line_has_its_limit(rt: HostRuntime) -> Result<(), Fail> {
     for (len, end, status, report) in LONG_LINES {
-        let mut script = b"press 1 1 4\n".to_vec(rt.alloc())?;
-        script.resize(script.len().saturating_add(len), b'#')?;
-        script.extend_from_slice(end.as_bytes())?;
-        for piece in [7, PIECE] {
-            let ran = run_words(
-                rt.alloc(),
-                &["run", "disc"],
-                script.as_slice(),
-                b"",
-                piece,
-                None,
-            )?;
-            assert_eq!(rt; ran.report.bytes(), report.as_bytes(), "{len} bytes");
-            assert_eq!(rt; ran.status, status, "{len} bytes");
-        }
+        let is_so = long_script_ends(rt.alloc(), len, end, status, report)?;
+        assert!(rt; is_so, "{len} bytes and {end:?}");
     }
     Ok(())
 }
 
-/// A source of so many bytes, made of one comment over and over.
+/// A script of so many bytes that is not stored, in lines of 65,536 bytes.
 #[derive(Drop)]
 struct Comments {
     line: Vec<u8>,
     at: usize,
     end: usize,
+}
+
+impl Comments {
+    fn new(alloc: Global, end: usize) -> Result<Comments, AllocError> {
+        let mut line = vec![in alloc; b'#'; 65_535]?;
+        line.push(b'\n')?;
+        Ok(Comments { line, at: 0, end })
+    }
 }
 
 impl Source for Comments {
@@ -134,25 +148,13 @@ impl Source for Comments {
     }
 }
 
-/// Runs a script of so many bytes that is not stored, in lines of 65,536 bytes.
-fn run_comments(alloc: Global, end: usize) -> Result<(Status, MemSink), AllocError> {
-    let mut line = vec![in alloc; b'#'; 65_535]?;
-    line.push(b'\n')?;
-    let mut script = Comments { line, at: 0, end };
-    let mut report = MemSink::new(alloc, PIECE, Vec::new(alloc));
-    report.reserve(REPORT_BYTES)?;
-    let mut opener = MemOpener::new(
-        MemImage::new(Vec::new(alloc), Vec::new(alloc)),
-        Vec::new(alloc),
-    );
-    let status = run(
-        alloc,
-        &["run", "disc"],
-        &mut script,
-        &mut report,
-        &mut opener,
-    );
-    Ok((status, report))
+/// Whether a script of so many bytes has this status and this report.
+fn comments_end(alloc: Global, end: usize, status: Status, text: &str) -> Result<bool, AllocError> {
+    let mut script = Comments::new(alloc, end)?;
+    let mut report = sink(alloc, PIECE, None)?;
+    let mut opener = opener(alloc, b"", None)?;
+    let found = run(alloc, &WORDS, &mut script, &mut report, &mut opener);
+    Ok(found == status && report.bytes() == text.as_bytes())
 }
 
 #[test]
@@ -161,32 +163,44 @@ fn a_script_has_its_limit(rt: HostRuntime) -> Result<(), Fail> {
         (67_108_864, Status::Done, "end 0\n"),
         (67_108_865, Status::Script, "script too long\n"),
     ] {
-        let (found, report) = run_comments(rt.alloc(), end)?;
-        assert_eq!(rt; report.bytes(), text.as_bytes(), "{end} bytes");
-        assert_eq!(rt; found, status, "{end} bytes");
+        assert!(rt; comments_end(rt.alloc(), end, status, text)?, "{end} bytes");
     }
     Ok(())
 }
 
-#[test]
-fn a_long_script_takes_few_calls_and_no_answer_is_kept_back(rt: HostRuntime) -> Result<(), Fail> {
-    let mut script = String::new(rt.alloc());
+/// A press, and 50,000 times the turning on of the power.
+fn many_lines(alloc: Global) -> Result<String, AllocError> {
+    let mut script = String::new(alloc);
     script.push_str("press 1 1 4\n")?;
     for _ in 0..50_000u32 {
         script.push_str("power\n")?;
     }
-    let ran = run_over(rt.alloc(), script.as_bytes(), b"", None)?;
-    assert_eq!(rt; ran.status, Status::Done);
-    let end = b"\n50001 ready 304\nend 50001\n";
-    assert!(rt; ran.report.bytes().ends_with(end));
-    let takes = script.len().div_ceil(PIECE) as u64;
-    assert!(rt; ran.script.calls() <= takes.saturating_add(2));
-    let puts = ran.report.bytes().len().div_ceil(PIECE) as u64;
-    assert!(rt; ran.report.calls() <= puts.saturating_add(ran.script.calls()));
+    Ok(script)
+}
 
+/// Whether the source was asked once for each piece of so many bytes, the report was put in pieces of that size, and
+/// neither much oftener.
+fn took_few_calls(ran: &Ran, script_len: usize) -> bool {
+    let takes = script_len.div_ceil(PIECE) as u64;
+    let puts = ran.report.len().div_ceil(PIECE) as u64;
+    ran.calls.source <= takes.saturating_add(2)
+        && ran.calls.sink <= puts.saturating_add(ran.calls.source)
+}
+
+#[test]
+fn a_long_script_takes_few_calls(rt: HostRuntime) -> Result<(), Fail> {
+    let script = many_lines(rt.alloc())?;
+    let ran = run_script(rt.alloc(), script.as_bytes(), b"", PIECE, None)?;
+    assert_eq!(rt; ran.status, Status::Done);
+    assert!(rt; ran.report.ends_with(b"\n50001 ready 304\nend 50001\n"));
+    assert!(rt; took_few_calls(&ran, script.len()));
+    Ok(())
+}
+
+#[test]
+fn no_answer_is_kept_back(rt: HostRuntime) -> Result<(), Fail> {
     let few = b"press 1 1 4\npower\npower\npower\npower\npower\npower\n";
-    let words = ["run", "disc"];
-    let ran = run_words(rt.alloc(), &words, few, b"", 6, None)?;
-    assert!(rt; ran.report.calls() >= 7, "an answer was kept back");
+    let ran = run_script(rt.alloc(), few, b"", 6, None)?;
+    assert!(rt; ran.calls.sink >= 7);
     Ok(())
 }

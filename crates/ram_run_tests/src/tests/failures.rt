@@ -1,6 +1,6 @@
 //! Sources, sinks, openers and images that fail.
-use super::{run_lines, run_over};
-use crate::runs::{Failure, Outside, Ran};
+use super::run_lines;
+use crate::runs::{CallCounts, Failure, Outside, PIECE, Ran, run_script};
 use ram_run::status::Status;
 use std::alloc::{AllocError, Global};
 use std::test::Fail;
@@ -25,6 +25,9 @@ const REPORT: &str = "1 pressed
 sector 16 fill cc
 end 7
 ";
+
+/// Makes a new disc.
+const PRESS: &str = "press 1 1 4\n";
 
 /// Writes two blocks of a new disc.
 const WRITTEN: &str = "press 1 1 4
@@ -79,34 +82,58 @@ const LAWFUL: [&str; 16] = [
     "end 5",
 ];
 
+/// How often the run that does not fail calls source and sink, where it has its report.
+fn calls_of_the_whole(alloc: Global) -> Result<Option<CallCounts>, AllocError> {
+    let whole = run_lines(alloc, SCRIPT, b"", None)?;
+    Ok(
+        whole
+            .has(Status::Done, REPORT.as_bytes())
+            .then_some(whole.calls),
+    )
+}
+
+/// Whether the run with this failure has this status, and tells no more than it would have.
+fn ends_early(alloc: Global, failure: Failure, status: Status) -> Result<bool, AllocError> {
+    let ran = run_lines(alloc, SCRIPT, b"", Some(failure))?;
+    Ok(ran.status == status && REPORT.as_bytes().starts_with(&ran.report))
+}
+
+/// Whether the run ends early with this status where this fails at each of its calls in turn, and not where a call
+/// after the last one is to fail.
+fn ends_early_each_time(
+    alloc: Global,
+    of: Outside,
+    calls: u64,
+    status: Status,
+) -> Result<bool, AllocError> {
+    for call in 1..calls.saturating_add(1) {
+        if !ends_early(alloc, Failure { of, call }, status)? {
+            return Ok(false);
+        }
+    }
+    let call = calls.saturating_add(1);
+    ends_early(alloc, Failure { of, call }, Status::Done)
+}
+
 #[test]
 fn source_sink_and_opener_fail_at_each_call_in_turn(rt: HostRuntime) -> Result<(), Fail> {
-    let whole = run_lines(rt.alloc(), SCRIPT, b"", None)?;
-    assert_eq!(rt; whole.status, Status::Done);
-    assert_eq!(rt; whole.report.bytes(), REPORT.as_bytes());
+    let whole = calls_of_the_whole(rt.alloc())?.ok_or("another report")?;
     for (of, calls, status) in [
-        (Outside::Source, whole.script.calls(), Status::SourceFault),
-        (Outside::Sink, whole.report.calls(), Status::SinkFault),
+        (Outside::Source, whole.source, Status::SourceFault),
+        (Outside::Sink, whole.sink, Status::SinkFault),
         (Outside::Opener, 1, Status::ImageFault),
     ] {
-        for call in 1..calls.saturating_add(2) {
-            let ran = run_lines(rt.alloc(), SCRIPT, b"", Some(Failure { of, call }))?;
-            let wanted = if call > calls { Status::Done } else { status };
-            assert!(rt;
-                ran.status == wanted && REPORT.as_bytes().starts_with(ran.report.bytes()),
-                "{of:?} {call}"
-            );
-        }
+        assert!(rt;
+            ends_early_each_time(rt.alloc(), of, calls, status)?,
+            "{of:?}"
+        );
     }
     Ok(())
 }
 
-/// How many calls a run made that the image may fail.
-fn calls_made(ran: &Ran) -> u64 {
-    match ran.opener.returned() {
-        Some(image) => image.calls(),
-        None => 0,
-    }
+/// How many calls of the image, of those that may fail, these lines make over an image of these bytes.
+fn calls_of_the_image(alloc: Global, lines: &str, image: &[u8]) -> Result<u64, AllocError> {
+    Ok(run_lines(alloc, lines, image, None)?.calls.image)
 }
 
 /// Whether each line is one that may be told.
@@ -122,7 +149,7 @@ fn is_lawful(report: &[u8]) -> bool {
     true
 }
 
-/// Runs lines over an image of these bytes, which fails at this call. Whether the run tells of it, and tells no
+/// Runs lines over an image of these bytes, which fails at this call. None where the run does not tell of it, or tells
 /// more than these answers.
 fn fails_at(
     alloc: Global,
@@ -133,46 +160,60 @@ fn fails_at(
 ) -> Result<Option<Ran>, AllocError> {
     let of = Outside::Image;
     let ran = run_lines(alloc, lines, image, Some(Failure { of, call }))?;
-    let tells = ran.status == Status::ImageFault && most.starts_with(ran.report.bytes());
+    let tells = ran.status == Status::ImageFault && most.starts_with(&ran.report);
     Ok(tells.then_some(ran))
 }
 
-/// Whether the image that a press left is no disc, or one that can be turned on.
-fn is_disc_or_none(alloc: Global, ran: &Ran) -> Result<bool, AllocError> {
-    let later = run_over(alloc, b"power\n", ran.image_bytes(), None)?;
-    let report = later.report.bytes();
+/// Whether a press that fails at this call tells of it, and leaves no disc, or one that can be turned on.
+fn press_fails_at(alloc: Global, call: u64) -> Result<bool, AllocError> {
+    let Some(ran) = fails_at(alloc, PRESS, b"", call, b"")? else {
+        return Ok(false);
+    };
+    let later = run_script(alloc, b"power\n", &ran.image, PIECE, None)?;
+    let report = later.report.as_slice();
     Ok(report == b"1 ready 304\nend 1\n".as_slice() || report == b"1 not a disc\n".as_slice())
+}
+
+#[test]
+fn a_press_fails_at_each_call_of_the_image(rt: HostRuntime) -> Result<(), Fail> {
+    let calls = calls_of_the_image(rt.alloc(), PRESS, b"")?;
+    assert!(rt; calls > 4);
+    for call in 1..calls.saturating_add(1) {
+        assert!(rt; press_fails_at(rt.alloc(), call)?, "call {call}");
+    }
+    Ok(())
 }
 
 /// Whether what the writes left can be read, old or new, and is new where they were acknowledged.
 fn is_old_or_new(alloc: Global, ran: &Ran) -> Result<bool, AllocError> {
-    let later = run_lines(alloc, LATER, ran.image_bytes(), None)?;
-    let report = later.report.bytes();
-    if ran.report.bytes().ends_with(b"2 good\n") {
+    let later = run_lines(alloc, LATER, &ran.image, None)?;
+    let report = later.report.as_slice();
+    if ran.report.ends_with(b"2 good\n") {
         return Ok(report == LEFT.as_bytes());
     }
     Ok(later.status == Status::Done && is_lawful(report))
 }
 
-#[test]
-fn an_image_fails_at_each_call(rt: HostRuntime) -> Result<(), Fail> {
-    let press = "press 1 1 4\n";
-    let calls = calls_made(&run_lines(rt.alloc(), press, b"", None)?);
-    assert!(rt; calls > 4);
-    for call in 1..calls.saturating_add(1) {
-        let ran = fails_at(rt.alloc(), press, b"", call, b"")?.ok_or("a press hides a failure")?;
-        assert!(rt; is_disc_or_none(rt.alloc(), &ran)?, "call {call}");
+/// Whether writes over this image that fail at this call tell of it, and leave what was there or what was written.
+fn writes_fail_at(alloc: Global, written: &[u8], call: u64) -> Result<bool, AllocError> {
+    match fails_at(alloc, AGAIN, written, call, b"1 ready 304\n2 good\n")? {
+        Some(ran) => is_old_or_new(alloc, &ran),
+        None => Ok(false),
     }
-    let begun = run_lines(rt.alloc(), WRITTEN, b"", None)?;
-    let written = begun.image_bytes();
-    let calls = calls_made(&run_lines(rt.alloc(), AGAIN, written, None)?);
+}
+
+/// The image of a new disc of which two blocks were written.
+fn two_blocks(alloc: Global) -> Result<Vec<u8>, AllocError> {
+    Ok(run_lines(alloc, WRITTEN, b"", None)?.image)
+}
+
+#[test]
+fn writes_fail_at_each_call_of_the_image(rt: HostRuntime) -> Result<(), Fail> {
+    let written = two_blocks(rt.alloc())?;
+    let calls = calls_of_the_image(rt.alloc(), AGAIN, &written)?;
     assert!(rt; calls > 16);
     for call in 1..calls.saturating_add(1) {
-        let most = b"1 ready 304\n2 good\n";
-        let ran = fails_at(rt.alloc(), AGAIN, written, call, most)?.ok_or(
-            "a write hides a failure",
-        )?;
-        assert!(rt; is_old_or_new(rt.alloc(), &ran)?, "call {call}");
+        assert!(rt; writes_fail_at(rt.alloc(), &written, call)?, "call {call}");
     }
     Ok(())
 }

@@ -1,8 +1,8 @@
 //! Images that are there already.
 ghost use Rattle.std.specs.Prelude.{◌<◌};
 
-use super::{run_lines, run_over};
-use crate::runs::{IMAGE_BYTES, PIECE, run_words};
+use super::run_lines;
+use crate::runs::{IMAGE_BYTES, PIECE, run_script};
 use ram_run::status::Status;
 use std::alloc::{AllocError, Global};
 use std::test::Fail;
@@ -37,13 +37,8 @@ end 4
 fn makes(alloc: Global, image: &[u8], piece: usize, left: &[u8]) -> Result<bool, AllocError>
     requires { 0 < piece }
 {
-    let words = ["run", "disc"];
-    let ran = run_words(alloc, &words, FIRST_SCRIPT, image, piece, None)?;
-    Ok(
-        ran.status == Status::Done
-            && ran.report.bytes() == FIRST_REPORT
-            && ran.image_bytes() == left,
-    )
+    let ran = run_script(alloc, FIRST_SCRIPT, image, piece, None)?;
+    Ok(ran.has(Status::Done, FIRST_REPORT) && ran.image.as_slice() == left)
 }
 
 #[test]
@@ -55,6 +50,18 @@ fn a_press_makes_any_image_a_new_disc(rt: HostRuntime) -> Result<(), Fail> {
     Ok(())
 }
 
+/// Whether the script over an image of these bytes has this status and this report, and leaves those bytes.
+fn leaves(
+    alloc: Global,
+    image: &[u8],
+    script: &str,
+    status: Status,
+    report: &[u8],
+) -> Result<bool, AllocError> {
+    let ran = run_lines(alloc, script, image, None)?;
+    Ok(ran.has(status, report) && ran.image.as_slice() == image)
+}
+
 #[test]
 fn an_odd_state_is_that_of_a_torn_block(rt: HostRuntime) -> Result<(), Fail> {
     let mut image = written_image(rt.alloc())?;
@@ -63,10 +70,9 @@ fn an_odd_state_is_that_of_a_torn_block(rt: HostRuntime) -> Result<(), Fail> {
             *held = state;
         }
         let script = "power\nR 0 1\nW 3 1 fill bb\n";
-        let ran = run_lines(rt.alloc(), script, image.as_slice(), None)?;
         let report = b"1 ready 304\n2 check 3/11/00 info 0\n3 check 3/11/00 info 3\nend 3\n";
-        assert_eq!(rt; ran.report.bytes(), report.as_slice(), "state {state}");
-        assert!(rt; ran.image_bytes() == image.as_slice());
+        let is_so = leaves(rt.alloc(), &image, script, Status::Done, report)?;
+        assert!(rt; is_so, "state {state}");
     }
     Ok(())
 }
@@ -87,17 +93,19 @@ const NO_DISCS: [(&[u8], usize); 12] = [
     (b"a text of some forty bytes, and no disc..", 41),
 ];
 
+/// Whether an image of these bytes, filled up with zeros to this length, is no disc, and stays as it is.
+fn is_no_disc(alloc: Global, head: &[u8], len: usize) -> Result<bool, AllocError> {
+    let script = "press 36 1 4\npress 1 1 23\npower\n";
+    let report = b"1 not pressed\n2 not pressed\n3 not a disc\n";
+    let mut image = head.to_vec(alloc)?;
+    image.resize(len, 0)?;
+    leaves(alloc, &image, script, Status::NotADisc, report)
+}
+
 #[test]
 fn other_bytes_are_no_disc_and_stay(rt: HostRuntime) -> Result<(), Fail> {
-    let script = b"press 36 1 4\npress 1 1 23\npower\n";
-    let report = b"1 not pressed\n2 not pressed\n3 not a disc\n";
     for (head, len) in NO_DISCS {
-        let mut image = head.to_vec(rt.alloc())?;
-        image.resize(len, 0)?;
-        let ran = run_over(rt.alloc(), script, image.as_slice(), None)?;
-        assert_eq!(rt; ran.report.bytes(), report.as_slice(), "{len} bytes");
-        assert_eq!(rt; ran.status, Status::NotADisc, "{len} bytes");
-        assert!(rt; ran.image_bytes() == image.as_slice());
+        assert!(rt; is_no_disc(rt.alloc(), head, len)?, "{len} bytes");
     }
     Ok(())
 }
