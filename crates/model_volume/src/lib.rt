@@ -20,5 +20,5 @@ pub use start_laws::{
     a_disc_without_sectors_fits_no_lists, a_start_covers_what_is_given, chosen_lists_stand_first,
 };
 pub use worked::{
-    worked_differing_copies, worked_homes, worked_lists, worked_moves, worked_settled,
+    worked_differing_copies, worked_homes, worked_lists, worked_moves, worked_seen, worked_settled,
 };

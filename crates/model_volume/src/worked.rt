@@ -1,13 +1,13 @@
 //! Worked examples: a small disc on which an update of the secondary list was cut after its first copies.
 
-ghost use Rattle.std.specs.Prelude.{◌≡◌, ℕ, ◌⊎◌, List, [], ◌∷◌, map};
-ghost use Rattle.model_medium.specs.Cells.{Good};
+ghost use Rattle.std.specs.Prelude.{◌≡◌, ℕ, ◌⊎◌, None, List, [], ◌∷◌, map};
+ghost use Rattle.model_medium.specs.Cells.{Good, Dead};
 ghost use Rattle.model_lists.specs.Texts.{IsDdsText, IsSdlText};
 ghost use Rattle.model_places.specs.Places.{Lists};
 ghost use Rattle.model_places.specs.Valid.{AreValid};
 ghost use Rattle.model_sectors.specs.Discs.{Off, first_disc};
 ghost use Rattle.model_places.specs.Worked.{pair, retired};
-ghost use Rattle.model_volume.specs.Given.{IsGiven, AreChosen, AreSettled};
+ghost use Rattle.model_volume.specs.Given.{IsGiven, AreChosen, LacksLists, AreSettled, AreSeen};
 ghost use Rattle.model_volume.specs.Starts.{homes_under, disc_under, IsDiscStart};
 ghost use Rattle.model_volume.specs.Moves.{lists_moved, IsNextSpare};
 ghost use Rattle.model_volume.specs.Samples.{small_shape, lists_before, lists_after, differing_cells, differing_pairs};
@@ -69,4 +69,12 @@ pub fn worked_settled()
         → AreSettled small_shape (Good d ∷ Good old ∷ []) lists_before }
     ensures differing { (d old new : List ℕ) → IsSdlText lists_before.sdl old → IsSdlText lists_after.sdl new
         → ¬ AreSettled small_shape (differing_cells d old new) lists_before }
+{}
+
+/// A call that found the copy of the secondary list in block 1 dead saw the other cells as they were. On a disc without a
+/// copy no structure is chosen.
+pub fn worked_seen()
+    ensures seen { (d old : List ℕ) → AreSeen small_shape (Good d ∷ Good old ∷ []) (Good d ∷ Dead ∷ []) (Good d ∷ Dead ∷ []) }
+    ensures other { (d old : List ℕ) → ¬ AreSeen small_shape (Good d ∷ Good old ∷ []) (Good d ∷ Dead ∷ []) (Good d ∷ Good old ∷ []) }
+    ensures bare { LacksLists small_shape [] None }
 {}
