@@ -51,12 +51,12 @@ used_cases (e ∷ es) x (suc k, within, is) =
     (used_cases es x (k, omega arith, is))
 
 -- the block of an entry is one of the defective blocks
-Contains-defectives : (entries : List SdlEntry) (e : SdlEntry) → Contains entries e → Contains (defectives entries) e.defective
+pub Contains-defectives : (entries : List SdlEntry) (e : SdlEntry) → Contains entries e → Contains (defectives entries) e.defective
 Contains-defectives entries e (k, within, is) =
     (k, omega (arith, length-map entries (λ (f : SdlEntry). f.defective)), get_or-map (λ (f : SdlEntry). f.defective) entries k e e.defective within ∙ ap (λ (f : SdlEntry). f.defective) is)
 
 -- a number that is not among others differs from each
-differs_from_all : (x : ℕ) (ys : List ℕ) → ¬ Contains ys x → AllByRecursion (λ y. eqb x y ≡ false) ys
+pub differs_from_all : (x : ℕ) (ys : List ℕ) → ¬ Contains ys x → AllByRecursion (λ y. eqb x y ≡ false) ys
 differs_from_all x ys alone =
     recursion_from_All (λ y. eqb x y ≡ false) ys
     (λ k d within. ne_eqb x _ (λ e. alone (k, within, get_or_default ys k x d within ∙ sym e)))

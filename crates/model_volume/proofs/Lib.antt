@@ -14,5 +14,10 @@ pub mod Updates
 pub mod ListCells
 pub mod Losses
 pub mod SampleFacts
+pub mod Different
 pub mod OneProof
 pub mod ChosenFirst
+pub mod Validity
+pub mod NewLists
+pub mod Shrinks
+pub mod Expanding

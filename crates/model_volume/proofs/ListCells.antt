@@ -87,7 +87,7 @@ module _ (shape : Shape) (old new : List Cell) (only : OnlyLists shape old new) 
     agrees = λ i h. subst (λ (c : Cell). Agrees c (block_of disc i)) (sym (only (home_of shape lists i) (data_no_list shape (home_of shape lists i) (home_is_data_block shape lists valid i h)))) (fits.agrees i h);
   }
 
-  some_fits : (lists : Lists) (discs : List (List ℕ)) → AreValid shape lists → SomeFit shape old lists discs → SomeFit shape new lists discs
+  pub some_fits : (lists : Lists) (discs : List (List ℕ)) → AreValid shape lists → SomeFit shape old lists discs → SomeFit shape new lists discs
   some_fits lists [] valid none = none
   some_fits lists (disc ∷ discs) valid (inl fits) = inl (fits_still lists disc valid fits)
   some_fits lists (disc ∷ discs) valid (inr later) = inr (some_fits lists discs valid later)

@@ -3,3 +3,4 @@ pub mod Starts
 pub mod Covers
 pub mod Moves
 pub mod Samples
+pub mod Expansions

@@ -14,11 +14,16 @@ pub use laws::{
     nothing_new_gives_no_other_lists, one_pair_is_chosen, seen_lists_were_given,
     settled_lists_are_given_alone, settled_lists_have_the_mark, three_causes_choose_none,
 };
-pub use move_laws::{a_write_at_home_is_covered, covers_in_an_update, one_home_moves};
+pub use move_laws::{
+    a_move_frees_no_spare, a_write_at_home_is_covered, an_expansion_is_covered,
+    covers_in_an_update, expanded_lists_are_valid, free_spares_differ, moved_lists_are_valid,
+    one_home_moves,
+};
 pub use start_laws::{
     a_choice_is_made, a_disc_gives_sixteen_pairs_at_most, a_disc_has_a_start, a_disc_has_one_start,
     a_disc_without_sectors_fits_no_lists, a_start_covers_what_is_given, chosen_lists_stand_first,
 };
 pub use worked::{
-    worked_differing_copies, worked_homes, worked_lists, worked_moves, worked_seen, worked_settled,
+    worked_differing_copies, worked_expansion, worked_homes, worked_lists, worked_moves,
+    worked_seen, worked_settled,
 };

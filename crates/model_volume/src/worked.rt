@@ -6,10 +6,11 @@ ghost use Rattle.model_lists.specs.Texts.{IsDdsText, IsSdlText};
 ghost use Rattle.model_places.specs.Places.{Lists};
 ghost use Rattle.model_places.specs.Valid.{AreValid};
 ghost use Rattle.model_sectors.specs.Discs.{Off, first_disc};
-ghost use Rattle.model_places.specs.Worked.{pair, retired};
+ghost use Rattle.model_places.specs.Worked.{small_lists, pair, retired};
 ghost use Rattle.model_volume.specs.Given.{IsGiven, AreChosen, LacksLists, AreSettled, AreSeen};
 ghost use Rattle.model_volume.specs.Starts.{homes_under, disc_under, IsDiscStart};
 ghost use Rattle.model_volume.specs.Moves.{lists_moved, IsNextSpare};
+ghost use Rattle.model_volume.specs.Expansions.{lists_expanded};
 ghost use Rattle.model_volume.specs.Samples.{small_shape, lists_before, lists_after, differing_cells, differing_pairs};
 
 /// Both pairs of lists are valid, and have texts.
@@ -69,6 +70,15 @@ pub fn worked_settled()
         → AreSettled small_shape (Good d ∷ Good old ∷ []) lists_before }
     ensures differing { (d old new : List ℕ) → IsSdlText lists_before.sdl old → IsSdlText lists_after.sdl new
         → ¬ AreSettled small_shape (differing_cells d old new) lists_before }
+{}
+
+/// With four supplementary spares the last data blocks, 28 to 31, become spares: the entry of block 30 is then a retired
+/// spare, and that of block 13 stays.
+pub fn worked_expansion()
+    ensures entries { (lists_expanded small_shape (small_lists [] 0 (pair 13 12 ∷ pair 30 11 ∷ [])) 4).sdl.entries
+        ≡ pair 13 12 ∷ retired 30 ∷ [] }
+    ensures counter { (lists_expanded small_shape lists_after 4).sdl.counter ≡ 3 }
+    ensures area { (lists_expanded small_shape lists_after 4).sdl.ssa ≡ 4 }
 {}
 
 /// A call that found the copy of the secondary list in block 1 dead saw the other cells as they were. On a disc without a

@@ -2,23 +2,12 @@
 use Rattle.std.specs.Prelude.{◌≡◌, ℕ, ◌+◌, ◌<◌, ◌≤◌, ◌⊎◌, Option, Some, None, List}
 use Rattle.std.proofs.Common.{refl, sym, ap, inl, inr, subst, arith}
 use Rattle.std.proofs.lemmas.Bool.{cases_eq}
-use Rattle.model_lists.proofs.DdsTexts as dds_texts
-use Rattle.model_lists.proofs.SdlTexts as sdl_texts
 use Rattle.model_medium.specs.Cells.{Cell, Blank, Good, Torn, Dead, cell_at}
 use Rattle.model_copies.specs.Copies.{Holds, HasCopy}
 use Rattle.ram_zones.specs.declared.list_kind.ListKind.{ListKind}
-use Rattle.ram_zones.specs.declared.list_kind.ListKind.TheVariants as kinds
-use Rattle.ram_copies.specs.Values.{ListValue, DdsValue, SdlValue, IsText, counter_of, mark_of}
+use Rattle.ram_copies.specs.Values.{ListValue, IsText, counter_of, mark_of}
+use Rattle.ram_copies.proofs.EachList.{one_value}
 use Rattle.ram_copies.specs.Choices.{IsBest, NoneUpTo, BestUpTo, SeenAt, IsGreatestMarkUpTo}
-
--- a block is the text of one value at most
-pub one_value : (kind : ListKind) (v w : ListValue) (block : List ℕ) → IsText kind v block → IsText kind w block → v ≡ w
-one_value kinds.Dds (DdsValue v) (DdsValue w) block a b = ap DdsValue (dds_texts.one_value v w block a b)
-one_value kinds.Dds (DdsValue v) (SdlValue w) block a b = absurd b
-one_value kinds.Dds (SdlValue v) w block a b = absurd a
-one_value kinds.Sdl (DdsValue v) w block a b = absurd a
-one_value kinds.Sdl (SdlValue v) (DdsValue w) block a b = absurd b
-one_value kinds.Sdl (SdlValue v) (SdlValue w) block a b = ap SdlValue (sdl_texts.one_value v w block a b)
 
 one_held : (kind : ListKind) (cell : Cell) (v w : ListValue) → Holds (IsText kind) cell v → Holds (IsText kind) cell w → v ≡ w
 one_held kind Blank v w a b = absurd a

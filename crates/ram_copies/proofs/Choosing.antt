@@ -10,7 +10,7 @@ use Rattle.ram_medium.specs.Laws.{MediumLaws}
 use Rattle.ram_medium.proofs.Parts.{continues_none, continues_then}
 use Rattle.ram_zones.specs.declared.list_kind.ListKind.{ListKind}
 use Rattle.ram_zones.specs.ListKind.{list_block}
-use Rattle.ram_copies.proofs.Writing.{places_apart}
+use Rattle.ram_copies.proofs.Areas.{places_apart}
 use Rattle.ram_copies.specs.Values.{ListValue, IsText}
 use Rattle.ram_copies.specs.Choices.{BestUpTo, SeenAt, IsGreatestMarkUpTo}
 use Rattle.ram_copies.specs.Choices.{CellSays, LooksAt, HasLooked, HaltsLooking, OnlyLooks, HaltsLookingAt}

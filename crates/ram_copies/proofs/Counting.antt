@@ -1,16 +1,13 @@
 -- How many copies of a list can be read, after one more.
-use Rattle.std.specs.Prelude.{◌≡◌, ◌≢◌, ℕ, zero, suc, ◌+◌, ◌≤◌, ◌<◌, Bool, true, List}
-use Rattle.std.proofs.Common.{refl, ap, ap₂, ◌∙◌, subst, arith}
-use Rattle.std.specs.Bool.{OnTrue}
+use Rattle.std.specs.Prelude.{◌≡◌, ◌≢◌, ℕ, zero, suc, ◌+◌, ◌≤◌, ◌<◌, true, List}
+use Rattle.std.proofs.Common.{refl, ap, ap₂, subst, arith}
 use Rattle.model_geometry.specs.Geometry.{Shape}
 use Rattle.model_medium.specs.Cells.{Cell, Good, Dead, cell_at}
 use Rattle.model_medium.specs.World.{World}
 use Rattle.model_copies.specs.Copies.{one_if_good, good_count}
 use Rattle.ram_zones.specs.declared.list_kind.ListKind.{ListKind}
 use Rattle.ram_zones.specs.ListKind.{list_block}
-use Rattle.ram_copies.specs.Puts.{IsBlockPut, IsBlockLost}
-use Rattle.ram_copies.specs.Writes.{HasWrittenCopies, CountsReadable}
-use Rattle.ram_copies.proofs.Writing.{places_apart}
+use Rattle.ram_copies.proofs.Areas.{places_apart}
 
 pub suc_is : (k : ℕ) → suc k ≡ k + 1
 suc_is k = omega arith
@@ -41,13 +38,3 @@ module _ {M : Type 0} (world : M → World) (reaches : M → M → ℕ → Type 
     pub count_lost : ((world old).known ≡ true → cell_at (world new).cells (list_block shape (k + 1) list) ≡ Dead)
         → (world old).known ≡ true → readable ≡ good_count (λ area. list_block shape area list) (world new).cells (k + 1)
     count_lost dead known = let none = ap one_if_good (dead known) in let next = count_next (λ area. list_block shape area list) (world mid).cells (world new).cells k earlier in omega (arith, before known, none, next)
-
-  -- the same of an update
-  module _ (mid new : M) (k readable : ℕ) (so_far : HasWrittenCopies world reaches old mid (λ area. list_block shape area list) text k readable) (small : k < 4)
-      (before : CountsReadable world reaches old mid (λ area. list_block shape area list) text k readable) where
-    pub kept_counts : IsBlockPut world reaches mid new (list_block shape (k + 1) list) text → CountsReadable world reaches old new (λ area. list_block shape area list) text (k + 1) (readable + 1)
-    kept_counts put = count_kept mid new k readable small put.others before
-        (λ known. subst (λ (b : Bool). OnTrue b (cell_at (world new).cells (list_block shape (k + 1) list) ≡ Good text)) (so_far.as_known ∙ known) put.has)
-
-    pub lost_counts : IsBlockLost world reaches mid new (list_block shape (k + 1) list) text → CountsReadable world reaches old new (λ area. list_block shape area list) text (k + 1) readable
-    lost_counts lost = count_lost mid new k readable small lost.others before (λ known. lost.dead)

@@ -1,8 +1,9 @@
 pub mod Putting
-pub mod Writing
+pub mod Areas
 pub mod Counting
 pub mod Mending
-pub mod Repairing
+pub mod Rewriting
+pub mod Writing
 pub mod Lifting
 pub mod Best
 pub mod Halting

@@ -1,5 +1,5 @@
 -- From the bytes of a text to the value that it spells: what an update and a repair do.
-use Rattle.std.specs.Prelude.{◌≡◌, ◌≢◌, ℕ, zero, suc, ◌+◌, ◌*◌, ◌≤◌, ◌⊎◌, true, IsTrue, MatchResult, IfOk, List}
+use Rattle.std.specs.Prelude.{◌≡◌, ◌≢◌, ℕ, zero, suc, ◌+◌, ◌*◌, ◌≤◌, ◌⊎◌, true, IsTrue, MatchResult, List}
 use Rattle.std.proofs.Common.{Result, Ok, Err, refl, sym, ap, ◌∙◌, inl, inr, subst, arith}
 use Rattle.model_geometry.specs.Geometry.{Shape}
 use Rattle.model_lists.proofs.DdsTexts as dds_texts
@@ -19,9 +19,11 @@ use Rattle.ram_zones.specs.declared.list_kind.ListKind.{ListKind}
 use Rattle.ram_zones.specs.declared.list_kind.ListKind.TheVariants as kinds
 use Rattle.ram_zones.specs.ListKind.{list_block}
 use Rattle.ram_copies.specs.Values.{ListValue, DdsValue, SdlValue, IsText}
-use Rattle.ram_copies.specs.Writes.{HasWrittenCopies, StopsWriting, CountsReadable}
-use Rattle.ram_copies.specs.Repairs.{MendLeaves, HasRepaired, StopsRepairing}
-use Rattle.ram_copies.specs.Calls.{StoppedCounts, ChangesCopiesAlone, CallEnds, StoppedWithin, Keeps, MayLeaveCopies, SparesExactCopies, UpdateRule, Repairs, RepairRule, updated_of}
+use Rattle.ram_copies.specs.Repairs.{MendLeaves}
+use Rattle.ram_copies.specs.Writes.{HasPutCopies, StopsPuttingCopies}
+use Rattle.ram_copies.specs.Calls.{StoppedCounts, ChangesCopiesAlone, CallEnds, StoppedWithin, Keeps, MayLeaveCopies, SparesExactCopies, Repairs, PurposeRule, updated_of}
+use Rattle.ram_copies.specs.declared.writes.Purpose.{Purpose}
+use Rattle.ram_copies.specs.declared.writes.Purpose.TheVariants as purposes
 use Rattle.ram_copies.specs.declared.updates.Updated.TheVariants as updates
 
 -- each value has one text
@@ -114,23 +116,23 @@ module _ {M : Type 0} (world : M → World) (block_count : M → ℕ) (reaches :
     not_lost = λ known lost. (let none = lost_counts (λ area. list_block shape area kind) (world new).cells 4 (omega arith) lost in let some = counts known in omega (arith, none, some));
   }
 
+  alone_by : (purpose : Purpose) (readable : ℕ) → HasPutCopies world reaches old new (λ (area : ℕ). list_block shape area kind) text purpose 4 readable → ChangesCopiesAlone world reaches kind shape old new
+  alone_by purpose readable h = record { as_known = h.as_known; others = λ block apart. h.others block (λ area some most. apart area (some, most)) }
+
   -- an update
-  pub update_rule : (ended : Result ℕ Stop) → MatchResult ended (HasWrittenCopies world reaches old new (λ area. list_block shape area kind) text 4) (StopsWriting world reaches old new (λ area. list_block shape area kind) text 8)
-      → IfOk ended (CountsReadable world reaches old new (λ area. list_block shape area kind) text 4)
-      → UpdateRule world reaches kind shape old new value (updated_of ended)
-  update_rule (Ok zero) h counts = (ends_by 8 h.continues (record { as_known = h.as_known; others = λ block apart. h.others block (λ area some most. apart area (some, most)) }), λ area is. h.lost refl area is.0 is.1)
-  update_rule (Ok (suc n)) h counts = (ends_by 8 h.continues (record { as_known = h.as_known; others = λ block apart. h.others block (λ area some most. apart area (some, most)) }), keeps_by n h.done counts)
-  update_rule (Err stops.Cut) h counts = (stopped_by 8 stops.Cut h.stops h.stops.cut (record { as_known = h.as_known; others = h.others }), λ area is. may_hold kind value text spells (cell_at (world old).cells (list_block shape area kind)) (cell_at (world new).cells (list_block shape area kind)) (h.left area is))
-  update_rule (Err stops.Off) h counts = h.stops
-  update_rule (Err stops.Fault) h counts = (stopped_by 8 stops.Fault h.stops (fault_counts world block_count reaches laws old new 8 h.stops) (record { as_known = h.as_known; others = h.others }), λ area is. may_hold kind value text spells (cell_at (world old).cells (list_block shape area kind)) (cell_at (world new).cells (list_block shape area kind)) (h.left area is))
+  update_ends : (readable : ℕ) → HasPutCopies world reaches old new (λ (area : ℕ). list_block shape area kind) text purposes.Update 4 readable → CallEnds world reaches kind shape old new 8
+  update_ends readable h = ends_by 8 h.uses (alone_by purposes.Update readable h)
+
+  update_leaves : ((area : ℕ) → IsArea area → MayLeave (cell_at (world old).cells (list_block shape area kind)) text (cell_at (world new).cells (list_block shape area kind))) → MayLeaveCopies world reaches kind shape old new value
+  update_leaves left = λ area is. may_hold kind value text spells (cell_at (world old).cells (list_block shape area kind)) (cell_at (world new).cells (list_block shape area kind)) (left area is)
 
   -- a repair
-  repairs_by : (readable : ℕ) → HasRepaired world reaches old new (λ area. list_block shape area kind) text 4 readable → Repairs world reaches kind shape old new value
-  repairs_by readable h = record {
-    rewritten = h.rewritten;
-    few = h.few;
-    ends = ends_by (4 + 2 * h.rewritten) h.continues (record { as_known = h.as_known; others = λ block apart. h.others block (λ area some most. apart area (some, most)) });
-    rewrites = λ known. rewrites_held kind value text spells (λ area. list_block shape area kind) (world old).cells (world new).cells 4 h.rewritten (h.rewrites known);
+  repair_ends : (readable : ℕ) → HasPutCopies world reaches old new (λ (area : ℕ). list_block shape area kind) text purposes.Repair 4 readable → Repairs world reaches kind shape old new value
+  repair_ends readable h = record {
+    rewritten = h.uses.rewritten;
+    few = h.uses.few;
+    ends = ends_by (4 + 2 * h.uses.rewritten) h.uses.continues (alone_by purposes.Repair readable h);
+    rewrites = λ known. rewrites_held kind value text spells (λ (area : ℕ). list_block shape area kind) (world old).cells (world new).cells 4 h.uses.rewritten (h.uses.rewrites known);
     spares = λ area is held. spared (cell_at (world old).cells (list_block shape area kind)) (cell_at (world new).cells (list_block shape area kind)) (is_text kind value text spells (cell_at (world old).cells (list_block shape area kind)) held) (h.done area is.0 is.1);
   }
     where
@@ -138,17 +140,31 @@ module _ {M : Type 0} (world : M → World) (block_count : M → ℕ) (reaches :
       spared was cell exact (inl good) = inl (good ∙ sym exact)
       spared was cell exact (inr dead) = inr dead
 
-  spares_by : ((area : ℕ) → IsArea area → MendLeaves (cell_at (world old).cells (list_block shape area kind)) text (cell_at (world new).cells (list_block shape area kind)))
+  repair_leaves : ((area : ℕ) → IsArea area → MendLeaves (cell_at (world old).cells (list_block shape area kind)) text (cell_at (world new).cells (list_block shape area kind)))
       → MayLeaveCopies world reaches kind shape old new value × SparesExactCopies world reaches kind shape old new value
-  spares_by left = (
-    λ area is. may_hold kind value text spells (cell_at (world old).cells (list_block shape area kind)) (cell_at (world new).cells (list_block shape area kind)) (left area is).0,
+  repair_leaves left = (
+    update_leaves (λ area is. (left area is).0),
     λ area is held. (left area is).1 (is_text kind value text spells (cell_at (world old).cells (list_block shape area kind)) held),
   )
 
-  pub repair_rule : (ended : Result ℕ Stop) → MatchResult ended (HasRepaired world reaches old new (λ area. list_block shape area kind) text 4) (StopsRepairing world reaches old new (λ area. list_block shape area kind) text)
-      → RepairRule world reaches kind shape old new value (updated_of ended)
-  repair_rule (Ok zero) h = (repairs_by 0 h, λ area is. h.lost refl area is.0 is.1)
-  repair_rule (Ok (suc n)) h = (repairs_by (suc n) h, keeps_by n h.done h.counts)
-  repair_rule (Err stops.Cut) h = let both = spares_by h.left in (stopped_by 12 stops.Cut h.stops h.stops.cut (record { as_known = h.as_known; others = h.others }), both.0, both.1)
-  repair_rule (Err stops.Off) h = h.stops
-  repair_rule (Err stops.Fault) h = let both = spares_by h.left in (stopped_by 12 stops.Fault h.stops (fault_counts world block_count reaches laws old new 12 h.stops) (record { as_known = h.as_known; others = h.others }), both.0, both.1)
+  -- a call that was cut, or failed
+  cut_by : (most : ℕ) → Stops world reaches old new most stops.Cut → ChangesCopiesAlone world reaches kind shape old new → StoppedWithin world reaches kind shape old new most stops.Cut
+  cut_by most ended alone = stopped_by most stops.Cut ended ended.cut alone
+
+  fault_by : (most : ℕ) → Stops world reaches old new most stops.Fault → ChangesCopiesAlone world reaches kind shape old new → StoppedWithin world reaches kind shape old new most stops.Fault
+  fault_by most ended alone = stopped_by most stops.Fault ended (fault_counts world block_count reaches laws old new most ended) alone
+
+  -- either, by its answer
+  pub purpose_rule : (purpose : Purpose) (ended : Result ℕ Stop)
+      → MatchResult ended (HasPutCopies world reaches old new (λ (area : ℕ). list_block shape area kind) text purpose 4) (StopsPuttingCopies world reaches old new (λ (area : ℕ). list_block shape area kind) text purpose)
+      → PurposeRule world reaches kind shape old new value purpose (updated_of ended)
+  purpose_rule purposes.Update (Ok zero) h = (update_ends 0 h, λ area is. h.lost refl area is.0 is.1)
+  purpose_rule purposes.Update (Ok (suc n)) h = (update_ends (suc n) h, keeps_by n h.done h.counts)
+  purpose_rule purposes.Update (Err stops.Cut) h = (cut_by 8 h.stops (record { as_known = h.as_known; others = h.others }), update_leaves h.left)
+  purpose_rule purposes.Update (Err stops.Off) h = h.stops
+  purpose_rule purposes.Update (Err stops.Fault) h = (fault_by 8 h.stops (record { as_known = h.as_known; others = h.others }), update_leaves h.left)
+  purpose_rule purposes.Repair (Ok zero) h = (repair_ends 0 h, λ area is. h.lost refl area is.0 is.1)
+  purpose_rule purposes.Repair (Ok (suc n)) h = (repair_ends (suc n) h, keeps_by n h.done h.counts)
+  purpose_rule purposes.Repair (Err stops.Cut) h = let both = repair_leaves h.left in (cut_by 12 h.stops (record { as_known = h.as_known; others = h.others }), both.0, both.1)
+  purpose_rule purposes.Repair (Err stops.Off) h = h.stops
+  purpose_rule purposes.Repair (Err stops.Fault) h = let both = repair_leaves h.left in (fault_by 12 h.stops (record { as_known = h.as_known; others = h.others }), both.0, both.1)

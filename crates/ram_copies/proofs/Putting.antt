@@ -1,16 +1,16 @@
 -- What a write of a block with the read back does.
-use Rattle.std.specs.Prelude.{◌≡◌, ◌≢◌, ℕ, ◌⊎◌, Bool, true, false, IsTrue, List}
+use Rattle.std.specs.Prelude.{◌≡◌, ◌≢◌, ℕ, ◌⊎◌, Bool, true, false, IsTrue, MatchResult, List}
 use Rattle.std.specs.Bool.{OnTrue}
-use Rattle.std.proofs.Common.{sym, ap, ◌∙◌, inl, inr, subst, arith}
+use Rattle.std.proofs.Common.{Result, Ok, Err, sym, ap, ◌∙◌, inl, inr, subst, arith}
 use Rattle.model_medium.specs.Cells.{Cell, Good, Dead, IsGood, IsSameOrDead, MayLeave, cell_at}
 use Rattle.model_medium.specs.World.{World, IsUse, ReadsCell, FindsNoBytes, WritesCell}
 use Rattle.model_stops.specs.Stops.{Continues, Stops}
 use Rattle.model_stops.specs.declared.Stop.{Stop}
 use Rattle.model_stops.specs.declared.Stop.TheVariants as stops
 use Rattle.ram_medium.specs.Laws.{MediumLaws}
-use Rattle.ram_medium.specs.WholeBlocks.{StoppedRead, StoppedWrite}
+use Rattle.ram_medium.specs.WholeBlocks.{EndedRead, StoppedRead, StoppedWrite}
 use Rattle.ram_medium.proofs.Parts.{continues_then, stops_later, stops_within}
-use Rattle.ram_copies.specs.Puts.{IsBlockPut, IsBlockLost, StopsPutting}
+use Rattle.ram_copies.specs.Puts.{IsBlockPut, IsBlockLost, PutsCopy, StopsPutting}
 
 record Touched (old new : World) (block : ℕ) (bytes : List ℕ) : Type 0 where
   pub one : IsUse old new block
@@ -71,7 +71,7 @@ module _ {M : Type 0} (world : M → World) (block_count : M → ℕ) (reaches :
     both_others two other ne = two.others other ne ∙ wrote.one.others other ne
 
     -- the read back was stopped
-    pub stopped_in_read : (into into' : List ℕ) (stop : Stop) → StoppedRead (world mid) (world new) block into into' stop
+    stopped_in_read : (into into' : List ℕ) (stop : Stop) → StoppedRead (world mid) (world new) block into into' stop
         → Stops world reaches mid new 1 stop → StopsPutting world reaches old new block bytes stop
     stopped_in_read into into' stop rule continues =
         let did = stopped_read (world mid) (world new) block into into' stop first.is_on rule in
@@ -84,7 +84,7 @@ module _ {M : Type 0} (world : M → World) (block_count : M → ℕ) (reaches :
         }
 
     -- the read back found no whole bytes
-    pub is_lost : (into into' : List ℕ) → FindsNoBytes (world mid) (world new) block into into' → Continues world reaches mid new 1 → IsBlockLost world reaches old new block bytes
+    is_lost : (into into' : List ℕ) → FindsNoBytes (world mid) (world new) block into into' → Continues world reaches mid new 1 → IsBlockLost world reaches old new block bytes
     is_lost into into' rule continues = record {
       continues = continues_then world block_count reaches laws old mid new 1 1 first continues;
       as_known = rule.one.as_known ∙ wrote.one.as_known;
@@ -93,7 +93,7 @@ module _ {M : Type 0} (world : M → World) (block_count : M → ℕ) (reaches :
     }
 
     -- the read back found the bytes
-    pub is_put : (read : List ℕ) → ReadsCell (world mid) (world new) block read → Continues world reaches mid new 1 → IsBlockPut world reaches old new block bytes
+    is_put : (read : List ℕ) → ReadsCell (world mid) (world new) block read → Continues world reaches mid new 1 → IsBlockPut world reaches old new block bytes
     is_put read rule continues =
         let left = same_left (cell_at (world mid).cells block) (cell_at (world new).cells block) bytes wrote.left (ap (λ cells. cell_at cells block) rule.same) in
         record {
@@ -104,3 +104,11 @@ module _ {M : Type 0} (world : M → World) (block_count : M → ℕ) (reaches :
           has = known_has (world old).known (cell_at (world new).cells block) bytes read left
               (subst (λ (b : Bool). OnTrue b (cell_at (world new).cells block ≡ Good read)) wrote.one.as_known rule.gives);
         }
+
+    -- the read back, however it ended
+    pub read_back : (into into' : List ℕ) (result : Result Bool Stop) → MatchResult result (EndedRead (world mid) (world new) block into into') (StoppedRead (world mid) (world new) block into into')
+        → MatchResult result (λ whole. Continues world reaches mid new 1) (Stops world reaches mid new 1)
+        → MatchResult result (λ kept. PutsCopy world reaches old new block bytes kept) (λ stop. StopsPutting world reaches old new block bytes stop)
+    read_back into into' (Ok true) rule continues = is_put into' rule continues
+    read_back into into' (Ok false) rule continues = is_lost into into' rule continues
+    read_back into into' (Err stop) rule continues = stopped_in_read into into' stop rule continues

@@ -1,4 +1,4 @@
--- What an update and a repair of a list do, by their answers: for `update` and `repair`.
+-- What an update and a repair of a list do, by their answers: for `update`, `repair` and `put_list`.
 use Rattle.std.specs.Prelude.{◌≡◌, ◌≢◌, ℕ, zero, suc, ◌+◌, ◌*◌, ◌≤◌, true, IsTrue, Result, Ok, Err}
 use Rattle.model_geometry.specs.Geometry.{Shape}
 use Rattle.model_medium.specs.Cells.{IsSameOrDead, cell_at}
@@ -10,6 +10,8 @@ use Rattle.model_copies.specs.Copies.{IsArea, Holds, MayHold, Settled, AllLost, 
 use Rattle.ram_zones.specs.declared.list_kind.ListKind.{ListKind}
 use Rattle.ram_zones.specs.ListKind.{list_block}
 use Rattle.ram_copies.specs.Values.{ListValue, IsText}
+use Rattle.ram_copies.specs.declared.writes.Purpose.{Purpose}
+use Rattle.ram_copies.specs.declared.writes.Purpose.TheVariants as purposes
 use Rattle.ram_copies.specs.declared.updates.Updated.{Updated}
 use Rattle.ram_copies.specs.declared.updates.Updated.TheVariants as updates
 
@@ -87,6 +89,11 @@ module _ {M : Type 0} (world : M → World) (reaches : M → M → ℕ → Type 
     RepairRule updates.Cut = StoppedWithin 12 stops.Cut × MayLeaveCopies × SparesExactCopies
     RepairRule updates.Off = IsOff (world old) (world new)
     RepairRule updates.Fault = StoppedWithin 12 stops.Fault × MayLeaveCopies × SparesExactCopies
+
+    -- what either does
+    abbrev pub PurposeRule : Purpose → Updated → Type 0
+    PurposeRule purposes.Update result = UpdateRule result
+    PurposeRule purposes.Repair result = RepairRule result
 
 -- the answer for the number of copies that can be read, or the cause of a stop
 abbrev pub updated_of : Result ℕ Stop → Updated

@@ -1,7 +1,7 @@
 pub mod Values
 pub mod Puts
-pub mod Writes
 pub mod Repairs
+pub mod Writes
 pub mod Calls
 pub mod Choices
 pub mod Chooses

@@ -19,6 +19,7 @@ pub use laws::{
     a_stopped_update_leaves_one_or_the_other, decoding_gives_what_was_encoded,
     texts_of_lists_are_exact,
 };
+pub use puts::put_block;
 pub use scratch::Scratch;
 pub use updates::{Updated, repair, update};
 

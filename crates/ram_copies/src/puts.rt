@@ -7,6 +7,7 @@ use ram_bytes::Block;
 use ram_medium::{Medium, Stop, read_whole, write_whole};
 
 /// Writes a block and reads it back into `room`. Whether it can be read; else it is dead.
+#[tactic(auto, using(crate::proofs::Putting::stopped_in_write, crate::proofs::Putting::read_back))]
 pub fn put_block<M: Medium>(
     medium: &mut M,
     block: u32,
@@ -21,8 +22,5 @@ pub fn put_block<M: Medium>(
     ensures as_many { M.block_count medium.new ≡ M.block_count medium.old }
 {
     write_whole(medium, block, from)?;
-    if !read_whole(medium, block, room)? {
-        return Ok(false);
-    }
-    Ok(true)
+    read_whole(medium, block, room)
 }

@@ -3,12 +3,11 @@
 ghost use Rattle.std.specs.Prelude.{◌≡◌, ◌≢◌};
 ghost use Rattle.model_geometry.specs.Geometry.{total};
 ghost use Rattle.ram_copies.specs.Values.{IsInGrammar};
-ghost use Rattle.ram_copies.specs.Calls.{UpdateRule, RepairRule, updated_of};
+ghost use Rattle.ram_copies.specs.Calls.{UpdateRule, RepairRule, PurposeRule, updated_of};
 
 use crate::blocks::ListBlock;
-use crate::repairs::mend_copies;
 use crate::scratch::Scratch;
-use crate::writes::write_copies;
+use crate::writes::{Purpose, put_copies};
 use ram_medium::{Medium, Stop};
 use ram_zones::Geometry;
 
@@ -43,6 +42,35 @@ fn answer_of(ended: Result<u32, Stop>) -> Updated
     }
 }
 
+/// Puts the text of the list into its four copies in turn.
+fn put_list<T: ListBlock, M: Medium>(
+    medium: &mut M,
+    geometry: &Geometry,
+    value: &T,
+    purpose: Purpose,
+    scratch: &mut Scratch,
+) -> Updated
+    requires size { M.block_count medium.old ≡ total geometry.now }
+    requires in_grammar { IsInGrammar T.LIST (T.value value.now) }
+    ensures rule { PurposeRule M.world M.reaches T.LIST geometry.now medium.old medium.new
+        (T.value value.now) purpose result }
+    ensures as_many { M.block_count medium.new ≡ M.block_count medium.old }
+{
+    if !medium.powered() {
+        return Updated::Off;
+    }
+    value.encode(&mut scratch.text);
+    let ended = put_copies(
+        medium,
+        geometry,
+        T::LIST,
+        purpose,
+        &scratch.text,
+        &mut scratch.room,
+    );
+    answer_of(ended)
+}
+
 /// Writes the list to each of its four copies in turn, and reads each back: 8 uses.
 pub fn update<T: ListBlock, M: Medium>(
     medium: &mut M,
@@ -56,12 +84,7 @@ pub fn update<T: ListBlock, M: Medium>(
         (T.value value.now) result }
     ensures as_many { M.block_count medium.new ≡ M.block_count medium.old }
 {
-    if !medium.powered() {
-        return Updated::Off;
-    }
-    value.encode(&mut scratch.text);
-    let ended = write_copies(medium, geometry, T::LIST, &scratch.text, &mut scratch.room);
-    answer_of(ended)
+    put_list(medium, geometry, value, Purpose::Update, scratch)
 }
 
 /// Reads each of the list's four copies in turn, and writes each that is not exactly its text again, with a read back:
@@ -78,10 +101,5 @@ pub fn repair<T: ListBlock, M: Medium>(
         (T.value value.now) result }
     ensures as_many { M.block_count medium.new ≡ M.block_count medium.old }
 {
-    if !medium.powered() {
-        return Updated::Off;
-    }
-    value.encode(&mut scratch.text);
-    let ended = mend_copies(medium, geometry, T::LIST, &scratch.text, &mut scratch.room);
-    answer_of(ended)
+    put_list(medium, geometry, value, Purpose::Repair, scratch)
 }

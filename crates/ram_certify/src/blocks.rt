@@ -1,0 +1,86 @@
+//! The data blocks one after another, of which those that are not kept are written with zeros and read back.
+
+ghost use Rattle.std.specs.Prelude.{◌≡◌, ◌<◌, ◌≤◌, ◌↔◌, IsTrue, MatchResult, [], ◌∷◌, ◌++◌, length, take, slice_index, vec_capacity};
+ghost use Rattle.model_geometry.specs.Geometry.{total, data_blocks};
+ghost use Rattle.model_lists.specs.Values.{pdl_blocks};
+ghost use Rattle.model_sectors.specs.Discs.{zeros};
+ghost use Rattle.model_formats.specs.Defects.{AreKept};
+ghost use Rattle.ram_certify.specs.Blocks.{HasCertifiedUpTo, StopsCertifyingBlocks, IsNextKept};
+
+use model_lists::PdlEntry;
+use ram_bytes::Block;
+use ram_copies::put_block;
+use ram_medium::{Medium, Stop};
+use ram_zones::Geometry;
+
+/// The data block of this number, counted from 0.
+fn data_block_at(geometry: &Geometry, n: u32) -> u32
+    requires { n < length (data_blocks geometry.now) }
+    ensures { result ≡ slice_index (data_blocks geometry.now) n }
+{
+    match geometry.data_block(n) {
+        Some(block) => block,
+        None => unreachable!(),
+    }
+}
+
+/// Whether this block is kept, where so many kept ones lie before it.
+fn is_next_kept(kept: &[PdlEntry], passed: usize, block: u32) -> bool
+    ensures { IsTrue result ↔ IsNextKept kept.now passed block }
+{
+    match kept.get(passed) {
+        Some(entry) => entry.block == block,
+        None => false,
+    }
+}
+
+/// Notes a block that was found, unless so many are noted.
+fn note(found: &mut Vec<u32>, block: u32, most: usize)
+    requires few { length found.old.items ≤ most }
+    requires room { most ≤ vec_capacity found.old }
+    ensures found { found.new.items ≡ take most (found.old.items ++ block ∷ []) }
+    ensures room { most ≤ vec_capacity found.new }
+{
+    if found.len() < most {
+        match found.push(block) {
+            Ok(()) => {}
+            Err(_) => unreachable!(),
+        }
+    }
+}
+
+/// Certifies the data blocks that are not kept. How many of them are dead.
+pub fn certify_blocks<M: Medium>(
+    medium: &mut M,
+    geometry: &Geometry,
+    kept: &[PdlEntry],
+    zero: &Block,
+    found: &mut Vec<u32>,
+    room: &mut Block,
+) -> Result<u32, Stop>
+    requires size { M.block_count medium.old ≡ total geometry.now }
+    requires on { IsTrue (M.world medium.old).power }
+    requires kept { AreKept geometry.now kept.now }
+    requires zero { zero.now ≡ zeros 32768 }
+    requires empty { found.old.items ≡ [] }
+    ensures rule { MatchResult result
+        (HasCertifiedUpTo M.world M.reaches geometry.now kept.now medium.old medium.new (vec_capacity found.old)
+        (length (data_blocks geometry.now)) (length kept.now) found.new.items)
+        (StopsCertifyingBlocks M.world M.reaches geometry.now kept.now medium.old medium.new) }
+    ensures room { vec_capacity found.old ≤ vec_capacity found.new }
+    ensures as_many { M.block_count medium.new ≡ M.block_count medium.old }
+{
+    let most = found.capacity();
+    let mut passed = 0;
+    let mut count = 0;
+    for n in 0..geometry.data_blocks() {
+        let block = data_block_at(geometry, n);
+        if is_next_kept(kept, passed, block) {
+            passed += 1;
+        } else if !put_block(medium, block, zero, room)? {
+            count += 1;
+            note(found, block, most);
+        }
+    }
+    Ok(count)
+}

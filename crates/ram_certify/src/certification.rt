@@ -1,0 +1,71 @@
+//! The certification of a disc.
+
+ghost use Rattle.std.specs.Prelude.{◌≡◌, ◌≤◌, IfOk, [], vec_capacity};
+ghost use Rattle.model_geometry.specs.Geometry.{total};
+ghost use Rattle.model_sectors.specs.Discs.{zeros};
+ghost use Rattle.model_formats.specs.Defects.{AreKept};
+ghost use Rattle.ram_certify.specs.Certifying.{CertifyRule};
+
+use crate::blocks::certify_blocks;
+use model_lists::PdlEntry;
+use ram_bytes::Block;
+use ram_copies::Scratch;
+use ram_medium::{Medium, Stop};
+use ram_zones::Geometry;
+use std::alloc::{AllocError, Global};
+
+/// How a certification ended.
+#[derive(Clone, Copy, Debug, PartialEq, Eq)]
+pub enum Certified {
+    /// Each block that is not kept has zeros now, or is dead.
+    Done {
+        /// How many of them are dead, also where there was no room to note them.
+        found: u32,
+    },
+    /// The power was cut.
+    Cut,
+    /// The power was off, and nothing was done.
+    Off,
+    /// What the medium lies on failed, and counted it. The power is off.
+    Fault,
+}
+
+/// A block of zeros, for a certification.
+pub fn zero_block(alloc: Global) -> Result<Block, AllocError>
+    ensures { IfOk result (λ block. block ≡ zeros 32768) }
+{
+    Block::zeros(alloc)
+}
+
+/// Writes zeros to each data block that is not kept, and reads it back, from the lowest on: two uses each. The numbers of
+/// those that are dead then go into `found`, as far as it has room, and all of them are counted.
+///
+/// `kept` names data blocks that rise, `zero` is a block of zeros, and `found` is empty. (After ECMA-330's certification;
+/// the order is this project's own.)
+pub fn certify<M: Medium>(
+    medium: &mut M,
+    geometry: &Geometry,
+    kept: &[PdlEntry],
+    zero: &Block,
+    found: &mut Vec<u32>,
+    scratch: &mut Scratch,
+) -> Certified
+    requires size { M.block_count medium.old ≡ total geometry.now }
+    requires kept { AreKept geometry.now kept.now }
+    requires zero { zero.now ≡ zeros 32768 }
+    requires empty { found.old.items ≡ [] }
+    ensures rule { CertifyRule M.world M.reaches geometry.now kept.now medium.old medium.new
+        (vec_capacity found.old) found.new.items result }
+    ensures room { vec_capacity found.old ≤ vec_capacity found.new }
+    ensures as_many { M.block_count medium.new ≡ M.block_count medium.old }
+{
+    if !medium.powered() {
+        return Certified::Off;
+    }
+    match certify_blocks(medium, geometry, kept, zero, found, &mut scratch.room) {
+        Ok(found) => Certified::Done { found },
+        Err(Stop::Cut) => Certified::Cut,
+        Err(Stop::Off) => Certified::Off,
+        Err(Stop::Fault) => Certified::Fault,
+    }
+}

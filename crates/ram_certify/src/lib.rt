@@ -1,0 +1,11 @@
+//! Certification: each data block of a disc that is not kept as defective is written with zeros and read back, and the dead
+//! ones are found. It touches data blocks alone, and takes no memory.
+#![tactic(auto)]
+
+mod blocks;
+mod certification;
+
+pub use certification::{Certified, certify, zero_block};
+
+#[cfg(test)]
+mod tests;

@@ -1,0 +1,4 @@
+pub mod Merges
+pub mod Found
+pub mod Steps
+pub mod Rewrites

@@ -1,0 +1,356 @@
+-- How a full format goes, phase after phase, on the cells.
+use Rattle.std.specs.Prelude.{◌≡◌, ◌≢◌, ℕ, ◌+◌, ◌≤◌, ◌<◌, ◌⊎◌, ◌^◌, true, IsTrue, List, [], ◌∷◌, length, get_or, map}
+use Rattle.std.proofs.Common.{refl, sym, ap, ◌∙◌, inl, inr, subst, arith}
+use Rattle.std.specs.List.{All, Contains}
+use Rattle.std.specs.List.Sorted.{IsStrictlyIncreasing}
+use Rattle.std.proofs.lemmas.List.{get_or-map, length-map}
+use Rattle.std.proofs.lemmas.List.Elements.{All-contains, Contains-get_or}
+use Rattle.model_geometry.specs.Geometry.{Shape, IsLawful, data_blocks, lead_out, total, dds_block, sdl_block}
+use Rattle.model_geometry.proofs.DataBlocks.{data_blocks_bounds}
+use Rattle.model_geometry.proofs.Zones.{total_most}
+use Rattle.model_geometry.proofs.ListBlocks.{no_data_block_dds, no_data_block_sdl}
+use Rattle.model_lists.specs.declared.dds.DdsState.TheVariants.{Formatting, Formatted}
+use Rattle.model_lists.specs.declared.dds.PdlEntry.{PdlEntry}
+use Rattle.model_lists.specs.declared.dds.PdlKind.{PdlKind}
+use Rattle.model_lists.specs.declared.sdl.SdlEntry.{SdlEntry}
+use Rattle.model_lists.specs.Values.{Dds, Sdl, pdl_blocks, IsBlockNumber, IsLawfulPdl, IsLawfulDds}
+use Rattle.model_lists.specs.Texts.{IsDdsText, IsSdlText}
+use Rattle.model_medium.specs.Cells.{Cell, Good, Dead, cell_at}
+use Rattle.model_counts.specs.Counts.{counted, Rose}
+use Rattle.model_medium.specs.World.{World, UseContinues}
+use Rattle.model_stops.specs.Stops.{Continues, Stops}
+use Rattle.model_stops.specs.declared.Stop.{Stop}
+use Rattle.model_stops.specs.declared.Stop.TheVariants as stops
+use Rattle.model_sectors.specs.Discs.{zeros}
+use Rattle.model_copies.specs.Copies.{IsArea, HoldsOrDead, Settled, AllLost, AreMarkedWithin}
+use Rattle.model_places.specs.Places as places
+use Rattle.model_places.specs.Valid.{AreValid}
+use Rattle.model_volume.specs.Given.{IsGiven, GivesNone, AreSettled, IsListBlock}
+use Rattle.model_volume.specs.Covers.{FitsUnder, SomeFit, Cover}
+use Rattle.model_volume.proofs.ListCells.{dds_listed, sdl_listed}
+use Rattle.model_volume.proofs.Updates.{dds_no_sdl}
+use Rattle.model_formats.specs.Defects.{IsCertified, AreCertified, ChangesFormatted, AreDefective, IsFoundDefective}
+use Rattle.model_formats.specs.Fresh.{formatting_dds, formatted_dds, fresh_sdl, fresh_lists}
+use Rattle.model_formats.specs.Stopped.{zero_disc, CoversStopped}
+use Rattle.model_formats.proofs.Phases.{lost_gives_none, formatting_gives_none, given_in_first, given_in_last, cover_data}
+use Rattle.model_formats.proofs.Fresh.{fresh_valid, zeros_fit}
+use Rattle.model_formats.proofs.Marks.{marked_kept, marked_begun, marked_middle, marked_last}
+use Rattle.ram_medium.specs.Laws.{MediumLaws}
+use Rattle.ram_medium.proofs.Parts.{continues_then, stops_later, stops_within}
+use Rattle.ram_zones.specs.declared.list_kind.ListKind.{ListKind}
+use Rattle.ram_zones.specs.declared.list_kind.ListKind.TheVariants as kinds
+use Rattle.ram_copies.specs.Values.{ListValue, DdsValue, SdlValue}
+use Rattle.ram_copies.specs.Calls.{StoppedCounts, ChangesCopiesAlone, CallEnds, StoppedWithin, MayLeaveCopies}
+use Rattle.ram_copies.proofs.EachList.{dds_settled, dds_may_hold, sdl_settled, sdl_may_hold}
+use Rattle.ram_certify.specs.Certifying.{certify_uses, ChangesCertifiedAlone, StopsCertifying}
+use Rattle.ram_format.specs.declared.ends.End.{End}
+use Rattle.ram_format.specs.declared.ends.End.TheVariants as ends
+use Rattle.ram_format.specs.Phases.{HasWrittenList, EndsWritingList, HasFoundDefects, FindsFewDefects, FindsManyDefects, EndsFinding}
+use Rattle.ram_format.specs.Full.{uses_of_all, FormatGoes, LeavesNoLists, AreDefects, AreFewDefects, MakesLists, MeetsTooMany, LosesFirst, LosesSecond, LosesThird, FormatStopped, EndsFormat}
+
+-- copies that are as they were stay settled
+settled_still : {V : Type 0} (text : V → List ℕ → Type 0) (place : ℕ → ℕ) (old new : List Cell) (value : V) → ((area : ℕ) → cell_at new (place area) ≡ cell_at old (place area)) → Settled text place old value → Settled text place new value
+settled_still text place old new value same settled area is = subst (λ (c : Cell). HoldsOrDead text c value) (sym (same area)) (settled area is)
+
+-- a structure with entries that rise, and are data blocks, is lawful
+pub lawful_dds : (shape : Shape) (mark psa : ℕ) (entries : List PdlEntry) → IsLawful shape → psa ≡ shape.psa → mark + 2 ≤ 4294967295 → length entries ≤ shape.psa
+    → IsStrictlyIncreasing (pdl_blocks entries) → All (Contains (data_blocks shape)) (pdl_blocks entries)
+    → IsLawfulDds (record { counter = mark + 2; state = Formatted; psa = psa; entries = entries })
+lawful_dds shape mark psa entries lawful same room few rise all = record {
+  counted = omega (arith, room);
+  limits = record { some = omega (arith, same, lawful.some_spares); most = omega (arith, same, lawful.most_spares); few = omega (arith, same, few); fits = tt };
+  list = record {
+    rise = rise;
+    numbers = λ k d k_in.
+        let at : get_or (pdl_blocks entries) k 0 ≡ (get_or entries k d).block = get_or-map (λ (e : PdlEntry). e.block) entries k d 0 k_in in
+        let has = all k 0 (omega (arith, k_in, length-map entries (λ (e : PdlEntry). e.block))) in
+        let bounds = All-contains (λ b. (7 < b) × (b < lead_out shape)) (data_blocks shape) (get_or (pdl_blocks entries) k 0) (data_blocks_bounds shape) has in
+        let most = total_most shape lawful in
+        omega (arith, at, bounds, most);
+  };
+}
+
+module _ {M : Type 0} (world : M → World) (block_count : M → ℕ) (reaches : M → M → ℕ → Type 0) (laws : MediumLaws world block_count reaches)
+    (shape : Shape) (kept : List PdlEntry) (kind : PdlKind) (mark : ℕ) (room : mark + 2 ≤ 4294967295) where
+  -- ---- what each step changes
+
+  dds_only : (old new : M) → ChangesCopiesAlone world reaches kinds.Dds shape old new → ChangesFormatted shape (Contains kept) (world old).cells (world new).cells
+  dds_only old new alone block away apart = alone.others block (λ area is same. away (subst (IsListBlock shape) (sym same) (dds_listed shape area is)))
+
+  sdl_only : (old new : M) → ChangesCopiesAlone world reaches kinds.Sdl shape old new → ChangesFormatted shape (Contains kept) (world old).cells (world new).cells
+  sdl_only old new alone block away apart = alone.others block (λ area is same. away (subst (IsListBlock shape) (sym same) (sdl_listed shape area is)))
+
+  certified_only : (old new : M) → ChangesCertifiedAlone world reaches shape kept old new → ChangesFormatted shape (Contains kept) (world old).cells (world new).cells
+  certified_only old new alone block away apart = alone.others block apart
+
+  only_then : (a b c : M) → ChangesFormatted shape (Contains kept) (world a).cells (world b).cells → ChangesFormatted shape (Contains kept) (world b).cells (world c).cells → ChangesFormatted shape (Contains kept) (world a).cells (world c).cells
+  only_then a b c one two block away apart = two block away apart ∙ one block away apart
+
+  sdl_stay : (old new : M) → ChangesCopiesAlone world reaches kinds.Dds shape old new → (area : ℕ) → cell_at (world new).cells (sdl_block shape area) ≡ cell_at (world old).cells (sdl_block shape area)
+  sdl_stay old new alone area = alone.others (sdl_block shape area) (λ at is same. dds_no_sdl shape at area (sym same))
+
+  dds_stay : (old new : M) → ChangesCopiesAlone world reaches kinds.Sdl shape old new → (area : ℕ) → cell_at (world new).cells (dds_block shape area) ≡ cell_at (world old).cells (dds_block shape area)
+  dds_stay old new alone area = alone.others (dds_block shape area) (λ at is same. dds_no_sdl shape area at same)
+
+  data_stay_dds : (old new : M) → ChangesCopiesAlone world reaches kinds.Dds shape old new → (block : ℕ) → Contains (data_blocks shape) block → cell_at (world new).cells block ≡ cell_at (world old).cells block
+  data_stay_dds old new alone block is = alone.others block (λ area at same. no_data_block_dds shape area (subst (Contains (data_blocks shape)) same is))
+
+  data_stay_sdl : (old new : M) → ChangesCopiesAlone world reaches kinds.Sdl shape old new → (block : ℕ) → Contains (data_blocks shape) block → cell_at (world new).cells block ≡ cell_at (world old).cells block
+  data_stay_sdl old new alone block is = alone.others block (λ area at same. no_data_block_sdl shape area (subst (Contains (data_blocks shape)) same is))
+
+  dds_certified_stay : (old new : M) → ChangesCertifiedAlone world reaches shape kept old new → (area : ℕ) → cell_at (world new).cells (dds_block shape area) ≡ cell_at (world old).cells (dds_block shape area)
+  dds_certified_stay old new alone area = alone.others (dds_block shape area) (λ (c : IsCertified shape (Contains kept) (dds_block shape area)). no_data_block_dds shape area c.data_block)
+
+  sdl_certified_stay : (old new : M) → ChangesCertifiedAlone world reaches shape kept old new → (area : ℕ) → cell_at (world new).cells (sdl_block shape area) ≡ cell_at (world old).cells (sdl_block shape area)
+  sdl_certified_stay old new alone area = alone.others (sdl_block shape area) (λ (c : IsCertified shape (Contains kept) (sdl_block shape area)). no_data_block_sdl shape area c.data_block)
+
+  -- ---- how far it went
+
+  goes_first : (old new : M) → CallEnds world reaches kinds.Dds shape old new 8 → FormatGoes world reaches shape kept kind mark old new 8
+  goes_first old new ended = record { was_on = ended.was_on; room = room; continues = ended.continues; counts = ended.counts; as_known = ended.alone.as_known; only = dds_only old new ended.alone }
+
+  goes_then : (old mid new : M) (j k : ℕ) → FormatGoes world reaches shape kept kind mark old mid j → Continues world reaches mid new k → UseContinues (world mid) (world new) → (world new).known ≡ (world mid).known
+      → ChangesFormatted shape (Contains kept) (world mid).cells (world new).cells → FormatGoes world reaches shape kept kind mark old new (j + k)
+  goes_then old mid new j k gone continues counts as_known only = record {
+    was_on = gone.was_on;
+    room = room;
+    continues = continues_then world block_count reaches laws old mid new j k gone.continues continues;
+    counts = record { stays_on = counts.stays_on; no_cut = counts.no_cut ∙ gone.counts.no_cut; no_fault = counts.no_fault ∙ gone.counts.no_fault };
+    as_known = as_known ∙ gone.as_known;
+    only = only_then old mid new gone.only only;
+  }
+
+  -- the count of a stop after a part that went to its end
+  counts_later : (old mid new : M) (j : ℕ) (stop : Stop) → FormatGoes world reaches shape kept kind mark old mid j → StoppedCounts (world mid) (world new) stop → StoppedCounts (world old) (world new) stop
+  counts_later old mid new j stops.Cut gone cut = record { turns_off = cut.turns_off; one_cut = cut.one_cut ∙ ap (λ n. counted n 1) gone.counts.no_cut; no_fault = cut.no_fault ∙ gone.counts.no_fault }
+  counts_later old mid new j stops.Off gone off = absurd (off.was_off gone.counts.stays_on)
+  counts_later old mid new j stops.Fault gone failed = record { turns_off = failed.turns_off; no_cut = failed.no_cut ∙ gone.counts.no_cut; fault = subst (λ (n : ℕ). Rose n (world new).faults) gone.counts.no_fault failed.fault }
+
+  -- ---- the first update
+
+  module _ (old one : M) (marked : AreMarkedWithin shape (world old).cells mark) (on : IsTrue (world old).power) where
+    first_stop : (stop : Stop) → StoppedWithin world reaches kinds.Dds shape old one 8 stop → MayLeaveCopies world reaches kinds.Dds shape old one (DdsValue (formatting_dds shape mark)) → FormatStopped world reaches shape kept kind mark old one stop
+    first_stop stop stopped left = record {
+      was_on = on;
+      room = room;
+      stops = stops_within world block_count reaches laws old one 8 (uses_of_all world reaches shape kept kind mark old one) stop (omega arith) stopped.stops;
+      counts = stopped.counts;
+      as_known = stopped.alone.as_known;
+      only = dds_only old one stopped.alone;
+      given = λ known lists given. inl (before lists given);
+      covers = λ known. inl (cover_data shape (world old).cells (world one).cells (data_stay_dds old one stopped.alone) before);
+    }
+      where
+        before : (lists : places.Lists) → IsGiven shape (world one).cells lists → IsGiven shape (world old).cells lists
+        before = given_in_first shape (world old).cells (world one).cells mark
+            (λ area is. dds_may_hold (cell_at (world old).cells (dds_block shape area)) (cell_at (world one).cells (dds_block shape area)) (formatting_dds shape mark) (left area is))
+            (sdl_stay old one stopped.alone)
+
+    pub first_ends : (end : End) → EndsWritingList world reaches shape old one kinds.Dds (DdsValue (formatting_dds shape mark)) (mark + 1) mark end → EndsFormat world reaches shape kept kind mark old one end
+    first_ends (ends.TooMany found left) h = absurd h
+    first_ends (ends.NoCopy due left) h = inl (record {
+      goes = goes_first old one h.0;
+      lost = h.1;
+      counter_is = h.2;
+      left_is = h.3;
+      leaves = record {
+        gives_none = lost_gives_none shape (world one).cells h.1;
+        marked = subst (AreMarkedWithin shape (world one).cells) (sym h.3) (marked_kept shape mark (world old).cells (world one).cells marked h.1 (sdl_stay old one h.0.alone));
+      };
+    })
+    first_ends ends.Cut h = first_stop stops.Cut h.0 h.1
+    first_ends ends.Off h = absurd (h.was_off on)
+    first_ends ends.Fault h = first_stop stops.Fault h.0 h.1
+
+    module _ (did : HasWrittenList world reaches shape old one kinds.Dds (DdsValue (formatting_dds shape mark))) where
+      gone_one : FormatGoes world reaches shape kept kind mark old one 8
+      gone_one = goes_first old one did.ended
+
+      formatting_one : Settled IsDdsText (dds_block shape) (world one).cells (formatting_dds shape mark)
+      formatting_one = dds_settled shape (world one).cells (formatting_dds shape mark) did.settled
+
+      -- ---- the certification
+
+      module _ (two : M) where
+        stays_formatting : ChangesCertifiedAlone world reaches shape kept one two → Settled IsDdsText (dds_block shape) (world two).cells (formatting_dds shape mark)
+        stays_formatting alone = settled_still IsDdsText (dds_block shape) (world one).cells (world two).cells (formatting_dds shape mark) (dds_certified_stay one two alone) formatting_one
+
+        -- it was stopped while the structure said Formatting
+        stopped_formatting : (new : M) (j k : ℕ) (mid : M) → FormatGoes world reaches shape kept kind mark old mid j → j + k ≤ uses_of_all world reaches shape kept kind mark old new → (stop : Stop)
+            → Stops world reaches mid new k stop → StoppedCounts (world mid) (world new) stop → (world new).known ≡ (world mid).known → ChangesFormatted shape (Contains kept) (world mid).cells (world new).cells
+            → Settled IsDdsText (dds_block shape) (world new).cells (formatting_dds shape mark) → FormatStopped world reaches shape kept kind mark old new stop
+        stopped_formatting new j k mid gone few stop stops counts as_known only settled = record {
+          was_on = on;
+          room = room;
+          stops = stops_within world block_count reaches laws old new (j + k) (uses_of_all world reaches shape kept kind mark old new) stop few (stops_later world block_count reaches laws old mid new j k stop gone.continues stops);
+          counts = counts_later old mid new j stop gone counts;
+          as_known = as_known ∙ gone.as_known;
+          only = only_then old mid new gone.only only;
+          given = λ known lists given. absurd (formatting_gives_none shape (world new).cells mark settled lists given);
+          covers = λ known. inr (inl (formatting_gives_none shape (world new).cells mark settled));
+        }
+
+        second_stop : (stop : Stop) → StopsCertifying world reaches shape kept one two stop → FormatStopped world reaches shape kept kind mark old two stop
+        second_stop stop stopped = stopped_formatting two 8 (certify_uses world reaches shape kept one two) one gone_one (omega arith) stop stopped.stops stopped.counts stopped.alone.as_known
+            (certified_only one two stopped.alone) (stays_formatting stopped.alone)
+
+        gone_by : (entries : List PdlEntry) → HasFoundDefects world reaches shape one two kept kind entries → FormatGoes world reaches shape kept kind mark old two (8 + certify_uses world reaches shape kept one two)
+        gone_by entries d = goes_then old one two 8 (certify_uses world reaches shape kept one two) gone_one d.continues d.counts d.alone.as_known (certified_only one two d.alone)
+
+        known_one : (world old).known ≡ true → (world one).known ≡ true
+        known_one known = did.ended.alone.as_known ∙ known
+
+        pub second_ends : (end : End) → EndsFinding world reaches shape one two kept kind (mark + 1) end → EndsFormat world reaches shape kept kind mark old two end
+        second_ends (ends.TooMany found left) h = record {
+          goes = gone_by h.0.entries h.0.defects;
+          entries = h.0.entries;
+          found_is = h.0.found_is;
+          many = h.0.many;
+          defects = record { defective = λ known. h.0.defects.defective (known_one known); certified = λ known. h.0.defects.certified (known_one known) };
+          left_is = h.1;
+          leaves = record {
+            gives_none = formatting_gives_none shape (world two).cells mark (stays_formatting h.0.defects.alone);
+            marked = subst (AreMarkedWithin shape (world two).cells) (sym h.1) (marked_begun shape mark (world old).cells (world two).cells marked (stays_formatting h.0.defects.alone)
+                (λ area. sdl_certified_stay one two h.0.defects.alone area ∙ sdl_stay old one did.ended.alone area));
+          };
+        }
+        second_ends (ends.NoCopy due left) h = absurd h
+        second_ends ends.Cut h = second_stop stops.Cut h
+        second_ends ends.Off h = absurd (h.was_off did.ended.counts.stays_on)
+        second_ends ends.Fault h = second_stop stops.Fault h
+
+        module _ (entries : List PdlEntry) (few : FindsFewDefects world reaches shape one two kept kind entries) where
+          formatting_two : Settled IsDdsText (dds_block shape) (world two).cells (formatting_dds shape mark)
+          formatting_two = stays_formatting few.defects.alone
+
+          gone_two : FormatGoes world reaches shape kept kind mark old two (8 + certify_uses world reaches shape kept one two)
+          gone_two = gone_by entries few.defects
+
+          -- while data blocks stay, the defective blocks do
+          still_defects : (new : M) → ((block : ℕ) → Contains (data_blocks shape) block → cell_at (world new).cells block ≡ cell_at (world two).cells block) → AreDefects world reaches shape kept kind mark old new entries
+          still_defects new same = record {
+            defective = λ known. (let d = few.defects.defective (known_one known) in record {
+              rise = d.rise;
+              each = λ entry has. elim (d.each entry has) [
+                | inl is_kept ↦ inl is_kept
+                | inr f ↦ inr (record { certified = f.certified; dead = same entry.block f.certified.data_block ∙ f.dead; kind_is = f.kind_is })
+              ];
+              kept = d.kept;
+              found = λ entry f. d.found entry (record { certified = f.certified; dead = sym (same entry.block f.certified.data_block) ∙ f.dead; kind_is = f.kind_is });
+            });
+            certified = λ known block is. subst (λ (c : Cell). (c ≡ Good (zeros 32768)) ⊎ (c ≡ Dead)) (sym (same block is.data_block)) (few.defects.certified (known_one known) block is);
+          }
+
+          few_at : (new : M) → ((block : ℕ) → Contains (data_blocks shape) block → cell_at (world new).cells block ≡ cell_at (world two).cells block) → AreFewDefects world reaches shape kept kind mark old new
+          few_at new same = record { entries = entries; few = few.few; defects = still_defects new same }
+
+          -- ---- the update of the secondary list
+
+          module _ (three : M) where
+            stays_three : ChangesCopiesAlone world reaches kinds.Sdl shape two three → Settled IsDdsText (dds_block shape) (world three).cells (formatting_dds shape mark)
+            stays_three alone = settled_still IsDdsText (dds_block shape) (world two).cells (world three).cells (formatting_dds shape mark) (dds_stay two three alone) formatting_two
+
+            gone_three : CallEnds world reaches kinds.Sdl shape two three 8 → FormatGoes world reaches shape kept kind mark old three (8 + certify_uses world reaches shape kept one two + 8)
+            gone_three ended = goes_then old two three (8 + certify_uses world reaches shape kept one two) 8 gone_two ended.continues ended.counts ended.alone.as_known (sdl_only two three ended.alone)
+
+            third_stop : (stop : Stop) → StoppedWithin world reaches kinds.Sdl shape two three 8 stop → FormatStopped world reaches shape kept kind mark old three stop
+            third_stop stop stopped = stopped_formatting three (8 + certify_uses world reaches shape kept one two) 8 two gone_two (omega arith) stop stopped.stops stopped.counts stopped.alone.as_known
+                (sdl_only two three stopped.alone) (stays_three stopped.alone)
+
+            pub third_ends : (end : End) → EndsWritingList world reaches shape two three kinds.Sdl (SdlValue (fresh_sdl mark)) 1 (mark + 2) end → EndsFormat world reaches shape kept kind mark old three end
+            third_ends (ends.TooMany found left) h = absurd h
+            third_ends (ends.NoCopy due left) h = inr (inl (record {
+              goes = gone_three h.0;
+              few = few_at three (data_stay_sdl two three h.0.alone);
+              lost = h.1;
+              counter_is = h.2;
+              left_is = h.3;
+              leaves = record {
+                gives_none = formatting_gives_none shape (world three).cells mark (stays_three h.0.alone);
+                marked = subst (AreMarkedWithin shape (world three).cells) (sym h.3) (marked_middle shape mark (world three).cells (stays_three h.0.alone) h.1);
+              };
+            }))
+            third_ends ends.Cut h = third_stop stops.Cut h.0
+            third_ends ends.Off h = absurd (h.was_off gone_two.counts.stays_on)
+            third_ends ends.Fault h = third_stop stops.Fault h.0
+
+            module _ (done : HasWrittenList world reaches shape two three kinds.Sdl (SdlValue (fresh_sdl mark))) (lawful : IsLawful shape) where
+              formatting_three : Settled IsDdsText (dds_block shape) (world three).cells (formatting_dds shape mark)
+              formatting_three = stays_three done.ended.alone
+
+              fresh_three : Settled IsSdlText (sdl_block shape) (world three).cells (fresh_sdl mark)
+              fresh_three = sdl_settled shape (world three).cells (fresh_sdl mark) done.settled
+
+              pub valid : AreValid shape (fresh_lists shape mark entries)
+              valid = fresh_valid shape mark entries lawful few.defects.rise few.defects.data_only few.few
+
+              -- ---- the last update of the structure
+
+              module _ (four : M) where
+                data_stay : ChangesCopiesAlone world reaches kinds.Dds shape three four → (block : ℕ) → Contains (data_blocks shape) block → cell_at (world four).cells block ≡ cell_at (world two).cells block
+                data_stay alone block is = data_stay_dds three four alone block is ∙ data_stay_sdl two three done.ended.alone block is
+
+                fresh_four : ChangesCopiesAlone world reaches kinds.Dds shape three four → Settled IsSdlText (sdl_block shape) (world four).cells (fresh_sdl mark)
+                fresh_four alone = settled_still IsSdlText (sdl_block shape) (world three).cells (world four).cells (fresh_sdl mark) (sdl_stay three four alone) fresh_three
+
+                gone_four : CallEnds world reaches kinds.Dds shape three four 8 → FormatGoes world reaches shape kept kind mark old four (uses_of_all world reaches shape kept kind mark old four)
+                gone_four ended = goes_then old three four (8 + certify_uses world reaches shape kept one two + 8) 8 (gone_three done.ended) ended.continues ended.counts ended.alone.as_known (dds_only three four ended.alone)
+
+                zeros_cover : ChangesCopiesAlone world reaches kinds.Dds shape three four → (world old).known ≡ true → FitsUnder shape (world four).cells (fresh_lists shape mark entries) (zero_disc shape)
+                zeros_cover alone known = zeros_fit shape (world four).cells mark entries valid (λ block is apart.
+                    (still_defects four (data_stay alone)).certified known block (record { data_block = is; not_kept = λ entry has same. apart (subst (Contains (pdl_blocks entries)) same (listed entry has)) }))
+                  where
+                    listed : (entry : PdlEntry) → Contains kept entry → Contains (pdl_blocks entries) entry.block
+                    listed entry has =
+                        let in_all = ((still_defects four (data_stay alone)).defective known).kept entry has in
+                        let at = get_or-map (λ (e : PdlEntry). e.block) entries in_all.0 entry entry.block in_all.1 in
+                        (in_all.0, omega (arith, in_all.1, length-map entries (λ (e : PdlEntry). e.block)), at ∙ ap (λ (e : PdlEntry). e.block) in_all.2)
+
+                fourth_stop : (stop : Stop) → StoppedWithin world reaches kinds.Dds shape three four 8 stop → MayLeaveCopies world reaches kinds.Dds shape three four (DdsValue (formatted_dds shape mark entries)) → FormatStopped world reaches shape kept kind mark old four stop
+                fourth_stop stop stopped left = record {
+                  was_on = on;
+                  room = room;
+                  stops = stops_later world block_count reaches laws old three four (8 + certify_uses world reaches shape kept one two + 8) 8 stop (gone_three done.ended).continues stopped.stops;
+                  counts = counts_later old three four (8 + certify_uses world reaches shape kept one two + 8) stop (gone_three done.ended) stopped.counts;
+                  as_known = stopped.alone.as_known ∙ (gone_three done.ended).as_known;
+                  only = only_then old three four (gone_three done.ended).only (dds_only three four stopped.alone);
+                  given = λ known lists given. inr (entries, are_fresh lists given);
+                  covers = λ known. inr (inr (λ lists given. subst (λ (l : places.Lists). SomeFit shape (world four).cells l (zero_disc shape ∷ [])) (sym (are_fresh lists given)) (inl (zeros_cover stopped.alone known))));
+                }
+                  where
+                    are_fresh : (lists : places.Lists) → IsGiven shape (world four).cells lists → lists ≡ fresh_lists shape mark entries
+                    are_fresh = given_in_last shape (world three).cells (world four).cells mark entries
+                        (λ area is. dds_may_hold (cell_at (world three).cells (dds_block shape area)) (cell_at (world four).cells (dds_block shape area)) (formatted_dds shape mark entries) (left area is))
+                        formatting_three (fresh_four stopped.alone)
+
+                pub fourth_ends : (end : End) → EndsWritingList world reaches shape three four kinds.Dds (DdsValue (formatted_dds shape mark entries)) (mark + 2) (mark + 2) end → EndsFormat world reaches shape kept kind mark old four end
+                fourth_ends (ends.TooMany found left) h = absurd h
+                fourth_ends (ends.NoCopy due left) h = inr (inr (record {
+                  goes = gone_four h.0;
+                  few = few_at four (data_stay h.0.alone);
+                  lost = h.1;
+                  counter_is = h.2;
+                  left_is = h.3;
+                  leaves = record {
+                    gives_none = lost_gives_none shape (world four).cells h.1;
+                    marked = subst (AreMarkedWithin shape (world four).cells) (sym h.3) (marked_last shape mark (world four).cells h.1 (fresh_four h.0.alone));
+                  };
+                }))
+                fourth_ends ends.Cut h = fourth_stop stops.Cut h.0 h.1
+                fourth_ends ends.Off h = absurd (h.was_off (gone_three done.ended).counts.stays_on)
+                fourth_ends ends.Fault h = fourth_stop stops.Fault h.0 h.1
+
+                pub makes_lists : HasWrittenList world reaches shape three four kinds.Dds (DdsValue (formatted_dds shape mark entries)) → IsLawfulDds (formatted_dds shape mark entries) → MakesLists world reaches shape kept kind mark old four (fresh_lists shape mark entries)
+                makes_lists last lawful_list = record {
+                  goes = gone_four last.ended;
+                  entries = entries;
+                  lists_are = refl;
+                  few = few.few;
+                  defects = still_defects four (data_stay last.ended.alone);
+                  valid = valid;
+                  lawful_dds = lawful_list;
+                  lawful_sdl = record { counted = omega arith; dds_counted = omega (arith, room); limits = record { most = omega arith; few = omega arith }; list = record { rise = λ k h. absurd (omega arith); numbers = λ k d h. absurd (omega arith) } };
+                  settled = record { dds = dds_settled shape (world four).cells (formatted_dds shape mark entries) last.settled; sdl = fresh_four last.ended.alone };
+                  has_dds = λ known lost. last.not_lost (done.ended.alone.as_known ∙ few.defects.alone.as_known ∙ known_one known) lost;
+                  has_sdl = λ known lost. done.not_lost (few.defects.alone.as_known ∙ known_one known) (λ area is. sym (sdl_stay three four last.ended.alone area) ∙ lost area is);
+                }

@@ -1,0 +1,5 @@
+pub mod Merging
+pub mod Phases
+pub mod Full
+pub mod Rooms
+pub mod Rewriting

@@ -1,0 +1,93 @@
+-- What a rewriting format does, by its answer: for `rewrite`.
+use Rattle.std.specs.Prelude.{◌≡◌, ℕ, ◌+◌, ◌*◌, ◌≤◌, ◌⊎◌, Bool, MatchBool, true, false, IsTrue, Option, Some, None}
+use Rattle.model_geometry.specs.Geometry.{Shape, dds_block, sdl_block}
+use Rattle.model_lists.specs.Texts.{IsDdsText, IsSdlText}
+use Rattle.model_medium.specs.World.{World, UseContinues, IsOff}
+use Rattle.model_stops.specs.Stops.{Continues, Stops}
+use Rattle.model_stops.specs.declared.Stop.{Stop}
+use Rattle.model_stops.specs.declared.Stop.TheVariants as stops
+use Rattle.model_copies.specs.Copies.{Settled, AllLost}
+use Rattle.model_places.specs.Places.{Lists}
+use Rattle.model_volume.specs.Given.{IsGiven, AreSettled, OnlyLists}
+use Rattle.ram_zones.specs.declared.list_kind.ListKind.{ListKind}
+use Rattle.ram_zones.specs.ListKind.{list_block}
+use Rattle.ram_copies.specs.Values.{ListValue, IsText}
+use Rattle.ram_copies.specs.Calls.{StoppedCounts, StoppedWithin, LeavesNone, MayLeaveCopies, Repairs}
+use Rattle.ram_lists.specs.Mounts.{RepairsCopies}
+use Rattle.ram_format.specs.declared.rewriting.Rewritten.{Rewritten}
+use Rattle.ram_format.specs.declared.rewriting.Rewritten.TheVariants as rewrites
+
+module _ {M : Type 0} (world : M → World) (reaches : M → M → ℕ → Type 0) (shape : Shape) (old new : M) where
+  module _ (kind : ListKind) (value : ListValue) where
+    -- The copies of a list were repaired, and are settled: one at least can be read, or all are dead. (This project's own,
+    -- as all here.)
+    pub record HasRepairedList (kept : Bool) : Type 0 where
+      pub repairs : Repairs world reaches kind shape old new value
+      pub settled : Settled (IsText kind) (λ area. list_block shape area kind) (world new).cells value
+      pub left : MatchBool kept ((world old).known ≡ true → ¬ LeavesNone world reaches kind shape old new) (LeavesNone world reaches kind shape old new)
+
+    -- the repair was stopped
+    abbrev pub StopsRepairingList : Stop → Type 0
+    StopsRepairingList stops.Cut = StoppedWithin world reaches kind shape old new 12 stops.Cut × MayLeaveCopies world reaches kind shape old new value
+    StopsRepairingList stops.Off = IsOff (world old) (world new)
+    StopsRepairingList stops.Fault = StoppedWithin world reaches kind shape old new 12 stops.Fault × MayLeaveCopies world reaches kind shape old new value
+
+  module _ (lists : Lists) where
+    -- Both lists were repaired, and are settled: no other cell changed.
+    pub record RepairsBothLists : Type 0 where
+      pub was_on : IsTrue (world old).power
+      pub dds_uses : ℕ
+      pub dds : RepairsCopies IsDdsText (dds_block shape) (world old) (world new) lists.dds dds_uses
+      pub sdl_uses : ℕ
+      pub sdl : RepairsCopies IsSdlText (sdl_block shape) (world old) (world new) lists.sdl sdl_uses
+      pub continues : Continues world reaches old new (dds_uses + sdl_uses)
+      pub counts : UseContinues (world old) (world new)
+      pub as_known : (world new).known ≡ (world old).known
+      pub only : OnlyLists shape (world old).cells (world new).cells
+      pub settled : AreSettled shape (world new).cells lists
+
+    -- each of both has a copy that can be read
+    pub record HaveCopies : Type 0 where
+      pub both : RepairsBothLists
+      pub has_dds : (world old).known ≡ true → ¬ AllLost (dds_block shape) (world new).cells
+      pub has_sdl : (world old).known ≡ true → ¬ AllLost (sdl_block shape) (world new).cells
+
+    -- One has none: the structure, or the secondary list alone. The counter is that list's.
+    pub record LacksCopies (counter : ℕ) : Type 0 where
+      pub both : RepairsBothLists
+      pub lost : (AllLost (dds_block shape) (world new).cells × (counter ≡ lists.dds.counter))
+          ⊎ (((world old).known ≡ true → ¬ AllLost (dds_block shape) (world new).cells)
+          × AllLost (sdl_block shape) (world new).cells × (counter ≡ lists.sdl.counter))
+
+    -- what was found of the copies: the counter of a list that has none, if one has
+    abbrev pub RewritesBy : Option ℕ → Type 0
+    RewritesBy None = HaveCopies
+    RewritesBy (Some counter) = LacksCopies counter
+
+    -- It was stopped, for a cause that its count shows: lists that the cells give now they gave before.
+    pub record RewriteStopped (stop : Stop) : Type 0 where
+      pub was_on : IsTrue (world old).power
+      pub stops : Stops world reaches old new 24 stop
+      pub counts : StoppedCounts (world old) (world new) stop
+      pub as_known : (world new).known ≡ (world old).known
+      pub only : OnlyLists shape (world old).cells (world new).cells
+      pub given : (other : Lists) → IsGiven shape (world new).cells other → IsGiven shape (world old).cells other
+
+    abbrev pub StopsRewriting : Stop → Type 0
+    StopsRewriting stops.Cut = RewriteStopped stops.Cut
+    StopsRewriting stops.Off = IsOff (world old) (world new)
+    StopsRewriting stops.Fault = RewriteStopped stops.Fault
+
+    -- What a rewriting format does, by its answer.
+    abbrev pub RewriteRule : Rewritten → Type 0
+    RewriteRule rewrites.Good = HaveCopies
+    RewriteRule (rewrites.NoCopy counter) = LacksCopies counter
+    RewriteRule rewrites.Cut = RewriteStopped stops.Cut
+    RewriteRule rewrites.Off = IsOff (world old) (world new)
+    RewriteRule rewrites.Fault = RewriteStopped stops.Fault
+
+-- the counter of a list that has no copy left, if one has none: the structure's, or the secondary list's
+abbrev pub lost_of : Lists → Bool → Bool → Option ℕ
+lost_of lists true true = None
+lost_of lists true false = Some lists.sdl.counter
+lost_of lists false second = Some lists.dds.counter

@@ -1,0 +1,3 @@
+mod Powering
+mod Sounding
+mod TurningOff

@@ -1,0 +1,194 @@
+-- What turning the power on shows, by how the mount ended.
+use Rattle.std.proofs.Common.{arith, ◌≡◌, ℕ, ◌+◌, Bool, true, false, IsTrue, Option, Some, None, List, [], refl, sym, ap, ◌∙◌, subst}
+use Rattle.std.specs.Option.{option_map_or}
+use Rattle.model_geometry.specs.Geometry.{Shape}
+use Rattle.model_lists.specs.Values.{Dds}
+use Rattle.model_medium.specs.World.{World, IsCut, IsOff}
+use Rattle.model_medium.specs.Machine.{Machine}
+use Rattle.model_medium.specs.Exact.{Event, PowerOn, PowerOff}
+use Rattle.model_medium.specs.Reach.{Reach}
+use Rattle.model_medium.specs.declared.WornBlock.{WornBlock}
+use Rattle.model_medium.specs.declared.ArmedCut.{ArmedCut}
+use Rattle.model_geometry.specs.Geometry.{dds_block, sdl_block}
+use Rattle.model_lists.specs.Texts.{IsDdsText, IsSdlText}
+use Rattle.model_volume.specs.Given.{AreSeen}
+use Rattle.model_medium.proofs.Compose.{reach_none}
+use Rattle.model_stops.specs.Stops.{Stops}
+use Rattle.model_stops.specs.declared.Stop.{Stop}
+use Rattle.model_stops.specs.declared.Stop.TheVariants as stops
+use Rattle.model_sectors.specs.declared.PowerOut.TheVariants as outs
+use Rattle.model_lists.specs.Values.{Sdl}
+use Rattle.model_places.specs.Places.{Lists}
+use Rattle.model_drive.proofs.Ends.{stop_off}
+use Rattle.model_drive.proofs.Powers.{KeepsRight, power_step}
+use Rattle.model_drive.specs.Shown.{Shown, capacity}
+use Rattle.model_drive.specs.Sound.{AreInUse}
+use Rattle.model_drive.specs.Repairs.{mount_most, RepairsList}
+use Rattle.model_drive.specs.Power.{turned_on, MountsAny, MountsLists, MountsNone, RepairsChosenDds, StopsInMount, MountLacksMemory}
+use Rattle.ram_medium.specs.Laws.{ControlLaws, machine_shown}
+use Rattle.ram_lists.specs.Mounts.{KeepsGiven, RepairsCopies, RepairsChosen, EndsWithLists, EndsBare, WasStopped, WasOutOfMemory}
+use Rattle.ram_volume.specs.Shown.{shown_without, shown_unformatted, shown_under}
+use Rattle.ram_volume.specs.Powers.{PowerSteps}
+
+-- with the power off nothing is kept
+off_right : (shape : Shape) (machine : Machine) → ¬ IsTrue machine.world.power → KeepsRight (shown_without shape machine)
+off_right shape machine off = record {
+  bare = λ on none. absurd (off on);
+  in_use = λ lists is. absurd (let e : None ≡ Some lists = is in cc);
+}
+
+module _ {M : Type 0} (world : M → World) (reaches : M → M → ℕ → Type 0) (takes : M → M → Event → Type 0) (arms : M → List WornBlock) (armed_cut : M → Option ArmedCut)
+    (laws : ControlLaws world reaches takes arms armed_cut) (shape : Shape) where
+  abbrev machine : M → Machine
+  machine m = machine_shown world arms armed_cut m
+
+  abbrev before : M → Shown
+  before off = shown_without shape (machine off)
+
+  abbrev after : M → Option Lists → ℕ → Shown
+  after new lists mark = record { shape = shape; medium = machine new; lists = lists; mark = mark; buffer = [] }
+
+  -- where memory was refused before the power went on, nothing changed
+  pub refused : (off : M) → ¬ IsTrue (world off).power → MountLacksMemory (before off) (before off)
+  refused off is_off = record {
+    any = record { only = λ block other. refl; given = λ known lists given. given; unbuffered = refl };
+    off = is_off;
+    no_lists = refl;
+    no_mark = refl;
+    uses = 0;
+    few = omega arith;
+    reach = reach_none (turned_on (before off)).medium (laws.to_come off);
+  }
+
+  module _ (off on : M) (turned : takes off on PowerOn) (powers : world on ≡ record (world off) { power = true }) where
+    abbrev old : Shown
+    old = before off
+
+    reached : (new : M) (k : ℕ) → reaches on new k → Reach (turned_on old).medium (machine new) k
+    reached new k r = subst (λ (m : Machine). Reach m (machine new) k) (laws.exactly off on PowerOn turned) (laws.reach on new k r)
+
+    any : (new : M) (lists : Option Lists) (mark : ℕ) → KeepsGiven shape (world on) (world new) → MountsAny old (after new lists mark)
+    any new lists mark keeps =
+        let k = subst (λ (w : World). KeepsGiven shape w (world new)) powers keeps in
+        record { only = k.only; given = λ known. k.given; unbuffered = refl }
+
+    repairs : {V : Type 0} (text : V → List ℕ → Type 0) (place : ℕ → ℕ) (new : M) (lists : Option Lists) (mark : ℕ) (value : V) (uses : ℕ)
+        → RepairsCopies text place (world on) (world new) value uses → RepairsList text place old (after new lists mark) value uses
+    repairs text place new lists mark value uses r =
+        let k = subst (λ (w : World). RepairsCopies text place w (world new) value uses) powers r in
+        record { rewritten = k.rewritten; few = k.few; uses_are = k.uses_are; rewrites = k.rewrites }
+
+    known_on : (known : Bool) → (world off).known ≡ known → (world on).known ≡ known
+    known_on known is = ap (λ (w : World). w.known) powers ∙ is
+
+    pub mounted : (new : M) (lists : Lists) → EndsWithLists world reaches shape on new lists
+        → MountsLists old (shown_under shape (machine new) lists []) (capacity (shown_under shape (machine new) lists []))
+    mounted new lists ends = record {
+      any = any new (Some lists) lists.dds.counter ends.ended.keeps;
+      lists = lists;
+      in_use = refl;
+      mark_is = refl;
+      known_is = refl;
+      seen = ends.finds.seen;
+      sees = λ known. (subst (λ (w : World). AreSeen shape w.cells ends.finds.seen (world new).cells) powers ends.finds.are_seen);
+      chosen = λ known. ends.finds.chosen (known_on true known);
+      dds_uses = ends.dds_uses;
+      dds = repairs IsDdsText (dds_block shape) new (Some lists) lists.dds.counter lists.dds ends.dds_uses ends.dds;
+      sdl_uses = ends.sdl_uses;
+      sdl = repairs IsSdlText (sdl_block shape) new (Some lists) lists.dds.counter lists.sdl ends.sdl_uses ends.sdl;
+      ends = record { reach = reached new (8 + (ends.dds_uses + ends.sdl_uses)) ends.ended.continues.reach; is_on = ends.ended.continues.is_on };
+    }
+
+    abbrev under : M → Dds → Sdl → List (ℕ × List ℕ) → Shown
+    under new dds sdl buffer = shown_under shape (machine new) (record { dds = dds; sdl = sdl }) buffer
+
+    module _ (new : M) (found : Lists) (ends : EndsWithLists world reaches shape on new found) (sdl : Sdl) (same : sdl ≡ found.sdl) (buffer : List (ℕ × List ℕ)) (empty : buffer ≡ []) where
+      pub mounted_ready : MountsLists old (under new found.dds sdl buffer) (capacity (under new found.dds sdl buffer))
+      mounted_ready =
+          subst (λ (b : List (ℕ × List ℕ)). MountsLists old (under new found.dds sdl b) (capacity (under new found.dds sdl b))) (sym empty)
+          (subst (λ (s : Sdl). MountsLists old (under new found.dds s []) (capacity (under new found.dds s []))) (sym same) (mounted new found ends))
+
+      right : (lists : Lists) → Some found ≡ Some lists → AreInUse (shown_under shape (machine new) found []) lists
+      right lists is = subst (AreInUse (shown_under shape (machine new) found [])) (ap (λ (o : Option Lists). option_map_or (λ (l : Lists). l) o found) is) (record { valid = ends.finds.valid; mark_is = refl; settled = λ known. ends.finds.settled })
+
+      steps : PowerSteps old (shown_under shape (machine new) found []) (outs.Ready (capacity (shown_under shape (machine new) found [])))
+      steps s stood =
+          power_step old (shown_under shape (machine new) found []) refl (record { bare = λ is_on none. absurd (let e : Some found ≡ None = none in cc); in_use = right }) s stood (outs.Ready _) (mounted new found ends)
+
+      pub ready_steps : PowerSteps old (under new found.dds sdl buffer) (outs.Ready (capacity (under new found.dds sdl buffer)))
+      ready_steps =
+          subst (λ (b : List (ℕ × List ℕ)). PowerSteps old (under new found.dds sdl b) (outs.Ready (capacity (under new found.dds sdl b)))) (sym empty)
+          (subst (λ (s : Sdl). PowerSteps old (under new found.dds s []) (outs.Ready (capacity (under new found.dds s [])))) (sym same) steps)
+
+    repaired_chosen : (new : M) (mark : ℕ) (chosen : Option Dds) (uses : ℕ) → RepairsChosen shape (world on) (world new) chosen uses → RepairsChosenDds old (after new None mark) chosen uses
+    repaired_chosen new mark None uses r = r
+    repaired_chosen new mark (Some dds) uses r = (repairs IsDdsText (dds_block shape) new None mark dds uses r.0, λ known. r.1)
+
+    pub unformatted : (new : M) (mark : ℕ) → EndsBare world reaches shape on new mark → MountsNone old (shown_unformatted shape (machine new) mark)
+    unformatted new mark ends = record {
+      any = any new None mark ends.ended.keeps;
+      no_lists = refl;
+      seen = ends.finds.seen;
+      sees = λ known. (subst (λ (w : World). AreSeen shape w.cells ends.finds.seen (world new).cells) powers ends.finds.are_seen);
+      mark_is = λ known. ends.finds.mark_is (known_on true known);
+      chosen = ends.dds;
+      lacks = λ known. ends.finds.lacks (known_on true known);
+      uses = ends.uses;
+      repaired = repaired_chosen new mark ends.dds ends.uses ends.repaired;
+      ends = record { reach = reached new (8 + ends.uses) ends.ended.continues.reach; is_on = ends.ended.continues.is_on };
+    }
+
+    stops_shown : (new : M) (stop : Stop) → Stops world reaches on new 32 stop → Stops (λ (m : Machine). m.world) Reach (turned_on old).medium (machine new) mount_most stop
+    stops_shown new stops.Cut s = record {
+      uses = s.uses;
+      few = s.few;
+      reach = reached new s.uses s.reach;
+      cut = subst (λ (w : World). IsCut w (world new)) powers s.cut;
+    }
+    stops_shown new stops.Off s = subst (λ (w : World). IsOff w (world new)) powers s
+    stops_shown new stops.Fault s = record {
+      mid = machine s.mid;
+      before = s.before;
+      few = s.few;
+      reach = reached s.mid s.before s.reach;
+      block = s.block;
+      fails = s.fails;
+    }
+
+    pub stopped : (new : M) (stop : Stop) → WasStopped world reaches shape on new stop → StopsInMount old (shown_without shape (machine new)) stop
+    stopped new stop was = record {
+      any = any new None 0 was.keeps;
+      stopped = record { stops = stops_shown new stop was.stops; no_lists = refl; no_mark = refl; no_buffer = refl };
+    }
+
+    pub cut_steps : (new : M) → WasStopped world reaches shape on new stops.Cut → PowerSteps old (shown_without shape (machine new)) outs.Cut
+    cut_steps new was s stood =
+        let cause = stopped new stops.Cut was in
+        power_step old (shown_without shape (machine new)) refl (off_right shape (machine new) (stop_off (turned_on old).medium (machine new) mount_most stops.Cut cause.stopped.stops)) s stood outs.Cut cause
+
+    pub fault_steps : (new : M) → WasStopped world reaches shape on new stops.Fault → PowerSteps old (shown_without shape (machine new)) outs.Fault
+    fault_steps new was s stood =
+        let cause = stopped new stops.Fault was in
+        power_step old (shown_without shape (machine new)) refl (off_right shape (machine new) (stop_off (turned_on old).medium (machine new) mount_most stops.Fault cause.stopped.stops)) s stood outs.Fault cause
+
+    pub lacks_memory : (mid new : M) → WasOutOfMemory world reaches shape on mid → takes mid new PowerOff → world new ≡ record (world mid) { power = false }
+        → MountLacksMemory old (shown_without shape (machine new))
+    lacks_memory mid new was turns_off power = record {
+      any = any new None 0 (subst (λ (w : World). KeepsGiven shape (world on) w) (sym power)
+          (record { as_known = was.keeps.as_known; only = was.keeps.only; dds = was.keeps.dds; sdl = was.keeps.sdl; given = was.keeps.given }));
+      off = λ on. (let p : true ≡ false = sym on ∙ ap (λ (w : World). w.power) power in cc);
+      no_lists = refl;
+      no_mark = refl;
+      uses = was.uses;
+      few = (let f = was.few in omega (arith, f));
+      reach = subst (λ (m : Machine). Reach (turned_on old).medium m was.uses)
+          (ap (λ (p : Bool). record (machine mid) { world = record (world mid) { power = p } }) was.continues.is_on
+          ∙ sym (ap (λ (m : Machine). record m { world = record m.world { power = true } }) (laws.exactly mid new PowerOff turns_off)))
+          (reached mid was.uses was.continues.reach);
+    }
+
+    pub memory_steps : (mid new : M) → WasOutOfMemory world reaches shape on mid → takes mid new PowerOff → world new ≡ record (world mid) { power = false }
+        → PowerSteps old (shown_without shape (machine new)) outs.NoMemory
+    memory_steps mid new was turns_off power s stood =
+        let cause = lacks_memory mid new was turns_off power in
+        power_step old (shown_without shape (machine new)) refl (off_right shape (machine new) cause.off) s stood outs.NoMemory cause

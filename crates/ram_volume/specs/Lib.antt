@@ -1,0 +1,3 @@
+pub mod OneProof
+pub mod Powers
+pub mod Shown

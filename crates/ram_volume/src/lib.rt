@@ -1,0 +1,14 @@
+//! A drive that owns its medium, in typed states: with its power off, or on with a formatted disc, or with one that is
+//! not formatted. Each call takes its state and gives the next.
+#![tactic(auto)]
+
+mod laws;
+mod memory;
+mod power;
+mod states;
+
+pub use laws::what_a_state_shows_is_sound;
+pub use states::{NotFormatted, PowerOn, PoweredOff, Ready, State};
+
+#[cfg(test)]
+mod tests;

@@ -1,0 +1,156 @@
+//! The states of a drive. Their types keep what holds of them, so that no call has to test it again.
+
+ghost use Rattle.std.specs.Prelude.{◌≡◌, ◌≤◌, IsTrue, []};
+ghost use Rattle.std.proofs.Props.{props};
+ghost use Rattle.model_geometry.specs.declared.TheConstants.{MOST_SPARES};
+ghost use Rattle.model_geometry.specs.Geometry.{total};
+ghost use Rattle.model_lists.specs.Values.{IsLawfulDds, IsLawfulSdl};
+ghost use Rattle.model_copies.specs.Copies.{AreMarkedWithin};
+ghost use Rattle.model_places.specs.Valid.{AreValid};
+ghost use Rattle.model_places.proofs.OneProof.{valid-prop};
+ghost use Rattle.model_volume.specs.Given.{GivesNone, AreSettled};
+ghost use Rattle.model_volume.proofs.OneProof.{settled-prop};
+ghost use Rattle.ram_dds.specs.Dds.{dds_of};
+ghost use Rattle.ram_sdl.specs.Sdl.{sdl_of};
+ghost use Rattle.ram_lists.specs.Lists.{lists_of};
+ghost use Rattle.ram_volume.specs.OneProof.{lawful_dds-prop};
+
+use ram_buffer::BlockBuffer;
+use ram_bytes::{Block, SECTORS_PER_BLOCK};
+use ram_copies::Scratch;
+use ram_lists::Lists;
+use ram_medium::MediumControl;
+use ram_sdl::Sdl;
+use ram_zones::Geometry;
+
+/// A drive with its power off. It keeps its medium and the geometry, and nothing else.
+#[derive(Drop)]
+pub struct PoweredOff<M: MediumControl> {
+    pub(crate) medium: M,
+    pub(crate) geometry: Geometry,
+    ghost size: { M.block_count medium ≡ total geometry },
+    ghost off: { ¬ IsTrue (M.world medium).power } by { Prim.hlevel props },
+}
+
+/// A drive with its power on and a formatted disc. Its lists are valid, and each of their copies is exactly its text, or
+/// dead. It has room for as many replaced blocks as a disc may have.
+#[derive(Drop)]
+pub struct Ready<M: MediumControl> {
+    pub(crate) medium: M,
+    pub(crate) geometry: Geometry,
+    /// The lists in use.
+    pub(crate) lists: Lists,
+    /// Room for the secondary list that is written next.
+    pub(crate) draft: Sdl,
+    pub(crate) buffer: BlockBuffer,
+    pub(crate) block: Block,
+    pub(crate) scratch: Scratch,
+    ghost size: { M.block_count medium ≡ total geometry },
+    ghost on: { IsTrue (M.world medium).power } by { Prim.hlevel props },
+    ghost valid: { AreValid geometry (lists_of lists) } by { valid-prop geometry (lists_of lists) },
+    ghost settled: { AreSettled geometry (M.world medium).cells (lists_of lists) } by { settled-prop geometry (M.world medium).cells (lists_of lists) },
+    ghost lawful_dds: { IsLawfulDds (dds_of lists.dds) } by { lawful_dds-prop (dds_of lists.dds) },
+    ghost lawful_sdl: { IsLawfulSdl (sdl_of lists.sdl) } by { Prim.hlevel props },
+    ghost roomy: { MOST_SPARES ≤ lists.sdl.entries.room },
+    ghost draft_roomy: { MOST_SPARES ≤ draft.entries.room },
+}
+
+/// A drive with its power on and a disc that is not formatted: its cells give no lists. The mark is no less than that of
+/// the disc.
+#[derive(Drop)]
+pub struct NotFormatted<M: MediumControl> {
+    pub(crate) medium: M,
+    pub(crate) geometry: Geometry,
+    pub(crate) mark: u32,
+    /// Room for both secondary lists that a formatted disc needs.
+    pub(crate) spare_list: Sdl,
+    pub(crate) draft: Sdl,
+    pub(crate) buffer: BlockBuffer,
+    pub(crate) block: Block,
+    pub(crate) scratch: Scratch,
+    ghost size: { M.block_count medium ≡ total geometry },
+    ghost on: { IsTrue (M.world medium).power } by { Prim.hlevel props },
+    ghost bare: { GivesNone geometry (M.world medium).cells } by { Prim.hlevel props },
+    ghost marked: { AreMarkedWithin geometry (M.world medium).cells mark } by { Prim.hlevel props },
+    ghost unbuffered: { buffer ≡ [] } by { Prim.hlevel props },
+    ghost spare_roomy: { MOST_SPARES ≤ spare_list.entries.room },
+    ghost draft_roomy: { MOST_SPARES ≤ draft.entries.room },
+}
+
+/// A drive in any of its states.
+#[derive(Drop)]
+pub enum State<M: MediumControl> {
+    /// Its power is off.
+    Off(PoweredOff<M>),
+    /// Its power is on, and the disc is formatted.
+    Ready(Ready<M>),
+    /// Its power is on, and the disc is not formatted.
+    NotFormatted(NotFormatted<M>),
+}
+
+/// How the turning on of the power ended, with the drive as it is then.
+#[derive(Drop)]
+pub enum PowerOn<M: MediumControl> {
+    /// The disc is formatted.
+    Ready(Ready<M>),
+    /// The disc is not formatted.
+    NotFormatted(NotFormatted<M>),
+    /// The power was cut again.
+    Cut(PoweredOff<M>),
+    /// What the medium lies on failed, and counted it. The power is off.
+    Fault(PoweredOff<M>),
+    /// Memory was refused. The power is off.
+    NoMemory(PoweredOff<M>),
+}
+
+impl<M: MediumControl> PoweredOff<M> {
+    ghost use Rattle.std.specs.Prelude.{◌≡◌, IsTrue};
+    ghost use Rattle.model_geometry.specs.Geometry.{total};
+    ghost use Rattle.ram_volume.specs.Shown.{shown_off, shown_without};
+    ghost use Rattle.ram_medium.specs.Laws.{machine_shown};
+
+    /// A drive of this geometry over its medium, whose power is off.
+    pub fn new(medium: M, geometry: Geometry) -> PoweredOff<M>
+        requires size { M.block_count medium ≡ total geometry }
+        requires off { ¬ IsTrue (M.world medium).power }
+        ensures { shown_off result ≡ shown_without geometry (machine_shown M.world M.arms M.armed_cut medium) }
+    {
+        PoweredOff { medium, geometry }
+    }
+
+    /// The medium.
+    pub fn into_medium(self) -> M
+        ensures { result ≡ self.medium }
+    {
+        let PoweredOff {
+            medium,
+            geometry: _,
+        } = self;
+        medium
+    }
+}
+
+impl<M: MediumControl> NotFormatted<M> {
+    ghost use Rattle.std.specs.Prelude.{◌≡◌};
+
+    /// The mark: no copy of a list that can be read has or names a greater counter of a structure.
+    pub fn mark(&self) -> u32
+        ensures { result ≡ self.now.mark }
+    {
+        self.mark
+    }
+}
+
+impl<M: MediumControl> Ready<M> {
+    ghost use Rattle.std.specs.Prelude.{◌≡◌};
+    ghost use Rattle.model_drive.specs.Shown.{capacity};
+    ghost use Rattle.ram_volume.specs.Shown.{shown_ready};
+
+    /// How many sectors the disc has.
+    pub fn capacity(&self) -> u32
+        ensures { result ≡ capacity (shown_ready self.now) }
+    {
+        let blocks = self.geometry.data_blocks() - self.geometry.psa() - self.lists.sdl.ssa;
+        blocks * SECTORS_PER_BLOCK as u32
+    }
+}
