@@ -10,4 +10,6 @@ pub use laws::{
     one_text_tells_one_list, rewritten_copies_are_one_number, settled_copies_hold_one_value,
     the_greater_mark_is_the_discs, two_texts_are_held_between, what_is_seen_was_there,
 };
-pub use worked::{worked_choice, worked_copies, worked_counts, worked_marks, worked_rewrites};
+pub use worked::{
+    worked_choice, worked_copies, worked_counts, worked_marks, worked_nothing_new, worked_rewrites,
+};

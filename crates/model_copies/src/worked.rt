@@ -2,7 +2,7 @@
 
 ghost use Rattle.std.specs.Prelude.{◌≡◌, ℕ, ◌∷◌, [], List};
 ghost use Rattle.model_medium.specs.Cells.{Blank, Good, Torn, Dead};
-ghost use Rattle.model_copies.specs.Copies.{IsArea, Holds, HoldsOrDead, HoldsEither, HasCopy, Settled, IsChosen, NoneChosen, IsGreatestMark, AllLost, IsSeen, good_count, Rewrites};
+ghost use Rattle.model_copies.specs.Copies.{IsArea, Holds, HoldsOrDead, HoldsEither, HasCopy, HoldNothingNew, Settled, IsChosen, NoneChosen, IsGreatestMark, AllLost, IsSeen, good_count, Rewrites};
 
 /// What single cells hold.
 pub fn worked_copies()
@@ -38,4 +38,15 @@ pub fn worked_rewrites()
     ensures { Rewrites (λ cell. Holds (λ (v : ℕ) (b : List ℕ). b ≡ v ∷ []) cell 7) (λ k. k)
         (Blank ∷ Good (7 ∷ []) ∷ Good (2 ∷ []) ∷ Dead ∷ Good (7 ∷ []) ∷ [])
         (Blank ∷ Good (7 ∷ []) ∷ Good (7 ∷ []) ∷ Dead ∷ Dead ∷ []) 4 3 }
+{}
+
+/// Copies hold nothing new where the first was written again after the third, and the others died, stayed or were torn.
+/// One that holds 9 then holds something new.
+pub fn worked_nothing_new()
+    ensures nothing { HoldNothingNew (λ (v : ℕ) (b : List ℕ). b ≡ v ∷ []) (λ k. k)
+        (Blank ∷ Good (2 ∷ []) ∷ Good (7 ∷ []) ∷ Good (7 ∷ []) ∷ Blank ∷ [])
+        (Blank ∷ Good (7 ∷ []) ∷ Dead ∷ Good (7 ∷ []) ∷ Torn ∷ []) }
+    ensures something { ¬ HoldNothingNew (λ (v : ℕ) (b : List ℕ). b ≡ v ∷ []) (λ k. k)
+        (Blank ∷ Good (2 ∷ []) ∷ Good (7 ∷ []) ∷ Good (7 ∷ []) ∷ Blank ∷ [])
+        (Blank ∷ Good (9 ∷ []) ∷ []) }
 {}

@@ -1,5 +1,5 @@
 -- The small disc of the worked examples: its lists are lawful and valid, and what its cells give.
-use Rattle.std.specs.Prelude.{◌≡◌, ℕ, zero, suc, ◌^◌, ◌<◌, ◌≤◌, ◌⊎◌, IsSome, IsNone, List, [], ◌∷◌, map, length, get_or, slice_index}
+use Rattle.std.specs.Prelude.{◌≡◌, ℕ, zero, suc, ◌^◌, ◌<◌, ◌≤◌, ◌⊎◌, IsSome, IsNone, None, List, [], ◌∷◌, map, length, get_or, slice_index}
 use Rattle.std.proofs.Common.{refl, sym, ap, inl, inr, subst, arith}
 use Rattle.std.specs.List.{All, Contains, IsDistinct}
 use Rattle.std.specs.List.Sorted.{IsStrictlyIncreasing}
@@ -17,7 +17,7 @@ use Rattle.model_places.specs.Places.{Lists, unslipped, logical_blocks, spares, 
 use Rattle.model_places.specs.Valid.{IsValidPdl, IsValidSsa, AreValid}
 use Rattle.model_places.specs.Worked.{pair}
 use Rattle.model_places.proofs.Listed.{listed-All}
-use Rattle.model_volume.specs.Given.{IsGiven, AreChosen, AreSettled}
+use Rattle.model_volume.specs.Given.{IsGiven, AreChosen, LacksLists, AreSettled, AreSeen}
 use Rattle.model_volume.specs.Starts.{Found, IsFound, Precedes, disc_under, IsDiscStart}
 use Rattle.model_volume.specs.Moves.{IsNextSpare, tried_of}
 use Rattle.model_volume.specs.Samples.{small_shape, lists_before, lists_after, differing_cells, differing_pairs}
@@ -325,3 +325,19 @@ second_next = next_of lists_before (12 ∷ 11 ∷ 10 ∷ 9 ∷ []) 1 (12 ∷ [])
 
 pub later_next : IsNextSpare small_shape lists_after [] 11
 later_next = next_of lists_after (11 ∷ 10 ∷ 9 ∷ []) 0 [] 11 free_after (omega arith) refl refl
+
+-- ---- what a call saw
+
+good_or_dead : (bytes : List ℕ) → Dead ≡ Good bytes → ⊥
+good_or_dead bytes same = cc
+
+pub seen_one_dead : (d old : List ℕ) → AreSeen small_shape (Good d ∷ Good old ∷ []) (Good d ∷ Dead ∷ []) (Good d ∷ Dead ∷ [])
+seen_one_dead d old zero = inl refl
+seen_one_dead d old (suc zero) = inr (refl, refl, (4, omega arith, refl))
+seen_one_dead d old (suc (suc k)) = inl refl
+
+pub not_seen : (d old : List ℕ) → ¬ AreSeen small_shape (Good d ∷ Good old ∷ []) (Good d ∷ Dead ∷ []) (Good d ∷ Good old ∷ [])
+not_seen d old sees = elim (sees 1) [ inl same ↦ good_or_dead old same | inr dead ↦ good_or_dead old (sym dead.1) ]
+
+pub bare_sample : LacksLists small_shape [] None
+bare_sample dds area copy fits = copy.holds

@@ -25,5 +25,5 @@ pub use start_laws::{
 };
 pub use worked::{
     worked_differing_copies, worked_expansion, worked_homes, worked_lists, worked_moves,
-    worked_settled,
+    worked_seen, worked_settled,
 };

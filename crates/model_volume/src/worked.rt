@@ -1,13 +1,13 @@
 //! Worked examples: a small disc on which an update of the secondary list was cut after its first copies.
 
-ghost use Rattle.std.specs.Prelude.{◌≡◌, ℕ, ◌⊎◌, List, [], ◌∷◌, map};
-ghost use Rattle.model_medium.specs.Cells.{Good};
+ghost use Rattle.std.specs.Prelude.{◌≡◌, ℕ, ◌⊎◌, None, List, [], ◌∷◌, map};
+ghost use Rattle.model_medium.specs.Cells.{Good, Dead};
 ghost use Rattle.model_lists.specs.Texts.{IsDdsText, IsSdlText};
 ghost use Rattle.model_places.specs.Places.{Lists};
 ghost use Rattle.model_places.specs.Valid.{AreValid};
 ghost use Rattle.model_sectors.specs.Discs.{Off, first_disc};
 ghost use Rattle.model_places.specs.Worked.{small_lists, pair, retired};
-ghost use Rattle.model_volume.specs.Given.{IsGiven, AreChosen, AreSettled};
+ghost use Rattle.model_volume.specs.Given.{IsGiven, AreChosen, LacksLists, AreSettled, AreSeen};
 ghost use Rattle.model_volume.specs.Starts.{homes_under, disc_under, IsDiscStart};
 ghost use Rattle.model_volume.specs.Moves.{lists_moved, IsNextSpare};
 ghost use Rattle.model_volume.specs.Expansions.{lists_expanded};
@@ -79,4 +79,12 @@ pub fn worked_expansion()
         ≡ pair 13 12 ∷ retired 30 ∷ [] }
     ensures counter { (lists_expanded small_shape lists_after 4).sdl.counter ≡ 3 }
     ensures area { (lists_expanded small_shape lists_after 4).sdl.ssa ≡ 4 }
+{}
+
+/// A call that found the copy of the secondary list in block 1 dead saw the other cells as they were. On a disc without a
+/// copy no structure is chosen.
+pub fn worked_seen()
+    ensures seen { (d old : List ℕ) → AreSeen small_shape (Good d ∷ Good old ∷ []) (Good d ∷ Dead ∷ []) (Good d ∷ Dead ∷ []) }
+    ensures other { (d old : List ℕ) → ¬ AreSeen small_shape (Good d ∷ Good old ∷ []) (Good d ∷ Dead ∷ []) (Good d ∷ Good old ∷ []) }
+    ensures bare { LacksLists small_shape [] None }
 {}

@@ -2,3 +2,4 @@ pub mod Placing
 pub mod Listing
 pub mod MountSteps
 pub mod Finding
+pub mod Numbering

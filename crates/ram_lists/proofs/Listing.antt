@@ -68,15 +68,12 @@ module _ (P : SdlEntry → Type 0) (entries : List SdlEntry) where
         | inr earlier ↦ before k e (omega (arith, within, earlier))
       ]
 
-  pub all_of : (n : ℕ) → length entries ≤ n → ((k : ℕ) (e : SdlEntry) → k < n → P (get_or entries k e)) → All P entries
-  all_of n past before = λ k d below. before k d (omega (arith, below, past))
-
 -- ---- replacements that differ
 
 at_index : (entries : List SdlEntry) (k : ℕ) (d : SdlEntry) → k < length entries → replacement_at entries k ≡ (get_or entries k d).replacement
 at_index entries k d below = ap (option_and_then (λ (e : SdlEntry). e.replacement)) (slice_get-get_or entries k d below)
 
-some_is : (a b : ℕ) → Some a ≡ Some b → a ≡ b
+pub some_is : (a b : ℕ) → Some a ≡ Some b → a ≡ b
 some_is a b e = grind arith
 
 contains_at : (entries : List SdlEntry) (j r : ℕ) → replacement_at entries j ≡ Some r → Contains (replacements entries) r

@@ -470,11 +470,3 @@ module _ {M : Type 0} (world : M → World) (block_count : M → ℕ) (reaches :
 pub not_formatted : (s : DdsState) (b : Bool) → (s ≡ Formatted → IsTrue b) → b ≡ false → s ≡ Formatting
 not_formatted Formatting b h e = refl
 not_formatted Formatted b h e = absurd (true≢false (sym (h refl) ∙ e))
-
-pub fits_picked : {M : Type 0} (world : M → World) (reaches : M → M → ℕ → Type 0) (shape : Shape) (old new : M) (d : Dds) (area m : ℕ) (best : Option (ListValue × ℕ)) → HasPicked world reaches kinds.Dds shape old new (AcceptsDds shape) best m
-    → best ≡ Some (DdsValue d, area) → Finds world reaches kinds.Dds shape old new (AcceptsDds shape) (DdsValue d) area
-fits_picked world reaches shape old new d area m best look e = subst (PicksBest world reaches kinds.Dds shape old new (AcceptsDds shape)) e look.best_is
-
-pub sdl_picked : {M : Type 0} (world : M → World) (reaches : M → M → ℕ → Type 0) (shape : Shape) (old new : M) (d : Dds) (s : Sdl) (area m : ℕ) (best : Option (ListValue × ℕ)) → HasPicked world reaches kinds.Sdl shape old new (AcceptsSdl shape d) best m
-    → best ≡ Some (SdlValue s, area) → Finds world reaches kinds.Sdl shape old new (AcceptsSdl shape d) (SdlValue s) area
-sdl_picked world reaches shape old new d s area m best look e = subst (PicksBest world reaches kinds.Sdl shape old new (AcceptsSdl shape d)) e look.best_is

@@ -28,12 +28,6 @@ module _ (shape : Shape) (lists : Lists) (valid : IsValidPdl shape lists.dds) (a
   pub logical_no_spare : (i : ℕ) → IsAtPlace shape lists.dds lists.sdl.ssa block (places.Logical i) → ¬ Contains (spares shape lists) block
   logical_no_spare i placed = logical_is_no_spare shape lists valid area block (logical_has i placed)
 
-  pub slipped_no_spare : IsAtPlace shape lists.dds lists.sdl.ssa block places.Slipped → ¬ Contains (spares shape lists) block
-  slipped_no_spare listed has = not_slipped shape lists.dds block (spare_is_unslipped shape lists block has) listed
-
-  pub outside_no_spare : IsAtPlace shape lists.dds lists.sdl.ssa block places.Outside → ¬ Contains (spares shape lists) block
-  outside_no_spare none has = none (unslipped_are_data shape lists.dds block (spare_is_unslipped shape lists block has))
-
   spare_valid : Contains (spares shape lists) block → IsEntryValid shape lists (record { defective = block; replacement = None })
   spare_valid has = record {
     within = spare_is_unslipped shape lists block has;

@@ -31,7 +31,7 @@ pub record KeepsGiven (shape : Shape) (old new : World) : Type 0 where
   pub given : (lists : places.Lists) → IsGiven shape new.cells lists → IsGiven shape old.cells lists
 
 -- The copies of a list were repaired in so many uses: one for each, and two for each that was not exactly its text when
--- it was read, and so was written again.
+-- it was read, and so was written again and read back.
 module _ {V : Type 0} (text : V → List ℕ → Type 0) (place : ℕ → ℕ) (old new : World) (value : V) where
   pub record RepairsCopies (uses : ℕ) : Type 0 where
     pub rewritten : ℕ
@@ -55,8 +55,9 @@ pub record FindsLists (shape : Shape) (old new : World) (lists : places.Lists) :
   pub are_seen : AreSeen shape old.cells seen new.cells
   pub chosen : old.known ≡ true → AreChosen shape seen lists
 
--- The disc is not formatted: no lists were chosen among the copies as they were read, and that for the structure that
--- was; the mark is theirs, and no less than one on the disc now; and the cells give no lists.
+-- The disc is not formatted: no lists were chosen among the copies as they were read, for a cause that the structure shows
+-- that was chosen, if one was. The mark is that of those copies, and no less than one on the disc now. The cells give no
+-- lists.
 pub record FindsNoLists (shape : Shape) (old new : World) (dds : Option Dds) (mark : ℕ) : Type 0 where
   pub gives_none : GivesNone shape new.cells
   pub marked : AreMarkedWithin shape new.cells mark

@@ -1,6 +1,6 @@
 //! The test of a secondary defect list under a primary one.
 
-ghost use Rattle.std.specs.Prelude.{◌↔◌, ℕ, ◌≤◌, IsTrue, nat_eq, length};
+ghost use Rattle.std.specs.Prelude.{◌↔◌, IsTrue, Some, nat_eq};
 ghost use Rattle.std.specs.List.{All, Contains, IsDistinct};
 ghost use Rattle.std.specs.List.Sorted.{IsStrictlyIncreasing};
 ghost use Rattle.model_lists.specs.Values.{defectives};
@@ -8,13 +8,17 @@ ghost use Rattle.model_places.specs.Places.{spares, replacements};
 ghost use Rattle.model_places.specs.Valid.{IsValidPdl, IsValidSsa, IsValidSdl};
 ghost use Rattle.ram_dds.specs.Dds.{dds_of};
 ghost use Rattle.ram_sdl.specs.Sdl.{sdl_of};
-ghost use Rattle.ram_lists.specs.Entries.{MayReplace, IsEntryValid, IsValidAt, IsNamedWithin};
+ghost use Rattle.ram_slip.specs.Place.{IsSpareNumber};
+ghost use Rattle.ram_lists.specs.Entries.{MayReplace, IsEntryValid, IsValidAt, TellsNamed};
 
-use model_lists::SdlEntry;
+use model_lists::{MOST_SPARES, SdlEntry};
 use ram_dds::DdsPdl;
 use ram_sdl::Sdl;
-use ram_slip::{Place, is_valid_ssa, place_of};
+use ram_slip::{Place, is_valid_ssa, place_of, spare_number};
 use ram_zones::Geometry;
+
+/// How many spares a disc may have: their numbers are lower.
+const MOST_NUMBERS: usize = MOST_SPARES as usize;
 
 /// Whether each entry names a later defective block than the one before.
 fn rise(entries: &[SdlEntry]) -> bool
@@ -35,12 +39,9 @@ fn is_spare(geometry: &Geometry, dds: &DdsPdl, sdl: &Sdl, block: u32) -> bool
     ensures { IsTrue result
         ↔ Contains (spares geometry.now (record { dds = dds_of dds.now; sdl = sdl_of sdl.now })) block }
 {
-    match place_of(geometry, dds, sdl.ssa, block) {
-        Place::Logical { i: _ } => false,
-        Place::Primary => true,
-        Place::Supplementary => true,
-        Place::Slipped => false,
-        Place::Outside => false,
+    match spare_number(geometry, dds, sdl.ssa, block) {
+        Some(_) => true,
+        None => false,
     }
 }
 
@@ -122,34 +123,38 @@ fn are_entries_valid(geometry: &Geometry, dds: &DdsPdl, sdl: &Sdl) -> bool
     true
 }
 
-/// Whether one of the first `n` entries has this replacement.
-fn is_named(entries: &[SdlEntry], n: usize, block: u32) -> bool
-    requires { n ≤ length entries.now }
-    ensures { IsTrue result ↔ IsNamedWithin entries.now n block }
+/// The number of a spare.
+fn number_of(geometry: &Geometry, dds: &DdsPdl, sdl: &Sdl, spare: u32) -> usize
+    requires valid { IsValidPdl geometry.now (dds_of dds.now) }
+    requires area { IsValidSsa geometry.now sdl.now.ssa }
+    requires spare { Contains (spares geometry.now (record { dds = dds_of dds.now; sdl = sdl_of sdl.now })) spare }
+    ensures { IsSpareNumber geometry.now (dds_of dds.now) sdl.now.ssa spare (Some result) }
 {
-    for k in 0..n {
-        match entries[k].replacement {
-            Some(other) => {
-                if other == block {
-                    return true;
-                }
-            }
-            None => {}
-        }
+    match spare_number(geometry, dds, sdl.ssa, spare) {
+        Some(number) => number as usize,
+        None => unreachable!(),
     }
-    false
 }
 
-/// Whether no two entries have one replacement.
-fn are_different(entries: &[SdlEntry]) -> bool
-    ensures { IsTrue result ↔ IsDistinct nat_eq (replacements entries.now) }
+/// Whether no two entries have one replacement. `named` is room for a flag for each spare, which says whether an entry before
+/// has it.
+fn are_different(geometry: &Geometry, dds: &DdsPdl, sdl: &Sdl, named: &mut [bool]) -> bool
+    requires valid { IsValidPdl geometry.now (dds_of dds.now) }
+    requires area { IsValidSsa geometry.now sdl.now.ssa }
+    requires entries { All (IsEntryValid geometry.now (record { dds = dds_of dds.now; sdl = sdl_of sdl.now }))
+        sdl.now.entries.list }
+    requires none { TellsNamed geometry.now (record { dds = dds_of dds.now; sdl = sdl_of sdl.now }) named.old 0 }
+    ensures { IsTrue result ↔ IsDistinct nat_eq (replacements sdl.now.entries.list) }
 {
+    let entries = sdl.entries.as_slice();
     for k in 0..entries.len() {
         match entries[k].replacement {
-            Some(block) => {
-                if is_named(entries, k, block) {
+            Some(spare) => {
+                let number = number_of(geometry, dds, sdl, spare);
+                if named[number] {
                     return false;
                 }
+                named[number] = true;
             }
             None => {}
         }
@@ -173,5 +178,6 @@ pub fn is_valid_sdl(geometry: &Geometry, dds: &DdsPdl, sdl: &Sdl) -> bool
     if !are_entries_valid(geometry, dds, sdl) {
         return false;
     }
-    are_different(entries)
+    let mut named = [false; MOST_NUMBERS];
+    are_different(geometry, dds, sdl, &mut named)
 }

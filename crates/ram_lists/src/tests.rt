@@ -6,6 +6,7 @@ use ram_zones::{Geometry, ListKind};
 use std::alloc::{AllocError, Global};
 use std::test::Fail;
 
+mod entries;
 mod mixtures;
 mod rows;
 

@@ -2,3 +2,4 @@ pub mod Named
 pub mod Slips
 pub mod OnePlace
 pub mod Validity
+pub mod Spares

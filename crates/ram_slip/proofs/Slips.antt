@@ -38,32 +38,6 @@ data_few shape lawful =
 data_rise : (shape : Shape) (j k : ℕ) → j < k → k < length (data_blocks shape) → slice_index (data_blocks shape) j < slice_index (data_blocks shape) k
 data_rise shape j k low below = AllPairs-from_increasing (data_blocks shape) (data_blocks_rise shape) j k 0 low below
 
--- at the start it is any number of entries
-pub between_all : (shape : Shape) (entries : List PdlEntry) (place : ℕ) → LiesBetween shape entries place 0 (length entries)
-between_all shape entries place = record {
-  ordered = omega arith;
-  within = omega arith;
-  passed = λ k is. absurd (omega (arith, is));
-  later = λ less. absurd (omega (arith, less));
-}
-
--- an entry that comes no later raises the first number, and one that comes later lowers the second
-pub between_upper : (shape : Shape) (entries : List PdlEntry) (place low high middle : ℕ) → LiesBetween shape entries place low high → middle < high
-    → slice_index (pdl_blocks entries) middle ≤ slice_index (data_blocks shape) (place + middle) → LiesBetween shape entries place (middle + 1) high
-between_upper shape entries place low high middle between inside early = record {
-  ordered = omega arith;
-  within = between.within;
-  passed = λ k is.
-      let same : k ≡ middle = omega (arith, is) in
-      subst (λ (m : ℕ). slice_index (pdl_blocks entries) m ≤ slice_index (data_blocks shape) (place + m)) (sym same) early;
-  later = between.later;
-}
-
-pub between_lower : (shape : Shape) (entries : List PdlEntry) (place low high middle : ℕ) → LiesBetween shape entries place low high → low ≤ middle → middle < high
-    → slice_index (data_blocks shape) (place + middle) < slice_index (pdl_blocks entries) middle → LiesBetween shape entries place low middle
-between_lower shape entries place low high middle between from inside late =
-    record { ordered = from; within = omega (arith, between.within, inside); passed = between.passed; later = λ _. late }
-
 -- where both numbers meet it is found
 pub passed_where_met : (shape : Shape) (entries : List PdlEntry) (place count high : ℕ) → IsStrictlyIncreasing (pdl_blocks entries) → place + length entries < length (data_blocks shape)
     → LiesBetween shape entries place count high → high ≤ count → IsCountPassed shape entries place count

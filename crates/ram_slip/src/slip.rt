@@ -9,7 +9,7 @@ ghost use Rattle.model_places.specs.Places.{unslipped, primary_count, logical_bl
 ghost use Rattle.model_places.specs.Valid.{IsValidPdl, IsValidSsa};
 ghost use Rattle.ram_dds.specs.Dds.{dds_of};
 ghost use Rattle.ram_slip.specs.Counts.{IsCountPassed};
-ghost use Rattle.ram_slip.specs.Place.{IsAtPlace};
+ghost use Rattle.ram_slip.specs.Place.{HasRank, IsAtPlace, IsSpareNumber};
 
 use crate::entries::{count_before, is_named};
 use crate::place::Place;
@@ -60,22 +60,46 @@ pub fn physical(geometry: &Geometry, dds: &DdsPdl, i: u32) -> u32
     data_block(geometry, place + passed as u32)
 }
 
+/// Where a block stands among those that are not slipped.
+enum Rank {
+    /// It is no data block.
+    Outside,
+    /// It is slipped.
+    Slipped,
+    /// It is there, with so many before it.
+    At { place: u32 },
+}
+
+/// Where a block stands among those that are not slipped.
+fn rank_of(geometry: &Geometry, dds: &DdsPdl, block: u32) -> Rank
+    requires { IsValidPdl geometry.now (dds_of dds.now) }
+    ensures { HasRank geometry.now (dds_of dds.now) block result }
+{
+    let Some(index) = geometry.data_index(block) else {
+        return Rank::Outside;
+    };
+    let entries = dds.entries.as_slice();
+    let before = count_before(entries, block);
+    if is_named(entries, before, block) {
+        return Rank::Slipped;
+    }
+    Rank::At {
+        place: index - before as u32,
+    }
+}
+
 /// What a block is to a disc with so many supplementary spares.
 pub fn place_of(geometry: &Geometry, dds: &DdsPdl, ssa: u32, block: u32) -> Place
     requires valid { IsValidPdl geometry.now (dds_of dds.now) }
     requires area { IsValidSsa geometry.now ssa }
     ensures { IsAtPlace geometry.now (dds_of dds.now) ssa block result }
 {
-    let Some(index) = geometry.data_index(block) else {
-        return Place::Outside;
+    let place = match rank_of(geometry, dds, block) {
+        Rank::Outside => return Place::Outside,
+        Rank::Slipped => return Place::Slipped,
+        Rank::At { place } => place,
     };
-    let entries = dds.entries.as_slice();
-    let before = count_before(entries, block);
-    if is_named(entries, before, block) {
-        return Place::Slipped;
-    }
-    let place = index - before as u32;
-    let primary = geometry.psa() - entries.len() as u32;
+    let primary = geometry.psa() - dds.entries.as_slice().len() as u32;
     if place < primary {
         return Place::Primary;
     }
@@ -84,4 +108,26 @@ pub fn place_of(geometry: &Geometry, dds: &DdsPdl, ssa: u32, block: u32) -> Plac
         return Place::Logical { i };
     }
     Place::Supplementary
+}
+
+/// The number of a spare among all spares, in rising order and counted from 0, or none where the block is no spare.
+pub fn spare_number(geometry: &Geometry, dds: &DdsPdl, ssa: u32, block: u32) -> Option<u32>
+    requires valid { IsValidPdl geometry.now (dds_of dds.now) }
+    requires area { IsValidSsa geometry.now ssa }
+    ensures { IsSpareNumber geometry.now (dds_of dds.now) ssa block result }
+{
+    let place = match rank_of(geometry, dds, block) {
+        Rank::Outside => return None,
+        Rank::Slipped => return None,
+        Rank::At { place } => place,
+    };
+    let primary = geometry.psa() - dds.entries.as_slice().len() as u32;
+    let logical = geometry.data_blocks() - geometry.psa() - ssa;
+    if place < primary {
+        return Some(place);
+    }
+    if place - primary < logical {
+        return None;
+    }
+    Some(place - logical)
 }

@@ -37,6 +37,14 @@ fn found_at(geometry: &Geometry, dds: &DdsPdl, ssa: u32, block: u32) -> Option<P
     None
 }
 
+/// The number of a spare, where what it asks for holds.
+fn number_at(geometry: &Geometry, dds: &DdsPdl, ssa: u32, block: u32) -> Option<u32> {
+    if is_valid_pdl(geometry, dds) && is_valid_ssa(geometry, ssa) {
+        return spare_number(geometry, dds, ssa, block);
+    }
+    None
+}
+
 #[test]
 fn logical_blocks_have_blocks(rt: HostRuntime) -> Result<(), Fail> {
     let cases: [(u32, &[u32], u32, u32); 16] = [
@@ -103,6 +111,28 @@ fn blocks_are_one_thing(rt: HostRuntime) -> Result<(), Fail> {
     ] {
         let found = found_at(&geometry, &dds, ssa, block);
         assert_eq!(rt; found, Some(place), "{ssa}, block {block}");
+    }
+    Ok(())
+}
+
+#[test]
+fn spares_have_numbers(rt: HostRuntime) -> Result<(), Fail> {
+    let geometry = Geometry::new(1, 1, 4)?;
+    let dds = slipping(rt.alloc(), 4, &[10])?;
+    for (block, number) in [
+        (8, None),
+        (9, Some(0)),
+        (10, None),
+        (11, Some(1)),
+        (12, Some(2)),
+        (13, None),
+        (29, None),
+        (30, Some(3)),
+        (31, Some(4)),
+        (32, None),
+    ] {
+        let found = number_at(&geometry, &dds, 2, block);
+        assert_eq!(rt; found, number, "block {block}");
     }
     Ok(())
 }
