@@ -104,7 +104,7 @@ module _ (kept : List PdlEntry) (found : List ℕ) (kind : PdlKind) (can : CanMe
 
 -- ---- what a certification found
 
-made : (kind : PdlKind) (entry : PdlEntry) (block : ℕ) → entry.kind ≡ kind → block ≡ entry.block → found_entry kind block ≡ entry
+pub made : (kind : PdlKind) (entry : PdlEntry) (block : ℕ) → entry.kind ≡ kind → block ≡ entry.block → found_entry kind block ≡ entry
 made kind entry block same_kind same_block = ap (λ (k : PdlKind). found_entry k block) (sym same_kind) ∙ ap (found_entry entry.kind) same_block
 
 module _ {M : Type 0} (world : M → World) (reaches : M → M → ℕ → Type 0) (shape : Shape) (kept : List PdlEntry) (are : AreKept shape kept) (kind : PdlKind) (old new : M)

@@ -1,4 +1,5 @@
 pub mod Merges
 pub mod Found
+pub mod Keeps
 pub mod Steps
 pub mod Rewrites

@@ -1,4 +1,5 @@
 pub mod Merging
+pub mod Keeping
 pub mod Phases
 pub mod Full
 pub mod Rooms

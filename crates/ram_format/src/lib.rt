@@ -4,11 +4,13 @@
 
 mod ends;
 mod full;
+mod keeping;
 mod merging;
 mod phases;
 mod rewriting;
 
 pub use full::{FullEnd, full_format};
+pub use keeping::kept_entries;
 pub use rewriting::{Rewritten, rewrite};
 
 #[cfg(test)]

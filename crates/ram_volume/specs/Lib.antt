@@ -1,3 +1,4 @@
+pub mod Formats
 pub mod OneProof
 pub mod Powers
 pub mod Shown

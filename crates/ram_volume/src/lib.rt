@@ -2,6 +2,7 @@
 //! not formatted. Each call takes its state and gives the next.
 #![tactic(auto)]
 
+mod formats;
 mod laws;
 mod memory;
 mod power;

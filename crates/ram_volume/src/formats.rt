@@ -1,0 +1,239 @@
+//! Formats of the disc in a drive whose power is on, of either kind.
+
+ghost use Rattle.std.specs.Prelude.{◌≡◌, ◌≤◌, IsTrue, []};
+ghost use Rattle.model_geometry.specs.declared.TheConstants.{MOST_SPARES};
+ghost use Rattle.model_geometry.specs.Geometry.{total};
+ghost use Rattle.model_lists.specs.Values.{IsLawfulDds, IsLawfulSdl};
+ghost use Rattle.model_copies.specs.Copies.{AreMarkedWithin};
+ghost use Rattle.model_places.specs.Valid.{AreValid};
+ghost use Rattle.model_volume.specs.Given.{GivesNone, AreSettled};
+ghost use Rattle.model_drive.specs.declared.Kind.TheVariants as kinds;
+ghost use Rattle.model_drive.specs.Formats.{FormatCause};
+ghost use Rattle.ram_medium.specs.Laws.{machine_shown};
+ghost use Rattle.ram_dds.specs.Dds.{dds_of};
+ghost use Rattle.ram_sdl.specs.Sdl.{sdl_of};
+ghost use Rattle.ram_lists.specs.Lists.{lists_of};
+ghost use Rattle.ram_volume.specs.Shown.{shown_bare, shown_ready, shown_state, shown_unformatted, shown_under};
+ghost use Rattle.ram_volume.specs.Formats.{FormatSteps};
+
+use crate::states::{NotFormatted, PoweredOff, Ready, State};
+use model_drive::{FormatOut, Kind};
+use ram_buffer::BlockBuffer;
+use ram_bytes::Block;
+use ram_copies::Scratch;
+use ram_format::{FullEnd, Rewritten, full_format, kept_entries, rewrite};
+use ram_lists::Lists;
+use ram_medium::MediumControl;
+use ram_sdl::Sdl;
+use ram_zones::Geometry;
+use std::alloc::Global;
+
+impl<M: MediumControl> NotFormatted<M> {
+    /// A drive of these parts, whose disc is not formatted. It buffers nothing.
+    fn over(
+        medium: M,
+        geometry: Geometry,
+        mark: u32,
+        spare_list: Sdl,
+        draft: Sdl,
+        mut buffer: BlockBuffer,
+        block: Block,
+        scratch: Scratch,
+    ) -> NotFormatted<M>
+        requires size { M.block_count medium ≡ total geometry }
+        requires on { IsTrue (M.world medium).power }
+        requires bare { GivesNone geometry (M.world medium).cells }
+        requires marked { AreMarkedWithin geometry (M.world medium).cells mark }
+        requires spare_roomy { MOST_SPARES ≤ spare_list.entries.room }
+        requires draft_roomy { MOST_SPARES ≤ draft.entries.room }
+        ensures { shown_bare result ≡ shown_unformatted geometry
+            (machine_shown M.world M.arms M.armed_cut medium) mark }
+    {
+        buffer.drop_all();
+        NotFormatted {
+            medium,
+            geometry,
+            mark,
+            spare_list,
+            draft,
+            buffer,
+            block,
+            scratch,
+        }
+    }
+
+    /// Formats the disc. As it is not formatted, a rewriting format of it is a full one, and nothing is kept as defective:
+    /// each data block is certified, and the dead ones are slipped, as many as there are primary spares. The answers are
+    /// those of [`FormatOut`]; with a cut or a fault the power is off, and without memory nothing was done. (After
+    /// ECMA-330; the counters of the lists are this project's own.)
+    pub fn format(self, alloc: Global, kind: Kind) -> (State<M>, FormatOut)
+        ensures cause { FormatCause (shown_bare self) (shown_state result.0) kind result.1 }
+        ensures step { FormatSteps (shown_bare self) (shown_state result.0) kind result.1 }
+        ensures same_shape { (shown_state result.0).shape ≡ self.geometry }
+    {
+        let _ = kind;
+        let NotFormatted {
+            mut medium,
+            geometry,
+            mark,
+            spare_list: list,
+            draft,
+            buffer,
+            block,
+            mut scratch,
+        } = self;
+        match full_format(alloc, &mut medium, &geometry, &[], true, mark, &mut scratch) {
+            FullEnd::Good { lists } => {
+                let ready = Ready::over(medium, geometry, lists, draft, buffer, block, scratch);
+                (State::Ready(ready), FormatOut::Good)
+            }
+            FullEnd::TooMany { found, mark } => {
+                let bare = NotFormatted::over(medium, geometry, mark, list, draft, buffer, block, scratch);
+                (State::NotFormatted(bare), FormatOut::TooMany { found })
+            }
+            FullEnd::NoRoom { mark: _ } => {
+                let bare = NotFormatted::over(medium, geometry, mark, list, draft, buffer, block, scratch);
+                (State::NotFormatted(bare), FormatOut::NoUpdate { counter: mark })
+            }
+            FullEnd::NoCopy { counter, mark } => {
+                let bare = NotFormatted::over(medium, geometry, mark, list, draft, buffer, block, scratch);
+                (State::NotFormatted(bare), FormatOut::NoUpdate { counter })
+            }
+            FullEnd::Cut => (State::Off(PoweredOff { medium, geometry }), FormatOut::Cut),
+            FullEnd::Off => unreachable!(),
+            FullEnd::Fault => (State::Off(PoweredOff { medium, geometry }), FormatOut::Fault),
+            FullEnd::NoMemory => {
+                let bare = NotFormatted::over(medium, geometry, mark, list, draft, buffer, block, scratch);
+                (State::NotFormatted(bare), FormatOut::NoMemory)
+            }
+        }
+    }
+}
+
+impl<M: MediumControl> Ready<M> {
+    /// A drive of these parts, with these lists in use. It buffers nothing.
+    fn over(
+        medium: M,
+        geometry: Geometry,
+        lists: Lists,
+        draft: Sdl,
+        mut buffer: BlockBuffer,
+        block: Block,
+        scratch: Scratch,
+    ) -> Ready<M>
+        requires size { M.block_count medium ≡ total geometry }
+        requires on { IsTrue (M.world medium).power }
+        requires valid { AreValid geometry (lists_of lists) }
+        requires settled { AreSettled geometry (M.world medium).cells (lists_of lists) }
+        requires lawful_dds { IsLawfulDds (dds_of lists.dds) }
+        requires lawful_sdl { IsLawfulSdl (sdl_of lists.sdl) }
+        requires roomy { MOST_SPARES ≤ lists.sdl.entries.room }
+        requires draft_roomy { MOST_SPARES ≤ draft.entries.room }
+        ensures { shown_ready result ≡ shown_under geometry
+            (machine_shown M.world M.arms M.armed_cut medium) (lists_of lists) [] }
+    {
+        buffer.drop_all();
+        Ready {
+            medium,
+            geometry,
+            lists,
+            draft,
+            buffer,
+            block,
+            scratch,
+        }
+    }
+
+    /// Formats the disc. A full format certifies the data blocks that it does not keep as defective, leaves zeros in the
+    /// sectors, and makes new lists. A rewriting one writes the copies of the lists in use again, and keeps the sectors;
+    /// it takes no memory. With a cut or a fault the power is off; a full format that found too many defective blocks, or
+    /// lost all copies of a list, leaves the disc not formatted. (After the two formats of ECMA-330.)
+    pub fn format(self, alloc: Global, kind: Kind) -> (State<M>, FormatOut)
+        ensures cause { FormatCause (shown_ready self) (shown_state result.0) kind result.1 }
+        ensures step { FormatSteps (shown_ready self) (shown_state result.0) kind result.1 }
+        ensures same_shape { (shown_state result.0).shape ≡ self.geometry }
+    {
+        match kind {
+            Kind::Full { drop_sdl } => self.format_fully(alloc, drop_sdl),
+            Kind::Rewrite => self.rewrite_lists(),
+        }
+    }
+
+    /// A full format. The entries that it keeps take memory, beside that of the format.
+    fn format_fully(self, alloc: Global, drop_sdl: bool) -> (State<M>, FormatOut)
+        ensures cause { FormatCause (shown_ready self) (shown_state result.0) (kinds.Full drop_sdl) result.1 }
+        ensures step { FormatSteps (shown_ready self) (shown_state result.0) (kinds.Full drop_sdl) result.1 }
+        ensures same_shape { (shown_state result.0).shape ≡ self.geometry }
+    {
+        let Ok(kept) = kept_entries(alloc, &self.lists, drop_sdl) else {
+            return (State::Ready(self), FormatOut::NoMemory);
+        };
+        let Ready {
+            mut medium,
+            geometry,
+            lists,
+            draft,
+            buffer,
+            block,
+            mut scratch,
+        } = self;
+        let mark = lists.dds.counter;
+        match full_format(alloc, &mut medium, &geometry, &kept, false, mark, &mut scratch) {
+            FullEnd::Good { lists } => {
+                let ready = Ready::over(medium, geometry, lists, draft, buffer, block, scratch);
+                (State::Ready(ready), FormatOut::Good)
+            }
+            FullEnd::TooMany { found, mark } => {
+                let Lists { dds: _, sdl: list } = lists;
+                let bare = NotFormatted::over(medium, geometry, mark, list, draft, buffer, block, scratch);
+                (State::NotFormatted(bare), FormatOut::TooMany { found })
+            }
+            FullEnd::NoRoom { mark } => {
+                let ready = Ready { medium, geometry, lists, draft, buffer, block, scratch };
+                (State::Ready(ready), FormatOut::NoUpdate { counter: mark })
+            }
+            FullEnd::NoCopy { counter, mark } => {
+                let Lists { dds: _, sdl: list } = lists;
+                let bare = NotFormatted::over(medium, geometry, mark, list, draft, buffer, block, scratch);
+                (State::NotFormatted(bare), FormatOut::NoUpdate { counter })
+            }
+            FullEnd::Cut => (State::Off(PoweredOff { medium, geometry }), FormatOut::Cut),
+            FullEnd::Off => unreachable!(),
+            FullEnd::Fault => (State::Off(PoweredOff { medium, geometry }), FormatOut::Fault),
+            FullEnd::NoMemory => {
+                let ready = Ready { medium, geometry, lists, draft, buffer, block, scratch };
+                (State::Ready(ready), FormatOut::NoMemory)
+            }
+        }
+    }
+
+    /// A rewriting format.
+    fn rewrite_lists(self) -> (State<M>, FormatOut)
+        ensures cause { FormatCause (shown_ready self) (shown_state result.0) kinds.Rewrite result.1 }
+        ensures step { FormatSteps (shown_ready self) (shown_state result.0) kinds.Rewrite result.1 }
+        ensures same_shape { (shown_state result.0).shape ≡ self.geometry }
+    {
+        let Ready {
+            mut medium,
+            geometry,
+            lists,
+            draft,
+            buffer,
+            block,
+            mut scratch,
+        } = self;
+        match rewrite(&mut medium, &geometry, &lists, &mut scratch) {
+            Rewritten::Good => {
+                let ready = Ready::over(medium, geometry, lists, draft, buffer, block, scratch);
+                (State::Ready(ready), FormatOut::Good)
+            }
+            Rewritten::NoCopy { counter } => {
+                let ready = Ready::over(medium, geometry, lists, draft, buffer, block, scratch);
+                (State::Ready(ready), FormatOut::NoUpdate { counter })
+            }
+            Rewritten::Cut => (State::Off(PoweredOff { medium, geometry }), FormatOut::Cut),
+            Rewritten::Off => unreachable!(),
+            Rewritten::Fault => (State::Off(PoweredOff { medium, geometry }), FormatOut::Fault),
+        }
+    }
+}
