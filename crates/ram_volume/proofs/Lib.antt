@@ -1,3 +1,4 @@
+mod FormatAnswers
 mod FormatCauses
 mod Keeping
 mod Machines

@@ -1,0 +1,60 @@
+use Rattle.std.proofs.Common.{sym, subst}
+use Rattle.model_drive.specs.declared.FormatOut.TheVariants as outs
+use Rattle.model_drive.specs.Shown.{Shown}
+use Rattle.model_drive.specs.declared.Kind.TheVariants as kinds
+use Rattle.model_drive.specs.Formats.{FormatCause}
+use Rattle.model_volume.proofs.GivenFacts.{settled_within}
+use Rattle.ram_lists.specs.Lists.{lists_of}
+use Rattle.ram_format.proofs.Keeps.{are_apart, are_kept}
+use Rattle.ram_volume.specs.Shown.{shown_ready}
+use Rattle.ram_volume.specs.Formats.{FormatSteps}
+use Rattle.ram_volume.proofs.FormatAnswers.{full_good, full_good_steps, full_many, full_lost, full_cut, full_fault, full_cut_steps, full_fault_steps}
+use Rattle.ram_volume.proofs.states.Ready.format_fully.Goals as goal
+
+pub kept_entries-requires : goal.kept_entries-requires
+kept_entries-requires g c =
+    record { apart = are_apart c.args.self.geometry (lists_of c.args.self.lists) c.args.self.valid }
+
+pub full_format-requires-clause-kept : goal.full_format-requires-clause-kept
+full_format-requires-clause-kept g c =
+    are_kept c.args.self.geometry (lists_of c.args.self.lists) c.args.self.valid c.args.drop_sdl c.deref.result.now (rw c.deref.ensures.value c.in-Ok.ensures)
+
+pub full_format-requires-clause-marked : goal.full_format-requires-clause-marked
+full_format-requires-clause-marked g c =
+    settled_within c.args.self.geometry (g.M.Medium.world c.args.self.medium).cells (lists_of c.args.self.lists) c.args.self.settled c.args.self.valid.together.same_counter
+
+pub returns-in-Good-clause-cause : goal.returns-in-Good-clause-cause
+returns-in-Good-clause-cause g c =
+    subst (λ (x : Shown). FormatCause (shown_ready c.args.self) x (kinds.Full c.args.drop_sdl) outs.Good) (sym c.over-ready.ensures)
+    (full_good g.M.Medium.world g.M.Medium.reaches g.M.Medium.takes g.M.MediumControl.arms g.M.MediumControl.armed_cut g.met.M.MediumControl.control_laws c.args.self.geometry c.args.self.medium c.full_format.new.medium (lists_of c.args.self.lists) c.args.self.buffer c.args.drop_sdl c.deref.result.now (rw c.deref.ensures.value c.in-Ok.ensures) (lists_of c.in-Good.lists) c.in-Good.ensures.rule)
+
+pub returns-in-Good-clause-step : goal.returns-in-Good-clause-step
+returns-in-Good-clause-step g c =
+    subst (λ (x : Shown). FormatSteps (shown_ready c.args.self) x (kinds.Full c.args.drop_sdl) outs.Good) (sym c.over-ready.ensures)
+    (full_good_steps g.M.Medium.world g.M.Medium.reaches g.M.Medium.takes g.M.MediumControl.arms g.M.MediumControl.armed_cut g.met.M.MediumControl.control_laws c.args.self.geometry c.args.self.medium c.full_format.new.medium (lists_of c.args.self.lists) c.args.self.buffer c.args.drop_sdl c.deref.result.now (rw c.deref.ensures.value c.in-Ok.ensures) (lists_of c.in-Good.lists) c.in-Good.ensures.rule)
+
+pub returns-in-TooMany-clause-cause : goal.returns-in-TooMany-clause-cause
+returns-in-TooMany-clause-cause g c =
+    subst (λ (x : Shown). FormatCause (shown_ready c.args.self) x (kinds.Full c.args.drop_sdl) (outs.TooMany c.in-TooMany.found)) (sym c.over-bare.ensures)
+    (full_many g.M.Medium.world g.M.Medium.reaches g.M.Medium.takes g.M.MediumControl.arms g.M.MediumControl.armed_cut g.met.M.MediumControl.control_laws c.args.self.geometry c.args.self.medium c.full_format.new.medium (lists_of c.args.self.lists) c.args.self.buffer c.args.drop_sdl c.deref.result.now (rw c.deref.ensures.value c.in-Ok.ensures) c.in-TooMany.found c.in-TooMany.mark c.in-TooMany.ensures.rule)
+
+pub returns-in-NoCopy-clause-cause : goal.returns-in-NoCopy-clause-cause
+returns-in-NoCopy-clause-cause g c =
+    subst (λ (x : Shown). FormatCause (shown_ready c.args.self) x (kinds.Full c.args.drop_sdl) (outs.NoUpdate c.in-NoCopy.counter)) (sym c.over-bare-in-NoCopy.ensures)
+    (full_lost g.M.Medium.world g.M.Medium.reaches g.M.Medium.takes g.M.MediumControl.arms g.M.MediumControl.armed_cut g.met.M.MediumControl.control_laws c.args.self.geometry c.args.self.medium c.full_format.new.medium (lists_of c.args.self.lists) c.args.self.buffer c.args.drop_sdl c.deref.result.now (rw c.deref.ensures.value c.in-Ok.ensures) c.in-NoCopy.counter c.in-NoCopy.mark c.in-NoCopy.ensures.rule)
+
+pub returns-in-Cut-clause-cause : goal.returns-in-Cut-clause-cause
+returns-in-Cut-clause-cause g c =
+    full_cut g.M.Medium.world g.M.Medium.reaches g.M.Medium.takes g.M.MediumControl.arms g.M.MediumControl.armed_cut g.met.M.MediumControl.control_laws c.args.self.geometry c.args.self.medium c.full_format.new.medium (lists_of c.args.self.lists) c.args.self.buffer c.args.drop_sdl c.deref.result.now (rw c.deref.ensures.value c.in-Ok.ensures) c.in-Cut.ensures.rule
+
+pub returns-in-Cut-clause-step : goal.returns-in-Cut-clause-step
+returns-in-Cut-clause-step g c =
+    full_cut_steps g.M.Medium.world g.M.Medium.reaches g.M.Medium.takes g.M.MediumControl.arms g.M.MediumControl.armed_cut g.met.M.MediumControl.control_laws c.args.self.geometry c.args.self.medium c.full_format.new.medium (lists_of c.args.self.lists) c.args.self.buffer c.args.drop_sdl c.deref.result.now (rw c.deref.ensures.value c.in-Ok.ensures) c.in-Cut.ensures.rule
+
+pub returns-in-Fault-clause-cause : goal.returns-in-Fault-clause-cause
+returns-in-Fault-clause-cause g c =
+    full_fault g.M.Medium.world g.M.Medium.reaches g.M.Medium.takes g.M.MediumControl.arms g.M.MediumControl.armed_cut g.met.M.MediumControl.control_laws c.args.self.geometry c.args.self.medium c.full_format.new.medium (lists_of c.args.self.lists) c.args.self.buffer c.args.drop_sdl c.deref.result.now (rw c.deref.ensures.value c.in-Ok.ensures) c.in-Fault.ensures.rule
+
+pub returns-in-Fault-clause-step : goal.returns-in-Fault-clause-step
+returns-in-Fault-clause-step g c =
+    full_fault_steps g.M.Medium.world g.M.Medium.reaches g.M.Medium.takes g.M.MediumControl.arms g.M.MediumControl.armed_cut g.met.M.MediumControl.control_laws c.args.self.geometry c.args.self.medium c.full_format.new.medium (lists_of c.args.self.lists) c.args.self.buffer c.args.drop_sdl c.deref.result.now (rw c.deref.ensures.value c.in-Ok.ensures) c.in-Fault.ensures.rule
