@@ -29,13 +29,8 @@ use Rattle.ram_medium.specs.Laws.{ControlLaws, machine_shown}
 use Rattle.ram_lists.specs.Mounts.{KeepsGiven, RepairsCopies, RepairsChosen, EndsWithLists, EndsBare, WasStopped, WasOutOfMemory}
 use Rattle.ram_volume.specs.Shown.{shown_without, shown_unformatted, shown_under}
 use Rattle.ram_volume.specs.Powers.{PowerSteps}
-
--- with the power off nothing is kept
-off_right : (shape : Shape) (machine : Machine) → ¬ IsTrue machine.world.power → KeepsRight (shown_without shape machine)
-off_right shape machine off = record {
-  bare = λ on none. absurd (off on);
-  in_use = λ lists is. absurd (let e : None ≡ Some lists = is in cc);
-}
+use Rattle.ram_volume.proofs.Keeping.{off_right, under_right}
+use Rattle.ram_volume.proofs.Machines.{machine_stops}
 
 module _ {M : Type 0} (world : M → World) (reaches : M → M → ℕ → Type 0) (takes : M → M → Event → Type 0) (arms : M → List WornBlock) (armed_cut : M → Option ArmedCut)
     (laws : ControlLaws world reaches takes arms armed_cut) (shape : Shape) where
@@ -108,12 +103,9 @@ module _ {M : Type 0} (world : M → World) (reaches : M → M → ℕ → Type 
           subst (λ (b : List (ℕ × List ℕ)). MountsLists old (under new found.dds sdl b) (capacity (under new found.dds sdl b))) (sym empty)
           (subst (λ (s : Sdl). MountsLists old (under new found.dds s []) (capacity (under new found.dds s []))) (sym same) (mounted new found ends))
 
-      right : (lists : Lists) → Some found ≡ Some lists → AreInUse (shown_under shape (machine new) found []) lists
-      right lists is = subst (AreInUse (shown_under shape (machine new) found [])) (ap (λ (o : Option Lists). option_map_or (λ (l : Lists). l) o found) is) (record { valid = ends.finds.valid; mark_is = refl; settled = λ known. ends.finds.settled })
-
       steps : PowerSteps old (shown_under shape (machine new) found []) (outs.Ready (capacity (shown_under shape (machine new) found [])))
       steps s stood =
-          power_step old (shown_under shape (machine new) found []) refl (record { bare = λ is_on none. absurd (let e : Some found ≡ None = none in cc); in_use = right }) s stood (outs.Ready _) (mounted new found ends)
+          power_step old (shown_under shape (machine new) found []) refl (under_right shape (machine new) found [] ends.finds.valid ends.finds.settled) s stood (outs.Ready _) (mounted new found ends)
 
       pub ready_steps : PowerSteps old (under new found.dds sdl buffer) (outs.Ready (capacity (under new found.dds sdl buffer)))
       ready_steps =
@@ -139,21 +131,8 @@ module _ {M : Type 0} (world : M → World) (reaches : M → M → ℕ → Type 
     }
 
     stops_shown : (new : M) (stop : Stop) → Stops world reaches on new 32 stop → Stops (λ (m : Machine). m.world) Reach (turned_on old).medium (machine new) mount_most stop
-    stops_shown new stops.Cut s = record {
-      uses = s.uses;
-      few = s.few;
-      reach = reached new s.uses s.reach;
-      cut = subst (λ (w : World). IsCut w (world new)) powers s.cut;
-    }
-    stops_shown new stops.Off s = subst (λ (w : World). IsOff w (world new)) powers s
-    stops_shown new stops.Fault s = record {
-      mid = machine s.mid;
-      before = s.before;
-      few = s.few;
-      reach = reached s.mid s.before s.reach;
-      block = s.block;
-      fails = s.fails;
-    }
+    stops_shown new stop s =
+        subst (λ (m : Machine). Stops (λ (m : Machine). m.world) Reach m (machine new) mount_most stop) (laws.exactly off on PowerOn turned) (machine_stops world reaches takes arms armed_cut laws on new 32 mount_most refl stop s)
 
     pub stopped : (new : M) (stop : Stop) → WasStopped world reaches shape on new stop → StopsInMount old (shown_without shape (machine new)) stop
     stopped new stop was = record {
