@@ -12,6 +12,7 @@ ghost use Rattle.model_sectors.specs.Power.{PowerCause, PowerSteps};
 ghost use Rattle.ram_sectors.specs.Laws.{SectorsLaws};
 
 pub use model_commands::TRANSFER_LIMIT;
+pub use model_drive::{FormatOut, Kind};
 pub use model_sectors::{PowerOut, ReadOut, WriteOut};
 use std::alloc::Global;
 
