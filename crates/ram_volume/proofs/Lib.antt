@@ -1,3 +1,8 @@
+mod Buffers
+mod Fetches
 mod Powering
+mod ReadEnds
+mod ReadShown
+mod ReadTurns
 mod Sounding
 mod TurningOff

@@ -1,3 +1,5 @@
+pub mod Blocks
 pub mod OneProof
 pub mod Powers
+pub mod Reading
 pub mod Shown
