@@ -1,2 +1,3 @@
 pub mod PartBytes
 pub mod Moves
+pub mod ReadBytes

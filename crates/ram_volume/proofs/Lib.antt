@@ -1,8 +1,13 @@
+mod Buffers
+mod Fetches
 mod FormatAnswers
 mod FormatCauses
 mod Keeping
 mod Machines
 mod Powering
+mod ReadEnds
+mod ReadShown
+mod ReadTurns
 mod RewriteCauses
 mod SameKept
 mod Sounding

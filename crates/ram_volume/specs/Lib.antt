@@ -1,4 +1,6 @@
+pub mod Blocks
 pub mod Formats
 pub mod OneProof
 pub mod Powers
+pub mod Reading
 pub mod Shown

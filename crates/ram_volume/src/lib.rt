@@ -2,10 +2,12 @@
 //! not formatted. Each call takes its state and gives the next.
 #![tactic(auto)]
 
+mod fetching;
 mod formats;
 mod laws;
 mod memory;
 mod power;
+mod reading;
 mod states;
 
 pub use laws::what_a_state_shows_is_sound;

@@ -142,13 +142,15 @@ impl<M: MediumControl> NotFormatted<M> {
 }
 
 impl<M: MediumControl> Ready<M> {
-    ghost use Rattle.std.specs.Prelude.{◌≡◌};
+    ghost use Rattle.std.specs.Prelude.{◌≡◌, ◌≤◌};
+    ghost use Rattle.model_sectors.specs.declared.TheConstants.{MOST_SECTORS};
     ghost use Rattle.model_drive.specs.Shown.{capacity};
     ghost use Rattle.ram_volume.specs.Shown.{shown_ready};
 
     /// How many sectors the disc has.
     pub fn capacity(&self) -> u32
-        ensures { result ≡ capacity (shown_ready self.now) }
+        ensures sectors { result ≡ capacity (shown_ready self.now) }
+        ensures most { result ≤ MOST_SECTORS }
     {
         let blocks = self.geometry.data_blocks() - self.geometry.psa() - self.lists.sdl.ssa;
         blocks * SECTORS_PER_BLOCK as u32

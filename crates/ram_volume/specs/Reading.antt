@@ -1,0 +1,99 @@
+-- What a read does with the parts of its request, and what the drive stands for after it. (This project's own, as all
+-- here.)
+use Rattle.std.specs.Prelude.{◌≡◌, ℕ, ◌+◌, ◌<◌, ◌≤◌, ◌⊎◌, Bool, true, IsTrue, MatchBool, Option, Some, None, Result, Ok, Err, List, length}
+use Rattle.model_geometry.specs.Geometry.{Shape}
+use Rattle.model_medium.specs.Cells.{Cell, IsGood, cell_at}
+use Rattle.model_medium.specs.World.{World}
+use Rattle.model_buffer.specs.Buffer.{numbers_in}
+use Rattle.model_buffer.specs.declared.TheConstants.{BUFFERED_BLOCKS}
+use Rattle.model_sectors.specs.Discs.{Standing, sectors_of}
+use Rattle.model_sectors.specs.Requests.{block_with, blocks_covered, start_in, filled_by}
+use Rattle.model_sectors.specs.Uses.{touched_from, is_buffered, is_at_hand, read_uses}
+use Rattle.model_sectors.specs.declared.ReadOut.{ReadOut}
+use Rattle.model_sectors.specs.declared.ReadOut.TheVariants as outs
+use Rattle.model_stops.specs.Stops.{Continues, Stops}
+use Rattle.model_stops.specs.declared.Stop.{Stop}
+use Rattle.model_places.specs.Places.{Lists, home_of}
+use Rattle.model_drive.specs.Shown.{Shown, HoldsBlocksOf, StandsUnder, StandsFor}
+use Rattle.model_drive.specs.Reads.{ReadStep}
+use Rattle.ram_volume.specs.Blocks.{DiesAtMost, IsFetched, CannotBeRead}
+
+-- What the drive stands for after a read, for each thing that it stood for.
+abbrev pub ReadSteps : Shown → Shown → (lba n : ℕ) → List ℕ → ReadOut → Type 0
+ReadSteps old new lba n into out = (s : Standing) → StandsFor old s → ReadStep (StandsFor new) s lba n into out
+
+-- How a read ends that was not stopped: well, or at the block after so many, which it names by the first sector of the
+-- request in it, and by its home.
+abbrev pub read_end_at : Shape → Lists → (lba : ℕ) → Option ℕ → ReadOut
+read_end_at shape lists lba None = outs.Good
+read_end_at shape lists lba (Some before) =
+    outs.Unread (start_in lba (block_with lba + before)) (home_of shape lists (block_with lba + before))
+
+-- a drive with these lists in use, and this medium and buffer, stood for the disc
+abbrev pub StoodFor : Shape → Lists → World → List (ℕ × List ℕ) → List ℕ → Type 0
+StoodFor shape lists world held disc = (world.known ≡ true) × StandsUnder shape world.cells lists held disc
+
+-- each of so many logical blocks from this one on has whole bytes in its home, or was buffered before
+abbrev pub HaveBytes : Shape → Lists → List Cell → List ℕ → (first count : ℕ) → Type 0
+HaveBytes shape lists cells buffered first count = (k : ℕ) → k < count
+    → IsGood (cell_at cells (home_of shape lists (first + k))) ⊎ IsTrue (is_buffered buffered (first + k))
+
+-- The medium before the read and after it, and the blocks that were buffered before.
+module _ {M : Type 0} (world : M → World) (reaches : M → M → ℕ → Type 0) (old new : M) (held : List (ℕ × List ℕ)) where
+  module _ (lba n i place : ℕ) (bytes : List ℕ) (held' : List (ℕ × List ℕ)) (into into' : List ℕ) where
+    -- the block was fetched, and what the request covers of it was copied
+    pub record IsCopied : Type 0 where
+      pub fetched : IsFetched world reaches old new held i place bytes held'
+      pub copied : into' ≡ filled_by lba n i bytes into
+
+    -- what a read of a part does, by whether its block can be read
+    abbrev pub ReadsPart : Bool → Type 0
+    ReadsPart found = MatchBool found IsCopied (CannotBeRead world reaches old new held i place bytes held')
+
+  -- the lists in use, and the request
+  module _ (shape : Shape) (lists : Lists) (lba n : ℕ) where
+    -- The block after so many is one of the request, and was not at hand. No cell changed but that of its home.
+    pub record EndsInBlock (before : ℕ) : Type 0 where
+      pub covered : before < blocks_covered lba n
+      pub not_at_hand : ¬ IsTrue (is_at_hand (numbers_in held) (block_with lba) before)
+      pub few : length (numbers_in held) ≤ BUFFERED_BLOCKS
+      pub dies : DiesAtMost (world old).cells (world new).cells (home_of shape lists (block_with lba + before))
+
+    -- the read was stopped in some block
+    pub record StopsInBlock (stop : Stop) : Type 0 where
+      pub before : ℕ
+      pub ended : EndsInBlock before
+      pub stops : Stops world reaches old new (read_uses (numbers_in held) (block_with lba) (blocks_covered lba n)) stop
+
+    -- the blocks that are buffered after it
+    module _ (held' : List (ℕ × List ℕ)) where
+      -- the first so many blocks of the request were read
+      pub record HasReadUpTo (k : ℕ) : Type 0 where
+        pub continues : Continues world reaches old new (read_uses (numbers_in held) (block_with lba) k)
+        pub touched : numbers_in held' ≡ touched_from (numbers_in held) (block_with lba) k
+        pub same_cells : (world new).cells ≡ (world old).cells
+        pub few : (k ≡ 0) ⊎ (length (numbers_in held) ≤ BUFFERED_BLOCKS)
+        pub unused : read_uses (numbers_in held) (block_with lba) k ≡ 0 → new ≡ old
+        pub readable : (world old).known ≡ true → HaveBytes shape lists (world new).cells (numbers_in held) (block_with lba) k
+        pub holds : (disc : List ℕ) → StoodFor shape lists (world old) held disc → HoldsBlocksOf disc held'
+
+      -- all blocks were read, and gave the sectors of the disc
+      pub record ReadsParts (into : List ℕ) : Type 0 where
+        pub all : HasReadUpTo (blocks_covered lba n)
+        pub gives : (disc : List ℕ) → StoodFor shape lists (world old) held disc → into ≡ sectors_of disc lba n
+
+      -- the block after so many has no whole bytes in its home
+      pub record MeetsBlock (before : ℕ) : Type 0 where
+        pub ended : EndsInBlock before
+        pub continues : Continues world reaches old new (read_uses (numbers_in held) (block_with lba) before + 1)
+        pub touched : numbers_in held' ≡ touched_from (numbers_in held) (block_with lba) before
+        pub readable : (world old).known ≡ true
+            → HaveBytes shape lists (world new).cells (numbers_in held) (block_with lba) before
+        pub not_good : ¬ IsGood (cell_at (world new).cells (home_of shape lists (block_with lba + before)))
+        pub holds : (disc : List ℕ) → StoodFor shape lists (world old) held disc → HoldsBlocksOf disc held'
+
+      -- How the reading of all parts ends: all were read, or the block after so many cannot be, or it was stopped.
+      abbrev pub PartsEnd : List ℕ → Result (Option ℕ) Stop → Type 0
+      PartsEnd into (Ok None) = ReadsParts into
+      PartsEnd into (Ok (Some before)) = MeetsBlock before
+      PartsEnd into (Err stop) = StopsInBlock stop
