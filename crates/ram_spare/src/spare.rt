@@ -1,6 +1,6 @@
 //! The next free spare.
 
-ghost use Rattle.std.specs.Prelude.{◌≡◌, ◌||◌, not, drop, IfSome};
+ghost use Rattle.std.specs.Prelude.{◌≡◌, ◌↔◌, ◌||◌, not, drop, Some, IfSome, IsTrue};
 ghost use Rattle.std.specs.List.{Contains, find};
 ghost use Rattle.std.specs.List.Sorted.{IsStrictlyIncreasing};
 ghost use Rattle.model_lists.specs.Values.{defectives};
@@ -25,18 +25,23 @@ fn is_defective(sdl: &Sdl, block: u32) -> bool
     }
 }
 
+/// Whether the entry has this replacement.
+fn is_replaced_by(entry: SdlEntry, block: u32) -> bool
+    ensures { IsTrue result ↔ (entry.replacement ≡ Some block) }
+{
+    match entry.replacement {
+        Some(spare) => spare == block,
+        None => false,
+    }
+}
+
 /// Whether an entry names the block as a replacement.
 fn is_replacement(entries: &[SdlEntry], block: u32) -> bool
     ensures { result ≡ is_listed (replacements entries.now) block }
 {
     for entry in entries {
-        match entry.replacement {
-            Some(spare) => {
-                if spare == block {
-                    return true;
-                }
-            }
-            None => {}
+        if is_replaced_by(*entry, block) {
+            return true;
         }
     }
     false
