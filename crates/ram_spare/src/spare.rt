@@ -78,9 +78,8 @@ pub fn next_free(geometry: &Geometry, dds: &DdsPdl, sdl: &Sdl, after: Option<u32
     requires spare { IfSome after (Contains (spares_down geometry.now (both_lists dds.now sdl.now))) }
     ensures { result ≡ next_spare geometry.now (both_lists dds.now sdl.now) after }
 {
-    let first = match after {
-        Some(spare) => turn_of(geometry, dds, sdl, spare) + 1,
-        None => 0,
-    };
-    free_from(geometry, dds, sdl, first)
+    match after {
+        Some(spare) => free_from(geometry, dds, sdl, turn_of(geometry, dds, sdl, spare) + 1),
+        None => free_from(geometry, dds, sdl, 0),
+    }
 }
