@@ -39,7 +39,6 @@ retire-requires-clause-room c =
 
 pub loop-preserved : goal.loop-preserved
 loop-preserved c =
-    let few = omega (arith, c.loop-test.true, c.requires.few) in
     let at = next_stands c.args.geometry.now (lists_of c.args.lists.now) c.requires.valid c.loop.counter c.loop.last c.loop.invariant.last (omega (arith, c.loop-test.true, c.requires.few)) c.in-Some.spare c.in-Some.ensures in
     record {
       value =
