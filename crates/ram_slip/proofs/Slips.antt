@@ -100,24 +100,19 @@ pub room_for : (shape : Shape) (dds : Dds) → IsValidPdl shape dds → (place :
 room_for shape dds valid place inside = omega (arith, length-unslipped shape dds valid, inside)
 
 -- the same, by the numbers of the code
-pub physical_by : (shape : Shape) (dds : Dds) → IsValidPdl shape dds → (entries : List PdlEntry) (psa i passed block : ℕ) → entries ≡ dds.entries → psa ≡ shape.psa → primary_count shape dds + i < length (unslipped shape dds)
-    → IsCountPassed shape entries (psa - length entries + i) passed → block ≡ slice_index (data_blocks shape) (psa - length entries + i + passed) → block ≡ logical_block shape dds i
-physical_by shape dds valid entries psa i passed block same psa_is inside count is =
-    let count' : IsCountPassed shape dds.entries (shape.psa - length dds.entries + i) passed =
-    subst (λ (es : List PdlEntry). IsCountPassed shape es (shape.psa - length es + i) passed) same (subst (λ (n : ℕ). IsCountPassed shape entries (n - length entries + i) passed) psa_is count) in
-    let is' : block ≡ slice_index (data_blocks shape) (shape.psa - length dds.entries + i + passed) =
-    subst (λ (es : List PdlEntry). block ≡ slice_index (data_blocks shape) (shape.psa - length es + i + passed)) same (subst (λ (n : ℕ). block ≡ slice_index (data_blocks shape) (n - length entries + i + passed)) psa_is is) in
-    is' ∙ physical_is shape dds valid (primary_count shape dds + i) passed (room_for shape dds valid (primary_count shape dds + i) inside) count'
+pub unslipped_by : (shape : Shape) (dds : Dds) → IsValidPdl shape dds → (entries : List PdlEntry) (place passed block : ℕ) → entries ≡ dds.entries → place < length (unslipped shape dds)
+    → IsCountPassed shape entries place passed → block ≡ slice_index (data_blocks shape) (place + passed) → block ≡ slice_index (unslipped shape dds) place
+unslipped_by shape dds valid entries place passed block same inside count is =
+    is ∙ physical_is shape dds valid place passed (room_for shape dds valid place inside) (subst (λ (es : List PdlEntry). IsCountPassed shape es place passed) same count)
 
 -- each logical block has a place, and so has each supplementary spare behind them
 pub place_inside : (shape : Shape) (dds : Dds) → IsValidPdl shape dds → (i count psa : ℕ) → count ≡ length (data_blocks shape) → psa ≡ shape.psa → i < count - psa → primary_count shape dds + i < length (unslipped shape dds)
 place_inside shape dds valid i count psa all psa_is less = omega (arith, length-unslipped shape dds valid, valid.few, all, psa_is, less)
 
 -- the place that is asked for, and the slipped blocks, are within the data blocks
-pub room_by : (shape : Shape) (dds : Dds) → IsValidPdl shape dds → (entries : List PdlEntry) (psa i : ℕ) → entries ≡ dds.entries → psa ≡ shape.psa → primary_count shape dds + i < length (unslipped shape dds)
-    → psa - length entries + i + length entries < length (data_blocks shape)
-room_by shape dds valid entries psa i same psa_is inside =
-    omega (arith, ap (λ (es : List PdlEntry). length es) same, psa_is, room_for shape dds valid (primary_count shape dds + i) inside)
+pub room_by : (shape : Shape) (dds : Dds) → IsValidPdl shape dds → (entries : List PdlEntry) (place : ℕ) → entries ≡ dds.entries → place < length (unslipped shape dds) → place + length entries < length (data_blocks shape)
+room_by shape dds valid entries place same inside =
+    omega (arith, ap (λ (es : List PdlEntry). length es) same, room_for shape dds valid place inside)
 
 -- a data block that no entry names, by the numbers of the code
 pub stands_by : (shape : Shape) (dds : Dds) → IsValidPdl shape dds → (entries : List PdlEntry) (index before block : ℕ) (named : Bool) → entries ≡ dds.entries → slice_get (data_blocks shape) index ≡ Some block

@@ -18,13 +18,13 @@ module _ (shape : Shape) (lists : Lists) (valid : IsValidPdl shape lists.dds) (a
   first_many = let all = pools_are_all shape lists valid area in omega (arith, length-take (primary_count shape lists.dds) (unslipped shape lists.dds), all)
 
   -- the first numbers are the first places
-  spare_first : (n : ℕ) → n < primary_count shape lists.dds → slice_index (spares shape lists) n ≡ slice_index (unslipped shape lists.dds) n
+  pub spare_first : (n : ℕ) → n < primary_count shape lists.dds → slice_index (spares shape lists) n ≡ slice_index (unslipped shape lists.dds) n
   spare_first n less =
       get_or_append_left (primary_spares shape lists.dds) (supplementary_spares shape lists) 0 n (omega (arith, first_many, less))
       ∙ get_or-take (primary_count shape lists.dds) (unslipped shape lists.dds) n 0 less
 
   -- the others are places behind the logical blocks
-  spare_last : (n : ℕ) → primary_count shape lists.dds ≤ n → slice_index (spares shape lists) n ≡ slice_index (unslipped shape lists.dds) (n + logical_count shape lists)
+  pub spare_last : (n : ℕ) → primary_count shape lists.dds ≤ n → slice_index (spares shape lists) n ≡ slice_index (unslipped shape lists.dds) (n + logical_count shape lists)
   spare_last n from =
       let u = unslipped shape lists.dds in
       let all = pools_are_all shape lists valid area in

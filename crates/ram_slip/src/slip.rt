@@ -5,7 +5,7 @@ ghost use Rattle.std.specs.Prelude.{◌≡◌, ◌+◌, ◌<◌, length, slice_i
 ghost use Rattle.std.specs.List.Sorted.{IsStrictlyIncreasing};
 ghost use Rattle.model_geometry.specs.Geometry.{IsLawful, data_blocks};
 ghost use Rattle.model_lists.specs.Values.{pdl_blocks};
-ghost use Rattle.model_places.specs.Places.{unslipped, primary_count, logical_block};
+ghost use Rattle.model_places.specs.Places.{unreplaced, unslipped, primary_count, logical_block, spares};
 ghost use Rattle.model_places.specs.Valid.{IsValidPdl, IsValidSsa};
 ghost use Rattle.ram_dds.specs.Dds.{dds_of};
 ghost use Rattle.ram_slip.specs.Counts.{IsCountPassed};
@@ -47,6 +47,18 @@ fn count_passed(geometry: &Geometry, entries: &[PdlEntry], place: u32) -> usize
     low
 }
 
+/// The block at this place of those that are not slipped.
+fn unslipped_block(geometry: &Geometry, dds: &DdsPdl, place: u32) -> u32
+    requires lawful { IsLawful geometry.now }
+    requires valid { IsValidPdl geometry.now (dds_of dds.now) }
+    requires inside { place < length (unslipped geometry.now (dds_of dds.now)) }
+    ensures { result ≡ slice_index (unslipped geometry.now (dds_of dds.now)) place }
+{
+    let entries = dds.entries.as_slice();
+    let passed = count_passed(geometry, entries, place);
+    data_block(geometry, place + passed as u32)
+}
+
 /// The block of logical block `i`, or of the supplementary spare that comes as many places after logical block 0.
 pub fn physical(geometry: &Geometry, dds: &DdsPdl, i: u32) -> u32
     requires valid { IsValidPdl geometry.now (dds_of dds.now) }
@@ -54,10 +66,8 @@ pub fn physical(geometry: &Geometry, dds: &DdsPdl, i: u32) -> u32
         < length (unslipped geometry.now (dds_of dds.now)) }
     ensures { result ≡ logical_block geometry.now (dds_of dds.now) i }
 {
-    let entries = dds.entries.as_slice();
-    let place = geometry.psa() - entries.len() as u32 + i;
-    let passed = count_passed(geometry, entries, place);
-    data_block(geometry, place + passed as u32)
+    let primary = geometry.psa() - dds.entries.as_slice().len() as u32;
+    unslipped_block(geometry, dds, primary + i)
 }
 
 /// Where a block stands among those that are not slipped.
@@ -130,4 +140,19 @@ pub fn spare_number(geometry: &Geometry, dds: &DdsPdl, ssa: u32, block: u32) -> 
         return None;
     }
     Some(place - logical)
+}
+
+/// The spare of this number, in rising order and counted from 0. It undoes [`spare_number`].
+pub fn spare_of(geometry: &Geometry, dds: &DdsPdl, ssa: u32, number: u32) -> u32
+    requires valid { IsValidPdl geometry.now (dds_of dds.now) }
+    requires area { IsValidSsa geometry.now ssa }
+    requires inside { number < length (spares geometry.now (unreplaced (dds_of dds.now) ssa)) }
+    ensures { result ≡ slice_index (spares geometry.now (unreplaced (dds_of dds.now) ssa)) number }
+{
+    let primary = geometry.psa() - dds.entries.as_slice().len() as u32;
+    if number < primary {
+        return unslipped_block(geometry, dds, number);
+    }
+    let logical = geometry.data_blocks() - geometry.psa() - ssa;
+    unslipped_block(geometry, dds, number + logical)
 }

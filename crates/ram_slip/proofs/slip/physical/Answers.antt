@@ -1,30 +1,13 @@
 use Rattle.std.proofs.Common.{arith}
-use Rattle.ram_slip.proofs.Slips.{data_few, room_by, physical_by}
+use Rattle.ram_dds.specs.Dds.{dds_of}
+use Rattle.model_places.proofs.Pools.{length-unslipped}
+use Rattle.ram_slip.proofs.Slips.{data_few, primary_is}
 use Rattle.ram_slip.proofs.slip.physical.Goals as goal
 
-pub overflow_add-place : goal.overflow_add-place
-overflow_add-place c =
+pub overflow_add-primary : goal.overflow_add-primary
+overflow_add-primary c =
     let few = data_few _ c.psa.ensures.lawful in
-    let room = room_by _ _ c.requires.valid _ _ c.args.i c.as_slice-entries.ensures c.psa.ensures.spares c.requires.inside in
+    let left = primary_is c.args.geometry.now (dds_of c.args.dds.now) _ _ c.as_slice.ensures c.psa.ensures.spares in
+    let long = length-unslipped c.args.geometry.now (dds_of c.args.dds.now) c.requires.valid in
+    let inside = c.requires.inside in
     omega arith
-
-pub count_passed-passed-requires-clause-inside : goal.count_passed-passed-requires-clause-inside
-count_passed-passed-requires-clause-inside c =
-    room_by _ _ c.requires.valid _ _ c.args.i c.as_slice-entries.ensures c.psa.ensures.spares c.requires.inside
-
-pub overflow_add-place-2 : goal.overflow_add-place-2
-overflow_add-place-2 c =
-    let few = data_few _ c.psa.ensures.lawful in
-    let room = room_by _ _ c.requires.valid _ _ c.args.i c.as_slice-entries.ensures c.psa.ensures.spares c.requires.inside in
-    let within = c.count_passed-passed.ensures.within in
-    omega arith
-
-pub data_block-requires : goal.data_block-requires
-data_block-requires c =
-    let room = room_by _ _ c.requires.valid _ _ c.args.i c.as_slice-entries.ensures c.psa.ensures.spares c.requires.inside in
-    let within = c.count_passed-passed.ensures.within in
-    omega arith
-
-pub returns : goal.returns
-returns c =
-    physical_by _ _ c.requires.valid _ _ c.args.i _ _ c.as_slice-entries.ensures c.psa.ensures.spares c.requires.inside c.count_passed-passed.ensures c.data_block.ensures

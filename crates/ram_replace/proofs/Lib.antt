@@ -1,0 +1,4 @@
+pub mod FreeSpares
+pub mod Trying
+pub mod Placing
+pub mod Moving

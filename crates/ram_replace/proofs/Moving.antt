@@ -1,0 +1,177 @@
+-- How the secondary list of a move is made, entry after entry.
+use Rattle.std.specs.Prelude.{◌≡◌, ◌≢◌, ℕ, zero, suc, ◌+◌, ◌≤◌, ◌<◌, ◌^◌, ◌⊎◌, nat_lt, Option, Some, None, IfSome, List, [], ◌∷◌, length, slice_index}
+use Rattle.std.proofs.Common.{refl, sym, ap, ◌∙◌, inl, inr, subst, arith, eqb, filter, length-append}
+use Rattle.std.specs.List.{All, Contains}
+use Rattle.std.specs.List.Sorted.{IsStrictlyIncreasing}
+use Rattle.std.proofs.lemmas.Bool.{cases_eq, cond-true, cond-false, lt-ltb, le-ltb, eq-eqb, ne_eqb, cases_order}
+use Rattle.std.proofs.lemmas.List.Elements.{All-contains}
+use Rattle.model_geometry.specs.declared.TheConstants.{MOST_SPARES}
+use Rattle.model_geometry.specs.Geometry.{Shape, IsLawful, lead_out, total, data_blocks}
+use Rattle.model_geometry.proofs.DataBlocks.{data_blocks_bounds}
+use Rattle.model_geometry.proofs.Zones.{total_most}
+use Rattle.model_lists.specs.declared.sdl.SdlEntry.{SdlEntry}
+use Rattle.model_lists.specs.Values.{Sdl, IsBlockNumber, HasNumbers, IsLawfulSdl, defectives, with_entry}
+use Rattle.model_places.specs.Places.{Lists, logical_block, logical_count, home_of, free_spares, spares, unslipped}
+use Rattle.model_places.specs.Valid.{AreValid, IsValidSdl}
+use Rattle.model_places.specs.Worked.{pair, retired}
+use Rattle.model_places.proofs.Entries.{Contains-defectives, length-entries_most}
+use Rattle.model_places.proofs.Homes.{Contains-later}
+use Rattle.model_places.proofs.Pools.{unslipped_are_data, spare_is_unslipped}
+use Rattle.model_volume.specs.Moves.{with_retired, former, lists_moved, sdl_moved, tried_of, IsNextSpare}
+use Rattle.model_volume.proofs.Different.{free_apart}
+use Rattle.model_volume.proofs.ValidDecided.{contains_decided}
+use Rattle.model_volume.proofs.Validity.{all_from, ByMembers, by_members, from_members}
+use Rattle.model_volume.proofs.NewLists.{retire_all, with_pair, moved_valid}
+use Rattle.model_drive.specs.declared.TheConstants.{LAST_COUNTER}
+use Rattle.ram_sdl.specs.EntriesAndRoom.{EntriesAndRoom, HasRoomFor}
+use Rattle.ram_replace.specs.declared.spares.Found.{Found}
+use Rattle.ram_replace.specs.Spares.{StandsAt}
+
+-- ---- room
+
+-- the entries of lower and of higher blocks are all, where none is of the block
+low_and_high : (b : ℕ) (es : List SdlEntry) → ¬ Contains (defectives es) b
+    → length (filter (λ (e : SdlEntry). nat_lt e.defective b) es) + length (filter (λ (e : SdlEntry). nat_lt b e.defective) es) ≡ length es
+low_and_high b [] none = refl
+low_and_high b (e ∷ es) none =
+    let rest = low_and_high b es (λ has. none (Contains-later e.defective (defectives es) b has)) in
+    elim (cases_order e.defective b) [
+      | inl same ↦ absurd (none (0, omega arith, same))
+      | inr (inl low) ↦
+          let first = ap length (cond-true (nat_lt e.defective b) (e ∷ filter (λ (x : SdlEntry). nat_lt x.defective b) es) (filter (λ (x : SdlEntry). nat_lt x.defective b) es) (lt-ltb e.defective b low)) in
+          let last = ap length (cond-false (nat_lt b e.defective) (e ∷ filter (λ (x : SdlEntry). nat_lt b x.defective) es) (filter (λ (x : SdlEntry). nat_lt b x.defective) es) (le-ltb b e.defective (omega (arith, low)))) in
+          omega (arith, first, last, rest)
+      | inr (inr high) ↦
+          let first = ap length (cond-false (nat_lt e.defective b) (e ∷ filter (λ (x : SdlEntry). nat_lt x.defective b) es) (filter (λ (x : SdlEntry). nat_lt x.defective b) es) (le-ltb e.defective b (omega (arith, high)))) in
+          let last = ap length (cond-true (nat_lt b e.defective) (e ∷ filter (λ (x : SdlEntry). nat_lt b x.defective) es) (filter (λ (x : SdlEntry). nat_lt b x.defective) es) (lt-ltb b e.defective high)) in
+          omega (arith, first, last, rest)
+    ]
+
+-- So the entry has room where the list with it does.
+pub room_for : (new : SdlEntry) (held : EntriesAndRoom) → length (with_entry new held.list) ≤ held.room → HasRoomFor new.defective held
+room_for new held fits = elim (contains_decided (defectives held.list) new.defective) [
+  | inl has ↦ inr has
+  | inr none ↦
+      let parts = low_and_high new.defective held.list none in
+      let all = length-append (filter (λ (e : SdlEntry). nat_lt e.defective new.defective) held.list) (new ∷ filter (λ (e : SdlEntry). nat_lt new.defective e.defective) held.list) in
+      inl (omega (arith, fits, parts, all))
+]
+
+-- ---- one entry after another
+
+-- one more entry in a list of which the rest is as before
+pub one_more_entry : (a b c : Sdl) (es : List SdlEntry) (e : SdlEntry) → b ≡ record a { entries = es } → c ≡ record b { entries = with_entry e b.entries } → c ≡ record a { entries = with_entry e es }
+one_more_entry a b c es e was is = is ∙ ap (λ (x : Sdl). record x { entries = with_entry e x.entries }) was
+
+-- ---- the entries at each step are few, and rise
+
+few_of : (shape : Shape) (lists : Lists) (es : List SdlEntry) → AreValid shape lists → ByMembers shape lists.dds lists.sdl.ssa es → length es ≤ MOST_SPARES
+few_of shape lists es valid members =
+    let step : Lists = record lists { sdl = record lists.sdl { entries = es } } in
+    length-entries_most shape step valid.primary (from_members shape step valid.together.secondary.area members)
+
+module _ (shape : Shape) (lists : Lists) (valid : AreValid shape lists) where
+  module _ (k : ℕ) (few : k ≤ length (free_spares shape lists)) where
+    pub retired_few : length (with_retired (tried_of (free_spares shape lists) k) lists.sdl.entries) ≤ MOST_SPARES
+    retired_few = few_of shape lists (with_retired (tried_of (free_spares shape lists) k) lists.sdl.entries) valid (retire_all shape lists valid (free_apart shape lists valid) k few).es_valid
+
+  module _ (i : ℕ) (inside : i < logical_count shape lists) (found : Found) (at : StandsAt (free_spares shape lists) found) where
+    next : IsNextSpare shape lists (tried_of (free_spares shape lists) found.tried) found.spare
+    next = record { tried = found.tried; failed_are = refl; inside = at.inside; spare_is = at.spare_is }
+
+    pub pair_few : length (with_entry (pair (logical_block shape lists.dds i) found.spare) (with_retired (tried_of (free_spares shape lists) found.tried) lists.sdl.entries)) ≤ MOST_SPARES
+    unfolding next
+    pair_few = few_of shape lists (with_entry (pair (logical_block shape lists.dds i) found.spare) (with_retired (tried_of (free_spares shape lists) found.tried) lists.sdl.entries)) valid
+        (with_pair shape lists valid (free_apart shape lists valid) i inside (tried_of (free_spares shape lists) found.tried) found.spare next)
+
+    -- the lists of the move are valid
+    pub lists_valid : AreValid shape (lists_moved shape lists i (tried_of (free_spares shape lists) found.tried) found.spare)
+    lists_valid = moved_valid shape lists valid (free_apart shape lists valid) i inside (tried_of (free_spares shape lists) found.tried) found.spare next
+
+    pub moved_few : length (sdl_moved shape lists i (tried_of (free_spares shape lists) found.tried) found.spare).entries ≤ MOST_SPARES
+    moved_few = length-entries_most shape (lists_moved shape lists i (tried_of (free_spares shape lists) found.tried) found.spare) valid.primary lists_valid.together.secondary
+
+-- ---- room for each step
+
+-- one more spare retired
+pub retired_next : (free : List ℕ) (es : List SdlEntry) (k spare : ℕ) → spare ≡ slice_index free k → with_entry (retired spare) (with_retired (tried_of free k) es) ≡ with_retired (tried_of free (k + 1)) es
+retired_next free es k spare is =
+    let next : suc k ≡ k + 1 = omega arith in
+    ap (λ (s : ℕ). with_entry (retired s) (with_retired (tried_of free k) es)) is ∙ ap (λ (n : ℕ). with_retired (tried_of free n) es) next
+
+pub room_for_other : (own home : ℕ) (held : EntriesAndRoom) → home ≢ own → length (with_retired (former own home) held.list) ≤ held.room → HasRoomFor home held
+room_for_other own home held apart fits =
+    let one : former own home ≡ home ∷ [] = cond-false (eqb home own) [] (home ∷ []) (ne_eqb home own apart) in
+    room_for (retired home) held (subst (λ (ss : List ℕ). length (with_retired ss held.list) ≤ held.room) one fits)
+
+module _ (shape : Shape) (lists : Lists) (valid : AreValid shape lists) (held : EntriesAndRoom) (room : MOST_SPARES ≤ held.room) where
+  pub room_for_spare : (found : Found) → StandsAt (free_spares shape lists) found → held.list ≡ with_retired (tried_of (free_spares shape lists) found.tried) lists.sdl.entries → HasRoomFor found.spare held
+  room_for_spare found at list_is =
+      let after : with_entry (retired found.spare) held.list ≡ with_retired (tried_of (free_spares shape lists) (found.tried + 1)) lists.sdl.entries =
+      ap (with_entry (retired found.spare)) list_is ∙ retired_next (free_spares shape lists) lists.sdl.entries found.tried found.spare at.spare_is in
+      let few = retired_few shape lists valid (found.tried + 1) (let inside = at.inside in omega (arith, inside)) in
+      let fits = subst (λ (es : List SdlEntry). length es ≤ MOST_SPARES) (sym after) few in
+      room_for (retired found.spare) held (omega (arith, fits, room))
+
+  module _ (i : ℕ) (inside : i < logical_count shape lists) (found : Found) (at : StandsAt (free_spares shape lists) found) (own : ℕ) (own_is : own ≡ logical_block shape lists.dds i) where
+    pub room_for_pair : held.list ≡ with_retired (tried_of (free_spares shape lists) found.tried) lists.sdl.entries → HasRoomFor own held
+    room_for_pair list_is =
+        let after : with_entry (pair own found.spare) held.list ≡ with_entry (pair (logical_block shape lists.dds i) found.spare) (with_retired (tried_of (free_spares shape lists) found.tried) lists.sdl.entries) =
+        ap (with_entry (pair own found.spare)) list_is
+        ∙ ap (λ (o : ℕ). with_entry (pair o found.spare) (with_retired (tried_of (free_spares shape lists) found.tried) lists.sdl.entries)) own_is in
+        let fits = subst (λ (es : List SdlEntry). length es ≤ MOST_SPARES) (sym after) (pair_few shape lists valid i inside found at) in
+        room_for (pair own found.spare) held (omega (arith, fits, room))
+
+    pub room_for_former : (home : ℕ) → home ≡ home_of shape lists i → held.list ≡ with_entry (pair own found.spare) (with_retired (tried_of (free_spares shape lists) found.tried) lists.sdl.entries)
+        → length (with_retired (former own home) held.list) ≤ held.room
+    room_for_former home home_is list_is =
+        let after : with_retired (former own home) held.list ≡ (sdl_moved shape lists i (tried_of (free_spares shape lists) found.tried) found.spare).entries =
+        ap (with_retired (former own home)) list_is
+        ∙ ap (λ (h : ℕ). with_retired (former own h) (with_entry (pair own found.spare) (with_retired (tried_of (free_spares shape lists) found.tried) lists.sdl.entries))) home_is
+        ∙ ap (λ (o : ℕ). with_retired (former o (home_of shape lists i)) (with_entry (pair o found.spare) (with_retired (tried_of (free_spares shape lists) found.tried) lists.sdl.entries))) own_is in
+        let fits = subst (λ (es : List SdlEntry). length es ≤ MOST_SPARES) (sym after) (moved_few shape lists valid i inside found at) in
+        omega (arith, fits, room)
+
+-- ---- the list of the move
+
+pub draft_is : (shape : Shape) (lists : Lists) (i : ℕ) (found : Found) (a b c d : Sdl) (own home : ℕ) → a ≡ lists.sdl
+    → b ≡ record a { counter = a.counter + 1; entries = with_retired (tried_of (free_spares shape lists) found.tried) lists.sdl.entries }
+    → c ≡ record b { entries = with_entry (pair own found.spare) b.entries } → d ≡ record c { entries = with_retired (former own home) c.entries }
+    → own ≡ logical_block shape lists.dds i → home ≡ home_of shape lists i → d ≡ sdl_moved shape lists i (tried_of (free_spares shape lists) found.tried) found.spare
+draft_is shape lists i found a b c d own home copied retired_is paired former_is own_is home_is =
+    former_is
+    ∙ ap (λ (x : Sdl). record x { entries = with_retired (former own home) x.entries }) (paired
+    ∙ ap (λ (x : Sdl). record x { entries = with_entry (pair own found.spare) x.entries }) (retired_is
+    ∙ ap (λ (x : Sdl). record x { counter = x.counter + 1; entries = with_retired (tried_of (free_spares shape lists) found.tried) lists.sdl.entries }) copied))
+    ∙ ap (λ (h : ℕ). record lists.sdl { counter = lists.sdl.counter + 1; entries = with_retired (former own h) (with_entry (pair own found.spare) (with_retired (tried_of (free_spares shape lists) found.tried) lists.sdl.entries)) }) home_is
+    ∙ ap (λ (o : ℕ). record lists.sdl { counter = lists.sdl.counter + 1; entries = with_retired (former o (home_of shape lists i)) (with_entry (pair o found.spare) (with_retired (tried_of (free_spares shape lists) found.tried) lists.sdl.entries)) }) own_is
+
+-- ---- a valid list is lawful where its counters are
+
+module _ (shape : Shape) (lawful : IsLawful shape) (lists : Lists) (valid : AreValid shape lists) where
+  data_number : (b : ℕ) → Contains (unslipped shape lists.dds) b → IsBlockNumber b
+  data_number b has =
+      let bounds = All-contains (λ b. (7 < b) × (b < lead_out shape)) (data_blocks shape) b (data_blocks_bounds shape) (unslipped_are_data shape lists.dds b has) in
+      let most = total_most shape lawful in
+      omega (arith, bounds, most)
+
+  members : ByMembers shape lists.dds lists.sdl.ssa lists.sdl.entries
+  members = by_members shape lists valid.together.secondary
+
+  numbers : (d : ℕ) (o : Option ℕ) → Contains lists.sdl.entries (record { defective = d; replacement = o }) → HasNumbers (record { defective = d; replacement = o })
+  numbers d None has = record { defective_fits = data_number d (members.within (record { defective = d; replacement = None }) has); replacement_fits = tt }
+  numbers d (Some r) has = record {
+    defective_fits = data_number d (members.within (record { defective = d; replacement = Some r }) has);
+    replacement_fits = data_number r (spare_is_unslipped shape lists r (members.from d r has));
+  }
+
+  pub valid_lawful : lists.sdl.counter < 2 ^ 32 → lists.sdl.dds_counter < 2 ^ 32 → IsLawfulSdl lists.sdl
+  valid_lawful counted dds_counted = record {
+    counted = counted;
+    dds_counted = dds_counted;
+    limits = record {
+      most = (let most = valid.together.secondary.area.most in omega (arith, most));
+      few = length-entries_most shape lists valid.primary valid.together.secondary;
+    };
+    list = record { rise = valid.together.secondary.rising; numbers = all_from HasNumbers lists.sdl.entries (λ e has. numbers e.defective e.replacement has) };
+  }

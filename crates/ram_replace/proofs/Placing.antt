@@ -1,0 +1,361 @@
+-- How the write of a logical block goes, step after step, on the cells.
+use Rattle.std.specs.Prelude.{◌≡◌, ◌≢◌, ℕ, ◌+◌, ◌*◌, ◌≤◌, ◌<◌, ◌⊎◌, true, false, IsTrue, ◌==◌, if◌then◌else◌, List, [], ◌∷◌, length, slice_index}
+use Rattle.std.proofs.Common.{refl, sym, ap, ◌∙◌, inl, inr, subst, arith, eqb, cond}
+use Rattle.std.specs.List.{Contains}
+use Rattle.std.proofs.lemmas.Bool.{cond-true, cond-false, eq-eqb, ne_eqb}
+use Rattle.std.proofs.lemmas.List.Elements.{Contains-get_or}
+use Rattle.model_counts.specs.Counts.{counted, Rose}
+use Rattle.model_geometry.specs.Geometry.{Shape, data_blocks, dds_block, sdl_block}
+use Rattle.model_geometry.proofs.ListBlocks.{no_data_block_sdl}
+use Rattle.model_lists.specs.Values.{Sdl}
+use Rattle.model_lists.specs.Texts.{IsDdsText, IsSdlText}
+use Rattle.model_medium.specs.Cells.{Cell, Blank, Good, Torn, Dead, IsGood, MayLeave, cell_at}
+use Rattle.model_medium.specs.World.{World, UseContinues}
+use Rattle.model_sectors.specs.Discs.{Agrees}
+use Rattle.model_sectors.proofs.Fitting.{agrees_not_good}
+use Rattle.model_stops.specs.Stops.{Continues, Stops}
+use Rattle.model_stops.specs.declared.Stop.{Stop}
+use Rattle.model_stops.specs.declared.Stop.TheVariants as stops
+use Rattle.model_copies.specs.Copies.{IsArea, HoldsOrDead, HoldsEither, MayHold, Settled, AreBetween, AllLost}
+use Rattle.model_copies.proofs.CopyFacts.{between_left}
+use Rattle.model_places.specs.Places.{Lists, logical_count, home_of, free_spares}
+use Rattle.model_places.specs.Valid.{AreValid}
+use Rattle.model_volume.specs.Given.{AreSettled, IsGiven}
+use Rattle.model_volume.specs.Covers.{FitsUnder, Cover}
+use Rattle.model_volume.specs.Moves.{lists_moved, sdl_moved, tried_of, IsNextSpare, DiffersAt, OnlyData, OnlyMoves}
+use Rattle.model_volume.proofs.GivenFacts.{settled_alone, pair_between}
+use Rattle.model_volume.proofs.Moved.{home_not_free, home_is_data_block, free_is_data}
+use Rattle.model_volume.proofs.Updates.{agrees_good, data_moves, settled_kept, dds_settled, fits_before, fits_written, fits_moved, cover_settled, cover_between}
+use Rattle.model_drive.specs.declared.TheConstants.{LAST_COUNTER}
+use Rattle.model_drive.specs.Repairs.{sdl_update_uses}
+use Rattle.model_drive.specs.Course.{Placing, ToHome, ToSpare, lists_placed, most_uses, AreDead}
+use Rattle.model_drive.specs.Blocks.{PutsBlock, LeavesBlock, FindsNoSpare, FindsNoCopy, StopsAtBlock}
+use Rattle.ram_medium.specs.Laws.{MediumLaws}
+use Rattle.ram_medium.proofs.Parts.{continues_then, continues_quiet, stops_later, stops_within}
+use Rattle.ram_zones.specs.declared.list_kind.ListKind.TheVariants as kinds
+use Rattle.ram_copies.specs.Values.{SdlValue}
+use Rattle.ram_copies.specs.Puts.{IsBlockPut, IsBlockLost, StopsPutting}
+use Rattle.ram_copies.specs.Calls.{StoppedCounts, ChangesCopiesAlone, StoppedWithin, MayLeaveCopies}
+use Rattle.ram_copies.proofs.EachList.{sdl_settled, sdl_may_hold}
+use Rattle.ram_copies.proofs.Lifting.{quiet_counts, fault_counts}
+use Rattle.ram_replace.specs.declared.spares.Found.{Found}
+use Rattle.ram_replace.specs.Spares.{ChangesSparesAlone, HaveFailed, IsFound, StopsTrying}
+use Rattle.ram_replace.specs.Updates.{HasUpdated, StopsUpdating}
+use Rattle.ram_replace.specs.Placing.{HasEnded, PlacesBlock, MeetsNoSpare, MeetsNoCopy, PlacingStopped}
+use Rattle.ram_replace.proofs.Trying.{on_true}
+
+dead_is_bad : (cell : Cell) → cell ≡ Dead → ¬ IsGood cell
+dead_is_bad cell dead good = subst IsGood dead good
+
+good_is_good : (cell : Cell) (bytes : List ℕ) → cell ≡ Good bytes → IsGood cell
+good_is_good cell bytes good = subst IsGood (sym good) tt
+
+-- what was put agrees, also where it died
+left_agrees : (cell : Cell) (bytes : List ℕ) → (cell ≡ Good bytes) ⊎ (cell ≡ Dead) → Agrees cell bytes
+left_agrees cell bytes (inl good) = agrees_good cell bytes good
+left_agrees cell bytes (inr dead) = agrees_not_good cell bytes (dead_is_bad cell dead)
+
+-- how a stopped write of the home leaves it, for the discs
+left_three : (was cell : Cell) (bytes : List ℕ) → MayLeave was bytes cell → (cell ≡ was) ⊎ (cell ≡ Good bytes) ⊎ ¬ IsGood cell
+left_three was cell bytes (inl same) = inl same
+left_three was cell bytes (inr (inl good)) = inr (inl good)
+left_three was cell bytes (inr (inr (inl torn))) = inr (inr (λ good. (subst IsGood torn good)))
+left_three was cell bytes (inr (inr (inr dead))) = inr (inr (dead_is_bad cell dead))
+
+-- settled copies hold one of two values
+settled_either : (cell : Cell) (v : Sdl) → HoldsOrDead IsSdlText cell v → HoldsEither IsSdlText cell v v
+settled_either Blank v h = absurd h
+settled_either (Good bytes) v h = inl h
+settled_either Torn v h = absurd h
+settled_either Dead v h = tt
+
+lost_settled : (cell : Cell) (v : Sdl) → cell ≡ Dead → HoldsOrDead IsSdlText cell v
+lost_settled cell v dead = subst (λ (c : Cell). HoldsOrDead IsSdlText c v) (sym dead) tt
+
+module _ {M : Type 0} (world : M → World) (block_count : M → ℕ) (reaches : M → M → ℕ → Type 0) (laws : MediumLaws world block_count reaches) where
+  -- the count of work that was stopped
+  stopped_counts : (old new : M) (most : ℕ) (stop : Stop) → Stops world reaches old new most stop → StoppedCounts (world old) (world new) stop
+  stopped_counts old new most stops.Cut stopped = stopped.cut
+  stopped_counts old new most stops.Off stopped = stopped
+  stopped_counts old new most stops.Fault stopped = fault_counts world block_count reaches laws old new most stopped
+
+  module _ (shape : Shape) (lists : Lists) (valid : AreValid shape lists) (i : ℕ) (inside : i < logical_count shape lists) (bytes : List ℕ)
+      (old : M) (settled : AreSettled shape (world old).cells lists) where
+    ended_by : (new : M) (k : ℕ) (lists' : Lists) → Continues world reaches old new k → HasEnded world reaches shape old new lists i bytes lists'
+    ended_by new k lists' continues = record {
+      was_on = (continues_quiet world block_count reaches laws old new k continues).0;
+      counts = quiet_counts world block_count reaches laws old new k continues;
+    }
+
+    stopped_by : (new : M) (stop : Stop) → IsTrue (world old).power → StopsAtBlock world reaches shape old new lists i bytes stop → PlacingStopped world reaches shape old new lists i bytes lists stop
+    stopped_by new stop on stopped = record {
+      was_on = on;
+      counts = stopped_counts old new (most_uses shape lists i) stop stopped.stops;
+      same = refl;
+      stopped = stopped;
+    }
+
+    -- ---- while cells of the home and of spares alone change
+
+    module _ (new : M) (data_only : OnlyData shape (world old).cells (world new).cells lists i) where
+      moves : OnlyMoves shape (world old).cells (world new).cells lists i
+      moves = data_moves shape lists valid i inside (world old).cells (world new).cells data_only
+
+      settled_new : AreSettled shape (world new).cells lists
+      settled_new = settled_kept shape lists valid i inside (world old).cells (world new).cells data_only settled
+
+      stopped_at : (most : ℕ) (stop : Stop) → most ≤ most_uses shape lists i → Stops world reaches old new most stop → (world new).known ≡ (world old).known
+          → (cell_at (world new).cells (home_of shape lists i) ≡ cell_at (world old).cells (home_of shape lists i)) ⊎ (cell_at (world new).cells (home_of shape lists i) ≡ Good bytes)
+          ⊎ (¬ IsGood (cell_at (world new).cells (home_of shape lists i))) → StopsAtBlock world reaches shape old new lists i bytes stop
+      stopped_at most stop few stops as_known left = record {
+        stops = stops_within world block_count reaches laws old new most (most_uses shape lists i) stop few stops;
+        given = λ known other given. (ToHome, settled_alone shape (world new).cells lists other settled_new given);
+        as_known = as_known;
+        only = moves;
+        covers = λ disc disc' differs fits. cover_settled shape lists valid i inside (world old).cells (world new).cells moves bytes disc disc' differs fits settled_new left;
+      }
+
+    -- ---- the home
+
+    home_alone : (new : M) → ((other : ℕ) → other ≢ home_of shape lists i → cell_at (world new).cells other ≡ cell_at (world old).cells other) → OnlyData shape (world old).cells (world new).cells lists i
+    home_alone new others block apart free = others block apart
+
+    pub home_stopped : (new : M) (stop : Stop) → IsTrue (world old).power → StopsPutting world reaches old new (home_of shape lists i) bytes stop
+        → PlacingStopped world reaches shape old new lists i bytes lists stop
+    home_stopped new stop on stopped = stopped_by new stop on
+        (stopped_at new (home_alone new stopped.others) 2 stop (omega arith) stopped.stops stopped.as_known
+        (left_three (cell_at (world old).cells (home_of shape lists i)) (cell_at (world new).cells (home_of shape lists i)) bytes stopped.left))
+
+    pub home_put : (new : M) → IsBlockPut world reaches old new (home_of shape lists i) bytes → PlacesBlock world reaches shape old new lists i bytes lists
+    home_put new put = record {
+      ended = ended_by new 2 lists put.continues;
+      puts = record {
+        placing = ToHome;
+        can = tt;
+        lists_are = refl;
+        continues = put.continues;
+        as_known = put.as_known;
+        settled = settled_new new (home_alone new put.others);
+        only = moves new (home_alone new put.others);
+        went = λ known. good_is_good (cell_at (world new).cells (home_of shape lists i)) bytes (on_true (world old).known (cell_at (world new).cells (home_of shape lists i) ≡ Good bytes) put.has known);
+        makes = λ disc disc' differs fits. fits_written shape lists valid i inside (world old).cells (world new).cells (moves new (home_alone new put.others)) bytes disc disc' differs fits
+            (left_agrees (cell_at (world new).cells (home_of shape lists i)) bytes put.left);
+      };
+    }
+
+    -- ---- the home is dead
+
+    module _ (mid : M) (lost : IsBlockLost world reaches old mid (home_of shape lists i) bytes) where
+      both_alone : (new : M) → ChangesSparesAlone world reaches mid new (free_spares shape lists) bytes → OnlyData shape (world old).cells (world new).cells lists i
+      both_alone new alone block apart away = alone block away ∙ lost.others block apart
+
+      home_dead : (new : M) → ChangesSparesAlone world reaches mid new (free_spares shape lists) bytes → cell_at (world new).cells (home_of shape lists i) ≡ Dead
+      home_dead new alone = alone (home_of shape lists i) (home_not_free shape lists valid i inside) ∙ lost.dead
+
+      home_bad : (new : M) → ChangesSparesAlone world reaches mid new (free_spares shape lists) bytes → ¬ IsGood (cell_at (world new).cells (home_of shape lists i))
+      home_bad new alone = dead_is_bad (cell_at (world new).cells (home_of shape lists i)) (home_dead new alone)
+
+      pub spares_stopped : (new : M) (stop : Stop) → IsTrue (world old).power → StopsTrying world reaches mid new (free_spares shape lists) bytes stop
+          → PlacingStopped world reaches shape old new lists i bytes lists stop
+      spares_stopped new stop on stopped = stopped_by new stop on
+          (stopped_at new (both_alone new stopped.alone) (2 + 2 * length (free_spares shape lists)) stop (omega arith)
+          (stops_later world block_count reaches laws old mid new 2 (2 * length (free_spares shape lists)) stop lost.continues stopped.stops)
+          (stopped.as_known ∙ lost.as_known) (inr (inr (home_bad new stopped.alone))))
+
+      leaves_by : (new : M) (k uses : ℕ) → uses ≡ 2 + k → ChangesSparesAlone world reaches mid new (free_spares shape lists) bytes → Continues world reaches mid new k
+          → (world new).known ≡ (world mid).known → LeavesBlock world reaches shape old new lists i bytes lists uses
+      leaves_by new k uses sum alone continues as_known = record {
+        same = refl;
+        continues = subst (Continues world reaches old new) (sym sum) (continues_then world block_count reaches laws old mid new 2 k lost.continues continues);
+        as_known = as_known ∙ lost.as_known;
+        settled = settled_new new (both_alone new alone);
+        only = moves new (both_alone new alone);
+        dead = home_dead new alone;
+        keeps = λ disc fits. fits_before shape lists valid i inside (world old).cells (world new).cells (moves new (both_alone new alone)) disc (inr (home_bad new alone)) fits;
+      }
+
+      pub no_spare : (new : M) → HaveFailed world reaches mid new (free_spares shape lists) bytes (length (free_spares shape lists))
+          → MeetsNoSpare world reaches shape old new lists i bytes lists
+      no_spare new failed =
+          let leaves = leaves_by new (2 * length (free_spares shape lists)) (2 + 2 * length (free_spares shape lists)) refl failed.alone failed.continues failed.as_known in
+          record {
+            ended = ended_by new (2 + 2 * length (free_spares shape lists)) lists leaves.continues;
+            finds = record { leaves = leaves; none = failed.dead };
+          }
+
+      -- ---- a spare has the bytes
+
+      module _ (here : M) (found : Found) (has : IsFound world reaches mid here (free_spares shape lists) bytes found) where
+        spare_good : (world old).known ≡ true → cell_at (world here).cells (slice_index (free_spares shape lists) found.tried) ≡ Good bytes
+        spare_good known = ap (cell_at (world here).cells) (sym has.stands.spare_is) ∙ has.has (lost.as_known ∙ known)
+
+        no_update_uses : (counter : ℕ) → counter ≡ LAST_COUNTER → 2 + (2 * found.tried + 2) + (if counter == LAST_COUNTER then 0 else sdl_update_uses lists.sdl) ≡ 2 + (2 * found.tried + 2)
+        no_update_uses counter last =
+            let none : (if counter == LAST_COUNTER then 0 else sdl_update_uses lists.sdl) ≡ 0 = cond-true (eqb counter LAST_COUNTER) 0 8 (eq-eqb counter LAST_COUNTER last) in
+            omega (arith, none)
+
+        pub last_counter : lists.sdl.counter ≡ LAST_COUNTER → MeetsNoCopy world reaches shape old here lists i bytes lists lists.sdl.counter
+        last_counter last =
+            let leaves = leaves_by here (2 * found.tried + 2) (2 + (2 * found.tried + 2) + (if lists.sdl.counter == LAST_COUNTER then 0 else sdl_update_uses lists.sdl))
+            (no_update_uses lists.sdl.counter last) has.alone has.continues has.as_known in
+            record {
+              ended = ended_by here (2 + (2 * found.tried + 2) + (if lists.sdl.counter == LAST_COUNTER then 0 else sdl_update_uses lists.sdl)) lists leaves.continues;
+              finds = record {
+                tried = found.tried;
+                some_spare = has.stands.inside;
+                leaves = leaves;
+                counter_is = refl;
+                cause = inr last;
+                tried_dead = has.dead;
+                spare_has = λ known. good_is_good (cell_at (world here).cells (slice_index (free_spares shape lists) found.tried)) bytes (spare_good known);
+              };
+            }
+
+        -- ---- the update of the secondary list
+
+        next : IsNextSpare shape lists (tried_of (free_spares shape lists) found.tried) found.spare
+        next = record { tried = found.tried; failed_are = refl; inside = has.stands.inside; spare_is = has.stands.spare_is }
+
+        spare_is_free : (k : ℕ) → k < length (free_spares shape lists) → Contains (free_spares shape lists) (slice_index (free_spares shape lists) k)
+        spare_is_free k h = Contains-get_or (free_spares shape lists) k 0 h
+
+        spare_free : Contains (free_spares shape lists) found.spare
+        spare_free = subst (Contains (free_spares shape lists)) (sym has.stands.spare_is) (spare_is_free found.tried has.stands.inside)
+
+        -- the lists after the move
+        abbrev pub moved : Lists
+        moved = lists_moved shape lists i (tried_of (free_spares shape lists) found.tried) found.spare
+
+        abbrev pub moved_sdl : Sdl
+        moved_sdl = sdl_moved shape lists i (tried_of (free_spares shape lists) found.tried) found.spare
+
+        moved_is : lists_moved shape lists i (tried_of (free_spares shape lists) found.tried) found.spare ≡ lists_placed shape lists i (ToSpare found.tried)
+        moved_is = ap (λ (s : ℕ). lists_moved shape lists i (tried_of (free_spares shape lists) found.tried) s) has.stands.spare_is
+
+        settled_here : AreSettled shape (world here).cells lists
+        settled_here = settled_new here (both_alone here has.alone)
+
+        continues_here : Continues world reaches old here (2 + (2 * found.tried + 2))
+        continues_here = continues_then world block_count reaches laws old mid here 2 (2 * found.tried + 2) lost.continues has.continues
+
+        module _ (new : M) (alone : ChangesCopiesAlone world reaches kinds.Sdl shape here new) where
+          all_only : OnlyMoves shape (world old).cells (world new).cells lists i
+          all_only block apart away outside = alone.others block (λ area is. outside area) ∙ both_alone here has.alone block apart away
+
+          data_same : (block : ℕ) → Contains (data_blocks shape) block → cell_at (world new).cells block ≡ cell_at (world here).cells block
+          data_same block is_data = alone.others block (λ area is same. no_data_block_sdl shape area (subst (Contains (data_blocks shape)) same is_data))
+
+          free_same : (block : ℕ) → Contains (free_spares shape lists) block → cell_at (world new).cells block ≡ cell_at (world here).cells block
+          free_same block free = data_same block (free_is_data shape lists valid block free)
+
+          dead_still : cell_at (world new).cells (home_of shape lists i) ≡ Dead
+          dead_still = data_same (home_of shape lists i) (home_is_data_block shape lists valid i inside) ∙ home_dead here has.alone
+
+          bad_still : ¬ IsGood (cell_at (world new).cells (home_of shape lists i))
+          bad_still = dead_is_bad (cell_at (world new).cells (home_of shape lists i)) dead_still
+
+          tried_dead : AreDead (world new).cells (free_spares shape lists) found.tried
+          tried_dead k h = (let inside = has.stands.inside in free_same (slice_index (free_spares shape lists) k) (spare_is_free k (omega (arith, h, inside)))) ∙ has.dead k h
+
+          spare_agrees : Agrees (cell_at (world new).cells found.spare) bytes
+          spare_agrees = subst (λ (c : Cell). Agrees c bytes) (sym (free_same found.spare spare_free)) (left_agrees (cell_at (world here).cells found.spare) bytes has.left)
+
+          spare_good_still : (world old).known ≡ true → IsGood (cell_at (world new).cells (slice_index (free_spares shape lists) found.tried))
+          spare_good_still known = good_is_good (cell_at (world new).cells (slice_index (free_spares shape lists) found.tried)) bytes
+              (free_same (slice_index (free_spares shape lists) found.tried) (spare_is_free found.tried has.stands.inside) ∙ spare_good known)
+
+          as_known_all : (world new).known ≡ (world old).known
+          as_known_all = alone.as_known ∙ has.as_known ∙ lost.as_known
+
+          dds_still : Settled IsDdsText (dds_block shape) (world new).cells lists.dds
+          dds_still = dds_settled shape lists valid i inside (world old).cells (world new).cells all_only settled
+
+          -- it was stopped
+          update_stopped : (stop : Stop) → IsTrue (world old).power → Stops world reaches here new 8 stop → MayLeaveCopies world reaches kinds.Sdl shape here new (SdlValue moved_sdl)
+              → PlacingStopped world reaches shape old new lists i bytes lists stop
+          update_stopped stop on stops left = stopped_by new stop on (record {
+            stops = stops_within world block_count reaches laws old new (2 + (2 * found.tried + 2) + 8) (most_uses shape lists i) stop (let inside = has.stands.inside in omega (arith, inside))
+                (stops_later world block_count reaches laws old here new (2 + (2 * found.tried + 2)) 8 stop continues_here stops);
+            given = λ known other given. elim (pair_between shape (world new).cells lists.dds lists.sdl moved_sdl other dds_still between given) [
+              | inl before ↦ (ToHome, before)
+              | inr after ↦ (ToSpare found.tried, after ∙ moved_is)
+            ];
+            as_known = as_known_all;
+            only = all_only;
+            covers = λ disc disc' differs fits. cover_between shape lists valid i inside (world old).cells (world new).cells all_only bytes disc disc' differs fits
+                (tried_of (free_spares shape lists) found.tried) found.spare next spare_agrees settled bad_still between;
+          })
+            where
+              between : AreBetween IsSdlText (sdl_block shape) (world new).cells lists.sdl moved_sdl
+              between = between_left IsSdlText (sdl_block shape) (world here).cells (world new).cells lists.sdl moved_sdl
+                  (λ area is. settled_either (cell_at (world here).cells (sdl_block shape area)) lists.sdl (settled_here.sdl area is))
+                  (λ area is. sdl_may_hold (cell_at (world here).cells (sdl_block shape area)) (cell_at (world new).cells (sdl_block shape area)) moved_sdl (left area is))
+
+          -- no copy can be read
+          no_copy_left : lists.sdl.counter ≢ LAST_COUNTER → Continues world reaches here new 8 → AllLost (sdl_block shape) (world new).cells
+              → MeetsNoCopy world reaches shape old new lists i bytes lists lists.sdl.counter
+          no_copy_left room continues all_lost = record {
+            ended = ended_by new (2 + (2 * found.tried + 2) + 8) lists goes;
+            finds = record {
+              tried = found.tried;
+              some_spare = has.stands.inside;
+              leaves = record {
+                same = refl;
+                continues = subst (Continues world reaches old new) uses goes;
+                as_known = as_known_all;
+                settled = record { dds = dds_still; sdl = λ area is. lost_settled (cell_at (world new).cells (sdl_block shape area)) lists.sdl (all_lost area is) };
+                only = all_only;
+                dead = dead_still;
+                keeps = λ disc fits. fits_before shape lists valid i inside (world old).cells (world new).cells all_only disc (inr bad_still) fits;
+              };
+              counter_is = refl;
+              cause = inl all_lost;
+              tried_dead = tried_dead;
+              spare_has = spare_good_still;
+            };
+          }
+            where
+              goes : Continues world reaches old new (2 + (2 * found.tried + 2) + 8)
+              goes = continues_then world block_count reaches laws old here new (2 + (2 * found.tried + 2)) 8 continues_here continues
+
+              uses : 2 + (2 * found.tried + 2) + 8 ≡ 2 + (2 * found.tried + 2) + (if lists.sdl.counter == LAST_COUNTER then 0 else sdl_update_uses lists.sdl)
+              uses =
+                  let some : (if lists.sdl.counter == LAST_COUNTER then 0 else sdl_update_uses lists.sdl) ≡ 8 = cond-false (eqb lists.sdl.counter LAST_COUNTER) 0 8 (ne_eqb lists.sdl.counter LAST_COUNTER room) in
+                  omega (arith, some)
+
+          -- the list was written
+          list_written : lists.sdl.counter < LAST_COUNTER → Continues world reaches here new 8 → Settled IsSdlText (sdl_block shape) (world new).cells moved_sdl
+              → PlacesBlock world reaches shape old new lists i bytes moved
+          list_written room continues settled_sdl = record {
+            ended = ended_by new (2 + (2 * found.tried + 2) + 8) moved goes;
+            puts = record {
+              placing = ToSpare found.tried;
+              can = (has.stands.inside, room);
+              lists_are = moved_is;
+              continues = goes;
+              as_known = as_known_all;
+              settled = record { dds = dds_still; sdl = settled_sdl };
+              only = all_only;
+              went = λ known. (dead_still, tried_dead, spare_good_still known);
+              makes = λ disc disc' differs fits. fits_moved shape lists valid i inside (world old).cells (world new).cells all_only bytes disc disc' differs fits
+                  (tried_of (free_spares shape lists) found.tried) found.spare next spare_agrees;
+            };
+          }
+            where
+              goes : Continues world reaches old new (2 + (2 * found.tried + 2) + 8)
+              goes = continues_then world block_count reaches laws old here new (2 + (2 * found.tried + 2)) 8 continues_here continues
+
+        -- how the update ended
+        pub update_ends : (new : M) (stop : Stop) → IsTrue (world old).power → StopsUpdating world reaches shape here new moved_sdl stop
+            → PlacingStopped world reaches shape old new lists i bytes lists stop
+        update_ends new stops.Cut on h = update_stopped new h.0.alone stops.Cut on h.0.stops h.1
+        update_ends new stops.Off on h = absurd (h.was_off has.continues.is_on)
+        update_ends new stops.Fault on h = update_stopped new h.0.alone stops.Fault on h.0.stops h.1
+
+        pub no_copy : (new : M) → lists.sdl.counter ≢ LAST_COUNTER → HasUpdated world reaches shape here new moved_sdl false
+            → MeetsNoCopy world reaches shape old new lists i bytes lists lists.sdl.counter
+        no_copy new room did = no_copy_left new did.ended.alone room did.ended.continues did.left
+
+        pub spare_put : (new : M) → lists.sdl.counter < LAST_COUNTER → HasUpdated world reaches shape here new moved_sdl true
+            → PlacesBlock world reaches shape old new lists i bytes moved
+        spare_put new room did = list_written new did.ended.alone room did.ended.continues (sdl_settled shape (world new).cells moved_sdl did.left)

@@ -1,0 +1,3 @@
+pub mod Spares
+pub mod Updates
+pub mod Placing

@@ -1,0 +1,100 @@
+//! The secondary list of a move, made in a list of its own: the one in use is not changed.
+
+ghost use Rattle.std.specs.Prelude.{◌≡◌, ◌<◌, ◌≤◌, length};
+ghost use Rattle.std.specs.List.Sorted.{IsStrictlyIncreasing};
+ghost use Rattle.model_geometry.specs.declared.TheConstants.{MOST_SPARES};
+ghost use Rattle.model_geometry.specs.Geometry.{IsLawful};
+ghost use Rattle.model_lists.specs.Values.{IsLawfulSdl, defectives, with_entry};
+ghost use Rattle.model_places.specs.Places.{free_spares, logical_count};
+ghost use Rattle.model_places.specs.Valid.{AreValid};
+ghost use Rattle.model_places.specs.Worked.{retired};
+ghost use Rattle.model_volume.specs.Moves.{with_retired, tried_of, former, sdl_moved};
+ghost use Rattle.model_drive.specs.declared.TheConstants.{LAST_COUNTER};
+ghost use Rattle.ram_sdl.specs.Sdl.{sdl_of};
+ghost use Rattle.ram_sdl.specs.EntriesAndRoom.{HasRoomFor};
+ghost use Rattle.ram_lists.specs.Lists.{lists_of};
+ghost use Rattle.ram_replace.specs.Spares.{StandsAt};
+
+use crate::spares::Found;
+use ram_lists::{Lists, home};
+use ram_sdl::{Sdl, SdlEntry};
+use ram_slip::physical;
+use ram_spare::next_free;
+use ram_zones::Geometry;
+
+/// Says of a spare that it is never used again.
+fn retire(list: &mut Sdl, spare: u32)
+    requires rise { IsStrictlyIncreasing (defectives list.old.entries.list) }
+    requires room { HasRoomFor spare list.old.entries }
+    ensures value { sdl_of list.new ≡ record (sdl_of list.old) {
+        entries = with_entry (retired spare) list.old.entries.list } }
+    ensures rise { IsStrictlyIncreasing (defectives list.new.entries.list) }
+    ensures room { list.new.entries.room ≡ list.old.entries.room }
+{
+    list.set(SdlEntry {
+        defective: spare,
+        replacement: None,
+    });
+}
+
+/// Retires the first so many of the free spares.
+fn retire_tried(geometry: &Geometry, lists: &Lists, draft: &mut Sdl, tried: u32)
+    requires valid { AreValid geometry.now (lists_of lists.now) }
+    requires few { tried ≤ length (free_spares geometry.now (lists_of lists.now)) }
+    requires same { draft.old.entries.list ≡ lists.now.sdl.entries.list }
+    requires room { MOST_SPARES ≤ draft.old.entries.room }
+    ensures value { sdl_of draft.new ≡ record (sdl_of draft.old) {
+        entries = with_retired (tried_of (free_spares geometry.now (lists_of lists.now)) tried)
+        lists.now.sdl.entries.list } }
+    ensures rise { IsStrictlyIncreasing (defectives draft.new.entries.list) }
+    ensures room { draft.new.entries.room ≡ draft.old.entries.room }
+{
+    let mut last = None;
+    for _ in 0..tried {
+        let Some(spare) = next_free(geometry, &lists.dds, &lists.sdl, last) else {
+            unreachable!();
+        };
+        retire(draft, spare);
+        last = Some(spare);
+    }
+}
+
+/// Retires the former replacement of a block, where it had one.
+fn retire_former(draft: &mut Sdl, own: u32, home: u32)
+    requires rise { IsStrictlyIncreasing (defectives draft.old.entries.list) }
+    requires room { length (with_retired (former own home) draft.old.entries.list) ≤ draft.old.entries.room }
+    ensures value { sdl_of draft.new ≡ record (sdl_of draft.old) {
+        entries = with_retired (former own home) draft.old.entries.list } }
+    ensures room { draft.new.entries.room ≡ draft.old.entries.room }
+{
+    if home != own {
+        retire(draft, home);
+    }
+}
+
+/// Makes the secondary list in which logical block `i` is at a spare: its counter is one greater, the spares that failed are
+/// retired, the block's own one has the pair with the spare, and its former replacement is retired.
+pub fn draft_moved(geometry: &Geometry, lists: &Lists, draft: &mut Sdl, i: u32, found: Found)
+    requires shape { IsLawful geometry.now }
+    requires valid { AreValid geometry.now (lists_of lists.now) }
+    requires lawful { IsLawfulSdl (sdl_of lists.now.sdl) }
+    requires inside { i < logical_count geometry.now (lists_of lists.now) }
+    requires stands { StandsAt (free_spares geometry.now (lists_of lists.now)) found }
+    requires counter { lists.now.sdl.counter < LAST_COUNTER }
+    requires room { MOST_SPARES ≤ draft.old.entries.room }
+    ensures value { sdl_of draft.new ≡ sdl_moved geometry.now (lists_of lists.now) i
+        (tried_of (free_spares geometry.now (lists_of lists.now)) found.tried) found.spare }
+    ensures lawful { IsLawfulSdl (sdl_of draft.new) }
+    ensures room { MOST_SPARES ≤ draft.new.entries.room }
+{
+    let own = physical(geometry, &lists.dds, i);
+    let before = home(geometry, lists, i);
+    draft.copy_from(&lists.sdl);
+    draft.counter += 1;
+    retire_tried(geometry, lists, draft, found.tried);
+    draft.set(SdlEntry {
+        defective: own,
+        replacement: Some(found.spare),
+    });
+    retire_former(draft, own, before);
+}

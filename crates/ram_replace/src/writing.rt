@@ -1,0 +1,143 @@
+//! The write of one logical block, to its home or to a spare.
+
+ghost use Rattle.std.specs.Prelude.{◌≡◌, ◌<◌, ◌≤◌, IsTrue, MatchResult};
+ghost use Rattle.model_geometry.specs.declared.TheConstants.{MOST_SPARES};
+ghost use Rattle.model_geometry.specs.Geometry.{total};
+ghost use Rattle.model_lists.specs.Values.{IsLawfulSdl};
+ghost use Rattle.model_places.specs.Places.{logical_count};
+ghost use Rattle.model_places.specs.Valid.{AreValid};
+ghost use Rattle.model_volume.specs.Given.{AreSettled};
+ghost use Rattle.ram_sdl.specs.Sdl.{sdl_of};
+ghost use Rattle.ram_lists.specs.Lists.{lists_of};
+ghost use Rattle.ram_replace.specs.Placing.{EndsPlacing, PlacingStopped, PlacedRule};
+
+use crate::drafts::draft_moved;
+use crate::spares::find_spare;
+use crate::updates::update_list;
+use model_drive::LAST_COUNTER;
+use ram_bytes::Block;
+use ram_copies::{Scratch, put_block};
+use ram_lists::{Lists, home};
+use ram_medium::{Medium, Stop};
+use ram_sdl::Sdl;
+use ram_zones::Geometry;
+
+/// How the write of a logical block ended.
+#[derive(Clone, Copy, Debug, PartialEq, Eq)]
+pub enum Placed {
+    /// Its home has the bytes: the one that it had, or a spare.
+    Done,
+    /// The home is dead, and so are all free spares.
+    NoSpare,
+    /// The home is dead and a spare has the bytes, but the secondary list could not be updated: all its copies are dead,
+    /// or its counter is the last one.
+    NoUpdate {
+        /// The counter of the list in use.
+        counter: u32,
+    },
+    /// The power was cut.
+    Cut,
+    /// The power was off, and nothing was done.
+    Off,
+    /// What the medium lies on failed, and counted it. The power is off.
+    Fault,
+}
+
+/// How a write ended that was not stopped.
+#[derive(Clone, Copy)]
+enum Outcome {
+    Done,
+    NoSpare,
+    NoUpdate { counter: u32 },
+}
+
+/// Writes a logical block with the power on.
+fn place<M: Medium>(
+    medium: &mut M,
+    geometry: &Geometry,
+    lists: &mut Lists,
+    draft: &mut Sdl,
+    i: u32,
+    from: &Block,
+    scratch: &mut Scratch,
+) -> Result<Outcome, Stop>
+    requires size { M.block_count medium.old ≡ total geometry.now }
+    requires on { IsTrue (M.world medium.old).power }
+    requires valid { AreValid geometry.now (lists_of lists.old) }
+    requires lawful { IsLawfulSdl (sdl_of lists.old.sdl) }
+    requires settled { AreSettled geometry.now (M.world medium.old).cells (lists_of lists.old) }
+    requires inside { i < logical_count geometry.now (lists_of lists.old) }
+    requires room { MOST_SPARES ≤ lists.old.sdl.entries.room }
+    requires draft { MOST_SPARES ≤ draft.old.entries.room }
+    ensures rule { MatchResult result
+        (EndsPlacing M.world M.reaches geometry.now medium.old medium.new (lists_of lists.old) i from.now
+        (lists_of lists.new))
+        (PlacingStopped M.world M.reaches geometry.now medium.old medium.new (lists_of lists.old) i from.now
+        (lists_of lists.new)) }
+    ensures valid { AreValid geometry.now (lists_of lists.new) }
+    ensures lawful { IsLawfulSdl (sdl_of lists.new.sdl) }
+    ensures room { MOST_SPARES ≤ lists.new.sdl.entries.room }
+    ensures draft { MOST_SPARES ≤ draft.new.entries.room }
+    ensures as_many { M.block_count medium.new ≡ M.block_count medium.old }
+{
+    let block = home(geometry, lists, i);
+    if put_block(medium, block, from, &mut scratch.room)? {
+        return Ok(Outcome::Done);
+    }
+    let Some(found) = find_spare(medium, geometry, lists, from, &mut scratch.room)? else {
+        return Ok(Outcome::NoSpare);
+    };
+    let counter = lists.sdl.counter;
+    if counter == LAST_COUNTER {
+        return Ok(Outcome::NoUpdate { counter });
+    }
+    draft_moved(geometry, lists, draft, i, found);
+    if !update_list(medium, geometry, draft, scratch)? {
+        return Ok(Outcome::NoUpdate { counter });
+    }
+    lists.sdl.copy_from(draft);
+    Ok(Outcome::Done)
+}
+
+/// Writes logical block `i` to its home, and reads it back: 2 uses. Where the home is dead, one free spare after another is
+/// written and read back, 2 uses each, until one has the bytes; then the secondary list is updated, 8 uses, and taken over.
+/// `draft` holds that list until then. It takes no memory.
+///
+/// The lists in memory change with Done alone, once a copy of the new list can be read. (Linear replacement after ECMA-330;
+/// the order is this project's own.)
+pub fn write_home<M: Medium>(
+    medium: &mut M,
+    geometry: &Geometry,
+    lists: &mut Lists,
+    draft: &mut Sdl,
+    i: u32,
+    from: &Block,
+    scratch: &mut Scratch,
+) -> Placed
+    requires size { M.block_count medium.old ≡ total geometry.now }
+    requires valid { AreValid geometry.now (lists_of lists.old) }
+    requires lawful { IsLawfulSdl (sdl_of lists.old.sdl) }
+    requires settled { AreSettled geometry.now (M.world medium.old).cells (lists_of lists.old) }
+    requires inside { i < logical_count geometry.now (lists_of lists.old) }
+    requires room { MOST_SPARES ≤ lists.old.sdl.entries.room }
+    requires draft { MOST_SPARES ≤ draft.old.entries.room }
+    ensures rule { PlacedRule M.world M.reaches geometry.now medium.old medium.new (lists_of lists.old) i
+        from.now (lists_of lists.new) result }
+    ensures valid { AreValid geometry.now (lists_of lists.new) }
+    ensures lawful { IsLawfulSdl (sdl_of lists.new.sdl) }
+    ensures room { MOST_SPARES ≤ lists.new.sdl.entries.room }
+    ensures draft { MOST_SPARES ≤ draft.new.entries.room }
+    ensures as_many { M.block_count medium.new ≡ M.block_count medium.old }
+{
+    if !medium.powered() {
+        return Placed::Off;
+    }
+    match place(medium, geometry, lists, draft, i, from, scratch) {
+        Ok(Outcome::Done) => Placed::Done,
+        Ok(Outcome::NoSpare) => Placed::NoSpare,
+        Ok(Outcome::NoUpdate { counter }) => Placed::NoUpdate { counter },
+        Err(Stop::Cut) => Placed::Cut,
+        Err(Stop::Off) => Placed::Off,
+        Err(Stop::Fault) => Placed::Fault,
+    }
+}
