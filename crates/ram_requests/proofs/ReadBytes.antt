@@ -101,17 +101,17 @@ one_use_of_medium b first k not_hand =
     ap (λ (more : ℕ). read_uses b first k + more) (cond-false (is_at_hand b first k) 0 1 (false_from_ne_true (is_at_hand b first k) not_hand))
 
 -- more blocks take no fewer uses
-pub uses_rise : (b : List ℕ) (first j k : ℕ) → j ≤ k → read_uses b first j ≤ read_uses b first k
-uses_rise b first j zero le = let none : j ≡ 0 = omega arith in subst (λ (m : ℕ). read_uses b first m ≤ 0) (sym none) (omega arith)
-uses_rise b first j (suc k) le = elim (cases_eq j (suc k)) [
+pub read_uses_rise : (b : List ℕ) (first j k : ℕ) → j ≤ k → read_uses b first j ≤ read_uses b first k
+read_uses_rise b first j zero le = let none : j ≡ 0 = omega arith in subst (λ (m : ℕ). read_uses b first m ≤ 0) (sym none) (omega arith)
+read_uses_rise b first j (suc k) le = elim (cases_eq j (suc k)) [
   | inl e ↦ subst (λ (m : ℕ). read_uses b first m ≤ read_uses b first (suc k)) (sym e) (omega arith)
-  | inr ne ↦ let before = uses_rise b first j k (omega arith) in omega (arith, before)
+  | inr ne ↦ let before = read_uses_rise b first j k (omega arith) in omega (arith, before)
 ]
 
 -- so a block that is not at hand takes one of those of all blocks
 pub one_more_use : (b : List ℕ) (first count k : ℕ) → k < count → ¬ IsTrue (is_at_hand b first k) → read_uses b first k + 1 ≤ read_uses b first count
 one_more_use b first count k covered not_hand =
-    let rise : read_uses b first (suc k) ≤ read_uses b first count = uses_rise b first (suc k) count (omega arith) in
+    let rise : read_uses b first (suc k) ≤ read_uses b first count = read_uses_rise b first (suc k) count (omega arith) in
     subst (λ (m : ℕ). m ≤ read_uses b first count) (one_use_of_medium b first k not_hand) rise
 
 -- a buffer that has few blocks after so many uses had few before

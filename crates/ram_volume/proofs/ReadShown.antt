@@ -44,18 +44,6 @@ module _ {M : Type 0} (world : M → World) (reaches : M → M → ℕ → Type 
     abbrev under : M → List (ℕ × List ℕ) → Shown
     under m held = shown_under shape (machine m) lists held
 
-    -- a read of sectors past the end changes nothing
-    module _ (old : M) (held : List (ℕ × List ℕ)) (lba n known : ℕ) (on : IsTrue (world old).power) (past : capacity_of shape lists < lba + n) (is : known ≡ capacity_of shape lists) where
-      pub range_cause : ReadCause (under old held) (under old held) lba n (outs.Range known)
-      range_cause = record { on = on; formatted = refl; past = past; known_is = is; nothing = refl }
-
-      pub range_steps : (into : List ℕ) → ReadSteps (under old held) (under old held) lba n into (outs.Range known)
-      range_steps into (On disc) stood = stood
-      range_steps into (Off discs) stood = absurd (stood.1 on)
-
-      pub range_quiet : (out : ReadOut) → ReadIsQuiet (under old held) (under old held) lba n out
-      range_quiet out inside buffered = absurd (let most = inside.inside in omega arith)
-
     -- the sectors are the disc's
     module _ (old new : M) (held : List (ℕ × List ℕ)) (lba n : ℕ) (on : IsTrue (world old).power) (inside : lba + n ≤ capacity_of shape lists) where
       in_range : IsInRange (under old held) lba n

@@ -22,6 +22,7 @@ use Rattle.model_stops.specs.Stops.{Stops}
 use Rattle.model_stops.specs.declared.Stop.{Stop}
 use Rattle.model_stops.specs.declared.Stop.TheVariants as stops
 use Rattle.ram_medium.proofs.Parts.{use_failed, stops_later, stops_within}
+use Rattle.ram_requests.proofs.ReadBytes.{prefix_all, one_more_use}
 use Rattle.ram_outside.specs.declared.image.Image.{Ghosts}
 use Rattle.ram_image.specs.declared.medium.ImageMedium.{ImageMedium}
 use Rattle.ram_image.specs.Medium.{shape_of_medium, world_of, machine_in, ImageReaches}
@@ -32,21 +33,7 @@ use Rattle.ram_run.specs.Plain.Blocks.{OthersSame, CannotBeRead, FetchStopped}
 use Rattle.ram_run.specs.Plain.Reading.{unread_in, read_stopped_by}
 use Rattle.ram_run.proofs.plain.Homes.{homes_differ}
 use Rattle.ram_run.proofs.plain.ImageLaws.{image_laws}
-use Rattle.ram_run.proofs.plain.ReadTurns.{done_all, ReadSoFar, same_home_cell, stays_then, few_before, not_at_hand}
-
--- more blocks take no fewer uses
-pub uses_rise : (b : List ℕ) (first j k : ℕ) → j ≤ k → read_uses b first j ≤ read_uses b first k
-uses_rise b first j zero le = let none : j ≡ 0 = omega arith in subst (λ (m : ℕ). read_uses b first m ≤ 0) (sym none) (omega arith)
-uses_rise b first j (suc k) le = elim (cases_eq j (suc k)) [
-  | inl e ↦ subst (λ (m : ℕ). read_uses b first m ≤ read_uses b first (suc k)) (sym e) (omega arith)
-  | inr ne ↦ let before = uses_rise b first j k (omega arith) in omega (arith, before)
-]
-
--- a block that is not at hand takes one
-pub one_more_use : (b : List ℕ) (first count k : ℕ) → k < count → ¬ IsTrue (is_at_hand b first k) → read_uses b first k + 1 ≤ read_uses b first count
-one_more_use b first count k covered not_hand =
-    let rise : read_uses b first (suc k) ≤ read_uses b first count = uses_rise b first (suc k) count (omega arith) in
-    subst (λ (m : ℕ). read_uses b first k + m ≤ read_uses b first count) (cond-false (is_at_hand b first k) 0 1 (false_from_ne_true (is_at_hand b first k) not_hand)) rise
+use Rattle.ram_run.proofs.plain.ReadTurns.{ReadSoFar, same_home_cell, stays_then, few_before, not_at_hand}
 
 -- a cell that is as it was or dead is as it was or has no whole bytes
 pub same_or_bad : (old new : Cell) → IsSameOrDead old new → (new ≡ old) ⊎ ¬ IsGood new
@@ -103,11 +90,7 @@ module _ {I : Type 0} {d : Ghosts I} where
     }
 
     all_into : (disc : List ℕ) → stands_for old (On disc) → into ≡ sectors_of disc lba n
-    all_into disc stands =
-        sym (take_all (2048 * n) into (omega (arith, so_far.long)))
-        ∙ ap (λ (m : ℕ). take (2048 * m) into) (sym (done_all lba n))
-        ∙ (ended.discs disc stands).prefix
-        ∙ ap (λ (m : ℕ). sectors_of disc lba m) (done_all lba n)
+    all_into disc stands = prefix_all lba n disc into so_far.long (ended.discs disc stands).prefix
 
     all_stands : (disc : List ℕ) → stands_for old (On disc) → stands_for new (On disc)
     all_stands disc stands = record {

@@ -17,6 +17,7 @@ use Rattle.model_sectors.specs.Parts.{IsInRange}
 use Rattle.model_sectors.specs.Reads.{AreReadable}
 use Rattle.model_sectors.proofs.Pieces.{sectors_in_block, sectors_more, sectors_none, length_sectors}
 use Rattle.model_sectors.proofs.Covering.{covered_part, covered_after, covered_all, covered_inside, at_hand_was_buffered, bytes_at_some, numbers_in-with_newest, bytes_at-with_newest}
+use Rattle.ram_requests.proofs.ReadBytes.{done, prefix_none, prefix_more, no_use_at_hand, one_use_of_medium, few_before_uses}
 use Rattle.ram_outside.specs.declared.image.Image.{Ghosts}
 use Rattle.ram_image.specs.declared.medium.ImageMedium.{ImageMedium}
 use Rattle.ram_image.specs.Medium.{shape_of_medium, world_of, ImageReaches}
@@ -26,74 +27,6 @@ use Rattle.ram_run.specs.Plain.Disc.{shown_by, BufferAgrees, stands_for}
 use Rattle.ram_run.specs.Plain.Blocks.{Stays, FromBuffer, FromHome, IsFetched}
 use Rattle.ram_run.specs.Plain.Reading.{IsCopied}
 use Rattle.ram_run.proofs.plain.ImageLaws.{image_laws}
-
--- how many sectors of a request lie before the block after k others
-abbrev pub done : (lba n k : ℕ) → ℕ
-done lba n k = min n (start_in lba (block_with lba + k) - lba)
-
--- none lie before the first block
-done_none : (lba n : ℕ) → done lba n 0 ≡ 0
-done_none lba n = omega arith
-
--- before a covered block lie those up to the request's first sector in it
-done_before : (lba n k : ℕ) → k < blocks_covered lba n → done lba n k ≡ start_in lba (block_with lba + k) - lba
-done_before lba n k covered =
-    let part = covered_part lba n k covered in
-    omega arith
-
--- and before the next one those of the block too
-done_after : (lba n k : ℕ) → k < blocks_covered lba n
-    → done lba n (suc k) ≡ (start_in lba (block_with lba + k) - lba) + (end_in lba n (block_with lba + k) - start_in lba (block_with lba + k))
-done_after lba n k covered =
-    let part = covered_part lba n k covered in
-    let after = covered_after lba n k covered in
-    omega arith
-
--- all lie before the end of the last block
-pub done_all : (lba n : ℕ) → done lba n (blocks_covered lba n) ≡ n
-done_all lba n = elim (cases_eq n 0) [
-  | inl none ↦ omega arith
-  | inr some ↦ let all = covered_all lba n (omega arith) in omega arith
-]
-
--- what is read goes on by the bytes of a block
-prefix_more : (lba n k blocks : ℕ) (disc block into into' : List ℕ) → k < blocks_covered lba n → lba + n ≤ 16 * blocks → length disc ≡ 32768 * blocks → length into ≡ 2048 * n
-    → block ≡ block_of disc (block_with lba + k) → into' ≡ filled_by lba n (block_with lba + k) block into → take (2048 * done lba n k) into ≡ sectors_of disc lba (done lba n k)
-    → (length into' ≡ 2048 * n) × (take (2048 * done lba n (suc k)) into' ≡ sectors_of disc lba (done lba n (suc k)))
-unfolding filled_by taken_from
-prefix_more lba n k blocks disc block into into' covered inside long whole is put prefix =
-    let i : ℕ = block_with lba + k in
-    let start : ℕ = start_in lba i in
-    let end : ℕ = end_in lba n i in
-    let at : ℕ = start - lba in
-    let count : ℕ = end - start in
-    let place : ℕ = start - 16 * i in
-    let some = covered_part lba n k covered in
-    let after = covered_after lba n k covered in
-    let there : 16 * i + place ≡ lba + at = omega arith in
-    let part : take (2048 * count) (drop (2048 * place) block) ≡ sectors_of disc (lba + at) count =
-    ap (λ (l : List ℕ). take (2048 * count) (drop (2048 * place) l)) is ∙ sym (sectors_in_block disc i place count (omega arith)) ∙ ap (λ (m : ℕ). sectors_of disc m count) there in
-    let written : into' ≡ put_at (2048 * at) (sectors_of disc (lba + at) count) into = put ∙ ap (λ (l : List ℕ). put_at (2048 * at) l into) part in
-    let part_long : length (sectors_of disc (lba + at) count) ≡ 2048 * count = length_sectors disc blocks (lba + at) count (omega arith) long in
-    let before : done lba n k ≡ at = done_before lba n k covered in
-    let next : done lba n (suc k) ≡ at + count = done_after lba n k covered in
-    let end_at : 2048 * (at + count) ≡ 2048 * at + length (sectors_of disc (lba + at) count) = omega arith in
-    let prefix_at : take (2048 * at) into ≡ sectors_of disc lba at = ap (λ (m : ℕ). take (2048 * m) into) (sym before) ∙ prefix ∙ ap (λ (m : ℕ). sectors_of disc lba m) before in (
-      ap length written ∙ length-put_at (2048 * at) (sectors_of disc (lba + at) count) into (omega arith) ∙ whole,
-      ap (λ (m : ℕ). take (2048 * m) into') next
-          ∙ ap (take (2048 * (at + count))) written
-          ∙ take-put_at-end (2048 * (at + count)) (2048 * at) (sectors_of disc (lba + at) count) into end_at (omega arith)
-          ∙ ap (λ (l : List ℕ). l ++ sectors_of disc (lba + at) count) prefix_at
-          ∙ sym (sectors_more disc lba at count)
-          ∙ ap (λ (m : ℕ). sectors_of disc lba m) (sym next),
-    )
-
--- a sum with nothing, and with one
-plus_none : (a b : ℕ) → b ≡ 0 → a + b ≡ a
-plus_none a b e = omega arith
-
-plus_one_some : (a b : ℕ) → b ≡ 1 → a + b ≡ 0 → ⊥
-plus_one_some a b e none = omega arith
 
 -- whole bytes that agree are those
 agrees_good : (cell : Cell) (held bytes : List ℕ) → cell ≡ Good held → Agrees cell bytes → held ≡ bytes
@@ -157,7 +90,7 @@ module _ {I : Type 0} {d : Ghosts I} where
     long = long;
     discs = λ disc stands. record {
       buffered = stands.buffered;
-      prefix = ap (λ (m : ℕ). take (2048 * m) into) (done_none lba n) ∙ sym (sectors_none disc lba) ∙ ap (λ (m : ℕ). sectors_of disc lba m) (sym (done_none lba n));
+      prefix = prefix_none lba n disc into;
       readable = λ j less. absurd (omega arith);
     };
   }
@@ -172,12 +105,7 @@ module _ {I : Type 0} {d : Ghosts I} where
 
   -- a buffer of few blocks had few before
   pub few_before : (old mid : Mechanism I d) (lba n k : ℕ) (into : List ℕ) → ReadSoFar old mid lba n k into → length mid.buffer ≤ BUFFERED_BLOCKS → length (numbers_in old.buffer) ≤ BUFFERED_BLOCKS
-  few_before old mid lba n k into so_far few = elim so_far.few [
-    | inl none ↦
-        let same : numbers_in mid.buffer ≡ numbers_in old.buffer = so_far.touched ∙ ap (touched_from (numbers_in old.buffer) (block_with lba)) none in
-        subst (λ (m : ℕ). m ≤ BUFFERED_BLOCKS) (sym (length-map mid.buffer (λ held. held.0)) ∙ ap length same) few
-    | inr few' ↦ few'
-  ]
+  few_before old mid lba n k into so_far few = few_before_uses (numbers_in old.buffer) (block_with lba) k mid.buffer so_far.touched so_far.few few
 
   -- a block was fetched after so many others
   record Turned (old mid new : Mechanism I d) (lba k : ℕ) : Type 0 where
@@ -201,7 +129,7 @@ module _ {I : Type 0} {d : Ghosts I} where
     turned_by_buffer : FromBuffer mid new (block_with lba + k) → Turned old mid new lba k
     turned_by_buffer from =
         let hand : is_at_hand (numbers_in old.buffer) (block_with lba) k ≡ true = hand_is ∙ bytes_at_some (block_with lba + k) mid.buffer new.scratch from.held in
-        let same : uses (suc k) ≡ uses k = plus_none (uses k) (if is_at_hand (numbers_in old.buffer) (block_with lba) k then 0 else 1) (cond-true (is_at_hand (numbers_in old.buffer) (block_with lba) k) 0 1 hand) in
+        let same : uses (suc k) ≡ uses k = no_use_at_hand (numbers_in old.buffer) (block_with lba) k hand in
         record {
           stays = subst (λ (m : ℕ). Stays old new m) (sym same) (stays_at old mid new (uses k) from.unused so_far.stays);
           same_cells = ap (λ (m : ImageMedium I d). (world_of m).cells) from.unused;
@@ -212,14 +140,13 @@ module _ {I : Type 0} {d : Ghosts I} where
 
     turned_by_home : FromHome mid new (block_with lba + k) → Turned old mid new lba k
     turned_by_home from =
-        let hand : is_at_hand (numbers_in old.buffer) (block_with lba) k ≡ false = false_from_ne_true (is_at_hand (numbers_in old.buffer) (block_with lba) k) (not_at_hand from.not_buffered) in
-        let one : (if is_at_hand (numbers_in old.buffer) (block_with lba) k then 0 else 1) ≡ 1 = cond-false (is_at_hand (numbers_in old.buffer) (block_with lba) k) 0 1 hand in
+        let one : uses (suc k) ≡ uses k + 1 = one_use_of_medium (numbers_in old.buffer) (block_with lba) k (not_at_hand from.not_buffered) in
         let here : (world_of old.medium).known ≡ true → home_cell (shown_by new) (block_with lba + k) ≡ Good new.scratch =
         λ known. where_known (world_of mid.medium).known (home_cell (shown_by new) (block_with lba + k) ≡ Good new.scratch) (so_far.stays.as_known ∙ known) from.gives in
         record {
-          stays = subst (λ (m : ℕ). Stays old new (uses k + m)) (sym one) (stays_then old mid new (uses k) 1 so_far.stays from.stays);
+          stays = subst (λ (m : ℕ). Stays old new m) (sym one) (stays_then old mid new (uses k) 1 so_far.stays from.stays);
           same_cells = from.same_cells;
-          unused = λ none. absurd (plus_one_some (uses k) (if is_at_hand (numbers_in old.buffer) (block_with lba) k then 0 else 1) one none);
+          unused = λ none. absurd (let two : uses k + 1 ≡ 0 = sym one ∙ none in omega arith);
           is_block = λ disc stands agrees within. agrees_good (home_cell (shown_by old) (block_with lba + k)) new.scratch (block_of disc (block_with lba + k))
               (sym (same_home_cell old new (block_with lba + k) (from.stays.same_shape ∙ so_far.stays.same_shape) (from.same_cells ∙ so_far.same_cells)) ∙ here stands.known)
               (stands.agrees.1.agrees (block_with lba + k) within);
