@@ -23,8 +23,8 @@ use ram_copies::Scratch;
 use ram_format::{FullEnd, Rewritten, full_format, kept_entries, rewrite};
 use ram_lists::Lists;
 use ram_medium::MediumControl;
-use ram_sectors::{FormatOut, Kind};
 use ram_sdl::Sdl;
+use ram_sectors::{FormatOut, Kind};
 use ram_zones::Geometry;
 use std::alloc::Global;
 
@@ -88,22 +88,36 @@ impl<M: MediumControl> NotFormatted<M> {
                 (State::Ready(ready), FormatOut::Good)
             }
             FullEnd::TooMany { found, mark } => {
-                let bare = NotFormatted::over(medium, geometry, mark, list, draft, buffer, block, scratch);
+                let bare = NotFormatted::over(
+                    medium, geometry, mark, list, draft, buffer, block, scratch,
+                );
                 (State::NotFormatted(bare), FormatOut::TooMany { found })
             }
             FullEnd::NoRoom { mark: _ } => {
-                let bare = NotFormatted::over(medium, geometry, mark, list, draft, buffer, block, scratch);
-                (State::NotFormatted(bare), FormatOut::NoUpdate { counter: mark })
+                let bare = NotFormatted::over(
+                    medium, geometry, mark, list, draft, buffer, block, scratch,
+                );
+                (
+                    State::NotFormatted(bare),
+                    FormatOut::NoUpdate { counter: mark },
+                )
             }
             FullEnd::NoCopy { counter, mark } => {
-                let bare = NotFormatted::over(medium, geometry, mark, list, draft, buffer, block, scratch);
+                let bare = NotFormatted::over(
+                    medium, geometry, mark, list, draft, buffer, block, scratch,
+                );
                 (State::NotFormatted(bare), FormatOut::NoUpdate { counter })
             }
             FullEnd::Cut => (State::Off(PoweredOff { medium, geometry }), FormatOut::Cut),
             FullEnd::Off => unreachable!(),
-            FullEnd::Fault => (State::Off(PoweredOff { medium, geometry }), FormatOut::Fault),
+            FullEnd::Fault => (
+                State::Off(PoweredOff { medium, geometry }),
+                FormatOut::Fault,
+            ),
             FullEnd::NoMemory => {
-                let bare = NotFormatted::over(medium, geometry, mark, list, draft, buffer, block, scratch);
+                let bare = NotFormatted::over(
+                    medium, geometry, mark, list, draft, buffer, block, scratch,
+                );
                 (State::NotFormatted(bare), FormatOut::NoMemory)
             }
         }
@@ -178,30 +192,61 @@ impl<M: MediumControl> Ready<M> {
             mut scratch,
         } = self;
         let mark = lists.dds.counter;
-        match full_format(alloc, &mut medium, &geometry, &kept, false, mark, &mut scratch) {
+        match full_format(
+            alloc,
+            &mut medium,
+            &geometry,
+            &kept,
+            false,
+            mark,
+            &mut scratch,
+        ) {
             FullEnd::Good { lists } => {
                 let ready = Ready::over(medium, geometry, lists, draft, buffer, block, scratch);
                 (State::Ready(ready), FormatOut::Good)
             }
             FullEnd::TooMany { found, mark } => {
                 let Lists { dds: _, sdl: list } = lists;
-                let bare = NotFormatted::over(medium, geometry, mark, list, draft, buffer, block, scratch);
+                let bare = NotFormatted::over(
+                    medium, geometry, mark, list, draft, buffer, block, scratch,
+                );
                 (State::NotFormatted(bare), FormatOut::TooMany { found })
             }
             FullEnd::NoRoom { mark } => {
-                let ready = Ready { medium, geometry, lists, draft, buffer, block, scratch };
+                let ready = Ready {
+                    medium,
+                    geometry,
+                    lists,
+                    draft,
+                    buffer,
+                    block,
+                    scratch,
+                };
                 (State::Ready(ready), FormatOut::NoUpdate { counter: mark })
             }
             FullEnd::NoCopy { counter, mark } => {
                 let Lists { dds: _, sdl: list } = lists;
-                let bare = NotFormatted::over(medium, geometry, mark, list, draft, buffer, block, scratch);
+                let bare = NotFormatted::over(
+                    medium, geometry, mark, list, draft, buffer, block, scratch,
+                );
                 (State::NotFormatted(bare), FormatOut::NoUpdate { counter })
             }
             FullEnd::Cut => (State::Off(PoweredOff { medium, geometry }), FormatOut::Cut),
             FullEnd::Off => unreachable!(),
-            FullEnd::Fault => (State::Off(PoweredOff { medium, geometry }), FormatOut::Fault),
+            FullEnd::Fault => (
+                State::Off(PoweredOff { medium, geometry }),
+                FormatOut::Fault,
+            ),
             FullEnd::NoMemory => {
-                let ready = Ready { medium, geometry, lists, draft, buffer, block, scratch };
+                let ready = Ready {
+                    medium,
+                    geometry,
+                    lists,
+                    draft,
+                    buffer,
+                    block,
+                    scratch,
+                };
                 (State::Ready(ready), FormatOut::NoMemory)
             }
         }
@@ -233,7 +278,10 @@ impl<M: MediumControl> Ready<M> {
             }
             Rewritten::Cut => (State::Off(PoweredOff { medium, geometry }), FormatOut::Cut),
             Rewritten::Off => unreachable!(),
-            Rewritten::Fault => (State::Off(PoweredOff { medium, geometry }), FormatOut::Fault),
+            Rewritten::Fault => (
+                State::Off(PoweredOff { medium, geometry }),
+                FormatOut::Fault,
+            ),
         }
     }
 }

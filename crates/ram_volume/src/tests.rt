@@ -6,6 +6,7 @@ use ram_zones::ListKind;
 use std::alloc::{AllocError, Global};
 use std::test::Fail;
 
+mod formats;
 mod reading;
 
 /// A disc with copies of both lists of these counters in areas 1 to 4; none where it is 0. The secondary lists are under
@@ -20,6 +21,40 @@ fn disc_with(alloc: Global, dds: [u32; 4], sdl: [u32; 4]) -> Result<ExampleDisc,
     for (area, counter) in [1, 2, 3, 4].into_iter().zip(sdl) {
         if counter > 0 && 1 <= area && area <= 4 {
             disc.write_copy(ListKind::Sdl, area, &sdl_text(alloc, counter, 5)?);
+        }
+    }
+    Ok(disc)
+}
+
+/// Puts bytes into a block, from byte `at` on.
+fn put(block: &mut Block, at: usize, part: &[u8]) {
+    for (byte, new) in block.bytes_mut().iter_mut().skip(at).zip(part) {
+        *byte = *new;
+    }
+}
+
+/// A block of which the sectors begin with this number and those after it.
+fn numbered(alloc: Global, first: u8) -> Result<Block, AllocError> {
+    let mut block = Block::zeros(alloc)?;
+    for k in 0..16u8 {
+        put(&mut block, 2048 * usize::from(k), &[first.wrapping_add(k)]);
+    }
+    Ok(block)
+}
+
+/// A disc of which each of the first 48 sectors begins with its number plus one. The homes of its first three blocks are
+/// 13, 12 in place of 14, and 15. A mount of it takes 16 uses.
+fn numbered_disc(alloc: Global) -> Result<ExampleDisc, AllocError> {
+    let mut disc = disc_with(alloc, [5; 4], [0; 4])?;
+    let mut pair = sdl_text(alloc, 3, 5)?;
+    put(&mut pair, 15, &[1]);
+    put(&mut pair, 32, &[0, 0, 0, 14, 0, 0, 0, 12]);
+    for area in 1..5 {
+        disc.write_copy(ListKind::Sdl, area, &pair);
+    }
+    for (block, first) in [(13, 1), (12, 17), (14, 200), (15, 33)] {
+        if block < disc.medium.blocks() {
+            disc.medium.write(block, &numbered(alloc, first)?);
         }
     }
     Ok(disc)

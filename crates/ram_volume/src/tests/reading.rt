@@ -3,42 +3,13 @@
 use super::*;
 use model_sectors::ReadOut;
 
-/// Puts bytes into a block, from byte `at` on.
-fn put(block: &mut Block, at: usize, part: &[u8]) {
-    for (byte, new) in block.bytes_mut().iter_mut().skip(at).zip(part) {
-        *byte = *new;
-    }
-}
-
-/// A block of which the sectors begin with this number and those after it.
-fn numbered(alloc: Global, first: u8) -> Result<Block, AllocError> {
-    let mut block = Block::zeros(alloc)?;
-    for k in 0..16u8 {
-        put(&mut block, 2048 * usize::from(k), &[first.wrapping_add(k)]);
-    }
-    Ok(block)
-}
-
-/// A disc of which each of the first 48 sectors begins with its number plus one. The homes of its first three blocks are
-/// 13, 12 in place of 14, and 15. A mount of it takes 16 uses.
-fn numbered_disc(alloc: Global) -> Result<ExampleDisc, AllocError> {
-    let mut disc = disc_with(alloc, [5; 4], [0; 4])?;
-    let mut pair = sdl_text(alloc, 3, 5)?;
-    put(&mut pair, 15, &[1]);
-    put(&mut pair, 32, &[0, 0, 0, 14, 0, 0, 0, 12]);
-    for area in 1..5 {
-        disc.write_copy(ListKind::Sdl, area, &pair);
-    }
-    for (block, first) in [(13, 1), (12, 17), (14, 200), (15, 33)] {
-        if block < disc.medium.blocks() {
-            disc.medium.write(block, &numbered(alloc, first)?);
-        }
-    }
-    Ok(disc)
-}
-
 /// The drive with this disc, and its power on. The power is cut in the use of this number after the mount.
-fn ready_with(alloc: Global, mut disc: ExampleDisc, cut: u32, fate: Fate) -> Result<Ready<MemMedium>, Fail> {
+fn ready_with(
+    alloc: Global,
+    mut disc: ExampleDisc,
+    cut: u32,
+    fate: Fate,
+) -> Result<Ready<MemMedium>, Fail> {
     disc.medium.arm_cut(cut.saturating_add(16), fate);
     match drive_with(disc).power_on(alloc) {
         PowerOn::Ready(ready) => Ok(ready),
@@ -123,7 +94,14 @@ fn a_block_that_cannot_be_read_is_named(rt: HostRuntime) -> Result<(), Fail> {
         (19, 2, ReadOut::Unread { lba: 19, block: 12 }),
         (32, 16, ReadOut::Good),
         (47, 3, ReadOut::Unread { lba: 48, block: 16 }),
-        (303, 1, ReadOut::Unread { lba: 303, block: 31 }),
+        (
+            303,
+            1,
+            ReadOut::Unread {
+                lba: 303,
+                block: 31,
+            },
+        ),
         (303, 2, ReadOut::Range { capacity: 304 }),
         (304, 0, ReadOut::Good),
         (304, 1, ReadOut::Range { capacity: 304 }),
