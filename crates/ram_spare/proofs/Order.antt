@@ -93,10 +93,10 @@ past_end xs k none =
 -- ---- the number of each turn
 
 module _ (shape : Shape) (lists : Lists) (valid : IsValidPdl shape lists.dds) (area : IsValidSsa shape lists.sdl.ssa) where
-  first_many : length (primary_spares shape lists.dds) ≡ primary_count shape lists.dds
+  pub first_many : length (primary_spares shape lists.dds) ≡ primary_count shape lists.dds
   first_many = let all = pools_are_all shape lists valid area in omega (arith, length-take (primary_count shape lists.dds) (unslipped shape lists.dds), all)
 
-  last_many : length (supplementary_spares shape lists) ≡ lists.sdl.ssa
+  pub last_many : length (supplementary_spares shape lists) ≡ lists.sdl.ssa
   last_many = let all = pools_are_all shape lists valid area in omega (arith, length-drop (length (unslipped shape lists.dds) - lists.sdl.ssa) (unslipped shape lists.dds), all)
 
   pub length-spares_down : length (spares_down shape lists) ≡ primary_count shape lists.dds + lists.sdl.ssa
