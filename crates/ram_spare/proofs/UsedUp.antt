@@ -147,8 +147,8 @@ module _ (shape : Shape) (lists : Lists) (valid : IsValidSdl shape lists) where
       (λ f. ⊎_elim
       (λ u. ap not f ∙ sym u)
       (λ n. absurd (true≢false (sym (free_from_unnamed lists q
-          (λ d. true≢false (sym ((Decides-is_listed (map used lists.sdl.entries) q).1 (retired_used lists.sdl.entries q (λ k e below is. valid.spares_retired k e below (subst (Contains (spares shape lists)) (sym is) spare)) d)) ∙ n))
-          (λ r. true≢false (sym ((Decides-is_listed (map used lists.sdl.entries) q).1 (replacement_used lists.sdl.entries q r)) ∙ n))) ∙ f)))
+      (λ d. true≢false (sym ((Decides-is_listed (map used lists.sdl.entries) q).1 (retired_used lists.sdl.entries q (λ k e below is. valid.spares_retired k e below (subst (Contains (spares shape lists)) (sym is) spare)) d)) ∙ n))
+      (λ r. true≢false (sym ((Decides-is_listed (map used lists.sdl.entries) q).1 (replacement_used lists.sdl.entries q r)) ∙ n))) ∙ f)))
       (cases_Bool (is_listed (map used lists.sdl.entries) q)))
       (cases_Bool (is_free lists q))
 

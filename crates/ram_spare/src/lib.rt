@@ -10,3 +10,6 @@ mod turns;
 pub use count::{SpareCounts, counts};
 pub use laws::next_free_walks_through_the_free_spares;
 pub use spare::next_free;
+
+#[cfg(test)]
+mod tests;
