@@ -1,7 +1,7 @@
 -- The order in which spares are looked through: their numbers, that none comes twice, and the walk through the free ones.
-use Rattle.std.proofs.Common.{◌≡◌, ℕ, zero, suc, ◌+◌, ◌-◌, ◌<◌, ◌≤◌, ◌⊎◌, inl, inr, ⊎_elim, Bool, true, false, not, cond, eqb, List, [], ◌∷◌, ◌++◌, reverse, length, get_or, take, drop, Option, Some, None, IfSome, slice_get, slice_index, refl, sym, ap, ◌∙◌, subst, le_antisymm, arith}
+use Rattle.std.proofs.Common.{◌≡◌, ℕ, zero, suc, ◌+◌, ◌-◌, ◌<◌, ◌≤◌, ◌⊎◌, inl, inr, ⊎_elim, Bool, true, false, not, cond, eqb, List, [], ◌∷◌, reverse, length, get_or, drop, Option, Some, None, IfSome, slice_get, slice_index, refl, sym, ap, ◌∙◌, subst, le_antisymm, arith}
 use Rattle.std.specs.List.{Contains, IsDistinct, filter, find, after_first, position_or_len}
-use Rattle.std.proofs.lemmas.Bool.{cases_Bool, cases_lt, cond-true, cond-false, eqb-true, eq-eqb, ne_eqb}
+use Rattle.std.proofs.lemmas.Bool.{cases_Bool, cases_lt, cond-true, cond-false, eq-eqb, ne_eqb}
 use Rattle.std.proofs.lemmas.List.{get_or_append_left, get_or-append_right, get_or-reverse, get_or_default, length-take, length-drop, length-append, length-reverse}
 use Rattle.std.proofs.lemmas.List.Sums.{position_or_len_is}
 use Rattle.std.proofs.lemmas.Map.Keys.{IsDistinct-from_apart, IsDistinct-tail}

@@ -220,17 +220,17 @@ fn data_block(geometry: &Geometry, n: u32) -> u32 {
     }
 }
 
-/// On the greatest disc all spares are used but the last.
+/// A thousand spares are used, all but the last.
 #[test]
 fn the_last_of_many_spares_is_found(rt: HostRuntime) -> Result<(), Fail> {
     let alloc = rt.alloc();
-    let geometry = Geometry::new(35, 100, 4_092)?;
-    let dds = slipping(alloc, 4_092, &[])?;
+    let geometry = Geometry::new(35, 100, 1_000)?;
+    let dds = slipping(alloc, 1_000, &[])?;
     let mut entries = Vec::new(alloc);
-    for k in 0..4_091 {
+    for k in 0..999 {
         entries.push(SdlEntry {
-            defective: data_block(&geometry, 4_092 + k),
-            replacement: Some(data_block(&geometry, 4_091 - k)),
+            defective: data_block(&geometry, 1_000 + k),
+            replacement: Some(data_block(&geometry, 999 - k)),
         })?;
     }
     let sdl = replacing(0, entries);
