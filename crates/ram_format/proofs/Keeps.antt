@@ -16,7 +16,7 @@ use Rattle.model_places.proofs.Pools.{unslipped_are_data}
 use Rattle.model_formats.specs.Defects.{IsKept, kept_count, AreKept}
 use Rattle.ram_slip.proofs.OnePlace.{not_slipped}
 use Rattle.ram_format.specs.Merging.{found_entry, CanMerge, AreMerged}
-use Rattle.ram_format.specs.Keeping.{kept_defectives, AreApart, AreAllKept}
+use Rattle.ram_format.specs.Keeping.{kept_defectives, RiseApart, AreAllKept}
 use Rattle.ram_format.proofs.Found.{made}
 
 nothing_in : (block : ℕ) → ¬ Contains [] block
@@ -35,7 +35,7 @@ block_of_entry entries entry (k, within, is) = (
 
 module _ (lists : Lists) where
   -- the two lists can be merged
-  pub can_merge_kept : (drop_sdl : Bool) → AreApart lists → CanMerge lists.dds.entries (kept_defectives lists.sdl drop_sdl)
+  pub can_merge_kept : (drop_sdl : Bool) → RiseApart lists → CanMerge lists.dds.entries (kept_defectives lists.sdl drop_sdl)
   can_merge_kept true are = record {
     kept_rise = are.slipped_rise;
     found_rise = nothing_rises;
@@ -87,7 +87,7 @@ none_kept drop_sdl = record {
 
 -- What is kept are data blocks, where the lists are valid.
 module _ (shape : Shape) (lists : Lists) (valid : AreValid shape lists) where
-  pub are_apart : AreApart lists
+  pub are_apart : RiseApart lists
   are_apart = record {
     slipped_rise = valid.primary.rising;
     defectives_rise = valid.together.secondary.rising;

@@ -3,7 +3,7 @@
 ghost use Rattle.std.specs.Prelude.{◌≡◌, IfOk, Some};
 ghost use Rattle.ram_sdl.specs.Sdl.{sdl_of};
 ghost use Rattle.ram_lists.specs.Lists.{lists_of};
-ghost use Rattle.ram_format.specs.Keeping.{kept_defectives, AreApart, AreAllKept};
+ghost use Rattle.ram_format.specs.Keeping.{kept_defectives, RiseApart, AreAllKept};
 
 use crate::merging::merge;
 use ram_dds::{PdlEntry, PdlKind};
@@ -33,7 +33,7 @@ pub fn kept_entries(
     lists: &Lists,
     drop_sdl: bool,
 ) -> Result<Vec<PdlEntry>, AllocError>
-    requires apart { AreApart (lists_of lists.now) }
+    requires apart { RiseApart (lists_of lists.now) }
     ensures { IfOk result (λ kept. AreAllKept (Some (lists_of lists.now)) drop_sdl kept.items) }
 {
     let slipped = lists.dds.entries.as_slice();

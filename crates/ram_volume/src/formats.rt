@@ -88,24 +88,18 @@ impl<M: MediumControl> NotFormatted<M> {
                 (State::Ready(ready), FormatOut::Good)
             }
             FullEnd::TooMany { found, mark } => {
-                let bare = NotFormatted::over(
-                    medium, geometry, mark, list, draft, buffer, block, scratch,
-                );
+                let bare = Self::over(medium, geometry, mark, list, draft, buffer, block, scratch);
                 (State::NotFormatted(bare), FormatOut::TooMany { found })
             }
             FullEnd::NoRoom { mark: _ } => {
-                let bare = NotFormatted::over(
-                    medium, geometry, mark, list, draft, buffer, block, scratch,
-                );
+                let bare = Self::over(medium, geometry, mark, list, draft, buffer, block, scratch);
                 (
                     State::NotFormatted(bare),
                     FormatOut::NoUpdate { counter: mark },
                 )
             }
             FullEnd::NoCopy { counter, mark } => {
-                let bare = NotFormatted::over(
-                    medium, geometry, mark, list, draft, buffer, block, scratch,
-                );
+                let bare = Self::over(medium, geometry, mark, list, draft, buffer, block, scratch);
                 (State::NotFormatted(bare), FormatOut::NoUpdate { counter })
             }
             FullEnd::Cut => (State::Off(PoweredOff { medium, geometry }), FormatOut::Cut),
@@ -115,9 +109,7 @@ impl<M: MediumControl> NotFormatted<M> {
                 FormatOut::Fault,
             ),
             FullEnd::NoMemory => {
-                let bare = NotFormatted::over(
-                    medium, geometry, mark, list, draft, buffer, block, scratch,
-                );
+                let bare = Self::over(medium, geometry, mark, list, draft, buffer, block, scratch);
                 (State::NotFormatted(bare), FormatOut::NoMemory)
             }
         }
@@ -125,7 +117,39 @@ impl<M: MediumControl> NotFormatted<M> {
 }
 
 impl<M: MediumControl> Ready<M> {
-    /// A drive of these parts, with these lists in use. It buffers nothing.
+    /// A drive of these parts, with these lists in use.
+    fn under(
+        medium: M,
+        geometry: Geometry,
+        lists: Lists,
+        draft: Sdl,
+        buffer: BlockBuffer,
+        block: Block,
+        scratch: Scratch,
+    ) -> Ready<M>
+        requires size { M.block_count medium ≡ total geometry }
+        requires on { IsTrue (M.world medium).power }
+        requires valid { AreValid geometry (lists_of lists) }
+        requires settled { AreSettled geometry (M.world medium).cells (lists_of lists) }
+        requires lawful_dds { IsLawfulDds (dds_of lists.dds) }
+        requires lawful_sdl { IsLawfulSdl (sdl_of lists.sdl) }
+        requires roomy { MOST_SPARES ≤ lists.sdl.entries.room }
+        requires draft_roomy { MOST_SPARES ≤ draft.entries.room }
+        ensures { shown_ready result ≡ shown_under geometry
+            (machine_shown M.world M.arms M.armed_cut medium) (lists_of lists) buffer }
+    {
+        Ready {
+            medium,
+            geometry,
+            lists,
+            draft,
+            buffer,
+            block,
+            scratch,
+        }
+    }
+
+    /// The same, with an empty buffer.
     fn over(
         medium: M,
         geometry: Geometry,
@@ -147,15 +171,7 @@ impl<M: MediumControl> Ready<M> {
             (machine_shown M.world M.arms M.armed_cut medium) (lists_of lists) [] }
     {
         buffer.drop_all();
-        Ready {
-            medium,
-            geometry,
-            lists,
-            draft,
-            buffer,
-            block,
-            scratch,
-        }
+        Ready::under(medium, geometry, lists, draft, buffer, block, scratch)
     }
 
     /// Formats the disc. A full format certifies the data blocks that it does not keep as defective, leaves zeros in the
@@ -213,15 +229,7 @@ impl<M: MediumControl> Ready<M> {
                 (State::NotFormatted(bare), FormatOut::TooMany { found })
             }
             FullEnd::NoRoom { mark } => {
-                let ready = Ready {
-                    medium,
-                    geometry,
-                    lists,
-                    draft,
-                    buffer,
-                    block,
-                    scratch,
-                };
+                let ready = Ready::under(medium, geometry, lists, draft, buffer, block, scratch);
                 (State::Ready(ready), FormatOut::NoUpdate { counter: mark })
             }
             FullEnd::NoCopy { counter, mark } => {
@@ -238,15 +246,7 @@ impl<M: MediumControl> Ready<M> {
                 FormatOut::Fault,
             ),
             FullEnd::NoMemory => {
-                let ready = Ready {
-                    medium,
-                    geometry,
-                    lists,
-                    draft,
-                    buffer,
-                    block,
-                    scratch,
-                };
+                let ready = Ready::under(medium, geometry, lists, draft, buffer, block, scratch);
                 (State::Ready(ready), FormatOut::NoMemory)
             }
         }

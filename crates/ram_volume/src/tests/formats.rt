@@ -316,6 +316,20 @@ fn a_mark_without_room_ends_a_format(rt: HostRuntime) -> Result<(), Fail> {
     Ok(())
 }
 
+/// A format that is refused memory does nothing, and with memory enough it is not refused. The first case is met by
+/// `rt try --test --fail-alloc`.
+#[test]
+fn a_format_without_memory_leaves_the_disc(rt: HostRuntime) -> Result<(), Fail> {
+    let alloc = rt.alloc();
+    let (state, out) = format(alloc, turn_on(alloc, written(alloc, &[])?), FULL);
+    let left = match out {
+        FormatOut::NoMemory => Content::Disc(5, 3, Some(1)),
+        _ => Content::Disc(7, 1, Some(0)),
+    };
+    assert_eq!(rt; content_of(state), left);
+    Ok(())
+}
+
 /// Lists that can be read and are not fit to be used: the structure of another geometry, one that is being formatted, and
 /// secondary lists with no room left for a logical block, and with a replacement that is no spare.
 #[test]
