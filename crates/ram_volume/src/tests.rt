@@ -1,3 +1,5 @@
+ghost use Rattle.std.specs.Prelude.{◌≡◌, vec_len};
+
 use super::*;
 use ram_bytes::Block;
 use ram_examples::{ExampleDisc, dds_text, sdl_text};
@@ -42,6 +44,15 @@ fn numbered(alloc: Global, first: u8) -> Result<Block, AllocError> {
     Ok(block)
 }
 
+/// Writes a block of the medium, if it has one of this number.
+fn write_block(medium: &mut MemMedium, block: u32, from: &Block)
+    ensures { vec_len medium.new.slots ≡ vec_len medium.old.slots }
+{
+    if block < medium.blocks() {
+        medium.write(block, from);
+    }
+}
+
 /// A disc of which each of the first 48 sectors begins with its number plus one. The homes of its first three blocks are
 /// 13, 12 in place of 14, and 15. A mount of it takes 16 uses.
 fn numbered_disc(alloc: Global) -> Result<ExampleDisc, AllocError> {
@@ -53,9 +64,7 @@ fn numbered_disc(alloc: Global) -> Result<ExampleDisc, AllocError> {
         disc.write_copy(ListKind::Sdl, area, &pair);
     }
     for (block, first) in [(13, 1), (12, 17), (14, 200), (15, 33)] {
-        if block < disc.medium.blocks() {
-            disc.medium.write(block, &numbered(alloc, first)?);
-        }
+        write_block(&mut disc.medium, block, &numbered(alloc, first)?);
     }
     Ok(disc)
 }

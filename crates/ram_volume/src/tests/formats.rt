@@ -46,9 +46,7 @@ fn written(alloc: Global, worn: &[u32]) -> Result<PoweredOff<MemMedium>, Fail> {
         mut medium,
         geometry,
     } = disc_with(alloc, [5; 4], [3; 4])?;
-    if 13 < medium.blocks() {
-        medium.write(13, &numbered(alloc, 1)?);
-    }
+    write_block(&mut medium, 13, &numbered(alloc, 1)?);
     for block in worn {
         medium.wear(*block, 3);
     }
