@@ -12,10 +12,10 @@ use Rattle.ram_replace.specs.declared.writing.Outcome.TheVariants as outcomes
 use Rattle.ram_replace.specs.declared.writing.Placed.{Placed}
 use Rattle.ram_replace.specs.declared.writing.Placed.TheVariants as places
 
-module _ {M : Type 0} (world : M → World) (reaches : M → M → ℕ → Type 0) (shape : Shape) (old new : M) (lists : Lists) (i : ℕ)
-    (bytes : List ℕ) (lists' : Lists) where
-  -- The call went to its end: the power was on and is on, and neither a cut nor a fault is counted. (This project's own, as
-  -- all here.)
+module _ {M : Type 0} (world : M → World) (reaches : M → M → ℕ → Type 0) (shape : Shape) (old new : M)
+    (lists : Lists) (i : ℕ) (bytes : List ℕ) (lists' : Lists) where
+  -- The call went to its end: the power was on and is on, and neither a cut nor a fault is counted. (This project's own,
+  -- as all here.)
   pub record HasEnded : Type 0 where
     pub was_on : IsTrue (world old).power
     pub counts : UseContinues (world old) (world new)
@@ -25,7 +25,7 @@ module _ {M : Type 0} (world : M → World) (reaches : M → M → ℕ → Type 
     pub ended : HasEnded
     pub puts : PutsBlock world reaches shape old new lists i bytes lists'
 
-  -- the home and all free spares are dead, and nothing else changed
+  -- the home and all free spares are dead, and the lists are as before
   pub record MeetsNoSpare : Type 0 where
     pub ended : HasEnded
     pub finds : FindsNoSpare world reaches shape old new lists i bytes lists'
@@ -35,8 +35,8 @@ module _ {M : Type 0} (world : M → World) (reaches : M → M → ℕ → Type 
     pub ended : HasEnded
     pub finds : FindsNoCopy world reaches shape old new lists i bytes lists' counter
 
-  -- It was stopped, for a cause that its count shows. The lists in memory are as before; those that the cells give are the
-  -- lists before or after, and the disc before or after fits under them.
+  -- It was stopped, for a cause that its count shows. The lists in memory are as before; those that the cells give are
+  -- the lists before or after, and the disc before or after fits under them.
   pub record PlacingStopped (stop : Stop) : Type 0 where
     pub was_on : IsTrue (world old).power
     pub counts : StoppedCounts (world old) (world new) stop

@@ -13,10 +13,11 @@ pub record StandsAt (free : List ℕ) (found : Found) : Type 0 where
   pub inside : found.tried < length free
   pub spare_is : found.spare ≡ slice_index free found.tried
 
-module _ {M : Type 0} (world : M → World) (reaches : M → M → ℕ → Type 0) (old new : M) (free : List ℕ) (bytes : List ℕ) where
+module _ {M : Type 0} (world : M → World) (reaches : M → M → ℕ → Type 0) (old new : M) (free bytes : List ℕ) where
   -- no cell changed but those of the free spares
   abbrev pub ChangesSparesAlone : Type 0
-  ChangesSparesAlone = (block : ℕ) → ¬ Contains free block → cell_at (world new).cells block ≡ cell_at (world old).cells block
+  ChangesSparesAlone = (block : ℕ) → ¬ Contains free block
+      → cell_at (world new).cells block ≡ cell_at (world old).cells block
 
   -- The first so many free spares were written and read back, and are dead.
   pub record HaveFailed (tried : ℕ) : Type 0 where

@@ -16,13 +16,14 @@ module _ {M : Type 0} (world : M → World) (reaches : M → M → ℕ → Type 
   -- (This project's own, as all here.)
   pub record HasUpdated (kept : Bool) : Type 0 where
     pub ended : CallEnds world reaches kinds.Sdl shape old new 8
-    pub left : MatchBool kept (Settled (IsText kinds.Sdl) (λ area. list_block shape area kinds.Sdl) (world new).cells (SdlValue value))
+    pub left : MatchBool kept
+        (Settled (IsText kinds.Sdl) (λ area. list_block shape area kinds.Sdl) (world new).cells (SdlValue value))
         (LeavesNone world reaches kinds.Sdl shape old new)
 
   -- it was stopped
   abbrev pub StopsUpdating : Stop → Type 0
-  StopsUpdating stops.Cut =
-      StoppedWithin world reaches kinds.Sdl shape old new 8 stops.Cut × MayLeaveCopies world reaches kinds.Sdl shape old new (SdlValue value)
+  StopsUpdating stops.Cut = StoppedWithin world reaches kinds.Sdl shape old new 8 stops.Cut
+      × MayLeaveCopies world reaches kinds.Sdl shape old new (SdlValue value)
   StopsUpdating stops.Off = IsOff (world old) (world new)
-  StopsUpdating stops.Fault =
-      StoppedWithin world reaches kinds.Sdl shape old new 8 stops.Fault × MayLeaveCopies world reaches kinds.Sdl shape old new (SdlValue value)
+  StopsUpdating stops.Fault = StoppedWithin world reaches kinds.Sdl shape old new 8 stops.Fault
+      × MayLeaveCopies world reaches kinds.Sdl shape old new (SdlValue value)
