@@ -141,6 +141,7 @@ module _ {M : Type 0} (world : M → World) (block_count : M → ℕ) (reaches :
         makes = λ disc disc' differs fits. fits_written shape lists valid i inside (world old).cells (world new).cells (moves new (home_alone new put.others)) bytes disc disc' differs fits
             (left_agrees (cell_at (world new).cells (home_of shape lists i)) bytes put.left);
       };
+      has_copy = λ known. tt;
     }
 
     -- ---- the home is dead
@@ -325,8 +326,8 @@ module _ {M : Type 0} (world : M → World) (block_count : M → ℕ) (reaches :
 
           -- the list was written
           list_written : lists.sdl.counter < LAST_COUNTER → Continues world reaches here new 8 → Settled IsSdlText (sdl_block shape) (world new).cells moved_sdl
-              → PlacesBlock world reaches shape old new lists i bytes moved
-          list_written room continues settled_sdl = record {
+              → ((world here).known ≡ true → ¬ AllLost (sdl_block shape) (world new).cells) → PlacesBlock world reaches shape old new lists i bytes moved
+          list_written room continues settled_sdl not_lost = record {
             ended = ended_by new (2 + (2 * found.tried + 2) + 8) moved goes;
             puts = record {
               placing = ToSpare found.tried;
@@ -340,6 +341,7 @@ module _ {M : Type 0} (world : M → World) (block_count : M → ℕ) (reaches :
               makes = λ disc disc' differs fits. fits_moved shape lists valid i inside (world old).cells (world new).cells all_only bytes disc disc' differs fits
                   (tried_of (free_spares shape lists) found.tried) found.spare next spare_agrees;
             };
+            has_copy = λ known. not_lost (has.as_known ∙ lost.as_known ∙ known);
           }
             where
               goes : Continues world reaches old new (2 + (2 * found.tried + 2) + 8)
@@ -358,4 +360,4 @@ module _ {M : Type 0} (world : M → World) (block_count : M → ℕ) (reaches :
 
         pub spare_put : (new : M) → lists.sdl.counter < LAST_COUNTER → HasUpdated world reaches shape here new moved_sdl true
             → PlacesBlock world reaches shape old new lists i bytes moved
-        spare_put new room did = list_written new did.ended.alone room did.ended.continues (sdl_settled shape (world new).cells moved_sdl did.left)
+        spare_put new room did = list_written new did.ended.alone room did.ended.continues (sdl_settled shape (world new).cells moved_sdl did.left.settled) did.left.not_lost
