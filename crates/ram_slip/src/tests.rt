@@ -45,6 +45,17 @@ fn number_at(geometry: &Geometry, dds: &DdsPdl, ssa: u32, block: u32) -> Option<
     None
 }
 
+/// The spare whose number this spare has, where what it asks for holds.
+fn spare_again(geometry: &Geometry, dds: &DdsPdl, ssa: u32, block: u32) -> Option<u32> {
+    if !(is_valid_pdl(geometry, dds) && is_valid_ssa(geometry, ssa)) {
+        return None;
+    }
+    match spare_number(geometry, dds, ssa, block) {
+        Some(number) => Some(spare_of(geometry, dds, ssa, number)),
+        None => None,
+    }
+}
+
 #[test]
 fn logical_blocks_have_blocks(rt: HostRuntime) -> Result<(), Fail> {
     let cases: [(u32, &[u32], u32, u32); 16] = [
@@ -133,6 +144,8 @@ fn spares_have_numbers(rt: HostRuntime) -> Result<(), Fail> {
     ] {
         let found = number_at(&geometry, &dds, 2, block);
         assert_eq!(rt; found, number, "block {block}");
+        let again = spare_again(&geometry, &dds, 2, block);
+        assert_eq!(rt; again, number.map(|_| block), "block {block} again");
     }
     Ok(())
 }

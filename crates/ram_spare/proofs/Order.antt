@@ -1,11 +1,10 @@
 -- The order in which spares are looked through: their numbers, that none comes twice, and the walk through the free ones.
-use Rattle.std.proofs.Common.{◌≡◌, ℕ, zero, suc, ◌+◌, ◌-◌, ◌<◌, ◌≤◌, ◌⊎◌, inl, inr, ⊎_elim, Bool, true, false, not, cond, eqb, List, [], ◌∷◌, ◌++◌, reverse, length, get_or, take, drop, Option, Some, None, IfSome, slice_get, slice_index, refl, sym, ap, ◌∙◌, subst, le_antisymm, arith}
+use Rattle.std.proofs.Common.{◌≡◌, ℕ, zero, suc, ◌+◌, ◌-◌, ◌<◌, ◌≤◌, ◌⊎◌, inl, inr, ⊎_elim, Bool, true, false, not, cond, eqb, List, [], ◌∷◌, reverse, length, get_or, drop, Option, Some, None, IfSome, slice_get, slice_index, refl, sym, ap, ◌∙◌, subst, le_antisymm, arith}
 use Rattle.std.specs.List.{Contains, IsDistinct, filter, find, after_first, position_or_len}
-use Rattle.std.proofs.lemmas.Bool.{cases_Bool, cases_lt, cond-true, cond-false, eqb-true, eq-eqb, ne_eqb}
+use Rattle.std.proofs.lemmas.Bool.{cases_Bool, cases_lt, cond-true, cond-false, eq-eqb, ne_eqb}
 use Rattle.std.proofs.lemmas.List.{get_or_append_left, get_or-append_right, get_or-reverse, get_or_default, length-take, length-drop, length-append, length-reverse}
 use Rattle.std.proofs.lemmas.List.Sums.{position_or_len_is}
 use Rattle.std.proofs.lemmas.Map.Keys.{IsDistinct-from_apart, IsDistinct-tail}
-use Rattle.std.proofs.lemmas.Grind.{take_at_read}
 use Rattle.std.proofs.lemmas.Option.{slice_get-get_or, slice_get_within, get_or_from_slice_get}
 use Rattle.model_geometry.specs.Geometry.{Shape}
 use Rattle.model_geometry.proofs.DataBlocks.{Contains-slice_get}
@@ -15,6 +14,7 @@ use Rattle.model_places.proofs.Listed.{Contains-from_filter}
 use Rattle.model_places.proofs.Homes.{first_is_alone}
 use Rattle.model_places.proofs.Pools.{pools_are_all, length-spares}
 use Rattle.ram_slip.proofs.Spares.{spare_differs}
+use Rattle.model_volume.specs.Moves.{IsNextSpare, tried_of}
 use Rattle.ram_spare.specs.Spares.{next_spare, spare_before}
 
 -- ---- what a filter keeps, one after another
@@ -69,19 +69,6 @@ find_next p (x ∷ xs) apart (suc k) last at =
     ap (find p) (after_later (λ b. eqb b last) x xs (kept_differs p x xs apart (suc k) last at')) ∙ find_next p xs (IsDistinct-tail eqb x xs apart) (suc k) last at' ∙ sym (ap (λ ys. slice_get ys (suc (suc k))) kept))
     (cases_Bool (p x))
 
--- with the number at a place, the first so many are one more
-pub record HasMore (xs : List ℕ) (k x : ℕ) : Type 0 where
-  pub within : k < length xs
-  pub first_are : take (k + 1) xs ≡ take k xs ++ x ∷ []
-
-pub one_more : (xs : List ℕ) (k x : ℕ) → slice_get xs k ≡ Some x → HasMore xs k x
-one_more xs k x at =
-    let inside = slice_get_within xs k x at in
-    record {
-      within = inside;
-      first_are = (take_at_read xs k 0 inside).1 ∙ ap (λ y. take k xs ++ y ∷ []) (get_or_from_slice_get xs k x 0 at);
-    }
-
 -- where there is none at a place, the list has ended
 pub past_end : (xs : List ℕ) (k : ℕ) → slice_get xs k ≡ None → length xs ≤ k
 past_end xs k none =
@@ -93,10 +80,10 @@ past_end xs k none =
 -- ---- the number of each turn
 
 module _ (shape : Shape) (lists : Lists) (valid : IsValidPdl shape lists.dds) (area : IsValidSsa shape lists.sdl.ssa) where
-  first_many : length (primary_spares shape lists.dds) ≡ primary_count shape lists.dds
+  pub first_many : length (primary_spares shape lists.dds) ≡ primary_count shape lists.dds
   first_many = let all = pools_are_all shape lists valid area in omega (arith, length-take (primary_count shape lists.dds) (unslipped shape lists.dds), all)
 
-  last_many : length (supplementary_spares shape lists) ≡ lists.sdl.ssa
+  pub last_many : length (supplementary_spares shape lists) ≡ lists.sdl.ssa
   last_many = let all = pools_are_all shape lists valid area in omega (arith, length-drop (length (unslipped shape lists.dds) - lists.sdl.ssa) (unslipped shape lists.dds), all)
 
   pub length-spares_down : length (spares_down shape lists) ≡ primary_count shape lists.dds + lists.sdl.ssa
@@ -210,13 +197,26 @@ module _ (shape : Shape) (lists : Lists) (valid : AreValid shape lists) where
   pub given_is : (k spare : ℕ) → k ≤ length (free_spares shape lists) → next_spare shape lists (spare_before shape lists k) ≡ Some spare → slice_get (free_spares shape lists) k ≡ Some spare
   given_is k spare within is = sym (next_is k within) ∙ is
 
-  -- so with it the first so many are one more,
-  pub given_more : (k spare : ℕ) → k ≤ length (free_spares shape lists) → next_spare shape lists (spare_before shape lists k) ≡ Some spare → HasMore (free_spares shape lists) k spare
-  given_more k spare within is = one_more (free_spares shape lists) k spare (given_is k spare within is)
+  -- which is the next one after the first k were tried,
+  pub given_next : (k spare : ℕ) → k ≤ length (free_spares shape lists) → next_spare shape lists (spare_before shape lists k) ≡ Some spare → IsNextSpare shape lists (tried_of (free_spares shape lists) k) spare
+  given_next k spare within is =
+      let at = given_is k spare within is in
+      record {
+        tried = k;
+        failed_are = refl;
+        inside = slice_get_within (free_spares shape lists) k spare at;
+        spare_is = sym (get_or_from_slice_get (free_spares shape lists) k spare 0 at);
+      }
 
   -- and where nothing is given, the first k are all.
   pub none_given : (k : ℕ) → k ≤ length (free_spares shape lists) → next_spare shape lists (spare_before shape lists k) ≡ None → k ≡ length (free_spares shape lists)
   none_given k within is = le_antisymm within (past_end (free_spares shape lists) k (sym (next_is k within) ∙ is))
+
+-- with the one at a place, those that were tried are one more
+pub tried_more : (free : List ℕ) (k spare : ℕ) → slice_get free k ≡ Some spare → tried_of free (k + 1) ≡ spare ∷ tried_of free k
+tried_more free k spare at =
+    let next : k + 1 ≡ suc k = omega arith in
+    ap (tried_of free) next ∙ ap (λ x. x ∷ tried_of free k) (get_or_from_slice_get free k spare 0 at)
 
 -- the one before the next place is the one at this place
 pub before_more : (shape : Shape) (lists : Lists) (k spare : ℕ) → slice_get (free_spares shape lists) k ≡ Some spare → spare_before shape lists (k + 1) ≡ Some spare

@@ -2,9 +2,14 @@
 //! built.
 #![tactic(auto)]
 
+mod count;
 mod laws;
 mod spare;
 mod turns;
 
+pub use count::{SpareCounts, counts};
 pub use laws::next_free_walks_through_the_free_spares;
 pub use spare::next_free;
+
+#[cfg(test)]
+mod tests;

@@ -51,7 +51,8 @@ fn is_replacement(entries: &[SdlEntry], block: u32) -> bool
 fn is_unnamed(sdl: &Sdl, block: u32) -> bool
     requires { IsStrictlyIncreasing (defectives sdl.now.entries.list) }
     ensures { result
-        ≡ not (is_listed (defectives sdl.now.entries.list) block || is_listed (replacements sdl.now.entries.list) block) }
+        ≡ not (is_listed (defectives sdl.now.entries.list) block
+        || is_listed (replacements sdl.now.entries.list) block) }
 {
     !(is_defective(sdl, block) || is_replacement(sdl.entries.as_slice(), block))
 }

@@ -1,4 +1,4 @@
-use Rattle.std.proofs.Common.{◌+◌, sym, ap, ◌∙◌, arith}
+use Rattle.std.proofs.Common.{arith}
 use Rattle.ram_spare.specs.Spares.{both_lists}
 use Rattle.ram_spare.proofs.Order.{length-spares_down}
 use Rattle.ram_spare.proofs.turns.spare_count.Goals as goal

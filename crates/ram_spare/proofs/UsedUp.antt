@@ -1,0 +1,277 @@
+-- How many spares are free: those of an area less those that the entries use up.
+use Rattle.std.proofs.Common.{◌≡◌, ℕ, zero, suc, ◌+◌, ◌-◌, ◌<◌, ◌≤◌, ◌⊎◌, inl, inr, ⊎_elim, Bool, true, false, not, ◌&&◌, cond, eqb, List, [], ◌∷◌, map, length, get_or, take, drop, take_all, Option, Some, None, IsNone, unwrap_or, count_by, refl, sym, ap, ◌∙◌, subst, arith}
+use Rattle.std.specs.List.{All, Contains, IsDistinct, filter, cons_option}
+use Rattle.std.specs.List.Sorted.{IsStrictlyIncreasing}
+use Rattle.std.proofs.lemmas.Bool.{cases_Bool, cond-true, cond-false, true≢false, false_from_ne_true}
+use Rattle.std.proofs.lemmas.Cmp.{nat_eq_equiv}
+use Rattle.std.proofs.lemmas.List.{length-map, get_or-map, get_or-take, get_or-drop, length-take, length-drop}
+use Rattle.std.proofs.lemmas.List.Elements.{All-contains, Contains-append_left, Contains-append_right}
+use Rattle.std.proofs.lemmas.List.Filters.{length-filter_both}
+use Rattle.std.proofs.lemmas.List.Sums.{length-filter, sum_by-cons, sum_by-take-le, count_by_more_yes, count_by_more_no}
+use Rattle.std.proofs.lemmas.Map.Keys.{IsDistinct-cons, IsDistinct-tail}
+use Rattle.std.proofs.lemmas.Map.Made.{length-from_same_keys}
+use Rattle.model_geometry.specs.Geometry.{Shape}
+use Rattle.model_lists.specs.declared.sdl.SdlEntry.{SdlEntry}
+use Rattle.model_lists.specs.Values.{defectives}
+use Rattle.model_places.specs.Places.{Lists, is_listed, is_free, unslipped, replacements, primary_count, primary_spares, supplementary_spares, spares, free_primary_count, free_supplementary_count}
+use Rattle.model_places.specs.Valid.{IsValidSdl, AreValid}
+use Rattle.model_places.proofs.Listed.{Decides-is_listed, is_listed-filter, is_member_is, Contains-from_filter, IsDistinct-from_increasing}
+use Rattle.model_places.proofs.Homes.{Contains-first, Contains-later, Contains-cons_option, Contains-cons_option_first, first_is_alone, IsDistinct-cons_option, alone_in_cons_option, replacement_cases}
+use Rattle.model_places.proofs.Entries.{used, differs_from_all}
+use Rattle.model_places.proofs.Free.{free_from_unnamed, unnamed_from_free}
+use Rattle.model_places.proofs.Pools.{unslipped_rise}
+use Rattle.ram_slip.specs.declared.place.Place.{Place}
+use Rattle.ram_slip.specs.declared.place.Place.TheVariants as places
+use Rattle.ram_slip.specs.Place.{IsAtPlace}
+use Rattle.ram_slip.proofs.OnePlace.{one_place}
+use Rattle.ram_spare.proofs.Order.{first_many, last_many}
+
+-- ---- numbers that differ
+
+pub IsDistinct-filter : (p : ℕ → Bool) (xs : List ℕ) → IsDistinct eqb xs → IsDistinct eqb (filter p xs)
+IsDistinct-filter p [] apart = apart
+IsDistinct-filter p (x ∷ xs) apart =
+    let others = IsDistinct-filter p xs (IsDistinct-tail eqb x xs apart) in
+    ⊎_elim
+    (λ t. subst (IsDistinct eqb) (sym (cond-true (p x) (x ∷ filter p xs) (filter p xs) t))
+    (IsDistinct-cons eqb x (filter p xs) (differs_from_all x (filter p xs) (λ has. first_is_alone x xs apart (Contains-from_filter p xs x has).1)) others))
+    (λ f. subst (IsDistinct eqb) (sym (cond-false (p x) (x ∷ filter p xs) (filter p xs) f)) others)
+    (cases_Bool (p x))
+
+pub rising_front : (n : ℕ) (xs : List ℕ) → IsStrictlyIncreasing xs → IsStrictlyIncreasing (take n xs)
+rising_front n xs rise k within =
+    let long = length-take n xs in
+    let up = rise k (omega (arith, within, long)) in
+    omega (arith, up, get_or-take n xs k 0 (omega (arith, within, long)), get_or-take n xs (k + 1) 0 (omega (arith, within, long)))
+
+pub rising_rest : (n : ℕ) (xs : List ℕ) → IsStrictlyIncreasing xs → IsStrictlyIncreasing (drop n xs)
+rising_rest n xs rise k within =
+    let long = length-drop n xs in
+    let next : n + (k + 1) ≡ n + k + 1 = omega arith in
+    let up = rise (n + k) (omega (arith, within, long)) in
+    omega (arith, up, get_or-drop n xs k 0, get_or-drop n xs (k + 1) 0, ap (λ m. get_or xs m 0) next)
+
+-- ---- what entries name, and what they use up
+
+-- what an entry uses up is named
+used_named : (entries : List SdlEntry) (x : ℕ) → Contains (map used entries) x → Contains (replacements entries) x ⊎ Contains (defectives entries) x
+used_named [] x (k, within, is) = absurd (omega arith)
+used_named (e ∷ es) x (zero, within, is) =
+    ⊎_elim
+    (λ some.
+    let same : used e ≡ some.0 = ap (λ o. unwrap_or o e.defective) some.1 in
+    inl (Contains-cons_option_first e.replacement (replacements es) x (some.1 ∙ ap Some (sym same ∙ is))))
+    (λ none.
+    let same : used e ≡ e.defective = ap (λ o. unwrap_or o e.defective) none in
+    inr (0, omega arith, sym same ∙ is))
+    (replacement_cases e.replacement)
+used_named (e ∷ es) x (suc k, within, is) =
+    ⊎_elim
+    (λ l. inl (Contains-cons_option e.replacement (replacements es) x l))
+    (λ r. inr (Contains-later e.defective (defectives es) x r))
+    (used_named es x (k, omega arith, is))
+
+-- a replacement is used up
+in_cons_option : (o : Option ℕ) (xs : List ℕ) (x : ℕ) → Contains (cons_option o xs) x → (o ≡ Some x) ⊎ Contains xs x
+in_cons_option None xs x has = inr has
+in_cons_option (Some y) xs x (zero, within, is) = inl (ap Some is)
+in_cons_option (Some y) xs x (suc k, within, is) = inr (k, omega arith, is)
+
+replacement_used : (entries : List SdlEntry) (x : ℕ) → Contains (replacements entries) x → Contains (map used entries) x
+replacement_used [] x (k, within, is) = absurd (omega arith)
+replacement_used (e ∷ es) x has =
+    ⊎_elim
+    (λ here. (0, omega arith, ap (λ o. unwrap_or o e.defective) here))
+    (λ later. Contains-later (used e) (map used es) x (replacement_used es x later))
+    (in_cons_option e.replacement (replacements es) x has)
+
+-- and so is the block of an entry without one
+retired_used : (entries : List SdlEntry) (x : ℕ) → All (λ (e : SdlEntry). e.defective ≡ x → IsNone e.replacement) entries → Contains (defectives entries) x → Contains (map used entries) x
+retired_used entries x alone (k, within, is) =
+    let d : SdlEntry = record { defective = x; replacement = None } in
+    let e : SdlEntry = get_or entries k d in
+    let below : k < length entries = omega (arith, within, length-map entries (λ (f : SdlEntry). f.defective)) in
+    let block : e.defective ≡ x = sym (get_or-map (λ (f : SdlEntry). f.defective) entries k d x below) ∙ is in
+    let none : IsNone e.replacement = alone k d below block in
+    let same : used e ≡ e.defective = by_none e.replacement e.defective none in
+    (k, omega (arith, below, length-map entries used), get_or-map used entries k d x below ∙ same ∙ block)
+  where
+    by_none : (o : Option ℕ) (b : ℕ) → IsNone o → unwrap_or o b ≡ b
+    by_none None b none = refl
+    by_none (Some r) b none = absurd (let f = none in cc)
+
+-- what the first entry uses up no other does
+used_once : (e : SdlEntry) (es : List SdlEntry) → IsDistinct eqb (replacements (e ∷ es)) → IsDistinct eqb (defectives (e ∷ es))
+    → ((x : ℕ) → Contains (replacements (e ∷ es)) x → ¬ Contains (defectives (e ∷ es)) x) → ¬ Contains (map used es) (used e)
+used_once e es apart apart' sound has =
+    ⊎_elim
+    (λ some.
+    let same : used e ≡ some.0 = ap (λ o. unwrap_or o e.defective) some.1 in
+    ⊎_elim
+    (λ l. alone_in_cons_option e.replacement (replacements es) some.0 some.1 apart (subst (Contains (replacements es)) same l))
+    (λ r. sound (used e) (Contains-cons_option_first e.replacement (replacements es) (used e) (some.1 ∙ ap Some (sym same))) (Contains-later e.defective (defectives es) (used e) r))
+    (used_named es (used e) has))
+    (λ none.
+    let same : used e ≡ e.defective = ap (λ o. unwrap_or o e.defective) none in
+    ⊎_elim
+    (λ l. sound (used e) (Contains-cons_option e.replacement (replacements es) (used e) l) (subst (Contains (defectives (e ∷ es))) (sym same) (Contains-first e.defective (defectives es))))
+    (λ r. first_is_alone e.defective (defectives es) apart' (subst (Contains (defectives es)) same r))
+    (used_named es (used e) has))
+    (replacement_cases e.replacement)
+
+-- no two entries use up one spare
+used_differ : (entries : List SdlEntry) → IsDistinct eqb (replacements entries) → IsDistinct eqb (defectives entries)
+    → ((x : ℕ) → Contains (replacements entries) x → ¬ Contains (defectives entries) x) → IsDistinct eqb (map used entries)
+used_differ [] apart apart' sound = apart'
+used_differ (e ∷ es) apart apart' sound =
+    IsDistinct-cons eqb (used e) (map used es)
+    (differs_from_all (used e) (map used es) (used_once e es apart apart' sound))
+    (used_differ es (IsDistinct-cons_option e.replacement (replacements es) apart) (IsDistinct-tail eqb e.defective (defectives es) apart')
+    (λ x h h'. sound x (Contains-cons_option e.replacement (replacements es) x h) (Contains-later e.defective (defectives es) x h')))
+
+both_ways : (a b : Bool) → (a && b) ≡ (b && a)
+both_ways true true = refl
+both_ways true false = refl
+both_ways false true = refl
+both_ways false false = refl
+
+module _ (shape : Shape) (lists : Lists) (valid : IsValidSdl shape lists) where
+  -- A spare is not free just where an entry uses it up.
+  named_is_used : (q : ℕ) → Contains (spares shape lists) q → not (is_free lists q) ≡ is_listed (map used lists.sdl.entries) q
+  named_is_used q spare =
+      ⊎_elim
+      (λ t. ⊎_elim
+      (λ u. let parts = unnamed_from_free lists q t in absurd (⊎_elim parts.1 parts.0 (used_named lists.sdl.entries q ((Decides-is_listed (map used lists.sdl.entries) q).0 u))))
+      (λ n. ap not t ∙ sym n)
+      (cases_Bool (is_listed (map used lists.sdl.entries) q)))
+      (λ f. ⊎_elim
+      (λ u. ap not f ∙ sym u)
+      (λ n. absurd (true≢false (sym (free_from_unnamed lists q
+      (λ d. true≢false (sym ((Decides-is_listed (map used lists.sdl.entries) q).1 (retired_used lists.sdl.entries q (λ k e below is. valid.spares_retired k e below (subst (Contains (spares shape lists)) (sym is) spare)) d)) ∙ n))
+      (λ r. true≢false (sym ((Decides-is_listed (map used lists.sdl.entries) q).1 (replacement_used lists.sdl.entries q r)) ∙ n))) ∙ f)))
+      (cases_Bool (is_listed (map used lists.sdl.entries) q)))
+      (cases_Bool (is_free lists q))
+
+  used_apart : IsDistinct eqb (map used lists.sdl.entries)
+  used_apart =
+      used_differ lists.sdl.entries valid.different (IsDistinct-from_increasing (defectives lists.sdl.entries) valid.rising)
+      (λ x h. All-contains (λ b. ¬ Contains (defectives lists.sdl.entries) b) (replacements lists.sdl.entries) x valid.sound h)
+
+  -- The free ones of an area, and the entries that use one up, are as many as the area has.
+  pub area_is : (some : List ℕ) → IsDistinct eqb some → ((q : ℕ) → Contains some q → Contains (spares shape lists) q)
+      → count_by (is_free lists) some + count_by (λ e. is_listed some (used e)) lists.sdl.entries ≡ length some
+  area_is some apart within =
+      let named : ℕ → Bool = λ b. not (is_free lists b) in
+      let uses = map used lists.sdl.entries in
+      let same : length (filter named some) ≡ length (filter (is_listed some) uses) =
+      length-from_same_keys nat_eq_equiv (filter named some) (filter (is_listed some) uses) (IsDistinct-filter named some apart) (IsDistinct-filter (is_listed some) uses used_apart)
+      (λ q. is_member_is (filter named some) q ∙ is_listed-filter named some q ∙ both q ∙ sym (is_listed-filter (is_listed some) uses q) ∙ sym (is_member_is (filter (is_listed some) uses) q)) in
+      omega (
+        arith,
+        same,
+        length-filter_both (is_free lists) named (λ _. refl) some,
+        length-filter (is_free lists) some,
+        length-filter (is_listed some) uses,
+        count_by-map (is_listed some) lists.sdl.entries,
+      )
+    where
+      count_by-map : (p : ℕ → Bool) (es : List SdlEntry) → count_by p (map used es) ≡ count_by (λ e. p (used e)) es
+      count_by-map p [] = refl
+      count_by-map p (e ∷ es) =
+          sum_by-cons (λ (x : ℕ). cond (p x) 1 0) (used e) (map used es)
+          ∙ ap (λ n. cond (p (used e)) 1 0 + n) (count_by-map p es)
+          ∙ sym (sum_by-cons (λ (f : SdlEntry). cond (p (used f)) 1 0) e es)
+
+      both : (q : ℕ) → (not (is_free lists q) && is_listed some q) ≡ (is_listed some q && is_listed (map used lists.sdl.entries) q)
+      both q =
+          ⊎_elim
+          (λ t. ap (λ b. b && is_listed some q) (named_is_used q (within q ((Decides-is_listed some q).0 t))) ∙ both_ways (is_listed (map used lists.sdl.entries) q) (is_listed some q))
+          (λ f. both_ways (not (is_free lists q)) (is_listed some q) ∙ ap (λ b. b && not (is_free lists q)) f ∙ ap (λ b. b && is_listed (map used lists.sdl.entries) q) (sym f))
+          (cases_Bool (is_listed some q))
+
+-- ---- one pass over the entries
+
+-- how many of these entries use up a spare of the area
+abbrev pub uses : List ℕ → List SdlEntry → ℕ
+uses some entries = count_by (λ (e : SdlEntry). is_listed some (used e)) entries
+
+-- So many spares of each area are left by the first k entries.
+pub record AreLeft (shape : Shape) (lists : Lists) (k primary supplementary : ℕ) : Type 0 where
+  pub primary_are : primary + uses (primary_spares shape lists.dds) (take k lists.sdl.entries) ≡ length (primary_spares shape lists.dds)
+  pub supplementary_are : supplementary + uses (supplementary_spares shape lists) (take k lists.sdl.entries) ≡ length (supplementary_spares shape lists)
+
+-- what one more entry leaves, by what the spare is that it uses up
+abbrev pub LeavesAt : Shape → Lists → ℕ → ℕ → ℕ → Place → Type 0
+LeavesAt shape lists k primary supplementary places.Primary = (1 ≤ primary) × AreLeft shape lists k (primary - 1) supplementary
+LeavesAt shape lists k primary supplementary places.Supplementary = (1 ≤ supplementary) × AreLeft shape lists k primary (supplementary - 1)
+LeavesAt shape lists k primary supplementary (places.Logical i) = AreLeft shape lists k primary supplementary
+LeavesAt shape lists k primary supplementary places.Slipped = AreLeft shape lists k primary supplementary
+LeavesAt shape lists k primary supplementary places.Outside = AreLeft shape lists k primary supplementary
+
+module _ (some : List ℕ) (entries : List SdlEntry) (k left x : ℕ) (d : SdlEntry) (below : k < length entries) (is : x ≡ used (get_or entries k d)) (before : left + uses some (take k entries) ≡ length some) where
+  test_is : is_listed some (used (get_or entries k d)) ≡ is_listed some x
+  test_is = ap (is_listed some) (sym is)
+
+  one_less : uses some entries ≤ length some → Contains some x → (1 ≤ left) × (left - 1 + uses some (take (k + 1) entries) ≡ length some)
+  one_less few has =
+      let more = count_by_more_yes (λ (e : SdlEntry). is_listed some (used e)) entries k d below (test_is ∙ (Decides-is_listed some x).1 has) in
+      let within = sum_by-take-le (λ (e : SdlEntry). cond (is_listed some (used e)) 1 0) entries (k + 1) in
+      let least : 1 ≤ left = omega (arith, before, more, within, few) in
+      (least, omega (arith, before, more, least))
+
+  as_many : ¬ Contains some x → left + uses some (take (k + 1) entries) ≡ length some
+  as_many none =
+      let same = count_by_more_no (λ (e : SdlEntry). is_listed some (used e)) entries k d below (test_is ∙ false_from_ne_true (is_listed some x) (λ t. none ((Decides-is_listed some x).0 t))) in
+      omega (arith, before, same)
+
+module _ (shape : Shape) (lists : Lists) (valid : AreValid shape lists) where
+  primary_area : count_by (is_free lists) (primary_spares shape lists.dds) + uses (primary_spares shape lists.dds) lists.sdl.entries ≡ length (primary_spares shape lists.dds)
+  primary_area =
+      area_is shape lists valid.together.secondary (primary_spares shape lists.dds)
+      (IsDistinct-from_increasing (primary_spares shape lists.dds) (rising_front (primary_count shape lists.dds) (unslipped shape lists.dds) (unslipped_rise shape lists.dds)))
+      (λ q has. Contains-append_left (primary_spares shape lists.dds) (supplementary_spares shape lists) q has)
+
+  supplementary_area : count_by (is_free lists) (supplementary_spares shape lists) + uses (supplementary_spares shape lists) lists.sdl.entries ≡ length (supplementary_spares shape lists)
+  supplementary_area =
+      area_is shape lists valid.together.secondary (supplementary_spares shape lists)
+      (IsDistinct-from_increasing (supplementary_spares shape lists) (rising_rest (length (unslipped shape lists.dds) - lists.sdl.ssa) (unslipped shape lists.dds) (unslipped_rise shape lists.dds)))
+      (λ q has. Contains-append_right (primary_spares shape lists.dds) (supplementary_spares shape lists) q has)
+
+  -- before the first entry
+  pub left_first : (primary : ℕ) → primary ≡ primary_count shape lists.dds → AreLeft shape lists 0 primary lists.sdl.ssa
+  left_first primary is = record {
+    primary_are = omega (arith, is, first_many shape lists valid.primary valid.together.secondary.area);
+    supplementary_are = omega (arith, last_many shape lists valid.primary valid.together.secondary.area);
+  }
+
+  -- after all of them
+  pub left_last : (k primary supplementary : ℕ) → length lists.sdl.entries ≤ k → AreLeft shape lists k primary supplementary
+      → (primary ≡ free_primary_count shape lists) × (supplementary ≡ free_supplementary_count shape lists)
+  left_last k primary supplementary past left =
+      let all = take_all k lists.sdl.entries past in (
+        omega (arith, primary_area, left.primary_are, ap (uses (primary_spares shape lists.dds)) all),
+        omega (arith, supplementary_area, left.supplementary_are, ap (uses (supplementary_spares shape lists)) all),
+      )
+
+  module _ (k primary supplementary x : ℕ) (d : SdlEntry) (below : k < length lists.sdl.entries) (is : x ≡ used (get_or lists.sdl.entries k d)) (before : AreLeft shape lists k primary supplementary) where
+    not_first : (place : Place) → IsAtPlace shape lists.dds lists.sdl.ssa x place → (place ≡ places.Primary → ⊥) → primary + uses (primary_spares shape lists.dds) (take (k + 1) lists.sdl.entries) ≡ length (primary_spares shape lists.dds)
+    not_first place at other =
+        as_many (primary_spares shape lists.dds) lists.sdl.entries k primary x d below is before.primary_are
+        (λ has. other (one_place shape lists.dds lists.sdl.ssa x valid.primary valid.together.secondary.area place places.Primary at has))
+
+    not_last : (place : Place) → IsAtPlace shape lists.dds lists.sdl.ssa x place → (place ≡ places.Supplementary → ⊥) → supplementary + uses (supplementary_spares shape lists) (take (k + 1) lists.sdl.entries) ≡ length (supplementary_spares shape lists)
+    not_last place at other =
+        as_many (supplementary_spares shape lists) lists.sdl.entries k supplementary x d below is before.supplementary_are
+        (λ has. other (one_place shape lists.dds lists.sdl.ssa x valid.primary valid.together.secondary.area place places.Supplementary at has))
+
+    -- one more entry
+    pub left_more : (place : Place) → IsAtPlace shape lists.dds lists.sdl.ssa x place → LeavesAt shape lists (k + 1) primary supplementary place
+    left_more places.Primary at =
+        let less = one_less (primary_spares shape lists.dds) lists.sdl.entries k primary x d below is before.primary_are (omega (arith, primary_area)) at in
+        (less.0, record { primary_are = less.1; supplementary_are = not_last places.Primary at (λ e. absurd cc) })
+    left_more places.Supplementary at =
+        let less = one_less (supplementary_spares shape lists) lists.sdl.entries k supplementary x d below is before.supplementary_are (omega (arith, supplementary_area)) at in
+        (less.0, record { primary_are = not_first places.Supplementary at (λ e. absurd cc); supplementary_are = less.1 })
+    left_more (places.Logical i) at = record { primary_are = not_first (places.Logical i) at (λ e. absurd cc); supplementary_are = not_last (places.Logical i) at (λ e. absurd cc) }
+    left_more places.Slipped at = record { primary_are = not_first places.Slipped at (λ e. absurd cc); supplementary_are = not_last places.Slipped at (λ e. absurd cc) }
+    left_more places.Outside at = record { primary_are = not_first places.Outside at (λ e. absurd cc); supplementary_are = not_last places.Outside at (λ e. absurd cc) }
