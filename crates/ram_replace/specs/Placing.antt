@@ -45,8 +45,8 @@ module _ {M : Type 0} (world : M → World) (reaches : M → M → ℕ → Type 
     pub ended : HasEnded
     pub finds : FindsNoCopy world reaches shape old new lists i bytes lists' counter
 
-  -- It was stopped, for a cause that its count shows. The lists in memory are as before; those that the cells give are
-  -- the lists before or after, and the disc before or after fits under them.
+  -- The write was stopped, for a cause that its count shows. The lists in memory are as before; those that the cells give
+  -- are the lists before or after, and the disc before or after fits under them.
   pub record PlacingStopped (stop : Stop) : Type 0 where
     pub was_on : IsTrue (world old).power
     pub counts : StoppedCounts (world old) (world new) stop

@@ -22,7 +22,7 @@ module _ {M : Type 0} (world : M → World) (reaches : M → M → ℕ → Type 
     pub ended : CallEnds world reaches kinds.Sdl shape old new 8
     pub left : MatchBool kept KeepsCopies (LeavesNone world reaches kinds.Sdl shape old new)
 
-  -- it was stopped
+  -- the update was stopped
   abbrev pub StopsUpdating : Stop → Type 0
   StopsUpdating stops.Cut = StoppedWithin world reaches kinds.Sdl shape old new 8 stops.Cut
       × MayLeaveCopies world reaches kinds.Sdl shape old new (SdlValue value)
