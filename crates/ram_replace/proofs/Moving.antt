@@ -1,20 +1,19 @@
 -- How the secondary list of a move is made, entry after entry.
-use Rattle.std.specs.Prelude.{◌≡◌, ◌≢◌, ℕ, zero, suc, ◌+◌, ◌≤◌, ◌<◌, ◌^◌, ◌⊎◌, nat_lt, Option, Some, None, IfSome, List, [], ◌∷◌, length, slice_index}
+use Rattle.std.specs.Prelude.{◌≡◌, ◌≢◌, ℕ, suc, ◌+◌, ◌≤◌, ◌<◌, ◌^◌, nat_lt, Option, Some, None, List, [], ◌∷◌, length, slice_index}
 use Rattle.std.proofs.Common.{refl, sym, ap, ◌∙◌, inl, inr, subst, arith, eqb, filter, length-append}
-use Rattle.std.specs.List.{All, Contains}
-use Rattle.std.specs.List.Sorted.{IsStrictlyIncreasing}
-use Rattle.std.proofs.lemmas.Bool.{cases_eq, cond-true, cond-false, lt-ltb, le-ltb, eq-eqb, ne_eqb, cases_order}
+use Rattle.std.specs.List.{Contains}
+use Rattle.std.proofs.lemmas.Bool.{cond-true, cond-false, lt-ltb, le-ltb, ne_eqb, cases_order}
 use Rattle.std.proofs.lemmas.List.Elements.{All-contains}
 use Rattle.model_geometry.specs.declared.TheConstants.{MOST_SPARES}
-use Rattle.model_geometry.specs.Geometry.{Shape, IsLawful, lead_out, total, data_blocks}
+use Rattle.model_geometry.specs.Geometry.{Shape, IsLawful, lead_out, data_blocks}
 use Rattle.model_geometry.proofs.DataBlocks.{data_blocks_bounds}
 use Rattle.model_geometry.proofs.Zones.{total_most}
 use Rattle.model_lists.specs.declared.sdl.SdlEntry.{SdlEntry}
 use Rattle.model_lists.specs.Values.{Sdl, IsBlockNumber, HasNumbers, IsLawfulSdl, defectives, with_entry}
-use Rattle.model_places.specs.Places.{Lists, logical_block, logical_count, home_of, free_spares, spares, unslipped}
-use Rattle.model_places.specs.Valid.{AreValid, IsValidSdl}
+use Rattle.model_places.specs.Places.{Lists, logical_block, logical_count, home_of, free_spares, unslipped}
+use Rattle.model_places.specs.Valid.{AreValid}
 use Rattle.model_places.specs.Worked.{pair, retired}
-use Rattle.model_places.proofs.Entries.{Contains-defectives, length-entries_most}
+use Rattle.model_places.proofs.Entries.{length-entries_most}
 use Rattle.model_places.proofs.Homes.{Contains-later}
 use Rattle.model_places.proofs.Pools.{unslipped_are_data, spare_is_unslipped}
 use Rattle.model_volume.specs.Moves.{with_retired, former, lists_moved, sdl_moved, tried_of, IsNextSpare}
@@ -22,7 +21,6 @@ use Rattle.model_volume.proofs.Different.{free_apart}
 use Rattle.model_volume.proofs.ValidDecided.{contains_decided}
 use Rattle.model_volume.proofs.Validity.{all_from, ByMembers, by_members, from_members}
 use Rattle.model_volume.proofs.NewLists.{retire_all, with_pair, moved_valid}
-use Rattle.model_drive.specs.declared.TheConstants.{LAST_COUNTER}
 use Rattle.ram_sdl.specs.EntriesAndRoom.{EntriesAndRoom, HasRoomFor}
 use Rattle.ram_replace.specs.declared.spares.Found.{Found}
 use Rattle.ram_replace.specs.Spares.{StandsAt}

@@ -1,41 +1,39 @@
 -- How the write of a logical block goes, step after step, on the cells.
-use Rattle.std.specs.Prelude.{◌≡◌, ◌≢◌, ℕ, ◌+◌, ◌*◌, ◌≤◌, ◌<◌, ◌⊎◌, true, false, IsTrue, ◌==◌, if◌then◌else◌, List, [], ◌∷◌, length, slice_index}
-use Rattle.std.proofs.Common.{refl, sym, ap, ◌∙◌, inl, inr, subst, arith, eqb, cond}
+use Rattle.std.specs.Prelude.{◌≡◌, ◌≢◌, ℕ, ◌+◌, ◌*◌, ◌≤◌, ◌<◌, ◌⊎◌, true, false, IsTrue, ◌==◌, if◌then◌else◌, List, length, slice_index}
+use Rattle.std.proofs.Common.{refl, sym, ap, ◌∙◌, inl, inr, subst, arith, eqb}
 use Rattle.std.specs.List.{Contains}
 use Rattle.std.proofs.lemmas.Bool.{cond-true, cond-false, eq-eqb, ne_eqb}
 use Rattle.std.proofs.lemmas.List.Elements.{Contains-get_or}
-use Rattle.model_counts.specs.Counts.{counted, Rose}
 use Rattle.model_geometry.specs.Geometry.{Shape, data_blocks, dds_block, sdl_block}
 use Rattle.model_geometry.proofs.ListBlocks.{no_data_block_sdl}
 use Rattle.model_lists.specs.Values.{Sdl}
 use Rattle.model_lists.specs.Texts.{IsDdsText, IsSdlText}
 use Rattle.model_medium.specs.Cells.{Cell, Blank, Good, Torn, Dead, IsGood, MayLeave, cell_at}
-use Rattle.model_medium.specs.World.{World, UseContinues}
+use Rattle.model_medium.specs.World.{World}
 use Rattle.model_sectors.specs.Discs.{Agrees}
 use Rattle.model_sectors.proofs.Fitting.{agrees_not_good}
 use Rattle.model_stops.specs.Stops.{Continues, Stops}
 use Rattle.model_stops.specs.declared.Stop.{Stop}
 use Rattle.model_stops.specs.declared.Stop.TheVariants as stops
-use Rattle.model_copies.specs.Copies.{IsArea, HoldsOrDead, HoldsEither, MayHold, Settled, AreBetween, AllLost}
+use Rattle.model_copies.specs.Copies.{HoldsOrDead, HoldsEither, Settled, AreBetween, AllLost}
 use Rattle.model_copies.proofs.CopyFacts.{between_left}
 use Rattle.model_places.specs.Places.{Lists, logical_count, home_of, free_spares}
 use Rattle.model_places.specs.Valid.{AreValid}
-use Rattle.model_volume.specs.Given.{AreSettled, IsGiven}
-use Rattle.model_volume.specs.Covers.{FitsUnder, Cover}
-use Rattle.model_volume.specs.Moves.{lists_moved, sdl_moved, tried_of, IsNextSpare, DiffersAt, OnlyData, OnlyMoves}
+use Rattle.model_volume.specs.Given.{AreSettled}
+use Rattle.model_volume.specs.Moves.{lists_moved, sdl_moved, tried_of, IsNextSpare, OnlyData, OnlyMoves}
 use Rattle.model_volume.proofs.GivenFacts.{settled_alone, pair_between}
 use Rattle.model_volume.proofs.Moved.{home_not_free, home_is_data_block, free_is_data}
 use Rattle.model_volume.proofs.Updates.{agrees_good, data_moves, settled_kept, dds_settled, fits_before, fits_written, fits_moved, cover_settled, cover_between}
 use Rattle.model_drive.specs.declared.TheConstants.{LAST_COUNTER}
 use Rattle.model_drive.specs.Repairs.{sdl_update_uses}
-use Rattle.model_drive.specs.Course.{Placing, ToHome, ToSpare, lists_placed, most_uses, AreDead}
-use Rattle.model_drive.specs.Blocks.{PutsBlock, LeavesBlock, FindsNoSpare, FindsNoCopy, StopsAtBlock}
+use Rattle.model_drive.specs.Course.{ToHome, ToSpare, lists_placed, most_uses, AreDead}
+use Rattle.model_drive.specs.Blocks.{LeavesBlock, StopsAtBlock}
 use Rattle.ram_medium.specs.Laws.{MediumLaws}
 use Rattle.ram_medium.proofs.Parts.{continues_then, continues_quiet, stops_later, stops_within}
 use Rattle.ram_zones.specs.declared.list_kind.ListKind.TheVariants as kinds
 use Rattle.ram_copies.specs.Values.{SdlValue}
 use Rattle.ram_copies.specs.Puts.{IsBlockPut, IsBlockLost, StopsPutting}
-use Rattle.ram_copies.specs.Calls.{StoppedCounts, ChangesCopiesAlone, StoppedWithin, MayLeaveCopies}
+use Rattle.ram_copies.specs.Calls.{StoppedCounts, ChangesCopiesAlone, MayLeaveCopies}
 use Rattle.ram_copies.proofs.EachList.{sdl_settled, sdl_may_hold}
 use Rattle.ram_copies.proofs.Lifting.{quiet_counts, fault_counts}
 use Rattle.ram_replace.specs.declared.spares.Found.{Found}
@@ -141,6 +139,7 @@ module _ {M : Type 0} (world : M → World) (block_count : M → ℕ) (reaches :
         makes = λ disc disc' differs fits. fits_written shape lists valid i inside (world old).cells (world new).cells (moves new (home_alone new put.others)) bytes disc disc' differs fits
             (left_agrees (cell_at (world new).cells (home_of shape lists i)) bytes put.left);
       };
+      has_copy = λ known. tt;
     }
 
     -- ---- the home is dead
@@ -325,8 +324,8 @@ module _ {M : Type 0} (world : M → World) (block_count : M → ℕ) (reaches :
 
           -- the list was written
           list_written : lists.sdl.counter < LAST_COUNTER → Continues world reaches here new 8 → Settled IsSdlText (sdl_block shape) (world new).cells moved_sdl
-              → PlacesBlock world reaches shape old new lists i bytes moved
-          list_written room continues settled_sdl = record {
+              → ((world here).known ≡ true → ¬ AllLost (sdl_block shape) (world new).cells) → PlacesBlock world reaches shape old new lists i bytes moved
+          list_written room continues settled_sdl not_lost = record {
             ended = ended_by new (2 + (2 * found.tried + 2) + 8) moved goes;
             puts = record {
               placing = ToSpare found.tried;
@@ -340,6 +339,7 @@ module _ {M : Type 0} (world : M → World) (block_count : M → ℕ) (reaches :
               makes = λ disc disc' differs fits. fits_moved shape lists valid i inside (world old).cells (world new).cells all_only bytes disc disc' differs fits
                   (tried_of (free_spares shape lists) found.tried) found.spare next spare_agrees;
             };
+            has_copy = λ known. not_lost (has.as_known ∙ lost.as_known ∙ known);
           }
             where
               goes : Continues world reaches old new (2 + (2 * found.tried + 2) + 8)
@@ -358,4 +358,4 @@ module _ {M : Type 0} (world : M → World) (block_count : M → ℕ) (reaches :
 
         pub spare_put : (new : M) → lists.sdl.counter < LAST_COUNTER → HasUpdated world reaches shape here new moved_sdl true
             → PlacesBlock world reaches shape old new lists i bytes moved
-        spare_put new room did = list_written new did.ended.alone room did.ended.continues (sdl_settled shape (world new).cells moved_sdl did.left)
+        spare_put new room did = list_written new did.ended.alone room did.ended.continues (sdl_settled shape (world new).cells moved_sdl did.left.settled) did.left.not_lost

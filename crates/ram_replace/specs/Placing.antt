@@ -1,10 +1,13 @@
 -- What the write of one logical block does, by its answer: for `place` and `write_home`.
-use Rattle.std.specs.Prelude.{◌≡◌, ℕ, IsTrue, List}
-use Rattle.model_geometry.specs.Geometry.{Shape}
+use Rattle.std.specs.Prelude.{◌≡◌, ℕ, true, IsTrue, List}
+use Rattle.model_geometry.specs.Geometry.{Shape, sdl_block}
+use Rattle.model_medium.specs.Cells.{Cell}
 use Rattle.model_medium.specs.World.{World, UseContinues}
 use Rattle.model_stops.specs.declared.Stop.{Stop}
 use Rattle.model_stops.specs.declared.Stop.TheVariants as stops
+use Rattle.model_copies.specs.Copies.{AllLost}
 use Rattle.model_places.specs.Places.{Lists}
+use Rattle.model_drive.specs.Course.{Placing, ToHome, ToSpare}
 use Rattle.model_drive.specs.Blocks.{PutsBlock, FindsNoSpare, FindsNoCopy, StopsAtBlock}
 use Rattle.ram_copies.specs.Calls.{StoppedCounts}
 use Rattle.ram_replace.specs.declared.writing.Outcome.{Outcome}
@@ -12,20 +15,27 @@ use Rattle.ram_replace.specs.declared.writing.Outcome.TheVariants as outcomes
 use Rattle.ram_replace.specs.declared.writing.Placed.{Placed}
 use Rattle.ram_replace.specs.declared.writing.Placed.TheVariants as places
 
-module _ {M : Type 0} (world : M → World) (reaches : M → M → ℕ → Type 0) (shape : Shape) (old new : M) (lists : Lists) (i : ℕ)
-    (bytes : List ℕ) (lists' : Lists) where
-  -- The call went to its end: the power was on and is on, and neither a cut nor a fault is counted. (This project's own, as
-  -- all here.)
+-- where the block went to a spare, the secondary list that says so has a copy that can be read (this project's own)
+abbrev pub HasCopyOfMove : Shape → List Cell → Placing → Type 0
+HasCopyOfMove shape cells ToHome = Unit {0}
+HasCopyOfMove shape cells (ToSpare tried) = ¬ AllLost (sdl_block shape) cells
+
+module _ {M : Type 0} (world : M → World) (reaches : M → M → ℕ → Type 0) (shape : Shape) (old new : M)
+    (lists : Lists) (i : ℕ) (bytes : List ℕ) (lists' : Lists) where
+  -- The call went to its end: the power was on and is on, and neither a cut nor a fault is counted. (This project's own,
+  -- as all here.)
   pub record HasEnded : Type 0 where
     pub was_on : IsTrue (world old).power
     pub counts : UseContinues (world old) (world new)
 
-  -- The block is written, to its home or to a spare, and these are the lists then.
+  -- The block is written, to its home or to a spare, and these are the lists then. A new one has a
+  -- copy that can be read.
   pub record PlacesBlock : Type 0 where
     pub ended : HasEnded
     pub puts : PutsBlock world reaches shape old new lists i bytes lists'
+    pub has_copy : (world old).known ≡ true → HasCopyOfMove shape (world new).cells puts.placing
 
-  -- the home and all free spares are dead, and nothing else changed
+  -- the home and all free spares are dead, and the lists are as before
   pub record MeetsNoSpare : Type 0 where
     pub ended : HasEnded
     pub finds : FindsNoSpare world reaches shape old new lists i bytes lists'
@@ -35,8 +45,8 @@ module _ {M : Type 0} (world : M → World) (reaches : M → M → ℕ → Type 
     pub ended : HasEnded
     pub finds : FindsNoCopy world reaches shape old new lists i bytes lists' counter
 
-  -- It was stopped, for a cause that its count shows. The lists in memory are as before; those that the cells give are the
-  -- lists before or after, and the disc before or after fits under them.
+  -- The write was stopped, for a cause that its count shows. The lists in memory are as before; those that the cells give
+  -- are the lists before or after, and the disc before or after fits under them.
   pub record PlacingStopped (stop : Stop) : Type 0 where
     pub was_on : IsTrue (world old).power
     pub counts : StoppedCounts (world old) (world new) stop

@@ -8,15 +8,16 @@ use Rattle.model_stops.specs.declared.Stop.{Stop}
 use Rattle.model_drive.specs.Course.{AreDead}
 use Rattle.ram_replace.specs.declared.spares.Found.{Found}
 
--- The spare is the free one that comes after so many. (This project's own, as all here.)
+-- The spare is the free one that comes after so many in their order. (This project's own, as all here.)
 pub record StandsAt (free : List ℕ) (found : Found) : Type 0 where
   pub inside : found.tried < length free
   pub spare_is : found.spare ≡ slice_index free found.tried
 
-module _ {M : Type 0} (world : M → World) (reaches : M → M → ℕ → Type 0) (old new : M) (free : List ℕ) (bytes : List ℕ) where
+module _ {M : Type 0} (world : M → World) (reaches : M → M → ℕ → Type 0) (old new : M) (free bytes : List ℕ) where
   -- no cell changed but those of the free spares
   abbrev pub ChangesSparesAlone : Type 0
-  ChangesSparesAlone = (block : ℕ) → ¬ Contains free block → cell_at (world new).cells block ≡ cell_at (world old).cells block
+  ChangesSparesAlone = (block : ℕ) → ¬ Contains free block
+      → cell_at (world new).cells block ≡ cell_at (world old).cells block
 
   -- The first so many free spares were written and read back, and are dead.
   pub record HaveFailed (tried : ℕ) : Type 0 where
@@ -26,7 +27,7 @@ module _ {M : Type 0} (world : M → World) (reaches : M → M → ℕ → Type 
     pub alone : ChangesSparesAlone
     pub dead : AreDead (world new).cells free tried
 
-  -- So did this many, and the next one was written and reads back: it has the bytes, where cells are known.
+  -- So many free spares failed, and the next one was written and reads back: it has the bytes, where cells are known.
   pub record IsFound (found : Found) : Type 0 where
     pub stands : StandsAt free found
     pub continues : Continues world reaches old new (2 * found.tried + 2)
@@ -41,7 +42,7 @@ module _ {M : Type 0} (world : M → World) (reaches : M → M → ℕ → Type 
   FindsSpare (Some found) = IsFound found
   FindsSpare None = HaveFailed (length free)
 
-  -- it was stopped
+  -- the trying of spares was stopped
   pub record StopsTrying (stop : Stop) : Type 0 where
     pub stops : Stops world reaches old new (2 * length free) stop
     pub as_known : (world new).known ≡ (world old).known

@@ -1,5 +1,5 @@
 -- What the update of the secondary list does: for `update_list`.
-use Rattle.std.specs.Prelude.{ℕ, Bool, MatchBool}
+use Rattle.std.specs.Prelude.{◌≡◌, ℕ, Bool, MatchBool, true}
 use Rattle.model_geometry.specs.Geometry.{Shape}
 use Rattle.model_lists.specs.Values.{Sdl}
 use Rattle.model_medium.specs.World.{World, IsOff}
@@ -12,17 +12,20 @@ use Rattle.ram_copies.specs.Values.{SdlValue, IsText}
 use Rattle.ram_copies.specs.Calls.{CallEnds, StoppedWithin, LeavesNone, MayLeaveCopies}
 
 module _ {M : Type 0} (world : M → World) (reaches : M → M → ℕ → Type 0) (shape : Shape) (old new : M) (value : Sdl) where
-  -- Each copy was written and read back: each is exactly the text or dead, and one at least can be read; or all are dead.
-  -- (This project's own, as all here.)
+  -- Each copy is exactly the text or dead, and one at least can be read. (This project's own, as all here.)
+  pub record KeepsCopies : Type 0 where
+    pub settled : Settled (IsText kinds.Sdl) (λ area. list_block shape area kinds.Sdl) (world new).cells (SdlValue value)
+    pub not_lost : (world old).known ≡ true → ¬ LeavesNone world reaches kinds.Sdl shape old new
+
+  -- each copy was written and read back, and one can be read, or all are dead
   pub record HasUpdated (kept : Bool) : Type 0 where
     pub ended : CallEnds world reaches kinds.Sdl shape old new 8
-    pub left : MatchBool kept (Settled (IsText kinds.Sdl) (λ area. list_block shape area kinds.Sdl) (world new).cells (SdlValue value))
-        (LeavesNone world reaches kinds.Sdl shape old new)
+    pub left : MatchBool kept KeepsCopies (LeavesNone world reaches kinds.Sdl shape old new)
 
-  -- it was stopped
+  -- the update was stopped
   abbrev pub StopsUpdating : Stop → Type 0
-  StopsUpdating stops.Cut =
-      StoppedWithin world reaches kinds.Sdl shape old new 8 stops.Cut × MayLeaveCopies world reaches kinds.Sdl shape old new (SdlValue value)
+  StopsUpdating stops.Cut = StoppedWithin world reaches kinds.Sdl shape old new 8 stops.Cut
+      × MayLeaveCopies world reaches kinds.Sdl shape old new (SdlValue value)
   StopsUpdating stops.Off = IsOff (world old) (world new)
-  StopsUpdating stops.Fault =
-      StoppedWithin world reaches kinds.Sdl shape old new 8 stops.Fault × MayLeaveCopies world reaches kinds.Sdl shape old new (SdlValue value)
+  StopsUpdating stops.Fault = StoppedWithin world reaches kinds.Sdl shape old new 8 stops.Fault
+      × MayLeaveCopies world reaches kinds.Sdl shape old new (SdlValue value)

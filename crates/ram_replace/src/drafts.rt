@@ -27,7 +27,8 @@ fn retire(list: &mut Sdl, spare: u32)
     requires rise { IsStrictlyIncreasing (defectives list.old.entries.list) }
     requires room { HasRoomFor spare list.old.entries }
     ensures value { sdl_of list.new ≡ record (sdl_of list.old) {
-        entries = with_entry (retired spare) list.old.entries.list } }
+      entries = with_entry (retired spare) list.old.entries.list;
+    } }
     ensures rise { IsStrictlyIncreasing (defectives list.new.entries.list) }
     ensures room { list.new.entries.room ≡ list.old.entries.room }
 {
@@ -44,8 +45,9 @@ fn retire_tried(geometry: &Geometry, lists: &Lists, draft: &mut Sdl, tried: u32)
     requires same { draft.old.entries.list ≡ lists.now.sdl.entries.list }
     requires room { MOST_SPARES ≤ draft.old.entries.room }
     ensures value { sdl_of draft.new ≡ record (sdl_of draft.old) {
-        entries = with_retired (tried_of (free_spares geometry.now (lists_of lists.now)) tried)
-        lists.now.sdl.entries.list } }
+      entries = with_retired (tried_of (free_spares geometry.now (lists_of lists.now)) tried)
+          lists.now.sdl.entries.list;
+    } }
     ensures rise { IsStrictlyIncreasing (defectives draft.new.entries.list) }
     ensures room { draft.new.entries.room ≡ draft.old.entries.room }
 {
@@ -64,7 +66,8 @@ fn retire_former(draft: &mut Sdl, own: u32, home: u32)
     requires rise { IsStrictlyIncreasing (defectives draft.old.entries.list) }
     requires room { length (with_retired (former own home) draft.old.entries.list) ≤ draft.old.entries.room }
     ensures value { sdl_of draft.new ≡ record (sdl_of draft.old) {
-        entries = with_retired (former own home) draft.old.entries.list } }
+      entries = with_retired (former own home) draft.old.entries.list;
+    } }
     ensures room { draft.new.entries.room ≡ draft.old.entries.room }
 {
     if home != own {
@@ -72,8 +75,9 @@ fn retire_former(draft: &mut Sdl, own: u32, home: u32)
     }
 }
 
-/// Makes the secondary list in which logical block `i` is at a spare: its counter is one greater, the spares that failed are
-/// retired, the block's own one has the pair with the spare, and its former replacement is retired.
+/// Makes the secondary list under which logical block `i` is at the spare: the counter is one greater, the spares that
+/// failed are retired, the block has its pair with the spare, and its former replacement is retired. In this order each
+/// step is a valid list, so the entries are never more than there is room for.
 pub fn draft_moved(geometry: &Geometry, lists: &Lists, draft: &mut Sdl, i: u32, found: Found)
     requires shape { IsLawful geometry.now }
     requires valid { AreValid geometry.now (lists_of lists.now) }

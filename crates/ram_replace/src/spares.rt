@@ -48,7 +48,8 @@ pub fn find_spare<M: Medium>(
         let Some(spare) = next_free(geometry, &lists.dds, &lists.sdl, last) else {
             return Ok(None);
         };
-        if put_block(medium, spare, from, room)? {
+        let kept = put_block(medium, spare, from, room)?;
+        if kept {
             return Ok(Some(Found { tried, spare }));
         }
         last = Some(spare);

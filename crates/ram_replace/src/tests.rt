@@ -139,7 +139,13 @@ impl Disc {
     }
 
     /// Mounts, and writes a logical block with this byte all over. How it ended, and what the list in memory says then.
-    fn write(&mut self, alloc: Global, before: Before, i: u32, byte: u8) -> Result<(Placed, Says), Fail> {
+    fn write(
+        &mut self,
+        alloc: Global,
+        before: Before,
+        i: u32,
+        byte: u8,
+    ) -> Result<(Placed, Says), Fail> {
         let mut from = Block::zeros(alloc)?;
         from.bytes_mut().fill(byte);
         if self.medium.blocks() != self.geometry.total() {
@@ -161,8 +167,19 @@ impl Disc {
     }
 
     /// Mounts and writes, and sees that it ends so after so many uses, with this list in memory.
-    fn writes(&mut self, alloc: Global, i: u32, wanted: (Placed, Says), uses: u32) -> Result<bool, Fail> {
-        let end = self.write(alloc, Before::Cut(uses.saturating_add(1), Fate::Old), i, 0x55)?;
+    fn writes(
+        &mut self,
+        alloc: Global,
+        i: u32,
+        wanted: (Placed, Says),
+        uses: u32,
+    ) -> Result<bool, Fail> {
+        let end = self.write(
+            alloc,
+            Before::Cut(uses.saturating_add(1), Fate::Old),
+            i,
+            0x55,
+        )?;
         let mut into = Block::zeros(alloc)?;
         let is_cut = 8 < self.medium.blocks() && self.medium.read(8, &mut into) == ReadEnd::Cut;
         self.medium.power_on();
@@ -336,7 +353,10 @@ fn a_cut_at_home_leaves_it_old_new_or_unreadable(rt: HostRuntime) -> Result<(), 
         let mut old = Block::zeros(alloc)?;
         old.bytes_mut().fill(0xaa);
         disc.put(HOME, &old);
-        assert_eq!(rt; disc.write(alloc, Before::Cut(1, fate), 0, 0x55)?, (Placed::Cut, same));
+        assert_eq!(rt;
+            disc.write(alloc, Before::Cut(1, fate), 0, 0x55)?,
+            (Placed::Cut, same)
+        );
         disc.medium.power_on();
         assert_eq!(rt; disc.found(alloc)?, Some(same));
         assert_eq!(rt; disc.first_byte(alloc, HOME)?, left);
@@ -349,7 +369,10 @@ fn with_the_power_off_nothing_is_done(rt: HostRuntime) -> Result<(), Fail> {
     let alloc = rt.alloc();
     let mut disc = Disc::new(alloc, 1, &[HOME])?;
     let same = Says::new(1, &[]);
-    assert_eq!(rt; disc.write(alloc, Before::Off, 0, 0x55)?, (Placed::Off, same));
+    assert_eq!(rt;
+        disc.write(alloc, Before::Off, 0, 0x55)?,
+        (Placed::Off, same)
+    );
     disc.medium.power_on();
     assert_eq!(rt; disc.found(alloc)?, Some(same));
     Ok(())

@@ -29,8 +29,8 @@ pub enum Placed {
     Done,
     /// The home is dead, and so are all free spares.
     NoSpare,
-    /// The home is dead and a spare has the bytes, but the secondary list could not be updated: all its copies are dead,
-    /// or its counter is the last one.
+    /// The home is dead and a spare has the bytes, but the secondary list could not be updated: all its copies are
+    /// dead, or its counter is the last one. The block stays where it was.
     NoUpdate {
         /// The counter of the list in use.
         counter: u32,
@@ -99,12 +99,12 @@ fn place<M: Medium>(
     Ok(Outcome::Done)
 }
 
-/// Writes logical block `i` to its home, and reads it back: 2 uses. Where the home is dead, one free spare after another is
-/// written and read back, 2 uses each, until one has the bytes; then the secondary list is updated, 8 uses, and taken over.
-/// `draft` holds that list until then. It takes no memory.
+/// Writes logical block `i` to its home, and reads it back: 2 uses. Where the home is dead, one free spare after another
+/// is written and read back, 2 uses each, until one has the bytes; then the secondary list that says so is updated, 8
+/// uses, and taken over. `draft` holds that list until then, and nothing of use before and after. It takes no memory.
 ///
-/// The lists in memory change with Done alone, once a copy of the new list can be read. (Linear replacement after ECMA-330;
-/// the order is this project's own.)
+/// The lists in memory change with Done alone, once a copy of the new list can be read. (Linear replacement after
+/// ECMA-330; the order of the steps is this project's own.)
 pub fn write_home<M: Medium>(
     medium: &mut M,
     geometry: &Geometry,

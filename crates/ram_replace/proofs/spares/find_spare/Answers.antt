@@ -31,27 +31,27 @@ put_block-requires-clause-inside g c =
 pub put_block-requires-clause-on : goal.put_block-requires-clause-on
 put_block-requires-clause-on g c = c.loop-tried.invariant.so_far.continues.is_on
 
-pub returns-in_err-put_block-clause-rule : goal.returns-in_err-put_block-clause-rule
-returns-in_err-put_block-clause-rule g c =
+pub returns-in_err-kept-clause-rule : goal.returns-in_err-kept-clause-rule
+returns-in_err-kept-clause-rule g c =
     let at = next_stands c.args.geometry.now (lists_of c.args.lists.now) c.requires.valid c.loop-tried.tried c.loop-tried.last c.loop-tried.invariant.last c.loop-tried.invariant.so_far.few c.in-Some.spare c.in-Some.ensures in
     let p = err_from_is_err_and c.from_residual.result c.from_residual.ensures.1 in
     rw (p.1, p.2) (stopped_at_next g.M.Medium.world g.M.Medium.block_count g.M.Medium.reaches g.met.M.Medium.laws c.args.medium.now (free_spares c.args.geometry.now (lists_of c.args.lists.now)) c.args.from.now
-    c.loop-tried.medium c.put_block.new.medium c.loop-tried.tried c.in-Some.spare c.loop-tried.invariant.so_far at _ c.in_err-put_block.ensures.rule)
+    c.loop-tried.medium c.put_block.new.medium c.loop-tried.tried c.in-Some.spare c.loop-tried.invariant.so_far at _ c.in_err-kept.ensures.rule)
 
-pub returns-then-branch-clause-rule : goal.returns-then-branch-clause-rule
-returns-then-branch-clause-rule g c =
+pub returns-then-kept-clause-rule : goal.returns-then-kept-clause-rule
+returns-then-kept-clause-rule g c =
     let at = next_stands c.args.geometry.now (lists_of c.args.lists.now) c.requires.valid c.loop-tried.tried c.loop-tried.last c.loop-tried.invariant.last c.loop-tried.invariant.so_far.few c.in-Some.spare c.in-Some.ensures in
     next_found g.M.Medium.world g.M.Medium.block_count g.M.Medium.reaches g.met.M.Medium.laws c.args.medium.now (free_spares c.args.geometry.now (lists_of c.args.lists.now)) c.args.from.now
-    c.loop-tried.medium c.put_block.new.medium c.loop-tried.tried c.in-Some.spare c.loop-tried.invariant.so_far at (rw c.if-branch.true at c.in_ok-put_block.ensures.rule)
+    c.loop-tried.medium c.put_block.new.medium c.loop-tried.tried c.in-Some.spare c.loop-tried.invariant.so_far at (rw c.if-kept.true at c.in_ok-kept.ensures.rule)
 
 pub loop-tried-preserved : goal.loop-tried-preserved
 loop-tried-preserved g c =
     let at = next_stands c.args.geometry.now (lists_of c.args.lists.now) c.requires.valid c.loop-tried.tried c.loop-tried.last c.loop-tried.invariant.last c.loop-tried.invariant.so_far.few c.in-Some.spare c.in-Some.ensures in
     record {
       so_far = one_more_failed g.M.Medium.world g.M.Medium.block_count g.M.Medium.reaches g.met.M.Medium.laws c.args.medium.now (free_spares c.args.geometry.now (lists_of c.args.lists.now)) c.args.from.now
-          c.loop-tried.medium c.put_block.new.medium c.loop-tried.tried c.in-Some.spare c.loop-tried.invariant.so_far at (rw c.if-branch.false at c.in_ok-put_block.ensures.rule);
+          c.loop-tried.medium c.put_block.new.medium c.loop-tried.tried c.in-Some.spare c.loop-tried.invariant.so_far at (rw c.if-kept.false at c.in_ok-kept.ensures.rule);
       last = next_last c.args.geometry.now (lists_of c.args.lists.now) c.requires.valid c.loop-tried.tried c.loop-tried.last c.loop-tried.invariant.last c.loop-tried.invariant.so_far.few c.in-Some.spare c.in-Some.ensures;
-      as_many = c.in_ok-put_block.ensures.as_many ∙ c.loop-tried.invariant.as_many;
+      as_many = c.in_ok-kept.ensures.as_many ∙ c.loop-tried.invariant.as_many;
     }
 
 pub returns-clause-rule : goal.returns-clause-rule

@@ -1,7 +1,6 @@
-use Rattle.std.proofs.Common.{arith, ◌≡◌, ◌≢◌, ◌<◌, ◌^◌, ◌∙◌, sym, refl, subst}
+use Rattle.std.proofs.Common.{arith, ◌≢◌, ◌<◌, ◌^◌, ◌∙◌, sym, subst}
 use Rattle.std.proofs.lemmas.Result.{err_from_is_err_and}
 use Rattle.model_lists.specs.Values.{Sdl}
-use Rattle.model_places.specs.Places.{Lists}
 use Rattle.model_places.specs.Valid.{AreValid}
 use Rattle.model_places.proofs.Homes.{home_inside}
 use Rattle.model_drive.specs.declared.TheConstants.{LAST_COUNTER}
