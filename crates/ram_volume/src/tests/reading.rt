@@ -38,7 +38,12 @@ fn numbered_disc(alloc: Global) -> Result<ExampleDisc, AllocError> {
 }
 
 /// The drive with this disc, and its power on. The power is cut in the use of this number after the mount.
-fn ready_with(alloc: Global, mut disc: ExampleDisc, cut: u32, fate: Fate) -> Result<Ready<MemMedium>, Fail> {
+fn ready_with(
+    alloc: Global,
+    mut disc: ExampleDisc,
+    cut: u32,
+    fate: Fate,
+) -> Result<Ready<MemMedium>, Fail> {
     disc.medium.arm_cut(cut.saturating_add(16), fate);
     match drive_with(disc).power_on(alloc) {
         PowerOn::Ready(ready) => Ok(ready),
@@ -123,7 +128,14 @@ fn a_block_that_cannot_be_read_is_named(rt: HostRuntime) -> Result<(), Fail> {
         (19, 2, ReadOut::Unread { lba: 19, block: 12 }),
         (32, 16, ReadOut::Good),
         (47, 3, ReadOut::Unread { lba: 48, block: 16 }),
-        (303, 1, ReadOut::Unread { lba: 303, block: 31 }),
+        (
+            303,
+            1,
+            ReadOut::Unread {
+                lba: 303,
+                block: 31,
+            },
+        ),
         (303, 2, ReadOut::Range { capacity: 304 }),
         (304, 0, ReadOut::Good),
         (304, 1, ReadOut::Range { capacity: 304 }),

@@ -9,10 +9,10 @@ pub invariant_of-ready : goal.invariant_of-ready
 invariant_of-ready g c = record {
   size = c.read_parts.ensures.as_many ∙ c.args.self.size;
   on = read_on g.M.Medium.world g.M.Medium.reaches g.M.Medium.takes g.M.MediumControl.arms g.M.MediumControl.armed_cut g.met.M.MediumControl.control_laws c.args.self.geometry (lists_of c.args.self.lists)
-    c.args.self.medium c.read_parts.new.medium c.args.self.buffer c.args.request.lba c.args.request.n c.args.self.on c.requires.inside c.read_parts.new.buffer c.read_parts.new.into c.in-Ok.met c.in-Ok.ensures.rule;
+      c.args.self.medium c.read_parts.new.medium c.args.self.buffer c.args.request.lba c.args.request.n c.args.self.on c.requires.inside c.read_parts.new.buffer c.read_parts.new.into c.in-Ok.met c.in-Ok.ensures.rule;
   valid = c.args.self.valid;
   settled = read_settled g.M.Medium.world g.M.Medium.reaches g.M.Medium.takes g.M.MediumControl.arms g.M.MediumControl.armed_cut g.met.M.MediumControl.control_laws c.args.self.geometry (lists_of c.args.self.lists)
-    c.args.self.medium c.read_parts.new.medium c.args.self.buffer c.args.request.lba c.args.request.n c.args.self.on c.requires.inside c.read_parts.new.buffer c.read_parts.new.into c.in-Ok.met c.in-Ok.ensures.rule c.args.self.settled;
+      c.args.self.medium c.read_parts.new.medium c.args.self.buffer c.args.request.lba c.args.request.n c.args.self.on c.requires.inside c.read_parts.new.buffer c.read_parts.new.into c.in-Ok.met c.in-Ok.ensures.rule c.args.self.settled;
   lawful_dds = c.args.self.lawful_dds;
   lawful_sdl = c.args.self.lawful_sdl;
   roomy = c.args.self.roomy;
