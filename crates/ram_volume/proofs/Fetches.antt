@@ -1,5 +1,5 @@
 -- How a fetch of a logical block ends.
-use Rattle.std.specs.Prelude.{length, ◌<◌, ◌≤◌, ◌≡◌, ℕ, Bool, true, false, Some, None, List}
+use Rattle.std.specs.Prelude.{length, ◌<◌, ◌≤◌, ◌≡◌, ℕ, Bool, true, false, None, List}
 use Rattle.std.specs.Bool.{OnTrue}
 use Rattle.std.proofs.Common.{ap, ◌∙◌, inl, inr, subst, arith}
 use Rattle.model_geometry.specs.Geometry.{Shape, total}

@@ -1,6 +1,6 @@
 -- How a read of all parts of a request ends.
 use Rattle.std.specs.Prelude.{◌≡◌, ℕ, ◌+◌, ◌*◌, ◌<◌, ◌≤◌, ◌⊎◌, true, IsTrue, List, length}
-use Rattle.std.proofs.Common.{sym, ap, ◌∙◌, inl, inr, subst, arith}
+use Rattle.std.proofs.Common.{sym, ap, ◌∙◌, subst, arith}
 use Rattle.model_geometry.specs.Geometry.{Shape}
 use Rattle.model_medium.specs.Cells.{Cell, IsGood, cell_at}
 use Rattle.model_medium.specs.World.{World}
@@ -9,7 +9,6 @@ use Rattle.model_buffer.specs.declared.TheConstants.{BUFFERED_BLOCKS}
 use Rattle.model_sectors.specs.Requests.{block_with, blocks_covered}
 use Rattle.model_sectors.specs.Uses.{is_buffered, is_at_hand, read_uses}
 use Rattle.model_sectors.proofs.Covering.{covered_inside}
-use Rattle.model_stops.specs.Stops.{Stops}
 use Rattle.model_stops.specs.declared.Stop.{Stop}
 use Rattle.model_places.specs.Places.{Lists, logical_count, home_of}
 use Rattle.model_places.specs.Valid.{AreValid}

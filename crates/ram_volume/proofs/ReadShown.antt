@@ -1,5 +1,5 @@
 -- What a read of a drive shows, by how the reading of its parts ended.
-use Rattle.std.proofs.Common.{arith, ◌≡◌, ◌≢◌, ℕ, ◌+◌, ◌*◌, ◌<◌, ◌≤◌, true, false, IsTrue, Option, Some, None, List, [], length, Ok, Err, inl, inr, refl, sym, ap, ◌∙◌, subst}
+use Rattle.std.proofs.Common.{◌≡◌, ℕ, ◌+◌, ◌≤◌, IsTrue, Option, Some, None, List, [], Ok, inl, inr, refl, sym, ap, ◌∙◌, subst}
 use Rattle.model_geometry.specs.Geometry.{Shape}
 use Rattle.model_medium.specs.Cells.{Cell, cell_at}
 use Rattle.model_medium.specs.World.{World}
@@ -9,7 +9,7 @@ use Rattle.model_medium.specs.Reach.{Reach}
 use Rattle.model_medium.specs.declared.WornBlock.{WornBlock}
 use Rattle.model_medium.specs.declared.ArmedCut.{ArmedCut}
 use Rattle.model_buffer.specs.Buffer.{numbers_in}
-use Rattle.model_sectors.specs.Discs.{Standing, On, Off, sectors_of}
+use Rattle.model_sectors.specs.Discs.{On, Off, sectors_of}
 use Rattle.model_sectors.specs.Requests.{block_with, blocks_covered}
 use Rattle.model_sectors.specs.Uses.{read_uses}
 use Rattle.model_sectors.specs.declared.ReadOut.{ReadOut}
@@ -21,7 +21,7 @@ use Rattle.model_stops.specs.declared.Stop.TheVariants as stops
 use Rattle.model_places.specs.Places.{Lists, capacity_of}
 use Rattle.model_volume.specs.Given.{AreSettled}
 use Rattle.model_drive.specs.Shown.{Shown, HoldsBlocksOf, StandsFor}
-use Rattle.model_drive.specs.Parts.{IsInRange, AreSameOrDead, OnlyDies, EndsBy, IsStopped}
+use Rattle.model_drive.specs.Parts.{IsInRange, AreSameOrDead, EndsBy}
 use Rattle.model_drive.specs.Reads.{AreBuffered, ReadCause, ReadIsQuiet, StopsInRead}
 use Rattle.model_drive.proofs.Dying.{one_dies, settled_dies, read_step_on, read_step_off}
 use Rattle.model_drive.proofs.Powers.{holds_nothing}

@@ -1,5 +1,6 @@
--- What a drive does with one logical block: a fetch of it. For reads and writes of requests. (This project's own, as all
--- here.)
+-- What a drive does with one logical block: a fetch of it. For reads and writes of requests. The home of the logical block
+-- `i` is the block `place` of the medium; `held` are the blocks that were buffered before, `held'` those after it, and
+-- `bytes` what the fetch gave. (This project's own, as all here.)
 use Rattle.std.specs.Prelude.{◌≡◌, ◌≢◌, ℕ, ◌⊎◌, Bool, IsTrue, MatchBool, Some, List, length, ◌≤◌}
 use Rattle.std.specs.Bool.{OnTrue}
 use Rattle.model_medium.specs.Cells.{Cell, Good, IsGood, IsSameOrDead, cell_at}
@@ -15,8 +16,6 @@ pub record DiesAtMost (old new : List Cell) (block : ℕ) : Type 0 where
   pub others : (other : ℕ) → other ≢ block → cell_at new other ≡ cell_at old other
   pub left : IsSameOrDead (cell_at old block) (cell_at new block)
 
--- The medium before a fetch of logical block i and after it, and the blocks that were buffered before. The home of the
--- block is the block `place` of the medium.
 module _ {M : Type 0} (world : M → World) (reaches : M → M → ℕ → Type 0) (old new : M)
     (held : List (ℕ × List ℕ)) (i place : ℕ) where
   -- a fetch was stopped: the block was not buffered, and its home is as it was or dead
@@ -26,7 +25,6 @@ module _ {M : Type 0} (world : M → World) (reaches : M → M → ℕ → Type 
     pub dies : DiesAtMost (world old).cells (world new).cells place
     pub few : length held ≤ BUFFERED_BLOCKS
 
-  -- the bytes that the fetch gave
   module _ (bytes : List ℕ) where
     -- the block came out of the buffer
     pub record FromBuffer : Type 0 where
@@ -40,7 +38,6 @@ module _ {M : Type 0} (world : M → World) (reaches : M → M → ℕ → Type 
       pub same_cells : (world new).cells ≡ (world old).cells
       pub gives : OnTrue (world old).known (cell_at (world new).cells place ≡ Good bytes)
 
-    -- the blocks that are buffered after the fetch
     module _ (held' : List (ℕ × List ℕ)) where
       -- the block was fetched, and is buffered
       pub record IsFetched : Type 0 where

@@ -1,5 +1,5 @@
--- What a read does with the parts of its request, and what the drive stands for after it. (This project's own, as all
--- here.)
+-- What a read does with the parts of its request, and what the drive stands for after it. `held` are the blocks that were
+-- buffered before, and `held'` those after it. (This project's own, as all here.)
 use Rattle.std.specs.Prelude.{◌≡◌, ℕ, ◌+◌, ◌<◌, ◌≤◌, ◌⊎◌, Bool, true, IsTrue, MatchBool, Option, Some, None, Result, Ok, Err, List, length}
 use Rattle.model_geometry.specs.Geometry.{Shape}
 use Rattle.model_medium.specs.Cells.{Cell, IsGood, cell_at}
@@ -38,8 +38,8 @@ abbrev pub HaveBytes : Shape → Lists → List Cell → List ℕ → (first cou
 HaveBytes shape lists cells buffered first count = (k : ℕ) → k < count
     → IsGood (cell_at cells (home_of shape lists (first + k))) ⊎ IsTrue (is_buffered buffered (first + k))
 
--- The medium before the read and after it, and the blocks that were buffered before.
-module _ {M : Type 0} (world : M → World) (reaches : M → M → ℕ → Type 0) (old new : M) (held : List (ℕ × List ℕ)) where
+module _ {M : Type 0} (world : M → World) (reaches : M → M → ℕ → Type 0) (old new : M)
+    (held : List (ℕ × List ℕ)) where
   module _ (lba n i place : ℕ) (bytes : List ℕ) (held' : List (ℕ × List ℕ)) (into into' : List ℕ) where
     -- the block was fetched, and what the request covers of it was copied
     pub record IsCopied : Type 0 where
@@ -50,7 +50,6 @@ module _ {M : Type 0} (world : M → World) (reaches : M → M → ℕ → Type 
     abbrev pub ReadsPart : Bool → Type 0
     ReadsPart found = MatchBool found IsCopied (CannotBeRead world reaches old new held i place bytes held')
 
-  -- the lists in use, and the request
   module _ (shape : Shape) (lists : Lists) (lba n : ℕ) where
     -- The block after so many is one of the request, and was not at hand. No cell changed but that of its home.
     pub record EndsInBlock (before : ℕ) : Type 0 where
@@ -63,9 +62,9 @@ module _ {M : Type 0} (world : M → World) (reaches : M → M → ℕ → Type 
     pub record StopsInBlock (stop : Stop) : Type 0 where
       pub before : ℕ
       pub ended : EndsInBlock before
-      pub stops : Stops world reaches old new (read_uses (numbers_in held) (block_with lba) (blocks_covered lba n)) stop
+      pub stops : Stops world reaches old new
+          (read_uses (numbers_in held) (block_with lba) (blocks_covered lba n)) stop
 
-    -- the blocks that are buffered after it
     module _ (held' : List (ℕ × List ℕ)) where
       -- the first so many blocks of the request were read
       pub record HasReadUpTo (k : ℕ) : Type 0 where
@@ -74,7 +73,8 @@ module _ {M : Type 0} (world : M → World) (reaches : M → M → ℕ → Type 
         pub same_cells : (world new).cells ≡ (world old).cells
         pub few : (k ≡ 0) ⊎ (length (numbers_in held) ≤ BUFFERED_BLOCKS)
         pub unused : read_uses (numbers_in held) (block_with lba) k ≡ 0 → new ≡ old
-        pub readable : (world old).known ≡ true → HaveBytes shape lists (world new).cells (numbers_in held) (block_with lba) k
+        pub readable : (world old).known ≡ true
+            → HaveBytes shape lists (world new).cells (numbers_in held) (block_with lba) k
         pub holds : (disc : List ℕ) → StoodFor shape lists (world old) held disc → HoldsBlocksOf disc held'
 
       -- all blocks were read, and gave the sectors of the disc

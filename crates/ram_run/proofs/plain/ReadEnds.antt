@@ -1,8 +1,7 @@
 -- How a read of a request ends.
-use Rattle.std.specs.Prelude.{◌≡◌, ◌≢◌, ℕ, zero, suc, ◌+◌, ◌-◌, ◌*◌, ◌<◌, ◌≤◌, ◌⊎◌, IsTrue, List, [], ◌∷◌, length, take, slice_index}
+use Rattle.std.specs.Prelude.{◌≡◌, ◌≢◌, ℕ, ◌+◌, ◌-◌, ◌<◌, ◌≤◌, ◌⊎◌, IsTrue, List, [], ◌∷◌, length, slice_index}
 use Rattle.std.proofs.Common.{refl, sym, ap, ◌∙◌, inl, inr, subst, arith}
-use Rattle.std.proofs.lemmas.Bool.{cases_eq, cond-false, false_from_ne_true}
-use Rattle.std.proofs.lemmas.List.{take_all}
+use Rattle.std.proofs.lemmas.Bool.{cases_eq}
 use Rattle.model_geometry.specs.Geometry.{Shape, total}
 use Rattle.model_medium.specs.Cells.{Cell, IsGood, IsSameOrDead, cell_at}
 use Rattle.model_medium.specs.Machine.{Machine}

@@ -1,22 +1,18 @@
 -- A read of a request, part after part.
-use Rattle.std.specs.Prelude.{◌≡◌, ℕ, suc, ◌+◌, ◌-◌, ◌*◌, ◌<◌, ◌≤◌, ◌⊎◌, min, Bool, true, false, IsTrue, if◌then◌else◌, List, ◌++◌, length, take, drop, slice_index}
+use Rattle.std.specs.Prelude.{◌≡◌, ℕ, suc, ◌+◌, ◌*◌, ◌<◌, ◌≤◌, ◌⊎◌, Bool, true, IsTrue, List, length, take, slice_index}
 use Rattle.std.specs.Bool.{OnTrue}
 use Rattle.std.proofs.Common.{refl, sym, ap, ◌∙◌, inl, inr, subst, arith}
-use Rattle.std.proofs.lemmas.Bool.{cases_eq, cond-true, cond-false, false_from_ne_true}
-use Rattle.std.proofs.lemmas.List.{length-map}
-use Rattle.model_bytes.specs.Bytes.{put_at}
-use Rattle.model_bytes.proofs.Laws.{length-put_at, take-put_at-end}
+use Rattle.std.proofs.lemmas.Bool.{cases_eq}
 use Rattle.model_geometry.specs.Geometry.{Shape}
 use Rattle.model_medium.specs.Cells.{Cell, Good, IsGood, cell_at}
 use Rattle.model_buffer.specs.Buffer.{bytes_at, numbers_in, touched_one}
 use Rattle.model_buffer.specs.declared.TheConstants.{BUFFERED_BLOCKS}
 use Rattle.model_sectors.specs.Discs.{On, sectors_of, block_of, home, home_cell, Agrees}
-use Rattle.model_sectors.specs.Requests.{block_with, blocks_covered, start_in, end_in, taken_from, filled_by}
+use Rattle.model_sectors.specs.Requests.{block_with, blocks_covered}
 use Rattle.model_sectors.specs.Uses.{touched_from, is_buffered, is_at_hand, read_uses}
 use Rattle.model_sectors.specs.Parts.{IsInRange}
 use Rattle.model_sectors.specs.Reads.{AreReadable}
-use Rattle.model_sectors.proofs.Pieces.{sectors_in_block, sectors_more, sectors_none, length_sectors}
-use Rattle.model_sectors.proofs.Covering.{covered_part, covered_after, covered_all, covered_inside, at_hand_was_buffered, bytes_at_some, numbers_in-with_newest, bytes_at-with_newest}
+use Rattle.model_sectors.proofs.Covering.{covered_inside, at_hand_was_buffered, bytes_at_some, numbers_in-with_newest, bytes_at-with_newest}
 use Rattle.ram_requests.proofs.ReadBytes.{done, prefix_none, prefix_more, no_use_at_hand, one_use_of_medium, few_before_uses}
 use Rattle.ram_outside.specs.declared.image.Image.{Ghosts}
 use Rattle.ram_image.specs.declared.medium.ImageMedium.{ImageMedium}

@@ -1,5 +1,3 @@
-use Rattle.std.specs.Prelude.{◌<◌}
-use Rattle.std.proofs.Common.{refl, sym, subst}
 use Rattle.std.proofs.lemmas.Result.{err_from_is_err_and}
 use Rattle.model_places.specs.Places.{home_of}
 use Rattle.ram_lists.specs.Lists.{lists_of}
