@@ -1,5 +1,7 @@
 //! Reads of three blocks that were written by hand, of which the second has a replacement.
 
+ghost use Rattle.std.specs.Prelude.{◌≡◌, vec_len};
+
 use super::*;
 use model_sectors::ReadOut;
 
@@ -19,6 +21,15 @@ fn numbered(alloc: Global, first: u8) -> Result<Block, AllocError> {
     Ok(block)
 }
 
+/// Writes a block of the medium, if it has one of this number.
+fn write_block(medium: &mut MemMedium, block: u32, from: &Block)
+    ensures { vec_len medium.new.slots ≡ vec_len medium.old.slots }
+{
+    if block < medium.blocks() {
+        medium.write(block, from);
+    }
+}
+
 /// A disc of which each of the first 48 sectors begins with its number plus one. The homes of its first three blocks are
 /// 13, 12 in place of 14, and 15. A mount of it takes 16 uses.
 fn numbered_disc(alloc: Global) -> Result<ExampleDisc, AllocError> {
@@ -29,12 +40,15 @@ fn numbered_disc(alloc: Global) -> Result<ExampleDisc, AllocError> {
     for area in 1..5 {
         disc.write_copy(ListKind::Sdl, area, &pair);
     }
-    for (block, first) in [(13, 1), (12, 17), (14, 200), (15, 33)] {
-        if block < disc.medium.blocks() {
-            disc.medium.write(block, &numbered(alloc, first)?);
-        }
-    }
-    Ok(disc)
+    let ExampleDisc {
+        mut medium,
+        geometry,
+    } = disc;
+    write_block(&mut medium, 13, &numbered(alloc, 1)?);
+    write_block(&mut medium, 12, &numbered(alloc, 17)?);
+    write_block(&mut medium, 14, &numbered(alloc, 200)?);
+    write_block(&mut medium, 15, &numbered(alloc, 33)?);
+    Ok(ExampleDisc { medium, geometry })
 }
 
 /// The drive with this disc, and its power on. The power is cut in the use of this number after the mount.
