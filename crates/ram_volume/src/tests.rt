@@ -63,10 +63,15 @@ fn numbered_disc(alloc: Global) -> Result<ExampleDisc, AllocError> {
     for area in 1..5 {
         disc.write_copy(ListKind::Sdl, area, &pair);
     }
-    for (block, first) in [(13, 1), (12, 17), (14, 200), (15, 33)] {
-        write_block(&mut disc.medium, block, &numbered(alloc, first)?);
-    }
-    Ok(disc)
+    let ExampleDisc {
+        mut medium,
+        geometry,
+    } = disc;
+    write_block(&mut medium, 13, &numbered(alloc, 1)?);
+    write_block(&mut medium, 12, &numbered(alloc, 17)?);
+    write_block(&mut medium, 14, &numbered(alloc, 200)?);
+    write_block(&mut medium, 15, &numbered(alloc, 33)?);
+    Ok(ExampleDisc { medium, geometry })
 }
 
 /// The drive with this disc.

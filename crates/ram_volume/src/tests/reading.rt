@@ -1,5 +1,7 @@
 //! Reads of three blocks that were written by hand, of which the second has a replacement.
 
+ghost use Rattle.std.specs.Prelude.{◌≡◌, vec_len};
+
 use super::*;
 use model_sectors::ReadOut;
 
