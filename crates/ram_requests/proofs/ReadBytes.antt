@@ -74,6 +74,7 @@ prefix_more lba n k blocks disc block into into' covered inside long whole is pu
           ∙ sym (sectors_more disc lba at count)
           ∙ ap (λ (m : ℕ). sectors_of disc lba m) (sym next),
     )
+
 -- before the first block nothing is to be read
 pub prefix_none : (lba n : ℕ) (disc into : List ℕ) → take (2048 * done lba n 0) into ≡ sectors_of disc lba (done lba n 0)
 prefix_none lba n disc into =
