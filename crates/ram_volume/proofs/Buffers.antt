@@ -1,9 +1,9 @@
 -- The blocks that a buffer has after a use of one, and those of a disc.
-use Rattle.std.proofs.Common.{◌≡◌, ℕ, zero, suc, ◌⊎◌, inl, inr, Bool, Some, None, List, [], ◌∷◌, take, sym, ap, ◌∙◌, subst, arith}
+use Rattle.std.proofs.Common.{◌≡◌, ◌≢◌, ℕ, zero, suc, ◌⊎◌, inl, inr, Bool, true, false, IsTrue, Option, Some, None, List, [], ◌∷◌, take, refl, sym, ap, ◌∙◌, subst, arith}
 use Rattle.std.specs.Prelude.{◌==◌, not, cond}
 use Rattle.std.specs.Option.{option_map}
 use Rattle.std.specs.List.{Contains, filter, find}
-use Rattle.std.proofs.lemmas.Bool.{cases_Bool, cond-true, cond-false, eqb-true}
+use Rattle.std.proofs.lemmas.Bool.{cases_Bool, cond-true, cond-false, eqb-true, eq-eqb}
 use Rattle.model_buffer.specs.Buffer.{bytes_at, with_newest}
 use Rattle.model_buffer.specs.declared.TheConstants.{BUFFERED_BLOCKS}
 use Rattle.model_sectors.specs.Discs.{block_of}
@@ -69,3 +69,35 @@ holds_in_room room disc i bytes buffer is holds j found has =
 -- after a use of a block of the disc a buffer has blocks of the disc still
 pub holds_newest : (disc : List ℕ) (i : ℕ) (bytes : List ℕ) (buffer : List (ℕ × List ℕ)) → bytes ≡ block_of disc i → HoldsBlocksOf disc buffer → HoldsBlocksOf disc (with_newest i bytes buffer)
 holds_newest disc i bytes buffer is holds = holds_in_room BUFFERED_BLOCKS disc i bytes buffer is holds
+
+-- those that pass a test pass it
+contains_passes : {X : Type 0} (p : X → Bool) (xs : List X) (x : X) → Contains (filter p xs) x → IsTrue (p x)
+contains_passes p [] x has = absurd (none_contained x has)
+contains_passes p (y ∷ ys) x has = elim (cases_Bool (p y)) [
+  | inl passes ↦ elim (contains_cases y (filter p ys) x (subst (λ l. Contains l x) (cond-true (p y) (y ∷ filter p ys) (filter p ys) passes) has)) [
+    | inl same ↦ subst (λ z. IsTrue (p z)) (sym same) passes
+    | inr later ↦ contains_passes p ys x later
+  ]
+  | inr fails ↦ contains_passes p ys x (subst (λ l. Contains l x) (cond-false (p y) (y ∷ filter p ys) (filter p ys) fails) has)
+]
+
+apart_by : (p : Bool) → p ≡ true → ¬ IsTrue (not p)
+apart_by true is h = let e : false ≡ true = h in cc
+apart_by false is h = cc
+
+not_same : (j i : ℕ) → IsTrue (not (j == i)) → j ≢ i
+not_same j i passes same = apart_by (j == i) (eq-eqb j i same) passes
+
+put_in_room : (room : ℕ) (disc disc' : List ℕ) (i : ℕ) (bytes : List ℕ) (buffer : List (ℕ × List ℕ)) → bytes ≡ block_of disc' i → ((j : ℕ) → j ≢ i → block_of disc' j ≡ block_of disc j) → HoldsBlocksOf disc buffer
+    → HoldsBlocksOf disc' (take room ((i, bytes) ∷ filter (λ held. not (held.0 == i)) buffer))
+put_in_room room disc disc' i bytes buffer is others holds j found has =
+    elim (contains_cases (i, bytes) (filter (λ held. not (held.0 == i)) buffer) (j, found) (contains_taken room ((i, bytes) ∷ filter (λ held. not (held.0 == i)) buffer) (j, found) has)) [
+      | inl same ↦ ap (λ (p : ℕ × List ℕ). p.1) same ∙ is ∙ ap (λ (p : ℕ × List ℕ). block_of disc' p.0) (sym same)
+      | inr later ↦ holds j found (contains_kept (λ held. not (held.0 == i)) buffer (j, found) later)
+          ∙ sym (others j (not_same j i (contains_passes (λ (held : ℕ × List ℕ). not (held.0 == i)) buffer (j, found) later)))
+    ]
+
+-- where a block of the disc was replaced, a buffer that has its bytes now as the newest has blocks of the disc still
+pub holds_put : (disc disc' : List ℕ) (i : ℕ) (bytes : List ℕ) (buffer : List (ℕ × List ℕ)) → bytes ≡ block_of disc' i → ((j : ℕ) → j ≢ i → block_of disc' j ≡ block_of disc j) → HoldsBlocksOf disc buffer
+    → HoldsBlocksOf disc' (with_newest i bytes buffer)
+holds_put disc disc' i bytes buffer is others holds = put_in_room BUFFERED_BLOCKS disc disc' i bytes buffer is others holds

@@ -8,7 +8,10 @@ mod Powering
 mod ReadEnds
 mod ReadShown
 mod ReadTurns
+mod Rests
 mod RewriteCauses
 mod SameKept
 mod Sounding
 mod TurningOff
+mod WriteEnds
+mod WriteTurns

@@ -26,7 +26,7 @@ not_none : (m k : ℕ) → m ≡ k + 1 → m ≡ 0 → ⊥
 not_none m k more none = omega arith
 
 -- what is so where the cells of a medium are known
-where_known : (known : Bool) (P : Type 0) → known ≡ true → OnTrue known P → P
+pub where_known : (known : Bool) (P : Type 0) → known ≡ true → OnTrue known P → P
 where_known known P e h = subst (λ (b : Bool). OnTrue b P) e h
 
 module _ {M : Type 0} (world : M → World) (reaches : M → M → ℕ → Type 0) (shape : Shape) (lists : Lists) where

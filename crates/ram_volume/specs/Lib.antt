@@ -4,3 +4,4 @@ pub mod OneProof
 pub mod Powers
 pub mod Reading
 pub mod Shown
+pub mod Writing

@@ -9,6 +9,7 @@ mod memory;
 mod power;
 mod reading;
 mod states;
+mod writing;
 
 pub use laws::what_a_state_shows_is_sound;
 pub use states::{NotFormatted, PowerOn, PoweredOff, Ready, State};

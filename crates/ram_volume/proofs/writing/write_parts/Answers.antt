@@ -1,0 +1,157 @@
+use Rattle.std.specs.Prelude.{◌≡◌, ◌+◌, ◌<◌, ℕ}
+use Rattle.std.proofs.Common.{refl, sym, subst, ◌∙◌, arith}
+use Rattle.std.proofs.lemmas.Result.{err_from_is_err_and}
+use Rattle.model_sectors.specs.Requests.{blocks_covered, start_in}
+use Rattle.model_places.specs.Places.{Lists, logical_count, home_of}
+use Rattle.ram_lists.specs.Lists.{lists_of}
+use Rattle.ram_requests.proofs.Moves.{in_block}
+use Rattle.ram_volume.specs.declared.writing.Wrote.TheVariants as wrote
+use Rattle.ram_volume.specs.Writing.{WritesPart, PartStops}
+use Rattle.ram_volume.proofs.WriteTurns.{wrote_none}
+use Rattle.ram_volume.proofs.WriteEnds.{wrote_all, wrote_one_more, part_within, part_stopped, part_unread, part_spareless, part_unlisted}
+use Rattle.ram_volume.proofs.writing.write_parts.Goals as goal
+
+pub loop-k-init : goal.loop-k-init
+loop-k-init g c = record {
+  so_far = wrote_none g.M.Medium.world g.M.Medium.block_count g.M.Medium.reaches g.M.Medium.takes g.M.MediumControl.arms g.M.MediumControl.armed_cut g.met.M.Medium.laws g.met.M.MediumControl.control_laws c.args.geometry.now c.args.medium.now (lists_of c.args.lists.now) c.args.buffer.now c.args.request.lba c.args.request.n c.args.from.now c.requires.on c.requires.inside c.requires.settled;
+  valid = c.requires.valid;
+  lawful = c.requires.lawful;
+  room = c.requires.room;
+  draft = c.requires.draft;
+  as_many = refl;
+}
+
+pub write_part-requires-clause-size : goal.write_part-requires-clause-size
+write_part-requires-clause-size g c = c.loop-k.invariant.as_many ∙ c.requires.size
+
+pub write_part-requires-clause-on : goal.write_part-requires-clause-on
+write_part-requires-clause-on g c = c.loop-k.invariant.so_far.blocks.wrote.ends.is_on
+
+pub write_part-requires-clause-valid : goal.write_part-requires-clause-valid
+write_part-requires-clause-valid g c = c.loop-k.invariant.valid
+
+pub write_part-requires-clause-lawful : goal.write_part-requires-clause-lawful
+write_part-requires-clause-lawful g c = c.loop-k.invariant.lawful
+
+pub write_part-requires-clause-settled : goal.write_part-requires-clause-settled
+write_part-requires-clause-settled g c = c.loop-k.invariant.so_far.blocks.settled
+
+pub write_part-requires-clause-inside : goal.write_part-requires-clause-inside
+write_part-requires-clause-inside g c =
+    let covered : c.loop-k.k < blocks_covered c.args.request.lba c.args.request.n = omega (arith, c.loop-k-test.true, c.blocks-k-end.ensures) in
+    subst (λ (block : ℕ). block < logical_count c.args.geometry.now (lists_of c.loop-k.lists)) (sym c.part-part.ensures.block)
+    (part_within g.M.Medium.world g.M.Medium.block_count g.M.Medium.reaches g.M.Medium.takes g.M.MediumControl.arms g.M.MediumControl.armed_cut g.met.M.Medium.laws g.met.M.MediumControl.control_laws c.args.geometry.now
+    c.args.medium.now c.loop-k.medium (lists_of c.args.lists.now) (lists_of c.loop-k.lists) c.args.buffer.now c.loop-k.buffer c.args.request.lba c.args.request.n c.args.from.now c.loop-k.k c.loop-k.invariant.so_far
+    c.requires.valid c.requires.inside c.requires.whole covered c.loop-k.medium)
+
+pub write_part-requires-clause-room : goal.write_part-requires-clause-room
+write_part-requires-clause-room g c = c.loop-k.invariant.room
+
+pub write_part-requires-clause-draft : goal.write_part-requires-clause-draft
+write_part-requires-clause-draft g c = c.loop-k.invariant.draft
+
+pub returns-in_err-write_part-clause-rule : goal.returns-in_err-write_part-clause-rule
+returns-in_err-write_part-clause-rule g c =
+    let p = err_from_is_err_and c.from_residual.result c.from_residual.ensures.1 in
+    let covered : c.loop-k.k < blocks_covered c.args.request.lba c.args.request.n = omega (arith, c.loop-k-test.true, c.blocks-k-end.ensures) in
+    let did = in_block (λ lba n block. PartStops g.M.Medium.world g.M.Medium.reaches c.args.geometry.now c.loop-k.medium c.write_part.new.medium (lists_of c.loop-k.lists)
+    c.loop-k.buffer lba n block c.args.from.now c.in_err-write_part.field-0.0) c.part-part.result c.args.request c.loop-k.k c.part-part.ensures.request c.part-part.ensures.block c.in_err-write_part.ensures.rule in
+    rw (p.1, p.2)
+    (part_stopped g.M.Medium.world g.M.Medium.block_count g.M.Medium.reaches g.M.Medium.takes g.M.MediumControl.arms g.M.MediumControl.armed_cut g.met.M.Medium.laws g.met.M.MediumControl.control_laws c.args.geometry.now
+    c.args.medium.now c.loop-k.medium (lists_of c.args.lists.now) (lists_of c.loop-k.lists) c.args.buffer.now c.loop-k.buffer c.args.request.lba c.args.request.n c.args.from.now c.loop-k.k c.loop-k.invariant.so_far
+    c.requires.valid c.requires.inside c.requires.whole covered c.write_part.new.medium c.in_err-write_part.field-0.0 did)
+
+pub returns-in_err-write_part-clause-as_many : goal.returns-in_err-write_part-clause-as_many
+returns-in_err-write_part-clause-as_many g c = c.write_part.ensures.as_many ∙ c.loop-k.invariant.as_many
+
+pub home-requires-clause-inside : goal.home-requires-clause-inside
+home-requires-clause-inside g c =
+    let covered : c.loop-k.k < blocks_covered c.args.request.lba c.args.request.n = omega (arith, c.loop-k-test.true, c.blocks-k-end.ensures) in
+    let did = in_block (λ lba n block. WritesPart g.M.Medium.world g.M.Medium.reaches c.args.geometry.now c.loop-k.medium c.write_part.new.medium (lists_of c.loop-k.lists) (lists_of c.write_part.new.lists)
+    c.loop-k.buffer c.write_part.new.buffer lba n block c.args.from.now wrote.NoRest) c.part-part.result c.args.request c.loop-k.k c.part-part.ensures.request c.part-part.ensures.block
+    (rw c.in-NoRest.is at c.in_ok-write_part.ensures.rule) in
+    subst (λ (l : Lists). c.part-part.result.block < logical_count c.args.geometry.now l) (sym did.same)
+    (subst (λ (block : ℕ). block < logical_count c.args.geometry.now (lists_of c.loop-k.lists)) (sym c.part-part.ensures.block)
+    (part_within g.M.Medium.world g.M.Medium.block_count g.M.Medium.reaches g.M.Medium.takes g.M.MediumControl.arms g.M.MediumControl.armed_cut g.met.M.Medium.laws g.met.M.MediumControl.control_laws c.args.geometry.now
+    c.args.medium.now c.loop-k.medium (lists_of c.args.lists.now) (lists_of c.loop-k.lists) c.args.buffer.now c.loop-k.buffer c.args.request.lba c.args.request.n c.args.from.now c.loop-k.k c.loop-k.invariant.so_far
+    c.requires.valid c.requires.inside c.requires.whole covered c.write_part.new.medium))
+
+pub returns-in-NoRest-clause-rule : goal.returns-in-NoRest-clause-rule
+returns-in-NoRest-clause-rule g c =
+    let covered : c.loop-k.k < blocks_covered c.args.request.lba c.args.request.n = omega (arith, c.loop-k-test.true, c.blocks-k-end.ensures) in
+    let did = in_block (λ lba n block. WritesPart g.M.Medium.world g.M.Medium.reaches c.args.geometry.now c.loop-k.medium c.write_part.new.medium (lists_of c.loop-k.lists) (lists_of c.write_part.new.lists)
+    c.loop-k.buffer c.write_part.new.buffer lba n block c.args.from.now wrote.NoRest) c.part-part.result c.args.request c.loop-k.k c.part-part.ensures.request c.part-part.ensures.block
+    (rw c.in-NoRest.is at c.in_ok-write_part.ensures.rule) in
+    let named = in_block (λ lba n block. c.part-part.result.start ≡ start_in lba block) c.part-part.result c.args.request c.loop-k.k c.part-part.ensures.request c.part-part.ensures.block c.part-part.result.start_is in
+    let here = in_block (λ lba n block. c.home.result ≡ home_of c.args.geometry.now (lists_of c.write_part.new.lists) block) c.part-part.result c.args.request c.loop-k.k c.part-part.ensures.request c.part-part.ensures.block c.home.ensures in
+    part_unread g.M.Medium.world g.M.Medium.block_count g.M.Medium.reaches g.M.Medium.takes g.M.MediumControl.arms g.M.MediumControl.armed_cut g.met.M.Medium.laws g.met.M.MediumControl.control_laws c.args.geometry.now
+    c.args.medium.now c.loop-k.medium (lists_of c.args.lists.now) (lists_of c.loop-k.lists) c.args.buffer.now c.loop-k.buffer c.args.request.lba c.args.request.n c.args.from.now c.loop-k.k c.loop-k.invariant.so_far
+    c.requires.valid c.requires.inside c.requires.whole covered c.write_part.new.medium (lists_of c.write_part.new.lists) c.write_part.new.buffer c.part-part.result.start named c.home.result here did
+
+pub returns-in-NoRest-clause-as_many : goal.returns-in-NoRest-clause-as_many
+returns-in-NoRest-clause-as_many g c = c.write_part.ensures.as_many ∙ c.loop-k.invariant.as_many
+
+pub returns-in-NoSpare-clause-rule : goal.returns-in-NoSpare-clause-rule
+returns-in-NoSpare-clause-rule g c =
+    let covered : c.loop-k.k < blocks_covered c.args.request.lba c.args.request.n = omega (arith, c.loop-k-test.true, c.blocks-k-end.ensures) in
+    let did = in_block (λ lba n block. WritesPart g.M.Medium.world g.M.Medium.reaches c.args.geometry.now c.loop-k.medium c.write_part.new.medium (lists_of c.loop-k.lists) (lists_of c.write_part.new.lists)
+    c.loop-k.buffer c.write_part.new.buffer lba n block c.args.from.now wrote.NoSpare) c.part-part.result c.args.request c.loop-k.k c.part-part.ensures.request c.part-part.ensures.block
+    (rw c.in-NoSpare.is at c.in_ok-write_part.ensures.rule) in
+    let named = in_block (λ lba n block. c.part-part.result.start ≡ start_in lba block) c.part-part.result c.args.request c.loop-k.k c.part-part.ensures.request c.part-part.ensures.block c.part-part.result.start_is in
+    part_spareless g.M.Medium.world g.M.Medium.block_count g.M.Medium.reaches g.M.Medium.takes g.M.MediumControl.arms g.M.MediumControl.armed_cut g.met.M.Medium.laws g.met.M.MediumControl.control_laws c.args.geometry.now
+    c.args.medium.now c.loop-k.medium (lists_of c.args.lists.now) (lists_of c.loop-k.lists) c.args.buffer.now c.loop-k.buffer c.args.request.lba c.args.request.n c.args.from.now c.loop-k.k c.loop-k.invariant.so_far
+    c.requires.valid c.requires.inside c.requires.whole covered c.write_part.new.medium (lists_of c.write_part.new.lists) c.write_part.new.buffer c.part-part.result.start named did
+
+pub returns-in-NoSpare-clause-as_many : goal.returns-in-NoSpare-clause-as_many
+returns-in-NoSpare-clause-as_many g c = c.write_part.ensures.as_many ∙ c.loop-k.invariant.as_many
+
+pub returns-in-NoUpdate-clause-rule : goal.returns-in-NoUpdate-clause-rule
+returns-in-NoUpdate-clause-rule g c =
+    let covered : c.loop-k.k < blocks_covered c.args.request.lba c.args.request.n = omega (arith, c.loop-k-test.true, c.blocks-k-end.ensures) in
+    let did = in_block (λ lba n block. WritesPart g.M.Medium.world g.M.Medium.reaches c.args.geometry.now c.loop-k.medium c.write_part.new.medium (lists_of c.loop-k.lists) (lists_of c.write_part.new.lists)
+    c.loop-k.buffer c.write_part.new.buffer lba n block c.args.from.now (wrote.NoUpdate c.in-NoUpdate.counter)) c.part-part.result c.args.request c.loop-k.k c.part-part.ensures.request c.part-part.ensures.block
+    (rw c.in-NoUpdate.is at c.in_ok-write_part.ensures.rule) in
+    part_unlisted g.M.Medium.world g.M.Medium.block_count g.M.Medium.reaches g.M.Medium.takes g.M.MediumControl.arms g.M.MediumControl.armed_cut g.met.M.Medium.laws g.met.M.MediumControl.control_laws c.args.geometry.now
+    c.args.medium.now c.loop-k.medium (lists_of c.args.lists.now) (lists_of c.loop-k.lists) c.args.buffer.now c.loop-k.buffer c.args.request.lba c.args.request.n c.args.from.now c.loop-k.k c.loop-k.invariant.so_far
+    c.requires.valid c.requires.inside c.requires.whole covered c.write_part.new.medium (lists_of c.write_part.new.lists) c.write_part.new.buffer c.in-NoUpdate.counter did
+
+pub returns-in-NoUpdate-clause-as_many : goal.returns-in-NoUpdate-clause-as_many
+returns-in-NoUpdate-clause-as_many g c = c.write_part.ensures.as_many ∙ c.loop-k.invariant.as_many
+
+pub loop-k-preserved : goal.loop-k-preserved
+loop-k-preserved g c =
+    let covered : c.loop-k.k < blocks_covered c.args.request.lba c.args.request.n = omega (arith, c.loop-k-test.true, c.blocks-k-end.ensures) in
+    let did = in_block (λ lba n block. WritesPart g.M.Medium.world g.M.Medium.reaches c.args.geometry.now c.loop-k.medium c.write_part.new.medium (lists_of c.loop-k.lists) (lists_of c.write_part.new.lists)
+    c.loop-k.buffer c.write_part.new.buffer lba n block c.args.from.now wrote.Done) c.part-part.result c.args.request c.loop-k.k c.part-part.ensures.request c.part-part.ensures.block
+    (rw c.in-Done.is at c.in_ok-write_part.ensures.rule) in
+    record {
+      so_far = wrote_one_more g.M.Medium.world g.M.Medium.block_count g.M.Medium.reaches g.M.Medium.takes g.M.MediumControl.arms g.M.MediumControl.armed_cut g.met.M.Medium.laws g.met.M.MediumControl.control_laws c.args.geometry.now
+    c.args.medium.now c.loop-k.medium (lists_of c.args.lists.now) (lists_of c.loop-k.lists) c.args.buffer.now c.loop-k.buffer c.args.request.lba c.args.request.n c.args.from.now c.loop-k.k c.loop-k.invariant.so_far
+          c.requires.valid c.requires.inside c.requires.whole covered c.write_part.new.medium (lists_of c.write_part.new.lists) c.write_part.new.buffer did;
+      valid = c.write_part.ensures.valid;
+      lawful = c.write_part.ensures.lawful;
+      room = c.write_part.ensures.room;
+      draft = c.write_part.ensures.draft;
+      as_many = c.write_part.ensures.as_many ∙ c.loop-k.invariant.as_many;
+    }
+
+pub returns-clause-rule : goal.returns-clause-rule
+returns-clause-rule g c =
+    let all : c.loop-k.k ≡ blocks_covered c.args.request.lba c.args.request.n = omega (arith, c.loop-k-test.false, c.loop-k.auto.k-end, c.blocks-k-end.ensures) in
+    wrote_all g.M.Medium.world g.M.Medium.block_count g.M.Medium.reaches g.M.Medium.takes g.M.MediumControl.arms g.M.MediumControl.armed_cut g.met.M.Medium.laws g.met.M.MediumControl.control_laws c.args.geometry.now
+    c.args.medium.now c.loop-k.medium (lists_of c.args.lists.now) (lists_of c.loop-k.lists) c.args.buffer.now c.loop-k.buffer c.args.request.lba c.args.request.n c.args.from.now c.loop-k.k c.loop-k.invariant.so_far c.loop-k.invariant.valid all
+
+pub returns-clause-valid : goal.returns-clause-valid
+returns-clause-valid g c = c.loop-k.invariant.valid
+
+pub returns-clause-lawful : goal.returns-clause-lawful
+returns-clause-lawful g c = c.loop-k.invariant.lawful
+
+pub returns-clause-room : goal.returns-clause-room
+returns-clause-room g c = c.loop-k.invariant.room
+
+pub returns-clause-draft : goal.returns-clause-draft
+returns-clause-draft g c = c.loop-k.invariant.draft
+
+pub returns-clause-as_many : goal.returns-clause-as_many
+returns-clause-as_many g c = c.loop-k.invariant.as_many

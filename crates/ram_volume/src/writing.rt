@@ -1,0 +1,250 @@
+//! Writes of sectors, one logical block after another, with linear replacement. A block that a request covers in part is
+//! read, modified and written.
+
+ghost use Rattle.std.specs.Prelude.{◌≡◌, ◌+◌, ◌*◌, ◌<◌, ◌≤◌, IsTrue, MatchResult, length};
+ghost use Rattle.model_commands.specs.declared.TheConstants.{TRANSFER_LIMIT};
+ghost use Rattle.model_geometry.specs.declared.TheConstants.{MOST_SPARES};
+ghost use Rattle.model_geometry.specs.Geometry.{total};
+ghost use Rattle.model_lists.specs.Values.{IsLawfulSdl};
+ghost use Rattle.model_places.specs.Places.{logical_count, capacity_of, home_of};
+ghost use Rattle.model_places.specs.Valid.{AreValid};
+ghost use Rattle.model_volume.specs.Given.{AreSettled};
+ghost use Rattle.model_drive.specs.Shown.{capacity};
+ghost use Rattle.model_drive.specs.Writes.{WriteCause};
+ghost use Rattle.ram_medium.specs.Laws.{machine_shown};
+ghost use Rattle.ram_sdl.specs.Sdl.{sdl_of};
+ghost use Rattle.ram_lists.specs.Lists.{lists_of};
+ghost use Rattle.ram_volume.specs.Shown.{shown_ready, shown_state};
+ghost use Rattle.ram_volume.specs.Writing.{BringsRest, RestStopped, WritesPart, PartStops, EndsParts, StopsParts, WriteSteps};
+
+use crate::fetching::fetch;
+use crate::states::{PoweredOff, Ready, State};
+use model_drive::WriteOut;
+use ram_buffer::BlockBuffer;
+use ram_bytes::Block;
+use ram_copies::Scratch;
+use ram_lists::{Lists, home};
+use ram_medium::{Medium, MediumControl, Stop};
+use ram_replace::{Placed, write_home};
+use ram_requests::{Part, Request};
+use ram_sdl::Sdl;
+use ram_zones::Geometry;
+
+/// How the write of a part of a request ended that was not stopped.
+#[derive(Clone, Copy)]
+pub enum Wrote {
+    /// The home of its block has it: the one that it had, or a spare.
+    Done,
+    /// The rest of its block cannot be read.
+    NoRest,
+    /// The home of its block is dead, and so are all free spares.
+    NoSpare,
+    /// The home is dead, a spare has it, and the secondary list could not be updated.
+    NoUpdate { counter: u32 },
+}
+
+/// Reads a block, out of the buffer or from its home, where a request covers it in part. Whether the block can be written.
+fn fetch_rest<M: Medium>(
+    medium: &mut M,
+    geometry: &Geometry,
+    lists: &Lists,
+    buffer: &mut BlockBuffer,
+    block: &mut Block,
+    part: Part,
+) -> Result<bool, Stop>
+    requires size { M.block_count medium.old ≡ total geometry.now }
+    requires valid { AreValid geometry.now (lists_of lists.now) }
+    requires inside { part.block < logical_count geometry.now (lists_of lists.now) }
+    ensures rule { MatchResult result
+        (BringsRest M.world M.reaches medium.old buffer.old part.request.lba part.request.n part.block
+        (home_of geometry.now (lists_of lists.now) part.block) medium.new block.new buffer.new)
+        (RestStopped M.world M.reaches medium.old buffer.old part.request.lba part.request.n part.block
+        (home_of geometry.now (lists_of lists.now) part.block) medium.new) }
+    ensures as_many { M.block_count medium.new ≡ M.block_count medium.old }
+{
+    if !part.is_partly() {
+        return Ok(true);
+    }
+    fetch(medium, geometry, lists, buffer, block, part.block)
+}
+
+/// Writes a part of a request, and buffers its block once its home has it.
+fn write_part<M: Medium>(
+    medium: &mut M,
+    geometry: &Geometry,
+    lists: &mut Lists,
+    draft: &mut Sdl,
+    buffer: &mut BlockBuffer,
+    block: &mut Block,
+    scratch: &mut Scratch,
+    part: Part,
+    from: &[u8],
+) -> Result<Wrote, Stop>
+    requires size { M.block_count medium.old ≡ total geometry.now }
+    requires on { IsTrue (M.world medium.old).power }
+    requires valid { AreValid geometry.now (lists_of lists.old) }
+    requires lawful { IsLawfulSdl (sdl_of lists.old.sdl) }
+    requires settled { AreSettled geometry.now (M.world medium.old).cells (lists_of lists.old) }
+    requires inside { part.block < logical_count geometry.now (lists_of lists.old) }
+    requires room { MOST_SPARES ≤ lists.old.sdl.entries.room }
+    requires draft { MOST_SPARES ≤ draft.old.entries.room }
+    requires whole { length from.now ≡ 2048 * part.request.n }
+    ensures rule { MatchResult result
+        (WritesPart M.world M.reaches geometry.now medium.old medium.new (lists_of lists.old) (lists_of lists.new)
+        buffer.old buffer.new part.request.lba part.request.n part.block from.now)
+        (PartStops M.world M.reaches geometry.now medium.old medium.new (lists_of lists.old)
+        buffer.old part.request.lba part.request.n part.block from.now) }
+    ensures valid { AreValid geometry.now (lists_of lists.new) }
+    ensures lawful { IsLawfulSdl (sdl_of lists.new.sdl) }
+    ensures room { MOST_SPARES ≤ lists.new.sdl.entries.room }
+    ensures draft { MOST_SPARES ≤ draft.new.entries.room }
+    ensures as_many { M.block_count medium.new ≡ M.block_count medium.old }
+{
+    if !fetch_rest(medium, geometry, lists, buffer, block, part)? {
+        return Ok(Wrote::NoRest);
+    }
+    part.merge(from, block);
+    match write_home(medium, geometry, lists, draft, part.block, block, scratch) {
+        Placed::Done => {
+            buffer.put(part.block, block);
+            Ok(Wrote::Done)
+        }
+        Placed::NoSpare => Ok(Wrote::NoSpare),
+        Placed::NoUpdate { counter } => Ok(Wrote::NoUpdate { counter }),
+        Placed::Cut => Err(Stop::Cut),
+        Placed::Off => unreachable!(),
+        Placed::Fault => Err(Stop::Fault),
+    }
+}
+
+/// Writes all parts of a request, in order, up to one that is refused.
+fn write_parts<M: MediumControl>(
+    medium: &mut M,
+    geometry: &Geometry,
+    lists: &mut Lists,
+    draft: &mut Sdl,
+    buffer: &mut BlockBuffer,
+    block: &mut Block,
+    scratch: &mut Scratch,
+    request: Request,
+    from: &[u8],
+) -> Result<WriteOut, Stop>
+    requires size { M.block_count medium.old ≡ total geometry.now }
+    requires on { IsTrue (M.world medium.old).power }
+    requires valid { AreValid geometry.now (lists_of lists.old) }
+    requires lawful { IsLawfulSdl (sdl_of lists.old.sdl) }
+    requires settled { AreSettled geometry.now (M.world medium.old).cells (lists_of lists.old) }
+    requires inside { request.lba + request.n ≤ capacity_of geometry.now (lists_of lists.old) }
+    requires room { MOST_SPARES ≤ lists.old.sdl.entries.room }
+    requires draft { MOST_SPARES ≤ draft.old.entries.room }
+    requires whole { length from.now ≡ 2048 * request.n }
+    ensures rule { MatchResult result
+        (EndsParts geometry.now (machine_shown M.world M.arms M.armed_cut medium.old)
+        (machine_shown M.world M.arms M.armed_cut medium.new) (lists_of lists.old) buffer.old
+        request.lba request.n from.now (lists_of lists.new) buffer.new)
+        (StopsParts geometry.now (machine_shown M.world M.arms M.armed_cut medium.old)
+        (machine_shown M.world M.arms M.armed_cut medium.new) (lists_of lists.old) buffer.old
+        request.lba request.n from.now) }
+    ensures valid { AreValid geometry.now (lists_of lists.new) }
+    ensures lawful { IsLawfulSdl (sdl_of lists.new.sdl) }
+    ensures room { MOST_SPARES ≤ lists.new.sdl.entries.room }
+    ensures draft { MOST_SPARES ≤ draft.new.entries.room }
+    ensures as_many { M.block_count medium.new ≡ M.block_count medium.old }
+{
+    for k in 0..request.blocks() {
+        let part = request.part(k);
+        match write_part(medium, geometry, lists, draft, buffer, block, scratch, part, from)? {
+            Wrote::Done => {}
+            Wrote::NoRest => {
+                return Ok(WriteOut::Unread {
+                    lba: part.start,
+                    block: home(geometry, lists, part.block),
+                });
+            }
+            Wrote::NoSpare => return Ok(WriteOut::NoSpare { lba: part.start }),
+            Wrote::NoUpdate { counter } => return Ok(WriteOut::NoUpdate { counter }),
+        }
+    }
+    Ok(WriteOut::Good)
+}
+
+impl<M: MediumControl> Ready<M> {
+    /// Writes the sectors of a request, all of which are the disc's.
+    fn write_request(self, request: Request, from: &[u8]) -> (State<M>, WriteOut)
+        requires inside { request.lba + request.n ≤ capacity (shown_ready self) }
+        requires whole { length from.now ≡ 2048 * request.n }
+        ensures cause { WriteCause (shown_ready self) (shown_state result.0) request.lba request.n result.1 }
+        ensures step { WriteSteps (shown_ready self) (shown_state result.0) request.lba request.n from.now result.1 }
+        ensures same_shape { (shown_state result.0).shape ≡ self.geometry }
+    {
+        let Ready {
+            mut medium,
+            geometry,
+            mut lists,
+            mut draft,
+            mut buffer,
+            mut block,
+            mut scratch,
+        } = self;
+        match write_parts(
+            &mut medium,
+            &geometry,
+            &mut lists,
+            &mut draft,
+            &mut buffer,
+            &mut block,
+            &mut scratch,
+            request,
+            from,
+        ) {
+            Ok(out) => {
+                let ready = Ready {
+                    medium,
+                    geometry,
+                    lists,
+                    draft,
+                    buffer,
+                    block,
+                    scratch,
+                };
+                (State::Ready(ready), out)
+            }
+            Err(Stop::Cut) => (State::Off(PoweredOff { medium, geometry }), WriteOut::Cut),
+            Err(Stop::Off) => unreachable!(),
+            Err(Stop::Fault) => (State::Off(PoweredOff { medium, geometry }), WriteOut::Fault),
+        }
+    }
+
+    /// Writes `n` sectors of 2,048 bytes from sector `lba` on, whose bytes are `from`: `n` is at most
+    /// [`TRANSFER_LIMIT`](ram_requests::TRANSFER_LIMIT), and `from` has `2,048 * n` bytes. One logical block after another,
+    /// in order, is written to its home and read back, which takes 2 uses of the medium; one that is covered in part is
+    /// taken out of the buffer before, or read, 1 use. A block whose home is dead goes to the first free spare that is not,
+    /// 2 uses for each that is tried, and the secondary list is updated, 8 uses. It takes no memory.
+    ///
+    /// - `Good`: all of them were written.
+    /// - `Range`: some of them are none of the disc's, whose capacity is told; nothing was done.
+    /// - `Unread`: a block is covered in part and not buffered, and its home has no whole bytes. It is named by its first
+    ///   sector of the request, and by its home, a block of the medium.
+    /// - `NoSpare`: the home of a block is dead, and so are all free spares. It is named by its first sector of the request.
+    /// - `NoUpdate`: the home of a block is dead and a spare has its bytes, but no copy of the secondary list is left, or its
+    ///   counter, which is told, is the last one.
+    /// - `Cut`: the power was cut in this write. `Fault`: what the medium lies on failed, and counted it. The power is off.
+    ///
+    /// After `Unread`, `NoSpare` and `NoUpdate` the blocks before the one that is told of are written, and no other; the
+    /// disc is ready, as it is after `Good` and `Range`. After `Cut` and `Fault` nothing is kept in memory, and the block in
+    /// work has all its old sectors of the request or all its new ones. (Linear replacement after ECMA-330; the answers and
+    /// the order are this project's own.)
+    pub fn write(self, lba: u32, n: u32, from: &[u8]) -> (State<M>, WriteOut)
+        requires few { n ≤ TRANSFER_LIMIT }
+        requires whole { length from.now ≡ 2048 * n }
+        ensures cause { WriteCause (shown_ready self) (shown_state result.0) lba n result.1 }
+        ensures step { WriteSteps (shown_ready self) (shown_state result.0) lba n from.now result.1 }
+        ensures same_shape { (shown_state result.0).shape ≡ self.geometry }
+    {
+        let capacity = self.capacity();
+        match Request::within(capacity, lba, n) {
+            Some(request) => self.write_request(request, from),
+            None => (State::Ready(self), WriteOut::Range { capacity }),
+        }
+    }
+}
