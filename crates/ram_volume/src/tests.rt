@@ -6,6 +6,8 @@ use ram_zones::ListKind;
 use std::alloc::{AllocError, Global};
 use std::test::Fail;
 
+mod writing;
+
 /// A disc with copies of both lists of these counters in areas 1 to 4; none where it is 0. The secondary lists are under
 /// the structure of counter 5.
 fn disc_with(alloc: Global, dds: [u32; 4], sdl: [u32; 4]) -> Result<ExampleDisc, AllocError> {
