@@ -1,4 +1,5 @@
 mod Buffers
+mod Completing
 mod Fetches
 mod FormatAnswers
 mod FormatCauses

@@ -48,13 +48,16 @@ module _ {M : Type 0} (world : M → World) (block_count : M → ℕ) (reaches :
       where
         steps : WriteSteps before now lba n bytes outs.Good
         steps (On disc) stood =
-            subst (λ (m : ℕ). StandsFor now (On (disc_after disc lba n bytes m))) (did.as_many ∙ all)
-            (did.blocks.wrote.ends.reach.lasts.as_known ∙ stood.0, did.blocks.wrote.ends.is_on, record {
-              valid = valid;
-              settled = did.blocks.settled;
-              fits = did.blocks.makes disc stood;
-              holds = did.blocks.holds disc stood;
-            })
+            subst (λ (m : ℕ). StandsFor now (On (disc_after disc lba n bytes m))) (did.as_many ∙ all) (
+              did.blocks.wrote.ends.reach.lasts.as_known ∙ stood.0,
+              did.blocks.wrote.ends.is_on,
+              record {
+                valid = valid;
+                settled = did.blocks.settled;
+                fits = did.blocks.makes disc stood;
+                holds = did.blocks.holds disc stood;
+              },
+            )
         steps (Off discs) stood = absurd (stood.1 did.blocks.wrote.wrote.inside.on)
 
     module _ (valid : AreValid shape lists) (inside : lba + n ≤ capacity_of shape lists) (whole : length bytes ≡ 2048 * n) (covered : k < blocks_covered lba n) (new : M) where

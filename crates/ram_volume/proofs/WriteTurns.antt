@@ -206,13 +206,16 @@ module _ {M : Type 0} (world : M → World) (block_count : M → ℕ) (reaches :
 
       unread_steps : WriteSteps before (under new reached held_mid) lba n bytes (outs.Unread named place)
       unread_steps (On disc) stood =
-          subst (λ (j : ℕ). StandsFor (under new reached held_mid) (On (replaced disc lba bytes j))) (sym (ap block_with named_is ∙ block_with_start lba n (length course) covered))
-          (unread_goes.reach.lasts.as_known ∙ known_mid disc stood, unread_goes.is_on, record {
-            valid = reached_ok;
-            settled = settled_dies shape (world mid).cells (world new).cells unread_dies reached did.settled;
-            fits = fits_dies shape (world mid).cells (world new).cells unread_dies reached (disc_after disc lba n bytes (length course)) (did.makes disc stood);
-            holds = did.holds disc stood;
-          })
+          subst (λ (j : ℕ). StandsFor (under new reached held_mid) (On (replaced disc lba bytes j))) (sym (ap block_with named_is ∙ block_with_start lba n (length course) covered)) (
+            unread_goes.reach.lasts.as_known ∙ known_mid disc stood,
+            unread_goes.is_on,
+            record {
+              valid = reached_ok;
+              settled = settled_dies shape (world mid).cells (world new).cells unread_dies reached did.settled;
+              fits = fits_dies shape (world mid).cells (world new).cells unread_dies reached (disc_after disc lba n bytes (length course)) (did.makes disc stood);
+              holds = did.holds disc stood;
+            },
+          )
       unread_steps (Off discs) stood = absurd (stood.1 was_on)
 
       unread_ends : EndsParts shape (machine old) (machine new) lists held lba n bytes reached held_mid (outs.Unread named place)
@@ -314,8 +317,11 @@ module _ {M : Type 0} (world : M → World) (block_count : M → ℕ) (reaches :
           (λ disc stood. record {
             block = length course;
             covered = covered;
-            either = (halted.as_known ∙ known_at disc stood, is_off,
-                halted.covers (disc_after disc lba n bytes (length course)) (disc_after disc lba n bytes (length course + 1)) (differs_at disc stood) (fits_at disc stood));
+            either = (
+              halted.as_known ∙ known_at disc stood,
+              is_off,
+              halted.covers (disc_after disc lba n bytes (length course)) (disc_after disc lba n bytes (length course + 1)) (differs_at disc stood) (fits_at disc stood),
+            );
           })
           is_off
         where
@@ -348,12 +354,16 @@ module _ {M : Type 0} (world : M → World) (block_count : M → ℕ) (reaches :
         }
 
         stands_left : (disc : List ℕ) → StandsFor before (On disc) → StandsFor after (On (disc_after disc lba n bytes (length course)))
-        stands_left disc stood = (leaves.as_known ∙ known_at disc stood, leaves.continues.is_on, record {
-          valid = reached_ok;
-          settled = leaves.settled;
-          fits = leaves.keeps (disc_after disc lba n bytes (length course)) (fits_at disc stood);
-          holds = holds_at disc stood;
-        })
+        stands_left disc stood = (
+          leaves.as_known ∙ known_at disc stood,
+          leaves.continues.is_on,
+          record {
+            valid = reached_ok;
+            settled = leaves.settled;
+            fits = leaves.keeps (disc_after disc lba n bytes (length course)) (fits_at disc stood);
+            holds = holds_at disc stood;
+          },
+        )
 
         took_left : (disc : List ℕ) → StandsFor before (On disc) → TookCourse shape (world new).cells lists (block_with lba) course
         took_left disc stood =

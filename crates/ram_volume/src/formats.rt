@@ -8,7 +8,7 @@ ghost use Rattle.model_copies.specs.Copies.{AreMarkedWithin};
 ghost use Rattle.model_places.specs.Valid.{AreValid};
 ghost use Rattle.model_volume.specs.Given.{GivesNone, AreSettled};
 ghost use Rattle.model_drive.specs.declared.Kind.TheVariants as kinds;
-ghost use Rattle.model_drive.specs.Formats.{FormatCause};
+ghost use Rattle.model_drive.specs.Formats.{FormatCause, FormatCompletes};
 ghost use Rattle.ram_medium.specs.Laws.{machine_shown};
 ghost use Rattle.ram_dds.specs.Dds.{dds_of};
 ghost use Rattle.ram_sdl.specs.Sdl.{sdl_of};
@@ -181,6 +181,7 @@ impl<M: MediumControl> Ready<M> {
     pub fn format(self, alloc: Global, kind: Kind) -> (State<M>, FormatOut)
         ensures cause { FormatCause (shown_ready self) (shown_state result.0) kind result.1 }
         ensures step { FormatSteps (shown_ready self) (shown_state result.0) kind result.1 }
+        ensures completes { FormatCompletes (shown_ready self) (shown_state result.0) kind result.1 }
         ensures same_shape { (shown_state result.0).shape ≡ self.geometry }
     {
         match kind {

@@ -7,7 +7,7 @@ ghost use Rattle.model_sectors.specs.Requests.{blocks_covered};
 ghost use Rattle.model_places.specs.Places.{logical_count, capacity_of, home_of};
 ghost use Rattle.model_places.specs.Valid.{AreValid};
 ghost use Rattle.model_drive.specs.Shown.{capacity};
-ghost use Rattle.model_drive.specs.Reads.{ReadCause, ReadIsQuiet};
+ghost use Rattle.model_drive.specs.Reads.{ReadCause, ReadCompletes, ReadIsQuiet};
 ghost use Rattle.ram_lists.specs.Lists.{lists_of};
 ghost use Rattle.ram_volume.specs.Blocks.{FetchStopped};
 ghost use Rattle.ram_volume.specs.Reading.{ReadsPart, PartsEnd, ReadSteps, read_end_at};
@@ -163,6 +163,7 @@ impl<M: MediumControl> Ready<M> {
         requires whole { length into.old ≡ 2048 * n }
         ensures cause { ReadCause (shown_ready self) (shown_state result.0) lba n result.1 }
         ensures step { ReadSteps (shown_ready self) (shown_state result.0) lba n into.new result.1 }
+        ensures completes { ReadCompletes (shown_ready self) (shown_state result.0) lba n result.1 }
         ensures quiet { ReadIsQuiet (shown_ready self) (shown_state result.0) lba n result.1 }
         ensures same_shape { (shown_state result.0).shape ≡ self.geometry }
     {

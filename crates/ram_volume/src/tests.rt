@@ -10,6 +10,7 @@ use std::test::Fail;
 
 mod formats;
 mod reading;
+mod writing;
 
 /// A disc with copies of both lists of these counters in areas 1 to 4; none where it is 0. The secondary lists are under
 /// the structure of counter 5.

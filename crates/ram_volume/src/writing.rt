@@ -10,7 +10,7 @@ ghost use Rattle.model_places.specs.Places.{logical_count, capacity_of, home_of}
 ghost use Rattle.model_places.specs.Valid.{AreValid};
 ghost use Rattle.model_volume.specs.Given.{AreSettled};
 ghost use Rattle.model_drive.specs.Shown.{capacity};
-ghost use Rattle.model_drive.specs.Writes.{WriteCause};
+ghost use Rattle.model_drive.specs.Writes.{WriteCause, WriteCompletes};
 ghost use Rattle.ram_medium.specs.Laws.{machine_shown};
 ghost use Rattle.ram_sdl.specs.Sdl.{sdl_of};
 ghost use Rattle.ram_lists.specs.Lists.{lists_of};
@@ -153,7 +153,9 @@ fn write_parts<M: MediumControl>(
 {
     for k in 0..request.blocks() {
         let part = request.part(k);
-        match write_part(medium, geometry, lists, draft, buffer, block, scratch, part, from)? {
+        match write_part(
+            medium, geometry, lists, draft, buffer, block, scratch, part, from,
+        )? {
             Wrote::Done => {}
             Wrote::NoRest => {
                 return Ok(WriteOut::Unread {
@@ -239,6 +241,7 @@ impl<M: MediumControl> Ready<M> {
         requires whole { length from.now ≡ 2048 * n }
         ensures cause { WriteCause (shown_ready self) (shown_state result.0) lba n result.1 }
         ensures step { WriteSteps (shown_ready self) (shown_state result.0) lba n from.now result.1 }
+        ensures completes { WriteCompletes (shown_ready self) (shown_state result.0) lba n result.1 }
         ensures same_shape { (shown_state result.0).shape ≡ self.geometry }
     {
         let capacity = self.capacity();

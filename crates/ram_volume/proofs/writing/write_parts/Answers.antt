@@ -126,7 +126,7 @@ loop-k-preserved g c =
     (rw c.in-Done.is at c.in_ok-write_part.ensures.rule) in
     record {
       so_far = wrote_one_more g.M.Medium.world g.M.Medium.block_count g.M.Medium.reaches g.M.Medium.takes g.M.MediumControl.arms g.M.MediumControl.armed_cut g.met.M.Medium.laws g.met.M.MediumControl.control_laws c.args.geometry.now
-    c.args.medium.now c.loop-k.medium (lists_of c.args.lists.now) (lists_of c.loop-k.lists) c.args.buffer.now c.loop-k.buffer c.args.request.lba c.args.request.n c.args.from.now c.loop-k.k c.loop-k.invariant.so_far
+          c.args.medium.now c.loop-k.medium (lists_of c.args.lists.now) (lists_of c.loop-k.lists) c.args.buffer.now c.loop-k.buffer c.args.request.lba c.args.request.n c.args.from.now c.loop-k.k c.loop-k.invariant.so_far
           c.requires.valid c.requires.inside c.requires.whole covered c.write_part.new.medium (lists_of c.write_part.new.lists) c.write_part.new.buffer did;
       valid = c.write_part.ensures.valid;
       lawful = c.write_part.ensures.lawful;
