@@ -4,7 +4,7 @@ use super::*;
 use ram_bytes::Block;
 use ram_examples::{ExampleDisc, dds_text, sdl_text};
 use ram_medium::{Fate, Medium, MediumControl, MemMedium, ReadEnd};
-use ram_zones::ListKind;
+use ram_zones::{Geometry, ListKind};
 use std::alloc::{AllocError, Global};
 use std::test::Fail;
 
@@ -83,6 +83,23 @@ fn drive_with(disc: ExampleDisc) -> PoweredOff<MemMedium> {
     } = disc;
     medium.power_off();
     PoweredOff::new(medium, geometry)
+}
+
+/// A disc of these parts, where they fit.
+fn disc_over(medium: MemMedium, geometry: Geometry) -> Result<ExampleDisc, Fail> {
+    if medium.blocks() != geometry.total() {
+        return Err(Fail::from("another geometry"));
+    }
+    Ok(ExampleDisc { medium, geometry })
+}
+
+/// A drive over this medium, with its power off.
+fn drive_over(mut medium: MemMedium, geometry: Geometry) -> Result<PoweredOff<MemMedium>, Fail> {
+    medium.power_off();
+    if medium.blocks() != geometry.total() {
+        return Err(Fail::from("another geometry"));
+    }
+    Ok(PoweredOff::new(medium, geometry))
 }
 
 /// Whether the power is cut in the next use of a medium: so many uses were made since a cut was armed.

@@ -4,7 +4,6 @@ use super::*;
 use model_sectors::ReadOut;
 use ram_dds::{PdlEntry, PdlKind};
 use ram_sectors::{FormatOut, Kind};
-use ram_zones::Geometry;
 
 /// The blocks of the structure in areas 1 to 4.
 const DDS_BLOCKS: [u32; 4] = [0, 2, 33, 35];
@@ -17,15 +16,6 @@ const FULL: Kind = Kind::Full { drop_sdl: false };
 
 /// One that forgets them.
 const FORGETTING: Kind = Kind::Full { drop_sdl: true };
-
-/// A drive over this medium, with its power off.
-fn drive_over(mut medium: MemMedium, geometry: Geometry) -> Result<PoweredOff<MemMedium>, Fail> {
-    medium.power_off();
-    if medium.blocks() != geometry.total() {
-        return Err(Fail::from("another geometry"));
-    }
-    Ok(PoweredOff::new(medium, geometry))
-}
 
 /// A drive with a blank disc on which these blocks have failed.
 fn blank(alloc: Global, failed: &[u32]) -> Result<PoweredOff<MemMedium>, Fail> {

@@ -30,12 +30,27 @@ fn turned_on(
 }
 
 /// A disc whose secondary list has this counter, with these blocks dead.
-fn disc_of(alloc: Global, counter: u32, failed: &[u32]) -> Result<ExampleDisc, AllocError> {
-    let mut disc = disc_with(alloc, [5; 4], [counter; 4])?;
+fn disc_of(alloc: Global, counter: u32, failed: &[u32]) -> Result<ExampleDisc, Fail> {
+    let ExampleDisc {
+        mut medium,
+        geometry,
+    } = disc_with(alloc, [5; 4], [counter; 4])?;
     for block in failed {
-        disc.medium.fail(*block);
+        medium.fail(*block);
     }
-    Ok(disc)
+    disc_over(medium, geometry)
+}
+
+/// The disc, of which these blocks are to die at their third use.
+fn worn(disc: ExampleDisc, blocks: &[u32]) -> Result<ExampleDisc, Fail> {
+    let ExampleDisc {
+        mut medium,
+        geometry,
+    } = disc;
+    for block in blocks {
+        medium.wear(*block, 3);
+    }
+    disc_over(medium, geometry)
 }
 
 /// Writes so many sectors, 64 at most, with this byte all over.
@@ -87,9 +102,12 @@ fn ends_by(
 
 /// Turns a drive off, kills a block, and turns it on again.
 fn again(alloc: Global, ready: Ready<MemMedium>, failed: u32) -> Result<Ready<MemMedium>, Fail> {
-    let mut off = ready.power_off();
-    off.medium.fail(failed);
-    match off.power_on(alloc) {
+    let PoweredOff {
+        mut medium,
+        geometry,
+    } = ready.power_off();
+    medium.fail(failed);
+    match drive_over(medium, geometry)?.power_on(alloc) {
         PowerOn::Ready(ready) => Ok(ready),
         _ => Err(Fail::from("the disc is not formatted")),
     }
@@ -205,8 +223,7 @@ fn parts_are_merged(rt: HostRuntime) -> Result<(), Fail> {
 #[test]
 fn a_refused_part_stays_buffered(rt: HostRuntime) -> Result<(), Fail> {
     let alloc = rt.alloc();
-    let mut disc = disc_of(alloc, 3, &[9, 10, 11, 12])?;
-    disc.medium.wear(HOME, 3);
+    let disc = worn(disc_of(alloc, 3, &[9, 10, 11, 12])?, &[HOME])?;
     let ready = turned_on(alloc, disc, 12, Fate::Old)?;
     let ready = writes(alloc, ready, 0, 16, 1, WriteOut::Good)?;
     let ready = writes(alloc, ready, 3, 2, 2, WriteOut::NoSpare { lba: 3 })?;
@@ -268,10 +285,7 @@ fn lists_that_cannot_be_updated_stay(rt: HostRuntime) -> Result<(), Fail> {
     let ready = writes(alloc, ready, 0, 16, 1, WriteOut::NoUpdate { counter })?;
     assert_eq!(rt; (counters(&ready).1, entry(&ready, 0)), (counter, (0, 0)));
     assert!(rt; is_cut_next(alloc, &mut ready.power_off().into_medium())?);
-    let mut disc = disc_of(alloc, 3, &[HOME])?;
-    for block in SDL_BLOCKS {
-        disc.medium.wear(block, 3);
-    }
+    let disc = worn(disc_of(alloc, 3, &[HOME])?, &SDL_BLOCKS)?;
     let ready = turned_on(alloc, disc, 12, Fate::Old)?;
     let ready = writes(alloc, ready, 0, 16, 1, WriteOut::NoUpdate { counter: 3 })?;
     assert_eq!(rt; (counters(&ready).1, entry(&ready, 0)), (3, (0, 0)));
@@ -281,11 +295,8 @@ fn lists_that_cannot_be_updated_stay(rt: HostRuntime) -> Result<(), Fail> {
 
 /// A drive whose write of two blocks over others was cut after so many uses. Where their homes die in it, both move.
 fn cut_off(alloc: Global, dying: bool, k: u32, fate: Fate) -> Result<PoweredOff<MemMedium>, Fail> {
-    let mut disc = disc_of(alloc, 3, &[])?;
-    if dying {
-        disc.medium.wear(13, 3);
-        disc.medium.wear(14, 3);
-    }
+    let dying: &[u32] = if dying { &[13, 14] } else { &[] };
+    let disc = worn(disc_of(alloc, 3, &[])?, dying)?;
     let ready = turned_on(alloc, disc, k.saturating_add(4), fate)?;
     let ready = writes(alloc, ready, 0, 32, 1, WriteOut::Good)?;
     match write_bytes(alloc, ready, 0, 32, 2)? {
@@ -302,10 +313,7 @@ struct Seen {
     second: Option<u8>,
 }
 
-fn found(
-    alloc: Global,
-    off: PoweredOff<MemMedium>,
-) -> Result<(PoweredOff<MemMedium>, Seen), Fail> {
+fn found(alloc: Global, off: PoweredOff<MemMedium>) -> Result<(PoweredOff<MemMedium>, Seen), Fail> {
     let PowerOn::Ready(ready) = off.power_on(alloc) else {
         return Err(Fail::from("the lists are lost"));
     };
