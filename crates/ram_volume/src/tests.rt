@@ -12,6 +12,12 @@ mod formats;
 mod reading;
 mod writing;
 
+/// The blocks of the structure in areas 1 to 4.
+const DDS_BLOCKS: [u32; 4] = [0, 2, 33, 35];
+
+/// The blocks of the secondary list in areas 1 to 4.
+const SDL_BLOCKS: [u32; 4] = [1, 3, 34, 36];
+
 /// A disc with copies of both lists of these counters in areas 1 to 4; none where it is 0. The secondary lists are under
 /// the structure of counter 5.
 fn disc_with(alloc: Global, dds: [u32; 4], sdl: [u32; 4]) -> Result<ExampleDisc, AllocError> {

@@ -5,12 +5,6 @@ use model_sectors::ReadOut;
 use ram_dds::{PdlEntry, PdlKind};
 use ram_sectors::{FormatOut, Kind};
 
-/// The blocks of the structure in areas 1 to 4.
-const DDS_BLOCKS: [u32; 4] = [0, 2, 33, 35];
-
-/// The blocks of the secondary list in areas 1 to 4.
-const SDL_BLOCKS: [u32; 4] = [1, 3, 34, 36];
-
 /// A full format that keeps the defective blocks of the secondary list.
 const FULL: Kind = Kind::Full { drop_sdl: false };
 

@@ -8,9 +8,6 @@ use model_sectors::ReadOut;
 /// The first home of logical block 0.
 const HOME: u32 = 13;
 
-/// The blocks of the secondary list in areas 1 to 4.
-const SDL_BLOCKS: [u32; 4] = [1, 3, 34, 36];
-
 /// How many uses a mount takes.
 const MOUNT: u32 = 16;
 
