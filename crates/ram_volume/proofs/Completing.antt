@@ -1,5 +1,5 @@
 -- A write that could end well does.
-use Rattle.std.proofs.Common.{◌≡◌, ℕ, Option, Some, ap, subst}
+use Rattle.std.proofs.Common.{◌≡◌, ℕ, Option, ap, subst}
 use Rattle.std.specs.Option.{option_map_or}
 use Rattle.model_places.specs.Places.{Lists}
 use Rattle.model_places.specs.Valid.{AreValid}

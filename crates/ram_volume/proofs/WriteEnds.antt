@@ -1,5 +1,5 @@
 -- How the write of all parts of a request goes on, and how it ends, by what the write of a part did.
-use Rattle.std.proofs.Common.{◌≡◌, ℕ, ◌+◌, ◌*◌, ◌<◌, ◌≤◌, ◌⊎◌, IsTrue, Option, List, ◌∷◌, length, inl, inr, refl, sym, ap, ◌∙◌, subst, arith}
+use Rattle.std.proofs.Common.{◌≡◌, ℕ, ◌+◌, ◌*◌, ◌<◌, ◌≤◌, Option, List, length, inl, inr, sym, ap, ◌∙◌, subst, arith}
 use Rattle.model_geometry.specs.Geometry.{Shape}
 use Rattle.model_medium.specs.World.{World}
 use Rattle.model_medium.specs.Machine.{Machine}

@@ -1,9 +1,9 @@
 -- A write of a request, block after block: what was written so far, and what becomes of it with the next block.
-use Rattle.std.proofs.Common.{◌≡◌, ◌≢◌, ℕ, suc, ◌+◌, ◌*◌, ◌<◌, ◌≤◌, true, IsTrue, Option, Some, None, List, [], ◌∷◌, length, inl, inr, refl, sym, ap, ◌∙◌, subst, arith}
+use Rattle.std.proofs.Common.{◌≡◌, ℕ, suc, ◌+◌, ◌*◌, ◌<◌, ◌≤◌, true, IsTrue, Option, List, [], ◌∷◌, length, inl, refl, sym, ap, ◌∙◌, subst, arith}
 use Rattle.std.specs.List.{Contains}
-use Rattle.model_geometry.specs.Geometry.{Shape, data_blocks, sdl_block}
+use Rattle.model_geometry.specs.Geometry.{Shape, data_blocks}
 use Rattle.model_geometry.proofs.ListBlocks.{no_data_block_sdl}
-use Rattle.model_medium.specs.Cells.{Cell, IsSameOrDead, IsGood, Dead, cell_at}
+use Rattle.model_medium.specs.Cells.{Cell, IsSameOrDead, IsGood, cell_at}
 use Rattle.model_medium.specs.World.{World}
 use Rattle.model_medium.specs.Machine.{Machine}
 use Rattle.model_medium.specs.Exact.{Event}
@@ -11,7 +11,7 @@ use Rattle.model_medium.specs.Reach.{Reach}
 use Rattle.model_medium.specs.declared.WornBlock.{WornBlock}
 use Rattle.model_medium.specs.declared.ArmedCut.{ArmedCut}
 use Rattle.model_buffer.specs.Buffer.{numbers_in, touched_one, with_newest}
-use Rattle.model_sectors.specs.Discs.{Standing, On, Off, replaced}
+use Rattle.model_sectors.specs.Discs.{On, Off, replaced}
 use Rattle.model_sectors.specs.Requests.{block_with, blocks_covered, start_in, merged_in}
 use Rattle.model_sectors.specs.Uses.{touched_refused}
 use Rattle.model_sectors.proofs.Covering.{covered_inside, block_with_start, numbers_in-with_newest, replaced_first}
@@ -22,15 +22,15 @@ use Rattle.model_places.specs.Places.{Lists, logical_count, capacity_of, home_of
 use Rattle.model_places.specs.Valid.{AreValid}
 use Rattle.model_volume.specs.Given.{AreSettled}
 use Rattle.model_volume.specs.Covers.{FitsUnder, Cover}
-use Rattle.model_volume.specs.Moves.{DiffersAt, OnlyMoves}
+use Rattle.model_volume.specs.Moves.{DiffersAt}
 use Rattle.model_volume.proofs.GivenFacts.{settled_alone}
 use Rattle.model_volume.proofs.Moved.{home_is_data_block, homes_apart, home_not_free}
 use Rattle.model_drive.specs.declared.WriteOut.TheVariants as outs
 use Rattle.model_drive.specs.Shown.{Shown, HoldsBlocksOf, StandsFor}
 use Rattle.model_drive.specs.Parts.{AreSameOrDead}
-use Rattle.model_drive.specs.Course.{Placing, ToHome, ToSpare, lists_placed, lists_reached, placing_uses, most_uses, uses_of_rest, TookCourse}
+use Rattle.model_drive.specs.Course.{Placing, ToHome, ToSpare, lists_placed, placing_uses, most_uses, uses_of_rest, TookCourse}
 use Rattle.model_drive.specs.Blocks.{PutsBlock, LeavesBlock, FindsNoSpare, FindsNoCopy, StopsAtBlock}
-use Rattle.model_drive.specs.Writes.{WroteCourse, ReadRest, LacksRest, LacksSpare, LacksUpdate, StopsInWrite, StopsInBlock, EndsAtDead, disc_after}
+use Rattle.model_drive.specs.Writes.{WroteCourse, ReadRest, LacksRest, StopsInWrite, StopsInBlock, disc_after}
 use Rattle.model_drive.proofs.Ends.{stop_known, stop_off}
 use Rattle.model_drive.proofs.Dying.{one_dies, fits_dies, cover_dies, settled_dies}
 use Rattle.model_drive.proofs.Courses.{after_total, after_later, after_good}

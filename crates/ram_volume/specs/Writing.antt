@@ -1,6 +1,6 @@
 -- What a write does with the parts of its request, and what the drive stands for after it. (This project's own, as all
 -- here.)
-use Rattle.std.specs.Prelude.{◌≡◌, ℕ, ◌*◌, ◌⊎◌, Bool, IsTrue, MatchBool, List, length}
+use Rattle.std.specs.Prelude.{◌≡◌, ℕ, ◌⊎◌, Bool, IsTrue, MatchBool, List, length}
 use Rattle.model_geometry.specs.Geometry.{Shape}
 use Rattle.model_medium.specs.World.{World}
 use Rattle.model_medium.specs.Machine.{Machine}
