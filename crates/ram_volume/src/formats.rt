@@ -69,6 +69,16 @@ impl<M: MediumControl> NotFormatted<M> {
     pub fn format(self, alloc: Global, kind: Kind) -> (State<M>, FormatOut)
         ensures cause { FormatCause (shown_bare self) (shown_state result.0) kind result.1 }
         ensures step { FormatSteps (shown_bare self) (shown_state result.0) kind result.1 }
+        ensures completes { FormatCompletes (shown_bare self) (shown_state result.0) kind result.1 }
+        ensures same_shape { (shown_state result.0).shape ≡ self.geometry }
+    {
+        self.format_anew(alloc, kind)
+    }
+
+    /// A full format, of whatever kind it was to be.
+    fn format_anew(self, alloc: Global, kind: Kind) -> (State<M>, FormatOut)
+        ensures cause { FormatCause (shown_bare self) (shown_state result.0) kind result.1 }
+        ensures step { FormatSteps (shown_bare self) (shown_state result.0) kind result.1 }
         ensures same_shape { (shown_state result.0).shape ≡ self.geometry }
     {
         let _ = kind;
