@@ -3,15 +3,21 @@ use Rattle.std.specs.Prelude.{◌≡◌, ℕ, zero, suc, ◌+◌, ◌-◌, ◌*�
 use Rattle.model_geometry.specs.declared.TheConstants.{MOST_ZONES, MOST_SCALE, MOST_SPARES}
 use Rattle.std.specs.List.{range_with_len, filter, list_any, Contains}
 
--- The three numbers of a geometry: its zones, the scale of their sizes, and its primary spares. (This project's own.)
+-- The kind of a disc's layout: where its logical blocks and its spares lie. There is one kind: all blocks of the disc share
+-- one group of spares, the primary ones at its front and the supplementary ones at its end. (After ECMA-330.)
+pub data Layout : Type 0 where
+  OneGroup : Layout
+
+-- A geometry: its zones, the scale of their sizes, its primary spares, and the kind of its layout. (This project's own.)
 pub record Shape : Type 0 where
   pub zones : ℕ
   pub scale : ℕ
   pub psa : ℕ
+  pub layout : Layout
 
 -- the geometry of these three numbers
 abbrev pub shape_of : ℕ → ℕ → ℕ → Shape
-shape_of z k p = record { zones = z; scale = k; psa = p }
+shape_of z k p = record { zones = z; scale = k; psa = p; layout = OneGroup }
 
 -- Zone z, counted from 0, has so many blocks: later zones are larger. (This project's own, after the zones of ECMA-330.)
 abbrev pub zone_blocks : Shape → ℕ → ℕ

@@ -1,15 +1,23 @@
 -- A header is that of one geometry.
 use Rattle.std.specs.Prelude.{◌≡◌, ℕ, ◌/◌, ◌%◌, ◌<◌, List, slice_index}
-use Rattle.std.proofs.Common.{arith, sym, ap, ◌∙◌}
-use Rattle.model_geometry.specs.Geometry.{Shape, IsLawful, shape_of}
+use Rattle.std.proofs.Common.{arith, refl, sym, ap, ◌∙◌}
+use Rattle.model_geometry.specs.Geometry.{Layout, OneGroup, Shape, IsLawful, shape_of}
 use Rattle.model_image.specs.Image.{header_of, HasHeader}
 
 -- a number below 65,536 by its two bytes
 two_bytes : (m n : ℕ) → m < 65536 → n < 65536 → m / 256 % 256 ≡ n / 256 % 256 → m % 256 ≡ n % 256 → m ≡ n
 two_bytes m n p q high low = omega arith
 
+-- a layout is of the one kind
+one_layout : (a b : Layout) → a ≡ b
+one_layout OneGroup OneGroup = refl
+
 pub same_shape : (a b : Shape) → IsLawful a → IsLawful b → header_of a ≡ header_of b → a ≡ b
-same_shape a b p q same = ap (λ (z : ℕ). shape_of z a.scale a.psa) zones ∙ ap (λ (k : ℕ). shape_of b.zones k a.psa) scale ∙ ap (λ (s : ℕ). shape_of b.zones b.scale s) spares
+same_shape a b p q same =
+    ap (λ (z : ℕ). record a { zones = z }) zones
+    ∙ ap (λ (k : ℕ). record a { zones = b.zones; scale = k }) scale
+    ∙ ap (λ (s : ℕ). record a { zones = b.zones; scale = b.scale; psa = s }) spares
+    ∙ ap (λ (l : Layout). record b { layout = l }) (one_layout a.layout b.layout)
   where
     at : (k : ℕ) → slice_index (header_of a) k ≡ slice_index (header_of b) k
     at k = ap (λ l. slice_index l k) same

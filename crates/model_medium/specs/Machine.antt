@@ -1,5 +1,5 @@
 -- A medium with its arms and its armed cut, and how they count down at a use.
-use Rattle.std.specs.Prelude.{ℕ, ◌-◌, ◌≤◌, ◌==◌, ◌&&◌, nat_le, Bool, false, if◌then◌else◌, Option, Some, None, List, set}
+use Rattle.std.specs.Prelude.{ℕ, ◌-◌, ◌≤◌, ◌==◌, ◌&&◌, nat_le, Bool, false, if◌then◌else◌, Option, Some, None, List, All, set}
 use Rattle.std.specs.Option.{ForSome, option_map_or}
 use Rattle.std.specs.List.{filter_map, list_any}
 use Rattle.model_counts.specs.Counts.{counted}
@@ -19,6 +19,10 @@ pub record Machine : Type 0 where
 -- an armed cut falls at a use from the next one on
 abbrev pub IsToCome : Option ArmedCut → Type 0
 IsToCome cut = ForSome cut (λ armed. 1 ≤ armed.left)
+
+-- each arm falls at a use from the next one on
+abbrev pub AreToCome : List WornBlock → Type 0
+AreToCome arms = All (λ arm. 1 ≤ arm.left) arms
 
 -- this use of the block is the arm's last: it reaches 0
 abbrev pub runs_out : ℕ → WornBlock → Bool

@@ -312,6 +312,7 @@ impl<I: Image> MediumControl for ImageMedium<I> {
       exactly = λ a b event takes. takes.exactly;
       reach = λ a b k reach. reach;
       to_come = λ medium. medium.armed.to_come;
+      arms_to_come = λ medium. medium.armed.arms_to_come;
       few = λ medium. medium.armed.few;
     } };
 }

@@ -2,7 +2,7 @@
 use Rattle.std.specs.Prelude.{◌≡◌, ℕ, ◌+◌, ◌≤◌, Option, List, length}
 use Rattle.std.specs.Bool.{OnTrue}
 use Rattle.model_medium.specs.World.{World, ShowsNoneUnknown}
-use Rattle.model_medium.specs.Machine.{Machine, IsToCome}
+use Rattle.model_medium.specs.Machine.{Machine, IsToCome, AreToCome}
 use Rattle.model_medium.specs.Exact.{Event, Exactly}
 use Rattle.model_medium.specs.Reach.{Follows, Reach}
 use Rattle.model_medium.specs.declared.WornBlock.{WornBlock}
@@ -28,7 +28,8 @@ abbrev pub machine_shown : {M : Type 0} → (M → World) → (M → List WornBl
 machine_shown world arms cut m = machine_of (world m) (arms m) (cut m)
 
 -- What holds of a controllable medium: each event does exactly what it is to do, what follows is what can follow with
--- its arms and its armed cut, the armed cut is to come, and no more arms stand than may. (This project's own.)
+-- its arms and its armed cut, the armed cut and the arms are to come, and no more arms stand than may. (This project's
+-- own.)
 pub record ControlLaws {M : Type 0} (world : M → World) (reaches : M → M → ℕ → Type 0)
     (takes : M → M → Event → Type 0) (arms : M → List WornBlock) (armed_cut : M → Option ArmedCut) : Type 0 where
   pub exactly : (a b : M) (event : Event) → takes a b event
@@ -36,4 +37,5 @@ pub record ControlLaws {M : Type 0} (world : M → World) (reaches : M → M →
   pub reach : (a b : M) (k : ℕ) → reaches a b k
       → Reach (machine_shown world arms armed_cut a) (machine_shown world arms armed_cut b) k
   pub to_come : (m : M) → IsToCome (armed_cut m)
+  pub arms_to_come : (m : M) → AreToCome (arms m)
   pub few : (m : M) → length (arms m) ≤ MOST_ARMS

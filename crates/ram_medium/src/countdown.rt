@@ -1,7 +1,7 @@
 //! What is armed on a medium, and how it counts down at each use. It knows no blocks.
 
 ghost use Rattle.std.specs.Prelude.{◌≡◌, ℕ, ◌+◌, ◌<◌, ◌≤◌, length, if◌then◌else◌, Some, None};
-ghost use Rattle.model_medium.specs.Machine.{IsToCome, worn_down};
+ghost use Rattle.model_medium.specs.Machine.{IsToCome, AreToCome, worn_down};
 ghost use Rattle.ram_medium.specs.declared.countdown.TheConstants.{MOST_ARMS};
 
 use crate::control::Arm;
@@ -23,6 +23,7 @@ pub struct Armed {
     cut: Option<ArmedCut>,
     ghost few: { length worn.items ≤ MOST_ARMS },
     ghost to_come: { IsToCome cut },
+    ghost arms_to_come: { AreToCome worn.items },
 }
 
 /// What is due at a use of a block.
@@ -68,6 +69,7 @@ impl Armed {
     /// Makes a block of so many dead at its `n`-th use from now on, unless there is no such block or as many arms stand
     /// as can.
     pub fn wear(&mut self, blocks: u32, block: u32, n: u32) -> Arm
+        requires { 1 ≤ n }
         ensures arms { ArmsRule blocks (arms_of self.old) (arms_of self.new)
             (record { block = block; left = n }) result }
         ensures cut { armed_cut_of self.new ≡ armed_cut_of self.old }
