@@ -5,20 +5,21 @@ use Rattle.std.specs.List.{Contains}
 use Rattle.std.proofs.lemmas.List.{get_or_default}
 use Rattle.model_buffer.specs.Buffer.{touched_one}
 use Rattle.model_drive.specs.declared.TheConstants.{LAST_COUNTER}
-use Rattle.model_geometry.specs.Geometry.{Shape}
-use Rattle.model_medium.specs.Cells.{Dead, IsGood, IsSameOrDead, cell_at}
+use Rattle.model_geometry.specs.Geometry.{Shape, sdl_block}
+use Rattle.model_medium.specs.Cells.{Cell, Dead, IsGood, IsSameOrDead, cell_at}
 use Rattle.model_medium.specs.Reach.{Reach}
 use Rattle.model_medium.proofs.Compose.{reach_then}
 use Rattle.model_sectors.specs.Requests.{block_with, blocks_covered, NamesBlock}
 use Rattle.model_sectors.specs.Uses.{touched_from, touched_refused, reads_rest}
 use Rattle.model_sectors.proofs.Covering.{covered_inside}
+use Rattle.model_copies.specs.Copies.{AllLost}
 use Rattle.model_places.specs.Places.{Lists, logical_count, home_of, free_spares}
 use Rattle.model_places.specs.Valid.{AreValid}
 use Rattle.model_volume.specs.Moves.{OnlyMoves}
-use Rattle.model_drive.specs.Shown.{Shown, IsKnown, buffered, cells_in, home, HasLostSdl}
+use Rattle.model_drive.specs.Shown.{Shown, IsKnown, WhenKnown, buffered, cells_in, home, HasLostSdl}
 use Rattle.model_drive.specs.Parts.{EndsBy, IsInRange}
 use Rattle.model_drive.specs.Repairs.{sdl_update_uses}
-use Rattle.model_drive.specs.Course.{Placing, free_at, free_for, lists_placed, lists_reached, WentTo, CanPlace, AreDead, OnlyWritten, placing_uses, uses_of_rest, course_uses}
+use Rattle.model_drive.specs.Course.{Placing, ToHome, ToSpare, LeavesCopy, HasCopyOfMoves, free_at, free_for, lists_placed, lists_reached, WentTo, CanPlace, AreDead, OnlyWritten, placing_uses, uses_of_rest, course_uses}
 use Rattle.model_drive.specs.Writes.{WroteSoFar, EndsWriting, WroteCourse, WritesAll, LacksSpare, LacksUpdate, LacksRest}
 use Rattle.model_drive.proofs.Courses.{after_valid}
 use Rattle.model_drive.proofs.Turns.{only_more, placed_before}
@@ -96,8 +97,26 @@ module _ (old mid new : Shown) (lba n : ℕ) (course : List Placing) (lists reac
 
 -- the whole request is written
 pub writes_all : (old new : Shown) (lba n : ℕ) (course : List Placing) (lists reached : Lists) → length course ≡ blocks_covered lba n
-    → WroteCourse old new lists lba n course reached → WritesAll old new lba n
-writes_all old new lba n course lists reached all ends = record { lists = lists; course = course; all = all; reached = reached; ends = ends }
+    → WroteCourse old new lists lba n course reached → WhenKnown old (HasCopyOfMoves old.shape (cells_in new) course) → WritesAll old new lba n
+writes_all old new lba n course lists reached all ends has_copy =
+    record { lists = lists; course = course; all = all; reached = reached; ends = ends; has_copy = has_copy }
+
+-- lost copies were lost before, where none of them changed
+lost_before : (shape : Shape) (old new : List Cell) → ((area : ℕ) → cell_at new (sdl_block shape area) ≡ cell_at old (sdl_block shape area))
+    → AllLost (sdl_block shape) new → AllLost (sdl_block shape) old
+lost_before shape old new same lost area is_area = sym (same area) ∙ lost area is_area
+
+still_copied : (shape : Shape) (old new : List Cell) → ((area : ℕ) → cell_at new (sdl_block shape area) ≡ cell_at old (sdl_block shape area))
+    → (course : List Placing) → HasCopyOfMoves shape old course → HasCopyOfMoves shape new course
+still_copied shape old new same [] has = tt
+still_copied shape old new same (ToHome ∷ earlier) has = still_copied shape old new same earlier has
+still_copied shape old new same (ToSpare tried ∷ earlier) has = λ lost. has (lost_before shape old new same lost)
+
+-- one more block leaves a copy of the list that says what was moved
+pub copied_then : (shape : Shape) (old new : List Cell) (course : List Placing) (placing : Placing) → LeavesCopy shape old new placing
+    → HasCopyOfMoves shape old course → HasCopyOfMoves shape new (placing ∷ course)
+copied_then shape old new course ToHome same has = still_copied shape old new same course has
+copied_then shape old new course (ToSpare tried) kept has = kept
 
 module _ (old mid new : Shown) (lba n : ℕ) (course : List Placing) (lists reached : Lists)
     (so_far : WroteCourse old mid lists lba n course reached)

@@ -13,7 +13,7 @@ use Rattle.model_volume.specs.Given.{AreSettled, IsGiven}
 use Rattle.model_volume.specs.Covers.{FitsUnder, Cover}
 use Rattle.model_volume.specs.Moves.{DiffersAt, OnlyMoves}
 use Rattle.model_drive.specs.Repairs.{sdl_update_uses}
-use Rattle.model_drive.specs.Course.{Placing, free_at, lists_placed, WentTo, CanPlace, AreDead, placing_uses, most_uses}
+use Rattle.model_drive.specs.Course.{Placing, free_at, lists_placed, WentTo, LeavesCopy, CanPlace, AreDead, placing_uses, most_uses}
 
 module _ {M : Type 0} (world : M → World) (reaches : M → M → ℕ → Type 0) where
   module _ (shape : Shape) (old new : M) (lists : Lists) (i : ℕ) (bytes : List ℕ) where
@@ -27,6 +27,7 @@ module _ {M : Type 0} (world : M → World) (reaches : M → M → ℕ → Type 
       pub settled : AreSettled shape (world new).cells lists'
       pub only : OnlyMoves shape (world old).cells (world new).cells lists i
       pub went : (world old).known ≡ true → WentTo shape (world new).cells lists i placing
+      pub has_copy : (world old).known ≡ true → LeavesCopy shape (world old).cells (world new).cells placing
       pub makes : (disc disc' : List ℕ) → DiffersAt i bytes disc disc'
           → FitsUnder shape (world old).cells lists disc → FitsUnder shape (world new).cells lists' disc'
 

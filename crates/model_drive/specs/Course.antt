@@ -7,6 +7,7 @@ use Rattle.model_drive.specs.declared.TheConstants.{LAST_COUNTER}
 use Rattle.model_geometry.specs.Geometry.{Shape, sdl_block}
 use Rattle.model_medium.specs.Cells.{Cell, Dead, IsGood, cell_at}
 use Rattle.model_sectors.specs.Uses.{reads_rest}
+use Rattle.model_copies.specs.Copies.{AllLost}
 use Rattle.model_places.specs.Places.{Lists, home_of, free_spares}
 use Rattle.model_volume.specs.Moves.{lists_moved, tried_of}
 use Rattle.model_drive.specs.Shown.{Shown, cells_in}
@@ -64,6 +65,19 @@ TookCourse shape cells lists first [] = Unit {0}
 TookCourse shape cells lists first (placing ∷ earlier) =
     WentTo shape cells (lists_reached shape lists first earlier) (first + length earlier) placing
     × TookCourse shape cells lists first earlier
+
+-- A block that went to its home leaves the copies of the secondary list as they were. After a move one of them, which says
+-- so, can be read.
+abbrev pub LeavesCopy : Shape → List Cell → List Cell → Placing → Type 0
+LeavesCopy shape old new ToHome =
+    (area : ℕ) → cell_at new (sdl_block shape area) ≡ cell_at old (sdl_block shape area)
+LeavesCopy shape old new (ToSpare tried) = ¬ AllLost (sdl_block shape) new
+
+-- after a course with a move in it, a copy of the secondary list can be read
+abbrev pub HasCopyOfMoves : Shape → List Cell → List Placing → Type 0
+HasCopyOfMoves shape cells [] = Unit {0}
+HasCopyOfMoves shape cells (ToHome ∷ earlier) = HasCopyOfMoves shape cells earlier
+HasCopyOfMoves shape cells (ToSpare tried ∷ earlier) = ¬ AllLost (sdl_block shape) cells
 
 -- a move goes to a free spare, and needs room for a greater counter
 abbrev pub CanPlace : Shape → Lists → ℕ → Placing → Type 0

@@ -1,9 +1,8 @@
 -- What holds at any time of what a drive shows: for the law of its trait, and for the state of a run. (This project's own,
 -- as all here.)
-use Rattle.std.specs.Prelude.{◌≡◌, ◌≤◌, Some, None, [], All, length}
+use Rattle.std.specs.Prelude.{◌≡◌, ◌≤◌, Some, None, [], length}
 use Rattle.model_geometry.specs.Geometry.{total}
-use Rattle.model_medium.specs.Machine.{IsToCome}
-use Rattle.model_medium.specs.declared.WornBlock.{WornBlock}
+use Rattle.model_medium.specs.Machine.{IsToCome, AreToCome}
 use Rattle.model_copies.specs.Copies.{AreMarkedWithin}
 use Rattle.model_places.specs.Places.{Lists}
 use Rattle.model_places.specs.Valid.{AreValid}
@@ -32,7 +31,7 @@ pub record AreInUse (shown : Shown) (lists : Lists) : Type 0 where
 -- An armed cut falls at a use from the next one on, and so does each arm.
 pub record IsArmed (shown : Shown) : Type 0 where
   pub cut : IsToCome shown.medium.cut
-  pub arms : All (λ (arm : WornBlock). 1 ≤ arm.left) shown.medium.arms
+  pub arms : AreToCome shown.medium.arms
 
 -- What a drive shows is sound: the medium has as many cells as the geometry says, what is armed comes later, and what is
 -- kept in memory is right.

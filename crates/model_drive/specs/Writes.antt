@@ -18,7 +18,7 @@ use Rattle.model_drive.specs.declared.WriteOut.TheVariants as outs
 use Rattle.model_drive.specs.Shown.{Shown, WhenKnown, HasLostSdl, cells_in, buffered, home, home_cell}
 use Rattle.model_drive.specs.Parts.{WasOff, IsUnformatted, IsInRange, IsOutOfRange, EndsBy, IsStopped, NoneCounted, AreGood}
 use Rattle.model_drive.specs.Repairs.{sdl_update_uses}
-use Rattle.model_drive.specs.Course.{Placing, free_at, IsUsable, lists_placed, lists_reached, TookCourse, CanTakeCourse, AreDead, uses_of_rest, course_uses, most_uses, OnlyWritten}
+use Rattle.model_drive.specs.Course.{Placing, free_at, IsUsable, lists_placed, lists_reached, TookCourse, CanTakeCourse, HasCopyOfMoves, AreDead, uses_of_rest, course_uses, most_uses, OnlyWritten}
 
 -- the next block of a request after those of a course
 abbrev pub next_block : ℕ → List Placing → ℕ
@@ -64,13 +64,14 @@ pub record ReadRest (old mid : Shown) (lba n : ℕ) (course : List Placing) (at 
       (uses_of_rest (buffered old) lba n (length course))
   pub same_cells : (block : ℕ) → cell_at at.world.cells block ≡ cell_at (cells_in mid) block
 
--- all sectors were written
+-- All sectors were written. Where a block was moved, the list that says so has a copy that can be read.
 pub record WritesAll (old new : Shown) (lba n : ℕ) : Type 0 where
   pub lists : Lists
   pub course : List Placing
   pub all : length course ≡ blocks_covered lba n
   pub reached : Lists
   pub ends : WroteCourse old new lists lba n course reached
+  pub has_copy : WhenKnown old (HasCopyOfMoves old.shape (cells_in new) course)
 
 -- The write met a block that it covers in part, that was not at hand, and whose home has no whole bytes.
 pub record LacksRest (old new : Shown) (lba n named block : ℕ) : Type 0 where

@@ -22,7 +22,7 @@ ghost use Rattle.model_drive.specs.declared.WriteOut.TheVariants as outs;
 ghost use Rattle.model_drive.specs.Shown.{Shown, WhenKnown, HasLostSdl, HoldsBlocksOf, StandsFor, buffered, cells_in, home};
 ghost use Rattle.model_drive.specs.Sound.{IsSound};
 ghost use Rattle.model_drive.specs.Parts.{IsUnformatted, IsInRange, IsOutOfRange, EndsBy, AreSameOrDead};
-ghost use Rattle.model_drive.specs.Course.{Placing, ToHome, ToSpare, free_at, lists_placed, lists_reached, WentTo, TookCourse, CanPlace, CanTakeCourse, AreDead, OnlyWritten, uses_of_rest, placing_uses, course_uses};
+ghost use Rattle.model_drive.specs.Course.{Placing, ToHome, ToSpare, LeavesCopy, HasCopyOfMoves, free_at, lists_placed, lists_reached, WentTo, TookCourse, CanPlace, CanTakeCourse, AreDead, OnlyWritten, uses_of_rest, placing_uses, course_uses};
 ghost use Rattle.model_drive.specs.Blocks.{PutsBlock, FindsNoSpare, FindsNoCopy, StopsAtBlock};
 ghost use Rattle.model_drive.specs.Writes.{EndsWriting, WritesAll, LacksRest, LacksSpare, LacksUpdate, StopsInWrite, StopsInBlock, WroteCourse, ReadRest, WriteCause, WriteStep, next_block, spareless_uses, unlisted_uses, disc_after};
 
@@ -83,7 +83,11 @@ pub fn writes_go_by_turns()
     ensures all { (old new : Shown) (lba n : ℕ) (course : List Placing) (lists reached : Lists)
         → length course ≡ blocks_covered lba n
         → WroteCourse old new lists lba n course reached
+        → WhenKnown old (HasCopyOfMoves old.shape (cells_in new) course)
         → WriteCause old new lba n outs.Good }
+    ensures copies { (shape : Shape) (old new : List Cell) (course : List Placing) (placing : Placing)
+        → LeavesCopy shape old new placing → HasCopyOfMoves shape old course
+        → HasCopyOfMoves shape new (placing ∷ course) }
 {}
 
 /// A write is refused at the next block: its rest cannot be read, no spare is left, or the list could not be written.
