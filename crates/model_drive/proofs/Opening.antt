@@ -1,9 +1,8 @@
 -- What a drive stands for when an image was just opened.
 use Rattle.std.proofs.Common.{◌≡◌, true, false, Some, None, List, refl, map, arith, length}
 use Rattle.model_geometry.specs.Geometry.{Shape, total}
-use Rattle.model_medium.specs.Cells.{Cell}
+use Rattle.model_medium.specs.Cells.{Cell, AreWhole}
 use Rattle.model_sectors.specs.Discs.{Off}
-use Rattle.model_volume.specs.Covers.{AreWhole}
 use Rattle.model_volume.specs.Starts.{disc_under}
 use Rattle.model_volume.proofs.Starting.{start_is}
 use Rattle.model_volume.proofs.OneStart.{one_start}

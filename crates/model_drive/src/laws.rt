@@ -2,7 +2,7 @@
 
 ghost use Rattle.std.specs.Prelude.{◌≡◌, ℕ, ◌+◌, ◌^◌, Bool, Some, List, [], ◌∷◌, length};
 ghost use Rattle.model_geometry.specs.Geometry.{Shape, total};
-ghost use Rattle.model_medium.specs.Cells.{Cell};
+ghost use Rattle.model_medium.specs.Cells.{Cell, AreWhole};
 ghost use Rattle.model_sectors.specs.Discs.{Standing, On, Off, sectors_of};
 ghost use Rattle.model_sectors.specs.declared.ReadOut.{ReadOut};
 ghost use Rattle.model_sectors.specs.declared.ReadOut.TheVariants as reads;
@@ -10,7 +10,7 @@ ghost use Rattle.model_sectors.specs.declared.PowerOut.{PowerOut};
 ghost use Rattle.model_places.specs.Places.{Lists};
 ghost use Rattle.model_places.specs.Valid.{AreValid};
 ghost use Rattle.model_volume.specs.Given.{IsGiven};
-ghost use Rattle.model_volume.specs.Covers.{AreWhole, FitsUnder, SomeFit};
+ghost use Rattle.model_volume.specs.Covers.{FitsUnder, SomeFit};
 ghost use Rattle.model_drive.specs.declared.TheConstants.{LAST_COUNTER};
 ghost use Rattle.model_drive.specs.declared.WriteOut.{WriteOut};
 ghost use Rattle.model_drive.specs.declared.ExpandOut.{ExpandOut};

@@ -1,7 +1,7 @@
 -- A header is that of one geometry.
 use Rattle.std.specs.Prelude.{◌≡◌, ℕ, ◌/◌, ◌%◌, ◌<◌, List, slice_index}
 use Rattle.std.proofs.Common.{arith, refl, sym, ap, ◌∙◌}
-use Rattle.model_geometry.specs.Geometry.{Layout, OneGroup, Shape, IsLawful, shape_of}
+use Rattle.model_geometry.specs.Geometry.{Layout, OneGroup, Shape, IsLawful}
 use Rattle.model_image.specs.Image.{header_of, HasHeader}
 
 -- a number below 65,536 by its two bytes

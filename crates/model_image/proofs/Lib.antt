@@ -7,3 +7,4 @@ pub mod Presses
 pub mod StateWrites
 pub mod KnownCells
 pub mod Headers
+pub mod WholeCells

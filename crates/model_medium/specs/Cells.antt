@@ -1,5 +1,5 @@
 -- The cell of a block, and what writes and cuts make of it: for every contract about a medium.
-use Rattle.std.specs.Prelude.{◌≡◌, ℕ, ◌⊎◌, List, get_or}
+use Rattle.std.specs.Prelude.{◌≡◌, ℕ, ◌⊎◌, List, get_or, length}
 use Rattle.model_medium.specs.declared.Fate.{Fate}
 use Rattle.model_medium.specs.declared.Fate.TheVariants as fates
 
@@ -30,6 +30,10 @@ IsGood Blank = ⊥
 IsGood (Good bytes) = Unit {0}
 IsGood Torn = ⊥
 IsGood Dead = ⊥
+
+-- each cell with whole bytes has those of a block (this project's own)
+abbrev pub AreWhole : List Cell → Type 0
+AreWhole cells = (block : ℕ) (bytes : List ℕ) → cell_at cells block ≡ Good bytes → length bytes ≡ 32768
 
 -- the cell has whole bytes, or is dead
 abbrev pub IsGoodOrDead : Cell → Type 0

@@ -2,14 +2,14 @@
 
 ghost use Rattle.std.specs.Prelude.{◌≡◌, ℕ, ◌≤◌, ◌⊎◌, Option, List, [], ◌∷◌, map, length};
 ghost use Rattle.model_geometry.specs.Geometry.{Shape};
-ghost use Rattle.model_medium.specs.Cells.{Cell};
+ghost use Rattle.model_medium.specs.Cells.{Cell, AreWhole};
 ghost use Rattle.model_lists.specs.Values.{Dds};
 ghost use Rattle.model_sectors.specs.Discs.{Standing, Off};
 ghost use Rattle.model_places.specs.Places.{Lists};
 ghost use Rattle.model_places.specs.Valid.{AreValid};
 ghost use Rattle.model_volume.specs.Given.{AreChosen, ChoosesNone, LacksLists, HaveOneStructure};
 ghost use Rattle.model_volume.specs.Starts.{Found, disc_under, IsDiscStart};
-ghost use Rattle.model_volume.specs.Covers.{AreWhole, FitsUnder, Cover};
+ghost use Rattle.model_volume.specs.Covers.{FitsUnder, Cover};
 
 /// Whatever cells a disc has, a pair of lists is chosen, or none is for one of three causes.
 pub fn a_choice_is_made()

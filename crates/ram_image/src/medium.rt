@@ -212,6 +212,7 @@ impl<I: Image> Medium for ImageMedium<I> {
     ghost use Rattle.model_geometry.specs.Geometry.{total};
     ghost use Rattle.ram_image.specs.Medium.{shape_of_medium, world_of, machine_in, ImageReaches, ImageTakes};
     ghost use Rattle.model_image.proofs.KnownCells.{shows_none_unknown, length-cells_known};
+    ghost use Rattle.model_image.proofs.WholeCells.{cells_known-whole};
     ghost use Rattle.model_medium.proofs.Compose.{reach_none, reach_then, follows-reach};
 
     ghost world = { world_of };
@@ -252,6 +253,8 @@ impl<I: Image> Medium for ImageMedium<I> {
       follows = λ a b k reach. follows-reach (machine_in a) (machine_in b) k reach;
       unknown = λ medium. shows_none_unknown (shape_of_medium medium) (I.bytes medium.image);
       as_many = λ medium. length-cells_known (total (shape_of_medium medium)) (I.bytes medium.image);
+      whole = λ medium. cells_known-whole (total (shape_of_medium medium)) (I.bytes medium.image)
+          (λ held is. (medium.disc held is).as_long);
     } };
 }
 

@@ -1,6 +1,7 @@
 -- What holds of any medium and of any controllable one: the laws of the traits `Medium` and `MediumControl`.
 use Rattle.std.specs.Prelude.{◌≡◌, ℕ, ◌+◌, ◌≤◌, Option, List, length}
 use Rattle.std.specs.Bool.{OnTrue}
+use Rattle.model_medium.specs.Cells.{AreWhole}
 use Rattle.model_medium.specs.World.{World, ShowsNoneUnknown}
 use Rattle.model_medium.specs.Machine.{Machine, IsToCome, AreToCome}
 use Rattle.model_medium.specs.Exact.{Event, Exactly}
@@ -11,13 +12,14 @@ use Rattle.ram_medium.specs.declared.countdown.TheConstants.{MOST_ARMS}
 
 -- What holds of `reaches`, which says what can follow by so many uses that did not fail: nothing follows by none, one
 -- part after another adds up, and what follows is what can follow on any medium. A medium whose cells are known shows
--- one for each block, and one that does not shows none. (This project's own.)
+-- one for each block, and one that does not shows none. Cells with whole bytes have those of a block. (This project's own.)
 pub record MediumLaws {M : Type 0} (world : M → World) (block_count : M → ℕ) (reaches : M → M → ℕ → Type 0) : Type 0 where
   pub none : (m : M) → reaches m m 0
   pub adds_up : (a b c : M) (j k : ℕ) → reaches a b j → reaches b c k → reaches a c (j + k)
   pub follows : (a b : M) (k : ℕ) → reaches a b k → Follows (world a) (world b) k
   pub unknown : (m : M) → ShowsNoneUnknown (world m)
   pub as_many : (m : M) → OnTrue (world m).known (length (world m).cells ≡ block_count m)
+  pub whole : (m : M) → AreWhole (world m).cells
 
 -- a controllable medium, of its parts
 abbrev pub machine_of : World → List WornBlock → Option ArmedCut → Machine

@@ -1,11 +1,13 @@
 //! A medium in memory: the same events as on a medium over an image, with failures at the uses that were named.
 
 ghost use Rattle.std.specs.Prelude.{◌≡◌, ℕ, ◌+◌, ◌<◌, ◌≤◌, ◌^◌, length, vec_len};
+ghost use Rattle.model_medium.specs.Cells.{AreWhole};
+ghost use Rattle.ram_medium.specs.Slots.{slot_cells};
 
 use crate::blocks::Medium;
 use crate::control::{Arm, FailEnd, MediumControl};
 use crate::countdown::Armed;
-use crate::slots::{Slot, blank_slots, cut_slot, kill_where, read_slot, write_slot};
+use crate::slots::{Slot, blank_slots, cut_slot, has_all_bytes, kill_where, read_slot, write_slot};
 use model_medium::{Fate, ReadEnd, WriteEnd};
 use ram_bytes::Block;
 use std::alloc::{AllocError, Global};
@@ -22,6 +24,7 @@ pub struct MemMedium {
     armed: Armed,
     failing: Vec<u64>,
     ghost few: { vec_len slots < 2 ^ 32 },
+    ghost whole: { AreWhole (slot_cells slots.items) },
 }
 
 /// How a use begins.
@@ -111,6 +114,7 @@ impl MemMedium {
         ensures event { MemTakes self.old self.new (Write block from.now result) }
         ensures len { vec_len self.new.slots ≡ vec_len self.old.slots }
     {
+        has_all_bytes(from);
         if !self.powered {
             return WriteEnd::Off;
         }
@@ -173,6 +177,7 @@ impl Medium for MemMedium {
       adds_up = λ a b c j k one two. reach_then (mem_machine a) (mem_machine b) (mem_machine c) j k one two;
       follows = λ a b k reach. follows-reach (mem_machine a) (mem_machine b) k reach;
       unknown = λ medium. tt;
+      whole = λ medium. medium.whole;
       as_many = λ medium. Prim.omega (arith, length-map medium.slots.items slot_cell, medium.slots.ok.0);
     } };
 }

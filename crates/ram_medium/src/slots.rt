@@ -1,6 +1,7 @@
 //! The blocks of a medium in memory: a state and the bytes of each. It knows neither power nor uses.
 
-ghost use Rattle.std.specs.Prelude.{◌≡◌, ℕ, ◌<◌, IfOk, MatchBool, if◌then◌else◌, map, set, replicate, [], vec_len};
+ghost use Rattle.std.specs.Prelude.{◌≡◌, ℕ, ◌<◌, IfOk, MatchBool, if◌then◌else◌, length, map, set, replicate, [], vec_len};
+ghost use Rattle.ram_bytes.specs.declared.block.TheConstants.{BLOCK_BYTES};
 ghost use Rattle.model_medium.specs.Cells.{Blank, Good, Dead, IsGood, cell_at, written, cut_short};
 ghost use Rattle.ram_medium.specs.Slots.{slot_cell, slot_cells, ChangesSlot};
 
@@ -22,6 +23,13 @@ pub(crate) enum State {
 pub(crate) struct Slot {
     state: State,
     block: Block,
+}
+
+/// What a block holds are as many bytes as a block has: for a caller whose proof needs it.
+pub(crate) fn has_all_bytes(block: &Block)
+    ensures { length block.now ≡ BLOCK_BYTES }
+{
+    let _ = block.bytes();
 }
 
 /// So many blank slots.
