@@ -136,10 +136,10 @@ module _ {M : Type 0} (world : M → World) (block_count : M → ℕ) (reaches :
         settled = settled_new new (home_alone new put.others);
         only = moves new (home_alone new put.others);
         went = λ known. good_is_good (cell_at (world new).cells (home_of shape lists i)) bytes (on_true (world old).known (cell_at (world new).cells (home_of shape lists i) ≡ Good bytes) put.has known);
+        has_copy = λ known area. put.others (sdl_block shape area) (λ same. no_data_block_sdl shape area (subst (Contains (data_blocks shape)) (sym same) (home_is_data_block shape lists valid i inside)));
         makes = λ disc disc' differs fits. fits_written shape lists valid i inside (world old).cells (world new).cells (moves new (home_alone new put.others)) bytes disc disc' differs fits
             (left_agrees (cell_at (world new).cells (home_of shape lists i)) bytes put.left);
       };
-      has_copy = λ known. tt;
     }
 
     -- ---- the home is dead
@@ -336,10 +336,10 @@ module _ {M : Type 0} (world : M → World) (block_count : M → ℕ) (reaches :
               settled = record { dds = dds_still; sdl = settled_sdl };
               only = all_only;
               went = λ known. (dead_still, tried_dead, spare_good_still known);
+              has_copy = λ known. not_lost (has.as_known ∙ lost.as_known ∙ known);
               makes = λ disc disc' differs fits. fits_moved shape lists valid i inside (world old).cells (world new).cells all_only bytes disc disc' differs fits
                   (tried_of (free_spares shape lists) found.tried) found.spare next spare_agrees;
             };
-            has_copy = λ known. not_lost (has.as_known ∙ lost.as_known ∙ known);
           }
             where
               goes : Continues world reaches old new (2 + (2 * found.tried + 2) + 8)

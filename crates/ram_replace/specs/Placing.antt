@@ -1,24 +1,16 @@
 -- What the write of one logical block does, by its answer: for `place` and `write_home`.
-use Rattle.std.specs.Prelude.{◌≡◌, ℕ, true, IsTrue, List}
-use Rattle.model_geometry.specs.Geometry.{Shape, sdl_block}
-use Rattle.model_medium.specs.Cells.{Cell}
+use Rattle.std.specs.Prelude.{◌≡◌, ℕ, IsTrue, List}
+use Rattle.model_geometry.specs.Geometry.{Shape}
 use Rattle.model_medium.specs.World.{World, UseContinues}
 use Rattle.model_stops.specs.declared.Stop.{Stop}
 use Rattle.model_stops.specs.declared.Stop.TheVariants as stops
-use Rattle.model_copies.specs.Copies.{AllLost}
 use Rattle.model_places.specs.Places.{Lists}
-use Rattle.model_drive.specs.Course.{Placing, ToHome, ToSpare}
 use Rattle.model_drive.specs.Blocks.{PutsBlock, FindsNoSpare, FindsNoCopy, StopsAtBlock}
 use Rattle.ram_copies.specs.Calls.{StoppedCounts}
 use Rattle.ram_replace.specs.declared.writing.Outcome.{Outcome}
 use Rattle.ram_replace.specs.declared.writing.Outcome.TheVariants as outcomes
 use Rattle.ram_replace.specs.declared.writing.Placed.{Placed}
 use Rattle.ram_replace.specs.declared.writing.Placed.TheVariants as places
-
--- where the block went to a spare, the secondary list that says so has a copy that can be read (this project's own)
-abbrev pub HasCopyOfMove : Shape → List Cell → Placing → Type 0
-HasCopyOfMove shape cells ToHome = Unit {0}
-HasCopyOfMove shape cells (ToSpare tried) = ¬ AllLost (sdl_block shape) cells
 
 module _ {M : Type 0} (world : M → World) (reaches : M → M → ℕ → Type 0) (shape : Shape) (old new : M)
     (lists : Lists) (i : ℕ) (bytes : List ℕ) (lists' : Lists) where
@@ -28,12 +20,10 @@ module _ {M : Type 0} (world : M → World) (reaches : M → M → ℕ → Type 
     pub was_on : IsTrue (world old).power
     pub counts : UseContinues (world old) (world new)
 
-  -- The block is written, to its home or to a spare, and these are the lists then. A new one has a
-  -- copy that can be read.
+  -- The block is written, to its home or to a spare, and these are the lists then.
   pub record PlacesBlock : Type 0 where
     pub ended : HasEnded
     pub puts : PutsBlock world reaches shape old new lists i bytes lists'
-    pub has_copy : (world old).known ≡ true → HasCopyOfMove shape (world new).cells puts.placing
 
   -- the home and all free spares are dead, and the lists are as before
   pub record MeetsNoSpare : Type 0 where
