@@ -5,7 +5,6 @@ use Rattle.model_medium.specs.Cells.{Cell, cell_at}
 use Rattle.model_medium.specs.World.{World}
 use Rattle.model_medium.specs.Machine.{Machine}
 use Rattle.model_medium.specs.Exact.{Event}
-use Rattle.model_medium.specs.Reach.{Reach}
 use Rattle.model_medium.specs.declared.WornBlock.{WornBlock}
 use Rattle.model_medium.specs.declared.ArmedCut.{ArmedCut}
 use Rattle.model_buffer.specs.Buffer.{numbers_in}
@@ -15,7 +14,7 @@ use Rattle.model_sectors.specs.Uses.{read_uses}
 use Rattle.model_sectors.specs.declared.ReadOut.{ReadOut}
 use Rattle.model_sectors.specs.declared.ReadOut.TheVariants as outs
 use Rattle.model_sectors.proofs.Covering.{all_at_hand, no_uses_buffered}
-use Rattle.model_stops.specs.Stops.{Continues, Stops}
+use Rattle.model_stops.specs.Stops.{Continues}
 use Rattle.model_stops.specs.declared.Stop.{Stop}
 use Rattle.model_stops.specs.declared.Stop.TheVariants as stops
 use Rattle.model_places.specs.Places.{Lists, capacity_of}
@@ -28,17 +27,12 @@ use Rattle.model_drive.proofs.Powers.{holds_nothing}
 use Rattle.ram_medium.specs.Laws.{ControlLaws, machine_shown}
 use Rattle.ram_volume.specs.Reading.{EndsInBlock, StopsInBlock, PartsEnd, ReadSteps, read_end_at}
 use Rattle.ram_volume.specs.Shown.{shown_without, shown_under}
+use Rattle.ram_volume.proofs.Machines.{machine_stops}
 
 module _ {M : Type 0} (world : M → World) (reaches : M → M → ℕ → Type 0) (takes : M → M → Event → Type 0) (arms : M → List WornBlock) (armed_cut : M → Option ArmedCut)
     (laws : ControlLaws world reaches takes arms armed_cut) (shape : Shape) where
   abbrev machine : M → Machine
   machine m = machine_shown world arms armed_cut m
-
-  -- a stop of a medium is one of its machine
-  pub machine_stops : (old new : M) (most : ℕ) (stop : Stop) → Stops world reaches old new most stop → Stops (λ (m : Machine). m.world) Reach (machine old) (machine new) most stop
-  machine_stops old new most stops.Cut s = record { uses = s.uses; few = s.few; reach = laws.reach old new s.uses s.reach; cut = s.cut }
-  machine_stops old new most stops.Off s = s
-  machine_stops old new most stops.Fault s = record { mid = machine s.mid; before = s.before; few = s.few; reach = laws.reach old s.mid s.before s.reach; block = s.block; fails = s.fails }
 
   module _ (lists : Lists) where
     abbrev under : M → List (ℕ × List ℕ) → Shown
@@ -130,11 +124,15 @@ module _ {M : Type 0} (world : M → World) (reaches : M → M → ℕ → Type 
         abbrev off : Shown
         off = shown_without shape (machine new)
 
+        -- the uses of the whole read
+        abbrev whole : ℕ
+        whole = read_uses (numbers_in held) (block_with lba) (blocks_covered lba n)
+
         stops_in : StopsInRead (under old held) off lba n (read_uses (numbers_in held) (block_with lba) (blocks_covered lba n)) stop
         stops_in = record {
           inside = in_range;
           stopped = record {
-            stops = machine_stops old new (read_uses (numbers_in held) (block_with lba) (blocks_covered lba n)) stop did.stops;
+            stops = machine_stops world reaches takes arms armed_cut laws old new whole whole refl stop did.stops;
             no_lists = refl;
             no_mark = refl;
             no_buffer = refl;

@@ -39,7 +39,7 @@ module _ {M : Type 0} (world : M → World) (block_count : M → ℕ) (reaches :
     -- all were written
     pub wrote_all : AreValid shape reached → k ≡ blocks_covered lba n → EndsParts shape (machine old) (machine mid) lists held lba n bytes reached held_mid outs.Good
     wrote_all valid all = record {
-      cause = writes_all before now lba n did.course lists reached (did.as_many ∙ all) did.blocks.wrote;
+      cause = writes_all before now lba n did.course lists reached (did.as_many ∙ all) did.blocks.wrote did.blocks.has_copy;
       steps = steps;
       is_on = did.blocks.wrote.ends.is_on;
       settled = did.blocks.settled;

@@ -28,13 +28,13 @@ use Rattle.model_volume.proofs.Moved.{home_is_data_block, homes_apart, home_not_
 use Rattle.model_drive.specs.declared.WriteOut.TheVariants as outs
 use Rattle.model_drive.specs.Shown.{Shown, HoldsBlocksOf, StandsFor}
 use Rattle.model_drive.specs.Parts.{AreSameOrDead}
-use Rattle.model_drive.specs.Course.{Placing, ToHome, ToSpare, lists_placed, placing_uses, most_uses, uses_of_rest, TookCourse}
+use Rattle.model_drive.specs.Course.{Placing, ToHome, ToSpare, lists_placed, placing_uses, most_uses, uses_of_rest, TookCourse, LeavesCopy, HasCopyOfMoves}
 use Rattle.model_drive.specs.Blocks.{PutsBlock, LeavesBlock, FindsNoSpare, FindsNoCopy, StopsAtBlock}
 use Rattle.model_drive.specs.Writes.{WroteCourse, ReadRest, LacksRest, StopsInWrite, StopsInBlock, disc_after}
 use Rattle.model_drive.proofs.Ends.{stop_known, stop_off}
 use Rattle.model_drive.proofs.Dying.{one_dies, fits_dies, cover_dies, settled_dies}
 use Rattle.model_drive.proofs.Courses.{after_total, after_later, after_good}
-use Rattle.model_drive.proofs.WriteTurns.{ends_none, reached_valid, begun, lacks_rest}
+use Rattle.model_drive.proofs.WriteTurns.{ends_none, reached_valid, begun, lacks_rest, copied_then}
 use Rattle.model_drive.proofs.WriteBytes.{next_differs}
 use Rattle.model_drive.proofs.BlockTurns.{put_turn, no_spare_turn, no_copy_turn, stop_turn, rest_stop_turn}
 use Rattle.ram_medium.specs.Laws.{MediumLaws, ControlLaws, machine_shown}
@@ -50,11 +50,13 @@ placed_dds shape lists i ToHome = refl
 placed_dds shape lists i (ToSpare tried) = refl
 
 module _ (shape : Shape) (old mid : Machine) (lists reached : Lists) (held held' : List (ℕ × List ℕ)) (lba n : ℕ) (bytes : List ℕ) where
-  -- The blocks of this course were written. Whatever disc the drive stood for, with them replaced it fits now.
+  -- The blocks of this course were written. Whatever disc the drive stood for, with them replaced it fits now. Where one of
+  -- them was moved, the list that says so has a copy that can be read.
   pub record WroteBlocks (course : List Placing) : Type 0 where
     pub wrote : WroteCourse (shown_under shape old lists held) (shown_under shape mid reached held') lists lba n course reached
     pub settled : AreSettled shape mid.world.cells reached
     pub same_dds : reached.dds ≡ lists.dds
+    pub has_copy : old.world.known ≡ true → HasCopyOfMoves shape mid.world.cells course
     pub makes : (disc : List ℕ) → StandsFor (shown_under shape old lists held) (On disc) → FitsUnder shape mid.world.cells reached (disc_after disc lba n bytes (length course))
     pub holds : (disc : List ℕ) → StandsFor (shown_under shape old lists held) (On disc) → HoldsBlocksOf (disc_after disc lba n bytes (length course)) held'
 
@@ -82,6 +84,7 @@ module _ {M : Type 0} (world : M → World) (block_count : M → ℕ) (reaches :
       wrote = ends_none (under old lists held) lba n lists (record { on = on; formatted = refl; inside = inside }) refl (laws.reach old old 0 (rules.none old));
       settled = settled;
       same_dds = refl;
+      has_copy = λ known. tt;
       makes = λ disc stood. subst (FitsUnder shape (world old).cells lists) (sym (first disc)) stood.2.fits;
       holds = λ disc stood. subst (λ (d : List ℕ). HoldsBlocksOf d held) (sym (first disc)) stood.2.holds;
     };
@@ -281,6 +284,7 @@ module _ {M : Type 0} (world : M → World) (block_count : M → ℕ) (reaches :
           settled = puts.settled;
           only = puts.only;
           went = puts.went;
+          has_copy = puts.has_copy;
           makes = puts.makes;
         }
 
@@ -295,12 +299,20 @@ module _ {M : Type 0} (world : M → World) (block_count : M → ℕ) (reaches :
         one_more : suc (length course) ≡ length course + 1
         one_more = omega arith
 
+        copied : (world old).known ≡ true → HasCopyOfMoves shape (world new).cells (puts_shown.placing ∷ course)
+        copied known =
+            let known_now = did.wrote.ends.reach.lasts.as_known ∙ known in
+            copied_then shape (world mid).cells (world new).cells course puts_shown.placing
+            (subst (λ (l : List Cell). LeavesCopy shape l (world new).cells puts_shown.placing) same_cells (puts_shown.has_copy (reads.continues.reach.lasts.as_known ∙ known_now)))
+            (did.has_copy known)
+
         pub wrote_block : WroteBlocks shape (machine old) (machine new) lists lists' held held' lba n bytes (puts_shown.placing ∷ course)
         wrote_block = record {
           wrote = subst (λ (l : Lists). WroteCourse before (under new lists' held') lists lba n (puts_shown.placing ∷ course) l) (sym puts_shown.lists_are)
               (put_turn before now (under new lists' held') lba n course lists reached did.wrote valid covered (machine at) reads put lists' puts_shown refl (ap (λ d. d.counter) dds_now) touched_now);
           settled = puts.settled;
           same_dds = dds_now ∙ did.same_dds;
+          has_copy = copied;
           makes = λ disc stood. subst (λ (m : ℕ). FitsUnder shape (world new).cells lists' (disc_after disc lba n bytes m)) (sym one_more)
               (puts.makes (disc_after disc lba n bytes (length course)) (disc_after disc lba n bytes (length course + 1)) (differs_at disc stood) (fits_at disc stood));
           holds = λ disc stood. subst (λ (m : ℕ). HoldsBlocksOf (disc_after disc lba n bytes m) held') (sym one_more)

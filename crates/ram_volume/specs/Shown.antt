@@ -1,8 +1,7 @@
 -- What a drive shows in each of its states: for the contracts of its calls. (This project's own, as all here.)
-use Rattle.std.specs.Prelude.{ℕ, ◌≤◌, All, Some, None, List, []}
+use Rattle.std.specs.Prelude.{ℕ, Some, None, List, []}
 use Rattle.model_geometry.specs.Geometry.{Shape}
 use Rattle.model_medium.specs.Machine.{Machine}
-use Rattle.model_medium.specs.declared.WornBlock.{WornBlock}
 use Rattle.model_places.specs.Places.{Lists}
 use Rattle.model_drive.specs.Shown.{Shown}
 use Rattle.ram_medium.specs.Laws.{machine_shown}
@@ -42,7 +41,3 @@ module _ {M : Type 0} {c : ControlGhosts M} {d : Ghosts M} where
   shown_state (states.Off off) = shown_off off
   shown_state (states.Ready ready) = shown_ready ready
   shown_state (states.NotFormatted bare) = shown_bare bare
-
--- each arm of the drive's medium falls at a use from the next one on
-abbrev pub HasArmsToCome : Shown → Type 0
-HasArmsToCome shown = All (λ (arm : WornBlock). 1 ≤ arm.left) shown.medium.arms
