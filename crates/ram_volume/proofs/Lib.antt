@@ -12,7 +12,8 @@ mod ReadTurns
 mod Rests
 mod RewriteCauses
 mod SameKept
-mod Sounding
 mod TurningOff
 mod WriteEnds
 mod WriteTurns
+mod CallSteps
+mod Somes

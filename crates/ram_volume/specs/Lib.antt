@@ -4,4 +4,6 @@ pub mod OneProof
 pub mod Powers
 pub mod Reading
 pub mod Shown
+pub mod Sounding
+pub mod Volume
 pub mod Writing

@@ -2,6 +2,7 @@
 //! not formatted. Each call takes its state and gives the next.
 #![tactic(auto)]
 
+mod calls;
 mod fetching;
 mod formats;
 mod laws;
@@ -9,10 +10,12 @@ mod memory;
 mod power;
 mod reading;
 mod states;
+mod volume;
 mod writing;
 
 pub use laws::what_a_state_shows_is_sound;
 pub use states::{NotFormatted, PowerOn, PoweredOff, Ready, State};
+pub use volume::Volume;
 
 #[cfg(test)]
 mod tests;

@@ -1,4 +1,4 @@
-use Rattle.ram_volume.proofs.Sounding.{sound_state}
+use Rattle.ram_volume.specs.Sounding.{sound_state}
 use Rattle.ram_volume.proofs.laws.what_a_state_shows_is_sound.Goals as goal
 
 pub returns : goal.returns

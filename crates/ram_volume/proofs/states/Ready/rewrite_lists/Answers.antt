@@ -6,7 +6,7 @@ use Rattle.model_drive.specs.Formats.{FormatCause}
 use Rattle.ram_lists.specs.Lists.{lists_of}
 use Rattle.ram_volume.specs.Shown.{shown_ready}
 use Rattle.ram_volume.specs.Formats.{FormatSteps}
-use Rattle.ram_volume.proofs.FormatAnswers.{rewritten, rewritten_steps, lacking, lacking_steps, rewrite_cut_steps, rewrite_fault, rewrite_fault_steps}
+use Rattle.ram_volume.proofs.FormatAnswers.{rewritten, rewritten_steps, lacking, lacking_steps, rewrite_cut, rewrite_cut_steps, rewrite_fault, rewrite_fault_steps}
 use Rattle.ram_volume.proofs.states.Ready.rewrite_lists.Goals as goal
 
 pub returns-in-Good-clause-cause : goal.returns-in-Good-clause-cause
@@ -28,6 +28,10 @@ pub returns-in-NoCopy-clause-step : goal.returns-in-NoCopy-clause-step
 returns-in-NoCopy-clause-step g c =
     subst (λ (x : Shown). FormatSteps (shown_ready c.args.self) x kinds.Rewrite (outs.NoUpdate c.in-NoCopy.counter)) (sym c.over-ready-in-NoCopy.ensures)
     (lacking_steps g.M.Medium.world g.M.Medium.reaches g.M.Medium.takes g.M.MediumControl.arms g.M.MediumControl.armed_cut g.met.M.MediumControl.control_laws c.args.self.geometry c.args.self.medium c.rewrite.new.medium (lists_of c.args.self.lists) c.args.self.buffer c.args.self.valid c.in-NoCopy.counter c.in-NoCopy.ensures.rule)
+
+pub returns-in-Cut-clause-cause : goal.returns-in-Cut-clause-cause
+returns-in-Cut-clause-cause g c =
+    rewrite_cut g.M.Medium.world g.M.Medium.reaches g.M.Medium.takes g.M.MediumControl.arms g.M.MediumControl.armed_cut g.met.M.MediumControl.control_laws c.args.self.geometry c.args.self.medium c.rewrite.new.medium (lists_of c.args.self.lists) c.args.self.buffer c.in-Cut.ensures.rule
 
 pub returns-in-Cut-clause-step : goal.returns-in-Cut-clause-step
 returns-in-Cut-clause-step g c =

@@ -1,0 +1,16 @@
+use Rattle.std.proofs.Common.{ap}
+use Rattle.ram_volume.specs.Shown.{shown_off, shown_ready, shown_state}
+use Rattle.ram_volume.proofs.CallSteps.{write_steps_off}
+use Rattle.ram_volume.proofs.Somes.{write_keeps}
+use Rattle.ram_volume.proofs.calls.write_state.Goals as goal
+
+pub returns-in-Off-clause-step : goal.returns-in-Off-clause-step
+returns-in-Off-clause-step g c = record {
+  each = λ s stands.
+      write_steps_off (shown_state c.args.state) (shown_off c.in-Off.off) (ap (λ state. shown_state state) c.in-Off.is) c.in-Off.off.off s stands c.args.lba c.args.n c.args.from.now;
+}
+
+pub returns-in-Ready-clause-some : goal.returns-in-Ready-clause-some
+returns-in-Ready-clause-some g c =
+    write_keeps (shown_state c.args.state) (shown_ready c.in-Ready.ready) (shown_state c.write.result.0) (ap (λ state. shown_state state) c.in-Ready.is)
+    c.args.lba c.args.n c.args.from.now c.write.result.1 c.write.ensures.cause c.write.ensures.step

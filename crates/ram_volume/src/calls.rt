@@ -1,0 +1,118 @@
+//! What each call of a host does, by the state that the drive is in.
+
+ghost use Rattle.std.specs.Prelude.{◌≡◌, ◌*◌, ◌≤◌, length};
+ghost use Rattle.model_commands.specs.declared.TheConstants.{TRANSFER_LIMIT};
+ghost use Rattle.model_drive.specs.Shown.{StandsFor};
+ghost use Rattle.model_drive.specs.Reads.{ReadCause, ReadStep, ReadCompletes, ReadIsQuiet};
+ghost use Rattle.model_drive.specs.Writes.{WriteCause, WriteStep, WriteCompletes};
+ghost use Rattle.model_drive.specs.Power.{PowerCause, PowerStep};
+ghost use Rattle.model_drive.specs.Formats.{FormatCause, FormatStep, FormatCompletes};
+ghost use Rattle.ram_volume.specs.Shown.{shown_off, shown_state};
+ghost use Rattle.ram_volume.specs.Powers.{PowerSteps};
+ghost use Rattle.ram_volume.specs.Volume.{StepsFromEach, KeepsStanding};
+
+use crate::states::{PowerOn, PoweredOff, State};
+use ram_medium::MediumControl;
+use ram_sectors::{FormatOut, Kind, PowerOut, ReadOut, WriteOut};
+use std::alloc::Global;
+
+/// Reads sectors, where there is a formatted disc.
+pub fn read_state<M: MediumControl>(
+    state: State<M>,
+    lba: u32,
+    n: u32,
+    into: &mut [u8],
+) -> (State<M>, ReadOut)
+    requires few { n ≤ TRANSFER_LIMIT }
+    requires whole { length into.old ≡ 2048 * n }
+    ensures cause { ReadCause (shown_state state) (shown_state result.0) lba n result.1 }
+    ensures step { StepsFromEach (shown_state state)
+        (λ s. ReadStep (StandsFor (shown_state result.0)) s lba n into.new result.1) }
+    ensures some { KeepsStanding (shown_state state) (shown_state result.0) }
+    ensures completes { ReadCompletes (shown_state state) (shown_state result.0) lba n result.1 }
+    ensures quiet { ReadIsQuiet (shown_state state) (shown_state result.0) lba n result.1 }
+    ensures same_shape { (shown_state result.0).shape ≡ (shown_state state).shape }
+{
+    match state {
+        State::Off(off) => (State::Off(off), ReadOut::Off),
+        State::Ready(ready) => ready.read(lba, n, into),
+        State::NotFormatted(bare) => (State::NotFormatted(bare), ReadOut::NotFormatted),
+    }
+}
+
+/// Writes sectors, where there is a formatted disc.
+pub fn write_state<M: MediumControl>(
+    state: State<M>,
+    lba: u32,
+    n: u32,
+    from: &[u8],
+) -> (State<M>, WriteOut)
+    requires few { n ≤ TRANSFER_LIMIT }
+    requires whole { length from.now ≡ 2048 * n }
+    ensures cause { WriteCause (shown_state state) (shown_state result.0) lba n result.1 }
+    ensures step { StepsFromEach (shown_state state)
+        (λ s. WriteStep (shown_state result.0) (StandsFor (shown_state result.0)) s lba n from.now result.1) }
+    ensures some { KeepsStanding (shown_state state) (shown_state result.0) }
+    ensures completes { WriteCompletes (shown_state state) (shown_state result.0) lba n result.1 }
+    ensures same_shape { (shown_state result.0).shape ≡ (shown_state state).shape }
+{
+    match state {
+        State::Off(off) => (State::Off(off), WriteOut::Off),
+        State::Ready(ready) => ready.write(lba, n, from),
+        State::NotFormatted(bare) => (State::NotFormatted(bare), WriteOut::NotFormatted),
+    }
+}
+
+/// Turns the power on.
+fn turn_on<M: MediumControl>(off: PoweredOff<M>, alloc: Global) -> (State<M>, PowerOut)
+    ensures cause { PowerCause (shown_off off) (shown_state result.0) result.1 }
+    ensures step { PowerSteps (shown_off off) (shown_state result.0) result.1 }
+    ensures same_shape { (shown_state result.0).shape ≡ off.geometry }
+{
+    match off.power_on(alloc) {
+        PowerOn::Ready(ready) => {
+            let capacity = ready.capacity();
+            (State::Ready(ready), PowerOut::Ready { capacity })
+        }
+        PowerOn::NotFormatted(bare) => (State::NotFormatted(bare), PowerOut::NotFormatted),
+        PowerOn::Cut(off) => (State::Off(off), PowerOut::Cut),
+        PowerOn::Fault(off) => (State::Off(off), PowerOut::Fault),
+        PowerOn::NoMemory(off) => (State::Off(off), PowerOut::NoMemory),
+    }
+}
+
+/// Turns the power off and on again.
+pub fn power_state<M: MediumControl>(state: State<M>, alloc: Global) -> (State<M>, PowerOut)
+    ensures cause { PowerCause (shown_state state) (shown_state result.0) result.1 }
+    ensures step { StepsFromEach (shown_state state)
+        (λ s. PowerStep (shown_state result.0) (StandsFor (shown_state result.0)) s result.1) }
+    ensures some { KeepsStanding (shown_state state) (shown_state result.0) }
+    ensures same_shape { (shown_state result.0).shape ≡ (shown_state state).shape }
+{
+    match state {
+        State::Off(off) => turn_on(off, alloc),
+        State::Ready(ready) => turn_on(ready.power_off(), alloc),
+        State::NotFormatted(bare) => turn_on(bare.power_off(), alloc),
+    }
+}
+
+/// Formats the disc, where the power is on.
+pub fn format_state<M: MediumControl>(
+    state: State<M>,
+    alloc: Global,
+    kind: Kind,
+) -> (State<M>, FormatOut)
+    ensures cause { FormatCause (shown_state state) (shown_state result.0) kind result.1 }
+    ensures step { StepsFromEach (shown_state state)
+        (λ s. FormatStep (shown_state state) (shown_state result.0) (StandsFor (shown_state result.0)) s
+        kind result.1) }
+    ensures some { KeepsStanding (shown_state state) (shown_state result.0) }
+    ensures completes { FormatCompletes (shown_state state) (shown_state result.0) kind result.1 }
+    ensures same_shape { (shown_state result.0).shape ≡ (shown_state state).shape }
+{
+    match state {
+        State::Off(off) => (State::Off(off), FormatOut::Off),
+        State::Ready(ready) => ready.format(alloc, kind),
+        State::NotFormatted(bare) => bare.format(alloc, kind),
+    }
+}
