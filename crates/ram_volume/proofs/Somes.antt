@@ -14,7 +14,7 @@ use Rattle.model_drive.specs.Shown.{Shown, IsKnown, IsOn, StandsFor, cells_in}
 use Rattle.model_drive.specs.Runs.{Loaded, opened_drive, IsOpenedOn}
 use Rattle.model_drive.specs.Reads.{ReadCause}
 use Rattle.model_drive.specs.Writes.{WriteCause}
-use Rattle.model_drive.specs.Power.{PowerCause, PowerStep}
+use Rattle.model_drive.specs.Power.{PowerCause}
 use Rattle.model_drive.specs.Formats.{FormatCause}
 use Rattle.model_drive.proofs.Found.{read_found, write_found, power_found, format_found, read_known, write_known, power_known, format_known}
 use Rattle.model_drive.proofs.Opening.{opened_disc}
@@ -23,7 +23,7 @@ use Rattle.ram_volume.specs.Reading.{ReadSteps}
 use Rattle.ram_volume.specs.Writing.{WriteSteps}
 use Rattle.ram_volume.specs.Powers.{PowerSteps}
 use Rattle.ram_volume.specs.Formats.{FormatSteps}
-use Rattle.ram_volume.specs.Volume.{StandsForSome, StepsFromEach, KeepsStanding}
+use Rattle.ram_volume.specs.Volume.{StandsForSome, ReadFromEach, KeepsStanding}
 
 module _ (old new : Shown) where
   pub still_some : new.medium.world.known ≡ old.medium.world.known → ((s : Standing) → StandsFor old s → (t : Standing) × StandsFor new t) → KeepsStanding old new
@@ -72,5 +72,5 @@ module _ (old begun new : Shown) (same : old ≡ begun) where
   pub format_keeps : (kind : Kind) (out : FormatOut) → FormatCause begun new kind out → FormatSteps begun new kind out → KeepsStanding old new
   format_keeps kind out cause steps = subst (λ (x : Shown). KeepsStanding x new) (sym same) (format_some begun new kind out cause steps)
 
-pub power_steps_from : (old new : Shown) (out : PowerOut) → PowerSteps old new out → StepsFromEach old (λ s. PowerStep new (StandsFor new) s out)
-power_steps_from old new out steps = record { each = steps }
+pub read_each : (old new : Shown) (lba n : ℕ) (into : List ℕ) (out : ReadOut) → ReadFromEach old new lba n into out → ReadSteps old new lba n into out
+read_each old new lba n into out read = read.each

@@ -2,14 +2,13 @@
 
 ghost use Rattle.std.specs.Prelude.{◌≡◌, ◌*◌, ◌≤◌, length};
 ghost use Rattle.model_commands.specs.declared.TheConstants.{TRANSFER_LIMIT};
-ghost use Rattle.model_drive.specs.Shown.{StandsFor};
-ghost use Rattle.model_drive.specs.Reads.{ReadCause, ReadStep, ReadCompletes, ReadIsQuiet};
-ghost use Rattle.model_drive.specs.Writes.{WriteCause, WriteStep, WriteCompletes};
-ghost use Rattle.model_drive.specs.Power.{PowerCause, PowerStep};
-ghost use Rattle.model_drive.specs.Formats.{FormatCause, FormatStep, FormatCompletes};
+ghost use Rattle.model_drive.specs.Reads.{ReadCause, ReadCompletes, ReadIsQuiet};
+ghost use Rattle.model_drive.specs.Writes.{WriteCause, WriteCompletes};
+ghost use Rattle.model_drive.specs.Power.{PowerCause};
+ghost use Rattle.model_drive.specs.Formats.{FormatCause, FormatCompletes};
 ghost use Rattle.ram_volume.specs.Shown.{shown_off, shown_state};
 ghost use Rattle.ram_volume.specs.Powers.{PowerSteps};
-ghost use Rattle.ram_volume.specs.Volume.{StepsFromEach, KeepsStanding};
+ghost use Rattle.ram_volume.specs.Volume.{ReadFromEach, WroteOnEach, FormattedEach, KeepsStanding};
 
 use crate::states::{PowerOn, PoweredOff, State};
 use ram_medium::MediumControl;
@@ -26,8 +25,7 @@ pub fn read_state<M: MediumControl>(
     requires few { n ≤ TRANSFER_LIMIT }
     requires whole { length into.old ≡ 2048 * n }
     ensures cause { ReadCause (shown_state state) (shown_state result.0) lba n result.1 }
-    ensures step { StepsFromEach (shown_state state)
-        (λ s. ReadStep (StandsFor (shown_state result.0)) s lba n into.new result.1) }
+    ensures step { ReadFromEach (shown_state state) (shown_state result.0) lba n into.new result.1 }
     ensures some { KeepsStanding (shown_state state) (shown_state result.0) }
     ensures completes { ReadCompletes (shown_state state) (shown_state result.0) lba n result.1 }
     ensures quiet { ReadIsQuiet (shown_state state) (shown_state result.0) lba n result.1 }
@@ -50,8 +48,7 @@ pub fn write_state<M: MediumControl>(
     requires few { n ≤ TRANSFER_LIMIT }
     requires whole { length from.now ≡ 2048 * n }
     ensures cause { WriteCause (shown_state state) (shown_state result.0) lba n result.1 }
-    ensures step { StepsFromEach (shown_state state)
-        (λ s. WriteStep (shown_state result.0) (StandsFor (shown_state result.0)) s lba n from.now result.1) }
+    ensures step { WroteOnEach (shown_state state) (shown_state result.0) lba n from.now result.1 }
     ensures some { KeepsStanding (shown_state state) (shown_state result.0) }
     ensures completes { WriteCompletes (shown_state state) (shown_state result.0) lba n result.1 }
     ensures same_shape { (shown_state result.0).shape ≡ (shown_state state).shape }
@@ -84,8 +81,7 @@ fn turn_on<M: MediumControl>(off: PoweredOff<M>, alloc: Global) -> (State<M>, Po
 /// Turns the power off and on again.
 pub fn power_state<M: MediumControl>(state: State<M>, alloc: Global) -> (State<M>, PowerOut)
     ensures cause { PowerCause (shown_state state) (shown_state result.0) result.1 }
-    ensures step { StepsFromEach (shown_state state)
-        (λ s. PowerStep (shown_state result.0) (StandsFor (shown_state result.0)) s result.1) }
+    ensures step { PowerSteps (shown_state state) (shown_state result.0) result.1 }
     ensures some { KeepsStanding (shown_state state) (shown_state result.0) }
     ensures same_shape { (shown_state result.0).shape ≡ (shown_state state).shape }
 {
@@ -103,9 +99,7 @@ pub fn format_state<M: MediumControl>(
     kind: Kind,
 ) -> (State<M>, FormatOut)
     ensures cause { FormatCause (shown_state state) (shown_state result.0) kind result.1 }
-    ensures step { StepsFromEach (shown_state state)
-        (λ s. FormatStep (shown_state state) (shown_state result.0) (StandsFor (shown_state result.0)) s
-        kind result.1) }
+    ensures step { FormattedEach (shown_state state) (shown_state result.0) kind result.1 }
     ensures some { KeepsStanding (shown_state state) (shown_state result.0) }
     ensures completes { FormatCompletes (shown_state state) (shown_state result.0) kind result.1 }
     ensures same_shape { (shown_state result.0).shape ≡ (shown_state state).shape }

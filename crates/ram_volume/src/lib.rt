@@ -5,6 +5,7 @@
 mod calls;
 mod fetching;
 mod formats;
+mod holding;
 mod laws;
 mod memory;
 mod power;

@@ -1,23 +1,24 @@
 //! The drive that a host calls, and that a run works on.
 
+ghost use Rattle.std.specs.Prelude.{IsSome};
 ghost use Rattle.std.proofs.Props.{props};
-ghost use Rattle.ram_volume.specs.Shown.{shown_state};
-ghost use Rattle.ram_volume.specs.Volume.{StandsForSome};
+ghost use Rattle.ram_volume.specs.Volume.{StandsForSome, shown_in};
 
 use crate::calls::{format_state, power_state, read_state, write_state};
+use crate::holding::{put_in, take_out};
 use crate::states::{PoweredOff, State};
-use core::mem::replace_with;
 use ram_medium::MediumControl;
 use ram_sectors::{Disc, FormatOut, Kind, PowerOut, ReadOut, Sectors, WriteOut};
 use ram_zones::Geometry;
 use std::alloc::Global;
 
 /// A drive over its medium, in one of its states. Where the cells of its medium are known it stands for a disc, or with the
-/// power off for some.
+/// power off for some. It holds its state between two calls: a call takes it, and leaves the next.
 #[derive(Drop)]
 pub struct Volume<M: MediumControl> {
-    state: State<M>,
-    ghost some: { StandsForSome (shown_state state) } by { Prim.hlevel props },
+    state: Option<State<M>>,
+    ghost held: { IsSome state } by { Prim.hlevel props },
+    ghost some: { StandsForSome (shown_in state held) } by { Prim.hlevel props },
 }
 
 impl<M: MediumControl> Volume<M> {
@@ -30,57 +31,65 @@ impl<M: MediumControl> Volume<M> {
     pub fn new(medium: M, geometry: Geometry) -> Volume<M>
         requires size { M.block_count medium ≡ total geometry }
         requires off { ¬ IsTrue (M.world medium).power }
-        ensures { shown_state result.state
+        ensures { shown_in result.state result.held
             ≡ shown_without geometry (machine_shown M.world M.arms M.armed_cut medium) }
     {
         Volume {
-            state: State::Off(PoweredOff::new(medium, geometry)),
+            state: Some(State::Off(PoweredOff::new(medium, geometry))),
         }
     }
 }
 
 impl<M: MediumControl> Sectors for Volume<M> {
     ghost use Rattle.model_drive.specs.Shown.{StandsFor};
+    ghost use Rattle.ram_volume.specs.Volume.{state_in};
     ghost use Rattle.ram_volume.specs.Sounding.{sound_state};
 
-    ghost shows = { λ volume. shown_state volume.state };
+    ghost shows = { λ volume. shown_in volume.state volume.held };
 
-    ghost stands = { λ volume s. StandsFor (shown_state volume.state) s };
+    ghost stands = { λ volume s. StandsFor (shown_in volume.state volume.held) s };
 
     fn capacity(&self) -> Option<u32> {
         match &self.state {
-            State::Ready(ready) => Some(ready.capacity()),
-            State::Off(_) | State::NotFormatted(_) => None,
+            Some(State::Ready(ready)) => Some(ready.capacity()),
+            Some(State::Off(_) | State::NotFormatted(_)) | None => None,
         }
     }
 
     fn read(&mut self, lba: u32, n: u32, into: &mut [u8]) -> ReadOut {
-        replace_with(&mut self.state, into, |state, into| {
-            read_state(state, lba, n, into)
-        })
+        let state = take_out(&mut self.state);
+        let (state, out) = read_state(state, lba, n, into);
+        put_in(&mut self.state, state);
+        out
     }
 
     fn write(&mut self, lba: u32, n: u32, from: &[u8]) -> WriteOut {
-        replace_with(&mut self.state, from, |state, from| {
-            write_state(state, lba, n, from)
-        })
+        let state = take_out(&mut self.state);
+        let (state, out) = write_state(state, lba, n, from);
+        put_in(&mut self.state, state);
+        out
     }
 
     fn power(&mut self, alloc: Global) -> PowerOut {
-        replace_with(&mut self.state, alloc, power_state)
+        let state = take_out(&mut self.state);
+        let (state, out) = power_state(state, alloc);
+        put_in(&mut self.state, state);
+        out
     }
 
     ghost laws = { record {
       as_shown = λ volume s. (λ stands. stands, λ stands. stands);
       some = λ volume. volume.some;
-      sound = λ volume. sound_state M.laws.as_many M.control_laws.to_come M.control_laws.arms_to_come volume.state;
+      sound = λ volume. sound_state M.laws.as_many M.control_laws.to_come M.control_laws.arms_to_come
+          (state_in volume.state volume.held);
     } };
 }
 
 impl<M: MediumControl> Disc for Volume<M> {
     fn format(&mut self, alloc: Global, kind: Kind) -> FormatOut {
-        replace_with(&mut self.state, alloc, |state, alloc| {
-            format_state(state, alloc, kind)
-        })
+        let state = take_out(&mut self.state);
+        let (state, out) = format_state(state, alloc, kind);
+        put_in(&mut self.state, state);
+        out
     }
 }

@@ -3,12 +3,11 @@ use Rattle.model_drive.specs.Shown.{Shown, StandsFor}
 use Rattle.model_drive.specs.Power.{PowerCause}
 use Rattle.ram_volume.specs.Shown.{shown_off, shown_bare, shown_ready, shown_state}
 use Rattle.ram_volume.proofs.CallSteps.{power_cause_again, power_steps_again, power_steps_as}
-use Rattle.ram_volume.proofs.Somes.{power_steps_from, power_some}
+use Rattle.ram_volume.proofs.Somes.{power_some}
 use Rattle.ram_volume.proofs.calls.power_state.Goals as goal
 
 pub returns-in-Off-clause-step : goal.returns-in-Off-clause-step
 returns-in-Off-clause-step g c =
-    power_steps_from (shown_state c.args.state) (shown_state c.turn_on.result.0) c.turn_on.result.1
     (power_steps_as (shown_state c.args.state) (shown_off c.in-Off.off) (shown_state c.turn_on.result.0) c.turn_on.result.1 (ap (λ state. shown_state state) c.in-Off.is) c.turn_on.ensures.step)
 
 pub returns-in-Off-clause-some : goal.returns-in-Off-clause-some
@@ -24,7 +23,6 @@ returns-in-Ready-clause-cause g c =
 
 pub returns-in-Ready-clause-step : goal.returns-in-Ready-clause-step
 returns-in-Ready-clause-step g c =
-    power_steps_from (shown_state c.args.state) (shown_state c.turn_on-in-Ready.result.0) c.turn_on-in-Ready.result.1
     (power_steps_again (shown_state c.args.state) (shown_ready c.in-Ready.ready) (shown_off c.power_off.result) (shown_state c.turn_on-in-Ready.result.0)
     c.turn_on-in-Ready.result.1 (ap (λ state. shown_state state) c.in-Ready.is) c.power_off.ensures.stands c.turn_on-in-Ready.ensures.step)
 
@@ -42,7 +40,6 @@ returns-in-NotFormatted-clause-cause g c =
 
 pub returns-in-NotFormatted-clause-step : goal.returns-in-NotFormatted-clause-step
 returns-in-NotFormatted-clause-step g c =
-    power_steps_from (shown_state c.args.state) (shown_state c.turn_on-in-NotFormatted.result.0) c.turn_on-in-NotFormatted.result.1
     (power_steps_again (shown_state c.args.state) (shown_bare c.in-NotFormatted.bare) (shown_off c.power_off-in-NotFormatted.result)
     (shown_state c.turn_on-in-NotFormatted.result.0) c.turn_on-in-NotFormatted.result.1 (ap (λ state. shown_state state) c.in-NotFormatted.is)
     c.power_off-in-NotFormatted.ensures.stands c.turn_on-in-NotFormatted.ensures.step)
