@@ -2,6 +2,7 @@
 //! not formatted. Each call takes its state and gives the next.
 #![tactic(auto)]
 
+mod control;
 mod fetching;
 mod formats;
 mod laws;
@@ -11,6 +12,7 @@ mod reading;
 mod states;
 mod writing;
 
+pub use control::fail_state;
 pub use laws::what_a_state_shows_is_sound;
 pub use states::{NotFormatted, PowerOn, PoweredOff, Ready, State};
 
