@@ -1,5 +1,6 @@
 mod Buffers
 mod Completing
+mod Controlling
 mod Fetches
 mod FormatAnswers
 mod FormatCauses

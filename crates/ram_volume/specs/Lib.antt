@@ -1,4 +1,5 @@
 pub mod Blocks
+pub mod Control
 pub mod Formats
 pub mod OneProof
 pub mod Powers

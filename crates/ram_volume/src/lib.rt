@@ -2,7 +2,11 @@
 //! not formatted. Each call takes its state and gives the next.
 #![tactic(auto)]
 
+<<<<<<< HEAD
 mod calls;
+=======
+mod control;
+>>>>>>> 1f4bed7402fb9a43690373bb99c4313983a08426
 mod fetching;
 mod formats;
 mod holding;
@@ -14,6 +18,7 @@ mod states;
 mod volume;
 mod writing;
 
+pub use control::fail_state;
 pub use laws::what_a_state_shows_is_sound;
 pub use states::{NotFormatted, PowerOn, PoweredOff, Ready, State};
 pub use volume::Volume;

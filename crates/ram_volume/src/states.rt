@@ -139,6 +139,23 @@ impl<M: MediumControl> NotFormatted<M> {
     {
         self.mark
     }
+
+    /// The medium, with its power on.
+    pub fn into_medium(self) -> M
+        ensures { result ≡ self.medium }
+    {
+        let NotFormatted {
+            medium,
+            geometry: _,
+            mark: _,
+            spare_list: _,
+            draft: _,
+            buffer: _,
+            block: _,
+            scratch: _,
+        } = self;
+        medium
+    }
 }
 
 impl<M: MediumControl> Ready<M> {
@@ -154,5 +171,21 @@ impl<M: MediumControl> Ready<M> {
     {
         let blocks = self.geometry.data_blocks() - self.geometry.psa() - self.lists.sdl.ssa;
         blocks * SECTORS_PER_BLOCK as u32
+    }
+
+    /// The medium, with its power on.
+    pub fn into_medium(self) -> M
+        ensures { result ≡ self.medium }
+    {
+        let Ready {
+            medium,
+            geometry: _,
+            lists: _,
+            draft: _,
+            buffer: _,
+            block: _,
+            scratch: _,
+        } = self;
+        medium
     }
 }

@@ -5,9 +5,10 @@ ghost use Rattle.std.proofs.Props.{props};
 ghost use Rattle.ram_volume.specs.Volume.{StandsForSome, shown_in};
 
 use crate::calls::{format_state, power_state, read_state, write_state};
+use crate::control::fail_state;
 use crate::holding::{put_in, take_out};
 use crate::states::{PoweredOff, State};
-use ram_medium::MediumControl;
+use ram_medium::{Arm, FailEnd, Fate, MediumControl};
 use ram_sectors::{Disc, FormatOut, Kind, PowerOut, ReadOut, Sectors, WriteOut};
 use ram_zones::Geometry;
 use std::alloc::Global;
@@ -22,10 +23,14 @@ pub struct Volume<M: MediumControl> {
 }
 
 impl<M: MediumControl> Volume<M> {
-    ghost use Rattle.std.specs.Prelude.{◌≡◌, IsTrue};
+    ghost use Rattle.std.specs.Prelude.{◌≡◌, ◌≤◌, IsTrue};
     ghost use Rattle.model_geometry.specs.Geometry.{total};
+    ghost use Rattle.model_sectors.specs.Discs.{Standing};
+    ghost use Rattle.model_drive.specs.Shown.{StandsFor};
     ghost use Rattle.ram_medium.specs.Laws.{machine_shown};
+    ghost use Rattle.ram_medium.specs.Control.{WearRule, with_armed_cut};
     ghost use Rattle.ram_volume.specs.Shown.{shown_without};
+    ghost use Rattle.ram_volume.specs.Control.{FailOnDrive, FailStands, KeepsMemory};
 
     /// A drive of this geometry over its medium, with its power off.
     pub fn new(medium: M, geometry: Geometry) -> Volume<M>
@@ -36,6 +41,64 @@ impl<M: MediumControl> Volume<M> {
     {
         Volume {
             state: Some(State::Off(PoweredOff::new(medium, geometry))),
+        }
+    }
+
+    /// Makes the block of the medium of this number, counted from 0, dead, with the power on or off. Where what the medium
+    /// lies on failed, the power is off, nothing is kept in memory, and the disc is a candidate.
+    pub fn fail(&mut self, block: u32) -> FailEnd
+        ensures rule { FailOnDrive (shown_in self.old.state self.old.held) (shown_in self.new.state self.new.held)
+            block result }
+        ensures stands { (s : Standing) → StandsFor (shown_in self.old.state self.old.held) s
+            → FailStands (shown_in self.new.state self.new.held) s result }
+    {
+        let state = take_out(&mut self.state);
+        let (state, end) = fail_state(state, block);
+        put_in(&mut self.state, state);
+        end
+    }
+
+    /// Makes a block of the medium dead at its `n`-th use from now on: 1 is the next.
+    pub fn wear(&mut self, block: u32, n: u32) -> Arm
+        requires { 1 ≤ n }
+        ensures rule { WearRule (total (shown_in self.old.state self.old.held).shape)
+            (shown_in self.old.state self.old.held).medium (shown_in self.new.state self.new.held).medium
+            (record { block = block; left = n }) result }
+        ensures keeps { KeepsMemory (shown_in self.old.state self.old.held)
+            (shown_in self.new.state self.new.held) }
+        ensures stands { (s : Standing) → StandsFor (shown_in self.old.state self.old.held) s
+            → StandsFor (shown_in self.new.state self.new.held) s }
+    {
+        let mut state = take_out(&mut self.state);
+        let arm = state.wear(block, n);
+        put_in(&mut self.state, state);
+        arm
+    }
+
+    /// Cuts the power at the `n`-th use of the medium from now on, and a write that is then cut leaves its block by the fate.
+    pub fn arm_cut(&mut self, n: u32, fate: Fate)
+        requires { 1 ≤ n }
+        ensures rule { (shown_in self.new.state self.new.held).medium
+            ≡ with_armed_cut n fate (shown_in self.old.state self.old.held).medium }
+        ensures keeps { KeepsMemory (shown_in self.old.state self.old.held)
+            (shown_in self.new.state self.new.held) }
+        ensures stands { (s : Standing) → StandsFor (shown_in self.old.state self.old.held) s
+            → StandsFor (shown_in self.new.state self.new.held) s }
+    {
+        let mut state = take_out(&mut self.state);
+        state.arm_cut(n, fate);
+        put_in(&mut self.state, state);
+    }
+
+    /// The medium, as the drive leaves it.
+    pub fn into_medium(self) -> M
+        ensures { machine_shown M.world M.arms M.armed_cut result ≡ (shown_in self.state self.held).medium }
+    {
+        let Volume { mut state } = self;
+        match take_out(&mut state) {
+            State::Off(off) => off.into_medium(),
+            State::Ready(ready) => ready.into_medium(),
+            State::NotFormatted(bare) => bare.into_medium(),
         }
     }
 }
