@@ -2,11 +2,8 @@
 //! not formatted. Each call takes its state and gives the next.
 #![tactic(auto)]
 
-<<<<<<< HEAD
 mod calls;
-=======
 mod control;
->>>>>>> 1f4bed7402fb9a43690373bb99c4313983a08426
 mod fetching;
 mod formats;
 mod holding;
