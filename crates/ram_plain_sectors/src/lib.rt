@@ -1,4 +1,4 @@
-//! Sectors that are read and written by a host: what a drive is, whatever it does with bad blocks. Contracts alone.
+//! Sectors that are read and written by a host, on a drive without defect lists. Contracts alone.
 #![tactic(auto)]
 
 ghost use Rattle.std.specs.Prelude.{◌≡◌, ◌*◌, ◌≤◌, List, length};
@@ -9,10 +9,9 @@ ghost use Rattle.model_sectors.specs.Tells.{CapacityRule};
 ghost use Rattle.model_sectors.specs.Reads.{ReadCause, ReadSteps, ReadIsQuiet};
 ghost use Rattle.model_sectors.specs.Writes.{WriteCause, WriteSteps};
 ghost use Rattle.model_sectors.specs.Power.{PowerCause, PowerSteps};
-ghost use Rattle.ram_sectors.specs.Laws.{SectorsLaws};
+ghost use Rattle.ram_plain_sectors.specs.Laws.{PlainSectorsLaws};
 
 pub use model_commands::TRANSFER_LIMIT;
-pub use model_drive::{FormatOut, Kind};
 pub use model_sectors::{PowerOut, ReadOut, WriteOut};
 use std::alloc::Global;
 
@@ -22,7 +21,7 @@ use std::alloc::Global;
 /// Each call answers why it ended. `cause` ties the answer to what the drive shows, with the uses of the medium that it
 /// took and the blocks that are buffered then. `step` says what each disc that it stood for has become, and which cells
 /// may have changed. An answer other than Fault leaves the medium's count of faults as it was.
-pub trait Sectors {
+pub trait PlainSectors {
     /// The geometry of its disc. No call changes it.
     ghost shape: { Self → Shape };
 
@@ -67,5 +66,5 @@ pub trait Sectors {
         ensures step { PowerSteps (shows self.new) (stands self.old) (stands self.new) result }
         ensures same_shape { shape self.new ≡ shape self.old };
 
-    ghost laws: { SectorsLaws shows stands };
+    ghost laws: { PlainSectorsLaws shows stands };
 }
