@@ -12,7 +12,7 @@ use Rattle.model_sectors.specs.declared.ReadOut.{ReadOut}
 use Rattle.model_sectors.specs.declared.ReadOut.TheVariants as reads
 use Rattle.model_sectors.specs.declared.WriteOut.{WriteOut}
 use Rattle.model_sectors.specs.declared.WriteOut.TheVariants as writes
-use Rattle.ram_sectors.specs.declared.Sectors.{Ghosts as Drives}
+use Rattle.ram_plain_sectors.specs.declared.PlainSectors.{Ghosts as Drives}
 use Rattle.ram_mmc.specs.declared.commands.Transfer.{Transfer}
 use Rattle.ram_mmc.specs.declared.commands.Transfer.TheVariants as transfers
 use Rattle.ram_mmc.specs.Asked.{asked}

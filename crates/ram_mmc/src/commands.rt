@@ -7,7 +7,7 @@ ghost use Rattle.ram_mmc.specs.Commands.{read_answer, write_answer, AnswersRead,
 use model_commands::Operation;
 use ram_bytes::{Cdb, SECTOR_BYTES, get_u16, get_u32};
 use ram_cdb::{TRANSFER_LIMIT, command_bytes, data_bytes, operation};
-use ram_sectors::{ReadOut, Sectors, WriteOut};
+use ram_plain_sectors::{PlainSectors, ReadOut, WriteOut};
 use ram_sense::codes::{
     ADDRESS_OUT_OF_RANGE, INVALID_FIELD_IN_COMMAND, INVALID_OPERATION_CODE,
     MEDIUM_FORMAT_CORRUPTED, PARAMETER_LIST_LENGTH_ERROR, no_spare_location,
@@ -37,7 +37,7 @@ pub enum Transfer {
 /// Executes a command, with the command's data in `payload`, or tells why it is refused; then nothing was done, and it
 /// was not looked whether the power is on. The data of a command that was done are then in `data_in`, whose room is taken
 /// before; it stays empty on every other answer.
-pub fn execute<D: Sectors>(
+pub fn execute<D: PlainSectors>(
     disc: &mut D,
     cdb: &Cdb,
     payload: &[u8],
@@ -45,7 +45,7 @@ pub fn execute<D: Sectors>(
 ) -> Result<Answer, Sense>
     requires empty { data_in.old.items ≡ [] }
     requires room { 2048 * transfer_limit ≤ vec_capacity data_in.old }
-    ensures rule { Transfers D.Sectors disc.old disc.new payload.now result data_in.new.items
+    ensures rule { Transfers D.PlainSectors disc.old disc.new payload.now result data_in.new.items
         (asked cdb.now (length payload.now)) }
     ensures same_shape { D.shape disc.new ≡ D.shape disc.old }
     ensures room { vec_capacity data_in.old ≤ vec_capacity data_in.new }
@@ -85,11 +85,11 @@ fn asked(cdb: &Cdb, given: usize) -> Result<Transfer, Sense>
 }
 
 /// Reads sectors into `data_in`.
-fn read<D: Sectors>(disc: &mut D, lba: u32, n: u32, data_in: &mut Vec<u8>) -> Answer
+fn read<D: PlainSectors>(disc: &mut D, lba: u32, n: u32, data_in: &mut Vec<u8>) -> Answer
     requires few { n ≤ transfer_limit }
     requires empty { data_in.old.items ≡ [] }
     requires room { 2048 * transfer_limit ≤ vec_capacity data_in.old }
-    ensures rule { AnswersRead D.Sectors disc.old disc.new lba n result data_in.new.items }
+    ensures rule { AnswersRead D.PlainSectors disc.old disc.new lba n result data_in.new.items }
     ensures same_shape { D.shape disc.new ≡ D.shape disc.old }
     ensures room { vec_capacity data_in.old ≤ vec_capacity data_in.new }
 {

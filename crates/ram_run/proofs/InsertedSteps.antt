@@ -3,8 +3,8 @@ use Rattle.std.specs.Prelude.{◌≡◌, ℕ, List}
 use Rattle.std.proofs.Common.{refl, ap, ◌∙◌, subst}
 use Rattle.model_geometry.specs.Geometry.{total}
 use Rattle.ram_outside.specs.declared.image.Image.{Ghosts as Images}
-use Rattle.ram_sectors.specs.Laws.{SectorsLaws}
-use Rattle.ram_sectors.specs.declared.Sectors.{Ghosts as Drives}
+use Rattle.ram_plain_sectors.specs.Laws.{PlainSectorsLaws}
+use Rattle.ram_plain_sectors.specs.declared.PlainSectors.{Ghosts as Drives}
 use Rattle.ram_run.specs.declared.inserted.Inserted.TheVariants as inserts
 use Rattle.ram_run.specs.declared.line.DiscLine.{DiscLine}
 use Rattle.ram_run.specs.declared.line.Work.TheVariants as works
@@ -15,7 +15,7 @@ use Rattle.ram_run.specs.LineSteps.{DiscRule, DiscStep}
 use Rattle.ram_run.specs.Inserted.{Stands, IsAnswered}
 use Rattle.ram_run.proofs.StatesAfter.{rule_found}
 
-module _ {D I : Type 0} (drives : Drives D) (images : Images I) (laws : SectorsLaws drives.shows drives.stands) (drive_laws : DriveLaws drives.shape drives.shows) (old new : D) (line : DiscLine) (payload : List ℕ) (outcome : Outcome) (data_in : List ℕ)
+module _ {D I : Type 0} (drives : Drives D) (images : Images I) (laws : PlainSectorsLaws drives.shows drives.stands) (drive_laws : DriveLaws drives.shape drives.shows) (old new : D) (line : DiscLine) (payload : List ℕ) (outcome : Outcome) (data_in : List ℕ)
     (rule : DiscRule (drives.shows old) (drives.shows new) (drives.stands old) (drives.stands new) (total (drives.shape old)) line payload outcome data_in) (same_shape : drives.shape new ≡ drives.shape old) where
   -- the disc that a line leaves
   disc_left : (s : Loaded) → IsIn (drives.shape old) (drives.shows old) (drives.stands old) s

@@ -15,7 +15,7 @@ use Rattle.model_image.proofs.Writes.{cell_at-cells_of}
 use Rattle.model_sectors.specs.Discs.{Standing, Off, Shown, IsShown, first_disc}
 use Rattle.ram_outside.specs.declared.image.Image.{Ghosts as Images}
 use Rattle.ram_image.specs.Medium.{world_of, machine_in}
-use Rattle.ram_sectors.specs.declared.Sectors.{Ghosts as Drives}
+use Rattle.ram_plain_sectors.specs.declared.PlainSectors.{Ghosts as Drives}
 use Rattle.ram_image.specs.Opening.{IsOpened, IsRefused}
 use Rattle.ram_image.specs.declared.medium.ImageMedium.{ImageMedium}
 use Rattle.ram_image.specs.declared.opening.OpenFault.{OpenFault}

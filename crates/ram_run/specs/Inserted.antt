@@ -2,7 +2,7 @@
 use Rattle.std.specs.Prelude.{◌≡◌, ℕ, Option, None, Some, List}
 use Rattle.model_geometry.specs.Geometry.{Shape}
 use Rattle.ram_outside.specs.declared.image.Image.{Ghosts as Images}
-use Rattle.ram_sectors.specs.declared.Sectors.{Ghosts as Drives}
+use Rattle.ram_plain_sectors.specs.declared.PlainSectors.{Ghosts as Drives}
 use Rattle.ram_run.specs.declared.inserted.Inserted.{Inserted}
 use Rattle.ram_run.specs.declared.inserted.Inserted.TheVariants as inserts
 use Rattle.ram_run.specs.declared.line.Work.{Work}

@@ -10,11 +10,11 @@ ghost use Rattle.ram_run.specs.Control.{buffer_after_fail, stands_after_fail};
 use ram_image::OpenFault;
 use ram_medium::{Arm, FailEnd, Fate};
 use ram_outside::Image;
-use ram_sectors::Sectors;
+use ram_plain_sectors::PlainSectors;
 use std::alloc::Global;
 
 /// A drive over a medium that lies in an image, and that can be made to fail.
-pub trait Drive: Sectors {
+pub trait Drive: PlainSectors {
     /// The image.
     type Image: Image;
 

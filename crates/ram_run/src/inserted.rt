@@ -21,7 +21,7 @@ use ram_image::{PressOut, press};
 use ram_medium::{Arm, FailEnd};
 use ram_mmc::{Answer, execute};
 use ram_outside::Image;
-use ram_sectors::PowerOut;
+use ram_plain_sectors::PowerOut;
 use ram_text::Event;
 use ram_zones::Geometry;
 use std::alloc::Global;
@@ -37,8 +37,8 @@ pub enum Inserted<D: Drive> {
 impl<D: Drive> Inserted<D> {
     /// The image, as it is left.
     pub fn into_image(self) -> D::Image
-        ensures count { D.Image.faults result ≡ faults_of D.Sectors D.Image.Image self }
-        ensures left { (s : State) → Stands D.Sectors D.Image.Image self s
+        ensures count { D.Image.faults result ≡ faults_of D.PlainSectors D.Image.Image self }
+        ensures left { (s : State) → Stands D.PlainSectors D.Image.Image self s
             → LeavesImage s (D.Image.bytes result) }
     {
         match self {
@@ -59,12 +59,12 @@ impl<D: Drive> Inserted<D> {
         requires uses { CountsUses line }
         requires empty { data_in.old.items ≡ [] }
         requires room { PAYLOAD_ROOM ≤ vec_capacity data_in.old }
-        ensures step { (s : State) → Stands D.Sectors D.Image.Image self.old s
+        ensures step { (s : State) → Stands D.PlainSectors D.Image.Image self.old s
             → IsAnswered s (works.OnDisc line) payload.now data_in.new.items
-            (Stands D.Sectors D.Image.Image self.new) result }
+            (Stands D.PlainSectors D.Image.Image self.new) result }
         ensures printable { PrintsWhere result }
-        ensures count { LineCount (faults_of D.Sectors D.Image.Image self.old)
-            (faults_of D.Sectors D.Image.Image self.new) result }
+        ensures count { LineCount (faults_of D.PlainSectors D.Image.Image self.old)
+            (faults_of D.PlainSectors D.Image.Image self.new) result }
         ensures room { vec_capacity data_in.old ≤ vec_capacity data_in.new }
     {
         match self {
@@ -118,7 +118,7 @@ fn execute_powered<D: Drive>(
 ) -> Answer
     requires empty { data_in.old.items ≡ [] }
     requires room { PAYLOAD_ROOM ≤ vec_capacity data_in.old }
-    ensures rule { Executes D.Sectors disc.old disc.new cdb.now payload.now result data_in.new.items }
+    ensures rule { Executes D.PlainSectors disc.old disc.new cdb.now payload.now result data_in.new.items }
     ensures same_shape { D.shape disc.new ≡ D.shape disc.old }
     ensures room { vec_capacity data_in.old ≤ vec_capacity data_in.new }
 {
@@ -190,11 +190,12 @@ pub fn press_disc<D: Drive>(
     scale: u32,
     psa: u32,
 ) -> (Inserted<D>, Result<Reply, Stopped>)
-    ensures step { (s : State) → Stands D.Sectors D.Image.Image inserted s
-        → IsPressAnswered s (shape_of zones scale psa) (Stands D.Sectors D.Image.Image result.0) result.1 }
+    ensures step { (s : State) → Stands D.PlainSectors D.Image.Image inserted s
+        → IsPressAnswered s (shape_of zones scale psa)
+        (Stands D.PlainSectors D.Image.Image result.0) result.1 }
     ensures printable { PrintsWhere result.1 }
-    ensures count { LineCount (faults_of D.Sectors D.Image.Image inserted)
-        (faults_of D.Sectors D.Image.Image result.0) result.1 }
+    ensures count { LineCount (faults_of D.PlainSectors D.Image.Image inserted)
+        (faults_of D.PlainSectors D.Image.Image result.0) result.1 }
 {
     let Ok(geometry) = Geometry::new(zones, scale, psa) else {
         return (inserted, Ok(Reply::Event(Event::NotPressed)));

@@ -11,7 +11,7 @@ mod writing;
 
 use mechanism::Mechanism;
 use ram_outside::Image;
-use ram_sectors::{PowerOut, ReadOut, Sectors, WriteOut};
+use ram_plain_sectors::{PlainSectors, PowerOut, ReadOut, WriteOut};
 use std::alloc::Global;
 
 /// A disc without lists: its logical blocks lie in the data blocks behind the primary spares, in order, and it is
@@ -22,7 +22,7 @@ pub struct PlainDisc<I: Image> {
     ghost some: { StandsForSome mechanism } by { Prim.hlevel props },
 }
 
-impl<I: Image> Sectors for PlainDisc<I> {
+impl<I: Image> PlainSectors for PlainDisc<I> {
     ghost use Rattle.model_geometry.specs.Geometry.{data_blocks};
     ghost use Rattle.model_geometry.proofs.DataBlocks.{data_blocks_rise};
     ghost use Rattle.model_sectors.proofs.Apart.{apart_behind};

@@ -14,7 +14,7 @@ use ram_bytes::Block;
 use ram_image::{ImageMedium, OpenFault, open};
 use ram_medium::{Arm, FailEnd, Fate, Medium, MediumControl};
 use ram_outside::Image;
-use ram_sectors::PowerOut;
+use ram_plain_sectors::PowerOut;
 use ram_zones::Geometry;
 use std::alloc::{AllocError, Global};
 

@@ -11,8 +11,8 @@ ghost use Rattle.ram_run.specs.Plain.Reading.{ReadsPart, unread_in, read_stopped
 use super::mechanism::Mechanism;
 use ram_medium::{Medium, Stop};
 use ram_outside::Image;
+use ram_plain_sectors::ReadOut;
 use ram_requests::{Part, Request};
-use ram_sectors::ReadOut;
 
 impl<I: Image> Mechanism<I> {
     /// Reads a part of a request. Whether its block can be read.

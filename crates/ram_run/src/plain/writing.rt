@@ -11,8 +11,8 @@ ghost use Rattle.ram_run.specs.Plain.Writing.{BringsRest, RestStopped, Places, P
 use super::mechanism::Mechanism;
 use ram_medium::{Medium, Stop};
 use ram_outside::Image;
+use ram_plain_sectors::WriteOut;
 use ram_requests::{Part, Request};
-use ram_sectors::WriteOut;
 
 /// How the write of a part of a request ended.
 #[derive(Clone, Copy, Debug, PartialEq, Eq)]

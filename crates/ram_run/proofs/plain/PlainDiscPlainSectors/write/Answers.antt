@@ -1,7 +1,7 @@
 use Rattle.std.proofs.Common.{sym, ◌∙◌}
 use Rattle.model_sectors.proofs.Found.{write_known, some_after_write}
 use Rattle.ram_run.specs.Plain.Disc.{shown_by, stands_for}
-use Rattle.ram_run.proofs.plain.PlainDiscSectors.write.Goals as goal
+use Rattle.ram_run.proofs.plain.PlainDiscPlainSectors.write.Goals as goal
 
 pub invariant_of-self : goal.invariant_of-self
 invariant_of-self g c =
