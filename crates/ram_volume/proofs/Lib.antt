@@ -18,3 +18,4 @@ mod WriteEnds
 mod WriteTurns
 mod CallSteps
 mod Somes
+mod Held

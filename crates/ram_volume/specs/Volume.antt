@@ -1,6 +1,7 @@
 -- What a call of a drive makes of what it stood for, each as one fact: for `Volume` and the calls under it. (This project's
 -- own, as all here.)
 use Rattle.std.specs.Prelude.{ℕ, IsSome, Option, Some, None, List}
+use Rattle.std.proofs.lemmas.Bool.{false≢true}
 use Rattle.model_sectors.specs.Discs.{Standing}
 use Rattle.model_sectors.specs.declared.ReadOut.{ReadOut}
 use Rattle.model_drive.specs.declared.WriteOut.{WriteOut}
@@ -36,7 +37,7 @@ pub record KeepsStanding (old new : Shown) : Type 0 where
 module _ {M : Type 0} {c : ControlGhosts M} {d : Ghosts M} where
   -- the state that a drive holds between two calls
   abbrev pub state_in : (held : Option (State M c d)) → IsSome held → State M c d
-  state_in None none = absurd none
+  state_in None none = absurd (false≢true none)
   state_in (Some state) some = state
 
   -- what the drive shows

@@ -17,7 +17,6 @@ ghost use Rattle.ram_volume.specs.Shown.{shown_bare, shown_ready, shown_state, s
 ghost use Rattle.ram_volume.specs.Formats.{FormatSteps};
 
 use crate::states::{NotFormatted, PoweredOff, Ready, State};
-use ram_sectors::{FormatOut, Kind};
 use ram_buffer::BlockBuffer;
 use ram_bytes::Block;
 use ram_copies::Scratch;
@@ -25,6 +24,7 @@ use ram_format::{FullEnd, Rewritten, full_format, kept_entries, rewrite};
 use ram_lists::Lists;
 use ram_medium::MediumControl;
 use ram_sdl::Sdl;
+use ram_sectors::{FormatOut, Kind};
 use ram_zones::Geometry;
 use std::alloc::Global;
 

@@ -94,11 +94,12 @@ impl<M: MediumControl> Volume<M> {
     pub fn into_medium(self) -> M
         ensures { machine_shown M.world M.arms M.armed_cut result ≡ (shown_in self.state self.held).medium }
     {
-        let Volume { mut state } = self;
-        match take_out(&mut state) {
-            State::Off(off) => off.into_medium(),
-            State::Ready(ready) => ready.into_medium(),
-            State::NotFormatted(bare) => bare.into_medium(),
+        let Volume { state } = self;
+        match state {
+            Some(State::Off(off)) => off.into_medium(),
+            Some(State::Ready(ready)) => ready.into_medium(),
+            Some(State::NotFormatted(bare)) => bare.into_medium(),
+            None => unreachable!(),
         }
     }
 }

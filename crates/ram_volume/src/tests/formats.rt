@@ -1,9 +1,9 @@
 //! Formats in the typed states: what they use, what they find and keep, and what a cut leaves of them.
 
 use super::*;
-use ram_sectors::{FormatOut, Kind};
 use model_sectors::ReadOut;
 use ram_dds::{PdlEntry, PdlKind};
+use ram_sectors::{FormatOut, Kind};
 
 /// A full format that keeps the defective blocks of the secondary list.
 const FULL: Kind = Kind::Full { drop_sdl: false };
