@@ -5,3 +5,6 @@ pub mod modes;
 mod pages;
 
 pub use modes::Modes;
+
+#[cfg(test)]
+mod tests;
