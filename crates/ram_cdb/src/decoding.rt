@@ -251,3 +251,6 @@ fn is_page_code(page: u8) -> bool
 {
     matches!(page, 0x01 | 0x08 | 0x3f)
 }
+
+#[cfg(test)]
+mod tests;
