@@ -1,12 +1,12 @@
 -- A command that is not refused is within the limits: by cases on its operation.
-use Rattle.std.proofs.Common.{rules, arith, ◌≡◌, ℕ, ◌+◌, ◌*◌, ◌<◌, ◌≤◌, Bool, true, false, not, ◌||◌, ◌==◌, nat_lt, nat_le, if◌then◌else◌, IsTrue, List, length, drop, slice_index, get_or, refl, sym, ◌∙◌}
+use Rattle.std.proofs.Common.{rules, arith, ◌≡◌, ℕ, ◌+◌, ◌*◌, ◌<◌, ◌≤◌, Bool, true, false, not, ◌==◌, nat_lt, nat_le, if◌then◌else◌, List, length, drop, slice_index}
 use Rattle.std.proofs.lemmas.List.{get_or-drop}
 use Rattle.std.proofs.lemmas.Bool.{ltb-false, le-ltb, eqb-false, eqb-true, not-false}
 use Rattle.byteorder.specs.Numbers.{big_from-lt}
 use Rattle.model_commands.specs.declared.Operation.{Operation}
 use Rattle.model_commands.specs.declared.Operation.TheVariants as operations
-use Rattle.model_commands.specs.Commands.{command, length_for, transfer_limit, field}
-use Rattle.model_commands.specs.Fields.{flag, bits}
+use Rattle.model_commands.specs.Commands.{command, transfer_limit, field}
+use Rattle.model_commands.specs.Fields.{bits}
 use Rattle.model_modes.specs.Pages.{is_page_code}
 use Rattle.model_drive.specs.declared.Kind.{Kind}
 use Rattle.ram_cdb.specs.declared.commands.Command.TheVariants as commands

@@ -8,6 +8,7 @@ ghost use Rattle.model_commands.specs.Commands.{command, operation_with, operati
 
 pub mod commands;
 pub mod decoding;
+pub mod laws;
 
 pub use commands::{Command, Kind};
 pub use decoding::{decode, decode_as};
