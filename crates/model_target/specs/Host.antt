@@ -1,6 +1,6 @@
 -- What a target remembers for its host between two commands, and how a command changes it. (This project's own, as all
 -- here.)
-use Rattle.std.specs.Prelude.{ℕ, Bool, true, false, ◌&&◌, not, if◌then◌else◌, Option, Some, None}
+use Rattle.std.specs.Prelude.{Bool, true, false, ◌&&◌, not, if◌then◌else◌, Option, Some, None}
 use Rattle.model_commands.specs.declared.Operation.{Operation}
 use Rattle.model_commands.specs.declared.Operation.TheVariants as operations
 use Rattle.ram_sense.specs.Sense.{sense}
@@ -63,3 +63,9 @@ done_by _ host = host
 -- a command was done, or checked
 abbrev pub keeps : Host → Answer → Host
 keeps host answer = record host { kept = kept_after host.kept answer }
+
+-- The attention is cleared where a command is told of it, and stands where the code is unknown.
+abbrev pub attention_after : (served : Operation → Bool) → Host → Option Operation → Bool
+attention_after served host None = host.attention
+attention_after served host (Some operation) =
+    if served operation && is_told host operation then false else host.attention

@@ -1,3 +1,4 @@
 pub mod Host
 pub mod Judging
 pub mod Replies
+pub mod Steps

@@ -1,6 +1,5 @@
 -- The bytes that a target replies, before they are cut to the allocation length.
-use Rattle.std.specs.Prelude.{ℕ, ◌+◌, ◌-◌, Bool, true, false, not, ◌==◌, if◌then◌else◌, List, [], ◌∷◌, ◌++◌, length, replicate}
-use Rattle.std.proofs.Common.{codes}
+use Rattle.std.specs.Prelude.{ℕ, ◌+◌, ◌-◌, Bool, ◌==◌, if◌then◌else◌, List, [], ◌∷◌, ◌++◌, length, replicate, codes}
 use Rattle.byteorder.specs.Endian.{big_bytes}
 use Rattle.ram_sense.specs.Sense.{sense_data}
 use Rattle.model_target.specs.Host.{Host, sense_told}

@@ -1,14 +1,31 @@
 //! What a target remembers for its host, which commands it does, and what it replies. Definitions, and their laws.
 #![tactic(auto)]
 
-ghost use Rattle.std.specs.Prelude.{◌≡◌, ℕ, ◌++◌, ◌∷◌, [], true, false, None, Some, List, length, Err};
-ghost use Rattle.ram_sense.specs.Sense.{sense, sense_data};
-ghost use Rattle.model_target.specs.Host.{Host, powered_on, sense_told};
+ghost use Rattle.std.specs.Prelude.{◌≡◌, ℕ, List, ◌∷◌, [], true, false, None, Some};
+ghost use Rattle.ram_sense.specs.Sense.{sense};
+ghost use Rattle.model_commands.specs.declared.Operation.TheVariants.{TestUnitReady, Inquiry};
+ghost use Rattle.model_target.specs.Host.{Host, powered_on, sense_told, attention_after};
+ghost use Rattle.ram_sense.specs.declared.answer.Answer.{Answer as Answered};
+ghost use Rattle.ram_sense.specs.declared.answer.Answer.TheVariants as answers;
+ghost use Rattle.model_drive.specs.Shown.{Shown, IsOn, StandsFor};
+ghost use Rattle.model_target.specs.Steps.{IsStep};
+ghost use Rattle.model_target.specs.Judging.{is_served};
 ghost use Rattle.model_target.specs.Replies.{inquiry_reply, capacity_reply, configuration_reply};
 
-/// After a power on the attention is what REQUEST SENSE tells.
+/// After a power on the attention is what REQUEST SENSE tells; an unknown code leaves it, and the first command that is
+/// told of it clears it. (Where the attention is told no command is done.)
 pub fn a_power_on_is_told()
-    ensures { sense_told powered_on ≡ sense 0x6 0x29 0x00 }
+    ensures told { sense_told powered_on ≡ sense 0x6 0x29 0x00 }
+    ensures unknown { attention_after is_served powered_on None ≡ true }
+    ensures cleared { attention_after is_served powered_on (Some TestUnitReady) ≡ false }
+    ensures kept { attention_after is_served powered_on (Some Inquiry) ≡ true }
+{}
+
+/// With the power off nothing is done, and the four things stay.
+pub fn nothing_is_done_with_the_power_off()
+    ensures { (old new : Shown) (host later : Host) (cdb payload : List ℕ) (answer : Answered) (data_in : List ℕ)
+        → ¬ IsOn old → IsStep old new (StandsFor old) (StandsFor new) host later cdb payload answer data_in
+        → (answer ≡ answers.Off) × (later ≡ host) × (new ≡ old) × (data_in ≡ []) }
 {}
 
 /// The replies of INQUIRY, of READ CAPACITY with 304 sectors, and of GET CONFIGURATION with the disc in and out.
