@@ -6,6 +6,12 @@ ghost use Rattle.model_commands.specs.declared.TheConstants.{DATA_LIMIT};
 ghost use Rattle.ram_cdb.specs.declared.TheConstants.{FORMAT_LIST_BYTES};
 ghost use Rattle.model_commands.specs.Commands.{command, operation_with, operation_of, out_length_of, transfer_limit, data_length};
 
+pub mod commands;
+pub mod decoding;
+pub mod laws;
+
+pub use commands::{Command, Kind};
+pub use decoding::{decode, decode_as};
 use model_commands::Operation;
 pub use model_commands::{DATA_LIMIT, TRANSFER_LIMIT};
 use ram_bytes::{Cdb, SECTOR_BYTES, get_u16, get_u32};

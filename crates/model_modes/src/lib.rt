@@ -1,0 +1,38 @@
+//! Mode pages: which the drive has, what MODE SENSE(10) replies, and what MODE SELECT(10) takes. Definitions, and their
+//! laws.
+#![tactic(auto)]
+
+ghost use Rattle.std.specs.Prelude.{◌≡◌, ◌≤◌, ℕ, ◌++◌, ◌∷◌, [], true, length, replicate};
+ghost use Rattle.model_modes.specs.declared.Page.{Page as ModePage};
+ghost use Rattle.model_modes.specs.Pages.{code, pages_with, all_pages, pages, page_by, is_page_code, mode_data, current_page, changeable_page};
+
+/// The mode pages of the drive, under the names of INCITS MMC and SPC.
+#[derive(Clone, Copy, Debug, PartialEq, Eq)]
+pub enum Page {
+    /// What is done where a block cannot be read or written.
+    ErrorRecovery,
+    /// Whether writes are cached.
+    Caching,
+}
+
+/// Each page has a code of its own, by which it alone is asked for; one more code asks for all, and no other code for any.
+pub fn each_page_has_its_own_code()
+    ensures one { (page : ModePage) → pages_with (code page) ≡ page ∷ [] }
+    ensures all { pages_with all_pages ≡ pages }
+    ensures codes { (is_page_code 0x01 ≡ true) × (is_page_code 0x08 ≡ true) × (is_page_code 0x3f ≡ true) }
+{}
+
+/// A page has 12 bytes, whatever is asked of it.
+pub fn pages_have_twelve_bytes()
+    ensures { (control : ℕ) (page : ModePage) → length (page_by control page) ≡ 12 }
+{}
+
+/// What is replied where the values in force are asked for, of one page and of both; and where the changeable ones are.
+pub fn worked_replies()
+    ensures recovery { mode_data 0 0x01 ≡ 0x00 ∷ 0x12 ∷ replicate 6 0 ++ 0x01 ∷ 0x0a ∷ 0x80 ∷ replicate 9 0 }
+    ensures caching { mode_data 2 0x08 ≡ 0x00 ∷ 0x12 ∷ replicate 6 0 ++ 0x08 ∷ 0x0a ∷ replicate 10 0 }
+    ensures both { mode_data 0 0x3f ≡ 0x00 ∷ 0x1e ∷ replicate 6 0 ++ 0x01 ∷ 0x0a ∷ 0x80 ∷ replicate 9 0
+        ++ 0x08 ∷ 0x0a ∷ replicate 10 0 }
+    ensures changeable { mode_data 1 0x3f ≡ 0x00 ∷ 0x1e ∷ replicate 6 0 ++ 0x01 ∷ 0x0a ∷ replicate 10 0
+        ++ 0x08 ∷ 0x0a ∷ replicate 10 0 }
+{}

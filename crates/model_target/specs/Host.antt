@@ -1,0 +1,71 @@
+-- What a target remembers for its host between two commands, and how a command changes it. (This project's own, as all
+-- here.)
+use Rattle.std.specs.Prelude.{Bool, true, false, ◌&&◌, not, if◌then◌else◌, Option, Some, None}
+use Rattle.model_commands.specs.declared.Operation.{Operation}
+use Rattle.model_commands.specs.declared.Operation.TheVariants as operations
+use Rattle.ram_sense.specs.Sense.{sense}
+use Rattle.ram_sense.specs.declared.sense.Sense.{Sense}
+use Rattle.ram_sense.specs.declared.answer.Answer.{Answer}
+use Rattle.ram_sense.specs.declared.answer.Answer.TheVariants as answers
+use Rattle.ram_cdb.specs.declared.commands.Command.{Command}
+use Rattle.ram_cdb.specs.declared.commands.Command.TheVariants as commands
+
+-- The four things: the power came on, and the host has not been told; removal of the disc is prevented; the disc is out;
+-- the sense of the last command, if it had one.
+pub record Host : Type 0 where
+  pub attention : Bool
+  pub prevented : Bool
+  pub out : Bool
+  pub kept : Option Sense
+
+-- after the power was turned off and on again the disc is in, and removal allowed
+abbrev pub powered_on : Host
+powered_on = record { attention = true; prevented = false; out = false; kept = None }
+
+-- the commands that do not wait for the attention
+abbrev pub passes_attention : Operation → Bool
+passes_attention operations.Inquiry = true
+passes_attention operations.RequestSense = true
+passes_attention operations.GetConfiguration = true
+passes_attention _ = false
+
+-- the command is told of the attention, in place of being done
+abbrev pub is_told : Host → Operation → Bool
+is_told host operation = host.attention && not (passes_attention operation)
+
+-- the sense that REQUEST SENSE gives: what is kept, else the attention, else that there is nothing to tell
+abbrev pub sense_told : Host → Sense
+sense_told host = sense_by host.kept host.attention where
+  sense_by : Option Sense → Bool → Sense
+  sense_by (Some kept) attention = kept
+  sense_by None true = sense 0x6 0x29 0x00
+  sense_by None false = sense 0x0 0x00 0x00
+
+-- The sense that is kept after an answer: that of a command that was checked, and none after one that was done. An answer
+-- that turns the power off, or tells that it is, keeps what was.
+abbrev pub kept_after : Option Sense → Answer → Option Sense
+kept_after kept answers.Good = None
+kept_after kept (answers.Check why) = Some why
+kept_after kept _ = kept
+
+-- the attention is cleared where a command is told of it, and where REQUEST SENSE tells it
+abbrev pub attention_after_sense : Option Sense → Bool → Bool
+attention_after_sense (Some kept) attention = attention
+attention_after_sense None attention = false
+
+-- what a command that is done changes, beside the sense that is kept
+abbrev pub done_by : Command → Host → Host
+done_by (commands.RequestSense alloc) host = record host { attention = attention_after_sense host.kept host.attention }
+done_by (commands.Prevent on) host = record host { prevented = on }
+done_by (commands.StartStop start eject) host = record host { out = if eject then not start else host.out }
+done_by _ host = host
+
+-- a command was done, or checked
+abbrev pub keeps : Host → Answer → Host
+keeps host answer = record host { kept = kept_after host.kept answer }
+
+-- The attention is cleared where a command is told of it, and stands where the code is unknown.
+abbrev pub attention_after : (served : Operation → Bool) → Host → Option Operation → Bool
+attention_after served host None = host.attention
+attention_after served host (Some operation) =
+    if served operation && is_told host operation then false else host.attention

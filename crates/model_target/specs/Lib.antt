@@ -1,0 +1,4 @@
+pub mod Host
+pub mod Judging
+pub mod Replies
+pub mod Steps

@@ -1,0 +1,155 @@
+-- What one command does on a drive with defect management, and how it is answered: the first reason against it, else its
+-- reply. (After INCITS MMC and SPC; the causes are this project's own.)
+use Rattle.std.specs.Prelude.{◌≡◌, ℕ, ◌⊎◌, is_some, Option, Result, Ok, Err, List, [], take}
+use Rattle.model_commands.specs.declared.Operation.{Operation}
+use Rattle.model_commands.specs.Commands.{operation_of}
+use Rattle.model_modes.specs.Pages.{mode_data}
+use Rattle.model_sectors.specs.Discs.{Standing}
+use Rattle.model_sectors.specs.declared.ReadOut.{ReadOut}
+use Rattle.model_sectors.specs.declared.ReadOut.TheVariants as reads
+use Rattle.model_drive.specs.declared.WriteOut.{WriteOut}
+use Rattle.model_drive.specs.declared.WriteOut.TheVariants as writes
+use Rattle.model_drive.specs.declared.FormatOut.{FormatOut}
+use Rattle.model_drive.specs.declared.FormatOut.TheVariants as formats
+use Rattle.model_drive.specs.declared.Kind.{Kind}
+use Rattle.model_drive.specs.Shown.{Shown, IsOn, capacity}
+use Rattle.model_drive.specs.Reads.{ReadCause, ReadStep}
+use Rattle.model_drive.specs.Writes.{WriteCause, WriteStep}
+use Rattle.model_drive.specs.Formats.{FormatCause, FormatStep}
+use Rattle.ram_sense.specs.Sense.{sense, sense_at}
+use Rattle.ram_sense.specs.declared.sense.Sense.{Sense}
+use Rattle.ram_sense.specs.declared.answer.Answer.{Answer}
+use Rattle.ram_sense.specs.declared.answer.Answer.TheVariants as answers
+use Rattle.ram_cdb.specs.declared.commands.Command.{Command}
+use Rattle.ram_cdb.specs.declared.commands.Command.TheVariants as commands
+use Rattle.model_target.specs.Host.{Host, done_by, keeps, attention_after}
+use Rattle.model_target.specs.Judging.{IsJudged, is_served}
+use Rattle.model_target.specs.Replies.{sense_reply, inquiry_reply, capacity_reply, configuration_reply}
+
+-- how each end of a read is answered (after INCITS MMC)
+abbrev pub read_answer : ReadOut → Answer
+read_answer reads.Good = answers.Good
+read_answer reads.NotFormatted = answers.Check (sense 0x3 0x31 0x00)
+read_answer (reads.Range known) = answers.Check (sense 0x5 0x21 0x00)
+read_answer (reads.Unread lba block) = answers.Check (sense_at 0x3 0x11 0x00 lba)
+read_answer reads.Cut = answers.Cut
+read_answer reads.Off = answers.Off
+read_answer reads.Fault = answers.Fault
+
+-- how each end of a write is answered (after INCITS MMC)
+abbrev pub write_answer : WriteOut → Answer
+write_answer writes.Good = answers.Good
+write_answer writes.NotFormatted = answers.Check (sense 0x3 0x31 0x00)
+write_answer (writes.Range known) = answers.Check (sense 0x5 0x21 0x00)
+write_answer (writes.Unread lba block) = answers.Check (sense_at 0x3 0x11 0x00 lba)
+write_answer (writes.NoSpare lba) = answers.Check (sense_at 0x3 0x32 0x00 lba)
+write_answer (writes.NoUpdate counter) = answers.Check (sense 0x3 0x32 0x01)
+write_answer writes.Cut = answers.Cut
+write_answer writes.Off = answers.Off
+write_answer writes.Fault = answers.Fault
+
+-- how each end of a format is answered (after INCITS MMC)
+abbrev pub format_answer : FormatOut → Answer
+format_answer formats.Good = answers.Good
+format_answer (formats.TooMany found) = answers.Check (sense 0x3 0x31 0x01)
+format_answer (formats.NoUpdate counter) = answers.Check (sense 0x3 0x31 0x01)
+format_answer formats.Cut = answers.Cut
+format_answer formats.Off = answers.Off
+format_answer formats.Fault = answers.Fault
+format_answer formats.NoMemory = answers.NoMemory
+
+-- the data of a read: the sectors, where all were read
+abbrev pub data_read : ReadOut → List ℕ → List ℕ
+data_read reads.Good bytes = bytes
+data_read _ bytes = []
+
+-- What stands in the four things after a command, by how it was judged and answered.
+abbrev pub host_after : Host → Option Operation → Result Command Sense → Answer → Host
+host_after host operation (Err why) answer =
+    keeps (record host { attention = attention_after is_served host operation }) answer
+host_after host operation (Ok asked) answer = keeps (done_by asked host) answer
+
+module _ (old new : Shown) (before after : Standing → Type 0) where
+  -- nothing was done on the disc
+  pub record Untouched : Type 0 where
+    pub same : new ≡ old
+    pub stands : (s : Standing) → before s → after s
+
+  -- a read of so many sectors was answered so, with these data
+  pub record IsRead (lba n : ℕ) (answer : Answer) (data_in : List ℕ) : Type 0 where
+    pub out : ReadOut
+    pub bytes : List ℕ
+    pub cause : ReadCause old new lba n out
+    pub step : (s : Standing) → before s → ReadStep after s lba n bytes out
+    pub answer_is : answer ≡ read_answer out
+    pub data_is : data_in ≡ data_read out bytes
+
+  -- a write of these bytes was answered so
+  pub record IsWritten (lba n : ℕ) (payload : List ℕ) (answer : Answer) (data_in : List ℕ) : Type 0 where
+    pub out : WriteOut
+    pub cause : WriteCause old new lba n out
+    pub step : (s : Standing) → before s → WriteStep new after s lba n payload out
+    pub answer_is : answer ≡ write_answer out
+    pub no_data : data_in ≡ []
+
+  -- a format was answered so
+  pub record IsFormatted (kind : Kind) (answer : Answer) (data_in : List ℕ) : Type 0 where
+    pub out : FormatOut
+    pub cause : FormatCause old new kind out
+    pub step : (s : Standing) → before s → FormatStep old new after s kind out
+    pub answer_is : answer ≡ format_answer out
+    pub no_data : data_in ≡ []
+
+  -- nothing was done on the disc, and this is the answer, with this reply
+  pub record IsAnswered (answer due : Answer) (data_in reply : List ℕ) : Type 0 where
+    pub answer_is : answer ≡ due
+    pub data_is : data_in ≡ reply
+    pub untouched : Untouched
+
+  -- What a command does that is to be done, and what it replies, cut to the allocation length. The four that are not served
+  -- at this stage are never to be done.
+  abbrev pub IsDone : Host → (payload : List ℕ) → Command → Answer → List ℕ → Type 0
+  IsDone host payload commands.TestUnitReady answer data_in = IsAnswered answer answers.Good data_in []
+  IsDone host payload (commands.RequestSense alloc) answer data_in =
+      IsAnswered answer answers.Good data_in (take alloc (sense_reply host))
+  IsDone host payload (commands.Format kind) answer data_in = IsFormatted kind answer data_in
+  IsDone host payload (commands.Expand sectors) answer data_in = ⊥
+  IsDone host payload (commands.Inquiry alloc) answer data_in =
+      IsAnswered answer answers.Good data_in (take alloc inquiry_reply)
+  IsDone host payload (commands.StartStop start eject) answer data_in = IsAnswered answer answers.Good data_in []
+  IsDone host payload (commands.Prevent on) answer data_in = IsAnswered answer answers.Good data_in []
+  IsDone host payload (commands.FormatCapacities alloc) answer data_in = ⊥
+  IsDone host payload commands.ReadCapacity answer data_in =
+      IsAnswered answer answers.Good data_in (capacity_reply (capacity old))
+  IsDone host payload (commands.Read lba n) answer data_in = IsRead lba n answer data_in
+  IsDone host payload (commands.Write lba n fua) answer data_in = IsWritten lba n payload answer data_in
+  IsDone host payload (commands.Verify lba n) answer data_in = ⊥
+  IsDone host payload commands.Synchronize answer data_in = IsAnswered answer answers.Good data_in []
+  IsDone host payload (commands.Configuration rt start alloc) answer data_in =
+      IsAnswered answer answers.Good data_in (take alloc (configuration_reply host.out start))
+  IsDone host payload commands.ModeSelect answer data_in = IsAnswered answer answers.Good data_in []
+  IsDone host payload (commands.ModeSense control page alloc) answer data_in =
+      IsAnswered answer answers.Good data_in (take alloc (mode_data control page))
+  IsDone host payload (commands.Structure format alloc) answer data_in = ⊥
+
+  -- how a command is answered that was judged so
+  abbrev pub IsAnsweredBy : Host → (payload : List ℕ) → Result Command Sense → Answer → List ℕ → Type 0
+  IsAnsweredBy host payload (Err why) answer data_in = IsAnswered answer (answers.Check why) data_in []
+  IsAnsweredBy host payload (Ok asked) answer data_in = IsDone host payload asked answer data_in
+
+  -- a command with the power on
+  pub record IsExecuted (host later : Host) (cdb payload : List ℕ) (answer : Answer) (data_in : List ℕ) : Type 0 where
+    pub judged : Result Command Sense
+    pub is_judged : IsJudged host (is_some old.lists) cdb payload judged
+    pub is_answered : IsAnsweredBy host payload judged answer data_in
+    pub later_is : later ≡ host_after host (operation_of cdb) judged answer
+
+  -- a command with the power off: nothing is done
+  pub record IsOffFor (host later : Host) (answer : Answer) (data_in : List ℕ) : Type 0 where
+    pub is_answered : IsAnswered answer answers.Off data_in []
+    pub later_is : later ≡ host
+
+  -- One command: what the drive shows and stands for, the four things, the answer and the data.
+  abbrev pub IsStep : (host later : Host) (cdb payload : List ℕ) → Answer → List ℕ → Type 0
+  IsStep host later cdb payload answer data_in =
+      (¬ IsOn old × IsOffFor host later answer data_in) ⊎ (IsOn old × IsExecuted host later cdb payload answer data_in)

@@ -1,0 +1,41 @@
+//! What a target remembers for its host, which commands it does, and what it replies. Definitions, and their laws.
+#![tactic(auto)]
+
+ghost use Rattle.std.specs.Prelude.{◌≡◌, ℕ, List, ◌∷◌, [], true, false, None, Some};
+ghost use Rattle.ram_sense.specs.Sense.{sense};
+ghost use Rattle.model_commands.specs.declared.Operation.TheVariants.{TestUnitReady, Inquiry};
+ghost use Rattle.model_target.specs.Host.{Host, powered_on, sense_told, attention_after};
+ghost use Rattle.ram_sense.specs.declared.answer.Answer.{Answer as Answered};
+ghost use Rattle.ram_sense.specs.declared.answer.Answer.TheVariants as answers;
+ghost use Rattle.model_drive.specs.Shown.{Shown, IsOn, StandsFor};
+ghost use Rattle.model_target.specs.Steps.{IsStep};
+ghost use Rattle.model_target.specs.Judging.{is_served};
+ghost use Rattle.model_target.specs.Replies.{inquiry_reply, capacity_reply, configuration_reply};
+
+/// After a power on the attention is what REQUEST SENSE tells; an unknown code leaves it, and the first command that is
+/// told of it clears it. (Where the attention is told no command is done.)
+pub fn a_power_on_is_told()
+    ensures told { sense_told powered_on ≡ sense 0x6 0x29 0x00 }
+    ensures unknown { attention_after is_served powered_on None ≡ true }
+    ensures cleared { attention_after is_served powered_on (Some TestUnitReady) ≡ false }
+    ensures kept { attention_after is_served powered_on (Some Inquiry) ≡ true }
+{}
+
+/// With the power off nothing is done, and the four things stay.
+pub fn nothing_is_done_with_the_power_off()
+    ensures { (old new : Shown) (host later : Host) (cdb payload : List ℕ) (answer : Answered) (data_in : List ℕ)
+        → ¬ IsOn old → IsStep old new (StandsFor old) (StandsFor new) host later cdb payload answer data_in
+        → (answer ≡ answers.Off) × (later ≡ host) × (new ≡ old) × (data_in ≡ []) }
+{}
+
+/// The replies of INQUIRY, of READ CAPACITY with 304 sectors, and of GET CONFIGURATION with the disc in and out.
+pub fn worked_replies()
+    ensures inquiry { inquiry_reply ≡ 0x05 ∷ 0x80 ∷ 0x00 ∷ 0x02 ∷ 0x1f ∷ 0x00 ∷ 0x00 ∷ 0x00 ∷ 0x44 ∷ 0x56 ∷ 0x44 ∷ 0x52
+        ∷ 0x41 ∷ 0x4d ∷ 0x20 ∷ 0x20 ∷ 0x53 ∷ 0x45 ∷ 0x43 ∷ 0x54 ∷ 0x4f ∷ 0x52 ∷ 0x20 ∷ 0x44 ∷ 0x52 ∷ 0x49 ∷ 0x56
+        ∷ 0x45 ∷ 0x20 ∷ 0x20 ∷ 0x20 ∷ 0x20 ∷ 0x31 ∷ 0x2e ∷ 0x30 ∷ 0x30 ∷ [] }
+    ensures capacity { capacity_reply 304 ≡ 0x00 ∷ 0x00 ∷ 0x01 ∷ 0x2f ∷ 0x00 ∷ 0x00 ∷ 0x08 ∷ 0x00 ∷ [] }
+    ensures in_place { configuration_reply false 0 ≡ 0x00 ∷ 0x00 ∷ 0x00 ∷ 0x0c ∷ 0x00 ∷ 0x00 ∷ 0x00 ∷ 0x12
+        ∷ 0x00 ∷ 0x00 ∷ 0x03 ∷ 0x04 ∷ 0x00 ∷ 0x12 ∷ 0x01 ∷ 0x00 ∷ [] }
+    ensures taken_out { configuration_reply true 0 ≡ 0x00 ∷ 0x00 ∷ 0x00 ∷ 0x0c ∷ 0x00 ∷ 0x00 ∷ 0x00 ∷ 0x00
+        ∷ 0x00 ∷ 0x00 ∷ 0x03 ∷ 0x04 ∷ 0x00 ∷ 0x12 ∷ 0x00 ∷ 0x00 ∷ [] }
+{}

@@ -1,0 +1,256 @@
+//! What a command block asks for, or why it is refused.
+ghost use Rattle.std.specs.Prelude.{◌≡◌, ◌+◌, ◌<◌, ◌≤◌, ◌==◌, ◌||◌, not, true, false, length, IfOk};
+ghost use Rattle.std.specs.Bool.{OnFalse};
+ghost use Rattle.model_commands.specs.Commands.{command, field, transfer_limit};
+ghost use Rattle.model_commands.specs.Fields.{flag, bits};
+ghost use Rattle.model_modes.specs.Pages.{is_page_code};
+ghost use Rattle.model_commands.specs.declared.Operation.TheVariants.{FormatUnit};
+ghost use Rattle.ram_cdb.specs.declared.commands.Command.TheVariants as commands;
+ghost use Rattle.ram_cdb.specs.Decoding.{decoded, decoded_as, has_refused_field, asks_for_saved_values, has_wrong_length, has_refused_parameters, HasItsList, meaning, IsWithinLimits};
+
+use crate::commands::{Command, Kind};
+use crate::{TRANSFER_LIMIT, command_bytes, data_bytes, operation};
+use model_commands::Operation;
+use ram_bytes::{Cdb, get_u16, get_u32};
+use ram_sense::Sense;
+use ram_sense::codes::{
+    INVALID_FIELD_IN_COMMAND, INVALID_FIELD_IN_PARAMETERS, INVALID_OPERATION_CODE,
+    PARAMETER_LIST_LENGTH_ERROR, SAVING_NOT_SUPPORTED,
+};
+
+/// What a command block asks for, with the command's data in `payload`, or the first refusal that applies: 5/20/00 for an
+/// unknown operation code, and then those of [`decode_as`]. (After INCITS MMC and SPC.)
+pub fn decode(cdb: &Cdb, payload: &[u8]) -> Result<Command, Sense>
+    ensures exact { result ≡ decoded cdb.now payload.now }
+    ensures limits { IfOk result (IsWithinLimits payload.now) }
+{
+    match operation(cdb.operation_code()) {
+        Some(operation) => decode_as(operation, cdb.bytes(), payload),
+        None => Err(INVALID_OPERATION_CODE),
+    }
+}
+
+/// The same for a command block whose operation is known: 5/24/00 where it is too short or has a field that is not taken,
+/// then 5/39/00 where saved mode pages are asked for, then 5/1A/00 where the data have another length than the command
+/// takes, then 5/26/00 where the parameter list of FORMAT UNIT is not taken. (After INCITS MMC and SPC.)
+pub fn decode_as(operation: Operation, cdb: &[u8], payload: &[u8]) -> Result<Command, Sense>
+    ensures exact { result ≡ decoded_as operation cdb.now payload.now }
+    ensures limits { IfOk result (IsWithinLimits payload.now) }
+{
+    if cdb.len() < command_bytes(operation) || has_refused_field(operation, cdb) {
+        return Err(INVALID_FIELD_IN_COMMAND);
+    }
+    if asks_for_saved_values(operation, cdb) {
+        return Err(SAVING_NOT_SUPPORTED);
+    }
+    if has_wrong_length(operation, cdb, payload.len()) {
+        return Err(PARAMETER_LIST_LENGTH_ERROR);
+    }
+    if has_refused_parameters(operation, payload) {
+        return Err(INVALID_FIELD_IN_PARAMETERS);
+    }
+    Ok(meaning(operation, cdb, payload))
+}
+
+// Whether a field of a command block that is long enough has a value that is not taken.
+fn has_refused_field(operation: Operation, cdb: &[u8]) -> bool
+    requires { (command operation).bytes ≤ length cdb.now }
+    ensures { result ≡ has_refused_field operation cdb.now }
+{
+    match operation {
+        Operation::FormatUnit => {
+            !flag(cdb, 1, 4) || bits(cdb, 1, 0, 3) != 1 || bits(cdb, 1, 5, 3) != 0
+        }
+        Operation::Inquiry => flag(cdb, 1, 0),
+        Operation::Read10 | Operation::Write10 | Operation::WriteAndVerify10 => {
+            u32::from(get_u16(cdb, 7)) > TRANSFER_LIMIT
+        }
+        Operation::Verify10 => flag(cdb, 1, 1),
+        Operation::GetConfiguration => bits(cdb, 1, 0, 2) == 3,
+        Operation::ModeSelect10 => !flag(cdb, 1, 4) || flag(cdb, 1, 0),
+        Operation::ModeSense10 => !is_page_code(bits(cdb, 2, 0, 6)),
+        Operation::Read12 | Operation::Write12 => get_u32(cdb, 6) > TRANSFER_LIMIT,
+        Operation::ReadDvdStructure => cdb[7] != 0x08 && cdb[7] != 0x0a,
+        Operation::TestUnitReady
+        | Operation::RequestSense
+        | Operation::StartStopUnit
+        | Operation::PreventAllowMediumRemoval
+        | Operation::ReadFormatCapacities
+        | Operation::ReadCapacity10
+        | Operation::SynchronizeCache => false,
+    }
+}
+
+// Whether the saved values of mode pages are asked for.
+fn asks_for_saved_values(operation: Operation, cdb: &[u8]) -> bool
+    requires { (command operation).bytes ≤ length cdb.now }
+    ensures { result ≡ asks_for_saved_values operation cdb.now }
+{
+    matches!(operation, Operation::ModeSense10) && bits(cdb, 2, 6, 2) == 3
+}
+
+// Whether so many bytes of data are not what the command takes.
+fn has_wrong_length(operation: Operation, cdb: &[u8], given: usize) -> bool
+    requires { (command operation).bytes ≤ length cdb.now }
+    ensures exact { result ≡ has_wrong_length operation cdb.now given }
+    ensures list { OnFalse result (HasItsList operation given) }
+{
+    match operation {
+        Operation::ModeSelect10 => {
+            given != data_bytes(operation, cdb) || !matches!(given, 0 | 8 | 20 | 32)
+        }
+        _ => given != data_bytes(operation, cdb),
+    }
+}
+
+// Whether the parameter list of a format is not taken.
+fn has_refused_parameters(operation: Operation, payload: &[u8]) -> bool
+    requires { HasItsList operation (length payload.now) }
+    ensures { result ≡ has_refused_parameters operation payload.now }
+{
+    match operation {
+        Operation::FormatUnit => get_u16(payload, 2) != 8 || bits(payload, 8, 2, 6) > 1,
+        _ => false,
+    }
+}
+
+// What a command asks for that is not refused.
+fn meaning(operation: Operation, cdb: &[u8], payload: &[u8]) -> Command
+    requires long { (command operation).bytes ≤ length cdb.now }
+    requires list { HasItsList operation (length payload.now) }
+    ensures { result ≡ meaning operation cdb.now payload.now }
+{
+    match operation {
+        Operation::TestUnitReady => Command::TestUnitReady,
+        Operation::RequestSense => Command::RequestSense {
+            alloc: u32::from(cdb[4]),
+        },
+        Operation::FormatUnit => format(cdb, payload),
+        Operation::Inquiry => Command::Inquiry {
+            alloc: u32::from(get_u16(cdb, 3)),
+        },
+        Operation::StartStopUnit => Command::StartStop {
+            start: flag(cdb, 4, 0),
+            eject: flag(cdb, 4, 1),
+        },
+        Operation::PreventAllowMediumRemoval => Command::Prevent {
+            on: flag(cdb, 4, 0),
+        },
+        Operation::ReadFormatCapacities => Command::FormatCapacities {
+            alloc: u32::from(get_u16(cdb, 7)),
+        },
+        Operation::ReadCapacity10 => Command::ReadCapacity,
+        Operation::Read10 => read(cdb, u32::from(get_u16(cdb, 7))),
+        Operation::Write10 => write(cdb, u32::from(get_u16(cdb, 7)), flag(cdb, 1, 3)),
+        Operation::WriteAndVerify10 => write(cdb, u32::from(get_u16(cdb, 7)), true),
+        Operation::Verify10 => verify(cdb),
+        Operation::SynchronizeCache => Command::Synchronize,
+        Operation::GetConfiguration => configuration(cdb),
+        Operation::ModeSelect10 => Command::ModeSelect,
+        Operation::ModeSense10 => mode_sense(cdb),
+        Operation::Read12 => read(cdb, get_u32(cdb, 6)),
+        Operation::Write12 => write(cdb, get_u32(cdb, 6), flag(cdb, 1, 3)),
+        Operation::ReadDvdStructure => Command::Structure {
+            format: cdb[7],
+            alloc: u32::from(get_u16(cdb, 8)),
+        },
+    }
+}
+
+// A format, or an expansion, by the type in its parameter list.
+fn format(cdb: &[u8], payload: &[u8]) -> Command
+    requires long { 6 ≤ length cdb.now }
+    requires list { length payload.now ≡ 12 }
+    ensures { result ≡ meaning FormatUnit cdb.now payload.now }
+{
+    if bits(payload, 8, 2, 6) == 1 {
+        let capacity = get_u32(payload, 4);
+        Command::Expand { capacity }
+    } else if flag(payload, 1, 7) && flag(payload, 1, 5) {
+        Command::Format {
+            kind: Kind::Rewrite,
+        }
+    } else {
+        let drop_sdl = flag(cdb, 1, 3);
+        Command::Format {
+            kind: Kind::Full { drop_sdl },
+        }
+    }
+}
+
+fn read(cdb: &[u8], n: u32) -> Command
+    requires { 10 ≤ length cdb.now }
+    ensures { result ≡ commands.Read (field 2 4 cdb.now) n }
+{
+    let lba = get_u32(cdb, 2);
+    Command::Read { lba, n }
+}
+
+fn write(cdb: &[u8], n: u32, fua: bool) -> Command
+    requires { 10 ≤ length cdb.now }
+    ensures { result ≡ commands.Write (field 2 4 cdb.now) n fua }
+{
+    let lba = get_u32(cdb, 2);
+    Command::Write { lba, n, fua }
+}
+
+fn verify(cdb: &[u8]) -> Command
+    requires { 10 ≤ length cdb.now }
+    ensures { result ≡ commands.Verify (field 2 4 cdb.now) (field 7 2 cdb.now) }
+{
+    Command::Verify {
+        lba: get_u32(cdb, 2),
+        n: u32::from(get_u16(cdb, 7)),
+    }
+}
+
+fn configuration(cdb: &[u8]) -> Command
+    requires { 10 ≤ length cdb.now }
+    ensures { result ≡ commands.Configuration (bits 1 0 2 cdb.now) (field 2 2 cdb.now) (field 7 2 cdb.now) }
+{
+    Command::Configuration {
+        rt: bits(cdb, 1, 0, 2),
+        start: get_u16(cdb, 2),
+        alloc: u32::from(get_u16(cdb, 7)),
+    }
+}
+
+fn mode_sense(cdb: &[u8]) -> Command
+    requires { 10 ≤ length cdb.now }
+    ensures { result ≡ commands.ModeSense (bits 2 6 2 cdb.now) (bits 2 0 6 cdb.now) (field 7 2 cdb.now) }
+{
+    Command::ModeSense {
+        control: bits(cdb, 2, 6, 2),
+        page: bits(cdb, 2, 0, 6),
+        alloc: u32::from(get_u16(cdb, 7)),
+    }
+}
+
+// The bit of this place, from 0 for the lowest, in this byte.
+fn flag(bytes: &[u8], at: usize, place: u32) -> bool
+    requires inside { at < length bytes.now }
+    requires place { place < 8 }
+    ensures { result ≡ flag at place bytes.now }
+{
+    bytes[at] >> place & 1 == 1
+}
+
+// The number in so many of the bits of this byte, from this place on.
+fn bits(bytes: &[u8], at: usize, place: u32, width: u32) -> u8
+    requires inside { at < length bytes.now }
+    requires place { place < 8 }
+    requires width { width < 8 }
+    ensures { result ≡ bits at place width bytes.now }
+{
+    (bytes[at] >> place) % (1 << width)
+}
+
+// Whether this code asks for a mode page.
+fn is_page_code(page: u8) -> bool
+    ensures { result ≡ is_page_code page }
+{
+    matches!(page, 0x01 | 0x08 | 0x3f)
+}
+
+#[cfg(test)]
+mod tests;

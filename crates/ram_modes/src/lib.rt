@@ -1,0 +1,10 @@
+//! Mode pages: what MODE SENSE(10) replies, and which parameter lists MODE SELECT(10) takes.
+#![tactic(auto)]
+
+pub mod modes;
+mod pages;
+
+pub use modes::Modes;
+
+#[cfg(test)]
+mod tests;
