@@ -3,6 +3,7 @@
 mod limits;
 mod mixtures;
 mod rows;
+mod volume;
 
 use model_drive::WriteOut;
 use model_sectors::ReadOut;
