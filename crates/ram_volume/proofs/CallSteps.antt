@@ -19,7 +19,6 @@ use Rattle.model_drive.specs.Repairs.{RepairsList}
 use Rattle.model_drive.specs.Power.{RepairsChosenDds, PowerCause, PowerStep}
 use Rattle.ram_volume.specs.Powers.{turned_off, PowerSteps}
 use Rattle.ram_volume.specs.Formats.{FormatSteps}
-use Rattle.ram_volume.specs.Volume.{FormattedEach}
 
 -- with the power off
 module _ (old new : Shown) (same : old ≡ new) (off : ¬ IsOn new) where
@@ -134,6 +133,6 @@ power_steps_as old begun new out same steps s stands = steps s (subst (λ (x : S
 
 -- a format that began in this state did so in what the state shows
 pub format_steps_of : (old begun new : Shown) → old ≡ begun → (kind : Kind) (out : FormatOut) → FormatSteps begun new kind out
-    → FormattedEach old new kind out
+    → FormatSteps old new kind out
 format_steps_of old begun new same kind out steps =
-    subst (λ (x : Shown). FormattedEach x new kind out) (sym same) (record { each = steps })
+    subst (λ (x : Shown). FormatSteps x new kind out) (sym same) steps

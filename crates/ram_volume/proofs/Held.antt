@@ -17,9 +17,12 @@ use Rattle.ram_medium.specs.declared.control.MediumControl.{Ghosts as ControlGho
 use Rattle.ram_medium.specs.declared.control.FailEnd.{FailEnd}
 use Rattle.ram_medium.specs.declared.control.FailEnd.TheVariants as fails
 use Rattle.ram_volume.specs.Control.{FailOnDrive, FailStands}
+use Rattle.ram_volume.specs.Reading.{ReadSteps}
+use Rattle.ram_volume.specs.Writing.{WriteSteps}
 use Rattle.ram_volume.specs.Powers.{PowerSteps}
+use Rattle.ram_volume.specs.Formats.{FormatSteps}
 use Rattle.ram_volume.specs.Shown.{shown_state}
-use Rattle.ram_volume.specs.Volume.{StandsForSome, ReadFromEach, WroteOnEach, FormattedEach, KeepsStanding, state_in, shown_in}
+use Rattle.ram_volume.specs.Volume.{StandsForSome, shown_in}
 use Rattle.ram_volume.specs.declared.states.State.{State}
 use Rattle.ram_volume.proofs.Somes.{still_some}
 
@@ -34,7 +37,7 @@ fail_found new s fails.Done stands = (s, stands)
 fail_found new s (fails.NoBlock blocks) stands = (s, stands)
 fail_found new s fails.Failed stands = (Off (candidates s), stands)
 
-pub fail_keeps : (old new : Shown) (block : ℕ) (end : FailEnd) → FailOnDrive old new block end → ((s : Standing) → StandsFor old s → FailStands new s end) → KeepsStanding old new
+pub fail_keeps : (old new : Shown) (block : ℕ) (end : FailEnd) → FailOnDrive old new block end → ((s : Standing) → StandsFor old s → FailStands new s end) → StandsForSome old → StandsForSome new
 fail_keeps old new block end rule stands = still_some old new (fail_known old new block end rule) (λ s stood. fail_found new s end (stands s stood))
 
 module _ {M : Type 0} {c : ControlGhosts M} {d : Ghosts M} where
@@ -51,20 +54,20 @@ module _ {M : Type 0} {c : ControlGhosts M} {d : Ghosts M} where
       shown_or other (Some x) = shown_state x
 
   module _ (before after : State M c d) (old new : Option (State M c d)) (was : IsSome old) (is : IsSome new) (took : old ≡ Some before) (put : new ≡ Some after) where
-    pub some_held : KeepsStanding (shown_state before) (shown_state after) → StandsForSome (shown_in old was) → StandsForSome (shown_in new is)
-    some_held keeps some = subst StandsForSome (sym (held_is new is after put)) (keeps.some (subst StandsForSome (held_is old was before took) some))
+    pub some_held : (StandsForSome (shown_state before) → StandsForSome (shown_state after)) → StandsForSome (shown_in old was) → StandsForSome (shown_in new is)
+    some_held keeps some = subst StandsForSome (sym (held_is new is after put)) (keeps (subst StandsForSome (held_is old was before took) some))
 
-    pub read_held : (lba n : ℕ) (into : List ℕ) (out : ReadOut) → ReadFromEach (shown_state before) (shown_state after) lba n into out
+    pub read_held : (lba n : ℕ) (into : List ℕ) (out : ReadOut) → ReadSteps (shown_state before) (shown_state after) lba n into out
         → (s : Standing) → StandsFor (shown_in old was) s → ReadStep (StandsFor (shown_in new is)) s lba n into out
     read_held lba n into out read s stands =
         subst (λ (x : Shown). ReadStep (StandsFor x) s lba n into out) (sym (held_is new is after put))
-        (read.each s (subst (λ (x : Shown). StandsFor x s) (held_is old was before took) stands))
+        (read s (subst (λ (x : Shown). StandsFor x s) (held_is old was before took) stands))
 
-    pub write_held : (lba n : ℕ) (from : List ℕ) (out : WriteOut) → WroteOnEach (shown_state before) (shown_state after) lba n from out
+    pub write_held : (lba n : ℕ) (from : List ℕ) (out : WriteOut) → WriteSteps (shown_state before) (shown_state after) lba n from out
         → (s : Standing) → StandsFor (shown_in old was) s → WriteStep (shown_in new is) (StandsFor (shown_in new is)) s lba n from out
     write_held lba n from out wrote s stands =
         subst (λ (x : Shown). WriteStep x (StandsFor x) s lba n from out) (sym (held_is new is after put))
-        (wrote.each s (subst (λ (x : Shown). StandsFor x s) (held_is old was before took) stands))
+        (wrote s (subst (λ (x : Shown). StandsFor x s) (held_is old was before took) stands))
 
     pub power_held : (out : PowerOut) → PowerSteps (shown_state before) (shown_state after) out
         → (s : Standing) → StandsFor (shown_in old was) s → PowerStep (shown_in new is) (StandsFor (shown_in new is)) s out
@@ -72,9 +75,9 @@ module _ {M : Type 0} {c : ControlGhosts M} {d : Ghosts M} where
         subst (λ (x : Shown). PowerStep x (StandsFor x) s out) (sym (held_is new is after put))
         (steps s (subst (λ (x : Shown). StandsFor x s) (held_is old was before took) stands))
 
-    pub format_held : (kind : Kind) (out : FormatOut) → FormattedEach (shown_state before) (shown_state after) kind out
+    pub format_held : (kind : Kind) (out : FormatOut) → FormatSteps (shown_state before) (shown_state after) kind out
         → (s : Standing) → StandsFor (shown_in old was) s → FormatStep (shown_in old was) (shown_in new is) (StandsFor (shown_in new is)) s kind out
     format_held kind out formatted s stands =
         subst (λ (x : Shown). FormatStep (shown_in old was) x (StandsFor x) s kind out) (sym (held_is new is after put))
         (subst (λ (x : Shown). FormatStep x (shown_state after) (StandsFor (shown_state after)) s kind out) (sym (held_is old was before took))
-        (formatted.each s (subst (λ (x : Shown). StandsFor x s) (held_is old was before took) stands)))
+        (formatted s (subst (λ (x : Shown). StandsFor x s) (held_is old was before took) stands)))

@@ -23,28 +23,28 @@ use Rattle.ram_volume.specs.Reading.{ReadSteps}
 use Rattle.ram_volume.specs.Writing.{WriteSteps}
 use Rattle.ram_volume.specs.Powers.{PowerSteps}
 use Rattle.ram_volume.specs.Formats.{FormatSteps}
-use Rattle.ram_volume.specs.Volume.{StandsForSome, ReadFromEach, KeepsStanding}
+use Rattle.ram_volume.specs.Volume.{StandsForSome}
 
 module _ (old new : Shown) where
-  pub still_some : new.medium.world.known ≡ old.medium.world.known → ((s : Standing) → StandsFor old s → (t : Standing) × StandsFor new t) → KeepsStanding old new
-  still_some same finds = record { some = λ some known none. some (sym same ∙ known) (λ s stands. none (finds s stands).0 (finds s stands).1) }
+  pub still_some : new.medium.world.known ≡ old.medium.world.known → ((s : Standing) → StandsFor old s → (t : Standing) × StandsFor new t) → StandsForSome old → StandsForSome new
+  still_some same finds some known none = some (sym same ∙ known) (λ s stands. none (finds s stands).0 (finds s stands).1)
 
-  pub read_some : (lba n : ℕ) (into : List ℕ) (out : ReadOut) → ReadCause old new lba n out → ReadSteps old new lba n into out → KeepsStanding old new
+  pub read_some : (lba n : ℕ) (into : List ℕ) (out : ReadOut) → ReadCause old new lba n out → ReadSteps old new lba n into out → StandsForSome old → StandsForSome new
   read_some lba n into out cause steps =
       still_some (read_known old new lba n out cause)
       (λ s stands. let found = read_found (StandsFor new) s lba n into out (steps s stands) in (found.0, found.1))
 
-  pub write_some : (lba n : ℕ) (from : List ℕ) (out : WriteOut) → WriteCause old new lba n out → WriteSteps old new lba n from out → KeepsStanding old new
+  pub write_some : (lba n : ℕ) (from : List ℕ) (out : WriteOut) → WriteCause old new lba n out → WriteSteps old new lba n from out → StandsForSome old → StandsForSome new
   write_some lba n from out cause steps =
       still_some (write_known old new lba n out cause)
       (λ s stands. let found = write_found (StandsFor new) new s lba n from out (steps s stands) in (found.0, found.1))
 
-  pub power_some : (out : PowerOut) → PowerCause old new out → PowerSteps old new out → KeepsStanding old new
+  pub power_some : (out : PowerOut) → PowerCause old new out → PowerSteps old new out → StandsForSome old → StandsForSome new
   power_some out cause steps =
       still_some (power_known old new out cause)
       (λ s stands. let found = power_found (StandsFor new) new s out (steps s stands) in (found.0, found.1))
 
-  pub format_some : (kind : Kind) (out : FormatOut) → FormatCause old new kind out → FormatSteps old new kind out → KeepsStanding old new
+  pub format_some : (kind : Kind) (out : FormatOut) → FormatCause old new kind out → FormatSteps old new kind out → StandsForSome old → StandsForSome new
   format_some kind out cause steps =
       still_some (format_known old new kind out cause)
       (λ s stands. let found = format_found (StandsFor new) old new s kind out (steps s stands) in (found.0, found.1))
@@ -63,14 +63,11 @@ new_some shape machine off whole as_many known none = stands_off opened.0.standi
 
 -- A call that began in this state did so in what the state shows.
 module _ (old begun new : Shown) (same : old ≡ begun) where
-  pub read_keeps : (lba n : ℕ) (into : List ℕ) (out : ReadOut) → ReadCause begun new lba n out → ReadSteps begun new lba n into out → KeepsStanding old new
-  read_keeps lba n into out cause steps = subst (λ (x : Shown). KeepsStanding x new) (sym same) (read_some begun new lba n into out cause steps)
+  pub read_keeps : (lba n : ℕ) (into : List ℕ) (out : ReadOut) → ReadCause begun new lba n out → ReadSteps begun new lba n into out → StandsForSome old → StandsForSome new
+  read_keeps lba n into out cause steps = subst (λ (x : Shown). StandsForSome x → StandsForSome new) (sym same) (read_some begun new lba n into out cause steps)
 
-  pub write_keeps : (lba n : ℕ) (from : List ℕ) (out : WriteOut) → WriteCause begun new lba n out → WriteSteps begun new lba n from out → KeepsStanding old new
-  write_keeps lba n from out cause steps = subst (λ (x : Shown). KeepsStanding x new) (sym same) (write_some begun new lba n from out cause steps)
+  pub write_keeps : (lba n : ℕ) (from : List ℕ) (out : WriteOut) → WriteCause begun new lba n out → WriteSteps begun new lba n from out → StandsForSome old → StandsForSome new
+  write_keeps lba n from out cause steps = subst (λ (x : Shown). StandsForSome x → StandsForSome new) (sym same) (write_some begun new lba n from out cause steps)
 
-  pub format_keeps : (kind : Kind) (out : FormatOut) → FormatCause begun new kind out → FormatSteps begun new kind out → KeepsStanding old new
-  format_keeps kind out cause steps = subst (λ (x : Shown). KeepsStanding x new) (sym same) (format_some begun new kind out cause steps)
-
-pub read_each : (old new : Shown) (lba n : ℕ) (into : List ℕ) (out : ReadOut) → ReadFromEach old new lba n into out → ReadSteps old new lba n into out
-read_each old new lba n into out read = read.each
+  pub format_keeps : (kind : Kind) (out : FormatOut) → FormatCause begun new kind out → FormatSteps begun new kind out → StandsForSome old → StandsForSome new
+  format_keeps kind out cause steps = subst (λ (x : Shown). StandsForSome x → StandsForSome new) (sym same) (format_some begun new kind out cause steps)

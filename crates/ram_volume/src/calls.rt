@@ -7,8 +7,11 @@ ghost use Rattle.model_drive.specs.Writes.{WriteCause, WriteCompletes};
 ghost use Rattle.model_drive.specs.Power.{PowerCause};
 ghost use Rattle.model_drive.specs.Formats.{FormatCause, FormatCompletes};
 ghost use Rattle.ram_volume.specs.Shown.{shown_off, shown_state};
+ghost use Rattle.ram_volume.specs.Reading.{ReadSteps};
+ghost use Rattle.ram_volume.specs.Writing.{WriteSteps};
 ghost use Rattle.ram_volume.specs.Powers.{PowerSteps};
-ghost use Rattle.ram_volume.specs.Volume.{ReadFromEach, WroteOnEach, FormattedEach, KeepsStanding};
+ghost use Rattle.ram_volume.specs.Formats.{FormatSteps};
+ghost use Rattle.ram_volume.specs.Volume.{StandsForSome};
 
 use crate::states::{PowerOn, PoweredOff, State};
 use ram_medium::MediumControl;
@@ -25,8 +28,8 @@ pub fn read_state<M: MediumControl>(
     requires few { n ≤ TRANSFER_LIMIT }
     requires whole { length into.old ≡ 2048 * n }
     ensures cause { ReadCause (shown_state state) (shown_state result.0) lba n result.1 }
-    ensures step { ReadFromEach (shown_state state) (shown_state result.0) lba n into.new result.1 }
-    ensures some { KeepsStanding (shown_state state) (shown_state result.0) }
+    ensures step { ReadSteps (shown_state state) (shown_state result.0) lba n into.new result.1 }
+    ensures some { StandsForSome (shown_state state) → StandsForSome (shown_state result.0) }
     ensures completes { ReadCompletes (shown_state state) (shown_state result.0) lba n result.1 }
     ensures quiet { ReadIsQuiet (shown_state state) (shown_state result.0) lba n result.1 }
     ensures same_shape { (shown_state result.0).shape ≡ (shown_state state).shape }
@@ -48,8 +51,8 @@ pub fn write_state<M: MediumControl>(
     requires few { n ≤ TRANSFER_LIMIT }
     requires whole { length from.now ≡ 2048 * n }
     ensures cause { WriteCause (shown_state state) (shown_state result.0) lba n result.1 }
-    ensures step { WroteOnEach (shown_state state) (shown_state result.0) lba n from.now result.1 }
-    ensures some { KeepsStanding (shown_state state) (shown_state result.0) }
+    ensures step { WriteSteps (shown_state state) (shown_state result.0) lba n from.now result.1 }
+    ensures some { StandsForSome (shown_state state) → StandsForSome (shown_state result.0) }
     ensures completes { WriteCompletes (shown_state state) (shown_state result.0) lba n result.1 }
     ensures same_shape { (shown_state result.0).shape ≡ (shown_state state).shape }
 {
@@ -82,7 +85,7 @@ fn turn_on<M: MediumControl>(off: PoweredOff<M>, alloc: Global) -> (State<M>, Po
 pub fn power_state<M: MediumControl>(state: State<M>, alloc: Global) -> (State<M>, PowerOut)
     ensures cause { PowerCause (shown_state state) (shown_state result.0) result.1 }
     ensures step { PowerSteps (shown_state state) (shown_state result.0) result.1 }
-    ensures some { KeepsStanding (shown_state state) (shown_state result.0) }
+    ensures some { StandsForSome (shown_state state) → StandsForSome (shown_state result.0) }
     ensures same_shape { (shown_state result.0).shape ≡ (shown_state state).shape }
 {
     match state {
@@ -99,8 +102,8 @@ pub fn format_state<M: MediumControl>(
     kind: Kind,
 ) -> (State<M>, FormatOut)
     ensures cause { FormatCause (shown_state state) (shown_state result.0) kind result.1 }
-    ensures step { FormattedEach (shown_state state) (shown_state result.0) kind result.1 }
-    ensures some { KeepsStanding (shown_state state) (shown_state result.0) }
+    ensures step { FormatSteps (shown_state state) (shown_state result.0) kind result.1 }
+    ensures some { StandsForSome (shown_state state) → StandsForSome (shown_state result.0) }
     ensures completes { FormatCompletes (shown_state state) (shown_state result.0) kind result.1 }
     ensures same_shape { (shown_state result.0).shape ≡ (shown_state state).shape }
 {

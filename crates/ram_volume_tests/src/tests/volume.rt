@@ -59,13 +59,25 @@ fn a_volume_is_formatted(rt: HostRuntime) -> Result<(), Fail> {
     assert_eq!(rt; volume.format(alloc, Kind::Rewrite), FormatOut::Off);
     assert_eq!(rt; volume.power(alloc), PowerOut::NotFormatted);
     assert_eq!(rt; volume.capacity(), None);
-    assert_eq!(rt; read_sector(alloc, &mut volume, 0, 0)?.0, ReadOut::NotFormatted);
-    assert_eq!(rt; write_block(alloc, &mut volume, 0, 0)?, WriteOut::NotFormatted);
+    assert_eq!(rt;
+        read_sector(alloc, &mut volume, 0, 0)?.0,
+        ReadOut::NotFormatted
+    );
+    assert_eq!(rt;
+        write_block(alloc, &mut volume, 0, 0)?,
+        WriteOut::NotFormatted
+    );
     assert_eq!(rt; format_anew(alloc, &mut volume), FormatOut::Good);
     assert_eq!(rt; volume.capacity(), Some(304));
     assert_eq!(rt; write_block(alloc, &mut volume, 0, 0xaa)?, WriteOut::Good);
-    assert_eq!(rt; read_sector(alloc, &mut volume, 15, 0xaa)?, (ReadOut::Good, true));
-    assert_eq!(rt; read_sector(alloc, &mut volume, 304, 0)?.0, ReadOut::Range { capacity: 304 });
+    assert_eq!(rt;
+        read_sector(alloc, &mut volume, 15, 0xaa)?,
+        (ReadOut::Good, true)
+    );
+    assert_eq!(rt;
+        read_sector(alloc, &mut volume, 304, 0)?.0,
+        ReadOut::Range { capacity: 304 }
+    );
     Ok(())
 }
 
@@ -80,21 +92,39 @@ fn a_volume_serves_its_host(rt: HostRuntime) -> Result<(), Fail> {
     assert_eq!(rt; write_block(alloc, &mut volume, 0, 0xaa)?, WriteOut::Good);
     assert_eq!(rt; volume.fail(41), FailEnd::NoBlock { blocks: 41 });
     assert_eq!(rt; volume.fail(13), FailEnd::Done);
-    assert_eq!(rt; read_sector(alloc, &mut volume, 0, 0xaa)?, (ReadOut::Good, true));
+    assert_eq!(rt;
+        read_sector(alloc, &mut volume, 0, 0xaa)?,
+        (ReadOut::Good, true)
+    );
     assert_eq!(rt; write_block(alloc, &mut volume, 0, 0xbb)?, WriteOut::Good);
-    assert_eq!(rt; read_sector(alloc, &mut volume, 0, 0xbb)?, (ReadOut::Good, true));
+    assert_eq!(rt;
+        read_sector(alloc, &mut volume, 0, 0xbb)?,
+        (ReadOut::Good, true)
+    );
     assert_eq!(rt; volume.wear(41, 1), Arm::NoBlock { blocks: 41 });
     assert_eq!(rt; volume.wear(14, 1), Arm::Set);
-    assert_eq!(rt; read_sector(alloc, &mut volume, 16, 0)?.0, ReadOut::Unread { lba: 16, block: 14 });
+    assert_eq!(rt;
+        read_sector(alloc, &mut volume, 16, 0)?.0,
+        ReadOut::Unread { lba: 16, block: 14 }
+    );
     volume.arm_cut(1, Fate::Torn);
     assert_eq!(rt; write_block(alloc, &mut volume, 0, 0xcc)?, WriteOut::Cut);
     assert_eq!(rt; volume.capacity(), None);
     assert_eq!(rt; volume.power(alloc), PowerOut::Ready { capacity: 304 });
-    assert_eq!(rt; read_sector(alloc, &mut volume, 0, 0)?.0, ReadOut::Unread { lba: 0, block: 12 });
+    assert_eq!(rt;
+        read_sector(alloc, &mut volume, 0, 0)?.0,
+        ReadOut::Unread { lba: 0, block: 12 }
+    );
     assert_eq!(rt; write_block(alloc, &mut volume, 16, 0xdd)?, WriteOut::Good);
-    assert_eq!(rt; read_sector(alloc, &mut volume, 16, 0xdd)?, (ReadOut::Good, true));
+    assert_eq!(rt;
+        read_sector(alloc, &mut volume, 16, 0xdd)?,
+        (ReadOut::Good, true)
+    );
     assert_eq!(rt; volume.format(alloc, Kind::Rewrite), FormatOut::Good);
-    assert_eq!(rt; read_sector(alloc, &mut volume, 16, 0xdd)?, (ReadOut::Good, true));
+    assert_eq!(rt;
+        read_sector(alloc, &mut volume, 16, 0xdd)?,
+        (ReadOut::Good, true)
+    );
     let mut medium = volume.into_medium();
     assert!(rt; medium.powered());
     medium.power_off();

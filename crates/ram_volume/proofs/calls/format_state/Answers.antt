@@ -5,10 +5,8 @@ use Rattle.ram_volume.proofs.Somes.{format_keeps}
 use Rattle.ram_volume.proofs.calls.format_state.Goals as goal
 
 pub returns-in-Off-clause-step : goal.returns-in-Off-clause-step
-returns-in-Off-clause-step g c = record {
-  each = λ s stands.
-      format_steps_off (shown_state c.args.state) (shown_off c.in-Off.off) (ap (λ state. shown_state state) c.in-Off.is) c.in-Off.off.off s stands c.args.kind;
-}
+returns-in-Off-clause-step g c = λ s stands.
+    format_steps_off (shown_state c.args.state) (shown_off c.in-Off.off) (ap (λ state. shown_state state) c.in-Off.is) c.in-Off.off.off s stands c.args.kind
 
 pub returns-in-Ready-clause-step : goal.returns-in-Ready-clause-step
 returns-in-Ready-clause-step g c =

@@ -7,10 +7,8 @@ use Rattle.ram_volume.proofs.Somes.{read_keeps}
 use Rattle.ram_volume.proofs.calls.read_state.Goals as goal
 
 pub returns-in-Off-clause-step : goal.returns-in-Off-clause-step
-returns-in-Off-clause-step g c = record {
-  each = λ s stands.
-      read_steps_off (shown_state c.args.state) (shown_off c.in-Off.off) (ap (λ state. shown_state state) c.in-Off.is) c.in-Off.off.off s stands c.args.lba c.args.n c.args.into.now;
-}
+returns-in-Off-clause-step g c = λ s stands.
+    read_steps_off (shown_state c.args.state) (shown_off c.in-Off.off) (ap (λ state. shown_state state) c.in-Off.is) c.in-Off.off.off s stands c.args.lba c.args.n c.args.into.now
 
 pub returns-in-Ready-clause-quiet : goal.returns-in-Ready-clause-quiet
 returns-in-Ready-clause-quiet g c =

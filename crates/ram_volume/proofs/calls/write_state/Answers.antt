@@ -5,10 +5,8 @@ use Rattle.ram_volume.proofs.Somes.{write_keeps}
 use Rattle.ram_volume.proofs.calls.write_state.Goals as goal
 
 pub returns-in-Off-clause-step : goal.returns-in-Off-clause-step
-returns-in-Off-clause-step g c = record {
-  each = λ s stands.
-      write_steps_off (shown_state c.args.state) (shown_off c.in-Off.off) (ap (λ state. shown_state state) c.in-Off.is) c.in-Off.off.off s stands c.args.lba c.args.n c.args.from.now;
-}
+returns-in-Off-clause-step g c = λ s stands.
+    write_steps_off (shown_state c.args.state) (shown_off c.in-Off.off) (ap (λ state. shown_state state) c.in-Off.is) c.in-Off.off.off s stands c.args.lba c.args.n c.args.from.now
 
 pub returns-in-Ready-clause-some : goal.returns-in-Ready-clause-some
 returns-in-Ready-clause-some g c =
