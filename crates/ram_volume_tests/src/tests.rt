@@ -2,6 +2,7 @@
 
 mod limits;
 mod mixtures;
+mod random;
 mod rows;
 mod volume;
 

@@ -128,18 +128,67 @@ fn mixture_of(k: u32) -> Mixture {
     }
 }
 
-#[test]
-fn each_mixture_is_answered_and_listed(rt: HostRuntime) -> Result<(), Fail> {
-    let alloc = rt.alloc();
-    for k in 0..496u32 {
+/// The first of 62 mixtures from this number on that is answered otherwise.
+fn first_fault(alloc: Global, from: u32) -> Result<Option<u32>, Fail> {
+    for k in 0..62u32 {
         let drive = listed(
             alloc,
             small()?,
             &dds_text(alloc, FIRST_DDS)?,
             &NEW.text(alloc)?,
         )?;
-        let ended = drive.steps(alloc, &steps_of(mixture_of(k)))?;
-        assert_eq!(rt; ended.err(), None, "mixture {k}");
+        let number = from.saturating_add(k);
+        if drive.steps(alloc, &steps_of(mixture_of(number)))?.is_err() {
+            return Ok(Some(number));
+        }
     }
+    Ok(None)
+}
+
+#[test]
+fn mixtures_1_of_8_are_answered_and_listed(rt: HostRuntime) -> Result<(), Fail> {
+    assert_eq!(rt; first_fault(rt.alloc(), 0)?, None);
+    Ok(())
+}
+
+#[test]
+fn mixtures_2_of_8_are_answered_and_listed(rt: HostRuntime) -> Result<(), Fail> {
+    assert_eq!(rt; first_fault(rt.alloc(), 62)?, None);
+    Ok(())
+}
+
+#[test]
+fn mixtures_3_of_8_are_answered_and_listed(rt: HostRuntime) -> Result<(), Fail> {
+    assert_eq!(rt; first_fault(rt.alloc(), 124)?, None);
+    Ok(())
+}
+
+#[test]
+fn mixtures_4_of_8_are_answered_and_listed(rt: HostRuntime) -> Result<(), Fail> {
+    assert_eq!(rt; first_fault(rt.alloc(), 186)?, None);
+    Ok(())
+}
+
+#[test]
+fn mixtures_5_of_8_are_answered_and_listed(rt: HostRuntime) -> Result<(), Fail> {
+    assert_eq!(rt; first_fault(rt.alloc(), 248)?, None);
+    Ok(())
+}
+
+#[test]
+fn mixtures_6_of_8_are_answered_and_listed(rt: HostRuntime) -> Result<(), Fail> {
+    assert_eq!(rt; first_fault(rt.alloc(), 310)?, None);
+    Ok(())
+}
+
+#[test]
+fn mixtures_7_of_8_are_answered_and_listed(rt: HostRuntime) -> Result<(), Fail> {
+    assert_eq!(rt; first_fault(rt.alloc(), 372)?, None);
+    Ok(())
+}
+
+#[test]
+fn mixtures_8_of_8_are_answered_and_listed(rt: HostRuntime) -> Result<(), Fail> {
+    assert_eq!(rt; first_fault(rt.alloc(), 434)?, None);
     Ok(())
 }
