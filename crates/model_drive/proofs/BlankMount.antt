@@ -44,7 +44,7 @@ good_stays (Good bytes) good = tt
 good_stays Torn good = good
 good_stays Dead good = absurd good
 
-pub blank_mount : PowerCause (opened_drive small_shape (replicate 41 Blank)) (small_drive (replicate 41 Blank) None 0 8) powers.NotFormatted
+pub blank_mount : PowerCause (opened_drive small_shape (replicate 41 Blank) 0) (small_drive (replicate 41 Blank) None 0 8) powers.NotFormatted
 blank_mount = record {
   any = record { only = λ block none. refl; given = λ known lists given. given; unbuffered = refl };
   no_lists = refl;
@@ -70,7 +70,7 @@ blank_mount = record {
   };
 }
 
-pub blank_before : StandsFor (opened_drive small_shape (replicate 41 Blank)) (Off [])
+pub blank_before : StandsFor (opened_drive small_shape (replicate 41 Blank) 0) (Off [])
 blank_before = (refl, λ on. let e : false ≡ true = on in cc, λ lists given. absurd (gives_none lists given))
 
 pub blank_after : StandsFor (small_drive (replicate 41 Blank) None 0 8) (On [])

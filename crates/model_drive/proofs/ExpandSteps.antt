@@ -1,7 +1,8 @@
 -- What a drive stands for after an expansion, and that one that could end well did.
-use Rattle.std.proofs.Common.{◌≡◌, ℕ, ◌*◌, ◌/◌, ◌≤◌, inl, inr, Option, Some, List, [], ◌∷◌, refl, sym, ap, ◌∙◌, subst, arith, take}
+use Rattle.std.proofs.Common.{◌≡◌, ℕ, ◌+◌, ◌*◌, ◌/◌, ◌%◌, ◌<◌, ◌≤◌, inl, inr, Option, Some, List, [], ◌∷◌, refl, sym, ap, ◌∙◌, subst, arith, take}
 use Rattle.std.specs.Option.{option_map_or}
 use Rattle.std.proofs.lemmas.List.{take_all}
+use Rattle.model_geometry.specs.declared.TheConstants.{MOST_SPARES}
 use Rattle.model_geometry.specs.Geometry.{Shape}
 use Rattle.model_sectors.specs.Discs.{On, Off}
 use Rattle.model_stops.specs.declared.Stop.{Stop}
@@ -26,31 +27,42 @@ use Rattle.model_drive.proofs.Powers.{keeps_right, stands_fitting}
 only_lists : (old new : Shown) → OnlySdl old new → OnlyLists old.shape (cells_in old) (cells_in new)
 only_lists old new only block away = only block (λ area is same. away (subst (λ (b : ℕ). IsListBlock old.shape b) (sym same) (sdl_listed old.shape area is)))
 
+-- Some lists, and a number of sectors to which a disc under them may be cut.
+module _ (shape : Shape) (lists : Lists) (valid : AreValid shape lists) (sectors : ℕ)
+    (some : 0 < sectors) (whole : sectors % 16 ≡ 0) (fewer : sectors ≤ logical_count shape lists * 16)
+    (most : shape.psa + ssa_for shape sectors ≤ MOST_SPARES) where
+  -- the new size of the area is lawful, no smaller than the old one, and leaves so many blocks
+  pub lawful_area : IsValidSsa shape (ssa_for shape sectors)
+  lawful_area =
+      let had = valid.together.secondary.area.some_logical in
+      record { most = most; some_logical = omega (arith, some, whole, fewer, had) }
+
+  pub larger_area : lists.sdl.ssa ≤ ssa_for shape sectors
+  larger_area =
+      let had = valid.together.secondary.area.some_logical in
+      omega (arith, fewer, had)
+
+  pub left_blocks : logical_count shape (lists_expanded shape lists (ssa_for shape sectors)) ≡ sectors / 16
+  left_blocks =
+      let had = valid.together.secondary.area.some_logical in
+      omega (arith, fewer, had)
+
 module _ (old new : Shown) (sectors : ℕ) (lists : Lists) (any : ExpandsAny old new sectors lists) (valid : AreValid old.shape lists) where
   -- the capacity by the lists in use
   capacity_is : capacity old ≡ logical_count old.shape lists * 16
   capacity_is = ap (λ (o : Option Lists). option_map_or (logical_count old.shape) o 0 * 16) any.in_use
 
-  -- the new size of the area is lawful, no smaller than the old one, and leaves so many blocks
+  fewer_now : sectors ≤ logical_count old.shape lists * 16
+  fewer_now = subst (λ (n : ℕ). sectors ≤ n) capacity_is any.lawful.fewer
+
   area_valid : IsValidSsa old.shape (ssa_for old.shape sectors)
-  area_valid =
-      let some = any.lawful.some in
-      let whole = any.lawful.whole in
-      let fewer = any.lawful.fewer in
-      let had = valid.together.secondary.area.some_logical in
-      record { most = any.lawful.most; some_logical = omega (arith, some, whole, fewer, capacity_is, had) }
+  area_valid = lawful_area old.shape lists valid sectors any.lawful.some any.lawful.whole fewer_now any.lawful.most
 
   grows : lists.sdl.ssa ≤ ssa_for old.shape sectors
-  grows =
-      let fewer = any.lawful.fewer in
-      let had = valid.together.secondary.area.some_logical in
-      omega (arith, fewer, capacity_is, had)
+  grows = larger_area old.shape lists valid sectors any.lawful.some any.lawful.whole fewer_now any.lawful.most
 
   blocks_left : logical_count old.shape (lists_expanded old.shape lists (ssa_for old.shape sectors)) ≡ sectors / 16
-  blocks_left =
-      let fewer = any.lawful.fewer in
-      let had = valid.together.secondary.area.some_logical in
-      omega (arith, fewer, capacity_is, had)
+  blocks_left = left_blocks old.shape lists valid sectors any.lawful.some any.lawful.whole fewer_now any.lawful.most
 
   shortened_is : (disc : List ℕ) → shortened sectors disc ≡ disc_cut old.shape (lists_expanded old.shape lists (ssa_for old.shape sectors)) disc
   shortened_is disc =

@@ -1,6 +1,6 @@
 -- What a run keeps of a drive between two lines, and what it begins with when an image is opened. (This project's own, as
 -- all here.)
-use Rattle.std.specs.Prelude.{◌≡◌, true, false, None, List, []}
+use Rattle.std.specs.Prelude.{◌≡◌, ℕ, true, false, None, List, []}
 use Rattle.model_geometry.specs.Geometry.{Shape}
 use Rattle.model_medium.specs.Cells.{Cell}
 use Rattle.model_sectors.specs.Discs.{Standing}
@@ -15,13 +15,13 @@ pub record Loaded : Type 0 where
   pub sound : IsSound shown
   pub stands : StandsFor shown standing
 
--- What a drive shows when an image with these cells was just opened: the power is off, and nothing is armed, counted or
--- kept.
-abbrev pub opened_drive : Shape → List Cell → Shown
-opened_drive shape cells = record {
+-- What a drive shows when an image with these cells, which has failed so often, was just opened: the power is off, and
+-- nothing is armed or kept, and no use or cut is counted.
+abbrev pub opened_drive : Shape → List Cell → (faults : ℕ) → Shown
+opened_drive shape cells faults = record {
   shape = shape;
   medium = record {
-    world = record { known = true; cells = cells; power = false; uses = 0; cuts = 0; faults = 0 };
+    world = record { known = true; cells = cells; power = false; uses = 0; cuts = 0; faults = faults };
     arms = [];
     cut = None;
   };
@@ -32,6 +32,7 @@ opened_drive shape cells = record {
 
 -- The disc of an image that was just opened: it stands for the discs of the pairs of lists that its cells give, in order.
 pub record IsOpenedOn (shape : Shape) (cells : List Cell) (s : Loaded) : Type 0 where
-  pub shown_is : s.shown ≡ opened_drive shape cells
+  pub faults : ℕ
+  pub shown_is : s.shown ≡ opened_drive shape cells faults
   pub all : List Found
   pub starts : IsDiscStart shape cells all s.standing

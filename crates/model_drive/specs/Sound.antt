@@ -1,6 +1,6 @@
 -- What holds at any time of what a drive shows: for the law of its trait, and for the state of a run. (This project's own,
 -- as all here.)
-use Rattle.std.specs.Prelude.{◌≡◌, ◌≤◌, Some, None, [], length}
+use Rattle.std.specs.Prelude.{◌≡◌, Some, None, [], length}
 use Rattle.model_geometry.specs.Geometry.{total}
 use Rattle.model_medium.specs.Machine.{IsToCome, AreToCome}
 use Rattle.model_copies.specs.Copies.{AreMarkedWithin}

@@ -40,9 +40,9 @@ pub fn worked_uses()
 /// A disc that was just pressed stands for the discs of its lists, which are none. Its mount reads eight blank cells, and
 /// answers that it is not formatted; then it stands for the disc without sectors.
 pub fn worked_blank_mount()
-    ensures cause { PowerCause (opened_drive small_shape (replicate 41 Blank))
+    ensures cause { PowerCause (opened_drive small_shape (replicate 41 Blank) 0)
         (small_drive (replicate 41 Blank) None 0 8) powers.NotFormatted }
-    ensures before { StandsFor (opened_drive small_shape (replicate 41 Blank)) (Off []) }
+    ensures before { StandsFor (opened_drive small_shape (replicate 41 Blank) 0) (Off []) }
     ensures after { StandsFor (small_drive (replicate 41 Blank) None 0 8) (On []) }
 {}
 

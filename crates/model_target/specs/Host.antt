@@ -1,5 +1,4 @@
--- What a target remembers for its host between two commands, and how a command changes it. (This project's own, as all
--- here.)
+-- How a command changes what a target remembers for its host. (This project's own, as all here.)
 use Rattle.std.specs.Prelude.{Bool, true, false, ◌&&◌, not, if◌then◌else◌, Option, Some, None}
 use Rattle.model_commands.specs.declared.Operation.{Operation}
 use Rattle.model_commands.specs.declared.Operation.TheVariants as operations
@@ -9,14 +8,7 @@ use Rattle.ram_sense.specs.declared.answer.Answer.{Answer}
 use Rattle.ram_sense.specs.declared.answer.Answer.TheVariants as answers
 use Rattle.ram_cdb.specs.declared.commands.Command.{Command}
 use Rattle.ram_cdb.specs.declared.commands.Command.TheVariants as commands
-
--- The four things: the power came on, and the host has not been told; removal of the disc is prevented; the disc is out;
--- the sense of the last command, if it had one.
-pub record Host : Type 0 where
-  pub attention : Bool
-  pub prevented : Bool
-  pub out : Bool
-  pub kept : Option Sense
+use Rattle.model_target.specs.declared.host.Host.{Host}
 
 -- after the power was turned off and on again the disc is in, and removal allowed
 abbrev pub powered_on : Host

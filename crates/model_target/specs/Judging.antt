@@ -1,6 +1,6 @@
 -- Whether a target does a command, or the first reason that applies why not. (After INCITS MMC and SPC; the order is this
 -- project's own, as is all here.)
-use Rattle.std.specs.Prelude.{◌≡◌, ℕ, Bool, true, false, ◌&&◌, not, if◌then◌else◌, Option, Some, None, Result, Ok, Err, List, [], ◌∷◌}
+use Rattle.std.specs.Prelude.{◌≡◌, ℕ, Bool, true, false, ◌&&◌, not, Option, Some, None, Result, Ok, Err, List, [], ◌∷◌}
 use Rattle.std.specs.List.{find}
 use Rattle.model_commands.specs.declared.Operation.{Operation}
 use Rattle.model_commands.specs.declared.Operation.TheVariants as operations
@@ -11,7 +11,8 @@ use Rattle.ram_sense.specs.declared.sense.Sense.{Sense}
 use Rattle.ram_cdb.specs.declared.commands.Command.{Command}
 use Rattle.ram_cdb.specs.declared.commands.Command.TheVariants as commands
 use Rattle.ram_cdb.specs.Decoding.{Refusal, refusal, unless, decoded_as}
-use Rattle.model_target.specs.Host.{Host, is_told}
+use Rattle.model_target.specs.declared.host.Host.{Host}
+use Rattle.model_target.specs.Host.{is_told}
 
 -- the commands of the table that are done at this stage; the others are answered as unknown ones
 abbrev pub is_served : Operation → Bool
@@ -22,12 +23,14 @@ is_served _ = true
 
 -- What is asked for, or the first reason against it that needs no look at the disc: an unknown code, the attention, and then
 -- those of the command block and its data.
+abbrev pub asked_in : (served told : Bool) → Operation → (cdb payload : List ℕ) → Result Command Sense
+asked_in false told operation cdb payload = Err (sense 0x5 0x20 0x00)
+asked_in true true operation cdb payload = Err (sense 0x6 0x29 0x00)
+asked_in true false operation cdb payload = decoded_as operation cdb payload
+
 abbrev pub asked_by : Host → Option Operation → (cdb payload : List ℕ) → Result Command Sense
 asked_by host None cdb payload = Err (sense 0x5 0x20 0x00)
-asked_by host (Some operation) cdb payload =
-    if not (is_served operation) then Err (sense 0x5 0x20 0x00)
-    else if is_told host operation then Err (sense 0x6 0x29 0x00)
-    else decoded_as operation cdb payload
+asked_by host (Some operation) cdb payload = asked_in (is_served operation) (is_told host operation) operation cdb payload
 
 abbrev pub asked : Host → (cdb payload : List ℕ) → Result Command Sense
 asked host cdb payload = asked_by host (operation_of cdb) cdb payload

@@ -2,7 +2,8 @@
 use Rattle.std.specs.Prelude.{ℕ, ◌+◌, ◌-◌, Bool, ◌==◌, if◌then◌else◌, List, [], ◌∷◌, ◌++◌, length, replicate, codes}
 use Rattle.byteorder.specs.Endian.{big_bytes}
 use Rattle.ram_sense.specs.Sense.{sense_data}
-use Rattle.model_target.specs.Host.{Host, sense_told}
+use Rattle.model_target.specs.declared.host.Host.{Host}
+use Rattle.model_target.specs.Host.{sense_told}
 
 -- REQUEST SENSE: the sense that is told, in 18 bytes (after INCITS SPC)
 abbrev pub sense_reply : Host → List ℕ

@@ -3,26 +3,31 @@
 use Rattle.std.specs.Prelude.{◌≡◌, ℕ, ◌⊎◌, is_some, Option, Result, Ok, Err, List, [], take}
 use Rattle.model_commands.specs.declared.Operation.{Operation}
 use Rattle.model_commands.specs.Commands.{operation_of}
+use Rattle.model_counts.specs.Counts.{Rose}
 use Rattle.model_modes.specs.Pages.{mode_data}
 use Rattle.model_sectors.specs.Discs.{Standing}
 use Rattle.model_sectors.specs.declared.ReadOut.{ReadOut}
 use Rattle.model_sectors.specs.declared.ReadOut.TheVariants as reads
+use Rattle.model_sectors.specs.declared.PowerOut.{PowerOut}
 use Rattle.model_drive.specs.declared.WriteOut.{WriteOut}
 use Rattle.model_drive.specs.declared.WriteOut.TheVariants as writes
 use Rattle.model_drive.specs.declared.FormatOut.{FormatOut}
 use Rattle.model_drive.specs.declared.FormatOut.TheVariants as formats
 use Rattle.model_drive.specs.declared.Kind.{Kind}
 use Rattle.model_drive.specs.Shown.{Shown, IsOn, capacity}
-use Rattle.model_drive.specs.Reads.{ReadCause, ReadStep}
+use Rattle.model_drive.specs.Reads.{ReadCause, ReadStep, ReadIsQuiet}
 use Rattle.model_drive.specs.Writes.{WriteCause, WriteStep}
 use Rattle.model_drive.specs.Formats.{FormatCause, FormatStep}
+use Rattle.model_drive.specs.Power.{PowerCause, PowerStep}
+use Rattle.model_drive.specs.Faults.{faults}
 use Rattle.ram_sense.specs.Sense.{sense, sense_at}
 use Rattle.ram_sense.specs.declared.sense.Sense.{Sense}
 use Rattle.ram_sense.specs.declared.answer.Answer.{Answer}
 use Rattle.ram_sense.specs.declared.answer.Answer.TheVariants as answers
 use Rattle.ram_cdb.specs.declared.commands.Command.{Command}
 use Rattle.ram_cdb.specs.declared.commands.Command.TheVariants as commands
-use Rattle.model_target.specs.Host.{Host, done_by, keeps, attention_after}
+use Rattle.model_target.specs.declared.host.Host.{Host}
+use Rattle.model_target.specs.Host.{powered_on, done_by, keeps, attention_after}
 use Rattle.model_target.specs.Judging.{IsJudged, is_served}
 use Rattle.model_target.specs.Replies.{sense_reply, inquiry_reply, capacity_reply, configuration_reply}
 
@@ -81,6 +86,7 @@ module _ (old new : Shown) (before after : Standing → Type 0) where
     pub bytes : List ℕ
     pub cause : ReadCause old new lba n out
     pub step : (s : Standing) → before s → ReadStep after s lba n bytes out
+    pub quiet : ReadIsQuiet old new lba n out
     pub answer_is : answer ≡ read_answer out
     pub data_is : data_in ≡ data_read out bytes
 
@@ -144,6 +150,12 @@ module _ (old new : Shown) (before after : Standing → Type 0) where
     pub is_answered : IsAnsweredBy host payload judged answer data_in
     pub later_is : later ≡ host_after host (operation_of cdb) judged answer
 
+  -- The power was turned off and on again. Then the host's four things are those of a target that was just turned on.
+  pub record IsPoweredAgain (later : Host) (out : PowerOut) : Type 0 where
+    pub cause : PowerCause old new out
+    pub step : (s : Standing) → before s → PowerStep new after s out
+    pub later_is : later ≡ powered_on
+
   -- a command with the power off: nothing is done
   pub record IsOffFor (host later : Host) (answer : Answer) (data_in : List ℕ) : Type 0 where
     pub is_answered : IsAnswered answer answers.Off data_in []
@@ -153,3 +165,9 @@ module _ (old new : Shown) (before after : Standing → Type 0) where
   abbrev pub IsStep : (host later : Host) (cdb payload : List ℕ) → Answer → List ℕ → Type 0
   IsStep host later cdb payload answer data_in =
       (¬ IsOn old × IsOffFor host later answer data_in) ⊎ (IsOn old × IsExecuted host later cdb payload answer data_in)
+
+-- What a command leaves of the count of faults of what the medium lies on: one more where it answers Fault, and the same
+-- with any other answer.
+abbrev pub AnswerFaults : Shown → Shown → Answer → Type 0
+AnswerFaults old new answers.Fault = Rose (faults old) (faults new)
+AnswerFaults old new _ = faults new ≡ faults old

@@ -1,16 +1,24 @@
 //! What a target remembers for its host, which commands it does, and what it replies. Definitions, and their laws.
 #![tactic(auto)]
 
-ghost use Rattle.std.specs.Prelude.{◌≡◌, ℕ, List, ◌∷◌, [], true, false, None, Some};
+ghost use Rattle.std.specs.Prelude.{◌≡◌, ◌≤◌, ℕ, List, ◌∷◌, [], true, false, None, Some, length};
 ghost use Rattle.ram_sense.specs.Sense.{sense};
 ghost use Rattle.model_commands.specs.declared.Operation.TheVariants.{TestUnitReady, Inquiry};
-ghost use Rattle.model_target.specs.Host.{Host, powered_on, sense_told, attention_after};
+ghost use Rattle.model_target.specs.declared.host.Host.{Host};
+ghost use Rattle.model_target.specs.Host.{powered_on, sense_told, attention_after};
 ghost use Rattle.ram_sense.specs.declared.answer.Answer.{Answer as Answered};
 ghost use Rattle.ram_sense.specs.declared.answer.Answer.TheVariants as answers;
 ghost use Rattle.model_drive.specs.Shown.{Shown, IsOn, StandsFor};
-ghost use Rattle.model_target.specs.Steps.{IsStep};
+ghost use Rattle.model_target.specs.Steps.{IsStep, AnswerFaults};
+ghost use Rattle.model_sectors.specs.Discs.{Standing};
+ghost use Rattle.model_commands.specs.declared.Operation.{Operation};
+ghost use Rattle.model_commands.specs.Commands.{command, operation_of};
 ghost use Rattle.model_target.specs.Judging.{is_served};
 ghost use Rattle.model_target.specs.Replies.{inquiry_reply, capacity_reply, configuration_reply};
+
+pub mod host;
+
+pub use host::Host;
 
 /// After a power on the attention is what REQUEST SENSE tells; an unknown code leaves it, and the first command that is
 /// told of it clears it. (Where the attention is told no command is done.)
@@ -26,6 +34,30 @@ pub fn nothing_is_done_with_the_power_off()
     ensures { (old new : Shown) (host later : Host) (cdb payload : List ℕ) (answer : Answered) (data_in : List ℕ)
         → ¬ IsOn old → IsStep old new (StandsFor old) (StandsFor new) host later cdb payload answer data_in
         → (answer ≡ answers.Off) × (later ≡ host) × (new ≡ old) × (data_in ≡ []) }
+{}
+
+/// What a drive stands for after a command is one thing: a caller that needs it finds it in the step.
+pub fn commands_leave_a_state()
+    ensures { (old new : Shown) (host later : Host) (cdb payload : List ℕ) (answer : Answered) (data_in : List ℕ)
+        (s : Standing) → StandsFor old s
+        → IsStep old new (StandsFor old) (StandsFor new) host later cdb payload answer data_in
+        → (t : Standing) × StandsFor new t
+        × IsStep old new (λ x. x ≡ s) (λ x. x ≡ t) host later cdb payload answer data_in }
+{}
+
+/// A command that answers Fault counts it, and no other command counts a fault.
+pub fn a_command_that_fails_counts_it()
+    ensures { (old new : Shown) (host later : Host) (cdb payload : List ℕ) (answer : Answered) (data_in : List ℕ)
+        → IsStep old new (StandsFor old) (StandsFor new) host later cdb payload answer data_in
+        → AnswerFaults old new answer }
+{}
+
+/// A command that is done has as many bytes as the table says at least.
+pub fn a_command_that_is_done_is_whole()
+    ensures { (old new : Shown) (host later : Host) (cdb payload data_in : List ℕ) (operation : Operation)
+        → operation_of cdb ≡ Some operation
+        → IsStep old new (StandsFor old) (StandsFor new) host later cdb payload answers.Good data_in
+        → (command operation).bytes ≤ length cdb }
 {}
 
 /// The replies of INQUIRY, of READ CAPACITY with 304 sectors, and of GET CONFIGURATION with the disc in and out.

@@ -61,13 +61,13 @@ left_three was cell bytes (inr (inr (inl torn))) = inr (inr (λ good. (subst IsG
 left_three was cell bytes (inr (inr (inr dead))) = inr (inr (dead_is_bad cell dead))
 
 -- settled copies hold one of two values
-settled_either : (cell : Cell) (v : Sdl) → HoldsOrDead IsSdlText cell v → HoldsEither IsSdlText cell v v
+pub settled_either : (cell : Cell) (v : Sdl) → HoldsOrDead IsSdlText cell v → HoldsEither IsSdlText cell v v
 settled_either Blank v h = absurd h
 settled_either (Good bytes) v h = inl h
 settled_either Torn v h = absurd h
 settled_either Dead v h = tt
 
-lost_settled : (cell : Cell) (v : Sdl) → cell ≡ Dead → HoldsOrDead IsSdlText cell v
+pub lost_settled : (cell : Cell) (v : Sdl) → cell ≡ Dead → HoldsOrDead IsSdlText cell v
 lost_settled cell v dead = subst (λ (c : Cell). HoldsOrDead IsSdlText c v) (sym dead) tt
 
 module _ {M : Type 0} (world : M → World) (block_count : M → ℕ) (reaches : M → M → ℕ → Type 0) (laws : MediumLaws world block_count reaches) where

@@ -52,12 +52,12 @@ module _ (old new : Shown) where
 -- With its power off a drive stands for the discs of the lists that its cells give, if these are whole.
 pub new_some : (shape : Shape) (machine : Machine) → ¬ IsOn (shown_without shape machine) → AreWhole machine.world.cells
     → (IsKnown (shown_without shape machine) → length machine.world.cells ≡ total shape) → StandsForSome (shown_without shape machine)
-new_some shape machine off whole as_many known none = stands_off opened.0.standing (subst (λ (x : Shown). StandsFor x opened.0.standing) opened.1.shown_is opened.0.stands)
+new_some shape machine off whole as_many known none = stands_off opened.0.standing (subst (λ (x : Shown). StandsFor x opened.0.standing) opened.2 opened.0.stands)
   where
-    opened : (s : Loaded) × IsOpenedOn shape machine.world.cells s
-    opened = opened_disc shape machine.world.cells (as_many known) whole
+    opened : (s : Loaded) × IsOpenedOn shape machine.world.cells s × (s.shown ≡ opened_drive shape machine.world.cells 0)
+    opened = opened_disc shape machine.world.cells 0 (as_many known) whole
 
-    stands_off : (s : Standing) → StandsFor (opened_drive shape machine.world.cells) s → ⊥
+    stands_off : (s : Standing) → StandsFor (opened_drive shape machine.world.cells 0) s → ⊥
     stands_off (On disc) stands = let on : false ≡ true = stands.1 in absurd cc
     stands_off (Off discs) stands = none (Off discs) (known, off, stands.2)
 

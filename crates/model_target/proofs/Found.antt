@@ -1,0 +1,98 @@
+-- What a command leaves a drive standing for, found in its step.
+use Rattle.std.specs.Prelude.{◌≡◌, ℕ, Result, Ok, Err, List}
+use Rattle.std.proofs.Common.{sym, inl, inr, subst}
+use Rattle.model_sectors.specs.Discs.{Standing}
+use Rattle.model_drive.specs.Shown.{Shown}
+use Rattle.model_drive.specs.Reads.{ReadStep}
+use Rattle.model_drive.specs.Writes.{WriteStep}
+use Rattle.model_drive.specs.Formats.{FormatStep}
+use Rattle.model_drive.proofs.Found.{read_found, write_found, format_found}
+use Rattle.ram_sense.specs.declared.sense.Sense.{Sense}
+use Rattle.ram_sense.specs.declared.answer.Answer.{Answer}
+use Rattle.ram_sense.specs.declared.answer.Answer.TheVariants as answers
+use Rattle.ram_cdb.specs.declared.commands.Command.{Command}
+use Rattle.ram_cdb.specs.declared.commands.Command.TheVariants as commands
+use Rattle.model_target.specs.declared.host.Host.{Host}
+use Rattle.model_target.specs.Steps.{IsAnswered, IsDone, IsAnsweredBy, IsStep}
+
+module _ (old new : Shown) (before after : Standing → Type 0) (s : Standing) (stood : before s) where
+  -- what the drive stands for afterwards
+  abbrev FindsBy : ((Standing → Type 0) → (Standing → Type 0) → Type 0) → Type 0
+  FindsBy Rule = (t : Standing) × after t × Rule (λ x. x ≡ s) (λ x. x ≡ t)
+
+  answered_found : (answer due : Answer) (data_in reply : List ℕ) → IsAnswered old new before after answer due data_in reply
+      → FindsBy (λ was is. IsAnswered old new was is answer due data_in reply)
+  answered_found answer due data_in reply p = (
+    s,
+    p.untouched.stands s stood,
+    record { answer_is = p.answer_is; data_is = p.data_is; untouched = record { same = p.untouched.same; stands = λ x e. e } },
+  )
+
+  done_found : (host : Host) (payload : List ℕ) (command : Command) (answer : Answer) (data_in : List ℕ) → IsDone old new before after host payload command answer data_in
+      → FindsBy (λ was is. IsDone old new was is host payload command answer data_in)
+  done_found host payload commands.TestUnitReady answer data_in p = answered_found answer _ data_in _ p
+  done_found host payload (commands.RequestSense alloc) answer data_in p = answered_found answer _ data_in _ p
+  done_found host payload (commands.Format kind) answer data_in p =
+      let found = format_found after old new s kind p.out (p.step s stood) in (
+        found.0,
+        found.1,
+        record {
+          out = p.out;
+          cause = p.cause;
+          step = λ x e. subst (λ y. FormatStep old new (λ z. z ≡ found.0) y kind p.out) (sym e) found.2;
+          answer_is = p.answer_is;
+          no_data = p.no_data;
+        },
+      )
+  done_found host payload (commands.Expand sectors) answer data_in p = absurd p
+  done_found host payload (commands.Inquiry alloc) answer data_in p = answered_found answer _ data_in _ p
+  done_found host payload (commands.StartStop start eject) answer data_in p = answered_found answer _ data_in _ p
+  done_found host payload (commands.Prevent on) answer data_in p = answered_found answer _ data_in _ p
+  done_found host payload (commands.FormatCapacities alloc) answer data_in p = absurd p
+  done_found host payload commands.ReadCapacity answer data_in p = answered_found answer _ data_in _ p
+  done_found host payload (commands.Read lba n) answer data_in p =
+      let found = read_found after s lba n p.bytes p.out (p.step s stood) in (
+        found.0,
+        found.1,
+        record {
+          out = p.out;
+          bytes = p.bytes;
+          cause = p.cause;
+          step = λ x e. subst (λ y. ReadStep (λ z. z ≡ found.0) y lba n p.bytes p.out) (sym e) found.2;
+          quiet = p.quiet;
+          answer_is = p.answer_is;
+          data_is = p.data_is;
+        },
+      )
+  done_found host payload (commands.Write lba n fua) answer data_in p =
+      let found = write_found after new s lba n payload p.out (p.step s stood) in (
+        found.0,
+        found.1,
+        record {
+          out = p.out;
+          cause = p.cause;
+          step = λ x e. subst (λ y. WriteStep new (λ z. z ≡ found.0) y lba n payload p.out) (sym e) found.2;
+          answer_is = p.answer_is;
+          no_data = p.no_data;
+        },
+      )
+  done_found host payload (commands.Verify lba n) answer data_in p = absurd p
+  done_found host payload commands.Synchronize answer data_in p = answered_found answer _ data_in _ p
+  done_found host payload (commands.Configuration rt start alloc) answer data_in p = answered_found answer _ data_in _ p
+  done_found host payload commands.ModeSelect answer data_in p = answered_found answer _ data_in _ p
+  done_found host payload (commands.ModeSense control page alloc) answer data_in p = answered_found answer _ data_in _ p
+  done_found host payload (commands.Structure format alloc) answer data_in p = absurd p
+
+  by_found : (host : Host) (payload : List ℕ) (judged : Result Command Sense) (answer : Answer) (data_in : List ℕ) → IsAnsweredBy old new before after host payload judged answer data_in
+      → FindsBy (λ was is. IsAnsweredBy old new was is host payload judged answer data_in)
+  by_found host payload (Err why) answer data_in p = answered_found answer (answers.Check why) data_in _ p
+  by_found host payload (Ok command) answer data_in p = done_found host payload command answer data_in p
+
+  pub step_found : (host later : Host) (cdb payload : List ℕ) (answer : Answer) (data_in : List ℕ) → IsStep old new before after host later cdb payload answer data_in
+      → FindsBy (λ was is. IsStep old new was is host later cdb payload answer data_in)
+  step_found host later cdb payload answer data_in (inl off) =
+      let found = answered_found answer answers.Off data_in _ off.1.is_answered in
+      (found.0, found.1, inl (off.0, record { is_answered = found.2; later_is = off.1.later_is }))
+  step_found host later cdb payload answer data_in (inr on) =
+      let found = by_found host payload on.1.judged answer data_in on.1.is_answered in
+      (found.0, found.1, inr (on.0, record { judged = on.1.judged; is_judged = on.1.is_judged; is_answered = found.2; later_is = on.1.later_is }))

@@ -1,0 +1,3 @@
+pub mod Found
+pub mod Counted
+pub mod Whole

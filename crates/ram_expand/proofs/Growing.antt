@@ -1,0 +1,122 @@
+-- How an expansion goes, on the cells.
+use Rattle.std.specs.Prelude.{◌≡◌, ◌≢◌, ℕ, ◌*◌, ◌≤◌, ◌<◌, true, List, [], ◌∷◌}
+use Rattle.std.proofs.Common.{refl, sym, ap, inl, subst, arith, eqb, take}
+use Rattle.std.proofs.lemmas.Bool.{cond-false, ne_eqb}
+use Rattle.model_geometry.specs.Geometry.{Shape, dds_block, sdl_block}
+use Rattle.model_lists.specs.Texts.{IsDdsText, IsSdlText}
+use Rattle.model_medium.specs.Cells.{Cell, cell_at}
+use Rattle.model_medium.specs.World.{World}
+use Rattle.model_stops.specs.declared.Stop.{Stop}
+use Rattle.model_copies.specs.Copies.{HoldsOrDead, Settled, AreBetween}
+use Rattle.model_copies.proofs.CopyFacts.{between_left}
+use Rattle.model_places.specs.Places.{Lists, logical_count}
+use Rattle.model_places.specs.Valid.{IsValidSsa, AreValid}
+use Rattle.model_volume.specs.Given.{AreSettled, IsListBlock, OnlyLists}
+use Rattle.model_volume.specs.Covers.{FitsUnder, Cover}
+use Rattle.model_volume.specs.Expansions.{disc_cut}
+use Rattle.model_volume.proofs.GivenFacts.{pair_between}
+use Rattle.model_volume.proofs.ListCells.{sdl_listed, fits_still}
+use Rattle.model_volume.proofs.Updates.{dds_no_sdl}
+use Rattle.model_volume.proofs.Expanding.{expanded_valid, cut_fits, expand_covers}
+use Rattle.model_drive.specs.declared.TheConstants.{LAST_COUNTER}
+use Rattle.model_drive.specs.Expands.{ssa_for, shortened}
+use Rattle.model_drive.proofs.ExpandSteps.{lawful_area, larger_area, left_blocks}
+use Rattle.ram_medium.specs.Laws.{MediumLaws}
+use Rattle.ram_zones.specs.declared.list_kind.ListKind.TheVariants as kinds
+use Rattle.ram_copies.specs.Values.{SdlValue}
+use Rattle.ram_copies.specs.Calls.{ChangesCopiesAlone, CallEnds, StoppedWithin, Keeps, LeavesNone, MayLeaveCopies}
+use Rattle.ram_copies.proofs.EachList.{sdl_settled, sdl_may_hold}
+use Rattle.ram_replace.proofs.Placing.{settled_either, lost_settled}
+use Rattle.ram_expand.specs.Sizes.{IsSmaller}
+use Rattle.ram_expand.specs.Expanding.{lists_grown, HasGrown, LacksUpdate, StopsGrowing}
+
+module _ {M : Type 0} (world : M → World) (block_count : M → ℕ) (reaches : M → M → ℕ → Type 0) (laws : MediumLaws world block_count reaches) where
+  module _ (shape : Shape) (lists : Lists) (valid : AreValid shape lists) (capacity : ℕ) (size : IsSmaller shape lists capacity)
+      (old : M) (settled : AreSettled shape (world old).cells lists) where
+    pub area : IsValidSsa shape (ssa_for shape capacity)
+    area = lawful_area shape lists valid capacity size.lawful.some size.lawful.whole size.lawful.fewer size.lawful.most
+
+    pub grows : lists.sdl.ssa ≤ ssa_for shape capacity
+    grows = larger_area shape lists valid capacity size.lawful.some size.lawful.whole size.lawful.fewer size.lawful.most
+
+    pub grown_valid : AreValid shape (lists_grown shape lists capacity)
+    grown_valid = expanded_valid shape lists (ssa_for shape capacity) valid area grows
+
+    shortened_is : (disc : List ℕ) → disc_cut shape (lists_grown shape lists capacity) disc ≡ shortened capacity disc
+    shortened_is disc =
+        let whole = size.lawful.whole in
+        let left = left_blocks shape lists valid capacity size.lawful.some size.lawful.whole size.lawful.fewer size.lawful.most in
+        let same : 32768 * logical_count shape (lists_grown shape lists capacity) ≡ 2048 * capacity = omega (arith, whole, left) in
+        ap (λ (n : ℕ). take n disc) same
+
+    -- ---- the update of the secondary list
+
+    module _ (new : M) (alone : ChangesCopiesAlone world reaches kinds.Sdl shape old new) where
+      only_lists : OnlyLists shape (world old).cells (world new).cells
+      only_lists block away = alone.others block (λ at is same. away (subst (IsListBlock shape) (sym same) (sdl_listed shape at is)))
+
+      dds_kept : Settled IsDdsText (dds_block shape) (world new).cells lists.dds
+      dds_kept at is = subst (λ (c : Cell). HoldsOrDead IsDdsText c lists.dds) (sym (alone.others (dds_block shape at) (λ other its same. dds_no_sdl shape at other same))) (settled.dds at is)
+
+      fits_now : (disc : List ℕ) → FitsUnder shape (world old).cells lists disc → FitsUnder shape (world new).cells lists disc
+      fits_now disc fits = fits_still shape (world old).cells (world new).cells only_lists lists disc valid fits
+
+      -- each copy was written
+      written : lists.sdl.counter < LAST_COUNTER → CallEnds world reaches kinds.Sdl shape old new 8 → Settled IsSdlText (sdl_block shape) (world new).cells (lists_grown shape lists capacity).sdl
+          → ((world old).known ≡ true → ¬ LeavesNone world reaches kinds.Sdl shape old new) → HasGrown world reaches shape old new lists capacity (lists_grown shape lists capacity)
+      written room ended settled_sdl not_lost = record {
+        size = size;
+        room = room;
+        ended = ended;
+        lists_are = refl;
+        settled = record { dds = dds_kept; sdl = settled_sdl };
+        has_copy = not_lost;
+        makes = λ disc fits. subst (FitsUnder shape (world new).cells (lists_grown shape lists capacity)) (shortened_is disc)
+            (cut_fits shape lists (ssa_for shape capacity) valid area grows (world new).cells disc (fits_now disc fits));
+      }
+
+      -- none can be read
+      unwritten : lists.sdl.counter ≢ LAST_COUNTER → CallEnds world reaches kinds.Sdl shape old new 8 → LeavesNone world reaches kinds.Sdl shape old new
+          → LacksUpdate world reaches shape old new lists capacity lists lists.sdl.counter
+      unwritten room ended all_lost = record {
+        size = size;
+        counter_is = refl;
+        cause = inl all_lost;
+        ended = subst (CallEnds world reaches kinds.Sdl shape old new) (sym (cond-false (eqb lists.sdl.counter LAST_COUNTER) 0 8 (ne_eqb lists.sdl.counter LAST_COUNTER room))) ended;
+        same = refl;
+        settled = record { dds = dds_kept; sdl = λ at is. lost_settled (cell_at (world new).cells (sdl_block shape at)) lists.sdl (all_lost at is) };
+        keeps = fits_now;
+      }
+
+      -- the update was stopped
+      left_between : MayLeaveCopies world reaches kinds.Sdl shape old new (SdlValue (lists_grown shape lists capacity).sdl)
+          → AreBetween IsSdlText (sdl_block shape) (world new).cells lists.sdl (lists_grown shape lists capacity).sdl
+      left_between left = between_left IsSdlText (sdl_block shape) (world old).cells (world new).cells lists.sdl (lists_grown shape lists capacity).sdl
+          (λ at is. settled_either (cell_at (world old).cells (sdl_block shape at)) lists.sdl (settled.sdl at is))
+          (λ at is. sdl_may_hold (cell_at (world old).cells (sdl_block shape at)) (cell_at (world new).cells (sdl_block shape at)) (lists_grown shape lists capacity).sdl (left at is))
+
+      halted : (stop : Stop) → lists.sdl.counter < LAST_COUNTER → StoppedWithin world reaches kinds.Sdl shape old new 8 stop
+          → AreBetween IsSdlText (sdl_block shape) (world new).cells lists.sdl (lists_grown shape lists capacity).sdl → StopsGrowing world reaches shape old new lists capacity lists stop
+      halted stop room stopped between = record {
+        size = size;
+        room = room;
+        stopped = stopped;
+        same = refl;
+        given = λ other given. pair_between shape (world new).cells lists.dds lists.sdl (lists_grown shape lists capacity).sdl other dds_kept between given;
+        covers = λ disc fits. subst (λ (d : List ℕ). Cover shape (world new).cells (disc ∷ d ∷ [])) (shortened_is disc)
+            (expand_covers shape lists (ssa_for shape capacity) valid area grows (world old).cells (world new).cells disc only_lists dds_kept between fits);
+      }
+
+    pub has_grown : (new : M) (readable : ℕ) → lists.sdl.counter < LAST_COUNTER
+        → CallEnds world reaches kinds.Sdl shape old new 8 × Keeps world reaches kinds.Sdl shape old new (SdlValue (lists_grown shape lists capacity).sdl) readable
+        → HasGrown world reaches shape old new lists capacity (lists_grown shape lists capacity)
+    has_grown new readable room did = written new did.0.alone room did.0 (sdl_settled shape (world new).cells (lists_grown shape lists capacity).sdl did.1.settled) did.1.not_lost
+
+    pub no_copy : (new : M) → lists.sdl.counter ≢ LAST_COUNTER → CallEnds world reaches kinds.Sdl shape old new 8 × LeavesNone world reaches kinds.Sdl shape old new
+        → LacksUpdate world reaches shape old new lists capacity lists lists.sdl.counter
+    no_copy new room did = unwritten new did.0.alone room did.0 did.1
+
+    pub growing_stopped : (new : M) (stop : Stop) → lists.sdl.counter < LAST_COUNTER
+        → StoppedWithin world reaches kinds.Sdl shape old new 8 stop × MayLeaveCopies world reaches kinds.Sdl shape old new (SdlValue (lists_grown shape lists capacity).sdl)
+        → StopsGrowing world reaches shape old new lists capacity lists stop
+    growing_stopped new stop room did = halted new did.0.alone stop room did.0 (left_between new did.0.alone did.1)

@@ -1,0 +1,101 @@
+-- What an expansion does, by its answer: for `grow` and `expand_lists`.
+use Rattle.std.specs.Prelude.{◌≡◌, ℕ, ◌<◌, ◌==◌, ◌⊎◌, if◌then◌else◌, true, IsTrue, List, [], ◌∷◌}
+use Rattle.model_geometry.specs.Geometry.{Shape, sdl_block}
+use Rattle.model_medium.specs.World.{World}
+use Rattle.model_stops.specs.declared.Stop.{Stop}
+use Rattle.model_stops.specs.declared.Stop.TheVariants as stops
+use Rattle.model_copies.specs.Copies.{AllLost}
+use Rattle.model_places.specs.Places.{Lists}
+use Rattle.model_volume.specs.Given.{AreSettled, IsGiven}
+use Rattle.model_volume.specs.Covers.{FitsUnder, Cover}
+use Rattle.model_volume.specs.Expansions.{lists_expanded}
+use Rattle.model_drive.specs.declared.TheConstants.{LAST_COUNTER}
+use Rattle.model_drive.specs.Repairs.{sdl_update_uses}
+use Rattle.model_drive.specs.Expands.{ssa_for, shortened}
+use Rattle.ram_zones.specs.declared.list_kind.ListKind.TheVariants as kinds
+use Rattle.ram_copies.specs.Calls.{CallEnds, StoppedWithin}
+use Rattle.ram_expand.specs.Sizes.{IsLawfulCapacity, IsPresent, IsSmaller}
+use Rattle.ram_expand.specs.declared.expanding.ExpandEnd.{ExpandEnd}
+use Rattle.ram_expand.specs.declared.expanding.ExpandEnd.TheVariants as ends
+
+-- The lists where the supplementary spare area has grown until this capacity is left. (This project's own, as all here.)
+abbrev pub lists_grown : Shape → Lists → (capacity : ℕ) → Lists
+lists_grown shape lists capacity = lists_expanded shape lists (ssa_for shape capacity)
+
+module _ {M : Type 0} (world : M → World) (reaches : M → M → ℕ → Type 0) (shape : Shape) (old new : M) (lists : Lists) (capacity : ℕ)
+    (lists' : Lists) where
+  -- nothing was done, and the lists are as before
+  pub record DoesNothing : Type 0 where
+    pub nothing : new ≡ old
+    pub same : lists' ≡ lists
+
+  -- The power was on, and the disc has the capacity already.
+  pub record KeepsSize : Type 0 where
+    pub size : IsPresent shape lists capacity
+    pub ended : CallEnds world reaches kinds.Sdl shape old new 0
+    pub does : DoesNothing
+
+  -- The power was on, and the disc cannot have the capacity.
+  pub record RefusesCapacity : Type 0 where
+    pub was_on : IsTrue (world old).power
+    pub unlawful : ¬ IsLawfulCapacity shape lists capacity
+    pub does : DoesNothing
+
+  -- The area has grown: the lists are the new ones, each of their copies is exactly its text or dead, and one of the
+  -- secondary list can be read. Of a disc that fitted before the first sectors fit.
+  pub record HasGrown : Type 0 where
+    pub size : IsSmaller shape lists capacity
+    pub room : lists.sdl.counter < LAST_COUNTER
+    pub ended : CallEnds world reaches kinds.Sdl shape old new (sdl_update_uses lists.sdl)
+    pub lists_are : lists' ≡ lists_grown shape lists capacity
+    pub settled : AreSettled shape (world new).cells lists'
+    pub has_copy : (world old).known ≡ true → ¬ AllLost (sdl_block shape) (world new).cells
+    pub makes : (disc : List ℕ) → FitsUnder shape (world old).cells lists disc
+        → FitsUnder shape (world new).cells lists' (shortened capacity disc)
+
+  -- The copies of the secondary list are all dead, or its counter, which is told, stands at its end and none was written.
+  -- The lists and the disc are as before.
+  pub record LacksUpdate (counter : ℕ) : Type 0 where
+    pub size : IsSmaller shape lists capacity
+    pub counter_is : counter ≡ lists.sdl.counter
+    pub cause : AllLost (sdl_block shape) (world new).cells ⊎ (counter ≡ LAST_COUNTER)
+    pub ended : CallEnds world reaches kinds.Sdl shape old new (if counter == LAST_COUNTER then 0 else sdl_update_uses lists.sdl)
+    pub same : lists' ≡ lists
+    pub settled : AreSettled shape (world new).cells lists
+    pub keeps : (disc : List ℕ) → FitsUnder shape (world old).cells lists disc
+        → FitsUnder shape (world new).cells lists disc
+
+  -- It was stopped in the update, for a cause that its count shows. The lists in memory are as before; the cells give those
+  -- or the new ones, and no others, and the disc or its first sectors fit under them.
+  pub record StopsGrowing (stop : Stop) : Type 0 where
+    pub size : IsSmaller shape lists capacity
+    pub room : lists.sdl.counter < LAST_COUNTER
+    pub stopped : StoppedWithin world reaches kinds.Sdl shape old new (sdl_update_uses lists.sdl) stop
+    pub same : lists' ≡ lists
+    pub given : (other : Lists) → IsGiven shape (world new).cells other
+        → (other ≡ lists) ⊎ (other ≡ lists_grown shape lists capacity)
+    pub covers : (disc : List ℕ) → FitsUnder shape (world old).cells lists disc
+        → Cover shape (world new).cells (disc ∷ shortened capacity disc ∷ [])
+
+  -- the power was off
+  pub record FindsOff : Type 0 where
+    pub off : ¬ IsTrue (world old).power
+    pub does : DoesNothing
+
+  -- what it does to a disc of a greater capacity, with the power on
+  abbrev pub GrowRule : ExpandEnd → Type 0
+  GrowRule ends.Good = HasGrown
+  GrowRule ends.Refused = ⊥
+  GrowRule (ends.NoUpdate counter) = LacksUpdate counter
+  GrowRule ends.Cut = StopsGrowing stops.Cut
+  GrowRule ends.Off = ⊥
+  GrowRule ends.Fault = StopsGrowing stops.Fault
+
+  -- what an expansion does, by its answer
+  abbrev pub ExpandRule : ExpandEnd → Type 0
+  ExpandRule ends.Good = KeepsSize ⊎ HasGrown
+  ExpandRule ends.Refused = RefusesCapacity
+  ExpandRule (ends.NoUpdate counter) = LacksUpdate counter
+  ExpandRule ends.Cut = StopsGrowing stops.Cut
+  ExpandRule ends.Off = FindsOff
+  ExpandRule ends.Fault = StopsGrowing stops.Fault

@@ -1,0 +1,49 @@
+//! Which capacities a disc may have after an expansion.
+
+ghost use Rattle.std.specs.Prelude.{◌≡◌, ◌+◌, ◌/◌, ◌≤◌, length};
+ghost use Rattle.model_geometry.specs.Geometry.{IsLawful, data_blocks};
+ghost use Rattle.model_places.specs.Valid.{AreValid};
+ghost use Rattle.model_drive.specs.Expands.{ssa_for};
+ghost use Rattle.ram_lists.specs.Lists.{lists_of};
+ghost use Rattle.ram_expand.specs.Sizes.{SizeRule};
+
+use ram_lists::Lists;
+use ram_zones::{Geometry, MOST_SPARES};
+
+/// What a capacity is to a disc.
+#[derive(Clone, Copy)]
+pub enum Size {
+    /// The disc cannot have it.
+    Unlawful,
+    /// It has just this one.
+    Present,
+    /// It has a greater one, and can have this.
+    Smaller,
+}
+
+/// The size of the supplementary spare area that leaves so many sectors, in blocks.
+pub fn area_for(geometry: &Geometry, capacity: u32) -> u32
+    requires { geometry.now.psa + capacity / 16 ≤ length (data_blocks geometry.now) }
+    ensures area { result ≡ ssa_for geometry.now capacity }
+    ensures lawful { IsLawful geometry.now }
+{
+    geometry.data_blocks() - geometry.psa() - capacity / 16
+}
+
+/// What a capacity in sectors is to the disc of these lists.
+pub fn size_of(geometry: &Geometry, lists: &Lists, capacity: u32) -> Size
+    requires { AreValid geometry.now (lists_of lists.now) }
+    ensures { SizeRule geometry.now (lists_of lists.now) capacity result }
+{
+    let present = (geometry.data_blocks() - geometry.psa() - lists.sdl.ssa) * 16;
+    if capacity == present {
+        return Size::Present;
+    }
+    if capacity == 0 || capacity % 16 != 0 || present < capacity {
+        return Size::Unlawful;
+    }
+    if MOST_SPARES < geometry.psa() + area_for(geometry, capacity) {
+        return Size::Unlawful;
+    }
+    Size::Smaller
+}

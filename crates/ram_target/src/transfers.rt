@@ -1,0 +1,103 @@
+//! Commands that the disc does, and how each of its answers is told.
+
+ghost use Rattle.std.specs.Prelude.{◌≡◌, ◌*◌, ◌≤◌, [], length, vec_capacity};
+ghost use Rattle.model_commands.specs.declared.TheConstants.{TRANSFER_LIMIT};
+ghost use Rattle.model_target.specs.Steps.{read_answer, write_answer, format_answer, IsRead, IsWritten, IsFormatted};
+
+use ram_bytes::SECTOR_BYTES;
+use ram_sectors::{Disc, FormatOut, Kind, ReadOut, Sectors, WriteOut};
+use ram_sense::Answer;
+use ram_sense::codes::{
+    ADDRESS_OUT_OF_RANGE, DEFECT_LIST_UPDATE_FAILURE, FORMAT_COMMAND_FAILED,
+    MEDIUM_FORMAT_CORRUPTED, no_spare_location, unrecovered_read_error,
+};
+use std::alloc::Global;
+
+/// Reads sectors into `data_in`, which stays empty where they are not all read.
+pub fn read<D: Sectors>(disc: &mut D, lba: u32, n: u32, data_in: &mut Vec<u8>) -> Answer
+    requires few { n ≤ TRANSFER_LIMIT }
+    requires empty { data_in.old.items ≡ [] }
+    requires room { 2048 * TRANSFER_LIMIT ≤ vec_capacity data_in.old }
+    ensures rule { IsRead (D.shows disc.old) (D.shows disc.new) (D.stands disc.old) (D.stands disc.new)
+        lba n result data_in.new.items }
+    ensures same_shape { (D.shows disc.new).shape ≡ (D.shows disc.old).shape }
+    ensures room { vec_capacity data_in.old ≤ vec_capacity data_in.new }
+{
+    match data_in.resize(n as usize * SECTOR_BYTES, 0) {
+        Ok(()) => {}
+        Err(_) => unreachable!(),
+    }
+    let out = disc.read(lba, n, data_in);
+    if !matches!(out, ReadOut::Good) {
+        data_in.clear();
+    }
+    read_answer(out)
+}
+
+/// Writes sectors.
+pub fn write<D: Sectors>(disc: &mut D, lba: u32, n: u32, payload: &[u8]) -> Answer
+    requires few { n ≤ TRANSFER_LIMIT }
+    requires whole { length payload.now ≡ 2048 * n }
+    ensures rule { IsWritten (D.shows disc.old) (D.shows disc.new) (D.stands disc.old) (D.stands disc.new)
+        lba n payload.now result [] }
+    ensures same_shape { (D.shows disc.new).shape ≡ (D.shows disc.old).shape }
+{
+    write_answer(disc.write(lba, n, payload))
+}
+
+/// Formats the disc.
+pub fn format<D: Disc>(disc: &mut D, alloc: Global, kind: Kind) -> Answer
+    ensures rule { IsFormatted (D.shows disc.old) (D.shows disc.new) (D.stands disc.old) (D.stands disc.new)
+        kind result [] }
+    ensures same_shape { (D.shows disc.new).shape ≡ (D.shows disc.old).shape }
+{
+    format_answer(disc.format(alloc, kind))
+}
+
+/// How the end of a read is answered.
+fn read_answer(out: ReadOut) -> Answer
+    ensures { result ≡ read_answer out }
+{
+    match out {
+        ReadOut::Good => Answer::Good,
+        ReadOut::NotFormatted => Answer::Check(MEDIUM_FORMAT_CORRUPTED),
+        ReadOut::Range { .. } => Answer::Check(ADDRESS_OUT_OF_RANGE),
+        ReadOut::Unread { lba, .. } => Answer::Check(unrecovered_read_error(lba)),
+        ReadOut::Cut => Answer::Cut,
+        ReadOut::Off => Answer::Off,
+        ReadOut::Fault => Answer::Fault,
+    }
+}
+
+/// How the end of a write is answered.
+fn write_answer(out: WriteOut) -> Answer
+    ensures { result ≡ write_answer out }
+{
+    match out {
+        WriteOut::Good => Answer::Good,
+        WriteOut::NotFormatted => Answer::Check(MEDIUM_FORMAT_CORRUPTED),
+        WriteOut::Range { .. } => Answer::Check(ADDRESS_OUT_OF_RANGE),
+        WriteOut::Unread { lba, .. } => Answer::Check(unrecovered_read_error(lba)),
+        WriteOut::NoSpare { lba } => Answer::Check(no_spare_location(lba)),
+        WriteOut::NoUpdate { .. } => Answer::Check(DEFECT_LIST_UPDATE_FAILURE),
+        WriteOut::Cut => Answer::Cut,
+        WriteOut::Off => Answer::Off,
+        WriteOut::Fault => Answer::Fault,
+    }
+}
+
+/// How the end of a format is answered.
+fn format_answer(out: FormatOut) -> Answer
+    ensures { result ≡ format_answer out }
+{
+    match out {
+        FormatOut::Good => Answer::Good,
+        FormatOut::TooMany { .. } | FormatOut::NoUpdate { .. } => {
+            Answer::Check(FORMAT_COMMAND_FAILED)
+        }
+        FormatOut::Cut => Answer::Cut,
+        FormatOut::Off => Answer::Off,
+        FormatOut::Fault => Answer::Fault,
+        FormatOut::NoMemory => Answer::NoMemory,
+    }
+}

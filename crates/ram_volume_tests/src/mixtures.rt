@@ -1,0 +1,216 @@
+//! The write of a block whose home is dead, with each mixture of dead spares and of copies of the secondary list that are dead
+//! or die in its update. What must come of it is told by rules that know nothing of the drive.
+
+use crate::by_hand::add_area;
+use crate::lines::{joined, make_lines};
+use crate::steps::number_of;
+use std::alloc::{AllocError, Global};
+use std::fmt::Write;
+
+/// The spares of the small disc, in the order in which they are tried, and the blocks of its secondary list.
+const SPARES: [u32; 4] = [12, 11, 10, 9];
+
+const COPIES: [u32; 4] = [1, 3, 34, 36];
+
+/// How many uses a mount takes where all copies are exact.
+const MOUNT: u32 = 16;
+
+/// The small disc, with lists without an entry. The home of its logical block 0 is dead.
+const DISC: &str = "blank 1 1 4\nstructure 1234 2\nlist 1234 1 under 2\nfail 13\n";
+
+/// What is done then, and what of the answers is not told by the mixture.
+const STEPS: &str = "power\nwrite 0 16 aa\npower\ncopies\npower\nread 0 1\n";
+
+const READY: &str = "Ready { capacity: 304 }";
+
+/// The list as it was.
+const NEW: &str = "1 under 2";
+
+/// Which spares are dead, and which copies, by their bits. The copies die in the update, or were dead before.
+#[derive(Clone, Copy)]
+struct Mixture {
+    spares: u32,
+    copies: u32,
+    dying: bool,
+}
+
+/// What must come of the write, and of a read after the next power on: with the list, and how many uses the write takes.
+#[derive(Clone, Copy)]
+struct Wanted {
+    write: &'static str,
+    uses: u32,
+    list: &'static str,
+    read: &'static str,
+}
+
+/// The list after a move past so many dead spares.
+fn moved_past(tried: u32) -> &'static str {
+    match tried {
+        0 => "2 under 2 13>12",
+        1 => "2 under 2 12>none 13>11",
+        2 => "2 under 2 11-12>none 13>10",
+        _ => "2 under 2 10-12>none 13>9",
+    }
+}
+
+/// Adds those numbers whose bit is set, each behind a space and with these words around it.
+fn add_some(
+    text: &mut String,
+    before: &str,
+    numbers: [u32; 4],
+    some: u32,
+    behind: &str,
+) -> Result<(), AllocError> {
+    for (number, bit) in numbers.into_iter().zip([1, 2, 4, 8]) {
+        if some & bit != 0 {
+            writeln!(text, "{before} {number}{behind}")?;
+        }
+    }
+    Ok(())
+}
+
+impl Mixture {
+    /// The mixture of this number, below 496. A disc of which all copies are dead before the write is not formatted, so that
+    /// there are no others.
+    fn of(k: u32) -> Mixture {
+        Mixture {
+            spares: k & 15,
+            copies: (k >> 4) & 15,
+            dying: k < 256,
+        }
+    }
+
+    /// How many spares are tried in vain.
+    fn tried(self) -> u32 {
+        (self.spares & 15).trailing_ones()
+    }
+
+    /// What must come of it: two uses for the home, two for each spare that is tried, eight for the list.
+    fn wanted(self) -> Wanted {
+        let tried = self.tried();
+        let unread = "Unread { lba: 0, block: 13 }";
+        if tried == 4 {
+            return Wanted {
+                write: "NoSpare { lba: 0 }",
+                uses: 10,
+                list: NEW,
+                read: unread,
+            };
+        }
+        let uses = 12 + 2 * tried.min(3);
+        if self.copies == 15 {
+            return Wanted {
+                write: "NoUpdate { counter: 1 }",
+                uses,
+                list: NEW,
+                read: unread,
+            };
+        }
+        Wanted {
+            write: "Good",
+            uses,
+            list: moved_past(tried),
+            read: "Good, aa",
+        }
+    }
+
+    /// In which use the power is cut: the next one after the mount and the write. A copy that was dead before takes two more
+    /// uses of the mount.
+    fn cut(self) -> u32 {
+        let dead = if self.dying {
+            0
+        } else {
+            (self.copies & 15).count_ones()
+        };
+        let uses = self.wanted().uses.min(18);
+        MOUNT + 2 * dead.min(4) + uses + 1
+    }
+
+    /// Adds the steps. A copy that is to die does so at its third use, in the update, or where there is none when it is looked
+    /// at in the end: the choice and the repair of the mount use it before.
+    fn add_steps(self, text: &mut String) -> Result<(), AllocError> {
+        text.push_str(DISC)?;
+        add_some(text, "fail", SPARES, self.spares, "")?;
+        if self.dying {
+            add_some(text, "wear", COPIES, self.copies, " 3")?;
+        } else {
+            add_some(text, "fail", COPIES, self.copies, "")?;
+        }
+        writeln!(text, "cut {} old", self.cut())
+    }
+
+    /// Whether the copy with this bit is dead in the end.
+    fn loses(self, bit: u32) -> bool {
+        self.copies & bit != 0
+    }
+
+    /// What all copies must say in the end.
+    fn copies_text(self, alloc: Global) -> Result<String, AllocError> {
+        let mut text = String::new(alloc);
+        let list = self.wanted().list;
+        let mut before: Option<bool> = None;
+        for (area, bit) in [1, 2, 3, 4].into_iter().zip([1, 2, 4, 8]) {
+            let lost = self.loses(bit);
+            let copy = if lost { "unreadable" } else { list };
+            add_area(before != Some(lost), copy, area, &mut text)?;
+            before = Some(lost);
+        }
+        Ok(text)
+    }
+
+    /// What must be answered from the first power on.
+    fn answers(self, alloc: Global) -> Result<String, AllocError> {
+        let wanted = self.wanted();
+        let copies = self.copies_text(alloc)?;
+        let (found, read) = if self.copies == 15 {
+            ("NotFormatted", "NotFormatted")
+        } else {
+            (READY, wanted.read)
+        };
+        let write = wanted.write;
+        format!(in alloc; " / {READY} / {write} / Cut / {copies} / {found} / {read}")
+    }
+}
+
+/// Whether a mixture is answered as it must be.
+fn agrees(alloc: Global, mixture: Mixture) -> Result<bool, AllocError> {
+    let mut steps = String::new(alloc);
+    mixture.add_steps(&mut steps)?;
+    let mut answers = Vec::new(alloc);
+    let place = make_lines(alloc, None, steps.as_str(), &mut answers)?;
+    answers.clear();
+    make_lines(alloc, place, STEPS, &mut answers)?;
+    let answers = joined(alloc, &answers)?;
+    let wanted = mixture.answers(alloc)?;
+    Ok(answers.as_str() == wanted.as_str())
+}
+
+/// Makes so many mixtures from this number on, and adds how many are answered as they must be, and the first that is not.
+fn count(alloc: Global, from: u32, n: u32, answers: &mut String) -> Result<(), AllocError> {
+    let mut agreed = 0u32;
+    let mut other: Option<u32> = None;
+    for k in from..from.saturating_add(n) {
+        if agrees(alloc, Mixture::of(k))? {
+            agreed = agreed.saturating_add(1);
+        } else {
+            other = other.or(Some(k));
+        }
+    }
+    writeln!(answers, "{agreed} of {n} as they must be")?;
+    match other {
+        Some(k) => writeln!(answers, "not {k}"),
+        None => Ok(()),
+    }
+}
+
+/// Makes the mixtures of a row `mixtures FROM COUNT`, of which these are the last words.
+pub fn answer_mixtures(alloc: Global, words: &str, answers: &mut String) -> Result<(), AllocError> {
+    let numbers = match words.split_once(' ') {
+        Some((from, n)) => number_of(from).zip(number_of(n)),
+        None => None,
+    };
+    match numbers {
+        Some((from, n)) => count(alloc, from, n, answers),
+        None => answers.push_str("no such mixtures\n"),
+    }
+}

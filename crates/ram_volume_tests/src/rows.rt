@@ -1,0 +1,32 @@
+//! A row: its steps one after another, each with its answer, or one of the kinds of rows that have no steps.
+
+use crate::cuts::answer_each;
+use crate::lines::make_lines;
+use crate::mixtures::answer_mixtures;
+use crate::random::answer_random;
+use std::alloc::{AllocError, Global};
+use std::fmt::Write;
+
+/// Adds the answer of each line, with its number.
+fn answer_lines(alloc: Global, lines: &str, answers: &mut String) -> Result<(), AllocError> {
+    let mut each = Vec::new(alloc);
+    make_lines(alloc, None, lines, &mut each)?;
+    for (k, answer) in each.iter().enumerate() {
+        writeln!(answers, "{} {answer}", k.saturating_add(1))?;
+    }
+    Ok(())
+}
+
+/// Adds the answers of a row.
+pub fn answer_row(alloc: Global, row: &str, answers: &mut String) -> Result<(), AllocError> {
+    if let Some(words) = row.strip_prefix("mixtures ") {
+        return answer_mixtures(alloc, words.trim(), answers);
+    }
+    if let Some(words) = row.strip_prefix("random ") {
+        return answer_random(alloc, words.trim(), answers);
+    }
+    match row.split_once("cut each ") {
+        Some((before, behind)) => answer_each(alloc, before, behind, answers),
+        None => answer_lines(alloc, row, answers),
+    }
+}
