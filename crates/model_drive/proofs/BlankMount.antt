@@ -60,7 +60,7 @@ blank_mount = record {
   repaired = refl;
   ends = record {
     reach = record {
-      lasts = record { as_known = refl; counts = refl; no_fault = refl; stays_dead = λ block dead. dead };
+      lasts = record { same_label = refl; as_known = refl; counts = refl; no_fault = refl; stays_dead = λ block dead. dead };
       off_is_still = λ off. absurd (off refl);
       dies_by_arm = λ block dead. inl dead;
       arms = tt;

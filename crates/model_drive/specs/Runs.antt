@@ -1,7 +1,7 @@
 -- What a run keeps of a drive between two lines, and what it begins with when an image is opened. (This project's own, as
 -- all here.)
 use Rattle.std.specs.Prelude.{◌≡◌, ℕ, true, false, None, List, []}
-use Rattle.model_geometry.specs.Geometry.{Shape}
+use Rattle.model_geometry.specs.Geometry.{Shape, label_of}
 use Rattle.model_medium.specs.Cells.{Cell}
 use Rattle.model_sectors.specs.Discs.{Standing}
 use Rattle.model_volume.specs.Starts.{Found, IsDiscStart}
@@ -21,7 +21,7 @@ abbrev pub opened_drive : Shape → List Cell → (faults : ℕ) → Shown
 opened_drive shape cells faults = record {
   shape = shape;
   medium = record {
-    world = record { known = true; cells = cells; power = false; uses = 0; cuts = 0; faults = faults };
+    world = record { label = label_of shape; known = true; cells = cells; power = false; uses = 0; cuts = 0; faults = faults };
     arms = [];
     cut = None;
   };

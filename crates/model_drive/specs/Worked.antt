@@ -1,5 +1,6 @@
 -- Small drives, of a disc with one zone and four primary spares: for the worked numbers.
 use Rattle.std.specs.Prelude.{ℕ, true, Option, None, List, []}
+use Rattle.model_geometry.specs.Geometry.{label_of}
 use Rattle.model_medium.specs.Cells.{Cell}
 use Rattle.model_places.specs.Places.{Lists}
 use Rattle.model_volume.specs.Samples.{small_shape}
@@ -10,7 +11,7 @@ abbrev pub small_drive : List Cell → Option Lists → (mark uses : ℕ) → Sh
 small_drive cells lists mark uses = record {
   shape = small_shape;
   medium = record {
-    world = record { known = true; cells = cells; power = true; uses = uses; cuts = 0; faults = 0 };
+    world = record { label = label_of small_shape; known = true; cells = cells; power = true; uses = uses; cuts = 0; faults = 0 };
     arms = [];
     cut = None;
   };

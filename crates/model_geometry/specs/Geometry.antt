@@ -1,5 +1,5 @@
 -- A disc's geometry: its zones, guards and data blocks, and the blocks of its lists: for all that counts blocks.
-use Rattle.std.specs.Prelude.{◌≡◌, ℕ, zero, suc, ◌+◌, ◌-◌, ◌*◌, ◌<◌, ◌≤◌, Bool, ◌&&◌, nat_lt, ◌==◌, if◌then◌else◌, List, length, Option, Some, MatchOption, slice_get}
+use Rattle.std.specs.Prelude.{◌≡◌, ℕ, zero, suc, ◌+◌, ◌-◌, ◌*◌, ◌<◌, ◌≤◌, Bool, ◌&&◌, nat_lt, ◌==◌, if◌then◌else◌, List, [], ◌∷◌, length, Option, Some, MatchOption, slice_get}
 use Rattle.model_geometry.specs.declared.TheConstants.{MOST_ZONES, MOST_SCALE, MOST_SPARES}
 use Rattle.std.specs.List.{range_with_len, filter, list_any, Contains}
 
@@ -18,6 +18,10 @@ pub record Shape : Type 0 where
 -- the geometry of these three numbers
 abbrev pub shape_of : ℕ → ℕ → ℕ → Shape
 shape_of z k p = record { zones = z; scale = k; psa = p; layout = OneGroup }
+
+-- the label of a disc of this geometry: its three numbers (this project's own)
+abbrev pub label_of : Shape → List ℕ
+label_of shape = shape.zones ∷ shape.scale ∷ shape.psa ∷ []
 
 -- Zone z, counted from 0, has so many blocks: later zones are larger. (This project's own, after the zones of ECMA-330.)
 abbrev pub zone_blocks : Shape → ℕ → ℕ

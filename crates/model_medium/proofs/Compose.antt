@@ -16,7 +16,7 @@ counted-then : (n j k : ℕ) → counted (counted n j) k ≡ counted n (j + k)
 counted-then n j k = omega arith
 
 lasts_none : (world : World) → Lasts world world 0
-lasts_none world = record { as_known = refl; counts = sym (counted-none world.uses); no_fault = refl; stays_dead = λ block e. e }
+lasts_none world = record { same_label = refl; as_known = refl; counts = sym (counted-none world.uses); no_fault = refl; stays_dead = λ block e. e }
 
 no_cut_none : (world : World) → NoCutCame world world
 no_cut_none world = record { power_same = refl; no_cut = refl; stays_good = λ block h. good_or_dead-good (cell_at world.cells block) h }
@@ -35,6 +35,7 @@ reach_none machine to_come = record {
 
 lasts_then : (a b c : World) (j k : ℕ) → Lasts a b j → Lasts b c k → Lasts a c (j + k)
 lasts_then a b c j k one two = record {
+  same_label = two.same_label ∙ one.same_label;
   as_known = two.as_known ∙ one.as_known;
   counts = two.counts ∙ ap (λ n. counted n k) one.counts ∙ counted-then a.uses j k;
   no_fault = two.no_fault ∙ one.no_fault;

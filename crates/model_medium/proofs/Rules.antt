@@ -53,6 +53,7 @@ module _ (old new : Machine) (block : ℕ) where
         → new ≡ record (begun block old) { world = record (begun block old).world { cells = cells; power = power; cuts = cuts } } → Used old new block change
     used_by change cells power cuts is x = record {
       was_on = was_on;
+      same_label = ap (λ m. m.world.label) x;
       as_known = ap (λ m. m.world.known) x;
       counts = ap (λ m. m.world.uses) x;
       no_fault = ap (λ m. m.world.faults) x;
@@ -107,6 +108,7 @@ module _ (old new : Machine) (block : ℕ) where
     is_use : Used old new block change → IsUse old.world new.world block
     is_use used = record {
       was_on = used.was_on;
+      same_label = used.same_label;
       as_known = used.as_known;
       counts = used.counts;
       others = cell_other old new block change used tame;

@@ -13,6 +13,7 @@ use Rattle.model_medium.proofs.Arms.{worn_within-killed, worn_by-one, cut_stands
 -- A use of a block, after which its cell is what this change makes of it.
 pub record Used (old new : Machine) (block : ℕ) (change : Cell → Cell) : Type 0 where
   pub was_on : IsTrue old.world.power
+  pub same_label : new.world.label ≡ old.world.label
   pub as_known : new.world.known ≡ old.world.known
   pub counts : new.world.uses ≡ counted old.world.uses 1
   pub no_fault : new.world.faults ≡ old.world.faults
@@ -77,7 +78,7 @@ module _ (old new : Machine) (block : ℕ) (change : Cell → Cell) (used : Used
   ]
 
   lasts_one : Lasts old.world new.world 1
-  lasts_one = record { as_known = used.as_known; counts = used.counts; no_fault = used.no_fault; stays_dead = dead_stays }
+  lasts_one = record { same_label = used.same_label; as_known = used.as_known; counts = used.counts; no_fault = used.no_fault; stays_dead = dead_stays }
 
   arms_one : WornBy 1 new.world.cells old.arms new.arms
   arms_one = subst (WornBy 1 new.world.cells old.arms) (sym used.arms) (worn_by-one block new.world.cells old.arms killed_here)

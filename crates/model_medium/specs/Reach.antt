@@ -7,9 +7,10 @@ use Rattle.model_medium.specs.Machine.{Machine}
 use Rattle.model_medium.specs.declared.WornBlock.{WornBlock}
 use Rattle.model_medium.specs.declared.ArmedCut.{ArmedCut}
 
--- What k uses of any medium keep, none of which failed: they are counted, what is known stays known, no fault is counted,
--- and a dead cell stays dead. (This project's own, as all here.)
+-- What k uses of any medium keep, none of which failed: they are counted, the label stays, what is known stays known, no
+-- fault is counted, and a dead cell stays dead. (This project's own, as all here.)
 pub record Lasts (old new : World) (k : ℕ) : Type 0 where
+  pub same_label : new.label ≡ old.label
   pub as_known : new.known ≡ old.known
   pub counts : new.uses ≡ counted old.uses k
   pub no_fault : new.faults ≡ old.faults

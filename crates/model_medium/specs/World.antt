@@ -8,10 +8,12 @@ use Rattle.model_medium.specs.declared.ReadEnd.TheVariants as reads
 use Rattle.model_medium.specs.declared.WriteEnd.{WriteEnd}
 use Rattle.model_medium.specs.declared.WriteEnd.TheVariants as writes
 
--- All that any medium shows: whether its cells are known, the cells (none where they are not known), whether the power
--- is on, how many uses there were, and how often the power was cut and what the medium lies on has failed. A use is
--- one read or write with the power on, however it ends. (This project's own.)
+-- All that any medium shows: its label, which is numbers that no use changes, whether its cells are known, the cells
+-- (none where they are not known), whether the power is on, how many uses there were, and how often the power was cut
+-- and what the medium lies on has failed. A use is one read or write with the power on, however it ends. (This project's
+-- own.)
 pub record World : Type 0 where
+  pub label : List ℕ
   pub known : Bool
   pub cells : List Cell
   pub power : Bool
@@ -23,10 +25,11 @@ pub record World : Type 0 where
 abbrev pub ShowsNoneUnknown : World → Type 0
 ShowsNoneUnknown world = OnFalse world.known (world.cells ≡ [])
 
--- One use of a block, however it ended: it is counted, no cell but the block's changed, and a dead cell stays dead.
--- (This project's own.)
+-- One use of a block, however it ended: it is counted, the label stays, no cell but the block's changed, and a dead cell
+-- stays dead. (This project's own.)
 pub record IsUse (old new : World) (block : ℕ) : Type 0 where
   pub was_on : IsTrue old.power
+  pub same_label : new.label ≡ old.label
   pub as_known : new.known ≡ old.known
   pub counts : new.uses ≡ counted old.uses 1
   pub others : (other : ℕ) → other ≢ block → cell_at new.cells other ≡ cell_at old.cells other

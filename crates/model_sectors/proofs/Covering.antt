@@ -3,19 +3,14 @@ use Rattle.std.proofs.Common.{◌≡◌, ℕ, zero, suc, ◌+◌, ◌-◌, ◌*�
 use Rattle.std.specs.Prelude.{◌/◌, ◌==◌, ◌||◌, if◌then◌else◌, cond, not, Bool, true, false, IsTrue, Option, Some, None, map}
 use Rattle.std.specs.Option.{option_map, is_some}
 use Rattle.std.specs.List.{filter, find, list_any}
-use Rattle.std.proofs.lemmas.Bool.{cases_eq, cases_Bool, both_ways, ltb-true, ltb-false, lt-ltb, eqb-true, eq-eqb, ne_eqb, cond-true, cond-false, or_cases, or_left, or_right, not_from_false, false_from_ne_true}
+use Rattle.std.proofs.lemmas.Bool.{cases_eq, cases_Bool, both_ways, ltb-false, eqb-true, eq-eqb, ne_eqb, cond-true, cond-false, or_cases, or_left, or_right, not_from_false, false_from_ne_true}
 use Rattle.std.proofs.lemmas.List.{take_all, length-take, take-map}
 use Rattle.model_buffer.specs.Buffer.{bytes_at, with_newest, numbers_in, touched_one}
 use Rattle.model_buffer.specs.declared.TheConstants.{BUFFERED_BLOCKS}
-use Rattle.model_bytes.specs.Bytes.{put_at}
 use Rattle.model_sectors.specs.Discs.{replaced}
 use Rattle.model_sectors.specs.Requests.{block_with, blocks_covered, start_in, end_in, is_partly, HoldsSector}
 use Rattle.model_sectors.specs.Uses.{touched_from, is_buffered, is_at_hand, read_uses}
-use Rattle.model_sectors.proofs.Pieces.{replaced_none, replaced_all, replaced_empty}
-
--- a request for nothing covers no block
-pub covers_none : (lba : ℕ) → blocks_covered lba 0 ≡ 0
-covers_none lba = refl
+use Rattle.model_sectors.proofs.Pieces.{replaced_none}
 
 -- a request for something covers the blocks from its first sector's to its last one's
 pub covers_some : (lba n : ℕ) → 0 < n → blocks_covered lba n ≡ (lba + n - 1) / 16 + 1 - lba / 16
@@ -34,10 +29,6 @@ some_covered lba n k covered = elim (cases_eq n 0) [
 -- the block of the first sector begins at it or before it
 pub block_with_before : (lba : ℕ) → 16 * block_with lba ≤ lba
 block_with_before lba = omega arith
-
--- the block of the first sector ends behind it
-pub block_with_after : (lba : ℕ) → lba < 16 * block_with lba + 16
-block_with_after lba = omega arith
 
 -- a covered block begins before the end of the request
 pub covered_before : (lba n k : ℕ) → k < blocks_covered lba n → 16 * (block_with lba + k) < lba + n
@@ -80,33 +71,6 @@ pub covered_holds : (lba n k : ℕ) → k < blocks_covered lba n → HoldsSector
 covered_holds lba n k covered =
     let some = covered_part lba n k covered in
     (start_in lba (block_with lba + k), omega arith, omega arith, block_with_start lba n k covered)
-
--- in the first covered block the request begins at its first sector
-pub start_first : (lba : ℕ) → start_in lba (block_with lba) ≡ lba
-start_first lba = omega arith
-
--- in the next covered block the request goes on where it ended in this one
-pub start_next : (lba n k : ℕ) → k + 1 < blocks_covered lba n → start_in lba (block_with lba + (k + 1)) ≡ end_in lba n (block_with lba + k)
-start_next lba n k covered =
-    let before = covered_before lba n (k + 1) covered in
-    let after = covered_after lba n k (omega arith) in
-    omega arith
-
--- in the last covered block the request ends
-pub end_last : (lba n k : ℕ) → k + 1 ≡ blocks_covered lba n → end_in lba n (block_with lba + k) ≡ lba + n
-end_last lba n k last =
-    let some = some_covered lba n k (omega arith) in
-    let all = covered_all lba n some in
-    let there : 16 * (block_with lba + blocks_covered lba n) ≡ 16 * (block_with lba + k) + 16 = omega arith in
-    omega arith
-
--- a block that is covered in part has less than sixteen sectors of the request
-pub partly_few : (lba n block : ℕ) → IsTrue (is_partly lba n block) → end_in lba n block - start_in lba block < 16
-partly_few lba n block partly = ltb-true (end_in lba n block - start_in lba block) 16 partly
-
--- a block with less than sixteen sectors of the request is covered in part
-pub few_partly : (lba n block : ℕ) → end_in lba n block - start_in lba block < 16 → IsTrue (is_partly lba n block)
-few_partly lba n block few = lt-ltb (end_in lba n block - start_in lba block) 16 few
 
 -- a block that is not covered in part begins and ends in the request
 pub wholly_start : (lba n block : ℕ) → ¬ IsTrue (is_partly lba n block) → start_in lba block ≡ 16 * block
@@ -296,11 +260,6 @@ none_mapped : {X Y : Type 0} (f : X → Y) (o : Option X) → option_map f o ≡
 none_mapped f None h = refl
 none_mapped f (Some x) h = absurd (none_is_not_some (sym h))
 
--- what is something is so after a change
-mapped_some : {X Y : Type 0} (f : X → Y) (o : Option X) → is_some o ≡ true → (y : Y) × (option_map f o ≡ Some y)
-mapped_some f None h = absurd (both_ways false refl h)
-mapped_some f (Some x) h = (f x, refl)
-
 -- a block whose bytes the buffer has is buffered
 pub bytes_at_some : (i : ℕ) (buffer : List (ℕ × List ℕ)) (bytes : List ℕ) → bytes_at i buffer ≡ Some bytes → IsTrue (is_buffered (numbers_in buffer) i)
 bytes_at_some i buffer bytes h =
@@ -311,10 +270,6 @@ bytes_at_some i buffer bytes h =
 pub bytes_at_none : (i : ℕ) (buffer : List (ℕ × List ℕ)) → bytes_at i buffer ≡ None → ¬ IsTrue (is_buffered (numbers_in buffer) i)
 bytes_at_none i buffer h = λ here. both_ways (is_buffered (numbers_in buffer) i)
     (sym (is_some-found i buffer) ∙ ap is_some (none_mapped (λ (held : ℕ × List ℕ). held.1) (find (λ held. held.0 == i) buffer) h)) here
-
--- the buffer has the bytes of a block that is buffered
-pub bytes_at_buffered : (i : ℕ) (buffer : List (ℕ × List ℕ)) → IsTrue (is_buffered (numbers_in buffer) i) → (bytes : List ℕ) × (bytes_at i buffer ≡ Some bytes)
-bytes_at_buffered i buffer h = mapped_some (λ (held : ℕ × List ℕ). held.1) (find (λ held. held.0 == i) buffer) (is_some-found i buffer ∙ h)
 
 -- one more of a buffer, kept or not, and its number
 numbers_step : (b : Bool) (x : ℕ × List ℕ) (xs : List (ℕ × List ℕ)) (ys : List ℕ) → map (λ held. held.0) xs ≡ ys
@@ -338,87 +293,6 @@ numbers_in_room room i bytes buffer =
 pub numbers_in-with_newest : (i : ℕ) (bytes : List ℕ) (buffer : List (ℕ × List ℕ)) → numbers_in (with_newest i bytes buffer) ≡ touched_one (numbers_in buffer) i
 numbers_in-with_newest i bytes buffer = numbers_in_room BUFFERED_BLOCKS i bytes buffer
 
--- a front is at most as long as was asked
-length-take-le_room : {X : Type 0} (room : ℕ) (xs : List X) → length (take room xs) ≤ room
-length-take-le_room room xs = omega (arith, length-take room xs)
-
--- a buffer has at most as many blocks as it has room for
-pub length_with_newest : (i : ℕ) (bytes : List ℕ) (buffer : List (ℕ × List ℕ)) → length (with_newest i bytes buffer) ≤ BUFFERED_BLOCKS
-length_with_newest i bytes buffer = length-take-le_room BUFFERED_BLOCKS ((i, bytes) ∷ filter (λ held. not (held.0 == i)) buffer)
-
--- the numbers after a use are at most as many as there is room for
-pub length_touched_one : (b : List ℕ) (i : ℕ) → length (touched_one b i) ≤ BUFFERED_BLOCKS
-length_touched_one b i = length-take-le_room BUFFERED_BLOCKS (i ∷ filter (λ other. not (other == i)) b)
-
--- the same after uses of so many blocks
-pub length_touched_from : (b : List ℕ) (first k : ℕ) → length b ≤ BUFFERED_BLOCKS → length (touched_from b first k) ≤ BUFFERED_BLOCKS
-length_touched_from b first zero few = few
-length_touched_from b first (suc k) few = length_touched_one (touched_from b first k) (first + k)
-
--- what is found among the first ones is found among all
-find-take : {X : Type 0} (p : X → Bool) (n : ℕ) (xs : List X) (x : X) → find p (take n xs) ≡ Some x → find p xs ≡ Some x
-find-take p zero xs x h = absurd (none_is_not_some h)
-find-take p (suc n) [] x h = h
-find-take p (suc n) (y ∷ ys) x h = elim (cases_Bool (p y)) [
-  | inl here ↦ cond-true (p y) (Some y) (find p ys) here ∙ sym (cond-true (p y) (Some y) (find p (take n ys)) here) ∙ h
-  | inr not_here ↦ cond-false (p y) (Some y) (find p ys) not_here
-      ∙ find-take p n ys x (sym (cond-false (p y) (Some y) (find p (take n ys)) not_here) ∙ h)
-]
-
--- what passes a test and another is found among those that pass the other
-find-filter : {X : Type 0} (p q : X → Bool) (xs : List X) → ((x : X) → p x ≡ true → q x ≡ true) → find p (filter q xs) ≡ find p xs
-find-filter {X = X} p q [] both = refl
-find-filter {X = X} p q (x ∷ xs) both = elim (cases_Bool (q x)) [
-  | inl passes ↦ ap (find p) (cond-true (q x) (x ∷ filter q xs) (filter q xs) passes)
-      ∙ ap (λ (o : Option X). cond (p x) (Some x) o) (find-filter p q xs both)
-  | inr fails ↦ ap (find p) (cond-false (q x) (x ∷ filter q xs) (filter q xs) fails)
-      ∙ find-filter p q xs both
-      ∙ sym (cond-false (p x) (Some x) (find p xs) (false_from_ne_true (p x) (λ here. both_ways (q x) fails (both x here))))
-]
-
--- what the buffer has after a use, in any room
-bytes_in_room : (room i j : ℕ) (bytes : List ℕ) (buffer : List (ℕ × List ℕ)) (found : List ℕ)
-    → bytes_at j (take room ((i, bytes) ∷ filter (λ held. not (held.0 == i)) buffer)) ≡ Some found → ((j ≡ i) × (found ≡ bytes)) ⊎ (bytes_at j buffer ≡ Some found)
-bytes_in_room room i j bytes buffer found h =
-    let rest : List (ℕ × List ℕ) = filter (λ held. not (held.0 == i)) buffer in
-    let held = some_mapped (λ (held : ℕ × List ℕ). held.1) (find (λ held. held.0 == j) (take room ((i, bytes) ∷ rest))) found h in
-    let all : find (λ held. held.0 == j) ((i, bytes) ∷ rest) ≡ Some held.0 = find-take (λ held. held.0 == j) room ((i, bytes) ∷ rest) held.0 held.1 in
-    elim (cases_Bool (i == j)) [
-      | inl same ↦
-          let one : (i, bytes) ≡ held.0 = same_in_some (sym (cond-true (i == j) (Some (i, bytes)) (find (λ held. held.0 == j) rest) same) ∙ all) in
-          inl (sym (eqb-true i j same), sym held.2 ∙ sym (ap (λ (x : ℕ × List ℕ). x.1) one))
-      | inr other ↦
-          inr (ap (option_map (λ (held : ℕ × List ℕ). held.1))
-          (sym (find-filter (λ held. held.0 == j) (λ held. not (held.0 == i)) buffer
-          (λ x e. not_from_false (x.0 == i) (ne_eqb x.0 i (λ d. both_ways (i == j) other (eq-eqb i j (sym d ∙ eqb-true x.0 j e))))))
-          ∙ sym (cond-false (i == j) (Some (i, bytes)) (find (λ held. held.0 == j) rest) other) ∙ all)
-          ∙ ap Some held.2)
-    ]
-
--- what the buffer has after a use is what was used or what it had
-pub bytes_at-with_newest : (i j : ℕ) (bytes : List ℕ) (buffer : List (ℕ × List ℕ)) (found : List ℕ) → bytes_at j (with_newest i bytes buffer) ≡ Some found
-    → ((j ≡ i) × (found ≡ bytes)) ⊎ (bytes_at j buffer ≡ Some found)
-bytes_at-with_newest i j bytes buffer found h = bytes_in_room BUFFERED_BLOCKS i j bytes buffer found h
-
--- the block that was used last is there, in any room
-used_in_room : (room i : ℕ) (bytes : List ℕ) (buffer : List (ℕ × List ℕ)) → 0 < room → bytes_at i (take room ((i, bytes) ∷ filter (λ held. not (held.0 == i)) buffer)) ≡ Some bytes
-used_in_room zero i bytes buffer some = absurd (omega arith)
-used_in_room (suc room) i bytes buffer some =
-    ap (option_map (λ (held : ℕ × List ℕ). held.1))
-    (cond-true (i == i) (Some (i, bytes)) (find (λ held. held.0 == i) (take room (filter (λ held. not (held.0 == i)) buffer))) (eq-eqb i i refl))
-
--- the buffer has the bytes of the block that was used last
-pub bytes_at_used : (i : ℕ) (bytes : List ℕ) (buffer : List (ℕ × List ℕ)) → bytes_at i (with_newest i bytes buffer) ≡ Some bytes
-bytes_at_used i bytes buffer = used_in_room BUFFERED_BLOCKS i bytes buffer (omega arith)
-
 -- before the first covered block nothing is replaced
 pub replaced_first : (d : List ℕ) (lba : ℕ) (bytes : List ℕ) → replaced d lba bytes (block_with lba) ≡ d
 replaced_first d lba bytes = replaced_none d lba bytes (block_with lba) (block_with_before lba)
-
--- after the last covered block the whole request is replaced
-pub replaced_covered : (d : List ℕ) (lba n : ℕ) (bytes : List ℕ) → length bytes ≡ 2048 * n
-    → replaced d lba bytes (block_with lba + blocks_covered lba n) ≡ put_at (2048 * lba) bytes d
-replaced_covered d lba n bytes whole = elim (cases_eq n 0) [
-  | inl e ↦ replaced_empty d lba bytes (block_with lba + blocks_covered lba n) (omega arith)
-  | inr ne ↦ replaced_all d lba n bytes (block_with lba + blocks_covered lba n) whole (covered_all lba n (omega arith))
-]

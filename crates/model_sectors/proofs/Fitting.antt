@@ -1,4 +1,4 @@
--- Which discs fit what a drive shows.
+-- When a cell agrees with the bytes of a block, and what the disc that a drive begins with has in each block.
 use Rattle.std.proofs.Common.{◌≡◌, ℕ, zero, suc, ◌+◌, ◌*◌, ◌<◌, ◌⊎◌, inl, inr, List, [], ◌∷◌, ◌++◌, length, take, drop, slice_index, refl, sym, ◌∙◌, ap, subst, arith, length-append}
 use Rattle.std.specs.Prelude.{flat_map, bytes_eq}
 use Rattle.std.proofs.lemmas.Bool.{cases_eq, cases_Bool, both_ways}
@@ -6,7 +6,7 @@ use Rattle.std.proofs.lemmas.Slice.Eq.{bytes_eq-Decides}
 use Rattle.std.proofs.lemmas.List.{take_at, drop_at, drop-drop, length-replicate}
 use Rattle.std.proofs.Math.Nat.{mul-suc}
 use Rattle.model_medium.specs.Cells.{Cell, Blank, Good, Torn, Dead, IsGood, cell_at}
-use Rattle.model_sectors.specs.Discs.{Shown, Fits, SomeFits, IsFirstFit, Agrees, block_of, home_cell, zeros, bytes_or_zeros, first_disc}
+use Rattle.model_sectors.specs.Discs.{Agrees, block_of, zeros, bytes_or_zeros, first_disc}
 
 -- what can be decided at each number can be decided of all below one
 pub decided_below : (P : ℕ → Type 0) → ((i : ℕ) → P i ⊎ ¬ P i) → (n : ℕ) → ((i : ℕ) → i < n → P i) ⊎ ¬ ((i : ℕ) → i < n → P i)
@@ -33,79 +33,12 @@ agrees_decided (Good held) bytes = same_decided held bytes
 agrees_decided Torn bytes = inl tt
 agrees_decided Dead bytes = inl tt
 
--- whether a disc fits can be decided
-pub fits_decided : (shown : Shown) (d : List ℕ) → Fits shown d ⊎ ¬ Fits shown d
-fits_decided shown d = elim (cases_eq (length d) (32768 * length shown.homes)) [
-  | inl long ↦ elim (decided_below (λ i. Agrees (home_cell shown i) (block_of d i)) (λ i. agrees_decided (home_cell shown i) (block_of d i)) (length shown.homes)) [
-    | inl all ↦ inl (record { as_long = long; agrees = all })
-    | inr fails ↦ inr (λ fits. fails fits.agrees)
-  ]
-  | inr other ↦ inr (λ fits. other fits.as_long)
-]
-
--- of discs one of which fits there is a first that fits
-pub first_fit : (shown : Shown) (discs : List (List ℕ)) → SomeFits shown discs → (d : List ℕ) × IsFirstFit shown discs d × Fits shown d
-first_fit shown [] none = absurd none
-first_fit shown (d ∷ discs) some = elim (fits_decided shown d) [
-  | inl fits ↦ (d, inl (fits, refl), fits)
-  | inr fails ↦ elim some [
-    | inl fits ↦ absurd (fails fits)
-    | inr later ↦ let found = first_fit shown discs later in (found.0, inr (fails, found.1), found.2)
-  ]
-]
-
--- the first that fits does fit
-pub first_fits : (shown : Shown) (discs : List (List ℕ)) (d : List ℕ) → IsFirstFit shown discs d → Fits shown d
-first_fits shown [] d none = absurd none
-first_fits shown (disc ∷ discs) d first = elim first [
-  | inl here ↦ subst (Fits shown) (sym here.1) here.0
-  | inr later ↦ first_fits shown discs d later.1
-]
-
--- one disc alone is the first that fits
-pub first_fit_is_one : (shown : Shown) (discs : List (List ℕ)) (d e : List ℕ) → IsFirstFit shown discs d → IsFirstFit shown discs e → d ≡ e
-first_fit_is_one shown [] d e none other = absurd none
-first_fit_is_one shown (disc ∷ discs) d e first other = elim first [
-  | inl here ↦ elim other [ inl there ↦ here.1 ∙ sym there.1 | inr past ↦ absurd (past.0 here.0) ]
-  | inr later ↦ elim other [ inl there ↦ absurd (later.0 there.0) | inr past ↦ first_fit_is_one shown discs d e later.1 past.1 ]
-]
-
 -- a cell without whole bytes agrees with any
 pub agrees_not_good : (cell : Cell) (bytes : List ℕ) → ¬ IsGood cell → Agrees cell bytes
 agrees_not_good Blank bytes bad = tt
 agrees_not_good (Good held) bytes bad = absurd (bad tt)
 agrees_not_good Torn bytes bad = tt
 agrees_not_good Dead bytes bad = tt
-
--- a disc that fits still does where each home is as it was or has no whole bytes
-pub fits_moved : (old new : Shown) (d : List ℕ) → length new.homes ≡ length old.homes
-    → ((i : ℕ) → i < length old.homes → (home_cell new i ≡ home_cell old i) ⊎ ¬ IsGood (home_cell new i)) → Fits old d → Fits new d
-fits_moved old new d same cells fits = record {
-  as_long = fits.as_long ∙ ap (λ (n : ℕ). 32768 * n) (sym same);
-  agrees = λ i h. let inside : i < length old.homes = omega arith in elim (cells i inside) [
-    | inl e ↦ subst (λ (cell : Cell). Agrees cell (block_of d i)) (sym e) (fits.agrees i inside)
-    | inr bad ↦ agrees_not_good (home_cell new i) (block_of d i) bad
-  ];
-}
-
--- the same where no home moved
-pub fits_kept : (old new : Shown) (d : List ℕ) → new.homes ≡ old.homes
-    → ((i : ℕ) → i < length old.homes → (home_cell new i ≡ home_cell old i) ⊎ ¬ IsGood (home_cell new i)) → Fits old d → Fits new d
-fits_kept old new d same cells fits = fits_moved old new d (ap length same) cells fits
-
--- the same of some of the discs
-pub some_fits_moved : (old new : Shown) (discs : List (List ℕ)) → length new.homes ≡ length old.homes
-    → ((i : ℕ) → i < length old.homes → (home_cell new i ≡ home_cell old i) ⊎ ¬ IsGood (home_cell new i)) → SomeFits old discs → SomeFits new discs
-some_fits_moved old new [] same cells none = none
-some_fits_moved old new (d ∷ discs) same cells some = elim some [
-  | inl fits ↦ inl (fits_moved old new d same cells fits)
-  | inr later ↦ inr (some_fits_moved old new discs same cells later)
-]
-
--- the same of some of the discs, where no home moved
-pub some_fits_kept : (old new : Shown) (discs : List (List ℕ)) → new.homes ≡ old.homes
-    → ((i : ℕ) → i < length old.homes → (home_cell new i ≡ home_cell old i) ⊎ ¬ IsGood (home_cell new i)) → SomeFits old discs → SomeFits new discs
-some_fits_kept old new discs same cells some = some_fits_moved old new discs (ap length same) cells some
 
 -- so many zeros are so many
 pub length-zeros : (n : ℕ) → length (zeros n) ≡ n
@@ -165,11 +98,3 @@ unfolding first_disc block_of
 block_of_first_disc homes cells i whole h =
     piece_at (λ block. bytes_or_zeros (cell_at cells block)) 32768 homes i
     (λ j k. length_bytes_or_zeros (cell_at cells (slice_index homes j)) (λ bytes e. whole j bytes k e)) h
-
--- the disc that a drive begins with fits
-pub start_fits : (shown : Shown) → ((i : ℕ) (bytes : List ℕ) → i < length shown.homes → home_cell shown i ≡ Good bytes → length bytes ≡ 32768)
-    → Fits shown (first_disc shown.homes shown.medium.world.cells)
-start_fits shown whole = record {
-  as_long = length_first_disc shown.homes shown.medium.world.cells whole;
-  agrees = λ i h. subst (Agrees (home_cell shown i)) (sym (block_of_first_disc shown.homes shown.medium.world.cells i whole h)) (agrees_own (home_cell shown i));
-}

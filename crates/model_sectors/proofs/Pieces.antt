@@ -1,12 +1,11 @@
 -- Sectors and logical blocks as pieces of a disc, and what a write leaves of them.
-use Rattle.std.proofs.Common.{◌≡◌, ◌≢◌, ℕ, ◌+◌, ◌-◌, ◌*◌, ◌<◌, ◌≤◌, ◌⊎◌, inl, inr, List, [], ◌++◌, length, take, drop, min, refl, sym, ◌∙◌, ap, arith, append_assoc, length-append, length-drop, length-take}
+use Rattle.std.proofs.Common.{◌≡◌, ℕ, ◌+◌, ◌-◌, ◌*◌, ◌<◌, ◌≤◌, ◌⊎◌, inl, inr, List, [], ◌++◌, length, take, drop, min, refl, sym, ◌∙◌, ap, arith, append_assoc, length-append, length-drop, length-take}
 use Rattle.std.proofs.lemmas.Bool.{cases_lt}
 use Rattle.std.proofs.lemmas.List.{length-take-le, take-take, drop-drop, drop-take, take_all, take_min, drop_all, take-append-le, append-nil, take-append-drop, drop-append-le}
 use Rattle.model_bytes.specs.Bytes.{put_at}
-use Rattle.model_bytes.proofs.Laws.{length-put_at, drop-put_at, range-put_at, other_range-put_at, take-put_at-end, drop-put_at-start}
+use Rattle.model_bytes.proofs.Laws.{length-put_at, drop-put_at, other_range-put_at, take-put_at-end, drop-put_at-start}
 use Rattle.model_sectors.specs.Discs.{sectors_of, block_of, replaced}
 use Rattle.model_sectors.specs.Requests.{start_in, end_in}
-use Rattle.model_sectors.specs.Writes.{DifferInBlock}
 
 -- a piece of a piece is a piece
 pub piece_of_piece : (place many low n : ℕ) (d : List ℕ) → low + n ≤ many → take n (drop low (take many (drop place d))) ≡ take n (drop (place + low) d)
@@ -138,17 +137,6 @@ pub replaced_empty : (d : List ℕ) (lba : ℕ) (bytes : List ℕ) (block : ℕ)
 unfolding replaced
 replaced_empty d lba bytes block none = ap (λ (l : List ℕ). put_at (2048 * lba) l d) (take_all (2048 * (16 * block - lba)) bytes (omega arith))
 
--- a block that the request does not cover replaces nothing more
-pub replaced_same : (d : List ℕ) (lba n : ℕ) (bytes : List ℕ) (block : ℕ) → length bytes ≡ 2048 * n → end_in lba n block ≤ start_in lba block
-    → replaced d lba bytes (block + 1) ≡ replaced d lba bytes block
-replaced_same d lba n bytes block whole apart = elim (cases_lt (16 * block) (lba + n)) [
-  | inl low ↦ elim (cases_lt lba (16 * block + 16)) [
-    | inl high ↦ replaced_empty d lba bytes (block + 1) (omega arith) ∙ sym (replaced_empty d lba bytes block (omega arith))
-    | inr past ↦ replaced_none d lba bytes (block + 1) (omega arith) ∙ sym (replaced_none d lba bytes block (omega arith))
-  ]
-  | inr past ↦ replaced_all d lba n bytes (block + 1) whole (omega arith) ∙ sym (replaced_all d lba n bytes block whole (omega arith))
-]
-
 -- the bytes of the request in a block that it covers
 abbrev pub part_in : (lba n : ℕ) → List ℕ → (block : ℕ) → List ℕ
 part_in lba n bytes block = take (2048 * (end_in lba n block - start_in lba block)) (drop (2048 * (start_in lba block - lba)) bytes)
@@ -178,74 +166,11 @@ replaced_step d blocks lba n bytes block covered whole inside long =
     ∙ ap (λ (m : ℕ). put_at (2048 * start_in lba block) (take m (drop prefix bytes)) (put_at (2048 * lba) (take prefix bytes) d)) few
     ∙ ap (λ (m : ℕ). put_at (2048 * start_in lba block) (take (2048 * (end_in lba n block - start_in lba block)) (drop m bytes)) (put_at (2048 * lba) (take prefix bytes) d)) same
 
--- another block keeps its bytes when those of a block are replaced
-pub other_block_replaced : (d : List ℕ) (blocks lba n : ℕ) (bytes : List ℕ) (block i : ℕ) → i ≢ block → length bytes ≡ 2048 * n → lba + n ≤ 16 * blocks
-    → length d ≡ 32768 * blocks → block_of (replaced d lba bytes (block + 1)) i ≡ block_of (replaced d lba bytes block) i
-unfolding block_of
-other_block_replaced d blocks lba n bytes block i other whole inside long = elim (cases_lt (start_in lba block) (end_in lba n block)) [
-  | inl covered ↦
-      ap (λ (l : List ℕ). take 32768 (drop (32768 * i) l)) (replaced_step d blocks lba n bytes block covered whole inside long)
-      ∙ other_range-put_at (32768 * i) 32768 (2048 * start_in lba block) (part_in lba n bytes block) (replaced d lba bytes block)
-      (omega (arith, length_replaced d blocks lba n bytes block whole inside long))
-      (apart covered)
-  | inr empty ↦ ap (λ (l : List ℕ). take 32768 (drop (32768 * i) l)) (replaced_same d lba n bytes block whole empty)
-]
-  where
-    apart : start_in lba block < end_in lba n block → (32768 * i + 32768 ≤ 2048 * start_in lba block) ⊎ (2048 * start_in lba block + length (part_in lba n bytes block) ≤ 32768 * i)
-    apart covered = elim (cases_lt i block) [
-      | inl before ↦ inl (omega arith)
-      | inr from ↦ let part = length_part_in lba n bytes block whole in let past : block < i = omega arith in inr (omega arith)
-    ]
-
--- a block that the request covers has the bytes of the request put in it
-pub block_replaced : (d : List ℕ) (blocks lba n : ℕ) (bytes : List ℕ) (block : ℕ) → start_in lba block < end_in lba n block → length bytes ≡ 2048 * n → lba + n ≤ 16 * blocks
-    → length d ≡ 32768 * blocks → block_of (replaced d lba bytes (block + 1)) block
-    ≡ put_at (2048 * (start_in lba block - 16 * block)) (part_in lba n bytes block) (block_of (replaced d lba bytes block) block)
-unfolding block_of
-block_replaced d blocks lba n bytes block covered whole inside long =
-    let there : 2048 * start_in lba block ≡ 32768 * block + 2048 * (start_in lba block - 16 * block) = omega arith in
-    ap (λ (l : List ℕ). take 32768 (drop (32768 * block) l)) (replaced_step d blocks lba n bytes block covered whole inside long)
-    ∙ ap (λ (m : ℕ). take 32768 (drop (32768 * block) (put_at m (part_in lba n bytes block) (replaced d lba bytes block)))) there
-    ∙ piece-put_at (32768 * block) 32768 (2048 * (start_in lba block - 16 * block)) (part_in lba n bytes block) (replaced d lba bytes block)
-    (omega (arith, length_part_in lba n bytes block whole))
-    (omega (arith, length_replaced d blocks lba n bytes block whole inside long))
-
 -- a write over the whole of a list is what was written
 pub put_at-whole : (from held : List ℕ) → length held ≤ length from → put_at 0 from held ≡ from
 put_at-whole from held over =
     let start : 0 + length from ≡ length from = omega arith in
     ap (λ (m : ℕ). from ++ drop m held) start ∙ ap (λ (l : List ℕ). from ++ l) (drop_all (length from) held over) ∙ append-nil from
-
--- a block that the request covers wholly has the bytes of the request alone
-pub whole_block_replaced : (d : List ℕ) (blocks lba n : ℕ) (bytes : List ℕ) (block : ℕ) → start_in lba block ≡ 16 * block → end_in lba n block ≡ 16 * block + 16
-    → length bytes ≡ 2048 * n → lba + n ≤ 16 * blocks → length d ≡ 32768 * blocks
-    → block_of (replaced d lba bytes (block + 1)) block ≡ take 32768 (drop (2048 * (16 * block - lba)) bytes)
-whole_block_replaced d blocks lba n bytes block start end whole inside long =
-    let none : 2048 * (start_in lba block - 16 * block) ≡ 0 = omega arith in
-    let all : 2048 * (end_in lba n block - start_in lba block) ≡ 32768 = omega arith in
-    let there : 2048 * (start_in lba block - lba) ≡ 2048 * (16 * block - lba) = omega arith in
-    let held : length (block_of (replaced d lba bytes block) block) ≡ 32768 =
-    length_block (replaced d lba bytes block) blocks block (omega arith) (length_replaced d blocks lba n bytes block whole inside long ∙ long) in
-    block_replaced d blocks lba n bytes block (omega arith) whole inside long
-    ∙ ap (λ (m : ℕ). put_at m (part_in lba n bytes block) (block_of (replaced d lba bytes block) block)) none
-    ∙ put_at-whole (part_in lba n bytes block) (block_of (replaced d lba bytes block) block) (omega (arith, length_part_in lba n bytes block whole))
-    ∙ ap (λ (m : ℕ). take m (drop (2048 * (start_in lba block - lba)) bytes)) all
-    ∙ ap (λ (m : ℕ). take 32768 (drop m bytes)) there
-
--- the written sectors read back as the bytes
-pub sectors-put_at : (d : List ℕ) (lba n : ℕ) (bytes : List ℕ) → length bytes ≡ 2048 * n → 2048 * lba ≤ length d → sectors_of (put_at (2048 * lba) bytes d) lba n ≡ bytes
-unfolding sectors_of
-sectors-put_at d lba n bytes whole inside =
-    ap (λ (m : ℕ). take m (drop (2048 * lba) (put_at (2048 * lba) bytes d))) (sym whole) ∙ range-put_at (2048 * lba) bytes d inside
-
--- other sectors read as before
-pub other_sectors-put_at : (d : List ℕ) (lba n : ℕ) (bytes : List ℕ) (other m : ℕ) → length bytes ≡ 2048 * n → 2048 * lba ≤ length d
-    → (other + m ≤ lba) ⊎ (lba + n ≤ other) → sectors_of (put_at (2048 * lba) bytes d) other m ≡ sectors_of d other m
-unfolding sectors_of
-other_sectors-put_at d lba n bytes other m whole inside (inl before) =
-    other_range-put_at (2048 * other) (2048 * m) (2048 * lba) bytes d inside (inl (omega arith))
-other_sectors-put_at d lba n bytes other m whole inside (inr past) =
-    other_range-put_at (2048 * other) (2048 * m) (2048 * lba) bytes d inside (inr (omega arith))
 
 -- sectors of the request before the block read as those bytes of the request
 pub sectors_replaced : (d : List ℕ) (blocks lba n : ℕ) (bytes : List ℕ) (block at m : ℕ) → length bytes ≡ 2048 * n → lba + n ≤ 16 * blocks → length d ≡ 32768 * blocks
@@ -283,26 +208,3 @@ other_sectors_replaced d blocks lba n bytes block at m whole inside long apart =
           ])
       | inr none ↦ ap (λ (l : List ℕ). take (2048 * m) (drop (2048 * at) l)) (replaced_none d lba bytes block none)
     ]
-
--- what is written before a block, and what is written up to its end, differ in that block
-pub differ_in_block : (d : List ℕ) (blocks lba n : ℕ) (bytes : List ℕ) (block : ℕ) → length bytes ≡ 2048 * n → lba + n ≤ 16 * blocks → length d ≡ 32768 * blocks
-    → start_in lba block < end_in lba n block → DifferInBlock d lba n bytes block (replaced d lba bytes block) (replaced d lba bytes (block + 1))
-unfolding sectors_of
-differ_in_block d blocks lba n bytes block whole inside long covered = record {
-  as_long = (length_replaced d blocks lba n bytes block whole inside long, length_replaced d blocks lba n bytes (block + 1) whole inside long);
-  earlier = λ at m from before. (written block at m from before (omega arith), written (block + 1) at m from (omega arith) (omega arith));
-  in_block = λ at m from within. (as_before block at m (inr (inr (omega arith))), written (block + 1) at m (omega arith) (omega arith) (omega arith));
-  elsewhere = λ at m apart. elim apart [
-    | inl below ↦ (as_before block at m (inl below), as_before (block + 1) at m (inl below))
-    | inr above ↦ elim (cases_lt at (lba + n)) [
-      | inl within ↦ (as_before block at m (inr (inr (omega arith))), as_before (block + 1) at m (inr (inr (omega arith))))
-      | inr past ↦ (as_before block at m (inr (inl past)), as_before (block + 1) at m (inr (inl past)))
-    ]
-  ];
-}
-  where
-    written : (past at m : ℕ) → lba ≤ at → at + m ≤ 16 * past → at + m ≤ lba + n → sectors_of (replaced d lba bytes past) at m ≡ sectors_of bytes (at - lba) m
-    written past at m from before within = sectors_replaced d blocks lba n bytes past at m whole inside long from before within
-
-    as_before : (past at m : ℕ) → (at + m ≤ lba) ⊎ (lba + n ≤ at) ⊎ (16 * past ≤ at) → sectors_of (replaced d lba bytes past) at m ≡ sectors_of d at m
-    as_before past at m apart = other_sectors_replaced d blocks lba n bytes past at m whole inside long apart

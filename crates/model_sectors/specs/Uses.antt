@@ -27,17 +27,7 @@ read_uses buffered first (suc k) = read_uses buffered first k + (if is_at_hand b
 abbrev pub reads_rest : List ℕ → (lba n k : ℕ) → Bool
 reads_rest buffered lba n k = is_partly lba n (block_with lba + k) && not (is_at_hand buffered (block_with lba) k)
 
--- How many uses of the medium a write takes for the first so many blocks that it covers: one for the rest of a block
--- that it covers in part and that is not at hand, and two for the home, which is written and read back.
-abbrev pub write_uses : List ℕ → (lba n : ℕ) → ℕ → ℕ
-write_uses buffered lba n zero = 0
-write_uses buffered lba n (suc k) = write_uses buffered lba n k + ((if reads_rest buffered lba n k then 1 else 0) + 2)
-
 -- the buffered blocks after a write that was refused at a block: that block too, where it is covered in part
 abbrev pub touched_refused : List ℕ → (lba n k : ℕ) → List ℕ
 touched_refused buffered lba n k =
     if is_partly lba n (block_with lba + k) then touched_from buffered (block_with lba) (suc k) else touched_from buffered (block_with lba) k
-
--- how many uses of the medium it takes to turn the power on: none, as there are no lists to read
-abbrev pub mount_uses : ℕ
-mount_uses = 0

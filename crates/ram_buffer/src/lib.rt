@@ -9,6 +9,7 @@ pub use model_buffer::BUFFERED_BLOCKS;
 use ram_bytes::Block;
 use std::alloc::{AllocError, Global};
 use std::marker::Model;
+use std::mem::swap;
 
 /// The logical blocks that were used last, [`BUFFERED_BLOCKS`] at most. All its room is taken when it is made. It is
 /// seen as the list of its blocks, each a number and its bytes, the one used last first.
@@ -57,11 +58,12 @@ impl BlockBuffer {
         true
     }
 
-    /// Puts block `i` with these bytes there, as the one used last. The one used longest ago makes room for it.
-    pub fn put(&mut self, i: u32, from: &Block)
-        ensures { self.new ≡ with_newest i from.now self.old }
+    /// Puts block `i` there with the bytes of `block`, as the one used last. The one used longest ago makes room for it.
+    /// No byte is copied: `block` gets the room of that one in exchange, with any bytes.
+    pub fn put(&mut self, i: u32, block: &mut Block)
+        ensures { self.new ≡ with_newest i block.old self.old }
     {
-        self.block.copy_from(from);
+        swap(&mut self.block, block);
         self.number = Some(i);
     }
 

@@ -19,7 +19,7 @@ fn keeps_the_block_that_was_put_last(rt: HostRuntime) -> Result<(), Fail> {
     for (put, wanted, found) in steps {
         if let Some((number, byte)) = put {
             block.fill(byte);
-            buffer.put(number, &block);
+            buffer.put(number, &mut block);
         }
         into.fill(0x11);
         assert_eq!(rt;

@@ -28,7 +28,7 @@ begins_on failing shape new on smallest made turned = record {
   smallest = smallest;
   names = turned.same_names ∙ made.names;
   machine = turned.exactly ∙ ap (λ (m : Machine). record m { world = record m.world { power = true } }) (subst (λ (s : Shape). mem_machine new ≡ record {
-    world = record { known = true; cells = replicate (total s) Blank; power = false; uses = 0; cuts = 0; faults = 0 };
+    world = record { label = []; known = true; cells = replicate (total s) Blank; power = false; uses = 0; cuts = 0; faults = 0 };
     arms = [];
     cut = None;
   }) smallest made.machine);

@@ -21,7 +21,7 @@ pub record IsBlankDisc (failing : List ℕ) (shape : Shape) (medium : MemMedium)
   pub smallest : shape ≡ shape_of 1 1 4
   pub names : failing_of medium ≡ failing
   pub machine : mem_machine medium ≡ record {
-    world = record { known = true; cells = replicate 41 Blank; power = true; uses = 0; cuts = 0; faults = 0 };
+    world = record { label = []; known = true; cells = replicate 41 Blank; power = true; uses = 0; cuts = 0; faults = 0 };
     arms = [];
     cut = None;
   }

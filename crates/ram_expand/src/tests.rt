@@ -6,7 +6,7 @@ use super::*;
 use ram_bytes::Block;
 use ram_copies::Scratch;
 use ram_examples::{dds_text, empty_sdl, sdl_text};
-use ram_lists::{Mounted, mount};
+use ram_lists::{Mounted, home, mount};
 use ram_medium::{Fate, Medium, MediumControl, MemMedium, ReadEnd};
 use ram_replace::{Placed, write_home};
 use ram_sdl::{MOST_SPARES, Sdl};
@@ -124,7 +124,10 @@ fn mount_and_write(
         return Ok(None);
     }
     let from = Block::zeros(alloc)?;
-    let placed = write_home(medium, geometry, &mut lists, &mut draft, i, &from, scratch);
+    let place = home(geometry, &lists, i);
+    let placed = write_home(
+        medium, geometry, &mut lists, &mut draft, i, place, &from, scratch,
+    );
     Ok(Some((placed, Says::of(&lists.sdl))))
 }
 

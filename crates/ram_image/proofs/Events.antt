@@ -27,6 +27,7 @@ module _ (old mid new : Machine) (block : ℕ) (was_on : IsTrue old.world.power)
   uses_one : FailsWithin mid new block → IsUse old.world new.world block
   uses_one fails = record {
     was_on = was_on;
+    same_label = fails.same_label ∙ used.same_label;
     as_known = fails.as_known ∙ used.as_known;
     counts = fails.uses_same ∙ used.counts;
     others = λ other ne. fails.others other ne ∙ cell_other old mid block (λ cell. cell) used same_is_kind.tame other ne;

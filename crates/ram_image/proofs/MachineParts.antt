@@ -14,17 +14,17 @@ use Rattle.model_image.specs.Image.{IsDiscImage}
 use Rattle.model_image.proofs.Writes.{cell_at-cells_of}
 use Rattle.ram_image.proofs.TellsCells.{known_cell}
 
-abbrev pub machine_by : ℕ → Option (List ℕ) → Bool → ℕ → ℕ → ℕ → List WornBlock → Option ArmedCut → Machine
-machine_by total bytes power uses cuts faults arms cut = record {
-  world = record { known = is_some bytes; cells = cells_known total bytes; power = power; uses = uses; cuts = cuts; faults = faults };
+abbrev pub machine_by : List ℕ → ℕ → Option (List ℕ) → Bool → ℕ → ℕ → ℕ → List WornBlock → Option ArmedCut → Machine
+machine_by label total bytes power uses cuts faults arms cut = record {
+  world = record { label = label; known = is_some bytes; cells = cells_known total bytes; power = power; uses = uses; cuts = cuts; faults = faults };
   arms = arms;
   cut = cut;
 }
 
 -- the image has the bytes that it had
-pub exactly_same : (total : ℕ) (before after : Option (List ℕ)) (power : Bool) (uses cuts f f' : ℕ) (arms : List WornBlock) (cut : Option ArmedCut) → after ≡ before → f' ≡ f
-    → machine_by total after power uses cuts f' arms cut ≡ machine_by total before power uses cuts f arms cut
-exactly_same total before after power uses cuts f f' arms cut e count = ap (λ o. machine_by total o power uses cuts f' arms cut) e ∙ ap (λ n. machine_by total before power uses cuts n arms cut) count
+pub exactly_same : (label : List ℕ) (total : ℕ) (before after : Option (List ℕ)) (power : Bool) (uses cuts f f' : ℕ) (arms : List WornBlock) (cut : Option ArmedCut) → after ≡ before → f' ≡ f
+    → machine_by label total after power uses cuts f' arms cut ≡ machine_by label total before power uses cuts f arms cut
+exactly_same label total before after power uses cuts f f' arms cut e count = ap (λ o. machine_by label total o power uses cuts f' arms cut) e ∙ ap (λ n. machine_by label total before power uses cuts n arms cut) count
 
 -- a cell that was found, where the image has the bytes that it had
 pub cell_found : (total block : ℕ) (P : Cell → Type 0) → block < total → (before after : Option (List ℕ)) → after ≡ before → IfSome before (λ held. P (cell_in total held block))

@@ -2,7 +2,7 @@
 use Rattle.std.specs.Prelude.{◌≡◌, ◌≢◌, ℕ, Bool, Option, false, IsTrue, Some, None, is_some, List, []}
 use Rattle.std.specs.Bool.{OnTrue}
 use Rattle.model_counts.specs.Counts.{Rose}
-use Rattle.model_geometry.specs.Geometry.{Shape, total}
+use Rattle.model_geometry.specs.Geometry.{Shape, label_of, total}
 use Rattle.model_medium.specs.Cells.{Good, Dead, IsGood, cell_at, IsSameOrDead, MayLeave, cut_short}
 use Rattle.model_medium.specs.declared.Fate.{Fate}
 use Rattle.model_medium.specs.declared.ReadEnd.{ReadEnd}
@@ -30,7 +30,7 @@ pub record IsNew {I : Type 0} {d : Ghosts I} (image : I) (shape : Shape) (medium
   pub shape_is : shape_of_medium medium ≡ shape
   pub image_is : medium.image ≡ image
   pub machine : machine_in medium ≡ record {
-    world = record { known = is_some (d.bytes image); cells = cells_known (total shape) (d.bytes image); power = false; uses = 0; cuts = 0; faults = d.faults image };
+    world = record { label = label_of shape; known = is_some (d.bytes image); cells = cells_known (total shape) (d.bytes image); power = false; uses = 0; cuts = 0; faults = d.faults image };
     arms = [];
     cut = None;
   }
@@ -53,6 +53,7 @@ ImageBeginRule old new block begins.Failed = BeginFails old new block
 pub record FailsWithin (old new : Machine) (block : ℕ) : Type 0 where
   pub turns_off : ¬ IsTrue new.world.power
   pub fault : Rose old.world.faults new.world.faults
+  pub same_label : new.world.label ≡ old.world.label
   pub as_known : new.world.known ≡ old.world.known
   pub uses_same : new.world.uses ≡ old.world.uses
   pub cuts_same : new.world.cuts ≡ old.world.cuts

@@ -1,6 +1,6 @@
 -- What a medium over an image shows, and what it does at each event, also to the image's bytes.
 use Rattle.std.specs.Prelude.{◌≡◌, ℕ, Bool, is_some, Option, List}
-use Rattle.model_geometry.specs.Geometry.{Shape, total}
+use Rattle.model_geometry.specs.Geometry.{Shape, label_of, total}
 use Rattle.model_medium.specs.World.{World}
 use Rattle.model_medium.specs.Machine.{Machine, is_killed}
 use Rattle.model_medium.specs.Exact.{Event, Exactly}
@@ -16,9 +16,10 @@ use Rattle.ram_image.specs.declared.medium.ImageMedium.{ImageMedium}
 abbrev pub shape_of_medium : {I : Type 0} {d : Ghosts I} → ImageMedium I d → Shape
 shape_of_medium medium = medium.geometry
 
--- what a medium over an image shows
+-- what a medium over an image shows: its label is that of its geometry
 abbrev pub world_of : {I : Type 0} {d : Ghosts I} → ImageMedium I d → World
 world_of {I} {d} medium = record {
+  label = label_of medium.geometry;
   known = is_some (d.bytes medium.image);
   cells = cells_known (total medium.geometry) (d.bytes medium.image);
   power = medium.powered;

@@ -1,6 +1,6 @@
 -- What opening an image finds, or why it is refused: for `open` and its parts.
 use Rattle.std.specs.Prelude.{◌≡◌, ◌≢◌, ℕ, ◌<◌, ◌≤◌, ◌⊎◌, false, Option, None, is_some, IfSome, List, [], length, take}
-use Rattle.model_geometry.specs.Geometry.{Shape, total}
+use Rattle.model_geometry.specs.Geometry.{Shape, label_of, total}
 use Rattle.model_image.specs.Cells.{image_len, cells_known}
 use Rattle.model_image.specs.Image.{HasHeader, IsDiscImage}
 use Rattle.ram_outside.specs.declared.image.Image.{Ghosts}
@@ -19,6 +19,7 @@ pub record IsOpened {I : Type 0} {d : Ghosts I} (image : I) (medium : ImageMediu
   pub disc : IfSome (d.bytes image) (IsDiscImage shape)
   pub shape_is : shape_of_medium medium ≡ shape
   pub same_image : d.bytes medium.image ≡ d.bytes image
+  pub label_is : (world_of medium).label ≡ label_of shape
   pub as_known : (world_of medium).known ≡ is_some (d.bytes image)
   pub cells_are : (world_of medium).cells ≡ cells_known (total shape) (d.bytes image)
   pub off : (world_of medium).power ≡ false

@@ -10,6 +10,7 @@ use ram_bytes::Block;
 use ram_medium::{Arm, Armed, FailEnd, Fate, Medium, MediumControl, ReadEnd, WriteEnd};
 use ram_outside::{Image, Moved};
 use ram_zones::Geometry;
+use std::mem::swap;
 
 /// The controllable medium of a disc whose blocks lie in an image. It keeps room for one block, and takes no more
 /// memory.
@@ -144,7 +145,7 @@ impl<I: Image> ImageMedium<I> {
             &mut self.room,
         ) {
             CellRead::Good => {
-                into.copy_from(&self.room);
+                swap(&mut self.room, into);
                 ReadEnd::Done
             }
             CellRead::NotGood => ReadEnd::Unreadable,

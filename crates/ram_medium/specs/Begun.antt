@@ -12,7 +12,7 @@ pub record IsNewInMemory (blocks : ℕ) (failing : List ℕ) (medium : MemMedium
   pub as_many : vec_len medium.slots ≡ blocks
   pub names : failing_of medium ≡ failing
   pub machine : mem_machine medium ≡ record {
-    world = record { known = true; cells = replicate blocks Blank; power = false; uses = 0; cuts = 0; faults = 0 };
+    world = record { label = []; known = true; cells = replicate blocks Blank; power = false; uses = 0; cuts = 0; faults = 0 };
     arms = [];
     cut = None;
   }

@@ -20,6 +20,7 @@ with_dead block machine = record machine { world = record machine.world { cells 
 pub record FailsInFail (old new : Machine) (block : ℕ) : Type 0 where
   pub turns_off : ¬ IsTrue new.world.power
   pub fault : Rose old.world.faults new.world.faults
+  pub same_label : new.world.label ≡ old.world.label
   pub as_known : new.world.known ≡ old.world.known
   pub uses_same : new.world.uses ≡ old.world.uses
   pub cuts_same : new.world.cuts ≡ old.world.cuts

@@ -1,5 +1,5 @@
 -- What a medium in memory shows, and what it does at each event: it lies on nothing, so only a named use fails.
-use Rattle.std.specs.Prelude.{◌≡◌, ◌↔◌, ℕ, true, false, IsTrue, List, Contains}
+use Rattle.std.specs.Prelude.{◌≡◌, ◌↔◌, ℕ, true, false, IsTrue, List, [], Contains}
 use Rattle.model_counts.specs.Counts.{counted}
 use Rattle.model_medium.specs.Machine.{Machine, arms_after, cut_after}
 use Rattle.model_medium.specs.World.{World}
@@ -12,9 +12,9 @@ use Rattle.ram_medium.specs.Countdown.{arms_of, armed_cut_of}
 use Rattle.ram_medium.specs.Slots.{slot_cells}
 use Rattle.ram_medium.specs.declared.memory.MemMedium.{MemMedium}
 
--- what a medium in memory shows
+-- what a medium in memory shows: it has no label
 abbrev pub mem_world : MemMedium → World
-mem_world medium = record { known = true; cells = slot_cells medium.slots.items; power = medium.powered; uses = medium.uses; cuts = medium.cuts; faults = medium.faults }
+mem_world medium = record { label = []; known = true; cells = slot_cells medium.slots.items; power = medium.powered; uses = medium.uses; cuts = medium.cuts; faults = medium.faults }
 
 -- the same with what is armed on it
 abbrev pub mem_machine : MemMedium → Machine

@@ -1,7 +1,12 @@
-//! The drive as a target of commands: what a command block asks for, what is done for it, and how it is answered.
+//! The target of commands: what a command block asks for, whether it is done, what is done on the disc for it, and what is
+//! replied. It stands over any disc that can be formatted.
 #![tactic(auto)]
 
-pub mod commands;
+mod judging;
+mod replies;
+pub mod target;
+mod transfers;
 
-pub use commands::execute;
-pub use ram_sense::Answer;
+pub use model_target::Host;
+pub use ram_sense::{Answer, Sense};
+pub use target::Target;

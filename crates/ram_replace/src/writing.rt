@@ -4,7 +4,7 @@ ghost use Rattle.std.specs.Prelude.{◌≡◌, ◌<◌, ◌≤◌, IsTrue, Match
 ghost use Rattle.model_geometry.specs.declared.TheConstants.{MOST_SPARES};
 ghost use Rattle.model_geometry.specs.Geometry.{total};
 ghost use Rattle.model_lists.specs.Values.{IsLawfulSdl};
-ghost use Rattle.model_places.specs.Places.{logical_count};
+ghost use Rattle.model_places.specs.Places.{logical_count, home_of};
 ghost use Rattle.model_places.specs.Valid.{AreValid};
 ghost use Rattle.model_volume.specs.Given.{AreSettled};
 ghost use Rattle.ram_sdl.specs.Sdl.{sdl_of};
@@ -17,7 +17,7 @@ use crate::updates::update_list;
 use model_drive::LAST_COUNTER;
 use ram_bytes::Block;
 use ram_copies::{Scratch, put_block};
-use ram_lists::{Lists, home};
+use ram_lists::Lists;
 use ram_medium::{Medium, Stop};
 use ram_sdl::Sdl;
 use ram_zones::Geometry;
@@ -51,13 +51,14 @@ enum Outcome {
     NoUpdate { counter: u32 },
 }
 
-/// Writes a logical block with the power on.
+/// Writes a logical block to its home, or to a spare, with the power on.
 fn place<M: Medium>(
     medium: &mut M,
     geometry: &Geometry,
     lists: &mut Lists,
     draft: &mut Sdl,
     i: u32,
+    home: u32,
     from: &Block,
     scratch: &mut Scratch,
 ) -> Result<Outcome, Stop>
@@ -67,6 +68,7 @@ fn place<M: Medium>(
     requires lawful { IsLawfulSdl (sdl_of lists.old.sdl) }
     requires settled { AreSettled geometry.now (M.world medium.old).cells (lists_of lists.old) }
     requires inside { i < logical_count geometry.now (lists_of lists.old) }
+    requires home { home ≡ home_of geometry.now (lists_of lists.old) i }
     requires room { MOST_SPARES ≤ lists.old.sdl.entries.room }
     requires draft { MOST_SPARES ≤ draft.old.entries.room }
     ensures rule { MatchResult result
@@ -80,8 +82,7 @@ fn place<M: Medium>(
     ensures draft { MOST_SPARES ≤ draft.new.entries.room }
     ensures as_many { M.block_count medium.new ≡ M.block_count medium.old }
 {
-    let block = home(geometry, lists, i);
-    if put_block(medium, block, from, &mut scratch.room)? {
+    if put_block(medium, home, from, &mut scratch.room)? {
         return Ok(Outcome::Done);
     }
     let Some(found) = find_spare(medium, geometry, lists, from, &mut scratch.room)? else {
@@ -99,9 +100,10 @@ fn place<M: Medium>(
     Ok(Outcome::Done)
 }
 
-/// Writes logical block `i` to its home, and reads it back: 2 uses. Where the home is dead, one free spare after another
-/// is written and read back, 2 uses each, until one has the bytes; then the secondary list that says so is updated, 8
-/// uses, and taken over. `draft` holds that list until then, and nothing of use before and after. It takes no memory.
+/// Writes logical block `i` to its home, which the caller has looked up, and reads it back: 2 uses. Where the home is
+/// dead, one free spare after another is written and read back, 2 uses each, until one has the bytes; then the secondary
+/// list that says so is updated, 8 uses, and taken over. `draft` holds that list until then, and nothing of use before
+/// and after. It takes no memory.
 ///
 /// The lists in memory change with Done alone, once a copy of the new list can be read. (Linear replacement after
 /// ECMA-330; the order of the steps is this project's own.)
@@ -111,6 +113,7 @@ pub fn write_home<M: Medium>(
     lists: &mut Lists,
     draft: &mut Sdl,
     i: u32,
+    home: u32,
     from: &Block,
     scratch: &mut Scratch,
 ) -> Placed
@@ -119,6 +122,7 @@ pub fn write_home<M: Medium>(
     requires lawful { IsLawfulSdl (sdl_of lists.old.sdl) }
     requires settled { AreSettled geometry.now (M.world medium.old).cells (lists_of lists.old) }
     requires inside { i < logical_count geometry.now (lists_of lists.old) }
+    requires home { home ≡ home_of geometry.now (lists_of lists.old) i }
     requires room { MOST_SPARES ≤ lists.old.sdl.entries.room }
     requires draft { MOST_SPARES ≤ draft.old.entries.room }
     ensures rule { PlacedRule M.world M.reaches geometry.now medium.old medium.new (lists_of lists.old) i
@@ -132,7 +136,7 @@ pub fn write_home<M: Medium>(
     if !medium.powered() {
         return Placed::Off;
     }
-    match place(medium, geometry, lists, draft, i, from, scratch) {
+    match place(medium, geometry, lists, draft, i, home, from, scratch) {
         Ok(Outcome::Done) => Placed::Done,
         Ok(Outcome::NoSpare) => Placed::NoSpare,
         Ok(Outcome::NoUpdate { counter }) => Placed::NoUpdate { counter },

@@ -1,6 +1,8 @@
 -- Which lines lack a disc: none where there is one.
 use Rattle.std.specs.Prelude.{◌≡◌, ℕ, Ok, Err, List}
-use Rattle.model_sectors.specs.Discs.{Standing, Shown}
+use Rattle.model_sectors.specs.Discs.{Standing}
+use Rattle.model_drive.specs.Shown.{Shown}
+use Rattle.model_target.specs.declared.host.Host.{Host}
 use Rattle.model_sectors.specs.declared.PowerOut.{PowerOut}
 use Rattle.model_sectors.specs.declared.PowerOut.TheVariants as powers
 use Rattle.ram_medium.specs.declared.control.FailEnd.{FailEnd}
@@ -18,7 +20,7 @@ use Rattle.ram_run.specs.declared.reply.Reply.{Reply}
 use Rattle.ram_run.specs.declared.reply.Reply.TheVariants as replies
 use Rattle.ram_run.specs.declared.stopped.Stopped.TheVariants as stopped
 use Rattle.ram_run.specs.Replies.{Outcome, power_outcome, fail_outcome, wear_outcome, command_outcome}
-use Rattle.ram_run.specs.States.{State, Loaded, Unopened, Disc}
+use Rattle.ram_run.specs.States.{State, Served, Unopened, Disc}
 use Rattle.ram_run.specs.LineSteps.{DiscRule, OnDisc, Step}
 
 -- what a line has that lacks a disc
@@ -54,19 +56,19 @@ command_answers cdb answers.NoMemory same = cc
 pub distinct : (reply : Reply) → lacks ≡ Ok reply → ⊥
 distinct reply same = cc
 
-rule_answers : (old new : Shown) (before after : Standing → Type 0) (total : ℕ) (line : DiscLine) (payload data_in : List ℕ) → DiscRule old new before after total line payload lacks data_in → ⊥
-rule_answers old new before after total lines.Power payload data_in rule = power_answers rule.0.out rule.0.outcome_is
-rule_answers old new before after total (lines.Fail block) payload data_in rule = fail_answers rule.0.end rule.0.outcome_is
-rule_answers old new before after total (lines.Wear block n) payload data_in rule = wear_answers rule.0.end rule.0.outcome_is
-rule_answers old new before after total (lines.Cut n fate) payload data_in rule = distinct (replies.Event events.Armed) rule.0.outcome_is
-rule_answers old new before after total (lines.Command cdb) payload data_in rule = command_answers cdb rule.answer rule.outcome_is
+rule_answers : (old new : Shown) (before after : Standing → Type 0) (host later : Host) (line : DiscLine) (payload data_in : List ℕ) → DiscRule old new before after host later line payload lacks data_in → ⊥
+rule_answers old new before after host later lines.Power payload data_in rule = power_answers rule.0.out rule.0.outcome_is
+rule_answers old new before after host later (lines.Fail block) payload data_in rule = fail_answers rule.0.end rule.0.outcome_is
+rule_answers old new before after host later (lines.Wear block n) payload data_in rule = wear_answers rule.0.end rule.0.outcome_is
+rule_answers old new before after host later (lines.Cut n fate) payload data_in rule = distinct (replies.Event events.Armed) rule.0.outcome_is
+rule_answers old new before after host later (lines.Command cdb) payload data_in rule = command_answers cdb rule.answer rule.outcome_is
 
-on_disc_answers : (s : Loaded) (line : DiscLine) (payload data_in : List ℕ) (t : State) → OnDisc (Disc s) line payload lacks data_in t → ⊥
+on_disc_answers : (s : Served) (line : DiscLine) (payload data_in : List ℕ) (t : State) → OnDisc (Disc s) line payload lacks data_in t → ⊥
 on_disc_answers s line payload data_in (Unopened bytes) on = on
-on_disc_answers s line payload data_in (Disc t) on = rule_answers s.shown t.shown (λ x. x ≡ s.standing) (λ x. x ≡ t.standing) _ line payload data_in on.rule
+on_disc_answers s line payload data_in (Disc t) on = rule_answers s.disc.shown t.disc.shown (λ x. x ≡ s.disc.standing) (λ x. x ≡ t.disc.standing) s.host t.host line payload data_in on.rule
 
 -- no line lacks a disc where there is one
-pub disc_answers : (s : Loaded) (work : Work) (payload data_in : List ℕ) (t : State) → Step (Disc s) work payload (Err stopped.NotADisc) data_in t → ⊥
+pub disc_answers : (s : Served) (work : Work) (payload data_in : List ℕ) (t : State) → Step (Disc s) work payload (Err stopped.NotADisc) data_in t → ⊥
 disc_answers s works.Nothing payload data_in t step = distinct replies.Nothing step.0
 disc_answers s (works.Press zones scale psa) payload data_in t step = step.0
 disc_answers s (works.OnDisc line) payload data_in t step = on_disc_answers s line payload data_in t step

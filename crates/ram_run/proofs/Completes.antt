@@ -22,7 +22,7 @@ use Rattle.ram_run.specs.declared.status.Status.TheVariants as statuses
 use Rattle.ram_run.specs.NextLines.{IsNextLine, ComesNext}
 use Rattle.ram_run.specs.Work.{work_of}
 use Rattle.ram_run.specs.Replies.{Outcome}
-use Rattle.ram_run.specs.States.{State, Loaded, Unopened, Disc, IsFirst, IsPressedDisc}
+use Rattle.ram_run.specs.States.{State, Served, Unopened, Disc, IsFirst, IsPressedDisc}
 use Rattle.ram_run.specs.LineSteps.{PressStep, OnDisc, Step}
 use Rattle.ram_run.specs.Run.{AnsweredLine, IsStep, Run, Reaches, script_text}
 use Rattle.ram_run.specs.RunCounts.{Counts}
@@ -75,23 +75,23 @@ well_spelled first far lasts.ScriptTooLong language of_script is = absurd (omega
 well_spelled first far (lasts.NotADisc line) language of_script is = of_script
 
 -- a disc that was pressed is there
-pressed_disc : (shape : Shape) (t : State) → IsPressedDisc shape t → (disc : Loaded) × (t ≡ Disc disc)
+pressed_disc : (shape : Shape) (t : State) → IsPressedDisc shape t → (disc : Served) × (t ≡ Disc disc)
 pressed_disc shape (Unopened bytes) pressed = absurd pressed
 pressed_disc shape (Disc disc) pressed = (disc, refl)
 
 -- a press that is told of leaves a disc, or what was there where there is no such geometry
-press_leaves : (s t : State) (shape : Shape) (reply : Reply) → PressStep s shape (Ok reply) t → ((disc : Loaded) × (t ≡ Disc disc)) ⊎ (¬ IsLawful shape × (t ≡ s))
+press_leaves : (s t : State) (shape : Shape) (reply : Reply) → PressStep s shape (Ok reply) t → ((disc : Served) × (t ≡ Disc disc)) ⊎ (¬ IsLawful shape × (t ≡ s))
 press_leaves s t shape (replies.Event events.Pressed) step = inl (pressed_disc shape t step.1)
 press_leaves s t shape (replies.Event events.NotPressed) step = inr step
 press_leaves s t shape _ step = absurd step
 
 -- what is done on a disc leaves one
-on_disc_leaves : (s : Loaded) (line : DiscLine) (payload : List ℕ) (outcome : Outcome) (data_in : List ℕ) (t : State) → OnDisc (Disc s) line payload outcome data_in t → (disc : Loaded) × (t ≡ Disc disc)
+on_disc_leaves : (s : Served) (line : DiscLine) (payload : List ℕ) (outcome : Outcome) (data_in : List ℕ) (t : State) → OnDisc (Disc s) line payload outcome data_in t → (disc : Served) × (t ≡ Disc disc)
 on_disc_leaves s line payload outcome data_in (Unopened bytes) on = absurd on
 on_disc_leaves s line payload outcome data_in (Disc disc) on = (disc, refl)
 
 -- a line that has a reply leaves a disc where there was one
-stays_disc : (s : Loaded) (work : Work) (payload : List ℕ) (reply : Reply) (data_in : List ℕ) (t : State) → Step (Disc s) work payload (Ok reply) data_in t → (disc : Loaded) × (t ≡ Disc disc)
+stays_disc : (s : Served) (work : Work) (payload : List ℕ) (reply : Reply) (data_in : List ℕ) (t : State) → Step (Disc s) work payload (Ok reply) data_in t → (disc : Served) × (t ≡ Disc disc)
 stays_disc s works.Nothing payload reply data_in t step = (s, step.2)
 stays_disc s (works.Press zones scale psa) payload reply data_in t step =
     elim (press_leaves (Disc s) t (shape_of zones scale psa) reply step.0) [
@@ -101,7 +101,7 @@ stays_disc s (works.Press zones scale psa) payload reply data_in t step =
 stays_disc s (works.OnDisc line) payload reply data_in t step = on_disc_leaves s line payload (Ok reply) data_in t step
 
 -- a run leaves a disc where there was one
-run_leaves : (s : Loaded) (events : List AnsweredLine) (now : State) → Run (Disc s) events now → (disc : Loaded) × (now ≡ Disc disc)
+run_leaves : (s : Served) (events : List AnsweredLine) (now : State) → Run (Disc s) events now → (disc : Served) × (now ≡ Disc disc)
 run_leaves s [] now run = (s, run)
 run_leaves s (event ∷ events) now run =
     let before = run_leaves s events run.0 run.1 in
@@ -147,7 +147,7 @@ press_speaks zones scale psa same = cc
 module _ (bytes script : List ℕ) (press : BeginsWithPress script) where
   -- what a line that is the first to be answered, or says nothing, leaves of an image that is no disc's
   first_leaves : (line : Line) (raw payload : List ℕ) (reply : Reply) (data_in : List ℕ) (now : State) → Step (Unopened bytes) (work_of line) payload (Ok reply) data_in now → Reads raw line payload
-      → (line ≡ lines.Empty) ⊎ IsLawfulPress line → ((disc : Loaded) × (now ≡ Disc disc)) ⊎ ((now ≡ Unopened bytes) × Reads raw lines.Empty [])
+      → (line ≡ lines.Empty) ⊎ IsLawfulPress line → ((disc : Served) × (now ≡ Disc disc)) ⊎ ((now ≡ Unopened bytes) × Reads raw lines.Empty [])
   first_leaves lines.Empty raw payload reply data_in now step reads is = inr (step.2, subst (Reads raw lines.Empty) (empty_payload raw payload reads) reads)
   first_leaves (lines.Press zones scale psa) raw payload reply data_in now step reads (inl empty) = absurd (press_speaks zones scale psa empty)
   first_leaves (lines.Press zones scale psa) raw payload reply data_in now step reads (inr lawful) =
@@ -169,8 +169,8 @@ module _ (bytes script : List ℕ) (press : BeginsWithPress script) where
 
   -- one event more
   continues_silent : (event : AnsweredLine) (events : List AnsweredLine) (rest : List ℕ) (before now : State) → IsStep before event now → script ≡ script_text events ++ ((event.raw ++ line_feed ∷ []) ++ rest)
-      → ((disc : Loaded) × (before ≡ Disc disc)) ⊎ ((before ≡ Unopened bytes) × AreSilent (raws_of events))
-      → ((disc : Loaded) × (now ≡ Disc disc)) ⊎ ((now ≡ Unopened bytes) × AreSilent (raws_of (event ∷ events)))
+      → ((disc : Served) × (before ≡ Disc disc)) ⊎ ((before ≡ Unopened bytes) × AreSilent (raws_of events))
+      → ((disc : Served) × (now ≡ Disc disc)) ⊎ ((now ≡ Unopened bytes) × AreSilent (raws_of (event ∷ events)))
   continues_silent event events rest before now step whole (inl disc) =
       inl (stays_disc disc.0 (work_of event.line) event.payload event.reply event.data_in now (subst (λ x. Step x (work_of event.line) event.payload (Ok event.reply) event.data_in now) disc.1 step.step))
   continues_silent event events rest before now step whole (inr silent) =
@@ -186,7 +186,7 @@ module _ (bytes script : List ℕ) (press : BeginsWithPress script) where
 
   -- there is a disc, or all lines so far say nothing
   silent_so_far : (events : List AnsweredLine) (rest : List ℕ) (now : State) → Run (Unopened bytes) events now → script ≡ script_text events ++ rest
-      → ((disc : Loaded) × (now ≡ Disc disc)) ⊎ ((now ≡ Unopened bytes) × AreSilent (raws_of events))
+      → ((disc : Served) × (now ≡ Disc disc)) ⊎ ((now ≡ Unopened bytes) × AreSilent (raws_of events))
   silent_so_far [] rest now run whole = inr (run, tt)
   silent_so_far (event ∷ events) rest now run whole =
       let parts : script ≡ script_text events ++ ((event.raw ++ line_feed ∷ []) ++ rest) = whole ∙ append_assoc (script_text events) (event.raw ++ line_feed ∷ []) rest in

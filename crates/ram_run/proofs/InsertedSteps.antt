@@ -1,38 +1,64 @@
--- What a line leaves of the inserted disc.
-use Rattle.std.specs.Prelude.{◌≡◌, ℕ, List}
-use Rattle.std.proofs.Common.{refl, ap, ◌∙◌, subst}
-use Rattle.model_geometry.specs.Geometry.{total}
+-- What a line leaves of the inserted disc, and what the image is as it is handed back.
+use Rattle.std.specs.Prelude.{◌≡◌, ℕ, Option, None, Some, List}
+use Rattle.std.proofs.Common.{refl, sym, ap, ◌∙◌, subst}
+use Rattle.std.proofs.lemmas.Bool.{false≢true}
+use Rattle.model_sectors.specs.Discs.{Standing, On, Off}
+use Rattle.model_drive.specs.Shown.{Shown, IsKnown, StandsFor}
+use Rattle.model_target.specs.declared.host.Host.{Host}
 use Rattle.ram_outside.specs.declared.image.Image.{Ghosts as Images}
-use Rattle.ram_plain_sectors.specs.Laws.{PlainSectorsLaws}
-use Rattle.ram_plain_sectors.specs.declared.PlainSectors.{Ghosts as Drives}
+use Rattle.ram_sectors.specs.Laws.{SectorsLaws}
+use Rattle.ram_sectors.specs.declared.Sectors.{Ghosts as Drives}
+use Rattle.ram_mmc.specs.declared.target.Target.{Target}
 use Rattle.ram_run.specs.declared.inserted.Inserted.TheVariants as inserts
 use Rattle.ram_run.specs.declared.line.DiscLine.{DiscLine}
 use Rattle.ram_run.specs.declared.line.Work.TheVariants as works
-use Rattle.ram_run.specs.Drive.{DriveLaws}
+use Rattle.ram_run.specs.Drive.{HasCells}
 use Rattle.ram_run.specs.Replies.{Outcome}
-use Rattle.ram_run.specs.States.{State, Loaded, Unopened, Disc, IsIn}
+use Rattle.ram_run.specs.States.{State, Served, Unopened, Disc, IsIn, IsLabelled}
 use Rattle.ram_run.specs.LineSteps.{DiscRule, DiscStep}
-use Rattle.ram_run.specs.Inserted.{Stands, IsAnswered}
+use Rattle.ram_run.specs.Inserted.{Stands, LeavesImage, IsAnswered}
 use Rattle.ram_run.proofs.StatesAfter.{rule_found}
+use Rattle.ram_run.proofs.Labels.{stays_labelled}
 
-module _ {D I : Type 0} (drives : Drives D) (images : Images I) (laws : PlainSectorsLaws drives.shows drives.stands) (drive_laws : DriveLaws drives.shape drives.shows) (old new : D) (line : DiscLine) (payload : List ℕ) (outcome : Outcome) (data_in : List ℕ)
-    (rule : DiscRule (drives.shows old) (drives.shows new) (drives.stands old) (drives.stands new) (total (drives.shape old)) line payload outcome data_in) (same_shape : drives.shape new ≡ drives.shape old) where
+module _ {D I : Type 0} (drives : Drives D) (images : Images I) (laws : SectorsLaws drives.shows drives.stands) (old new : Target D) (line : DiscLine) (payload : List ℕ) (outcome : Outcome) (data_in : List ℕ)
+    (rule : DiscRule (drives.shows old.disc) (drives.shows new.disc) (drives.stands old.disc) (drives.stands new.disc) old.host new.host line payload outcome data_in)
+    (same_shape : (drives.shows new.disc).shape ≡ (drives.shows old.disc).shape) where
   -- the disc that a line leaves
-  disc_left : (s : Loaded) → IsIn (drives.shape old) (drives.shows old) (drives.stands old) s
-      → (t : Loaded) × DiscStep s t line payload outcome data_in × IsIn (drives.shape new) (drives.shows new) (drives.stands new) t
+  disc_left : (s : Served) → IsIn (drives.shows old.disc) (drives.stands old.disc) old.host s
+      → (t : Served) × DiscStep s t line payload outcome data_in × IsIn (drives.shows new.disc) (drives.stands new.disc) new.host t
   disc_left s is =
-      let found = rule_found (drives.shows old) (drives.shows new) (drives.stands old) (drives.stands new) s.standing is.standing_is (total (drives.shape old)) line payload outcome data_in rule in
-      let t : Loaded = record { shape = drives.shape new; shown = drives.shows new; standing = found.0; homes_are = drive_laws.homes_are new; agrees = laws.agrees new found.0 found.1 } in (
+      let found = rule_found (drives.shows old.disc) (drives.shows new.disc) (drives.stands old.disc) (drives.stands new.disc) old.host new.host s.disc.standing is.standing_is line payload outcome data_in rule in
+      let labelled : IsLabelled (drives.shows new.disc) =
+      stays_labelled (drives.shows old.disc) (drives.shows new.disc) (drives.stands old.disc) (drives.stands new.disc) old.host new.host line payload outcome data_in rule same_shape
+      (subst IsLabelled (sym is.shown_is) s.labelled) in
+      let t : Served = record {
+        disc = record { shown = drives.shows new.disc; standing = found.0; sound = laws.sound new.disc; stands = (laws.as_shown new.disc found.0).0 found.1 };
+        host = new.host;
+        labelled = labelled;
+      } in (
         t,
         record {
-          same_shape = same_shape ∙ is.shape_is;
-          rule = subst (λ n. DiscRule s.shown (drives.shows new) (λ x. x ≡ s.standing) (λ x. x ≡ found.0) n line payload outcome data_in) (ap total is.shape_is)
-              (subst (λ shown. DiscRule shown (drives.shows new) (λ x. x ≡ s.standing) (λ x. x ≡ found.0) (total (drives.shape old)) line payload outcome data_in) is.shown_is found.2);
+          same_shape = same_shape ∙ ap (λ (shown : Shown). shown.shape) is.shown_is;
+          rule = subst (λ (host : Host). DiscRule s.disc.shown (drives.shows new.disc) (λ x. x ≡ s.disc.standing) (λ x. x ≡ found.0) host new.host line payload outcome data_in) is.host_is
+              (subst (λ (shown : Shown). DiscRule shown (drives.shows new.disc) (λ x. x ≡ s.disc.standing) (λ x. x ≡ found.0) old.host new.host line payload outcome data_in) is.shown_is found.2);
         },
-        record { shape_is = refl; shown_is = refl; standing_is = found.1 },
+        record { shown_is = refl; standing_is = found.1; host_is = refl },
       )
 
   -- the same of the inserted disc
   pub inserted_left : (s : State) → Stands drives images (inserts.Disc old) s → IsAnswered s (works.OnDisc line) payload data_in (Stands drives images (inserts.Disc new)) outcome
   inserted_left (Unopened bytes) stands = absurd stands
   inserted_left (Disc s) stands = let left = disc_left s stands in record { state = Disc left.0; step = left.1; stands = left.2 }
+
+-- the cells of a drive that stands for something are known
+known_of : (shown : Shown) (standing : Standing) → StandsFor shown standing → IsKnown shown
+known_of shown (On disc) stands = stands.0
+known_of shown (Off discs) stands = stands.0
+
+-- the image of a disc as it is handed back
+pub image_left : (shown : Shown) (stands : Standing → Type 0) (host : Host) (s : Served) → IsIn shown stands host s → (image : Option (List ℕ)) → HasCells shown.medium.world image → LeavesImage (Disc s) image
+image_left shown stands host s is image cells = by_bytes image (subst (λ (x : Shown). HasCells x.medium.world image) is.shown_is cells)
+  where
+    by_bytes : (o : Option (List ℕ)) → HasCells s.disc.shown.medium.world o → LeavesImage (Disc s) o
+    by_bytes None unknown = absurd (false≢true (sym unknown ∙ known_of s.disc.shown s.disc.standing s.disc.stands))
+    by_bytes (Some bytes) has = has s.disc.shown.shape s.labelled

@@ -1,5 +1,8 @@
 pub mod StatesAfter
 pub mod LineCounts
+pub mod Labels
+pub mod Volumes
+pub mod Printing
 pub mod InsertedSteps
 pub mod Opens
 pub mod Answering
@@ -11,3 +14,9 @@ pub mod FewLines
 pub mod Finishes
 pub mod Few
 pub mod Closes
+pub mod Decoded
+pub mod WrittenDiscs
+pub mod Acknowledged
+pub mod DoneLines
+pub mod InImage
+pub mod OldOrNew

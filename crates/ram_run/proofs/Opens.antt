@@ -1,119 +1,102 @@
 -- What opening and pressing an image make of it.
-use Rattle.std.specs.Prelude.{◌≡◌, ◌≢◌, ℕ, ◌<◌, ◌≤◌, ◌⊎◌, ◌==◌, IsTrue, if◌then◌else◌, Bool, false, true, Option, Some, None, is_some, IfSome, Err, List, [], ◌∷◌, length, drop, slice_index}
-use Rattle.std.proofs.Common.{arith, refl, sym, ap, ◌∙◌, inl, inr, subst, length-drop}
-use Rattle.std.proofs.lemmas.Bool.{cases_lt, false≢true}
-use Rattle.std.proofs.lemmas.List.{length-take-le, get_or_past}
+use Rattle.std.specs.Prelude.{◌≡◌, ◌≢◌, ℕ, ◌<◌, ◌≤◌, ◌⊎◌, Bool, false, true, Option, Some, None, is_some, IfSome, Err, List, [], length}
+use Rattle.std.proofs.Common.{arith, refl, sym, ap, ◌∙◌, inl, inr, subst}
 use Rattle.std.proofs.lemmas.List.FromFn.{length-map-range_with_len}
 use Rattle.model_bytes.specs.Known.{WhereKnown}
-use Rattle.model_geometry.specs.Geometry.{Shape, IsLawful, total}
-use Rattle.model_medium.specs.Cells.{Blank, Good, Torn, Dead, cell_at}
+use Rattle.model_geometry.specs.Geometry.{Shape, IsLawful, label_of, total}
+use Rattle.model_medium.specs.Cells.{Cell}
 use Rattle.model_medium.specs.Machine.{Machine}
-use Rattle.model_image.specs.Cells.{image_len, state_place, data_place, data_in, cell_in, cells_of, cells_known}
+use Rattle.model_medium.specs.declared.WornBlock.{WornBlock}
+use Rattle.model_medium.specs.declared.ArmedCut.{ArmedCut}
+use Rattle.model_image.specs.Cells.{image_len, cell_in, cells_of, cells_known}
 use Rattle.model_image.specs.Image.{HasHeader, IsDiscImage, IsImageOf, IsStoppedPress, PressesImage, blank_cells}
 use Rattle.model_image.proofs.Headers.{one_header}
-use Rattle.model_image.proofs.Writes.{cell_at-cells_of}
-use Rattle.model_sectors.specs.Discs.{Standing, Off, Shown, IsShown, first_disc}
+use Rattle.model_image.proofs.WholeCells.{cells_of-whole}
+use Rattle.model_drive.specs.Shown.{Shown, StandsFor}
+use Rattle.model_drive.specs.Runs.{Loaded, opened_drive, IsOpenedOn}
+use Rattle.model_drive.proofs.Opening.{opened_disc}
+use Rattle.model_target.specs.Host.{powered_on}
 use Rattle.ram_outside.specs.declared.image.Image.{Ghosts as Images}
-use Rattle.ram_image.specs.Medium.{world_of, machine_in}
-use Rattle.ram_plain_sectors.specs.declared.PlainSectors.{Ghosts as Drives}
+use Rattle.ram_image.specs.Medium.{machine_in}
 use Rattle.ram_image.specs.Opening.{IsOpened, IsRefused}
 use Rattle.ram_image.specs.declared.medium.ImageMedium.{ImageMedium}
 use Rattle.ram_image.specs.declared.opening.OpenFault.{OpenFault}
 use Rattle.ram_image.specs.declared.opening.OpenFault.TheVariants as faulty
+use Rattle.ram_mmc.specs.declared.target.Target.{Target}
+use Rattle.ram_sectors.specs.declared.Sectors.{Ghosts as Drives}
 use Rattle.ram_text.specs.declared.printing.Event.TheVariants as events
+use Rattle.ram_volume.specs.Shown.{shown_without}
 use Rattle.ram_run.specs.declared.inserted.Inserted.TheVariants as inserts
 use Rattle.ram_run.specs.declared.stopped.Stopped.TheVariants as whys
-use Rattle.ram_run.specs.Homes.{plain_homes}
-use Rattle.ram_run.specs.Drive.{IsStart, IsMade, IsOpenedBy, OpensDrive}
+use Rattle.ram_run.specs.Drive.{IsOpenedBy, OpensDrive}
 use Rattle.ram_run.specs.Replies.{event, stopped_by}
-use Rattle.ram_run.specs.States.{State, Loaded, Unopened, Disc, IsOpenedOn}
+use Rattle.ram_run.specs.States.{State, Served, Unopened, Disc, IsIn, IsInserted, IsLabelled}
 use Rattle.ram_run.specs.Inserted.{Stands, LeavesImage, IsPressAnswered}
 use Rattle.ram_run.specs.Starts.{StandsFirst}
 
--- the bytes of a good cell are the block's data
-good_data : (blank good dead : Bool) (whole held : List ℕ) → (if blank then Blank else (if good then Good whole else (if dead then Dead else Torn))) ≡ Good held → held ≡ whole
-good_data false true dead whole held e = cc
-good_data true good dead whole held e = absurd (clash e)
-  where
-    clash : Blank ≡ Good held → ⊥
-    clash p = cc
-good_data false false true whole held e = absurd (clash e)
-  where
-    clash : Dead ≡ Good held → ⊥
-    clash p = cc
-good_data false false false whole held e = absurd (clash e)
-  where
-    clash : Torn ≡ Good held → ⊥
-    clash p = cc
+-- a machine is told by its parts
+abbrev machine_by : List ℕ → Bool → List Cell → Bool → ℕ → ℕ → ℕ → List WornBlock → Option ArmedCut → Machine
+machine_by label known cells power uses cuts faults arms cut = record {
+  world = record { label = label; known = known; cells = cells; power = power; uses = uses; cuts = cuts; faults = faults };
+  arms = arms;
+  cut = cut;
+}
 
--- a good cell of an image has the bytes of a whole block
-whole_cells : (n : ℕ) (bytes : List ℕ) → length bytes ≡ image_len n → (block : ℕ) (held : List ℕ) → cell_at (cells_of n bytes) block ≡ Good held → length held ≡ 32768
-whole_cells n bytes long block held good = elim (cases_lt block n) [ inl inside ↦ within inside | inr past ↦ absurd (beyond past) ]
-  where
-    within : block < n → length held ≡ 32768
-    within inside =
-        ap length (good_data (slice_index bytes (state_place block) == 0) (slice_index bytes (state_place block) == 1) (slice_index bytes (state_place block) == 3) (data_in n bytes block) held (sym (cell_at-cells_of n bytes block inside) ∙ good))
-        ∙ length-take-le 32768 (drop (data_place n block) bytes) (omega (arith, long, inside, length-drop (data_place n block) bytes))
+same_machine : (label label' : List ℕ) (known known' : Bool) (cells cells' : List Cell) (power power' : Bool) (uses uses' cuts cuts' faults faults' : ℕ) (arms arms' : List WornBlock) (cut cut' : Option ArmedCut)
+    → label ≡ label' → known ≡ known' → cells ≡ cells' → power ≡ power' → uses ≡ uses' → cuts ≡ cuts' → faults ≡ faults' → arms ≡ arms' → cut ≡ cut'
+    → machine_by label known cells power uses cuts faults arms cut ≡ machine_by label' known' cells' power' uses' cuts' faults' arms' cut'
+same_machine label label' known known' cells cells' power power' uses uses' cuts cuts' faults faults' arms arms' cut cut' a b c d e f g h i = cc
 
-    beyond : n ≤ block → ⊥
-    beyond past =
-        let e : Dead ≡ Good held = sym (get_or_past (cells_of n bytes) block Dead (omega (arith, past, length-map-range_with_len (cell_in n bytes) 0 n))) ∙ good in cc
-
-module _ {I : Type 0} {d : Images I} (image : I) (medium : ImageMedium I d) (geometry : Shape) (opened : IsOpened image medium geometry) (shape : Shape) (shown : Shown) (stands : Standing → Type 0)
-    (made : IsMade geometry (machine_in medium) shape shown stands) (homes_are : shown.homes ≡ plain_homes shape) (agrees : (s : Standing) → stands s → IsShown shown s) where
+module _ {I : Type 0} {d : Images I} (image : I) (medium : ImageMedium I d) (geometry : Shape) (opened : IsOpened image medium geometry) (shown : Shown) (made : shown ≡ shown_without geometry (machine_in medium)) where
   module _ (bytes : List ℕ) (known : d.bytes image ≡ Some bytes) where
     disc_there : IsDiscImage geometry bytes
     disc_there = subst (λ o. IfSome o (IsDiscImage geometry)) known opened.disc
 
-    same_cells : (world_of medium).cells ≡ cells_of (total geometry) bytes
-    same_cells = opened.cells_are ∙ ap (cells_known (total geometry)) known
+    abbrev disc_cells : List Cell
+    disc_cells = cells_of (total geometry) bytes
 
-    start : IsStart (world_of medium)
-    start = record {
-      known = opened.as_known ∙ ap is_some known;
-      whole = λ block held good. whole_cells (total geometry) bytes disc_there.as_long block held (ap (λ cells. cell_at cells block) (sym same_cells) ∙ good);
-      off = λ on. false≢true (sym opened.off ∙ on);
-    }
+    -- the medium is that of a disc that was just opened
+    machine_is : machine_in medium ≡ (opened_drive geometry disc_cells (d.faults image)).medium
+    machine_is =
+        let m = machine_in medium in
+        same_machine m.world.label (label_of geometry) m.world.known true m.world.cells disc_cells m.world.power false m.world.uses 0 m.world.cuts 0 m.world.faults (d.faults image) m.arms [] m.cut None
+        opened.label_is (opened.as_known ∙ ap is_some known) (opened.cells_are ∙ ap (cells_known (total geometry)) known) opened.off opened.no_uses opened.no_cuts opened.count opened.no_arms opened.no_cut
 
-    abbrev state : Loaded
-    state = record {
-      shape = geometry;
-      shown = shown;
-      standing = Off (first_disc (plain_homes geometry) (world_of medium).cells ∷ []);
-      homes_are = homes_are ∙ ap plain_homes made.shape_is;
-      agrees = agrees (Off (first_disc (plain_homes geometry) (world_of medium).cells ∷ [])) (made.starts start);
-    }
+    loaded : (s : Loaded) × IsOpenedOn geometry disc_cells s × (s.shown ≡ opened_drive geometry disc_cells (d.faults image))
+    loaded = opened_disc geometry disc_cells (d.faults image) (length-map-range_with_len (cell_in (total geometry) bytes) 0 (total geometry)) (cells_of-whole (total geometry) bytes disc_there.as_long)
+
+    drive_is : shown ≡ loaded.0.shown
+    drive_is = made ∙ ap (shown_without geometry) machine_is ∙ sym loaded.2
 
     -- an image whose bytes are known was opened
-    opened_by : IsOpenedBy bytes shape shown stands
+    opened_by : IsOpenedBy bytes shown (StandsFor shown)
     opened_by = record {
-      state = state;
+      shape = geometry;
       image = disc_there;
-      opened = record {
-        shape_is = refl;
-        cells_are = ap (λ (m : Machine). m.world.cells) made.medium_is ∙ same_cells;
-        off = λ on. start.off (subst (λ (m : Machine). IsTrue m.world.power) made.medium_is on);
-        no_uses = ap (λ (m : Machine). m.world.uses) made.medium_is ∙ opened.no_uses;
-        no_cuts = ap (λ (m : Machine). m.world.cuts) made.medium_is ∙ opened.no_cuts;
-        no_arms = ap (λ (m : Machine). m.arms) made.medium_is ∙ opened.no_arms;
-        no_cut = ap (λ (m : Machine). m.cut) made.medium_is ∙ opened.no_cut;
-        unbuffered = made.unbuffered;
-        standing_is = ap (λ cells. Off (first_disc (plain_homes geometry) cells ∷ [])) same_cells;
-      };
-      is_in = record { shape_is = made.shape_is; shown_is = refl; standing_is = made.starts start };
+      disc = loaded.0;
+      opened = loaded.1;
+      shown_is = drive_is;
+      standing_is = subst (λ (x : Shown). StandsFor x loaded.0.standing) (sym drive_is) loaded.0.stands;
     }
 
-  -- where the bytes of the image are known, the drive stands for something
-  pub opens_for_some : shown.medium.world.known ≡ true → ¬ ((s : Standing) → ¬ stands s)
-  opens_for_some known none = by_bytes (d.bytes image) refl
-    where
-      by_bytes : (o : Option (List ℕ)) → d.bytes image ≡ o → ⊥
-      by_bytes None e = false≢true (sym (opened.as_known ∙ ap is_some e) ∙ sym (ap (λ (m : Machine). m.world.known) made.medium_is) ∙ known)
-      by_bytes (Some bytes) e = none (Off (first_disc (plain_homes geometry) (world_of medium).cells ∷ [])) (made.starts (start bytes e))
-
   -- the same, and nothing failed
-  pub opens : OpensDrive (d.bytes image) (d.faults image) shape shown stands
-  opens = record { opened = opened_by; count = ap (λ (m : Machine). m.world.faults) made.medium_is ∙ opened.count }
+  pub opens : OpensDrive (d.bytes image) (d.faults image) shown (StandsFor shown)
+  opens = record { opened = opened_by; count = ap (λ (x : Shown). x.medium.world.faults) made ∙ opened.count }
+
+-- a disc that was just opened has the label of its geometry
+opened_labelled : (shape : Shape) (cells : List Cell) (s : Loaded) → IsOpenedOn shape cells s → IsLabelled s.shown
+opened_labelled shape cells s opened = ap (λ (x : Shown). x.medium.world.label) opened.shown_is ∙ ap label_of (sym (ap (λ (x : Shown). x.shape) opened.shown_is))
+
+-- a target over a disc that was just opened
+module _ {D I : Type 0} (drives : Drives D) (images : Images I) (bytes : List ℕ) (target : Target D) (by : IsOpenedBy bytes (drives.shows target.disc) (drives.stands target.disc)) (host_is : target.host ≡ powered_on) where
+  abbrev served : Served
+  served = record { disc = by.disc; host = powered_on; labelled = opened_labelled by.shape (cells_of (total by.shape) bytes) by.disc by.opened }
+
+  is_in : IsIn (drives.shows target.disc) (drives.stands target.disc) target.host served
+  is_in = record { shown_is = by.shown_is; standing_is = by.standing_is; host_is = host_is }
+
+  inserted : IsInserted by.shape (cells_of (total by.shape) bytes) served
+  inserted = record { opened = by.opened; host_is = refl }
 
 -- an image that was left and then pressed tells the bytes of a new disc
 pressed_bytes : (s : State) (shape : Shape) (before after : Option (List ℕ)) → LeavesImage s before → WhereKnown before after (PressesImage shape) → (bytes : List ℕ) × (after ≡ Some bytes) × IsImageOf shape (blank_cells shape) bytes
@@ -136,17 +119,20 @@ module _ {D I : Type 0} (drives : Drives D) (images : Images I) (s : State) (sha
     found = pressed_bytes s shape before (images.bytes image) left pressed
 
     -- a disc was pressed and opened
-    pub press_opened : (drive : D) → ((bytes : List ℕ) → images.bytes image ≡ Some bytes → IsOpenedBy bytes (drives.shape drive) (drives.shows drive) (drives.stands drive)) → IsPressAnswered s shape (Stands drives images (inserts.Disc drive)) (event events.Pressed)
-    press_opened drive opening =
+    pub press_opened : (target : Target D) → target.host ≡ powered_on → ((bytes : List ℕ) → images.bytes image ≡ Some bytes → IsOpenedBy bytes (drives.shows target.disc) (drives.stands target.disc))
+        → IsPressAnswered s shape (Stands drives images (inserts.Disc target)) (event events.Pressed)
+    press_opened target host_is opening =
         let by = opening found.0 found.1 in
-        let one : by.state.shape ≡ shape = one_header by.state.shape shape found.0 by.image.has_header found.2.disc.has_header in
+        let one : by.shape ≡ shape = one_header by.shape shape found.0 by.image.has_header found.2.disc.has_header in
+        let disc = served drives images found.0 target by host_is in
         record {
-          state = Disc by.state;
+          state = Disc disc;
           step = (
             lawful,
-            subst (λ cells. IsOpenedOn shape cells by.state) found.2.cells_are (subst (λ (z : Shape). IsOpenedOn z (cells_of (total z) found.0) by.state) one by.opened),
+            subst (λ cells. IsInserted shape cells disc) found.2.cells_are
+                (subst (λ (z : Shape). IsInserted z (cells_of (total z) found.0) disc) one (inserted drives images found.0 target by host_is)),
           );
-          stands = by.is_in;
+          stands = is_in drives images found.0 target by host_is;
         }
 
     -- a pressed image is refused only where it failed, or there was no memory
@@ -171,8 +157,15 @@ module _ {D I : Type 0} (drives : Drives D) (images : Images I) (s : State) (sha
 
 module _ {D I : Type 0} (drives : Drives D) (images : Images I) (image : I) where
   -- a disc was opened
-  pub first_opened : (drive : D) → ((bytes : List ℕ) → images.bytes image ≡ Some bytes → IsOpenedBy bytes (drives.shape drive) (drives.shows drive) (drives.stands drive)) → (bytes : List ℕ) → images.bytes image ≡ Some bytes → StandsFirst bytes (Stands drives images (inserts.Disc drive))
-  first_opened drive opening bytes known = let by = opening bytes known in record { state = Disc by.state; first = (by.state.shape, by.image, by.opened); stands_first = by.is_in }
+  pub first_opened : (target : Target D) → target.host ≡ powered_on → ((bytes : List ℕ) → images.bytes image ≡ Some bytes → IsOpenedBy bytes (drives.shows target.disc) (drives.stands target.disc))
+      → (bytes : List ℕ) → images.bytes image ≡ Some bytes → StandsFirst bytes (Stands drives images (inserts.Disc target))
+  first_opened target host_is opening bytes known =
+      let by = opening bytes known in
+      record {
+        state = Disc (served drives images bytes target by host_is);
+        first = (by.shape, by.image, inserted drives images bytes target by host_is);
+        stands_first = is_in drives images bytes target by host_is;
+      }
 
   -- an image that holds no disc is left as it is
   pub first_unopened : (image' : I) (faults faults' : ℕ) (fault : OpenFault) → IsRefused (images.bytes image) (images.bytes image') faults faults' fault → (fault ≡ faulty.Header) ⊎ ((len : ℕ) × (fault ≡ faulty.Length len))

@@ -2,7 +2,7 @@
 use Rattle.std.specs.Prelude.{◌≡◌, ℕ, Option, None, Some, List}
 use Rattle.model_geometry.specs.Geometry.{Shape}
 use Rattle.ram_outside.specs.declared.image.Image.{Ghosts as Images}
-use Rattle.ram_plain_sectors.specs.declared.PlainSectors.{Ghosts as Drives}
+use Rattle.ram_sectors.specs.declared.Sectors.{Ghosts as Drives}
 use Rattle.ram_run.specs.declared.inserted.Inserted.{Inserted}
 use Rattle.ram_run.specs.declared.inserted.Inserted.TheVariants as inserts
 use Rattle.ram_run.specs.declared.line.Work.{Work}
@@ -15,13 +15,13 @@ module _ {D I : Type 0} (drives : Drives D) (images : Images I) where
   abbrev pub Stands : Inserted D I → State → Type 0
   Stands (inserts.Image image) (Unopened bytes) = images.bytes image ≡ Some bytes
   Stands (inserts.Image image) (Disc s) = ⊥
-  Stands (inserts.Disc drive) (Unopened bytes) = ⊥
-  Stands (inserts.Disc drive) (Disc s) = IsIn (drives.shape drive) (drives.shows drive) (drives.stands drive) s
+  Stands (inserts.Disc target) (Unopened bytes) = ⊥
+  Stands (inserts.Disc target) (Disc s) = IsIn (drives.shows target.disc) (drives.stands target.disc) target.host s
 
   -- how often the image of the inserted disc has failed
   abbrev pub faults_of : Inserted D I → ℕ
   faults_of (inserts.Image image) = images.faults image
-  faults_of (inserts.Disc drive) = (drives.shows drive).medium.world.faults
+  faults_of (inserts.Disc target) = (drives.shows target.disc).medium.world.faults
 
 -- the bytes of the image that is left are known, and they are those of the state
 abbrev pub LeavesImage : State → Option (List ℕ) → Type 0

@@ -1,5 +1,3 @@
-pub mod Homes
-pub mod Plain
 pub mod Control
 pub mod Work
 pub mod Replies
@@ -17,3 +15,4 @@ pub mod Endings
 pub mod Starts
 pub mod Completes
 pub mod Statuses
+pub mod Acknowledged

@@ -1,59 +1,56 @@
 -- The states of a run: what lies in the drive. For the steps of a run, and for who says what a run leaves.
-use Rattle.std.specs.Prelude.{◌≡◌, ℕ, None, List, [], ◌∷◌}
-use Rattle.model_geometry.specs.Geometry.{Shape, total}
+use Rattle.std.specs.Prelude.{◌≡◌, ℕ, List}
+use Rattle.model_geometry.specs.Geometry.{Shape, label_of, total}
 use Rattle.model_medium.specs.Cells.{Cell}
 use Rattle.model_image.specs.Cells.{cells_of}
 use Rattle.model_image.specs.Image.{IsDiscImage, IsImageOf, IsStoppedPress, blank_cells}
-use Rattle.model_sectors.specs.Discs.{Standing, Off, Shown, IsOn, IsShown, first_disc}
-use Rattle.ram_run.specs.Homes.{plain_homes}
+use Rattle.model_sectors.specs.Discs.{Standing}
+use Rattle.model_drive.specs.Shown.{Shown, cells_in}
+use Rattle.model_drive.specs.Runs.{Loaded, IsOpenedOn}
+use Rattle.model_target.specs.declared.host.Host.{Host}
+use Rattle.model_target.specs.Host.{powered_on}
 
--- A disc in the drive: its geometry, what the drive shows, and what it stands for, which agree. (This project's own, as
--- all here.)
-pub record Loaded : Type 0 where
-  pub shape : Shape
-  pub shown : Shown
-  pub standing : Standing
-  pub homes_are : shown.homes ≡ plain_homes shape
-  pub agrees : IsShown shown standing
+-- the label of the medium is that of the disc's geometry (this project's own, as all here)
+abbrev pub IsLabelled : Shown → Type 0
+IsLabelled shown = shown.medium.world.label ≡ label_of shown.shape
+
+-- A disc in the drive: what the drive shows and one thing that it stands for, and what is remembered for its host.
+pub record Served : Type 0 where
+  pub disc : Loaded
+  pub host : Host
+  pub labelled : IsLabelled disc.shown
 
 -- What lies in the drive: an image of these bytes that was not opened as a disc, or a disc.
 pub data State : Type 0 where
   Unopened : List ℕ → State
-  Disc : Loaded → State
+  Disc : Served → State
 
--- a drive of this geometry that shows and stands for these is in this state
-pub record IsIn (shape : Shape) (shown : Shown) (stands : Standing → Type 0) (s : Loaded) : Type 0 where
-  pub shape_is : shape ≡ s.shape
-  pub shown_is : shown ≡ s.shown
-  pub standing_is : stands s.standing
+-- a drive that shows and stands for these, and whose host has this remembered, is in this state
+pub record IsIn (shown : Shown) (stands : Standing → Type 0) (host : Host) (s : Served) : Type 0 where
+  pub shown_is : shown ≡ s.disc.shown
+  pub standing_is : stands s.disc.standing
+  pub host_is : host ≡ s.host
 
 -- an image that is left in this state
 abbrev pub IsLeft : State → List ℕ → Type 0
 IsLeft (Unopened first) bytes = bytes ≡ first
-IsLeft (Disc s) bytes = IsImageOf s.shape s.shown.medium.world.cells bytes
+IsLeft (Disc s) bytes = IsImageOf s.disc.shown.shape (cells_in s.disc.shown) bytes
 
--- A disc that was just opened: it has these cells, the power is off, nothing is armed, counted or buffered, and when the
--- power goes on it is the bytes of the homes that have whole ones, and zeros for the others.
-pub record IsOpenedOn (shape : Shape) (cells : List Cell) (s : Loaded) : Type 0 where
-  pub shape_is : s.shape ≡ shape
-  pub cells_are : s.shown.medium.world.cells ≡ cells
-  pub off : ¬ IsOn s.shown
-  pub no_uses : s.shown.medium.world.uses ≡ 0
-  pub no_cuts : s.shown.medium.world.cuts ≡ 0
-  pub no_arms : s.shown.medium.arms ≡ []
-  pub no_cut : s.shown.medium.cut ≡ None
-  pub unbuffered : s.shown.buffered ≡ []
-  pub standing_is : s.standing ≡ Off (first_disc (plain_homes shape) cells ∷ [])
+-- A disc of this geometry with these cells was just inserted: the drive is as when its image was opened, and its host
+-- remembers a power that just came on.
+pub record IsInserted (shape : Shape) (cells : List Cell) (s : Served) : Type 0 where
+  pub opened : IsOpenedOn shape cells s.disc
+  pub host_is : s.host ≡ powered_on
 
 -- what a run over an image of these bytes begins with: its disc, or the image where it is no disc's
 abbrev pub IsFirst : List ℕ → State → Type 0
 IsFirst bytes (Unopened held) = (held ≡ bytes) × ((shape : Shape) → ¬ IsDiscImage shape bytes)
-IsFirst bytes (Disc s) = (shape : Shape) × IsDiscImage shape bytes × IsOpenedOn shape (cells_of (total shape) bytes) s
+IsFirst bytes (Disc s) = (shape : Shape) × IsDiscImage shape bytes × IsInserted shape (cells_of (total shape) bytes) s
 
--- a disc of this geometry was pressed, and opened
+-- a disc of this geometry was pressed, and inserted
 abbrev pub IsPressedDisc : Shape → State → Type 0
 IsPressedDisc shape (Unopened bytes) = ⊥
-IsPressedDisc shape (Disc s) = IsOpenedOn shape (blank_cells shape) s
+IsPressedDisc shape (Disc s) = IsInserted shape (blank_cells shape) s
 
 -- the image of a disc of this geometry, with blank cells, that was not opened
 abbrev pub IsPressedUnopened : Shape → State → Type 0

@@ -3,9 +3,9 @@
 /// The text of `--version`.
 pub const VERSION: &[u8] = b"ram_drive 1.00\n";
 
-/// The text of `--help`: what the program does, its forms, the script language in one screen, and the exit statuses.
-pub const HELP: &[u8] =
-    b"ram_drive: a drive of rewritable discs whose blocks may fail, over an image file
+/// The text of `--help`: what the program does, its forms, the script language in one screen, with the commands, and the
+/// exit statuses.
+pub const HELP: &[u8] = b"ram_drive: a DVD-RAM drive that hides dead blocks, over an image file
 
   ram_drive run IMAGE    answer the script on standard input over this image and
                          print the report; the file is made where there is none
@@ -24,6 +24,17 @@ The script has one of these a line; words are parted by spaces, # is a comment:
   cdb HEX fill XX        with as many bytes as it takes, each of them XX
   cdb HEX count XX       the same, from XX on one more for each sector
   cdb HEX hex HEX        with exactly these data
+
+The commands, by the first byte of the command block:
+  00 TEST UNIT READY     25 READ CAPACITY(10)    46 GET CONFIGURATION
+  03 REQUEST SENSE       28 READ(10)             55 MODE SELECT(10)
+  04 FORMAT UNIT         2a WRITE(10)            5a MODE SENSE(10)
+  12 INQUIRY             2e WRITE AND VERIFY     a8 READ(12)
+  1b START STOP UNIT     35 SYNCHRONIZE CACHE    aa WRITE(12)
+  1e PREVENT ALLOW MEDIUM REMOVAL
+The first command after power is told of it (check 6/29/00) in place of being
+done. A new disc has to be formatted before it has sectors, like this:
+  cdb 041100000000 hex 000000080000013000000800
 
 The exit status: 0 done, 2 other words than these, 3 a line is not in the script
 language or too long, 4 the image failed, 5 the script could not be read, 6 the

@@ -1,9 +1,8 @@
 //! The inserted disc, and what one line does with it: the drive is worked on where it lies, and only a press takes its
 //! image out.
 ghost use Rattle.std.specs.Prelude.{◌≡◌, ◌≤◌, [], vec_capacity};
-ghost use Rattle.model_geometry.specs.Geometry.{shape_of, total};
+ghost use Rattle.model_geometry.specs.Geometry.{shape_of};
 ghost use Rattle.ram_text.specs.declared.payload.TheConstants.{PAYLOAD_ROOM};
-ghost use Rattle.ram_mmc.specs.Commands.{Executes};
 ghost use Rattle.ram_run.specs.declared.line.Work.TheVariants as works;
 ghost use Rattle.ram_run.specs.Work.{CountsUses};
 ghost use Rattle.ram_run.specs.Replies.{PrintsWhere, power_outcome, fail_outcome, wear_outcome, command_outcome};
@@ -19,31 +18,31 @@ use crate::stopped::Stopped;
 use ram_bytes::Cdb;
 use ram_image::{PressOut, press};
 use ram_medium::{Arm, FailEnd};
-use ram_mmc::{Answer, execute};
+use ram_mmc::{Answer, Target};
 use ram_outside::Image;
-use ram_plain_sectors::PowerOut;
+use ram_sectors::PowerOut;
 use ram_text::Event;
 use ram_zones::Geometry;
 use std::alloc::Global;
 
-/// What lies in the drive: an image that was not opened as a disc, or a drive over one.
+/// What lies in the drive: an image that was not opened as a disc, or a disc with what is remembered for its host.
 pub enum Inserted<D: Drive> {
     /// An image that was not opened.
     Image(D::Image),
     /// A disc.
-    Disc(D),
+    Disc(Target<D>),
 }
 
 impl<D: Drive> Inserted<D> {
     /// The image, as it is left.
     pub fn into_image(self) -> D::Image
-        ensures count { D.Image.faults result ≡ faults_of D.PlainSectors D.Image.Image self }
-        ensures left { (s : State) → Stands D.PlainSectors D.Image.Image self s
+        ensures count { D.Image.faults result ≡ faults_of D.Sectors D.Image.Image self }
+        ensures left { (s : State) → Stands D.Sectors D.Image.Image self s
             → LeavesImage s (D.Image.bytes result) }
     {
         match self {
             Inserted::Image(image) => image,
-            Inserted::Disc(disc) => disc.into_image(),
+            Inserted::Disc(target) => target.into_disc().into_image(),
         }
     }
 
@@ -59,27 +58,27 @@ impl<D: Drive> Inserted<D> {
         requires uses { CountsUses line }
         requires empty { data_in.old.items ≡ [] }
         requires room { PAYLOAD_ROOM ≤ vec_capacity data_in.old }
-        ensures step { (s : State) → Stands D.PlainSectors D.Image.Image self.old s
+        ensures step { (s : State) → Stands D.Sectors D.Image.Image self.old s
             → IsAnswered s (works.OnDisc line) payload.now data_in.new.items
-            (Stands D.PlainSectors D.Image.Image self.new) result }
+            (Stands D.Sectors D.Image.Image self.new) result }
         ensures printable { PrintsWhere result }
-        ensures count { LineCount (faults_of D.PlainSectors D.Image.Image self.old)
-            (faults_of D.PlainSectors D.Image.Image self.new) result }
+        ensures count { LineCount (faults_of D.Sectors D.Image.Image self.old)
+            (faults_of D.Sectors D.Image.Image self.new) result }
         ensures room { vec_capacity data_in.old ≤ vec_capacity data_in.new }
     {
         match self {
             Inserted::Image(_) => Err(Stopped::NotADisc),
-            Inserted::Disc(disc) => {
-                let outcome = answer_on_disc(disc, alloc, line, payload, data_in);
+            Inserted::Disc(target) => {
+                let outcome = answer_on_disc(target, alloc, line, payload, data_in);
                 outcome
             }
         }
     }
 }
 
-/// What a line does on a disc.
+/// What a line does on a disc. What a script does to the medium the host is not told.
 fn answer_on_disc<D: Drive>(
-    disc: &mut D,
+    target: &mut Target<D>,
     alloc: Global,
     line: DiscLine,
     payload: &[u8],
@@ -88,48 +87,24 @@ fn answer_on_disc<D: Drive>(
     requires uses { CountsUses line }
     requires empty { data_in.old.items ≡ [] }
     requires room { PAYLOAD_ROOM ≤ vec_capacity data_in.old }
-    ensures rule { DiscRule (D.shows disc.old) (D.shows disc.new) (D.stands disc.old) (D.stands disc.new)
-        (total (D.shape disc.old)) line payload.now result data_in.new.items }
+    ensures rule { DiscRule (D.shows target.old.disc) (D.shows target.new.disc)
+        (D.stands target.old.disc) (D.stands target.new.disc) target.old.host target.new.host
+        line payload.now result data_in.new.items }
     ensures printable { PrintsWhere result }
-    ensures same_shape { D.shape disc.new ≡ D.shape disc.old }
+    ensures same_shape { (D.shows target.new.disc).shape ≡ (D.shows target.old.disc).shape }
     ensures room { vec_capacity data_in.old ≤ vec_capacity data_in.new }
 {
     match line {
-        DiscLine::Power => power_outcome(disc.power(alloc)),
-        DiscLine::Fail { block } => fail_outcome(disc.fail(block)),
-        DiscLine::Wear { block, n } => wear_outcome(disc.wear(block, n)),
+        DiscLine::Power => power_outcome(target.power(alloc)),
+        DiscLine::Fail { block } => fail_outcome(target.disc.fail(block)),
+        DiscLine::Wear { block, n } => wear_outcome(target.disc.wear(block, n)),
         DiscLine::Cut { n, fate } => {
-            disc.arm_cut(n, fate);
+            target.disc.arm_cut(n, fate);
             Ok(Reply::Event(Event::Armed))
         }
         DiscLine::Command { cdb } => {
-            let answer = execute_powered(disc, &cdb, payload, data_in);
+            let answer = target.execute(alloc, &cdb, payload, data_in);
             command_outcome(cdb, answer)
-        }
-    }
-}
-
-/// Executes a command. While the power is off nothing is done: a transfer tells so itself.
-fn execute_powered<D: Drive>(
-    disc: &mut D,
-    cdb: &Cdb,
-    payload: &[u8],
-    data_in: &mut Vec<u8>,
-) -> Answer
-    requires empty { data_in.old.items ≡ [] }
-    requires room { PAYLOAD_ROOM ≤ vec_capacity data_in.old }
-    ensures rule { Executes D.PlainSectors disc.old disc.new cdb.now payload.now result data_in.new.items }
-    ensures same_shape { D.shape disc.new ≡ D.shape disc.old }
-    ensures room { vec_capacity data_in.old ≤ vec_capacity data_in.new }
-{
-    match execute(disc, cdb, payload, data_in) {
-        Ok(answer) => answer,
-        Err(sense) => {
-            if disc.powered() {
-                Answer::Check(sense)
-            } else {
-                Answer::Off
-            }
         }
     }
 }
@@ -190,12 +165,12 @@ pub fn press_disc<D: Drive>(
     scale: u32,
     psa: u32,
 ) -> (Inserted<D>, Result<Reply, Stopped>)
-    ensures step { (s : State) → Stands D.PlainSectors D.Image.Image inserted s
+    ensures step { (s : State) → Stands D.Sectors D.Image.Image inserted s
         → IsPressAnswered s (shape_of zones scale psa)
-        (Stands D.PlainSectors D.Image.Image result.0) result.1 }
+        (Stands D.Sectors D.Image.Image result.0) result.1 }
     ensures printable { PrintsWhere result.1 }
-    ensures count { LineCount (faults_of D.PlainSectors D.Image.Image inserted)
-        (faults_of D.PlainSectors D.Image.Image result.0) result.1 }
+    ensures count { LineCount (faults_of D.Sectors D.Image.Image inserted)
+        (faults_of D.Sectors D.Image.Image result.0) result.1 }
 {
     let Ok(geometry) = Geometry::new(zones, scale, psa) else {
         return (inserted, Ok(Reply::Event(Event::NotPressed)));
@@ -206,7 +181,10 @@ pub fn press_disc<D: Drive>(
         PressOut::Done => {}
     }
     match D::open(alloc, image) {
-        Ok(disc) => (Inserted::Disc(disc), Ok(Reply::Event(Event::Pressed))),
+        Ok(disc) => (
+            Inserted::Disc(Target::new(disc)),
+            Ok(Reply::Event(Event::Pressed)),
+        ),
         Err((image, fault)) => (Inserted::Image(image), Err(Stopped::from(fault))),
     }
 }

@@ -7,12 +7,13 @@ ghost use Rattle.ram_run.specs.Words.{IsRunOf, WritesText, TextCount, IsRunImage
 ghost use Rattle.ram_run.specs.Endings.{IsBeginning, IsUnopened, IsNoUsage, StandsWith, StatusCounts, aftermath_of};
 
 use crate::help::{HELP, VERSION};
-use crate::plain::PlainDisc;
 use crate::serve::serve;
 use crate::state::RunState;
 use crate::status::Status;
+use ram_image::ImageMedium;
 use ram_outside::{Opened, Opener, Sink, Source};
 use ram_text::hand_over;
+use ram_volume::Volume;
 use std::alloc::Global;
 
 /// The forms of the program's words.
@@ -131,7 +132,7 @@ fn run_image<S: Source, K: Sink, O: Opener>(
     match opener.open(name) {
         Opened::Failed => Status::ImageFault,
         Opened::Image(image) => {
-            let (image, status) = serve::<PlainDisc<O::Image>, S, K>(
+            let (image, status) = serve::<Volume<ImageMedium<O::Image>>, S, K>(
                 alloc, image, &mut state, script, report,
             );
             opener.close(image);

@@ -19,6 +19,7 @@ use crate::state::{RunState, next_work, tell};
 use crate::status::Status;
 use crate::stopped::Stopped;
 use ram_image::OpenFault;
+use ram_mmc::Target;
 use ram_outside::{Image, Sink, Source};
 use std::alloc::Global;
 
@@ -36,15 +37,15 @@ fn answer_line<D: Drive, K: Sink>(
     requires empty { state.old.data_in.items ≡ [] }
     requires room { HasRoom state.old }
     ensures turn { (first : Beginning) (far : SoFar first) (left : Option (List ℕ))
-        → Stands D.PlainSectors D.Image.Image inserted.old far.now
+        → Stands D.Sectors D.Image.Image inserted.old far.now
         → Taken far (run_view left (K.written report.old) state.old) (works.OnDisc line) state.old.payload.items
-        → TurnsTo first (Stands D.PlainSectors D.Image.Image inserted.new)
+        → TurnsTo first (Stands D.Sectors D.Image.Image inserted.new)
         (run_view left (K.written report.new) state.new) result }
     ensures counts { (source : ℕ)
         → StopCounts (counts_of source (K.faults report.old)
-        (faults_of D.PlainSectors D.Image.Image inserted.old))
+        (faults_of D.Sectors D.Image.Image inserted.old))
         (counts_of source (K.faults report.new)
-        (faults_of D.PlainSectors D.Image.Image inserted.new)) result }
+        (faults_of D.Sectors D.Image.Image inserted.new)) result }
     ensures tally { TallyRule state.old.tally state.new.tally result }
     ensures same_reader { state.new.reader ≡ state.old.reader }
     ensures room { HasRoom state.new }
@@ -68,16 +69,16 @@ fn press_line<D: Drive, K: Sink>(
     requires empty { state.old.data_in.items ≡ [] }
     requires room { HasRoom state.old }
     ensures turn { (first : Beginning) (far : SoFar first) (left : Option (List ℕ))
-        → Stands D.PlainSectors D.Image.Image inserted far.now
+        → Stands D.Sectors D.Image.Image inserted far.now
         → Taken far (run_view left (K.written report.old) state.old) (works.Press zones scale psa)
         state.old.payload.items
-        → TurnsTo first (Stands D.PlainSectors D.Image.Image result.0)
+        → TurnsTo first (Stands D.Sectors D.Image.Image result.0)
         (run_view left (K.written report.new) state.new) result.1 }
     ensures counts { (source : ℕ)
         → StopCounts (counts_of source (K.faults report.old)
-        (faults_of D.PlainSectors D.Image.Image inserted))
+        (faults_of D.Sectors D.Image.Image inserted))
         (counts_of source (K.faults report.new)
-        (faults_of D.PlainSectors D.Image.Image result.0)) result.1 }
+        (faults_of D.Sectors D.Image.Image result.0)) result.1 }
     ensures tally { TallyRule state.old.tally state.new.tally result.1 }
     ensures same_reader { state.new.reader ≡ state.old.reader }
     ensures room { HasRoom state.new }
@@ -98,15 +99,15 @@ pub fn serve_lines<D: Drive, S: Source, K: Sink>(
     requires fresh { IsFresh state.old }
     requires room { HasRoom state.old }
     ensures ends { (first : Beginning)
-        → Between first (Stands D.PlainSectors D.Image.Image inserted)
+        → Between first (Stands D.Sectors D.Image.Image inserted)
         (run_view (S.left script.old) (K.written report.old) state.old)
-        → Ends first (Stands D.PlainSectors D.Image.Image result.0)
+        → Ends first (Stands D.Sectors D.Image.Image result.0)
         (run_view (S.left script.new) (K.written report.new) state.new) result.1 }
     ensures counts { StopCounts
         (counts_of (S.faults script.old) (K.faults report.old)
-        (faults_of D.PlainSectors D.Image.Image inserted))
+        (faults_of D.Sectors D.Image.Image inserted))
         (counts_of (S.faults script.new) (K.faults report.new)
-        (faults_of D.PlainSectors D.Image.Image result.0)) result.1 }
+        (faults_of D.Sectors D.Image.Image result.0)) result.1 }
     ensures few { state.new.tally.lines < 2 ^ 63 }
 {
     let mut inserted = inserted;
@@ -141,10 +142,10 @@ pub fn serve_lines<D: Drive, S: Source, K: Sink>(
 /// What lies in the drive when a run begins: a disc where the image holds one. Where the image failed, or there is no
 /// memory, it is handed back with the reason.
 fn begin<D: Drive>(alloc: Global, image: D::Image) -> Result<Inserted<D>, (D::Image, Stopped)>
-    ensures { StartRule D.PlainSectors D.Image.Image image result }
+    ensures { StartRule D.Sectors D.Image.Image image result }
 {
     match D::open(alloc, image) {
-        Ok(disc) => Ok(Inserted::Disc(disc)),
+        Ok(disc) => Ok(Inserted::Disc(Target::new(disc))),
         Err((image, fault)) => match fault {
             OpenFault::Header | OpenFault::Length { .. } => Ok(Inserted::Image(image)),
             OpenFault::Fault | OpenFault::NoMemory => Err((image, Stopped::from(fault))),

@@ -1,5 +1,5 @@
 -- The blocks that a buffer has after a use of one, and those of a disc.
-use Rattle.std.proofs.Common.{◌≡◌, ◌≢◌, ℕ, zero, suc, ◌⊎◌, inl, inr, Bool, true, false, IsTrue, Some, None, List, [], ◌∷◌, take, sym, ap, ◌∙◌, subst, arith}
+use Rattle.std.proofs.Common.{◌≡◌, ◌≢◌, ℕ, zero, suc, ◌<◌, ◌⊎◌, inl, inr, Bool, true, false, IsTrue, Some, None, List, [], ◌∷◌, take, sym, ap, ◌∙◌, subst, arith, refl}
 use Rattle.std.specs.Prelude.{◌==◌, not, cond}
 use Rattle.std.specs.Option.{option_map}
 use Rattle.std.specs.List.{Contains, filter, find}
@@ -38,7 +38,7 @@ contains_kept p (y ∷ ys) x has = elim (cases_Bool (p y)) [
   | inr fails ↦ Contains-later y ys x (contains_kept p ys x (subst (λ l. Contains l x) (cond-false (p y) (y ∷ filter p ys) (filter p ys) fails) has))
 ]
 
-same_in_some : {X : Type 0} {x y : X} → Some x ≡ Some y → x ≡ y
+pub same_in_some : {X : Type 0} {x y : X} → Some x ≡ Some y → x ≡ y
 same_in_some h = cc
 
 -- what the buffer has for a number is one of its blocks
@@ -101,3 +101,18 @@ put_in_room room disc disc' i bytes buffer is others holds j found has =
 pub holds_put : (disc disc' : List ℕ) (i : ℕ) (bytes : List ℕ) (buffer : List (ℕ × List ℕ)) → bytes ≡ block_of disc' i → ((j : ℕ) → j ≢ i → block_of disc' j ≡ block_of disc j) → HoldsBlocksOf disc buffer
     → HoldsBlocksOf disc' (with_newest i bytes buffer)
 holds_put disc disc' i bytes buffer is others holds = put_in_room BUFFERED_BLOCKS disc disc' i bytes buffer is others holds
+
+-- a block that is used twice in a row is buffered as if it were used once: there is room for one
+pub newest_twice : (i : ℕ) (bytes : List ℕ) (buffer : List (ℕ × List ℕ)) → with_newest i bytes (with_newest i bytes buffer) ≡ with_newest i bytes buffer
+newest_twice i bytes buffer = refl
+
+-- the block that was used last is there, in any room
+used_in_room : (room i : ℕ) (bytes : List ℕ) (buffer : List (ℕ × List ℕ)) → 0 < room → bytes_at i (take room ((i, bytes) ∷ filter (λ held. not (held.0 == i)) buffer)) ≡ Some bytes
+used_in_room zero i bytes buffer some = absurd (omega arith)
+used_in_room (suc room) i bytes buffer some =
+    ap (option_map (λ (held : ℕ × List ℕ). held.1))
+    (cond-true (i == i) (Some (i, bytes)) (find (λ held. held.0 == i) (take room (filter (λ held. not (held.0 == i)) buffer))) (eq-eqb i i refl))
+
+-- the buffer has the bytes of the block that was used last
+pub bytes_at_used : (i : ℕ) (bytes : List ℕ) (buffer : List (ℕ × List ℕ)) → bytes_at i (with_newest i bytes buffer) ≡ Some bytes
+bytes_at_used i bytes buffer = used_in_room BUFFERED_BLOCKS i bytes buffer (omega arith)

@@ -16,7 +16,8 @@ use Rattle.model_drive.specs.Reads.{ReadCause}
 use Rattle.model_drive.specs.Writes.{WriteCause}
 use Rattle.model_drive.specs.Power.{PowerCause}
 use Rattle.model_drive.specs.Formats.{FormatCause}
-use Rattle.model_drive.proofs.Found.{read_found, write_found, power_found, format_found, read_known, write_known, power_known, format_known}
+use Rattle.model_drive.proofs.Found.{read_found, write_found, power_found, format_found}
+use Rattle.model_drive.proofs.Kept.{read_kept, write_kept, power_kept, format_kept}
 use Rattle.model_drive.proofs.Opening.{opened_disc}
 use Rattle.ram_volume.specs.Shown.{shown_without}
 use Rattle.ram_volume.specs.Reading.{ReadSteps}
@@ -31,22 +32,22 @@ module _ (old new : Shown) where
 
   pub read_some : (lba n : ℕ) (into : List ℕ) (out : ReadOut) → ReadCause old new lba n out → ReadSteps old new lba n into out → StandsForSome old → StandsForSome new
   read_some lba n into out cause steps =
-      still_some (read_known old new lba n out cause)
+      still_some (read_kept old new lba n out cause).as_known
       (λ s stands. let found = read_found (StandsFor new) s lba n into out (steps s stands) in (found.0, found.1))
 
   pub write_some : (lba n : ℕ) (from : List ℕ) (out : WriteOut) → WriteCause old new lba n out → WriteSteps old new lba n from out → StandsForSome old → StandsForSome new
   write_some lba n from out cause steps =
-      still_some (write_known old new lba n out cause)
+      still_some (write_kept old new lba n out cause).as_known
       (λ s stands. let found = write_found (StandsFor new) new s lba n from out (steps s stands) in (found.0, found.1))
 
   pub power_some : (out : PowerOut) → PowerCause old new out → PowerSteps old new out → StandsForSome old → StandsForSome new
   power_some out cause steps =
-      still_some (power_known old new out cause)
+      still_some (power_kept old new out cause).as_known
       (λ s stands. let found = power_found (StandsFor new) new s out (steps s stands) in (found.0, found.1))
 
   pub format_some : (kind : Kind) (out : FormatOut) → FormatCause old new kind out → FormatSteps old new kind out → StandsForSome old → StandsForSome new
   format_some kind out cause steps =
-      still_some (format_known old new kind out cause)
+      still_some (format_kept old new kind out cause).as_known
       (λ s stands. let found = format_found (StandsFor new) old new s kind out (steps s stands) in (found.0, found.1))
 
 -- With its power off a drive stands for the discs of the lists that its cells give, if these are whole.

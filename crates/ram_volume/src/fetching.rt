@@ -1,6 +1,8 @@
 //! One logical block: read into the drive's block, out of the buffer or from its home.
 
-ghost use Rattle.std.specs.Prelude.{◌≡◌, ◌<◌, MatchResult};
+ghost use Rattle.std.specs.Prelude.{◌≡◌, ◌<◌, ◌≤◌, MatchResult, None, length};
+ghost use Rattle.model_buffer.specs.Buffer.{bytes_at};
+ghost use Rattle.model_buffer.specs.declared.TheConstants.{BUFFERED_BLOCKS};
 ghost use Rattle.model_geometry.specs.Geometry.{total};
 ghost use Rattle.model_places.specs.Places.{logical_count, home_of};
 ghost use Rattle.model_places.specs.Valid.{AreValid};
@@ -12,6 +14,29 @@ use ram_bytes::Block;
 use ram_lists::{Lists, home};
 use ram_medium::{Medium, Stop, read_whole};
 use ram_zones::Geometry;
+
+/// Reads a logical block that is not buffered from its home, and buffers it. Whether it can be read.
+pub fn read_home<M: Medium>(
+    medium: &mut M,
+    buffer: &mut BlockBuffer,
+    block: &mut Block,
+    i: u32,
+    place: u32,
+) -> Result<bool, Stop>
+    requires inside { place < M.block_count medium.old }
+    requires few { length buffer.old ≤ BUFFERED_BLOCKS }
+    requires not_buffered { bytes_at i buffer.old ≡ None }
+    ensures rule { MatchResult result
+        (λ found. Fetches M.world M.reaches medium.old medium.new buffer.old i place block.new buffer.new found)
+        (λ stop. FetchStopped M.world M.reaches medium.old medium.new buffer.old i place stop) }
+    ensures as_many { M.block_count medium.new ≡ M.block_count medium.old }
+{
+    if !read_whole(medium, place, block)? {
+        return Ok(false);
+    }
+    buffer.put(i, block);
+    Ok(buffer.lookup(i, block))
+}
 
 /// Reads a logical block, out of the buffer or from its home, and buffers it. Whether it can be read.
 pub fn fetch<M: Medium>(
@@ -36,9 +61,5 @@ pub fn fetch<M: Medium>(
         return Ok(true);
     }
     let place = home(geometry, lists, i);
-    if !read_whole(medium, place, block)? {
-        return Ok(false);
-    }
-    buffer.put(i, block);
-    Ok(true)
+    read_home(medium, buffer, block, i, place)
 }

@@ -6,7 +6,7 @@ ghost use Rattle.model_commands.specs.declared.TheConstants.{TRANSFER_LIMIT};
 ghost use Rattle.model_geometry.specs.declared.TheConstants.{MOST_SPARES};
 ghost use Rattle.model_geometry.specs.Geometry.{total};
 ghost use Rattle.model_lists.specs.Values.{IsLawfulSdl};
-ghost use Rattle.model_places.specs.Places.{logical_count, capacity_of, home_of};
+ghost use Rattle.model_places.specs.Places.{logical_count, capacity_of};
 ghost use Rattle.model_places.specs.Valid.{AreValid};
 ghost use Rattle.model_volume.specs.Given.{AreSettled};
 ghost use Rattle.model_drive.specs.Shown.{capacity};
@@ -17,7 +17,7 @@ ghost use Rattle.ram_lists.specs.Lists.{lists_of};
 ghost use Rattle.ram_volume.specs.Shown.{shown_ready, shown_state};
 ghost use Rattle.ram_volume.specs.Writing.{BringsRest, RestStopped, WritesPart, PartStops, EndsParts, StopsParts, WriteSteps};
 
-use crate::fetching::fetch;
+use crate::fetching::read_home;
 use crate::states::{PoweredOff, Ready, State};
 use model_drive::WriteOut;
 use ram_buffer::BlockBuffer;
@@ -46,26 +46,26 @@ pub enum Wrote {
 /// Reads a block, out of the buffer or from its home, where a request covers it in part. Whether the block can be written.
 fn fetch_rest<M: Medium>(
     medium: &mut M,
-    geometry: &Geometry,
-    lists: &Lists,
     buffer: &mut BlockBuffer,
     block: &mut Block,
     part: Part,
+    place: u32,
 ) -> Result<bool, Stop>
-    requires size { M.block_count medium.old ≡ total geometry.now }
-    requires valid { AreValid geometry.now (lists_of lists.now) }
-    requires inside { part.block < logical_count geometry.now (lists_of lists.now) }
+    requires inside { place < M.block_count medium.old }
     ensures rule { MatchResult result
         (BringsRest M.world M.reaches medium.old buffer.old part.request.lba part.request.n part.block
-        (home_of geometry.now (lists_of lists.now) part.block) medium.new block.new buffer.new)
+        place medium.new block.new buffer.new)
         (RestStopped M.world M.reaches medium.old buffer.old part.request.lba part.request.n part.block
-        (home_of geometry.now (lists_of lists.now) part.block) medium.new) }
+        place medium.new) }
     ensures as_many { M.block_count medium.new ≡ M.block_count medium.old }
 {
     if !part.is_partly() {
         return Ok(true);
     }
-    fetch(medium, geometry, lists, buffer, block, part.block)
+    if buffer.lookup(part.block, block) {
+        return Ok(true);
+    }
+    read_home(medium, buffer, block, part.block, place)
 }
 
 /// Writes a part of a request, and buffers its block once its home has it.
@@ -100,11 +100,14 @@ fn write_part<M: Medium>(
     ensures draft { MOST_SPARES ≤ draft.new.entries.room }
     ensures as_many { M.block_count medium.new ≡ M.block_count medium.old }
 {
-    if !fetch_rest(medium, geometry, lists, buffer, block, part)? {
+    let place = home(geometry, lists, part.block);
+    if !fetch_rest(medium, buffer, block, part, place)? {
         return Ok(Wrote::NoRest);
     }
     part.merge(from, block);
-    match write_home(medium, geometry, lists, draft, part.block, block, scratch) {
+    match write_home(
+        medium, geometry, lists, draft, part.block, place, block, scratch,
+    ) {
         Placed::Done => {
             buffer.put(part.block, block);
             Ok(Wrote::Done)

@@ -1,79 +1,287 @@
-//! Images that are there already.
-ghost use Rattle.std.specs.Prelude.{◌<◌};
-
+//! Images that are there already, and the bytes that a run leaves.
 use super::run_lines;
-use crate::runs::{IMAGE_BYTES, PIECE, run_script};
+use crate::runs::IMAGE_BYTES;
 use ram_run::status::Status;
 use std::alloc::{AllocError, Global};
 use std::test::Fail;
 
-/// The image that the first script leaves: its header, 41 states of which that of block 13 is good, and 41 blocks.
-fn written_image(alloc: Global) -> Result<Vec<u8>, AllocError> {
-    let mut image = b"DVDRAM01\0\x01\0\x01\0\x04\0\0".to_vec(alloc)?;
-    image.resize(29, 0)?;
-    image.push(1)?;
-    image.resize(426_041, 0)?;
-    image.resize(458_809, 0xaa)?;
+/// The header of a disc of one zone, scale 1 and four primary spares.
+const HEADER: &[u8] = b"DVDRAM01\0\x01\0\x01\0\x04\0\0";
+
+/// Where the block of this number begins in the image of such a disc.
+fn place_of(block: usize) -> usize {
+    block.saturating_mul(32_768).saturating_add(57)
+}
+
+/// Puts bytes into an image, from this place on.
+fn put(image: &mut Vec<u8>, at: usize, bytes: &[u8]) {
+    let mut at = at;
+    for byte in bytes {
+        if let Some(held) = image.get_mut(at) {
+            *held = *byte;
+        }
+        at = at.saturating_add(1);
+    }
+}
+
+/// Puts one byte into an image so many times, from this place on.
+fn fill(image: &mut Vec<u8>, at: usize, count: usize, byte: u8) {
+    for place in at..at.saturating_add(count) {
+        if let Some(held) = image.get_mut(place) {
+            *held = byte;
+        }
+    }
+}
+
+/// The image of a new disc: its header, 41 states and 41 blocks, all of them blank.
+fn new_image(alloc: Global) -> Result<Vec<u8>, AllocError> {
+    let mut image = HEADER.to_vec(alloc)?;
     image.resize(IMAGE_BYTES, 0)?;
     Ok(image)
 }
 
-/// Writes block 13, and reads a sector of it.
-const FIRST_SCRIPT: &[u8] = b"press 1 1 4
-power
-cdb 2a000000000000001000 fill aa
-cdb 28000000000500000100
-";
+/// Both lists of a disc that was just formatted: the beginnings of their texts.
+const STRUCTURE: &[u8] = b"\x0a\x0a\x01\x80\0\0\0\x02\0\x04";
 
-const FIRST_REPORT: &[u8] = b"1 pressed
-2 ready 304
-3 good
-4 good
-sector 5 fill aa
-end 4
-";
+const LIST: &[u8] = b"\0\x02\x01\0\0\0\0\x01\0\0\0\x02\0\0\0\0";
 
-/// Whether the first script over an image of these bytes has its report, and leaves these.
-fn makes(alloc: Global, image: &[u8], piece: usize, left: &[u8]) -> Result<bool, AllocError>
-    requires { 0 < piece }
-{
-    let ran = run_script(alloc, FIRST_SCRIPT, image, piece, None)?;
-    Ok(ran.has(Status::Done, FIRST_REPORT) && ran.image.as_slice() == left)
+/// The list of a disc of which block 13 was replaced by block 12: the beginning of its text, and its entry.
+const NEXT_LIST: &[u8] = b"\0\x02\x01\0\0\0\0\x02\0\0\0\x02\0\0\0\x01";
+
+const ENTRY: &[u8] = b"\0\0\0\x0d\0\0\0\x0c";
+
+/// The blocks in which the copies of both lists lie.
+const STRUCTURES: [usize; 4] = [0, 2, 33, 35];
+
+const LISTS: [usize; 4] = [1, 3, 34, 36];
+
+/// The image of a formatted disc: four copies of each list, and zeros in the 23 data blocks.
+fn formatted_image(alloc: Global) -> Result<Vec<u8>, AllocError> {
+    let mut image = new_image(alloc)?;
+    fill(&mut image, 16, 4, 1);
+    fill(&mut image, 25, 23, 1);
+    fill(&mut image, 49, 4, 1);
+    for block in STRUCTURES {
+        put(&mut image, place_of(block), STRUCTURE);
+        put(
+            &mut image,
+            place_of(block).saturating_add(2_048),
+            b"\0\x01\0\0",
+        );
+    }
+    for block in LISTS {
+        put(&mut image, place_of(block), LIST);
+    }
+    Ok(image)
 }
 
-#[test]
-fn a_press_makes_any_image_a_new_disc(rt: HostRuntime) -> Result<(), Fail> {
-    let written = written_image(rt.alloc())?;
-    assert!(rt; makes(rt.alloc(), b"", 7, written.as_slice())?);
-    assert!(rt; makes(rt.alloc(), b"no disc", PIECE, written.as_slice())?);
-    assert!(rt; makes(rt.alloc(), written.as_slice(), PIECE, written.as_slice())?);
-    Ok(())
+/// Puts the list with block 13 replaced into one copy.
+fn put_next_list(image: &mut Vec<u8>, block: usize) {
+    put(image, place_of(block), NEXT_LIST);
+    put(image, place_of(block).saturating_add(32), ENTRY);
 }
 
 /// Whether the script over an image of these bytes has this status and this report, and leaves those bytes.
-fn leaves(
+fn makes(
     alloc: Global,
     image: &[u8],
     script: &str,
     status: Status,
     report: &[u8],
+    left: &[u8],
 ) -> Result<bool, AllocError> {
     let ran = run_lines(alloc, script, image, None)?;
-    Ok(ran.has(status, report) && ran.image.as_slice() == image)
+    Ok(ran.has(status, report) && ran.image.as_slice() == left)
+}
+
+#[test]
+fn a_press_makes_any_image_a_new_disc(rt: HostRuntime) -> Result<(), Fail> {
+    let new = new_image(rt.alloc())?;
+    let formatted = formatted_image(rt.alloc())?;
+    for image in [b"".as_slice(), b"no disc", &new, &formatted] {
+        let report = b"1 pressed\nend 1\n";
+        assert!(rt;
+            makes(
+                rt.alloc(),
+                image,
+                "press 1 1 4\n",
+                Status::Done,
+                report,
+                &new
+            )?
+        );
+    }
+    Ok(())
+}
+
+#[test]
+fn a_format_writes_both_lists_and_zeros(rt: HostRuntime) -> Result<(), Fail> {
+    let new = new_image(rt.alloc())?;
+    let formatted = formatted_image(rt.alloc())?;
+    let script = "power\ncdb 000000000000\ncdb 041100000000 hex 000000080000013000000800\n";
+    let report = b"1 not formatted\n2 check 6/29/00\n3 good\nend 3\n";
+    assert!(rt; makes(rt.alloc(), &new, script, Status::Done, report, &formatted)?);
+    Ok(())
+}
+
+/// The image of a formatted disc whose block 13 is dead, and was replaced by block 12 with these bytes.
+fn replaced_image(alloc: Global, byte: u8) -> Result<Vec<u8>, AllocError> {
+    let mut image = formatted_image(alloc)?;
+    put(&mut image, 29, b"\x03");
+    fill(&mut image, place_of(12), 32_768, byte);
+    for block in LISTS {
+        put_next_list(&mut image, block);
+    }
+    Ok(image)
+}
+
+#[test]
+fn a_replacement_stands_in_each_copy_of_the_list(rt: HostRuntime) -> Result<(), Fail> {
+    let formatted = formatted_image(rt.alloc())?;
+    let replaced = replaced_image(rt.alloc(), 0xaa)?;
+    let script = "power\ncdb 000000000000\nfail 13\nW 0 16 fill aa\n";
+    let report = b"1 ready 304\n2 check 6/29/00\n3 failed\n4 good\nend 4\n";
+    assert!(rt;
+        makes(
+            rt.alloc(),
+            &formatted,
+            script,
+            Status::Done,
+            report,
+            &replaced
+        )?
+    );
+    Ok(())
 }
 
 #[test]
 fn an_odd_state_is_that_of_a_torn_block(rt: HostRuntime) -> Result<(), Fail> {
-    let mut image = written_image(rt.alloc())?;
+    let mut image = formatted_image(rt.alloc())?;
+    let script = "power\ncdb 000000000000\nR 0 1\nW 3 1 fill bb\n";
+    let report =
+        b"1 ready 304\n2 check 6/29/00\n3 check 3/11/00 info 0\n4 check 3/11/00 info 3\nend 4\n";
     for state in [4u8, 255] {
-        if let Some(held) = image.get_mut(29) {
-            *held = state;
-        }
-        let script = "power\nR 0 1\nW 3 1 fill bb\n";
-        let report = b"1 ready 304\n2 check 3/11/00 info 0\n3 check 3/11/00 info 3\nend 3\n";
-        let is_so = leaves(rt.alloc(), &image, script, Status::Done, report)?;
+        put(&mut image, 29, &[state]);
+        let is_so = makes(rt.alloc(), &image, script, Status::Done, report, &image)?;
         assert!(rt; is_so, "state {state}");
     }
+    Ok(())
+}
+
+#[test]
+fn a_copy_that_is_no_list_is_written_anew(rt: HostRuntime) -> Result<(), Fail> {
+    let formatted = formatted_image(rt.alloc())?;
+    let mut image = formatted_image(rt.alloc())?;
+    put(
+        &mut image,
+        place_of(1),
+        b"\0\x02\x01\0\0\0\0\x09\0\0\0\x02\0\0\0\x02",
+    );
+    put(
+        &mut image,
+        place_of(1).saturating_add(32),
+        b"\0\0\0\x0e\0\0\0\x0c\0\0\0\x0d\0\0\0\x0b",
+    );
+    put(&mut image, place_of(35).saturating_add(32_767), b"\x01");
+    let report = b"1 ready 304\nend 1\n";
+    assert!(rt;
+        makes(
+            rt.alloc(),
+            &image,
+            "power\n",
+            Status::Done,
+            report,
+            &formatted
+        )?
+    );
+    Ok(())
+}
+
+/// The image of a formatted disc of which one copy alone says that block 13 was replaced, by a block with these bytes.
+fn one_newer_copy(alloc: Global) -> Result<Vec<u8>, AllocError> {
+    let mut image = formatted_image(alloc)?;
+    fill(&mut image, place_of(12), 32_768, 0xaa);
+    put_next_list(&mut image, 34);
+    Ok(image)
+}
+
+#[test]
+fn the_copy_with_the_greatest_counter_is_chosen(rt: HostRuntime) -> Result<(), Fail> {
+    let image = one_newer_copy(rt.alloc())?;
+    let mut left = one_newer_copy(rt.alloc())?;
+    for block in LISTS {
+        put_next_list(&mut left, block);
+    }
+    let script = "power\ncdb 000000000000\nR 0 1\n";
+    let report = b"1 ready 304\n2 check 6/29/00\n3 good\nsector 0 fill aa\nend 3\n";
+    assert!(rt; makes(rt.alloc(), &image, script, Status::Done, report, &left)?);
+    Ok(())
+}
+
+/// The image of a formatted disc one list of which has another counter, which lies here in its text.
+fn counted_image(
+    alloc: Global,
+    blocks: [usize; 4],
+    at: usize,
+    counter: &[u8],
+) -> Result<Vec<u8>, AllocError> {
+    let mut image = formatted_image(alloc)?;
+    for block in blocks {
+        put(&mut image, place_of(block).saturating_add(at), counter);
+    }
+    Ok(image)
+}
+
+#[test]
+fn a_list_at_its_last_counter_stays(rt: HostRuntime) -> Result<(), Fail> {
+    let image = counted_image(rt.alloc(), LISTS, 4, b"\xff\xff\xff\xff")?;
+    let ran = run_lines(
+        rt.alloc(),
+        "power\ncdb 000000000000\nfail 13\nW 0 16 fill aa\nR 16 1\n",
+        &image,
+        None,
+    )?;
+    let report =
+        b"1 ready 304\n2 check 6/29/00\n3 failed\n4 check 3/32/01\n5 good\nsector 16 fill 00\nend 5\n";
+    assert!(rt; ran.has(Status::Done, report));
+    Ok(())
+}
+
+#[test]
+fn a_format_that_has_no_counters_left_changes_nothing(rt: HostRuntime) -> Result<(), Fail> {
+    let mut image = counted_image(rt.alloc(), STRUCTURES, 4, b"\xff\xff\xff\xfe")?;
+    for block in LISTS {
+        put(
+            &mut image,
+            place_of(block).saturating_add(8),
+            b"\xff\xff\xff\xfe",
+        );
+    }
+    let script = "power\ncdb 000000000000\ncdb 041100000000 hex 000000080000013000000800\nR 0 1\n";
+    let report =
+        b"1 ready 304\n2 check 6/29/00\n3 check 3/31/01\n4 good\nsector 0 fill 00\nend 4\n";
+    assert!(rt; makes(rt.alloc(), &image, script, Status::Done, report, &image)?);
+    Ok(())
+}
+
+#[test]
+fn lists_that_do_not_belong_together_are_none(rt: HostRuntime) -> Result<(), Fail> {
+    let image = counted_image(rt.alloc(), LISTS, 8, b"\0\0\0\x03")?;
+    let report = b"1 not formatted\nend 1\n";
+    assert!(rt; makes(rt.alloc(), &image, "power\n", Status::Done, report, &image)?);
+    Ok(())
+}
+
+#[test]
+fn a_structure_that_says_a_format_began_is_chosen(rt: HostRuntime) -> Result<(), Fail> {
+    let mut image = formatted_image(rt.alloc())?;
+    put(&mut image, place_of(33), b"\x0a\x0a\x01\0\0\0\0\x03");
+    let mut left = formatted_image(rt.alloc())?;
+    for block in STRUCTURES {
+        put(&mut left, place_of(block), b"\x0a\x0a\x01\0\0\0\0\x03");
+    }
+    let report = b"1 not formatted\nend 1\n";
+    assert!(rt; makes(rt.alloc(), &image, "power\n", Status::Done, report, &left)?);
     Ok(())
 }
 
@@ -99,7 +307,7 @@ fn is_no_disc(alloc: Global, head: &[u8], len: usize) -> Result<bool, AllocError
     let report = b"1 not pressed\n2 not pressed\n3 not a disc\n";
     let mut image = head.to_vec(alloc)?;
     image.resize(len, 0)?;
-    leaves(alloc, &image, script, Status::NotADisc, report)
+    makes(alloc, &image, script, Status::NotADisc, report, &image)
 }
 
 #[test]

@@ -19,10 +19,12 @@ fn digits(text: &mut String, sector: u32) -> Result<(), AllocError> {
     Ok(())
 }
 
-/// A script that writes exact data and reads three sectors of them.
+/// A script that formats a disc, writes exact data and reads three sectors of them.
 fn script(alloc: Global) -> Result<String, AllocError> {
     let mut script = String::new(alloc);
-    script.push_str("press 1 1 4\npower\ncdb 2a000000000000001000 hex ")?;
+    script.push_str("press 1 1 4\npower\ncdb 000000000000\n")?;
+    script.push_str("cdb 041100000000 hex 000000080000013000000800\n")?;
+    script.push_str("cdb 2a000000000000001000 hex ")?;
     for sector in 0..16u32 {
         digits(&mut script, sector)?;
     }
@@ -33,11 +35,13 @@ fn script(alloc: Global) -> Result<String, AllocError> {
 /// Its report.
 fn report(alloc: Global) -> Result<String, AllocError> {
     let mut report = String::new(alloc);
-    report.push_str("1 pressed\n2 ready 304\n3 good\n4 good\nsector 0 hex ")?;
+    report.push_str(
+        "1 pressed\n2 not formatted\n3 check 6/29/00\n4 good\n5 good\n6 good\nsector 0 hex ",
+    )?;
     digits(&mut report, 0)?;
     report.push_str("\nsector 1 hex ")?;
     digits(&mut report, 1)?;
-    report.push_str("\nsector 2 fill 00\nend 4\n")?;
+    report.push_str("\nsector 2 fill 00\nend 6\n")?;
     Ok(report)
 }
 

@@ -10,14 +10,14 @@ pub returns-clause-turn : goal.returns-clause-turn
 returns-clause-turn g c first far left stands t =
     let pressed = c.press_disc-inserted.ensures.step far.now stands in
     answered_line first far (run_view left (g.K.Sink.written c.args.report.now) c.args.state.now) (works.Press c.args.zones c.args.scale c.args.psa) c.args.state.now.payload.items t
-    (Stands g.D.PlainSectors g.D.Image.Image c.press_disc-inserted.result.0) c.args.state.now.data_in.items
+    (Stands g.D.Sectors g.D.Image.Image c.press_disc-inserted.result.0) c.args.state.now.data_in.items
     (run_view left (g.K.Sink.written c.tell-reported.new.report) c.tell-reported.new.state)
-    (faults_of g.D.PlainSectors g.D.Image.Image c.args.inserted) (faults_of g.D.PlainSectors g.D.Image.Image c.press_disc-inserted.result.0) c.press_disc-inserted.result.1 c.tell-reported.result
+    (faults_of g.D.Sectors g.D.Image.Image c.args.inserted) (faults_of g.D.Sectors g.D.Image.Image c.press_disc-inserted.result.0) c.press_disc-inserted.result.1 c.tell-reported.result
     (record { state = pressed.state; step = (pressed.step, c.requires.empty); stands = pressed.stands }) c.press_disc-inserted.ensures.count (c.tell-reported.ensures.tells left)
 
 pub returns-clause-counts : goal.returns-clause-counts
 returns-clause-counts g c source =
     line_counts source (g.K.Sink.faults c.args.report.now) (g.K.Sink.faults c.tell-reported.new.report)
-    (faults_of g.D.PlainSectors g.D.Image.Image c.args.inserted) (faults_of g.D.PlainSectors g.D.Image.Image c.press_disc-inserted.result.0)
+    (faults_of g.D.Sectors g.D.Image.Image c.args.inserted) (faults_of g.D.Sectors g.D.Image.Image c.press_disc-inserted.result.0)
     (run_view None (g.K.Sink.written c.args.report.now) c.args.state.now) (run_view None (g.K.Sink.written c.tell-reported.new.report) c.tell-reported.new.state) c.args.state.now.data_in.items
     c.press_disc-inserted.result.1 c.tell-reported.result c.press_disc-inserted.ensures.count c.tell-reported.ensures.count (c.tell-reported.ensures.tells None)

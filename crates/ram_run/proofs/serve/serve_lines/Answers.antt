@@ -13,13 +13,13 @@ pub returns-in-Err-clause-ends : goal.returns-in-Err-clause-ends
 returns-in-Err-clause-ends g c first b =
     let now = c.loop-stopped.invariant.between first b in
     let stops = c.in-Err.ensures.next first now.far now.at in
-    ends_between first (Stands g.D.PlainSectors g.D.Image.Image c.loop-stopped.inserted) now.far (run_view (g.S.Source.left c.next_work.new.script) (g.K.Sink.written c.next_work.new.report) c.next_work.new.state) c.in-Err.stopped now.stands_now stops.0 stops.1
+    ends_between first (Stands g.D.Sectors g.D.Image.Image c.loop-stopped.inserted) now.far (run_view (g.S.Source.left c.next_work.new.script) (g.K.Sink.written c.next_work.new.report) c.next_work.new.state) c.in-Err.stopped now.stands_now stops.0 stops.1
 
 pub returns-in-Err-clause-counts : goal.returns-in-Err-clause-counts
 returns-in-Err-clause-counts g c =
-    why_counts (counts_of (g.S.Source.faults c.args.script.now) (g.K.Sink.faults c.args.report.now) (faults_of g.D.PlainSectors g.D.Image.Image c.args.inserted)) (counts_of (g.S.Source.faults c.loop-stopped.script) (g.K.Sink.faults c.loop-stopped.report) (faults_of g.D.PlainSectors g.D.Image.Image c.loop-stopped.inserted))
-    (counts_of (g.S.Source.faults c.next_work.new.script) (g.K.Sink.faults c.next_work.new.report) (faults_of g.D.PlainSectors g.D.Image.Image c.loop-stopped.inserted))
-    c.in-Err.stopped c.loop-stopped.invariant.counts (c.in-Err.ensures.counts (faults_of g.D.PlainSectors g.D.Image.Image c.loop-stopped.inserted))
+    why_counts (counts_of (g.S.Source.faults c.args.script.now) (g.K.Sink.faults c.args.report.now) (faults_of g.D.Sectors g.D.Image.Image c.args.inserted)) (counts_of (g.S.Source.faults c.loop-stopped.script) (g.K.Sink.faults c.loop-stopped.report) (faults_of g.D.Sectors g.D.Image.Image c.loop-stopped.inserted))
+    (counts_of (g.S.Source.faults c.next_work.new.script) (g.K.Sink.faults c.next_work.new.report) (faults_of g.D.Sectors g.D.Image.Image c.loop-stopped.inserted))
+    c.in-Err.stopped c.loop-stopped.invariant.counts (c.in-Err.ensures.counts (faults_of g.D.Sectors g.D.Image.Image c.loop-stopped.inserted))
 
 pub returns-in-Ok-None-clause-ends : goal.returns-in-Ok-None-clause-ends
 returns-in-Ok-None-clause-ends g c first b =
@@ -27,9 +27,9 @@ returns-in-Ok-None-clause-ends g c first b =
 
 pub returns-in-Ok-None-clause-counts : goal.returns-in-Ok-None-clause-counts
 returns-in-Ok-None-clause-counts g c =
-    none_rose (counts_of (g.S.Source.faults c.args.script.now) (g.K.Sink.faults c.args.report.now) (faults_of g.D.PlainSectors g.D.Image.Image c.args.inserted)) (counts_of (g.S.Source.faults c.loop-stopped.script) (g.K.Sink.faults c.loop-stopped.report) (faults_of g.D.PlainSectors g.D.Image.Image c.loop-stopped.inserted))
-    (counts_of (g.S.Source.faults c.next_work.new.script) (g.K.Sink.faults c.next_work.new.report) (faults_of g.D.PlainSectors g.D.Image.Image c.loop-stopped.inserted))
-    c.loop-stopped.invariant.counts (rw c.in-Ok-None.is at (c.next_work.ensures.counts (faults_of g.D.PlainSectors g.D.Image.Image c.loop-stopped.inserted)))
+    none_rose (counts_of (g.S.Source.faults c.args.script.now) (g.K.Sink.faults c.args.report.now) (faults_of g.D.Sectors g.D.Image.Image c.args.inserted)) (counts_of (g.S.Source.faults c.loop-stopped.script) (g.K.Sink.faults c.loop-stopped.report) (faults_of g.D.Sectors g.D.Image.Image c.loop-stopped.inserted))
+    (counts_of (g.S.Source.faults c.next_work.new.script) (g.K.Sink.faults c.next_work.new.report) (faults_of g.D.Sectors g.D.Image.Image c.loop-stopped.inserted))
+    c.loop-stopped.invariant.counts (rw c.in-Ok-None.is at (c.next_work.ensures.counts (faults_of g.D.Sectors g.D.Image.Image c.loop-stopped.inserted)))
 
 pub loop-stopped-preserved-in-Ok : goal.loop-stopped-preserved-in-Ok
 loop-stopped-preserved-in-Ok g c =
@@ -38,14 +38,14 @@ loop-stopped-preserved-in-Ok g c =
     let reader = ap (λ (r : Reading). r.taken) c.tell.ensures.same_reader in
     let tally = c.next_work.ensures.same_tally in
     record {
-      between = λ first b. let now = c.loop-stopped.invariant.between first b in nothing_done first (Stands g.D.PlainSectors g.D.Image.Image c.loop-stopped.inserted) (run_view (g.S.Source.left c.loop-stopped.script) (g.K.Sink.written c.loop-stopped.report) c.loop-stopped.state) (run_view (g.S.Source.left c.next_work.new.script) (g.K.Sink.written c.next_work.new.report) c.next_work.new.state)
+      between = λ first b. let now = c.loop-stopped.invariant.between first b in nothing_done first (Stands g.D.Sectors g.D.Image.Image c.loop-stopped.inserted) (run_view (g.S.Source.left c.loop-stopped.script) (g.K.Sink.written c.loop-stopped.report) c.loop-stopped.state) (run_view (g.S.Source.left c.next_work.new.script) (g.K.Sink.written c.next_work.new.report) c.next_work.new.state)
           (run_view (g.S.Source.left c.next_work.new.script) (g.K.Sink.written c.tell.new.report) c.tell.new.state)
           now c.next_work.new.state.payload.items c.next_work.new.state.data_in.items (Ok tt) (rw (c.in-Ok-Some-Nothing.is, c.in-Ok-Some-Nothing.field-0-is, c.in-Ok-Some-Nothing.field-0-0-is) at (c.next_work.ensures.next first now.far now.at)) c.next_work.ensures.empty (c.in-Ok.ensures.tells (g.S.Source.left c.next_work.new.script));
-      counts = none_rose (counts_of (g.S.Source.faults c.args.script.now) (g.K.Sink.faults c.args.report.now) (faults_of g.D.PlainSectors g.D.Image.Image c.args.inserted)) (counts_of (g.S.Source.faults c.next_work.new.script) (g.K.Sink.faults c.next_work.new.report) (faults_of g.D.PlainSectors g.D.Image.Image c.loop-stopped.inserted))
-          (counts_of (g.S.Source.faults c.next_work.new.script) (g.K.Sink.faults c.tell.new.report) (faults_of g.D.PlainSectors g.D.Image.Image c.loop-stopped.inserted))
-          (none_rose (counts_of (g.S.Source.faults c.args.script.now) (g.K.Sink.faults c.args.report.now) (faults_of g.D.PlainSectors g.D.Image.Image c.args.inserted)) (counts_of (g.S.Source.faults c.loop-stopped.script) (g.K.Sink.faults c.loop-stopped.report) (faults_of g.D.PlainSectors g.D.Image.Image c.loop-stopped.inserted))
-          (counts_of (g.S.Source.faults c.next_work.new.script) (g.K.Sink.faults c.next_work.new.report) (faults_of g.D.PlainSectors g.D.Image.Image c.loop-stopped.inserted))
-          c.loop-stopped.invariant.counts (rw c.in-Ok-Some-Nothing.is at (c.next_work.ensures.counts (faults_of g.D.PlainSectors g.D.Image.Image c.loop-stopped.inserted)))) (line_counts (g.S.Source.faults c.next_work.new.script) (g.K.Sink.faults c.next_work.new.report) (g.K.Sink.faults c.tell.new.report) (faults_of g.D.PlainSectors g.D.Image.Image c.loop-stopped.inserted) (faults_of g.D.PlainSectors g.D.Image.Image c.loop-stopped.inserted)
+      counts = none_rose (counts_of (g.S.Source.faults c.args.script.now) (g.K.Sink.faults c.args.report.now) (faults_of g.D.Sectors g.D.Image.Image c.args.inserted)) (counts_of (g.S.Source.faults c.next_work.new.script) (g.K.Sink.faults c.next_work.new.report) (faults_of g.D.Sectors g.D.Image.Image c.loop-stopped.inserted))
+          (counts_of (g.S.Source.faults c.next_work.new.script) (g.K.Sink.faults c.tell.new.report) (faults_of g.D.Sectors g.D.Image.Image c.loop-stopped.inserted))
+          (none_rose (counts_of (g.S.Source.faults c.args.script.now) (g.K.Sink.faults c.args.report.now) (faults_of g.D.Sectors g.D.Image.Image c.args.inserted)) (counts_of (g.S.Source.faults c.loop-stopped.script) (g.K.Sink.faults c.loop-stopped.report) (faults_of g.D.Sectors g.D.Image.Image c.loop-stopped.inserted))
+          (counts_of (g.S.Source.faults c.next_work.new.script) (g.K.Sink.faults c.next_work.new.report) (faults_of g.D.Sectors g.D.Image.Image c.loop-stopped.inserted))
+          c.loop-stopped.invariant.counts (rw c.in-Ok-Some-Nothing.is at (c.next_work.ensures.counts (faults_of g.D.Sectors g.D.Image.Image c.loop-stopped.inserted)))) (line_counts (g.S.Source.faults c.next_work.new.script) (g.K.Sink.faults c.next_work.new.report) (g.K.Sink.faults c.tell.new.report) (faults_of g.D.Sectors g.D.Image.Image c.loop-stopped.inserted) (faults_of g.D.Sectors g.D.Image.Image c.loop-stopped.inserted)
           (run_view (g.S.Source.left c.next_work.new.script) (g.K.Sink.written c.next_work.new.report) c.next_work.new.state)
           (run_view (g.S.Source.left c.next_work.new.script) (g.K.Sink.written c.tell.new.report) c.tell.new.state)
           c.next_work.new.state.data_in.items (Ok replies.Nothing) (Ok tt) refl c.in-Ok.ensures.count (c.in-Ok.ensures.tells (g.S.Source.left c.next_work.new.script)));
@@ -57,18 +57,18 @@ loop-stopped-preserved-in-Ok g c =
 pub returns-in-Err-tell-clause-ends : goal.returns-in-Err-tell-clause-ends
 returns-in-Err-tell-clause-ends g c first b =
     let now = c.loop-stopped.invariant.between first b in
-    nothing_done first (Stands g.D.PlainSectors g.D.Image.Image c.loop-stopped.inserted) (run_view (g.S.Source.left c.loop-stopped.script) (g.K.Sink.written c.loop-stopped.report) c.loop-stopped.state) (run_view (g.S.Source.left c.next_work.new.script) (g.K.Sink.written c.next_work.new.report) c.next_work.new.state)
+    nothing_done first (Stands g.D.Sectors g.D.Image.Image c.loop-stopped.inserted) (run_view (g.S.Source.left c.loop-stopped.script) (g.K.Sink.written c.loop-stopped.report) c.loop-stopped.state) (run_view (g.S.Source.left c.next_work.new.script) (g.K.Sink.written c.next_work.new.report) c.next_work.new.state)
     (run_view (g.S.Source.left c.next_work.new.script) (g.K.Sink.written c.tell.new.report) c.tell.new.state)
     now c.next_work.new.state.payload.items c.next_work.new.state.data_in.items (Err c.in-Err-tell.stopped) (rw (c.in-Ok-Some-Nothing.is, c.in-Ok-Some-Nothing.field-0-is, c.in-Ok-Some-Nothing.field-0-0-is) at (c.next_work.ensures.next first now.far now.at)) c.next_work.ensures.empty (c.in-Err-tell.ensures.tells (g.S.Source.left c.next_work.new.script))
 
 pub returns-in-Err-tell-clause-counts : goal.returns-in-Err-tell-clause-counts
 returns-in-Err-tell-clause-counts g c =
-    why_counts (counts_of (g.S.Source.faults c.args.script.now) (g.K.Sink.faults c.args.report.now) (faults_of g.D.PlainSectors g.D.Image.Image c.args.inserted)) (counts_of (g.S.Source.faults c.next_work.new.script) (g.K.Sink.faults c.next_work.new.report) (faults_of g.D.PlainSectors g.D.Image.Image c.loop-stopped.inserted))
-    (counts_of (g.S.Source.faults c.next_work.new.script) (g.K.Sink.faults c.tell.new.report) (faults_of g.D.PlainSectors g.D.Image.Image c.loop-stopped.inserted))
+    why_counts (counts_of (g.S.Source.faults c.args.script.now) (g.K.Sink.faults c.args.report.now) (faults_of g.D.Sectors g.D.Image.Image c.args.inserted)) (counts_of (g.S.Source.faults c.next_work.new.script) (g.K.Sink.faults c.next_work.new.report) (faults_of g.D.Sectors g.D.Image.Image c.loop-stopped.inserted))
+    (counts_of (g.S.Source.faults c.next_work.new.script) (g.K.Sink.faults c.tell.new.report) (faults_of g.D.Sectors g.D.Image.Image c.loop-stopped.inserted))
     c.in-Err-tell.stopped
-    (none_rose (counts_of (g.S.Source.faults c.args.script.now) (g.K.Sink.faults c.args.report.now) (faults_of g.D.PlainSectors g.D.Image.Image c.args.inserted)) (counts_of (g.S.Source.faults c.loop-stopped.script) (g.K.Sink.faults c.loop-stopped.report) (faults_of g.D.PlainSectors g.D.Image.Image c.loop-stopped.inserted))
-    (counts_of (g.S.Source.faults c.next_work.new.script) (g.K.Sink.faults c.next_work.new.report) (faults_of g.D.PlainSectors g.D.Image.Image c.loop-stopped.inserted))
-    c.loop-stopped.invariant.counts (rw c.in-Ok-Some-Nothing.is at (c.next_work.ensures.counts (faults_of g.D.PlainSectors g.D.Image.Image c.loop-stopped.inserted)))) (line_counts (g.S.Source.faults c.next_work.new.script) (g.K.Sink.faults c.next_work.new.report) (g.K.Sink.faults c.tell.new.report) (faults_of g.D.PlainSectors g.D.Image.Image c.loop-stopped.inserted) (faults_of g.D.PlainSectors g.D.Image.Image c.loop-stopped.inserted)
+    (none_rose (counts_of (g.S.Source.faults c.args.script.now) (g.K.Sink.faults c.args.report.now) (faults_of g.D.Sectors g.D.Image.Image c.args.inserted)) (counts_of (g.S.Source.faults c.loop-stopped.script) (g.K.Sink.faults c.loop-stopped.report) (faults_of g.D.Sectors g.D.Image.Image c.loop-stopped.inserted))
+    (counts_of (g.S.Source.faults c.next_work.new.script) (g.K.Sink.faults c.next_work.new.report) (faults_of g.D.Sectors g.D.Image.Image c.loop-stopped.inserted))
+    c.loop-stopped.invariant.counts (rw c.in-Ok-Some-Nothing.is at (c.next_work.ensures.counts (faults_of g.D.Sectors g.D.Image.Image c.loop-stopped.inserted)))) (line_counts (g.S.Source.faults c.next_work.new.script) (g.K.Sink.faults c.next_work.new.report) (g.K.Sink.faults c.tell.new.report) (faults_of g.D.Sectors g.D.Image.Image c.loop-stopped.inserted) (faults_of g.D.Sectors g.D.Image.Image c.loop-stopped.inserted)
     (run_view (g.S.Source.left c.next_work.new.script) (g.K.Sink.written c.next_work.new.report) c.next_work.new.state)
     (run_view (g.S.Source.left c.next_work.new.script) (g.K.Sink.written c.tell.new.report) c.tell.new.state)
     c.next_work.new.state.data_in.items (Ok replies.Nothing) (Err c.in-Err-tell.stopped) refl c.in-Err-tell.ensures.count (c.in-Err-tell.ensures.tells (g.S.Source.left c.next_work.new.script)))
@@ -85,11 +85,11 @@ loop-stopped-preserved-in-Ok-answer_line g c =
     let tally = c.next_work.ensures.same_tally in
     record {
       between = λ first b. let now = c.loop-stopped.invariant.between first b in c.in-Ok-answer_line.ensures.turn first now.far (g.S.Source.left c.next_work.new.script) now.stands_now (rw (c.in-Ok-Some-OnDisc.is, c.in-Ok-Some-OnDisc.field-0-is, c.in-Ok-Some-OnDisc.field-0-0-is) at (c.next_work.ensures.next first now.far now.at));
-      counts = none_rose (counts_of (g.S.Source.faults c.args.script.now) (g.K.Sink.faults c.args.report.now) (faults_of g.D.PlainSectors g.D.Image.Image c.args.inserted)) (counts_of (g.S.Source.faults c.next_work.new.script) (g.K.Sink.faults c.next_work.new.report) (faults_of g.D.PlainSectors g.D.Image.Image c.loop-stopped.inserted))
-          (counts_of (g.S.Source.faults c.next_work.new.script) (g.K.Sink.faults c.answer_line.new.report) (faults_of g.D.PlainSectors g.D.Image.Image c.answer_line.new.inserted))
-          (none_rose (counts_of (g.S.Source.faults c.args.script.now) (g.K.Sink.faults c.args.report.now) (faults_of g.D.PlainSectors g.D.Image.Image c.args.inserted)) (counts_of (g.S.Source.faults c.loop-stopped.script) (g.K.Sink.faults c.loop-stopped.report) (faults_of g.D.PlainSectors g.D.Image.Image c.loop-stopped.inserted))
-          (counts_of (g.S.Source.faults c.next_work.new.script) (g.K.Sink.faults c.next_work.new.report) (faults_of g.D.PlainSectors g.D.Image.Image c.loop-stopped.inserted))
-          c.loop-stopped.invariant.counts (rw c.in-Ok-Some-OnDisc.is at (c.next_work.ensures.counts (faults_of g.D.PlainSectors g.D.Image.Image c.loop-stopped.inserted)))) (c.in-Ok-answer_line.ensures.counts (g.S.Source.faults c.next_work.new.script));
+      counts = none_rose (counts_of (g.S.Source.faults c.args.script.now) (g.K.Sink.faults c.args.report.now) (faults_of g.D.Sectors g.D.Image.Image c.args.inserted)) (counts_of (g.S.Source.faults c.next_work.new.script) (g.K.Sink.faults c.next_work.new.report) (faults_of g.D.Sectors g.D.Image.Image c.loop-stopped.inserted))
+          (counts_of (g.S.Source.faults c.next_work.new.script) (g.K.Sink.faults c.answer_line.new.report) (faults_of g.D.Sectors g.D.Image.Image c.answer_line.new.inserted))
+          (none_rose (counts_of (g.S.Source.faults c.args.script.now) (g.K.Sink.faults c.args.report.now) (faults_of g.D.Sectors g.D.Image.Image c.args.inserted)) (counts_of (g.S.Source.faults c.loop-stopped.script) (g.K.Sink.faults c.loop-stopped.report) (faults_of g.D.Sectors g.D.Image.Image c.loop-stopped.inserted))
+          (counts_of (g.S.Source.faults c.next_work.new.script) (g.K.Sink.faults c.next_work.new.report) (faults_of g.D.Sectors g.D.Image.Image c.loop-stopped.inserted))
+          c.loop-stopped.invariant.counts (rw c.in-Ok-Some-OnDisc.is at (c.next_work.ensures.counts (faults_of g.D.Sectors g.D.Image.Image c.loop-stopped.inserted)))) (c.in-Ok-answer_line.ensures.counts (g.S.Source.faults c.next_work.new.script));
       room = c.answer_line.ensures.room;
       few = few_more c.loop-stopped.state.tally c.next_work.new.state.tally c.answer_line.new.state.tally c.loop-stopped.state.reader.taken c.next_work.new.state.reader.taken c.answer_line.new.state.reader.taken c.loop-stopped.invariant.few takes.0 reader tally more;
       within = omega (arith, takes.1, reader);
@@ -102,12 +102,12 @@ returns-in-Err-answer_line-clause-ends g c first b =
 
 pub returns-in-Err-answer_line-clause-counts : goal.returns-in-Err-answer_line-clause-counts
 returns-in-Err-answer_line-clause-counts g c =
-    why_counts (counts_of (g.S.Source.faults c.args.script.now) (g.K.Sink.faults c.args.report.now) (faults_of g.D.PlainSectors g.D.Image.Image c.args.inserted)) (counts_of (g.S.Source.faults c.next_work.new.script) (g.K.Sink.faults c.next_work.new.report) (faults_of g.D.PlainSectors g.D.Image.Image c.loop-stopped.inserted))
-    (counts_of (g.S.Source.faults c.next_work.new.script) (g.K.Sink.faults c.answer_line.new.report) (faults_of g.D.PlainSectors g.D.Image.Image c.answer_line.new.inserted))
+    why_counts (counts_of (g.S.Source.faults c.args.script.now) (g.K.Sink.faults c.args.report.now) (faults_of g.D.Sectors g.D.Image.Image c.args.inserted)) (counts_of (g.S.Source.faults c.next_work.new.script) (g.K.Sink.faults c.next_work.new.report) (faults_of g.D.Sectors g.D.Image.Image c.loop-stopped.inserted))
+    (counts_of (g.S.Source.faults c.next_work.new.script) (g.K.Sink.faults c.answer_line.new.report) (faults_of g.D.Sectors g.D.Image.Image c.answer_line.new.inserted))
     c.in-Err-answer_line.stopped
-    (none_rose (counts_of (g.S.Source.faults c.args.script.now) (g.K.Sink.faults c.args.report.now) (faults_of g.D.PlainSectors g.D.Image.Image c.args.inserted)) (counts_of (g.S.Source.faults c.loop-stopped.script) (g.K.Sink.faults c.loop-stopped.report) (faults_of g.D.PlainSectors g.D.Image.Image c.loop-stopped.inserted))
-    (counts_of (g.S.Source.faults c.next_work.new.script) (g.K.Sink.faults c.next_work.new.report) (faults_of g.D.PlainSectors g.D.Image.Image c.loop-stopped.inserted))
-    c.loop-stopped.invariant.counts (rw c.in-Ok-Some-OnDisc.is at (c.next_work.ensures.counts (faults_of g.D.PlainSectors g.D.Image.Image c.loop-stopped.inserted)))) (c.in-Err-answer_line.ensures.counts (g.S.Source.faults c.next_work.new.script))
+    (none_rose (counts_of (g.S.Source.faults c.args.script.now) (g.K.Sink.faults c.args.report.now) (faults_of g.D.Sectors g.D.Image.Image c.args.inserted)) (counts_of (g.S.Source.faults c.loop-stopped.script) (g.K.Sink.faults c.loop-stopped.report) (faults_of g.D.Sectors g.D.Image.Image c.loop-stopped.inserted))
+    (counts_of (g.S.Source.faults c.next_work.new.script) (g.K.Sink.faults c.next_work.new.report) (faults_of g.D.Sectors g.D.Image.Image c.loop-stopped.inserted))
+    c.loop-stopped.invariant.counts (rw c.in-Ok-Some-OnDisc.is at (c.next_work.ensures.counts (faults_of g.D.Sectors g.D.Image.Image c.loop-stopped.inserted)))) (c.in-Err-answer_line.ensures.counts (g.S.Source.faults c.next_work.new.script))
 
 pub returns-in-Err-answer_line-clause-few : goal.returns-in-Err-answer_line-clause-few
 returns-in-Err-answer_line-clause-few g c =
@@ -121,11 +121,11 @@ loop-stopped-preserved g c =
     let tally = c.next_work.ensures.same_tally in
     record {
       between = λ first b. let now = c.loop-stopped.invariant.between first b in rw c.in-Ok-reported.is at (c.press_line-next.ensures.turn first now.far (g.S.Source.left c.next_work.new.script) now.stands_now (rw (c.in-Ok-Some-Press.is, c.in-Ok-Some-Press.field-0-is, c.in-Ok-Some-Press.field-0-0-is) at (c.next_work.ensures.next first now.far now.at)));
-      counts = none_rose (counts_of (g.S.Source.faults c.args.script.now) (g.K.Sink.faults c.args.report.now) (faults_of g.D.PlainSectors g.D.Image.Image c.args.inserted)) (counts_of (g.S.Source.faults c.next_work.new.script) (g.K.Sink.faults c.next_work.new.report) (faults_of g.D.PlainSectors g.D.Image.Image c.loop-stopped.inserted))
-          (counts_of (g.S.Source.faults c.next_work.new.script) (g.K.Sink.faults c.press_line-next.new.report) (faults_of g.D.PlainSectors g.D.Image.Image c.press_line-next.result.0))
-          (none_rose (counts_of (g.S.Source.faults c.args.script.now) (g.K.Sink.faults c.args.report.now) (faults_of g.D.PlainSectors g.D.Image.Image c.args.inserted)) (counts_of (g.S.Source.faults c.loop-stopped.script) (g.K.Sink.faults c.loop-stopped.report) (faults_of g.D.PlainSectors g.D.Image.Image c.loop-stopped.inserted))
-          (counts_of (g.S.Source.faults c.next_work.new.script) (g.K.Sink.faults c.next_work.new.report) (faults_of g.D.PlainSectors g.D.Image.Image c.loop-stopped.inserted))
-          c.loop-stopped.invariant.counts (rw c.in-Ok-Some-Press.is at (c.next_work.ensures.counts (faults_of g.D.PlainSectors g.D.Image.Image c.loop-stopped.inserted)))) (rw c.in-Ok-reported.is at (c.press_line-next.ensures.counts (g.S.Source.faults c.next_work.new.script)));
+      counts = none_rose (counts_of (g.S.Source.faults c.args.script.now) (g.K.Sink.faults c.args.report.now) (faults_of g.D.Sectors g.D.Image.Image c.args.inserted)) (counts_of (g.S.Source.faults c.next_work.new.script) (g.K.Sink.faults c.next_work.new.report) (faults_of g.D.Sectors g.D.Image.Image c.loop-stopped.inserted))
+          (counts_of (g.S.Source.faults c.next_work.new.script) (g.K.Sink.faults c.press_line-next.new.report) (faults_of g.D.Sectors g.D.Image.Image c.press_line-next.result.0))
+          (none_rose (counts_of (g.S.Source.faults c.args.script.now) (g.K.Sink.faults c.args.report.now) (faults_of g.D.Sectors g.D.Image.Image c.args.inserted)) (counts_of (g.S.Source.faults c.loop-stopped.script) (g.K.Sink.faults c.loop-stopped.report) (faults_of g.D.Sectors g.D.Image.Image c.loop-stopped.inserted))
+          (counts_of (g.S.Source.faults c.next_work.new.script) (g.K.Sink.faults c.next_work.new.report) (faults_of g.D.Sectors g.D.Image.Image c.loop-stopped.inserted))
+          c.loop-stopped.invariant.counts (rw c.in-Ok-Some-Press.is at (c.next_work.ensures.counts (faults_of g.D.Sectors g.D.Image.Image c.loop-stopped.inserted)))) (rw c.in-Ok-reported.is at (c.press_line-next.ensures.counts (g.S.Source.faults c.next_work.new.script)));
       room = c.press_line-next.ensures.room;
       few = few_more c.loop-stopped.state.tally c.next_work.new.state.tally c.press_line-next.new.state.tally c.loop-stopped.state.reader.taken c.next_work.new.state.reader.taken c.press_line-next.new.state.reader.taken c.loop-stopped.invariant.few takes.0 reader tally more;
       within = omega (arith, takes.1, reader);
@@ -138,12 +138,12 @@ returns-in-Err-reported-clause-ends g c first b =
 
 pub returns-in-Err-reported-clause-counts : goal.returns-in-Err-reported-clause-counts
 returns-in-Err-reported-clause-counts g c =
-    why_counts (counts_of (g.S.Source.faults c.args.script.now) (g.K.Sink.faults c.args.report.now) (faults_of g.D.PlainSectors g.D.Image.Image c.args.inserted)) (counts_of (g.S.Source.faults c.next_work.new.script) (g.K.Sink.faults c.next_work.new.report) (faults_of g.D.PlainSectors g.D.Image.Image c.loop-stopped.inserted))
-    (counts_of (g.S.Source.faults c.next_work.new.script) (g.K.Sink.faults c.press_line-next.new.report) (faults_of g.D.PlainSectors g.D.Image.Image c.press_line-next.result.0))
+    why_counts (counts_of (g.S.Source.faults c.args.script.now) (g.K.Sink.faults c.args.report.now) (faults_of g.D.Sectors g.D.Image.Image c.args.inserted)) (counts_of (g.S.Source.faults c.next_work.new.script) (g.K.Sink.faults c.next_work.new.report) (faults_of g.D.Sectors g.D.Image.Image c.loop-stopped.inserted))
+    (counts_of (g.S.Source.faults c.next_work.new.script) (g.K.Sink.faults c.press_line-next.new.report) (faults_of g.D.Sectors g.D.Image.Image c.press_line-next.result.0))
     c.in-Err-reported.stopped
-    (none_rose (counts_of (g.S.Source.faults c.args.script.now) (g.K.Sink.faults c.args.report.now) (faults_of g.D.PlainSectors g.D.Image.Image c.args.inserted)) (counts_of (g.S.Source.faults c.loop-stopped.script) (g.K.Sink.faults c.loop-stopped.report) (faults_of g.D.PlainSectors g.D.Image.Image c.loop-stopped.inserted))
-    (counts_of (g.S.Source.faults c.next_work.new.script) (g.K.Sink.faults c.next_work.new.report) (faults_of g.D.PlainSectors g.D.Image.Image c.loop-stopped.inserted))
-    c.loop-stopped.invariant.counts (rw c.in-Ok-Some-Press.is at (c.next_work.ensures.counts (faults_of g.D.PlainSectors g.D.Image.Image c.loop-stopped.inserted)))) (rw c.in-Err-reported.is at (c.press_line-next.ensures.counts (g.S.Source.faults c.next_work.new.script)))
+    (none_rose (counts_of (g.S.Source.faults c.args.script.now) (g.K.Sink.faults c.args.report.now) (faults_of g.D.Sectors g.D.Image.Image c.args.inserted)) (counts_of (g.S.Source.faults c.loop-stopped.script) (g.K.Sink.faults c.loop-stopped.report) (faults_of g.D.Sectors g.D.Image.Image c.loop-stopped.inserted))
+    (counts_of (g.S.Source.faults c.next_work.new.script) (g.K.Sink.faults c.next_work.new.report) (faults_of g.D.Sectors g.D.Image.Image c.loop-stopped.inserted))
+    c.loop-stopped.invariant.counts (rw c.in-Ok-Some-Press.is at (c.next_work.ensures.counts (faults_of g.D.Sectors g.D.Image.Image c.loop-stopped.inserted)))) (rw c.in-Err-reported.is at (c.press_line-next.ensures.counts (g.S.Source.faults c.next_work.new.script)))
 
 pub returns-in-Err-reported-clause-few : goal.returns-in-Err-reported-clause-few
 returns-in-Err-reported-clause-few g c =

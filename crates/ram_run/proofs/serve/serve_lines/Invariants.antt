@@ -7,10 +7,10 @@ use Rattle.ram_run.proofs.serve.serve_lines.Given as goal
 
 abbrev pub invariant-loop-stopped : goal.invariant-loop-stopped
 invariant-loop-stopped g l = record {
-  between : (first : Beginning) → Between first (Stands g.D.PlainSectors g.D.Image.Image l.fn.inserted) (run_view (g.S.Source.left l.fn.script) (g.K.Sink.written l.fn.report) l.fn.state)
-      → Between first (Stands g.D.PlainSectors g.D.Image.Image l.inserted) (run_view (g.S.Source.left l.script) (g.K.Sink.written l.report) l.state);
-  counts : SameCounts (counts_of (g.S.Source.faults l.fn.script) (g.K.Sink.faults l.fn.report) (faults_of g.D.PlainSectors g.D.Image.Image l.fn.inserted))
-      (counts_of (g.S.Source.faults l.script) (g.K.Sink.faults l.report) (faults_of g.D.PlainSectors g.D.Image.Image l.inserted));
+  between : (first : Beginning) → Between first (Stands g.D.Sectors g.D.Image.Image l.fn.inserted) (run_view (g.S.Source.left l.fn.script) (g.K.Sink.written l.fn.report) l.fn.state)
+      → Between first (Stands g.D.Sectors g.D.Image.Image l.inserted) (run_view (g.S.Source.left l.script) (g.K.Sink.written l.report) l.state);
+  counts : SameCounts (counts_of (g.S.Source.faults l.fn.script) (g.K.Sink.faults l.fn.report) (faults_of g.D.Sectors g.D.Image.Image l.fn.inserted))
+      (counts_of (g.S.Source.faults l.script) (g.K.Sink.faults l.report) (faults_of g.D.Sectors g.D.Image.Image l.inserted));
   room : HasRoom l.state;
   few : IsFewLines l.state.tally l.state.reader.taken;
   within : l.state.reader.taken ≤ 67108864;

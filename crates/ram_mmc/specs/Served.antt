@@ -1,0 +1,36 @@
+-- What the parts of a target do: for the calls under `execute`. (This project's own, as all here.)
+use Rattle.std.specs.Prelude.{◌≡◌, ℕ, ⊤, Option, Some, None}
+use Rattle.model_sectors.specs.Discs.{Standing}
+use Rattle.model_drive.specs.Shown.{Shown, IsOn, IsFormatted, capacity}
+use Rattle.ram_cdb.specs.declared.commands.Command.{Command}
+use Rattle.ram_cdb.specs.declared.commands.Command.TheVariants as commands
+use Rattle.model_target.specs.Steps.{Untouched}
+use Rattle.ram_mmc.specs.declared.target.Look.{Look}
+use Rattle.ram_mmc.specs.declared.target.Look.TheVariants as looks
+
+-- a command of the table of those that are done at this stage, with the format that expands, which is always refused
+abbrev pub IsListed : Command → Type 0
+IsListed (commands.FormatCapacities alloc) = ⊥
+IsListed (commands.Verify lba n) = ⊥
+IsListed (commands.Structure format alloc) = ⊥
+IsListed _ = ⊤
+
+-- a command that is done at this stage, where nothing is against it
+abbrev pub IsServed : Command → Type 0
+IsServed (commands.Expand sectors) = ⊥
+IsServed (commands.FormatCapacities alloc) = ⊥
+IsServed (commands.Verify lba n) = ⊥
+IsServed (commands.Structure format alloc) = ⊥
+IsServed _ = ⊤
+
+-- the power is on, and the disc has so many sectors, or is not formatted
+abbrev pub IsFormattedAs : Shown → Option ℕ → Type 0
+IsFormattedAs shown None = IsOn shown × (shown.lists ≡ None)
+IsFormattedAs shown (Some sectors) = IsOn shown × IsFormatted shown × (sectors ≡ capacity shown)
+
+module _ (old new : Shown) (before after : Standing → Type 0) where
+  -- what a look at a disc finds; it changes nothing
+  abbrev pub LookRule : Look → Type 0
+  LookRule looks.Off = Untouched old new before after × ¬ IsOn old
+  LookRule looks.NotFormatted = Untouched old new before after × IsFormattedAs old None
+  LookRule (looks.Formatted sectors) = Untouched old new before after × IsFormattedAs old (Some sectors)

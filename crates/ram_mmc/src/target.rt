@@ -1,0 +1,317 @@
+//! The target: a disc with what is remembered for its host.
+
+ghost use Rattle.std.specs.Prelude.{◌≡◌, ◌*◌, ◌≤◌, [], IfOk, vec_capacity};
+ghost use Rattle.model_commands.specs.declared.TheConstants.{TRANSFER_LIMIT};
+ghost use Rattle.model_commands.specs.Commands.{operation_of};
+ghost use Rattle.model_drive.specs.Shown.{capacity};
+ghost use Rattle.ram_cdb.specs.Decoding.{IsWithinLimits};
+ghost use Rattle.model_target.specs.Host.{powered_on, done_by, kept_after, attention_after};
+ghost use Rattle.model_target.specs.Judging.{is_served};
+ghost use Rattle.model_target.specs.Steps.{IsDone, IsAnsweredBy, IsExecuted, IsStep, IsPoweredAgain, host_after};
+ghost use Rattle.ram_mmc.specs.Served.{IsServed, LookRule, IsFormattedAs};
+
+use crate::judging::{is_served, is_told, judge};
+use crate::replies::{
+    INQUIRY, capacity_reply, no_features_reply, profiles_reply, reply, sense_told,
+};
+use crate::transfers::{format, read, write};
+use model_commands::Operation;
+use model_target::Host;
+use ram_bytes::Cdb;
+use ram_cdb::{Command, operation};
+use ram_modes::Modes;
+use ram_sectors::{Disc, PowerOut, ReadOut, Sectors};
+use ram_sense::{Answer, Sense};
+use std::alloc::Global;
+
+/// A disc that is a target of commands, and what it remembers for its host.
+#[derive(Drop)]
+pub struct Target<D: Disc> {
+    /// The disc, which may be worked on beside its host's commands: what is remembered for the host stays.
+    pub disc: D,
+    host: Host,
+}
+
+/// What a look at a disc finds.
+#[derive(Clone, Copy, Debug, PartialEq, Eq)]
+pub enum Look {
+    /// The power is off.
+    Off,
+    /// The power is on, and the disc is not formatted.
+    NotFormatted,
+    /// The disc is formatted, and has so many sectors.
+    Formatted(u32),
+}
+
+impl<D: Disc> Target<D> {
+    /// A target over this disc, in the state of one whose power just came on. It takes no memory: replies are put straight
+    /// where the caller wants them.
+    pub fn new(disc: D) -> Target<D>
+        ensures disc { result.disc ≡ disc }
+        ensures host { result.host ≡ powered_on }
+    {
+        Target {
+            disc,
+            host: just_powered(),
+        }
+    }
+
+    /// The disc, without its target.
+    pub fn into_disc(self) -> D
+        ensures { result ≡ self.disc }
+    {
+        let Target { disc, .. } = self;
+        disc
+    }
+
+    /// Turns the power off and on again. Then the disc is in, its removal is allowed, and the host is to be told.
+    pub fn power(&mut self, alloc: Global) -> PowerOut
+        ensures rule { IsPoweredAgain (D.shows self.old.disc) (D.shows self.new.disc)
+            (D.stands self.old.disc) (D.stands self.new.disc) self.new.host result }
+        ensures same_shape { (D.shows self.new.disc).shape ≡ (D.shows self.old.disc).shape }
+    {
+        self.host = just_powered();
+        self.disc.power(alloc)
+    }
+
+    /// Does one command, with the command's data in `payload`. The data that it gives are then in `data_in`, whose room is taken
+    /// before, and which stays empty on every other answer than Good. The first of these that applies is the answer:
+    ///
+    /// Off, where the power is off; 5/20/00 for an operation code that is none of the drive's; 6/29/00 at the first command
+    /// after a power on, but for INQUIRY, REQUEST SENSE and GET CONFIGURATION, if REQUEST SENSE did not tell so before;
+    /// 5/24/00, 5/39/00, 5/1A/00 and 5/26/00 for the command block and its data; 5/53/02 where ejection is asked for and
+    /// removal prevented; 2/3A/00 without a disc; 3/31/00 on a disc that is not formatted; 5/21/00 past its end; and what the
+    /// disc answers. NoMemory comes from a full format alone. (After INCITS MMC; the order is this project's own.)
+    pub fn execute(
+        &mut self,
+        alloc: Global,
+        cdb: &Cdb,
+        payload: &[u8],
+        data_in: &mut Vec<u8>,
+    ) -> Answer
+        requires empty { data_in.old.items ≡ [] }
+        requires room { 2048 * TRANSFER_LIMIT ≤ vec_capacity data_in.old }
+        ensures step { IsStep (D.shows self.old.disc) (D.shows self.new.disc)
+            (D.stands self.old.disc) (D.stands self.new.disc)
+            self.old.host self.new.host cdb.now payload.now result data_in.new.items }
+        ensures same_shape { (D.shows self.new.disc).shape ≡ (D.shows self.old.disc).shape }
+        ensures room { vec_capacity data_in.old ≤ vec_capacity data_in.new }
+    {
+        match look_at(&mut self.disc) {
+            Look::Off => Answer::Off,
+            Look::NotFormatted => self.execute_on(alloc, None, cdb, payload, data_in),
+            Look::Formatted(sectors) => {
+                self.execute_on(alloc, Some(sectors), cdb, payload, data_in)
+            }
+        }
+    }
+
+    /// The same while the power is on, on a disc of so many sectors, or one that is not formatted.
+    fn execute_on(
+        &mut self,
+        alloc: Global,
+        formatted: Option<u32>,
+        cdb: &Cdb,
+        payload: &[u8],
+        data_in: &mut Vec<u8>,
+    ) -> Answer
+        requires formatted { IsFormattedAs (D.shows self.old.disc) formatted }
+        requires empty { data_in.old.items ≡ [] }
+        requires room { 2048 * TRANSFER_LIMIT ≤ vec_capacity data_in.old }
+        ensures step { IsExecuted (D.shows self.old.disc) (D.shows self.new.disc)
+            (D.stands self.old.disc) (D.stands self.new.disc)
+            self.old.host self.new.host cdb.now payload.now result data_in.new.items }
+        ensures same_shape { (D.shows self.new.disc).shape ≡ (D.shows self.old.disc).shape }
+        ensures room { vec_capacity data_in.old ≤ vec_capacity data_in.new }
+    {
+        let operation = operation(cdb.operation_code());
+        let judged = judge(
+            &self.host,
+            formatted.is_some(),
+            operation,
+            cdb.bytes(),
+            payload,
+        );
+        let sectors = formatted.unwrap_or(0);
+        let answer = answer(
+            &mut self.disc,
+            alloc,
+            &self.host,
+            judged,
+            sectors,
+            payload,
+            data_in,
+        );
+        self.host = host_after(self.host, operation, judged, answer);
+        answer
+    }
+}
+
+/// What is remembered when the power came on.
+fn just_powered() -> Host
+    ensures { result ≡ powered_on }
+{
+    Host {
+        attention: true,
+        prevented: false,
+        out: false,
+        kept: None,
+    }
+}
+
+/// Looks at a disc. A disc that has no capacity is not formatted, or off: a read of no sectors tells which, and does nothing.
+fn look_at<D: Sectors>(disc: &mut D) -> Look
+    ensures rule { LookRule (D.shows disc.old) (D.shows disc.new) (D.stands disc.old) (D.stands disc.new) result }
+{
+    if let Some(capacity) = disc.capacity() {
+        return Look::Formatted(capacity);
+    }
+    let mut nothing = [0u8; 0];
+    match disc.read(0, 0, &mut nothing) {
+        ReadOut::Off => Look::Off,
+        _ => Look::NotFormatted,
+    }
+}
+
+/// Answers a command that was judged so, on a disc of so many sectors, 0 where it is not formatted.
+fn answer<D: Disc>(
+    disc: &mut D,
+    alloc: Global,
+    host: &Host,
+    judged: Result<Command, Sense>,
+    sectors: u32,
+    payload: &[u8],
+    data_in: &mut Vec<u8>,
+) -> Answer
+    requires limits { IfOk judged (IsWithinLimits payload.now) }
+    requires served { IfOk judged IsServed }
+    requires sectors { sectors ≡ capacity (D.shows disc.old) }
+    requires empty { data_in.old.items ≡ [] }
+    requires room { 2048 * TRANSFER_LIMIT ≤ vec_capacity data_in.old }
+    ensures rule { IsAnsweredBy (D.shows disc.old) (D.shows disc.new) (D.stands disc.old)
+        (D.stands disc.new) host.now payload.now judged result data_in.new.items }
+    ensures same_shape { (D.shows disc.new).shape ≡ (D.shows disc.old).shape }
+    ensures room { vec_capacity data_in.old ≤ vec_capacity data_in.new }
+{
+    match judged {
+        Err(why) => Answer::Check(why),
+        Ok(command) => do_command(disc, alloc, host, command, sectors, payload, data_in),
+    }
+}
+
+/// Does a command, on a disc of so many sectors, 0 where it is not formatted.
+fn do_command<D: Disc>(
+    disc: &mut D,
+    alloc: Global,
+    host: &Host,
+    command: Command,
+    sectors: u32,
+    payload: &[u8],
+    data_in: &mut Vec<u8>,
+) -> Answer
+    requires limits { IsWithinLimits payload.now command }
+    requires served { IsServed command }
+    requires sectors { sectors ≡ capacity (D.shows disc.old) }
+    requires empty { data_in.old.items ≡ [] }
+    requires room { 2048 * TRANSFER_LIMIT ≤ vec_capacity data_in.old }
+    ensures rule { IsDone (D.shows disc.old) (D.shows disc.new) (D.stands disc.old) (D.stands disc.new)
+        host.now payload.now command result data_in.new.items }
+    ensures same_shape { (D.shows disc.new).shape ≡ (D.shows disc.old).shape }
+    ensures room { vec_capacity data_in.old ≤ vec_capacity data_in.new }
+{
+    match command {
+        Command::Read { lba, n } => return read(disc, lba, n, data_in),
+        Command::Write { lba, n, .. } => return write(disc, lba, n, payload),
+        Command::Format { kind } => return format(disc, alloc, kind),
+        Command::RequestSense { alloc } => reply(data_in, &sense_told(host).to_bytes(), alloc),
+        Command::Inquiry { alloc } => reply(data_in, INQUIRY, alloc),
+        Command::ReadCapacity => reply(data_in, &capacity_reply(sectors), 8),
+        Command::Configuration {
+            start: 0,
+            alloc,
+            ..
+        } => { reply(data_in, &profiles_reply(host.out), alloc) }
+        Command::Configuration { alloc, .. } => {
+            reply(data_in, &no_features_reply(host.out), alloc)
+        }
+        Command::ModeSense {
+            control,
+            page,
+            alloc,
+        } => Modes::new().sense_within(control, page, alloc, data_in),
+        Command::TestUnitReady
+        | Command::StartStop { .. }
+        | Command::Prevent { .. }
+        | Command::Synchronize
+        | Command::ModeSelect => {}
+        Command::Expand { .. }
+        | Command::FormatCapacities { .. }
+        | Command::Verify { .. }
+        | Command::Structure { .. } => unreachable!(),
+    }
+    Answer::Good
+}
+
+/// What is remembered after a command that was judged and answered so.
+fn host_after(
+    host: Host,
+    operation: Option<Operation>,
+    judged: Result<Command, Sense>,
+    answer: Answer,
+) -> Host
+    ensures { result ≡ host_after host operation judged answer }
+{
+    let done = match judged {
+        Ok(command) => done_by(command, host),
+        Err(_) => Host {
+            attention: attention_after(host, operation),
+            ..host
+        },
+    };
+    Host {
+        kept: kept_after(host.kept, answer),
+        ..done
+    }
+}
+
+/// What a command that is done changes.
+fn done_by(command: Command, host: Host) -> Host
+    ensures { result ≡ done_by command host }
+{
+    match command {
+        Command::RequestSense { .. } => Host {
+            attention: host.kept.is_some() && host.attention,
+            ..host
+        },
+        Command::Prevent { on } => Host {
+            prevented: on,
+            ..host
+        },
+        Command::StartStop { start, eject: true } => Host {
+            out: !start,
+            ..host
+        },
+        _ => host,
+    }
+}
+
+/// Whether the host is still to be told after a command that was refused.
+fn attention_after(host: Host, operation: Option<Operation>) -> bool
+    ensures { result ≡ attention_after is_served host operation }
+{
+    match operation {
+        Some(operation) if is_served(operation) && is_told(&host, operation) => false,
+        _ => host.attention,
+    }
+}
+
+/// The sense that is kept after a command.
+fn kept_after(kept: Option<Sense>, answer: Answer) -> Option<Sense>
+    ensures { result ≡ kept_after kept answer }
+{
+    match answer {
+        Answer::Good => None,
+        Answer::Check(why) => Some(why),
+        Answer::Cut | Answer::Off | Answer::Fault | Answer::NoMemory => kept,
+    }
+}

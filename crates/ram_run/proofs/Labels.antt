@@ -1,0 +1,84 @@
+-- No line changes the label of the medium, nor the geometry: an image keeps the geometry that it was pressed with.
+use Rattle.std.specs.Prelude.{◌≡◌, ℕ, Result, Ok, Err, List}
+use Rattle.std.proofs.Common.{sym, ap, ◌∙◌, inl, inr}
+use Rattle.model_geometry.specs.Geometry.{label_of}
+use Rattle.model_medium.specs.Machine.{Machine}
+use Rattle.model_medium.specs.declared.WornBlock.{WornBlock}
+use Rattle.model_sectors.specs.Discs.{Standing}
+use Rattle.model_drive.specs.Shown.{Shown}
+use Rattle.model_drive.proofs.Kept.{read_kept, write_kept, power_kept, format_kept}
+use Rattle.ram_sense.specs.declared.sense.Sense.{Sense}
+use Rattle.ram_sense.specs.declared.answer.Answer.{Answer}
+use Rattle.ram_cdb.specs.declared.commands.Command.{Command}
+use Rattle.ram_cdb.specs.declared.commands.Command.TheVariants as commands
+use Rattle.model_target.specs.declared.host.Host.{Host}
+use Rattle.model_target.specs.Steps.{Untouched, IsDone, IsAnsweredBy, IsStep}
+use Rattle.ram_medium.specs.Control.{WearRule}
+use Rattle.ram_medium.specs.declared.control.FailEnd.{FailEnd}
+use Rattle.ram_medium.specs.declared.control.FailEnd.TheVariants as fails
+use Rattle.ram_medium.specs.declared.control.Arm.{Arm}
+use Rattle.ram_medium.specs.declared.control.Arm.TheVariants as arming
+use Rattle.ram_volume.specs.Control.{FailOnDrive}
+use Rattle.ram_run.specs.declared.line.DiscLine.{DiscLine}
+use Rattle.ram_run.specs.declared.line.DiscLine.TheVariants as lines
+use Rattle.ram_run.specs.Replies.{Outcome}
+use Rattle.ram_run.specs.States.{IsLabelled}
+use Rattle.ram_run.specs.LineSteps.{DiscRule}
+
+module _ (old new : Shown) where
+  abbrev SameLabel : Type 0
+  SameLabel = new.medium.world.label ≡ old.medium.world.label
+
+  fail_label : (block : ℕ) (end : FailEnd) → FailOnDrive old new block end → SameLabel
+  fail_label block fails.Done p = ap (λ (m : Machine). m.world.label) p.0.1
+  fail_label block (fails.NoBlock blocks) p = ap (λ (m : Machine). m.world.label) p.0.2
+  fail_label block fails.Failed p = p.0.1.same_label
+
+  wear_label : (total : ℕ) (worn : WornBlock) (end : Arm) → WearRule total old.medium new.medium worn end → SameLabel
+  wear_label total worn arming.Set p = ap (λ (m : Machine). m.world.label) p.2
+  wear_label total worn (arming.NoBlock blocks) p = ap (λ (m : Machine). m.world.label) p.2
+  wear_label total worn arming.Full p = ap (λ (m : Machine). m.world.label) p.2
+
+  module _ (before after : Standing → Type 0) where
+    untouched_label : Untouched old new before after → SameLabel
+    untouched_label p = ap (λ (s : Shown). s.medium.world.label) p.same
+
+    done_label : (host : Host) (payload : List ℕ) (command : Command) (answer : Answer) (data_in : List ℕ) → IsDone old new before after host payload command answer data_in → SameLabel
+    done_label host payload commands.TestUnitReady answer data_in p = untouched_label p.untouched
+    done_label host payload (commands.RequestSense alloc) answer data_in p = untouched_label p.untouched
+    done_label host payload (commands.Format kind) answer data_in p = (format_kept old new kind p.out p.cause).same_label
+    done_label host payload (commands.Expand sectors) answer data_in p = absurd p
+    done_label host payload (commands.Inquiry alloc) answer data_in p = untouched_label p.untouched
+    done_label host payload (commands.StartStop start eject) answer data_in p = untouched_label p.untouched
+    done_label host payload (commands.Prevent on) answer data_in p = untouched_label p.untouched
+    done_label host payload (commands.FormatCapacities alloc) answer data_in p = absurd p
+    done_label host payload commands.ReadCapacity answer data_in p = untouched_label p.untouched
+    done_label host payload (commands.Read lba n) answer data_in p = (read_kept old new lba n p.out p.cause).same_label
+    done_label host payload (commands.Write lba n fua) answer data_in p = (write_kept old new lba n p.out p.cause).same_label
+    done_label host payload (commands.Verify lba n) answer data_in p = absurd p
+    done_label host payload commands.Synchronize answer data_in p = untouched_label p.untouched
+    done_label host payload (commands.Configuration rt start alloc) answer data_in p = untouched_label p.untouched
+    done_label host payload commands.ModeSelect answer data_in p = untouched_label p.untouched
+    done_label host payload (commands.ModeSense control page alloc) answer data_in p = untouched_label p.untouched
+    done_label host payload (commands.Structure format alloc) answer data_in p = absurd p
+
+    by_label : (host : Host) (payload : List ℕ) (judged : Result Command Sense) (answer : Answer) (data_in : List ℕ) → IsAnsweredBy old new before after host payload judged answer data_in → SameLabel
+    by_label host payload (Err why) answer data_in p = untouched_label p.untouched
+    by_label host payload (Ok command) answer data_in p = done_label host payload command answer data_in p
+
+    step_label : (host later : Host) (cdb payload : List ℕ) (answer : Answer) (data_in : List ℕ) → IsStep old new before after host later cdb payload answer data_in → SameLabel
+    step_label host later cdb payload answer data_in (inl off) = untouched_label off.1.is_answered.untouched
+    step_label host later cdb payload answer data_in (inr on) = by_label host payload on.1.judged answer data_in on.1.is_answered
+
+    rule_label : (host later : Host) (line : DiscLine) (payload : List ℕ) (outcome : Outcome) (data_in : List ℕ) → DiscRule old new before after host later line payload outcome data_in → SameLabel
+    rule_label host later lines.Power payload outcome data_in p = (power_kept old new p.0.out p.0.powered.cause).same_label
+    rule_label host later (lines.Fail block) payload outcome data_in p = fail_label block p.0.end p.0.rule
+    rule_label host later (lines.Wear block n) payload outcome data_in p = wear_label _ (record { block = block; left = n }) p.0.end p.0.rule
+    rule_label host later (lines.Cut n fate) payload outcome data_in p = ap (λ (m : Machine). m.world.label) p.0.armed
+    rule_label host later (lines.Command cdb) payload outcome data_in p = step_label host later cdb payload p.answer data_in p.step
+
+    -- a drive whose label is that of its geometry still is so after a line
+    pub stays_labelled : (host later : Host) (line : DiscLine) (payload : List ℕ) (outcome : Outcome) (data_in : List ℕ) → DiscRule old new before after host later line payload outcome data_in
+        → new.shape ≡ old.shape → IsLabelled old → IsLabelled new
+    stays_labelled host later line payload outcome data_in rule same_shape labelled =
+        rule_label host later line payload outcome data_in rule ∙ labelled ∙ sym (ap label_of same_shape)

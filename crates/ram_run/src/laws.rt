@@ -1,0 +1,81 @@
+//! Laws of runs, for whoever relies on a drive: what it acknowledged stays, and is read back.
+ghost use Rattle.std.specs.Prelude.{◌≡◌, ℕ, Bool, Ok, List};
+ghost use Rattle.ram_cdb.specs.declared.commands.Command.TheVariants as commands;
+ghost use Rattle.ram_cdb.specs.Decoding.{decoded};
+ghost use Rattle.ram_run.specs.declared.line.DiscLine.TheVariants as discs;
+ghost use Rattle.ram_run.specs.declared.line.Work.{Work as AnyWork};
+ghost use Rattle.ram_run.specs.declared.line.Work.TheVariants as works;
+ghost use Rattle.ram_run.specs.Replies.{Outcome};
+ghost use Rattle.ram_run.specs.States.{State, IsLeft};
+ghost use Rattle.ram_run.specs.LineSteps.{Step};
+ghost use Rattle.ram_run.specs.Run.{AnsweredLine, IsStep, Run};
+ghost use Rattle.ram_run.specs.Acknowledged.{bytes_of_sector, Acknowledged, HasNow, WasDone, IsAmong, LeavesSector, LeaveSector, HoldsOldOrNew, HasInImage};
+
+/// What was acknowledged of a sector stays so while no line writes it, through every failure of a block and
+/// every cut of the power, and whenever the power goes off and on again: over one line, however it ends, and
+/// over a run.
+pub fn acknowledged_bytes_stay()
+    ensures step { (s t : State) (work : AnyWork) (payload data_in : List ℕ) (outcome : Outcome)
+        (at : ℕ) (bytes : List ℕ) → Step s work payload outcome data_in t → LeavesSector at work payload
+        → Acknowledged s at bytes → Acknowledged t at bytes }
+    ensures run { (s t : State) (events : List AnsweredLine) (at : ℕ) (bytes : List ℕ)
+        → Run s events t → LeaveSector at events → Acknowledged s at bytes → Acknowledged t at bytes }
+{}
+
+/// After a write that is answered Good the disc has each sector that was sent, and that is acknowledged.
+pub fn a_write_that_is_done_is_acknowledged()
+    ensures has { (s t : State) (event : AnsweredLine) (lba n at : ℕ) (fua : Bool)
+        → IsStep s event t → WasDone event (commands.Write lba n fua) → IsAmong lba n at
+        → HasNow t at (bytes_of_sector lba event.payload at) }
+    ensures acknowledged { (s t : State) (event : AnsweredLine) (lba n at : ℕ) (fua : Bool)
+        → IsStep s event t → WasDone event (commands.Write lba n fua) → IsAmong lba n at
+        → Acknowledged t at (bytes_of_sector lba event.payload at) }
+{}
+
+/// A read that is answered Good gives of each sector what was acknowledged of it. What it gives the disc has.
+pub fn a_read_that_is_done_shows_what_was_acknowledged()
+    ensures shown { (s t : State) (event : AnsweredLine) (lba n at : ℕ) (bytes : List ℕ)
+        → IsStep s event t → WasDone event (commands.Read lba n) → IsAmong lba n at
+        → Acknowledged s at bytes → bytes_of_sector lba event.data_in at ≡ bytes }
+    ensures has { (s t : State) (event : AnsweredLine) (lba n at : ℕ)
+        → IsStep s event t → WasDone event (commands.Read lba n) → IsAmong lba n at
+        → HasNow t at (bytes_of_sector lba event.data_in at) }
+{}
+
+/// A write leaves each sector that it reaches as it was acknowledged, or with the bytes that were sent,
+/// however the write ends.
+pub fn a_sector_that_is_written_is_old_or_new()
+    ensures { (s t : State) (cdb payload data_in : List ℕ) (outcome : Outcome) (lba n at : ℕ) (fua : Bool)
+        (bytes : List ℕ) → Step s (works.OnDisc (discs.Command cdb)) payload outcome data_in t
+        → decoded cdb payload ≡ Ok (commands.Write lba n fua) → IsAmong lba n at
+        → Acknowledged s at bytes → HoldsOldOrNew t at bytes (bytes_of_sector lba payload at) }
+{}
+
+/// A write and then a read, both answered Good, with any lines between them that do not write the sector: the
+/// read gives the bytes that were sent.
+pub fn what_was_written_is_read_back()
+    ensures { (s t u v : State) (written read : AnsweredLine) (between : List AnsweredLine)
+        (lba n first count at : ℕ) (fua : Bool)
+        → IsStep s written t → WasDone written (commands.Write lba n fua) → IsAmong lba n at
+        → Run t between u → LeaveSector at between
+        → IsStep u read v → WasDone read (commands.Read first count) → IsAmong first count at
+        → bytes_of_sector first read.data_in at ≡ bytes_of_sector lba written.payload at }
+{}
+
+/// Two reads of a sector, both answered Good, with any lines between them that do not write it, give the same
+/// bytes.
+pub fn two_reads_agree()
+    ensures { (s t u v : State) (one two : AnsweredLine) (between : List AnsweredLine)
+        (lba n first count at : ℕ)
+        → IsStep s one t → WasDone one (commands.Read lba n) → IsAmong lba n at
+        → Run t between u → LeaveSector at between
+        → IsStep u two v → WasDone two (commands.Read first count) → IsAmong first count at
+        → bytes_of_sector first two.data_in at ≡ bytes_of_sector lba one.data_in at }
+{}
+
+/// After a write that is answered Good the image has each sector that was sent, in the home of its block.
+pub fn a_write_told_good_is_in_the_image()
+    ensures { (s t : State) (event : AnsweredLine) (lba n at : ℕ) (fua : Bool) (image : List ℕ)
+        → IsStep s event t → WasDone event (commands.Write lba n fua) → IsAmong lba n at
+        → IsLeft t image → HasInImage t image at (bytes_of_sector lba event.payload at) }
+{}
