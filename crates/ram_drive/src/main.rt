@@ -6,6 +6,7 @@ use ram_outside::{FileOpener, StdSink, StdSource};
 use ram_run::run::run;
 use ram_run::status::Status;
 use std::fs::File;
+use std::os::unix::fs::FileExt;
 use std::process::ExitCode;
 use std::rt::{Env, Files};
 use std::{env, io};
@@ -38,7 +39,10 @@ fn hold_places<R: Files>(rt: &R) -> io::Result<Places<R::File>> {
 }
 
 /// Runs the program's words over the standard streams and files.
-fn answer<R: Input + Print + Files + Env + AllocGlobal>(rt: &R) -> Status {
+fn answer<R: Input + Print + Files + Env + AllocGlobal>(rt: &R) -> Status
+where
+    R::File: FileExt,
+{
     match run_words(rt) {
         Ok(status) => status,
         Err(error) => refusal(&error),
@@ -46,7 +50,10 @@ fn answer<R: Input + Print + Files + Env + AllocGlobal>(rt: &R) -> Status {
 }
 
 /// Takes the program's words, and runs them.
-fn run_words<R: Input + Print + Files + Env + AllocGlobal>(rt: &R) -> io::Result<Status> {
+fn run_words<R: Input + Print + Files + Env + AllocGlobal>(rt: &R) -> io::Result<Status>
+where
+    R::File: FileExt,
+{
     let words: Vec<String> = env::args(rt)?.skip(1).collect(rt.alloc())?;
     let mut texts = Vec::with_capacity(rt.alloc(), words.len())?;
     for word in &words {

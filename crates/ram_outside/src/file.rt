@@ -10,8 +10,9 @@ use crate::image::{Image, Length, Moved};
 use crate::opener::{Opened, Opener};
 use std::fs::{OpenFile, OpenOptions};
 use std::io;
-use std::io::{Read, Seek, SeekFrom, Write};
+use std::io::{Seek, SeekFrom};
 use std::marker::Model;
+use std::os::unix::fs::FileExt;
 use std::rt::Files;
 
 #[cfg(test)]
@@ -19,12 +20,12 @@ mod tests;
 
 /// The bytes of an open file, seen as its count of errors.
 #[derive(Drop)]
-pub struct FileImage<F: Read + Write + Seek + OpenFile + Drop> {
+pub struct FileImage<F: FileExt + Seek + OpenFile + Drop> {
     file: F,
     faults: u64,
 }
 
-impl<F: Read + Write + Seek + OpenFile + Drop> Model for FileImage<F> {
+impl<F: FileExt + Seek + OpenFile + Drop> Model for FileImage<F> {
     ghost use Rattle.std.specs.Prelude.{ℕ};
 
     ghost Value = { ℕ };
@@ -32,7 +33,7 @@ impl<F: Read + Write + Seek + OpenFile + Drop> Model for FileImage<F> {
     ghost view = { λ i. i.faults };
 }
 
-impl<F: Read + Write + Seek + OpenFile + Drop> Image for FileImage<F> {
+impl<F: FileExt + Seek + OpenFile + Drop> Image for FileImage<F> {
     ghost bytes = { λ _. None };
 
     ghost faults = { λ i. i };
@@ -52,7 +53,7 @@ impl<F: Read + Write + Seek + OpenFile + Drop> Image for FileImage<F> {
         ensures rule { ReadAtRule None None self.old self.new at into.new result }
         ensures count { self.new ≡ count_after_move result self.old }
     {
-        let outcome = read_exact_at(&mut self.file, at, into);
+        let outcome = self.file.read_exact_at(into, at);
         moved(outcome, &mut self.faults)
     }
 
@@ -60,7 +61,7 @@ impl<F: Read + Write + Seek + OpenFile + Drop> Image for FileImage<F> {
         ensures rule { WriteAtRule None None self.old self.new at from.now result }
         ensures count { self.new ≡ count_after_move result self.old }
     {
-        let outcome = write_all_at(&mut self.file, at, from);
+        let outcome = self.file.write_all_at(from, at);
         moved(outcome, &mut self.faults)
     }
 
@@ -70,16 +71,6 @@ impl<F: Read + Write + Seek + OpenFile + Drop> Image for FileImage<F> {
     {
         moved(self.file.set_len(len), &mut self.faults)
     }
-}
-
-fn read_exact_at<F: Read + Seek>(file: &mut F, at: u64, into: &mut [u8]) -> io::Result<()> {
-    file.seek(SeekFrom::Start(at))?;
-    file.read_exact(into)
-}
-
-fn write_all_at<F: Write + Seek>(file: &mut F, at: u64, from: &[u8]) -> io::Result<()> {
-    file.seek(SeekFrom::Start(at))?;
-    file.write_all(from)
 }
 
 fn moved(outcome: io::Result<()>, faults: &mut u64) -> Moved
@@ -115,7 +106,10 @@ impl<R: Files> FileOpener<R> {
     }
 }
 
-impl<R: Files> Opener for FileOpener<R> {
+impl<R: Files> Opener for FileOpener<R>
+where
+    R::File: FileExt,
+{
     type Image = FileImage<R::File>;
 
     ghost returned_known = { false };

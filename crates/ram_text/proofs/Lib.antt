@@ -3,6 +3,7 @@ pub mod Cuts
 pub mod Fills
 pub mod Answers
 pub mod Puts
+pub mod OneByte
 pub mod Prints
 pub mod WordSteps
 pub mod HexSteps

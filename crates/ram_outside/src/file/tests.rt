@@ -4,38 +4,33 @@ use super::{FileImage, FileOpener};
 use crate::image::{Image, Length, Moved};
 use crate::opener::{Opened, Opener};
 use std::fs::{Metadata, OpenFile};
-use std::io::{Read, Seek, SeekFrom, Write};
+use std::io::{Seek, SeekFrom};
+use std::os::unix::fs::FileExt;
 use std::test::Fail;
 use std::{fs, io};
 
 /// A file that moves at most three bytes at once.
 #[derive(Drop)]
-struct FewAtOnce<F: Read + Write + Seek + OpenFile + Drop>(F);
+struct FewAtOnce<F: FileExt + Seek + OpenFile + Drop>(F);
 
-impl<F: Read + Write + Seek + OpenFile + Drop> Read for FewAtOnce<F> {
-    fn read(&mut self, into: &mut [u8]) -> io::Result<usize> {
+impl<F: FileExt + Seek + OpenFile + Drop> FileExt for FewAtOnce<F> {
+    fn read_at(&self, into: &mut [u8], at: u64) -> io::Result<usize> {
         let most = into.len().min(3);
-        self.0.read(&mut into[..most])
+        self.0.read_at(&mut into[..most], at)
+    }
+
+    fn write_at(&self, from: &[u8], at: u64) -> io::Result<usize> {
+        self.0.write_at(&from[..from.len().min(3)], at)
     }
 }
 
-impl<F: Read + Write + Seek + OpenFile + Drop> Write for FewAtOnce<F> {
-    fn write(&mut self, from: &[u8]) -> io::Result<usize> {
-        self.0.write(&from[..from.len().min(3)])
-    }
-
-    fn flush(&mut self) -> io::Result<()> {
-        self.0.flush()
-    }
-}
-
-impl<F: Read + Write + Seek + OpenFile + Drop> Seek for FewAtOnce<F> {
+impl<F: FileExt + Seek + OpenFile + Drop> Seek for FewAtOnce<F> {
     fn seek(&mut self, to: SeekFrom) -> io::Result<u64> {
         self.0.seek(to)
     }
 }
 
-impl<F: Read + Write + Seek + OpenFile + Drop> OpenFile for FewAtOnce<F> {
+impl<F: FileExt + Seek + OpenFile + Drop> OpenFile for FewAtOnce<F> {
     fn metadata(&self) -> io::Result<Metadata> {
         self.0.metadata()
     }

@@ -88,8 +88,7 @@ fn is_fill(sector: &[u8]) -> bool
     requires { 0 < length sector.now }
     ensures { result ≡ is_one_byte sector.now }
 {
-    let first = sector[0];
-    sector.iter().all(|byte| *byte == first)
+    sector[1..] == sector[..sector.len() - 1]
 }
 
 /// Prints a sector's line, with the bytes in hexadecimal digits after the words.

@@ -1,0 +1,102 @@
+//! The steps of a script: each draws its kind, and then its numbers in the order in which they stand in its lines.
+
+ghost use Rattle.std.specs.Prelude.{◌≡◌, ◌++◌, OnOk};
+ghost use Rattle.ram_generate.specs.Lines.{fate_text};
+ghost use Rattle.ram_generate.specs.Script.{Grows, write_step, read_step, fail_step, wear_step, cut_step, power_step, one_step, steps_text};
+
+use crate::commands::{add, add_number, add_transfer, encode};
+use crate::drawing::draw;
+use rand_pcg::Pcg32;
+use std::alloc::AllocError;
+
+/// Adds so many steps.
+pub fn add_steps(script: &mut Vec<u8>, words: &mut Pcg32, count: u32) -> Result<(), AllocError>
+    ensures { OnOk result (script.new.items ≡ script.old.items ++ steps_text count words.old) }
+{
+    for _ in 0..count {
+        add_step(script, words)?;
+    }
+    Ok(())
+}
+
+/// Adds one step.
+fn add_step(script: &mut Vec<u8>, words: &mut Pcg32) -> Result<(), AllocError>
+    ensures { Grows script.old.items script.new.items words.new (one_step words.old) result }
+{
+    match draw(words, 100) {
+        0..=44 => add_write(script, words),
+        45..=94 => add_read(script, words),
+        95 => add_fail(script, words),
+        96 => add_wear(script, words),
+        97 => add_cut(script, words),
+        98.. => add(script, b"power\ncdb 000000000000\n"),
+    }
+}
+
+/// A write of up to sixteen sectors, each with a byte one greater.
+fn add_write(script: &mut Vec<u8>, words: &mut Pcg32) -> Result<(), AllocError>
+    ensures { Grows script.old.items script.new.items words.new (write_step words.old) result }
+{
+    let lba = draw(words, 1_425);
+    let n = 1 + draw(words, 16);
+    let first = draw(words, 256);
+    let mut data = *b" count ..\n";
+    encode(&[first as u8], &mut data[7..9]);
+    add_transfer(script, 0x2a, lba, n as u16, &data)
+}
+
+/// A read of up to sixteen sectors.
+fn add_read(script: &mut Vec<u8>, words: &mut Pcg32) -> Result<(), AllocError>
+    ensures { Grows script.old.items script.new.items words.new (read_step words.old) result }
+{
+    let lba = draw(words, 1_425);
+    let n = 1 + draw(words, 16);
+    add_transfer(script, 0x28, lba, n as u16, b"\n")
+}
+
+/// A block of the zones dies.
+fn add_fail(script: &mut Vec<u8>, words: &mut Pcg32) -> Result<(), AllocError>
+    ensures { Grows script.old.items script.new.items words.new (fail_step words.old) result }
+{
+    let block = 8 + draw(words, 102);
+    add(script, b"fail ")?;
+    add_number(script, block)?;
+    add(script, b"\n")
+}
+
+/// A block of the zones dies at one of its next eight uses.
+fn add_wear(script: &mut Vec<u8>, words: &mut Pcg32) -> Result<(), AllocError>
+    ensures { Grows script.old.items script.new.items words.new (wear_step words.old) result }
+{
+    let block = 8 + draw(words, 102);
+    let n = 1 + draw(words, 8);
+    add(script, b"wear ")?;
+    add_number(script, block)?;
+    add(script, b" ")?;
+    add_number(script, n)?;
+    add(script, b"\n")
+}
+
+/// The power is cut at one of the next forty uses.
+fn add_cut(script: &mut Vec<u8>, words: &mut Pcg32) -> Result<(), AllocError>
+    ensures { Grows script.old.items script.new.items words.new (cut_step words.old) result }
+{
+    let n = 1 + draw(words, 40);
+    let fate = draw(words, 3);
+    add(script, b"cut ")?;
+    add_number(script, n)?;
+    add(script, fate_words(fate))
+}
+
+/// What the cut leaves of a block that is being written, in the words of the script.
+fn fate_words(fate: u32) -> &'static [u8]
+    ensures { result.now ≡ fate_text fate }
+{
+    if fate == 0 {
+        b" old\n"
+    } else if fate == 1 {
+        b" new\n"
+    } else {
+        b" torn\n"
+    }
+}
