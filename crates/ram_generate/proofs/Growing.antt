@@ -5,7 +5,7 @@ use Rattle.std.proofs.lemmas.Bool.{leb-true, eqb-true, false_from_ne_true}
 use Rattle.rand_pcg.specs.Lcg.{Lcg}
 use Rattle.ram_generate.specs.Drawing.{draw}
 use Rattle.ram_generate.specs.Lines.{power_text}
-use Rattle.ram_generate.specs.Script.{Drawn, Grows, write_step, read_step, fail_step, wear_step, cut_step, power_step, step_by, one_step, steps_text}
+use Rattle.ram_generate.specs.Script.{Drawn, AddsStep, write_step, read_step, fail_step, wear_step, cut_step, power_step, step_by, one_step, steps_text}
 
 -- nothing is drawn yet
 pub to_come : (script : List ℕ) (count : ℕ) (words : Lcg) → script ++ steps_text (count - 0) words ≡ script ++ steps_text count words
@@ -57,12 +57,12 @@ step_power kind words many =
 
 -- the script grew by them
 pub grown_by_power : {E : Type 0} (old new : List ℕ) (words after : Lcg) (kind : ℕ) (result : Result (Unit {0}) E) → 98 ≤ kind → kind ≡ (draw 100 words).0 → after ≡ (draw 100 words).1
-    → OnOk result (new ≡ old ++ power_text) → Grows old new after (one_step words) result
+    → OnOk result (new ≡ old ++ power_text) → AddsStep old new after (one_step words) result
 grown_by_power {E = E} old new words after kind result many kind_is after_is added =
-    subst (λ (drawn : Drawn). Grows old new after drawn result)
+    subst (λ (drawn : Drawn). AddsStep old new after drawn result)
     (sym (step_power (draw 100 words).0 (draw 100 words).1 (subst (λ (k : ℕ). 98 ≤ k) kind_is many)))
     (both result added)
   where
-    both : (r : Result (Unit {0}) E) → OnOk r (new ≡ old ++ power_text) → Grows old new after (power_step (draw 100 words).1) r
+    both : (r : Result (Unit {0}) E) → OnOk r (new ≡ old ++ power_text) → AddsStep old new after (power_step (draw 100 words).1) r
     both (Ok done) grew = (grew, after_is)
     both (Err why) grew = tt

@@ -61,5 +61,5 @@ abbrev pub script_from : (seed : ℕ) → List ℕ
 script_from seed = head_text ++ steps_text 2000 (generator seed)
 
 -- a script grew by what a step adds, unless memory ran out; the generator stands behind it
-abbrev pub Grows : {E : Type 0} → (old new : List ℕ) → Lcg → Drawn → Result (Unit {0}) E → Type 0
-Grows old new words drawn result = OnOk result ((new ≡ old ++ drawn.0) × (words ≡ drawn.1))
+abbrev pub AddsStep : {E : Type 0} → (old new : List ℕ) → Lcg → Drawn → Result (Unit {0}) E → Type 0
+AddsStep old new words drawn result = OnOk result ((new ≡ old ++ drawn.0) × (words ≡ drawn.1))

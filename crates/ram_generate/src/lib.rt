@@ -2,9 +2,9 @@
 //! thousand steps: writes, reads, failures of blocks, cuts and power lines.
 #![tactic(auto)]
 
-mod commands;
 mod drawing;
 mod steps;
+mod texts;
 
 ghost use Rattle.std.specs.Prelude.{◌≡◌, IfOk};
 ghost use Rattle.ram_generate.specs.Script.{script_from};

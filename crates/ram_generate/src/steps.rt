@@ -2,10 +2,10 @@
 
 ghost use Rattle.std.specs.Prelude.{◌≡◌, ◌++◌, OnOk};
 ghost use Rattle.ram_generate.specs.Lines.{fate_text};
-ghost use Rattle.ram_generate.specs.Script.{Grows, write_step, read_step, fail_step, wear_step, cut_step, power_step, one_step, steps_text};
+ghost use Rattle.ram_generate.specs.Script.{AddsStep, write_step, read_step, fail_step, wear_step, cut_step, power_step, one_step, steps_text};
 
-use crate::commands::{add, add_number, add_transfer, encode};
 use crate::drawing::draw;
+use crate::texts::{add, add_number, add_transfer, encode};
 use rand_pcg::Pcg32;
 use std::alloc::AllocError;
 
@@ -21,7 +21,7 @@ pub fn add_steps(script: &mut Vec<u8>, words: &mut Pcg32, count: u32) -> Result<
 
 /// Adds one step.
 fn add_step(script: &mut Vec<u8>, words: &mut Pcg32) -> Result<(), AllocError>
-    ensures { Grows script.old.items script.new.items words.new (one_step words.old) result }
+    ensures { AddsStep script.old.items script.new.items words.new (one_step words.old) result }
 {
     match draw(words, 100) {
         0..=44 => add_write(script, words),
@@ -35,7 +35,7 @@ fn add_step(script: &mut Vec<u8>, words: &mut Pcg32) -> Result<(), AllocError>
 
 /// A write of up to sixteen sectors, each with a byte one greater.
 fn add_write(script: &mut Vec<u8>, words: &mut Pcg32) -> Result<(), AllocError>
-    ensures { Grows script.old.items script.new.items words.new (write_step words.old) result }
+    ensures { AddsStep script.old.items script.new.items words.new (write_step words.old) result }
 {
     let lba = draw(words, 1_425);
     let n = 1 + draw(words, 16);
@@ -47,7 +47,7 @@ fn add_write(script: &mut Vec<u8>, words: &mut Pcg32) -> Result<(), AllocError>
 
 /// A read of up to sixteen sectors.
 fn add_read(script: &mut Vec<u8>, words: &mut Pcg32) -> Result<(), AllocError>
-    ensures { Grows script.old.items script.new.items words.new (read_step words.old) result }
+    ensures { AddsStep script.old.items script.new.items words.new (read_step words.old) result }
 {
     let lba = draw(words, 1_425);
     let n = 1 + draw(words, 16);
@@ -56,7 +56,7 @@ fn add_read(script: &mut Vec<u8>, words: &mut Pcg32) -> Result<(), AllocError>
 
 /// A block of the zones dies.
 fn add_fail(script: &mut Vec<u8>, words: &mut Pcg32) -> Result<(), AllocError>
-    ensures { Grows script.old.items script.new.items words.new (fail_step words.old) result }
+    ensures { AddsStep script.old.items script.new.items words.new (fail_step words.old) result }
 {
     let block = 8 + draw(words, 102);
     add(script, b"fail ")?;
@@ -66,7 +66,7 @@ fn add_fail(script: &mut Vec<u8>, words: &mut Pcg32) -> Result<(), AllocError>
 
 /// A block of the zones dies at one of its next eight uses.
 fn add_wear(script: &mut Vec<u8>, words: &mut Pcg32) -> Result<(), AllocError>
-    ensures { Grows script.old.items script.new.items words.new (wear_step words.old) result }
+    ensures { AddsStep script.old.items script.new.items words.new (wear_step words.old) result }
 {
     let block = 8 + draw(words, 102);
     let n = 1 + draw(words, 8);
@@ -79,7 +79,7 @@ fn add_wear(script: &mut Vec<u8>, words: &mut Pcg32) -> Result<(), AllocError>
 
 /// The power is cut at one of the next forty uses.
 fn add_cut(script: &mut Vec<u8>, words: &mut Pcg32) -> Result<(), AllocError>
-    ensures { Grows script.old.items script.new.items words.new (cut_step words.old) result }
+    ensures { AddsStep script.old.items script.new.items words.new (cut_step words.old) result }
 {
     let n = 1 + draw(words, 40);
     let fate = draw(words, 3);
