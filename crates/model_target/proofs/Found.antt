@@ -1,19 +1,21 @@
 -- What a command leaves a drive standing for, found in its step.
-use Rattle.std.specs.Prelude.{◌≡◌, ℕ, Result, Ok, Err, List}
+use Rattle.std.specs.Prelude.{◌≡◌, ℕ, ◌==◌, Bool, true, false, Result, Ok, Err, List}
+use Rattle.std.specs.Bool.{MatchBool}
 use Rattle.std.proofs.Common.{sym, inl, inr, subst}
 use Rattle.model_sectors.specs.Discs.{Standing}
 use Rattle.model_drive.specs.Shown.{Shown}
-use Rattle.model_drive.specs.Reads.{ReadStep}
+use Rattle.model_drive.specs.Reads.{ReadStep, VerifyStep}
 use Rattle.model_drive.specs.Writes.{WriteStep}
 use Rattle.model_drive.specs.Formats.{FormatStep}
-use Rattle.model_drive.proofs.Found.{read_found, write_found, format_found}
+use Rattle.model_drive.specs.Expands.{ExpandStep}
+use Rattle.model_drive.proofs.Found.{read_found, verify_found, write_found, expand_found, format_found}
 use Rattle.ram_sense.specs.declared.sense.Sense.{Sense}
 use Rattle.ram_sense.specs.declared.answer.Answer.{Answer}
 use Rattle.ram_sense.specs.declared.answer.Answer.TheVariants as answers
 use Rattle.ram_cdb.specs.declared.commands.Command.{Command}
 use Rattle.ram_cdb.specs.declared.commands.Command.TheVariants as commands
 use Rattle.model_target.specs.declared.host.Host.{Host}
-use Rattle.model_target.specs.Steps.{IsAnswered, IsDone, IsAnsweredBy, IsStep}
+use Rattle.model_target.specs.Steps.{IsAnswered, TellsStructure, TellsSpares, IsDone, IsAnsweredBy, IsStep}
 
 module _ (old new : Shown) (before after : Standing → Type 0) (s : Standing) (stood : before s) where
   -- what the drive stands for afterwards
@@ -27,6 +29,14 @@ module _ (old new : Shown) (before after : Standing → Type 0) (s : Standing) (
     p.untouched.stands s stood,
     record { answer_is = p.answer_is; data_is = p.data_is; untouched = record { same = p.untouched.same; stands = λ x e. e } },
   )
+
+  structure_found : (text : Bool) (alloc : ℕ) (answer : Answer) (data_in : List ℕ)
+      → MatchBool text (TellsStructure old new before after alloc answer data_in) (TellsSpares old new before after alloc answer data_in)
+      → FindsBy (λ was is. MatchBool text (TellsStructure old new was is alloc answer data_in) (TellsSpares old new was is alloc answer data_in))
+  structure_found true alloc answer data_in p =
+      let found = answered_found answer _ data_in _ p.is_answered in
+      (found.0, found.1, record { text = p.text; is_text = p.is_text; is_answered = found.2 })
+  structure_found false alloc answer data_in p = answered_found answer _ data_in _ p
 
   done_found : (host : Host) (payload : List ℕ) (command : Command) (answer : Answer) (data_in : List ℕ) → IsDone old new before after host payload command answer data_in
       → FindsBy (λ was is. IsDone old new was is host payload command answer data_in)
@@ -44,11 +54,22 @@ module _ (old new : Shown) (before after : Standing → Type 0) (s : Standing) (
           no_data = p.no_data;
         },
       )
-  done_found host payload (commands.Expand sectors) answer data_in p = absurd p
+  done_found host payload (commands.Expand sectors) answer data_in p =
+      let found = expand_found after s sectors p.out (p.step s stood) in (
+        found.0,
+        found.1,
+        record {
+          out = p.out;
+          cause = p.cause;
+          step = λ x e. subst (λ y. ExpandStep (λ z. z ≡ found.0) y sectors p.out) (sym e) found.2;
+          answer_is = p.answer_is;
+          no_data = p.no_data;
+        },
+      )
   done_found host payload (commands.Inquiry alloc) answer data_in p = answered_found answer _ data_in _ p
   done_found host payload (commands.StartStop start eject) answer data_in p = answered_found answer _ data_in _ p
   done_found host payload (commands.Prevent on) answer data_in p = answered_found answer _ data_in _ p
-  done_found host payload (commands.FormatCapacities alloc) answer data_in p = absurd p
+  done_found host payload (commands.FormatCapacities alloc) answer data_in p = answered_found answer _ data_in _ p
   done_found host payload commands.ReadCapacity answer data_in p = answered_found answer _ data_in _ p
   done_found host payload (commands.Read lba n) answer data_in p =
       let found = read_found after s lba n p.bytes p.out (p.step s stood) in (
@@ -76,12 +97,23 @@ module _ (old new : Shown) (before after : Standing → Type 0) (s : Standing) (
           no_data = p.no_data;
         },
       )
-  done_found host payload (commands.Verify lba n) answer data_in p = absurd p
+  done_found host payload (commands.Verify lba n) answer data_in p =
+      let found = verify_found after s p.out (p.step s stood) in (
+        found.0,
+        found.1,
+        record {
+          out = p.out;
+          cause = p.cause;
+          step = λ x e. subst (λ y. VerifyStep (λ z. z ≡ found.0) y p.out) (sym e) found.2;
+          answer_is = p.answer_is;
+          no_data = p.no_data;
+        },
+      )
   done_found host payload commands.Synchronize answer data_in p = answered_found answer _ data_in _ p
   done_found host payload (commands.Configuration rt start alloc) answer data_in p = answered_found answer _ data_in _ p
   done_found host payload commands.ModeSelect answer data_in p = answered_found answer _ data_in _ p
   done_found host payload (commands.ModeSense control page alloc) answer data_in p = answered_found answer _ data_in _ p
-  done_found host payload (commands.Structure format alloc) answer data_in p = absurd p
+  done_found host payload (commands.Structure format alloc) answer data_in p = structure_found (format == 0x08) alloc answer data_in p
 
   by_found : (host : Host) (payload : List ℕ) (judged : Result Command Sense) (answer : Answer) (data_in : List ℕ) → IsAnsweredBy old new before after host payload judged answer data_in
       → FindsBy (λ was is. IsAnsweredBy old new was is host payload judged answer data_in)

@@ -13,7 +13,7 @@ use Rattle.ram_cdb.specs.declared.commands.Command.{Command}
 use Rattle.ram_cdb.specs.Decoding.{Refusal, refusal, refusals, unless, meaning, decoded_as, has_refused_field}
 use Rattle.model_target.specs.declared.host.Host.{Host}
 use Rattle.model_target.specs.Host.{is_told}
-use Rattle.model_target.specs.Judging.{is_served, asked_in, asked_by, asked, IsJudgedBy, IsJudged}
+use Rattle.model_target.specs.Judging.{asked_in, asked_by, asked, IsJudgedBy, IsJudged}
 use Rattle.model_target.specs.Steps.{IsStep, IsAnsweredBy}
 
 -- where a command is not refused, the first reason does not apply, nor does either part of it
@@ -31,17 +31,16 @@ long_enough operation cdb payload asked is =
     (first_part (nat_lt (length cdb) (command operation).bytes) (has_refused_field operation cdb) (sense 0x5 0x24 0x00) (drop 1 (refusals operation cdb payload)) (meaning operation cdb payload) asked is)
 
 -- what is asked for was decoded
-asked_whole : (served told : Bool) (operation : Operation) (cdb payload : List ℕ) (asked : Command) → asked_in served told operation cdb payload ≡ Ok asked → (command operation).bytes ≤ length cdb
-asked_whole false told operation cdb payload asked is = absurd cc
-asked_whole true true operation cdb payload asked is = absurd cc
-asked_whole true false operation cdb payload asked is = long_enough operation cdb payload asked is
+asked_whole : (told : Bool) (operation : Operation) (cdb payload : List ℕ) (asked : Command) → asked_in told operation cdb payload ≡ Ok asked → (command operation).bytes ≤ length cdb
+asked_whole true operation cdb payload asked is = absurd cc
+asked_whole false operation cdb payload asked is = long_enough operation cdb payload asked is
 
 -- a command that was judged as one to be done was asked for
 judged_whole : (host : Host) (formatted : Bool) (payload cdb : List ℕ) (operation : Operation) (wanted : Result Command Sense) (done : Command)
     → wanted ≡ asked_by host (Some operation) cdb payload → IsJudgedBy host formatted payload wanted (Ok done) → (command operation).bytes ≤ length cdb
 judged_whole host formatted payload cdb operation (Err why) done wanted_is judged = absurd (let e : Ok done ≡ Err why = judged in cc)
 judged_whole host formatted payload cdb operation (Ok asked) done wanted_is judged =
-    asked_whole (is_served operation) (is_told host operation) operation cdb payload asked (sym wanted_is)
+    asked_whole (is_told host operation) operation cdb payload asked (sym wanted_is)
 
 module _ (old new : Shown) (before after : Standing → Type 0) (host later : Host) (cdb payload data_in : List ℕ) (operation : Operation) (is : operation_of cdb ≡ Some operation) where
   by_judged : (judged : Result Command Sense) → IsJudged host (is_some old.lists) cdb payload judged → IsAnsweredBy old new before after host payload judged answers.Good data_in → (command operation).bytes ≤ length cdb

@@ -57,7 +57,6 @@ abbrev pub keeps : Host → Answer → Host
 keeps host answer = record host { kept = kept_after host.kept answer }
 
 -- The attention is cleared where a command is told of it, and stands where the code is unknown.
-abbrev pub attention_after : (served : Operation → Bool) → Host → Option Operation → Bool
-attention_after served host None = host.attention
-attention_after served host (Some operation) =
-    if served operation && is_told host operation then false else host.attention
+abbrev pub attention_after : Host → Option Operation → Bool
+attention_after host None = host.attention
+attention_after host (Some operation) = if is_told host operation then false else host.attention

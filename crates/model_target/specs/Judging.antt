@@ -3,7 +3,6 @@
 use Rattle.std.specs.Prelude.{◌≡◌, ℕ, Bool, true, false, ◌&&◌, not, Option, Some, None, Result, Ok, Err, List, [], ◌∷◌}
 use Rattle.std.specs.List.{find}
 use Rattle.model_commands.specs.declared.Operation.{Operation}
-use Rattle.model_commands.specs.declared.Operation.TheVariants as operations
 use Rattle.model_commands.specs.Commands.{operation_of}
 use Rattle.model_modes.specs.ParameterLists.{IsTaken}
 use Rattle.ram_sense.specs.Sense.{sense}
@@ -14,31 +13,18 @@ use Rattle.ram_cdb.specs.Decoding.{Refusal, refusal, unless, decoded_as}
 use Rattle.model_target.specs.declared.host.Host.{Host}
 use Rattle.model_target.specs.Host.{is_told}
 
--- the commands of the table that are done at this stage; the others are answered as unknown ones
-abbrev pub is_served : Operation → Bool
-is_served operations.ReadFormatCapacities = false
-is_served operations.Verify10 = false
-is_served operations.ReadDvdStructure = false
-is_served _ = true
-
 -- What is asked for, or the first reason against it that needs no look at the disc: an unknown code, the attention, and then
 -- those of the command block and its data.
-abbrev pub asked_in : (served told : Bool) → Operation → (cdb payload : List ℕ) → Result Command Sense
-asked_in false told operation cdb payload = Err (sense 0x5 0x20 0x00)
-asked_in true true operation cdb payload = Err (sense 0x6 0x29 0x00)
-asked_in true false operation cdb payload = decoded_as operation cdb payload
+abbrev pub asked_in : (told : Bool) → Operation → (cdb payload : List ℕ) → Result Command Sense
+asked_in true operation cdb payload = Err (sense 0x6 0x29 0x00)
+asked_in false operation cdb payload = decoded_as operation cdb payload
 
 abbrev pub asked_by : Host → Option Operation → (cdb payload : List ℕ) → Result Command Sense
 asked_by host None cdb payload = Err (sense 0x5 0x20 0x00)
-asked_by host (Some operation) cdb payload = asked_in (is_served operation) (is_told host operation) operation cdb payload
+asked_by host (Some operation) cdb payload = asked_in (is_told host operation) operation cdb payload
 
 abbrev pub asked : Host → (cdb payload : List ℕ) → Result Command Sense
 asked host cdb payload = asked_by host (operation_of cdb) cdb payload
-
--- an expansion of spares, which is not done at this stage
-abbrev pub is_expansion : Command → Bool
-is_expansion (commands.Expand capacity) = true
-is_expansion _ = false
 
 -- the disc is to be taken out
 abbrev pub ejects : Command → Bool
@@ -63,11 +49,10 @@ abbrev pub needs_format : Command → Bool
 needs_format (commands.Format kind) = false
 needs_format command = needs_disc command
 
--- the reasons against a command that is asked for, in their order: 5/26/00, 5/53/02, 2/3A/00, 3/31/00
+-- the reasons against a command that is asked for, in their order: 5/53/02, 2/3A/00, 3/31/00
 abbrev pub hindrances : Host → (formatted : Bool) → Command → List Refusal
 hindrances host formatted command =
-    refusal (is_expansion command) (sense 0x5 0x26 0x00)
-    ∷ refusal (host.prevented && ejects command) (sense 0x5 0x53 0x02)
+    refusal (host.prevented && ejects command) (sense 0x5 0x53 0x02)
     ∷ refusal (host.out && needs_disc command) (sense 0x2 0x3a 0x00)
     ∷ refusal (needs_format command && not formatted) (sense 0x3 0x31 0x00)
     ∷ []

@@ -1,4 +1,5 @@
 pub mod Host
 pub mod Judging
 pub mod Replies
+pub mod Senses
 pub mod Steps

@@ -1,5 +1,5 @@
 -- The bytes that a target replies, before they are cut to the allocation length.
-use Rattle.std.specs.Prelude.{ℕ, ◌+◌, ◌-◌, Bool, ◌==◌, if◌then◌else◌, List, [], ◌∷◌, ◌++◌, length, replicate, codes}
+use Rattle.std.specs.Prelude.{ℕ, ◌+◌, ◌-◌, Bool, true, false, ◌==◌, if◌then◌else◌, List, [], ◌∷◌, ◌++◌, length, take, replicate, codes}
 use Rattle.byteorder.specs.Endian.{big_bytes}
 use Rattle.ram_sense.specs.Sense.{sense_data}
 use Rattle.model_target.specs.declared.host.Host.{Host}
@@ -40,3 +40,26 @@ features out start = if start == 0 then profile_list out else []
 abbrev pub configuration_reply : (out : Bool) (start : ℕ) → List ℕ
 configuration_reply out start =
     big_bytes 4 (4 + length (features out start)) ++ 0 ∷ 0 ∷ [] ++ big_bytes 2 (profile out) ++ features out start
+
+-- READ FORMAT CAPACITIES: how many bytes follow, a number of sectors, what it is the number of, and how many bytes a sector
+-- has (after INCITS MMC)
+abbrev pub capacity_descriptor : (sectors kind : ℕ) → List ℕ
+capacity_descriptor sectors kind = 0 ∷ 0 ∷ 0 ∷ 8 ∷ [] ++ big_bytes 4 sectors ++ kind ∷ [] ++ big_bytes 3 2048
+
+-- Without a disc, and for one that is not formatted, it is what a format gives; for a formatted disc what it has. (After
+-- INCITS MMC; the number without a disc is this project's own.)
+abbrev pub format_capacities_reply : (out formatted : Bool) (capacity formattable : ℕ) → List ℕ
+format_capacities_reply true formatted capacity formattable = capacity_descriptor formattable 3
+format_capacities_reply false true capacity formattable = capacity_descriptor capacity 2
+format_capacities_reply false false capacity formattable = capacity_descriptor formattable 1
+
+-- READ DVD STRUCTURE of format 08h: how many bytes follow its first two, and the first sector of the structure's text. (After
+-- INCITS MMC; what follows is this project's own.)
+abbrev pub structure_reply : (text : List ℕ) → List ℕ
+structure_reply text = 0x08 ∷ 0x02 ∷ 0 ∷ 0 ∷ [] ++ take 2048 text
+
+-- READ DVD STRUCTURE of format 0Ah: how many bytes follow its first two, how many primary spares are free, how many
+-- supplementary ones, and how many of these there are. (After INCITS MMC; what follows is this project's own.)
+abbrev pub spares_reply : (primary supplementary ssa : ℕ) → List ℕ
+spares_reply primary supplementary ssa =
+    0x00 ∷ 0x0e ∷ 0 ∷ 0 ∷ [] ++ big_bytes 4 primary ++ big_bytes 4 supplementary ++ big_bytes 4 ssa

@@ -1,6 +1,10 @@
 -- What one command does on a drive with defect management, and how it is answered: the first reason against it, else its
 -- reply. (After INCITS MMC and SPC; the causes are this project's own.)
-use Rattle.std.specs.Prelude.{◌≡◌, ℕ, ◌⊎◌, is_some, Option, Result, Ok, Err, List, [], take}
+use Rattle.std.specs.Prelude.{◌≡◌, ℕ, ◌==◌, ◌⊎◌, Bool, is_some, Option, Result, Ok, Err, List, [], take}
+use Rattle.std.specs.Bool.{MatchBool}
+use Rattle.std.specs.Option.{option_map_or}
+use Rattle.model_geometry.specs.Geometry.{formattable}
+use Rattle.model_places.specs.Places.{Lists, free_primary_count, free_supplementary_count}
 use Rattle.model_commands.specs.declared.Operation.{Operation}
 use Rattle.model_commands.specs.Commands.{operation_of}
 use Rattle.model_counts.specs.Counts.{Rose}
@@ -14,10 +18,14 @@ use Rattle.model_drive.specs.declared.WriteOut.TheVariants as writes
 use Rattle.model_drive.specs.declared.FormatOut.{FormatOut}
 use Rattle.model_drive.specs.declared.FormatOut.TheVariants as formats
 use Rattle.model_drive.specs.declared.Kind.{Kind}
+use Rattle.model_drive.specs.declared.ExpandOut.{ExpandOut}
+use Rattle.model_drive.specs.declared.ExpandOut.TheVariants as expands
 use Rattle.model_drive.specs.Shown.{Shown, IsOn, capacity}
-use Rattle.model_drive.specs.Reads.{ReadCause, ReadStep, ReadIsQuiet}
+use Rattle.model_drive.specs.Tells.{GivesDds}
+use Rattle.model_drive.specs.Reads.{ReadCause, ReadStep, ReadIsQuiet, VerifyCause, VerifyStep}
 use Rattle.model_drive.specs.Writes.{WriteCause, WriteStep}
 use Rattle.model_drive.specs.Formats.{FormatCause, FormatStep}
+use Rattle.model_drive.specs.Expands.{ExpandCause, ExpandStep}
 use Rattle.model_drive.specs.Power.{PowerCause, PowerStep}
 use Rattle.model_drive.specs.Faults.{faults}
 use Rattle.ram_sense.specs.Sense.{sense, sense_at}
@@ -28,8 +36,8 @@ use Rattle.ram_cdb.specs.declared.commands.Command.{Command}
 use Rattle.ram_cdb.specs.declared.commands.Command.TheVariants as commands
 use Rattle.model_target.specs.declared.host.Host.{Host}
 use Rattle.model_target.specs.Host.{powered_on, done_by, keeps, attention_after}
-use Rattle.model_target.specs.Judging.{IsJudged, is_served}
-use Rattle.model_target.specs.Replies.{sense_reply, inquiry_reply, capacity_reply, configuration_reply}
+use Rattle.model_target.specs.Judging.{IsJudged}
+use Rattle.model_target.specs.Replies.{sense_reply, inquiry_reply, capacity_reply, configuration_reply, format_capacities_reply, structure_reply, spares_reply}
 
 -- how each end of a read is answered (after INCITS MMC)
 abbrev pub read_answer : ReadOut → Answer
@@ -63,15 +71,36 @@ format_answer formats.Off = answers.Off
 format_answer formats.Fault = answers.Fault
 format_answer formats.NoMemory = answers.NoMemory
 
+-- how each end of an expansion is answered (after INCITS MMC)
+abbrev pub expand_answer : ExpandOut → Answer
+expand_answer expands.Good = answers.Good
+expand_answer expands.NotFormatted = answers.Check (sense 0x3 0x31 0x00)
+expand_answer (expands.Refused known) = answers.Check (sense 0x5 0x26 0x00)
+expand_answer (expands.NoUpdate counter) = answers.Check (sense 0x3 0x32 0x01)
+expand_answer expands.Cut = answers.Cut
+expand_answer expands.Off = answers.Off
+expand_answer expands.Fault = answers.Fault
+
 -- the data of a read: the sectors, where all were read
 abbrev pub data_read : ReadOut → List ℕ → List ℕ
 data_read reads.Good bytes = bytes
 data_read _ bytes = []
 
+-- the capacity that a disc has, or that a format would give it
+abbrev pub capacities_told : (out : Bool) → Shown → List ℕ
+capacities_told out shown =
+    format_capacities_reply out (is_some shown.lists) (capacity shown) (formattable shown.shape)
+
+-- the spares of the lists in use: how many primary ones are free, how many supplementary ones, and how many of these there are
+abbrev pub spares_told : Shown → List ℕ
+spares_told shown = spares_reply (option_map_or (free_primary_count shown.shape) shown.lists 0)
+    (option_map_or (free_supplementary_count shown.shape) shown.lists 0)
+    (option_map_or (λ (lists : Lists). lists.sdl.ssa) shown.lists 0)
+
 -- What stands in the four things after a command, by how it was judged and answered.
 abbrev pub host_after : Host → Option Operation → Result Command Sense → Answer → Host
 host_after host operation (Err why) answer =
-    keeps (record host { attention = attention_after is_served host operation }) answer
+    keeps (record host { attention = attention_after host operation }) answer
 host_after host operation (Ok asked) answer = keeps (done_by asked host) answer
 
 module _ (old new : Shown) (before after : Standing → Type 0) where
@@ -106,37 +135,64 @@ module _ (old new : Shown) (before after : Standing → Type 0) where
     pub answer_is : answer ≡ format_answer out
     pub no_data : data_in ≡ []
 
+  -- an expansion that leaves so many sectors was answered so
+  pub record IsExpanded (sectors : ℕ) (answer : Answer) (data_in : List ℕ) : Type 0 where
+    pub out : ExpandOut
+    pub cause : ExpandCause old new sectors out
+    pub step : (s : Standing) → before s → ExpandStep after s sectors out
+    pub answer_is : answer ≡ expand_answer out
+    pub no_data : data_in ≡ []
+
+  -- a verification of so many sectors was answered so
+  pub record IsVerified (lba n : ℕ) (answer : Answer) (data_in : List ℕ) : Type 0 where
+    pub out : ReadOut
+    pub cause : VerifyCause old new lba n out
+    pub step : (s : Standing) → before s → VerifyStep after s out
+    pub answer_is : answer ≡ read_answer out
+    pub no_data : data_in ≡ []
+
   -- nothing was done on the disc, and this is the answer, with this reply
   pub record IsAnswered (answer due : Answer) (data_in reply : List ℕ) : Type 0 where
     pub answer_is : answer ≡ due
     pub data_is : data_in ≡ reply
     pub untouched : Untouched
 
-  -- What a command does that is to be done, and what it replies, cut to the allocation length. The four that are not served
-  -- at this stage are never to be done.
+  -- the structure in use is told
+  pub record TellsStructure (alloc : ℕ) (answer : Answer) (data_in : List ℕ) : Type 0 where
+    pub text : List ℕ
+    pub is_text : GivesDds old.lists text
+    pub is_answered : IsAnswered answer answers.Good data_in (take alloc (structure_reply text))
+
+  -- the spares are told
+  abbrev pub TellsSpares : (alloc : ℕ) → Answer → List ℕ → Type 0
+  TellsSpares alloc answer data_in = IsAnswered answer answers.Good data_in (take alloc (spares_told old))
+
+  -- What a command does that is to be done, and what it replies, cut to the allocation length.
   abbrev pub IsDone : Host → (payload : List ℕ) → Command → Answer → List ℕ → Type 0
   IsDone host payload commands.TestUnitReady answer data_in = IsAnswered answer answers.Good data_in []
   IsDone host payload (commands.RequestSense alloc) answer data_in =
       IsAnswered answer answers.Good data_in (take alloc (sense_reply host))
   IsDone host payload (commands.Format kind) answer data_in = IsFormatted kind answer data_in
-  IsDone host payload (commands.Expand sectors) answer data_in = ⊥
+  IsDone host payload (commands.Expand sectors) answer data_in = IsExpanded sectors answer data_in
   IsDone host payload (commands.Inquiry alloc) answer data_in =
       IsAnswered answer answers.Good data_in (take alloc inquiry_reply)
   IsDone host payload (commands.StartStop start eject) answer data_in = IsAnswered answer answers.Good data_in []
   IsDone host payload (commands.Prevent on) answer data_in = IsAnswered answer answers.Good data_in []
-  IsDone host payload (commands.FormatCapacities alloc) answer data_in = ⊥
+  IsDone host payload (commands.FormatCapacities alloc) answer data_in =
+      IsAnswered answer answers.Good data_in (take alloc (capacities_told host.out old))
   IsDone host payload commands.ReadCapacity answer data_in =
       IsAnswered answer answers.Good data_in (capacity_reply (capacity old))
   IsDone host payload (commands.Read lba n) answer data_in = IsRead lba n answer data_in
   IsDone host payload (commands.Write lba n fua) answer data_in = IsWritten lba n payload answer data_in
-  IsDone host payload (commands.Verify lba n) answer data_in = ⊥
+  IsDone host payload (commands.Verify lba n) answer data_in = IsVerified lba n answer data_in
   IsDone host payload commands.Synchronize answer data_in = IsAnswered answer answers.Good data_in []
   IsDone host payload (commands.Configuration rt start alloc) answer data_in =
       IsAnswered answer answers.Good data_in (take alloc (configuration_reply host.out start))
   IsDone host payload commands.ModeSelect answer data_in = IsAnswered answer answers.Good data_in []
   IsDone host payload (commands.ModeSense control page alloc) answer data_in =
       IsAnswered answer answers.Good data_in (take alloc (mode_data control page))
-  IsDone host payload (commands.Structure format alloc) answer data_in = ⊥
+  IsDone host payload (commands.Structure format alloc) answer data_in =
+      MatchBool (format == 0x08) (TellsStructure alloc answer data_in) (TellsSpares alloc answer data_in)
 
   -- how a command is answered that was judged so
   abbrev pub IsAnsweredBy : Host → (payload : List ℕ) → Result Command Sense → Answer → List ℕ → Type 0

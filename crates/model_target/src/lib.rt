@@ -1,8 +1,9 @@
 //! What a target remembers for its host, which commands it does, and what it replies. Definitions, and their laws.
 #![tactic(auto)]
 
-ghost use Rattle.std.specs.Prelude.{◌≡◌, ◌≤◌, ℕ, List, ◌∷◌, [], true, false, None, Some, length};
+ghost use Rattle.std.specs.Prelude.{◌≡◌, ◌≤◌, ℕ, Bool, List, ◌∷◌, [], true, false, None, Some, length};
 ghost use Rattle.ram_sense.specs.Sense.{sense};
+ghost use Rattle.ram_sense.specs.declared.sense.Sense.{Sense as AnySense};
 ghost use Rattle.model_commands.specs.declared.Operation.TheVariants.{TestUnitReady, Inquiry};
 ghost use Rattle.model_target.specs.declared.host.Host.{Host};
 ghost use Rattle.model_target.specs.Host.{powered_on, sense_told, attention_after};
@@ -13,8 +14,8 @@ ghost use Rattle.model_target.specs.Steps.{IsStep, AnswerFaults};
 ghost use Rattle.model_sectors.specs.Discs.{Standing};
 ghost use Rattle.model_commands.specs.declared.Operation.{Operation};
 ghost use Rattle.model_commands.specs.Commands.{command, operation_of};
-ghost use Rattle.model_target.specs.Judging.{is_served};
-ghost use Rattle.model_target.specs.Replies.{inquiry_reply, capacity_reply, configuration_reply};
+ghost use Rattle.model_target.specs.Senses.{IsKnownSense};
+ghost use Rattle.model_target.specs.Replies.{inquiry_reply, capacity_reply, configuration_reply, format_capacities_reply, spares_reply};
 
 pub mod host;
 
@@ -24,9 +25,9 @@ pub use host::Host;
 /// told of it clears it. (Where the attention is told no command is done.)
 pub fn a_power_on_is_told()
     ensures told { sense_told powered_on ≡ sense 0x6 0x29 0x00 }
-    ensures unknown { attention_after is_served powered_on None ≡ true }
-    ensures cleared { attention_after is_served powered_on (Some TestUnitReady) ≡ false }
-    ensures kept { attention_after is_served powered_on (Some Inquiry) ≡ true }
+    ensures unknown { attention_after powered_on None ≡ true }
+    ensures cleared { attention_after powered_on (Some TestUnitReady) ≡ false }
+    ensures kept { attention_after powered_on (Some Inquiry) ≡ true }
 {}
 
 /// With the power off nothing is done, and the four things stay.
@@ -60,7 +61,16 @@ pub fn a_command_that_is_done_is_whole()
         → (command operation).bytes ≤ length cdb }
 {}
 
-/// The replies of INQUIRY, of READ CAPACITY with 304 sectors, and of GET CONFIGURATION with the disc in and out.
+/// A command that is checked has one of fourteen senses, which rise by their numbers.
+pub fn a_command_that_is_checked_has_a_known_sense()
+    ensures { (old new : Shown) (host later : Host) (cdb payload data_in : List ℕ) (why : AnySense)
+        → IsStep old new (StandsFor old) (StandsFor new) host later cdb payload (answers.Check why) data_in
+        → IsKnownSense why }
+{}
+
+/// The replies of INQUIRY, of READ CAPACITY with 304 sectors, of GET CONFIGURATION with the disc in and out, of READ FORMAT
+/// CAPACITIES with 304 sectors (formatted and in place, not formatted, and out), and of READ DVD STRUCTURE with three free
+/// primary spares and no supplementary ones.
 pub fn worked_replies()
     ensures inquiry { inquiry_reply ≡ 0x05 ∷ 0x80 ∷ 0x00 ∷ 0x02 ∷ 0x1f ∷ 0x00 ∷ 0x00 ∷ 0x00 ∷ 0x44 ∷ 0x56 ∷ 0x44 ∷ 0x52
         ∷ 0x41 ∷ 0x4d ∷ 0x20 ∷ 0x20 ∷ 0x53 ∷ 0x45 ∷ 0x43 ∷ 0x54 ∷ 0x4f ∷ 0x52 ∷ 0x20 ∷ 0x44 ∷ 0x52 ∷ 0x49 ∷ 0x56
@@ -70,4 +80,12 @@ pub fn worked_replies()
         ∷ 0x00 ∷ 0x00 ∷ 0x03 ∷ 0x04 ∷ 0x00 ∷ 0x12 ∷ 0x01 ∷ 0x00 ∷ [] }
     ensures taken_out { configuration_reply true 0 ≡ 0x00 ∷ 0x00 ∷ 0x00 ∷ 0x0c ∷ 0x00 ∷ 0x00 ∷ 0x00 ∷ 0x00
         ∷ 0x00 ∷ 0x00 ∷ 0x03 ∷ 0x04 ∷ 0x00 ∷ 0x12 ∷ 0x00 ∷ 0x00 ∷ [] }
+    ensures formatted { (formattable : ℕ) → format_capacities_reply false true 304 formattable
+        ≡ 0x00 ∷ 0x00 ∷ 0x00 ∷ 0x08 ∷ 0x00 ∷ 0x00 ∷ 0x01 ∷ 0x30 ∷ 0x02 ∷ 0x00 ∷ 0x08 ∷ 0x00 ∷ [] }
+    ensures not_formatted { format_capacities_reply false false 0 304
+        ≡ 0x00 ∷ 0x00 ∷ 0x00 ∷ 0x08 ∷ 0x00 ∷ 0x00 ∷ 0x01 ∷ 0x30 ∷ 0x01 ∷ 0x00 ∷ 0x08 ∷ 0x00 ∷ [] }
+    ensures out { (formatted : Bool) (capacity : ℕ) → format_capacities_reply true formatted capacity 304
+        ≡ 0x00 ∷ 0x00 ∷ 0x00 ∷ 0x08 ∷ 0x00 ∷ 0x00 ∷ 0x01 ∷ 0x30 ∷ 0x03 ∷ 0x00 ∷ 0x08 ∷ 0x00 ∷ [] }
+    ensures spares { spares_reply 3 0 0 ≡ 0x00 ∷ 0x0e ∷ 0x00 ∷ 0x00 ∷ 0x00 ∷ 0x00 ∷ 0x00 ∷ 0x03
+        ∷ 0x00 ∷ 0x00 ∷ 0x00 ∷ 0x00 ∷ 0x00 ∷ 0x00 ∷ 0x00 ∷ 0x00 ∷ [] }
 {}

@@ -28,16 +28,16 @@ pub fn add_transfer(
     code: u8,
     lba: u32,
     n: u16,
-    data: &[u8],
+    tail: &[u8],
 ) -> Result<(), AllocError>
-    ensures { OnOk result (script.new.items ≡ script.old.items ++ transfer_text code lba n data.now) }
+    ensures { OnOk result (script.new.items ≡ script.old.items ++ transfer_text code lba n tail.now) }
 {
     let block = transfer_block(code, lba, n);
     let mut digits = [0u8; 20];
     encode(&block, &mut digits);
     add(script, b"cdb ")?;
     add(script, &digits)?;
-    add(script, data)
+    add(script, tail)
 }
 
 /// The command block of a READ(10) or WRITE(10).

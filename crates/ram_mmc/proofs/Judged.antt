@@ -1,14 +1,15 @@
 -- Which commands are done of those that are asked for.
-use Rattle.std.specs.Prelude.{ℕ, Bool, Option, Some, None, Result, Ok, Err, List, IfOk}
-use Rattle.std.proofs.Common.{◌≡◌, sym, subst}
+use Rattle.std.specs.Prelude.{ℕ, Bool, true, false, ◌&&◌, not, Option, Some, None, Result, Ok, Err, List, [], ◌∷◌, IfOk}
+use Rattle.std.proofs.Common.{◌≡◌, refl, sym, subst}
 use Rattle.std.specs.List.{find}
+use Rattle.ram_sense.specs.Sense.{sense}
 use Rattle.ram_sense.specs.declared.sense.Sense.{Sense}
 use Rattle.ram_cdb.specs.declared.commands.Command.{Command}
 use Rattle.ram_cdb.specs.declared.commands.Command.TheVariants as commands
-use Rattle.ram_cdb.specs.Decoding.{Refusal, unless}
+use Rattle.ram_cdb.specs.Decoding.{Refusal, refusal, unless}
 use Rattle.model_target.specs.declared.host.Host.{Host}
 use Rattle.model_target.specs.Judging.{hindrances, IsAllowed}
-use Rattle.ram_mmc.specs.Served.{IsListed, IsServed}
+use Rattle.ram_mmc.specs.Looks.{HasItsFormat}
 
 -- what holds of a command holds of it where it is not refused
 unless_holds : (P : Command → Type 0) (reason : Option Refusal) (command : Command) → P command → IfOk (unless reason command) P
@@ -42,27 +43,25 @@ module _ (host : Host) (formatted : Bool) (payload : List ℕ) (P : Command → 
   allowed_holds (commands.ModeSense control page alloc) result allowed holds = by_reasons (commands.ModeSense control page alloc) result allowed holds
   allowed_holds (commands.Structure format alloc) result allowed holds = by_reasons (commands.Structure format alloc) result allowed holds
 
-module _ (host : Host) (formatted : Bool) (payload : List ℕ) where
-  -- an expansion is refused
-  no_expansion : (sectors : ℕ) (result : Result Command Sense) → IsAllowed host formatted payload (commands.Expand sectors) result → IfOk result IsServed
-  no_expansion sectors result allowed = subst (λ (r : Result Command Sense). IfOk r IsServed) (sym allowed) tt
+-- without a formatted disc a command that needs one is refused, whatever else is against it
+refused_unformatted : (prevented ejected out : Bool) (first second third : Sense) (command : Command) (P : Command → Type 0)
+    → IfOk (unless (find (λ r. r.applies) (refusal (prevented && ejected) first ∷ refusal (out && true) second ∷ refusal (true && not false) third ∷ [])) command) P
+refused_unformatted true true out first second third command P = tt
+refused_unformatted true false true first second third command P = tt
+refused_unformatted true false false first second third command P = tt
+refused_unformatted false ejected true first second third command P = tt
+refused_unformatted false ejected false first second third command P = tt
 
-  -- a listed command that is allowed is done at this stage
-  pub allowed_served : (command : Command) (result : Result Command Sense) → IsAllowed host formatted payload command result → IsListed command → IfOk result IsServed
-  allowed_served commands.ModeSelect result allowed is = allowed_holds host formatted payload IsServed commands.ModeSelect result allowed tt
-  allowed_served commands.TestUnitReady result allowed is = allowed_holds host formatted payload IsServed commands.TestUnitReady result allowed tt
-  allowed_served (commands.RequestSense alloc) result allowed is = allowed_holds host formatted payload IsServed (commands.RequestSense alloc) result allowed tt
-  allowed_served (commands.Format kind) result allowed is = allowed_holds host formatted payload IsServed (commands.Format kind) result allowed tt
-  allowed_served (commands.Expand sectors) result allowed is = no_expansion sectors result allowed
-  allowed_served (commands.Inquiry alloc) result allowed is = allowed_holds host formatted payload IsServed (commands.Inquiry alloc) result allowed tt
-  allowed_served (commands.StartStop start eject) result allowed is = allowed_holds host formatted payload IsServed (commands.StartStop start eject) result allowed tt
-  allowed_served (commands.Prevent on) result allowed is = allowed_holds host formatted payload IsServed (commands.Prevent on) result allowed tt
-  allowed_served (commands.FormatCapacities alloc) result allowed is = absurd is
-  allowed_served commands.ReadCapacity result allowed is = allowed_holds host formatted payload IsServed commands.ReadCapacity result allowed tt
-  allowed_served (commands.Read lba n) result allowed is = allowed_holds host formatted payload IsServed (commands.Read lba n) result allowed tt
-  allowed_served (commands.Write lba n fua) result allowed is = allowed_holds host formatted payload IsServed (commands.Write lba n fua) result allowed tt
-  allowed_served (commands.Verify lba n) result allowed is = absurd is
-  allowed_served commands.Synchronize result allowed is = allowed_holds host formatted payload IsServed commands.Synchronize result allowed tt
-  allowed_served (commands.Configuration rt start alloc) result allowed is = allowed_holds host formatted payload IsServed (commands.Configuration rt start alloc) result allowed tt
-  allowed_served (commands.ModeSense control page alloc) result allowed is = allowed_holds host formatted payload IsServed (commands.ModeSense control page alloc) result allowed tt
-  allowed_served (commands.Structure format alloc) result allowed is = absurd is
+module _ (host : Host) (payload : List ℕ) where
+  structure_formatted : (formatted : Bool) (format alloc : ℕ) (result : Result Command Sense)
+      → IsAllowed host formatted payload (commands.Structure format alloc) result → IfOk result (HasItsFormat formatted)
+  structure_formatted true format alloc result allowed =
+      allowed_holds host true payload (HasItsFormat true) (commands.Structure format alloc) result allowed refl
+  structure_formatted false format alloc result allowed =
+      subst (λ (r : Result Command Sense). IfOk r (HasItsFormat false)) (sym allowed)
+      (refused_unformatted host.prevented false host.out (sense 0x5 0x53 0x02) (sense 0x2 0x3a 0x00) (sense 0x3 0x31 0x00) (commands.Structure format alloc) (HasItsFormat false))
+
+  -- a command that gives what the disc says of itself is done on a formatted disc alone
+  pub allowed_formatted : (formatted : Bool) (command : Command) (result : Result Command Sense) → IsAllowed host formatted payload command result → IfOk result (HasItsFormat formatted)
+  allowed_formatted formatted (commands.Structure format alloc) result allowed = structure_formatted formatted format alloc result allowed
+  allowed_formatted formatted command result allowed = allowed_holds host formatted payload (HasItsFormat formatted) command result allowed tt

@@ -3,8 +3,8 @@
 ghost use Rattle.std.specs.Prelude.{◌≡◌, IfOk};
 ghost use Rattle.ram_cdb.specs.Decoding.{IsWithinLimits};
 ghost use Rattle.model_target.specs.Host.{is_told, passes_attention};
-ghost use Rattle.model_target.specs.Judging.{is_served, is_expansion, ejects, needs_disc, needs_format, asked_by, IsAllowed, IsJudgedBy};
-ghost use Rattle.ram_mmc.specs.Served.{IsListed, IsServed};
+ghost use Rattle.model_target.specs.Judging.{ejects, needs_disc, needs_format, asked_by, IsAllowed, IsJudgedBy};
+ghost use Rattle.ram_mmc.specs.Looks.{HasItsFormat};
 
 use model_commands::Operation;
 use model_target::Host;
@@ -12,8 +12,8 @@ use ram_cdb::{Command, decode_as};
 use ram_modes::Modes;
 use ram_sense::Sense;
 use ram_sense::codes::{
-    INVALID_FIELD_IN_PARAMETERS, INVALID_OPERATION_CODE, MEDIUM_FORMAT_CORRUPTED,
-    MEDIUM_NOT_PRESENT, POWER_ON_OCCURRED, REMOVAL_PREVENTED,
+    INVALID_OPERATION_CODE, MEDIUM_FORMAT_CORRUPTED, MEDIUM_NOT_PRESENT, POWER_ON_OCCURRED,
+    REMOVAL_PREVENTED,
 };
 
 /// What a command block of this operation asks for while the power is on, with the command's data in `payload`, or the first
@@ -28,7 +28,7 @@ pub fn judge(
     ensures judged { IsJudgedBy host.now formatted payload.now
         (asked_by host.now operation cdb.now payload.now) result }
     ensures limits { IfOk result (IsWithinLimits payload.now) }
-    ensures served { IfOk result IsServed }
+    ensures formatted { IfOk result (HasItsFormat formatted) }
 {
     match asked_by(host, operation, cdb, payload) {
         Ok(command) => allowed(host, formatted, payload, command),
@@ -45,14 +45,10 @@ fn asked_by(
 ) -> Result<Command, Sense>
     ensures exact { result ≡ asked_by host.now operation cdb.now payload.now }
     ensures limits { IfOk result (IsWithinLimits payload.now) }
-    ensures listed { IfOk result IsListed }
 {
     let Some(operation) = operation else {
         return Err(INVALID_OPERATION_CODE);
     };
-    if !is_served(operation) {
-        return Err(INVALID_OPERATION_CODE);
-    }
     if is_told(host, operation) {
         return Err(POWER_ON_OCCURRED);
     }
@@ -69,9 +65,7 @@ fn allowed(host: &Host, formatted: bool, payload: &[u8], command: Command) -> Re
             Err(why) => Err(why),
         };
     }
-    if is_expansion(command) {
-        Err(INVALID_FIELD_IN_PARAMETERS)
-    } else if host.prevented && ejects(command) {
+    if host.prevented && ejects(command) {
         Err(REMOVAL_PREVENTED)
     } else if host.out && needs_disc(command) {
         Err(MEDIUM_NOT_PRESENT)
@@ -80,16 +74,6 @@ fn allowed(host: &Host, formatted: bool, payload: &[u8], command: Command) -> Re
     } else {
         Ok(command)
     }
-}
-
-/// Whether the command is done at all.
-pub fn is_served(operation: Operation) -> bool
-    ensures { result ≡ is_served operation }
-{
-    !matches!(
-        operation,
-        Operation::ReadFormatCapacities | Operation::Verify10 | Operation::ReadDvdStructure
-    )
 }
 
 /// Whether the command is told of the attention in place of being done.
@@ -106,12 +90,6 @@ fn passes_attention(operation: Operation) -> bool
         operation,
         Operation::Inquiry | Operation::RequestSense | Operation::GetConfiguration
     )
-}
-
-fn is_expansion(command: Command) -> bool
-    ensures { result ≡ is_expansion command }
-{
-    matches!(command, Command::Expand { .. })
 }
 
 /// Whether the disc is to be taken out.

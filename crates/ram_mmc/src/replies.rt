@@ -1,11 +1,12 @@
 //! The bytes that a target replies.
 
-ghost use Rattle.std.specs.Prelude.{◌≡◌, ◌≢◌, ◌≤◌, ℕ, [], length, take, vec_capacity};
+ghost use Rattle.std.specs.Prelude.{◌≡◌, ◌≢◌, ◌≤◌, ◌+◌, ◌++◌, ℕ, [], length, take, vec_capacity};
 ghost use Rattle.model_target.specs.Host.{sense_told};
-ghost use Rattle.model_target.specs.Replies.{inquiry_reply, capacity_reply, configuration_reply};
+ghost use Rattle.model_target.specs.Replies.{inquiry_reply, capacity_reply, configuration_reply, capacity_descriptor, format_capacities_reply, structure_reply, spares_reply};
 ghost use Rattle.ram_mmc.specs.declared.replies.TheConstants.{INQUIRY};
 
 use model_target::Host;
+use ram_bytes::Block;
 use ram_sense::Sense;
 use ram_sense::codes::{NO_SENSE, POWER_ON_OCCURRED};
 
@@ -19,10 +20,38 @@ pub fn reply(data_in: &mut Vec<u8>, whole: &[u8], alloc: u32)
     ensures given { data_in.new.items ≡ take alloc whole.now }
     ensures room { vec_capacity data_in.old ≤ vec_capacity data_in.new }
 {
-    match data_in.extend_from_slice(whole) {
+    put(data_in, whole);
+    cut(data_in, alloc);
+}
+
+/// Puts the data of READ DVD STRUCTURE of format 08h into `data_in`, cut to the allocation length: a header of four bytes,
+/// and the first sector of the block, which has the text of the structure.
+pub fn reply_structure(data_in: &mut Vec<u8>, text: &Block, alloc: u32)
+    requires empty { data_in.old.items ≡ [] }
+    requires room { 2052 ≤ vec_capacity data_in.old }
+    ensures given { data_in.new.items ≡ take alloc (structure_reply text.now) }
+    ensures room { vec_capacity data_in.old ≤ vec_capacity data_in.new }
+{
+    put(data_in, &[0x08, 0x02, 0, 0]);
+    put(data_in, text.sector(0));
+    cut(data_in, alloc);
+}
+
+fn put(data_in: &mut Vec<u8>, bytes: &[u8])
+    requires room { length data_in.old.items + length bytes.now ≤ vec_capacity data_in.old }
+    ensures given { data_in.new.items ≡ data_in.old.items ++ bytes.now }
+    ensures room { vec_capacity data_in.old ≤ vec_capacity data_in.new }
+{
+    match data_in.extend_from_slice(bytes) {
         Ok(()) => {}
         Err(_) => unreachable!(),
     }
+}
+
+fn cut(data_in: &mut Vec<u8>, alloc: u32)
+    ensures given { data_in.new.items ≡ take alloc data_in.old.items }
+    ensures room { vec_capacity data_in.new ≡ vec_capacity data_in.old }
+{
     data_in.truncate(alloc as usize);
 }
 
@@ -62,6 +91,41 @@ pub fn no_features_reply(out: bool) -> [u8; 8]
 {
     let profile = if out { 0x00 } else { 0x12 };
     [0, 0, 0, 4, 0, 0, 0, profile]
+}
+
+/// The data of READ FORMAT CAPACITIES: on a formatted disc its number of sectors, else what a format gives.
+pub fn format_capacities_reply(
+    out: bool,
+    formatted: bool,
+    capacity: u32,
+    formattable: u32,
+) -> [u8; 12]
+    ensures { result ≡ format_capacities_reply out formatted capacity formattable }
+{
+    match (out, formatted) {
+        (true, _) => capacity_descriptor(formattable, 3),
+        (false, true) => capacity_descriptor(capacity, 2),
+        (false, false) => capacity_descriptor(formattable, 1),
+    }
+}
+
+/// A number of sectors, what it is the number of, and how many bytes a sector has.
+fn capacity_descriptor(sectors: u32, kind: u8) -> [u8; 12]
+    ensures { result ≡ capacity_descriptor sectors kind }
+{
+    let [a, b, c, d] = sectors.to_be_bytes();
+    [0, 0, 0, 8, a, b, c, d, kind, 0x00, 0x08, 0x00]
+}
+
+/// The data of READ DVD STRUCTURE of format 0Ah: how many primary spares are free, how many supplementary ones, and how many
+/// of these there are.
+pub fn spares_reply(primary: u32, supplementary: u32, ssa: u32) -> [u8; 16]
+    ensures { result ≡ spares_reply primary supplementary ssa }
+{
+    let [a, b, c, d] = primary.to_be_bytes();
+    let [e, f, g, h] = supplementary.to_be_bytes();
+    let [i, j, k, l] = ssa.to_be_bytes();
+    [0x00, 0x0e, 0, 0, a, b, c, d, e, f, g, h, i, j, k, l]
 }
 
 /// The numbers that contracts share with the code.

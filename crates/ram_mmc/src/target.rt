@@ -1,23 +1,23 @@
 //! The target: a disc with what is remembered for its host.
 
-ghost use Rattle.std.specs.Prelude.{◌≡◌, ◌*◌, ◌≤◌, [], IfOk, vec_capacity};
+ghost use Rattle.std.specs.Prelude.{◌≡◌, ◌*◌, ◌≤◌, [], IfOk, is_some, vec_capacity};
 ghost use Rattle.model_commands.specs.declared.TheConstants.{TRANSFER_LIMIT};
 ghost use Rattle.model_commands.specs.Commands.{operation_of};
-ghost use Rattle.model_drive.specs.Shown.{capacity};
+ghost use Rattle.model_drive.specs.Shown.{IsOn, capacity};
 ghost use Rattle.ram_cdb.specs.Decoding.{IsWithinLimits};
 ghost use Rattle.model_target.specs.Host.{powered_on, done_by, kept_after, attention_after};
-ghost use Rattle.model_target.specs.Judging.{is_served};
 ghost use Rattle.model_target.specs.Steps.{IsDone, IsAnsweredBy, IsExecuted, IsStep, IsPoweredAgain, host_after};
-ghost use Rattle.ram_mmc.specs.Served.{IsServed, LookRule, IsFormattedAs};
+ghost use Rattle.ram_mmc.specs.Looks.{HasItsFormat, LookRule, IsFormattedAs};
 
-use crate::judging::{is_served, is_told, judge};
+use crate::judging::{is_told, judge};
 use crate::replies::{
     INQUIRY, capacity_reply, no_features_reply, profiles_reply, reply, sense_told,
 };
-use crate::transfers::{format, read, write};
+use crate::telling::{tell_capacities, tell_structure};
+use crate::transfers::{expand, format, read, verify, write};
 use model_commands::Operation;
 use model_target::Host;
-use ram_bytes::Cdb;
+use ram_bytes::{Block, Cdb};
 use ram_cdb::{Command, operation};
 use ram_modes::Modes;
 use ram_sectors::{Disc, PowerOut, ReadOut, Sectors};
@@ -30,6 +30,7 @@ pub struct Target<D: Disc> {
     /// The disc, which may be worked on beside its host's commands: what is remembered for the host stays.
     pub disc: D,
     host: Host,
+    block: Block,
 }
 
 /// What a look at a disc finds.
@@ -44,19 +45,21 @@ pub enum Look {
 }
 
 impl<D: Disc> Target<D> {
-    /// A target over this disc, in the state of one whose power just came on. It takes no memory: replies are put straight
-    /// where the caller wants them.
-    pub fn new(disc: D) -> Target<D>
+    /// A target over this disc, in the state of one whose power just came on, with one block for the text of the disc's
+    /// structure. What the block holds does not matter. It takes no memory of its own: replies are put straight where the
+    /// caller wants them.
+    pub fn new(disc: D, block: Block) -> Target<D>
         ensures disc { result.disc ≡ disc }
         ensures host { result.host ≡ powered_on }
     {
         Target {
             disc,
             host: just_powered(),
+            block,
         }
     }
 
-    /// The disc, without its target.
+    /// The disc, without its target. The block is given up.
     pub fn into_disc(self) -> D
         ensures { result ≡ self.disc }
     {
@@ -80,8 +83,9 @@ impl<D: Disc> Target<D> {
     /// Off, where the power is off; 5/20/00 for an operation code that is none of the drive's; 6/29/00 at the first command
     /// after a power on, but for INQUIRY, REQUEST SENSE and GET CONFIGURATION, if REQUEST SENSE did not tell so before;
     /// 5/24/00, 5/39/00, 5/1A/00 and 5/26/00 for the command block and its data; 5/53/02 where ejection is asked for and
-    /// removal prevented; 2/3A/00 without a disc; 3/31/00 on a disc that is not formatted; 5/21/00 past its end; and what the
-    /// disc answers. NoMemory comes from a full format alone. (After INCITS MMC; the order is this project's own.)
+    /// removal prevented; 2/3A/00 without a disc; 3/31/00 on a disc that is not formatted; 5/21/00 past its end; 5/26/00 for
+    /// an expansion to a capacity that it cannot have; and what the disc answers. NoMemory comes from a full format alone.
+    /// (After INCITS MMC; the order is this project's own.)
     pub fn execute(
         &mut self,
         alloc: Global,
@@ -135,6 +139,7 @@ impl<D: Disc> Target<D> {
         let sectors = formatted.unwrap_or(0);
         let answer = answer(
             &mut self.disc,
+            &mut self.block,
             alloc,
             &self.host,
             judged,
@@ -176,6 +181,7 @@ fn look_at<D: Sectors>(disc: &mut D) -> Look
 /// Answers a command that was judged so, on a disc of so many sectors, 0 where it is not formatted.
 fn answer<D: Disc>(
     disc: &mut D,
+    block: &mut Block,
     alloc: Global,
     host: &Host,
     judged: Result<Command, Sense>,
@@ -184,7 +190,8 @@ fn answer<D: Disc>(
     data_in: &mut Vec<u8>,
 ) -> Answer
     requires limits { IfOk judged (IsWithinLimits payload.now) }
-    requires served { IfOk judged IsServed }
+    requires on { IsOn (D.shows disc.old) }
+    requires formatted { IfOk judged (HasItsFormat (is_some (D.shows disc.old).lists)) }
     requires sectors { sectors ≡ capacity (D.shows disc.old) }
     requires empty { data_in.old.items ≡ [] }
     requires room { 2048 * TRANSFER_LIMIT ≤ vec_capacity data_in.old }
@@ -195,13 +202,14 @@ fn answer<D: Disc>(
 {
     match judged {
         Err(why) => Answer::Check(why),
-        Ok(command) => do_command(disc, alloc, host, command, sectors, payload, data_in),
+        Ok(command) => do_command(disc, block, alloc, host, command, sectors, payload, data_in),
     }
 }
 
 /// Does a command, on a disc of so many sectors, 0 where it is not formatted.
 fn do_command<D: Disc>(
     disc: &mut D,
+    block: &mut Block,
     alloc: Global,
     host: &Host,
     command: Command,
@@ -210,7 +218,8 @@ fn do_command<D: Disc>(
     data_in: &mut Vec<u8>,
 ) -> Answer
     requires limits { IsWithinLimits payload.now command }
-    requires served { IsServed command }
+    requires on { IsOn (D.shows disc.old) }
+    requires formatted { HasItsFormat (is_some (D.shows disc.old).lists) command }
     requires sectors { sectors ≡ capacity (D.shows disc.old) }
     requires empty { data_in.old.items ≡ [] }
     requires room { 2048 * TRANSFER_LIMIT ≤ vec_capacity data_in.old }
@@ -222,10 +231,16 @@ fn do_command<D: Disc>(
     match command {
         Command::Read { lba, n } => return read(disc, lba, n, data_in),
         Command::Write { lba, n, .. } => return write(disc, lba, n, payload),
+        Command::Verify { lba, n } => return verify(disc, lba, n),
         Command::Format { kind } => return format(disc, alloc, kind),
+        Command::Expand { capacity } => return expand(disc, capacity),
         Command::RequestSense { alloc } => reply(data_in, &sense_told(host).to_bytes(), alloc),
         Command::Inquiry { alloc } => reply(data_in, INQUIRY, alloc),
         Command::ReadCapacity => reply(data_in, &capacity_reply(sectors), 8),
+        Command::FormatCapacities { alloc } => tell_capacities(disc, host.out, alloc, data_in),
+        Command::Structure { format, alloc } => {
+            tell_structure(disc, block, format, alloc, data_in)
+        }
         Command::Configuration {
             start: 0,
             alloc,
@@ -244,10 +259,6 @@ fn do_command<D: Disc>(
         | Command::Prevent { .. }
         | Command::Synchronize
         | Command::ModeSelect => {}
-        Command::Expand { .. }
-        | Command::FormatCapacities { .. }
-        | Command::Verify { .. }
-        | Command::Structure { .. } => unreachable!(),
     }
     Answer::Good
 }
@@ -297,10 +308,10 @@ fn done_by(command: Command, host: Host) -> Host
 
 /// Whether the host is still to be told after a command that was refused.
 fn attention_after(host: Host, operation: Option<Operation>) -> bool
-    ensures { result ≡ attention_after is_served host operation }
+    ensures { result ≡ attention_after host operation }
 {
     match operation {
-        Some(operation) if is_served(operation) && is_told(&host, operation) => false,
+        Some(operation) if is_told(&host, operation) => false,
         _ => host.attention,
     }
 }

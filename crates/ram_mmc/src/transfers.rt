@@ -2,14 +2,16 @@
 
 ghost use Rattle.std.specs.Prelude.{◌≡◌, ◌*◌, ◌≤◌, [], length, vec_capacity};
 ghost use Rattle.model_commands.specs.declared.TheConstants.{TRANSFER_LIMIT};
-ghost use Rattle.model_target.specs.Steps.{read_answer, write_answer, format_answer, IsRead, IsWritten, IsFormatted};
+ghost use Rattle.ram_sectors.specs.declared.TheConstants.{VERIFY_LIMIT};
+ghost use Rattle.model_target.specs.Steps.{read_answer, write_answer, format_answer, expand_answer, IsRead, IsWritten, IsFormatted, IsExpanded, IsVerified};
 
 use ram_bytes::SECTOR_BYTES;
-use ram_sectors::{Disc, FormatOut, Kind, ReadOut, Sectors, WriteOut};
+use ram_sectors::{Disc, ExpandOut, FormatOut, Kind, ReadOut, Sectors, WriteOut};
 use ram_sense::Answer;
 use ram_sense::codes::{
     ADDRESS_OUT_OF_RANGE, DEFECT_LIST_UPDATE_FAILURE, FORMAT_COMMAND_FAILED,
-    MEDIUM_FORMAT_CORRUPTED, no_spare_location, unrecovered_read_error,
+    INVALID_FIELD_IN_PARAMETERS, MEDIUM_FORMAT_CORRUPTED, no_spare_location,
+    unrecovered_read_error,
 };
 use std::alloc::Global;
 
@@ -54,7 +56,26 @@ pub fn format<D: Disc>(disc: &mut D, alloc: Global, kind: Kind) -> Answer
     format_answer(disc.format(alloc, kind))
 }
 
-/// How the end of a read is answered.
+/// Gives the disc a smaller capacity, in sectors: its last blocks become supplementary spares.
+pub fn expand<D: Disc>(disc: &mut D, capacity: u32) -> Answer
+    ensures rule { IsExpanded (D.shows disc.old) (D.shows disc.new) (D.stands disc.old) (D.stands disc.new)
+        capacity result [] }
+    ensures same_shape { (D.shows disc.new).shape ≡ (D.shows disc.old).shape }
+{
+    expand_answer(disc.expand(capacity))
+}
+
+/// Verifies sectors: each block in which some of them lie is read from its home. No data come with it.
+pub fn verify<D: Disc>(disc: &mut D, lba: u32, n: u32) -> Answer
+    requires few { n ≤ VERIFY_LIMIT }
+    ensures rule { IsVerified (D.shows disc.old) (D.shows disc.new) (D.stands disc.old) (D.stands disc.new)
+        lba n result [] }
+    ensures same_shape { (D.shows disc.new).shape ≡ (D.shows disc.old).shape }
+{
+    read_answer(disc.verify(lba, n))
+}
+
+/// How the end of a read is answered, or of a verification.
 fn read_answer(out: ReadOut) -> Answer
     ensures { result ≡ read_answer out }
 {
@@ -99,5 +120,20 @@ fn format_answer(out: FormatOut) -> Answer
         FormatOut::Off => Answer::Off,
         FormatOut::Fault => Answer::Fault,
         FormatOut::NoMemory => Answer::NoMemory,
+    }
+}
+
+/// How the end of an expansion is answered.
+fn expand_answer(out: ExpandOut) -> Answer
+    ensures { result ≡ expand_answer out }
+{
+    match out {
+        ExpandOut::Good => Answer::Good,
+        ExpandOut::NotFormatted => Answer::Check(MEDIUM_FORMAT_CORRUPTED),
+        ExpandOut::Refused { .. } => Answer::Check(INVALID_FIELD_IN_PARAMETERS),
+        ExpandOut::NoUpdate { .. } => Answer::Check(DEFECT_LIST_UPDATE_FAILURE),
+        ExpandOut::Cut => Answer::Cut,
+        ExpandOut::Off => Answer::Off,
+        ExpandOut::Fault => Answer::Fault,
     }
 }

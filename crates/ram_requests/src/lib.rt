@@ -5,7 +5,6 @@
 mod parts;
 mod requests;
 
-pub use model_commands::TRANSFER_LIMIT;
 pub use model_sectors::MOST_SECTORS;
 pub use parts::Part;
 pub use requests::Request;

@@ -1,21 +1,19 @@
-//! A request for sectors, which keeps that it is no longer than a transfer, and which logical blocks it covers.
+//! A request for sectors, which keeps that it ends on a disc, and which logical blocks it covers.
 ghost use Rattle.std.specs.Prelude.{◌≡◌, ◌+◌, ◌<◌, ◌≤◌, MatchOption};
 ghost use Rattle.model_sectors.specs.Requests.{block_with, blocks_covered, start_in, end_in};
-ghost use Rattle.model_commands.specs.declared.TheConstants.{TRANSFER_LIMIT};
 ghost use Rattle.model_sectors.specs.declared.TheConstants.{MOST_SECTORS};
 
 use crate::parts::Part;
 use ram_bytes::SECTORS_PER_BLOCK;
 
-/// A request for so many sectors from one on. It is at most [`TRANSFER_LIMIT`](crate::TRANSFER_LIMIT) long, and ends
-/// at sector [`MOST_SECTORS`](crate::MOST_SECTORS) at the latest, so that no number of its arithmetic overflows.
+/// A request for so many sectors from one on. It ends at sector [`MOST_SECTORS`](crate::MOST_SECTORS) at the latest, so
+/// that no number of its arithmetic overflows, however many sectors it is for.
 #[derive(Clone, Copy, Debug)]
 pub struct Request {
     /// The first sector.
     pub lba: u32,
     /// How many sectors.
     pub n: u32,
-    ghost few: { n ≤ TRANSFER_LIMIT },
     ghost low: { lba + n ≤ MOST_SECTORS },
 }
 
@@ -23,8 +21,7 @@ impl Request {
     /// The request for `n` sectors from sector `lba` on, of a disc of `capacity` sectors. None exactly where some of them
     /// are none of the disc's.
     pub fn within(capacity: u32, lba: u32, n: u32) -> Option<Request>
-        requires few { n ≤ TRANSFER_LIMIT }
-        requires low { capacity ≤ MOST_SECTORS }
+        requires { capacity ≤ MOST_SECTORS }
         ensures { MatchOption result (capacity < lba + n)
             (λ request. (request.lba ≡ lba) × (request.n ≡ n) × (lba + n ≤ capacity)) }
     {

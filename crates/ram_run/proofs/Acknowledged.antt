@@ -1,5 +1,6 @@
 -- What was acknowledged of a sector stays so over a line that does not write it, by what the line does.
-use Rattle.std.specs.Prelude.{◌≡◌, ℕ, ◌+◌, ◌*◌, ◌<◌, ◌≤◌, ◌⊎◌, Bool, is_some, Result, Ok, Err, List, [], ◌∷◌, length, All}
+use Rattle.std.specs.Prelude.{◌≡◌, ℕ, ◌+◌, ◌*◌, ◌<◌, ◌≤◌, ◌==◌, ◌⊎◌, Bool, true, false, is_some, Result, Ok, Err, List, [], ◌∷◌, length, All}
+use Rattle.std.specs.Bool.{MatchBool}
 use Rattle.std.proofs.Common.{arith, refl, sym, ◌∙◌, inl, inr, subst}
 use Rattle.std.proofs.lemmas.List.Elements.{All-nil, All-cons, All-head, All-tail}
 use Rattle.model_geometry.specs.Geometry.{Shape, IsLawful, shape_of}
@@ -12,8 +13,11 @@ use Rattle.model_sectors.specs.declared.PowerOut.TheVariants as powers
 use Rattle.model_sectors.proofs.Pieces.{length_replaced, other_sectors_replaced}
 use Rattle.model_places.specs.Places.{Lists}
 use Rattle.model_drive.specs.declared.WriteOut.{WriteOut}
+use Rattle.model_drive.specs.declared.ExpandOut.{ExpandOut}
+use Rattle.model_drive.specs.declared.ExpandOut.TheVariants as expands
+use Rattle.model_drive.specs.Expands.{ExpandStep, shortened}
 use Rattle.model_drive.specs.Shown.{Shown, StandsFor, IsFirstUnder, cells_in}
-use Rattle.model_drive.specs.Reads.{ReadStep}
+use Rattle.model_drive.specs.Reads.{ReadStep, VerifyStep}
 use Rattle.model_drive.specs.Writes.{WriteCause, WriteStep}
 use Rattle.model_drive.specs.Power.{PowerStep}
 use Rattle.ram_sense.specs.declared.sense.Sense.{Sense}
@@ -23,7 +27,7 @@ use Rattle.ram_cdb.specs.declared.commands.Command.TheVariants as commands
 use Rattle.ram_cdb.specs.Decoding.{decoded}
 use Rattle.model_target.specs.declared.host.Host.{Host}
 use Rattle.model_target.specs.Judging.{IsJudged}
-use Rattle.model_target.specs.Steps.{Untouched, IsDone, IsAnsweredBy, IsStep}
+use Rattle.model_target.specs.Steps.{Untouched, TellsStructure, TellsSpares, IsDone, IsAnsweredBy, IsStep}
 use Rattle.ram_medium.specs.declared.control.FailEnd.{FailEnd}
 use Rattle.ram_medium.specs.declared.control.FailEnd.TheVariants as fails
 use Rattle.ram_text.specs.declared.printing.Event.TheVariants as events
@@ -41,6 +45,7 @@ use Rattle.ram_run.specs.Run.{AnsweredLine, Run}
 use Rattle.ram_run.specs.Acknowledged.{KeepsSector, Acknowledged, LeavesAsAsked, LeavesAsDecoded, LeavesOnDisc, LeavesSector, LeaveSector}
 use Rattle.ram_run.specs.Work.{work_of}
 use Rattle.ram_run.proofs.Decoded.{HasItsData, asks_for, its_data}
+use Rattle.ram_run.proofs.Shortened.{front_sector, front_long}
 use Rattle.ram_run.proofs.WrittenDiscs.{lies, write_on, write_off}
 
 module _ (at : ℕ) (bytes : List ℕ) where
@@ -93,6 +98,41 @@ module _ (at : ℕ) (bytes : List ℕ) where
   read_keeps (Off discs) t lba n into reads.Off step keeps = subst AllKeep step keeps
   read_keeps (Off discs) t lba n into _ step keeps = absurd step
 
+  -- a verification
+  verify_keeps : (s t : Standing) (out : ReadOut) → VerifyStep (λ x. x ≡ t) s out → AllKeep s → AllKeep t
+  verify_keeps (On disc) t reads.Good step keeps = subst AllKeep step keeps
+  verify_keeps (On disc) t reads.NotFormatted step keeps = subst AllKeep step keeps
+  verify_keeps (On disc) t (reads.Range known) step keeps = subst AllKeep step keeps
+  verify_keeps (On disc) t (reads.Unread named block) step keeps = subst AllKeep step keeps
+  verify_keeps (On disc) t reads.Cut step keeps = subst AllKeep step keeps
+  verify_keeps (On disc) t reads.Off step keeps = absurd step
+  verify_keeps (On disc) t reads.Fault step keeps = subst AllKeep step keeps
+  verify_keeps (Off discs) t reads.Off step keeps = subst AllKeep step keeps
+  verify_keeps (Off discs) t _ step keeps = absurd step
+
+  -- the first sectors of a disc, which are left
+  short_keeps : (disc : List ℕ) (sectors : ℕ) → KeepsSector at bytes disc → KeepsSector at bytes (shortened sectors disc)
+  short_keeps disc sectors keeps within = front_sector disc sectors at within ∙ keeps (front_long disc sectors at within)
+
+  either_keeps : (disc : List ℕ) (sectors : ℕ) → KeepsSector at bytes disc → All (KeepsSector at bytes) (disc ∷ shortened sectors disc ∷ [])
+  either_keeps disc sectors keeps =
+      All-cons (KeepsSector at bytes) disc (shortened sectors disc ∷ []) keeps (one_keeps (shortened sectors disc) (short_keeps disc sectors keeps))
+
+  -- an expansion
+  expand_on : (disc : List ℕ) (t : Standing) (sectors : ℕ) (out : ExpandOut) → ExpandStep (λ x. x ≡ t) (On disc) sectors out → KeepsSector at bytes disc → AllKeep t
+  expand_on disc t sectors expands.Good step keeps = subst AllKeep step (one_keeps (shortened sectors disc) (short_keeps disc sectors keeps))
+  expand_on disc t sectors expands.NotFormatted step keeps = subst AllKeep step.1 (one_keeps disc keeps)
+  expand_on disc t sectors (expands.Refused known) step keeps = subst AllKeep step (one_keeps disc keeps)
+  expand_on disc t sectors (expands.NoUpdate counter) step keeps = subst AllKeep step (one_keeps disc keeps)
+  expand_on disc t sectors expands.Cut step keeps = subst AllKeep step (either_keeps disc sectors keeps)
+  expand_on disc t sectors expands.Off step keeps = absurd step
+  expand_on disc t sectors expands.Fault step keeps = subst AllKeep step (either_keeps disc sectors keeps)
+
+  expand_keeps : (s t : Standing) (sectors : ℕ) (out : ExpandOut) → ExpandStep (λ x. x ≡ t) s sectors out → AllKeep s → AllKeep t
+  expand_keeps (On disc) t sectors out step keeps = expand_on disc t sectors out step (All-head (KeepsSector at bytes) disc [] keeps)
+  expand_keeps (Off discs) t sectors expands.Off step keeps = subst AllKeep step keeps
+  expand_keeps (Off discs) t sectors _ step keeps = absurd step
+
   -- the power that goes off and on again
   power_keeps : (new : Shown) (s t : Standing) (out : PowerOut) → PowerStep new (λ x. x ≡ t) s out → AllKeep s → AllKeep t
   power_keeps new s t (powers.Ready known) step keeps =
@@ -113,25 +153,30 @@ module _ (at : ℕ) (bytes : List ℕ) where
     untouched_keeps : Untouched old new (λ x. x ≡ s) (λ x. x ≡ t) → AllKeep t
     untouched_keeps p = subst AllKeep (p.stands s refl) keeps
 
+    told_keeps : (structure : Bool) (alloc : ℕ) (answer : Answer) (data_in : List ℕ)
+        → MatchBool structure (TellsStructure old new (λ x. x ≡ s) (λ x. x ≡ t) alloc answer data_in) (TellsSpares old new (λ x. x ≡ s) (λ x. x ≡ t) alloc answer data_in) → AllKeep t
+    told_keeps true alloc answer data_in p = untouched_keeps p.is_answered.untouched
+    told_keeps false alloc answer data_in p = untouched_keeps p.untouched
+
     done_keeps : (host : Host) (payload : List ℕ) (command : Command) (answer : Answer) (data_in : List ℕ) → IsDone old new (λ x. x ≡ s) (λ x. x ≡ t) host payload command answer data_in
         → LeavesAsAsked at command → HasItsData payload command → AllKeep t
     done_keeps host payload commands.TestUnitReady answer data_in p leaves given = untouched_keeps p.untouched
     done_keeps host payload (commands.RequestSense alloc) answer data_in p leaves given = untouched_keeps p.untouched
     done_keeps host payload (commands.Format kind) answer data_in p leaves given = absurd leaves
-    done_keeps host payload (commands.Expand sectors) answer data_in p leaves given = absurd p
+    done_keeps host payload (commands.Expand sectors) answer data_in p leaves given = expand_keeps s t sectors p.out (p.step s refl) keeps
     done_keeps host payload (commands.Inquiry alloc) answer data_in p leaves given = untouched_keeps p.untouched
     done_keeps host payload (commands.StartStop start eject) answer data_in p leaves given = untouched_keeps p.untouched
     done_keeps host payload (commands.Prevent on) answer data_in p leaves given = untouched_keeps p.untouched
-    done_keeps host payload (commands.FormatCapacities alloc) answer data_in p leaves given = absurd p
+    done_keeps host payload (commands.FormatCapacities alloc) answer data_in p leaves given = untouched_keeps p.untouched
     done_keeps host payload commands.ReadCapacity answer data_in p leaves given = untouched_keeps p.untouched
     done_keeps host payload (commands.Read lba n) answer data_in p leaves given = read_keeps s t lba n p.bytes p.out (p.step s refl) keeps
     done_keeps host payload (commands.Write lba n fua) answer data_in p leaves given = write_keeps old new s t lba n payload p.out stood given leaves p.cause (p.step s refl) keeps
-    done_keeps host payload (commands.Verify lba n) answer data_in p leaves given = absurd p
+    done_keeps host payload (commands.Verify lba n) answer data_in p leaves given = verify_keeps s t p.out (p.step s refl) keeps
     done_keeps host payload commands.Synchronize answer data_in p leaves given = untouched_keeps p.untouched
     done_keeps host payload (commands.Configuration rt start alloc) answer data_in p leaves given = untouched_keeps p.untouched
     done_keeps host payload commands.ModeSelect answer data_in p leaves given = untouched_keeps p.untouched
     done_keeps host payload (commands.ModeSense control page alloc) answer data_in p leaves given = untouched_keeps p.untouched
-    done_keeps host payload (commands.Structure format alloc) answer data_in p leaves given = absurd p
+    done_keeps host payload (commands.Structure format alloc) answer data_in p leaves given = told_keeps (format == 0x08) alloc answer data_in p
 
     by_keeps : (host : Host) (formatted : Bool) (cdb payload : List ℕ) (judged : Result Command Sense) (answer : Answer) (data_in : List ℕ) → IsJudged host formatted cdb payload judged
         → IsAnsweredBy old new (λ x. x ≡ s) (λ x. x ≡ t) host payload judged answer data_in → LeavesAsDecoded at (decoded cdb payload) → AllKeep t

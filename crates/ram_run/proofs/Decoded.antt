@@ -14,18 +14,17 @@ use Rattle.ram_cdb.specs.declared.commands.Command.TheVariants as commands
 use Rattle.ram_cdb.specs.Decoding.{refusal, unless, format_type, kind_of, has_refused_field, asks_for_saved_values, has_wrong_length, has_refused_parameters, meaning, decoded_by, decoded}
 use Rattle.model_target.specs.declared.host.Host.{Host}
 use Rattle.model_target.specs.Host.{is_told}
-use Rattle.model_target.specs.Judging.{is_served, asked_in, asked_by, asked, IsJudgedBy, IsJudged}
+use Rattle.model_target.specs.Judging.{asked_in, asked_by, asked, IsJudgedBy, IsJudged}
 use Rattle.ram_mmc.proofs.Judged.{allowed_holds}
 
 -- what is asked for was decoded
-served_asks : (served told : Bool) (operation : Operation) (cdb payload : List ℕ) (done : Command) → asked_in served told operation cdb payload ≡ Ok done → decoded_by (Some operation) cdb payload ≡ Ok done
-served_asks false told operation cdb payload done is = absurd cc
-served_asks true true operation cdb payload done is = absurd cc
-served_asks true false operation cdb payload done is = is
+told_asks : (told : Bool) (operation : Operation) (cdb payload : List ℕ) (done : Command) → asked_in told operation cdb payload ≡ Ok done → decoded_by (Some operation) cdb payload ≡ Ok done
+told_asks true operation cdb payload done is = absurd cc
+told_asks false operation cdb payload done is = is
 
 known_asks : (host : Host) (operation : Option Operation) (cdb payload : List ℕ) (done : Command) → asked_by host operation cdb payload ≡ Ok done → decoded_by operation cdb payload ≡ Ok done
 known_asks host None cdb payload done is = absurd cc
-known_asks host (Some operation) cdb payload done is = served_asks (is_served operation) (is_told host operation) operation cdb payload done is
+known_asks host (Some operation) cdb payload done is = told_asks (is_told host operation) operation cdb payload done is
 
 judged_asks : (host : Host) (formatted : Bool) (cdb payload : List ℕ) (wanted : Result Command Sense) (done : Command) → wanted ≡ asked host cdb payload
     → IsJudgedBy host formatted payload wanted (Ok done) → decoded cdb payload ≡ Ok done

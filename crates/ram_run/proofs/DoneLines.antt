@@ -46,7 +46,7 @@ good_outcome cdb answers.Off is = absurd cc
 good_outcome cdb answers.Fault is = absurd cc
 good_outcome cdb answers.NoMemory is = absurd cc
 
-good_read : (out : ReadOut) → answers.Good ≡ read_answer out → out ≡ reads.Good
+pub good_read : (out : ReadOut) → answers.Good ≡ read_answer out → out ≡ reads.Good
 good_read reads.Good is = refl
 good_read reads.NotFormatted is = absurd cc
 good_read (reads.Range known) is = absurd cc
@@ -139,7 +139,7 @@ write_good old new s t lba n payload data_in p =
     }
 
 -- a sector of a request is the disc's
-sector_inside : (lba n at blocks long : ℕ) → lba + n ≤ 16 * blocks → long ≡ 32768 * blocks → at < lba + n → 2048 * (at + 1) ≤ long
+pub sector_inside : (lba n at blocks long : ℕ) → lba + n ≤ 16 * blocks → long ≡ 32768 * blocks → at < lba + n → 2048 * (at + 1) ≤ long
 sector_inside lba n at blocks long inside is within = omega (arith, inside, is, within)
 
 -- the bytes of a sector among those of several

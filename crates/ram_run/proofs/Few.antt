@@ -1,6 +1,9 @@
--- A list of one or two.
-use Rattle.std.specs.Prelude.{◌≡◌, List, [], ◌∷◌, length, map, get_or}
-use Rattle.std.proofs.Common.{arith, refl}
+-- A list of one, two or three; what the words of the program are.
+use Rattle.std.specs.Prelude.{◌≡◌, ℕ, Some, List, [], ◌∷◌, length, map, get_or, codes}
+use Rattle.std.specs.Borrow.{Bor}
+use Rattle.std.proofs.Common.{arith, refl, sym, ap, ◌∙◌, inl, inr}
+use Rattle.std.proofs.lemmas.List.{length-map}
+use Rattle.ram_run.specs.Words.{seed_of, IsGenerateOf, IsWordForm}
 
 pub map_of_two : {X Y : Type 0} (f : X → Y) (xs : List X) (d : X) → length xs ≡ 2 → map f xs ≡ f (get_or xs 0 d) ∷ f (get_or xs 1 d) ∷ []
 map_of_two f [] d two = absurd (omega arith)
@@ -12,3 +15,38 @@ pub map_of_one : {X Y : Type 0} (f : X → Y) (xs : List X) (d : X) → length x
 map_of_one f [] d one = absurd (omega arith)
 map_of_one f (x ∷ []) d one = refl
 map_of_one f (x ∷ y ∷ xs) d one = absurd (omega arith)
+
+pub map_of_three : {X Y : Type 0} (f : X → Y) (xs : List X) (d : X) → length xs ≡ 3 → map f xs ≡ f (get_or xs 0 d) ∷ f (get_or xs 1 d) ∷ f (get_or xs 2 d) ∷ []
+map_of_three f [] d three = absurd (omega arith)
+map_of_three f (x ∷ []) d three = absurd (omega arith)
+map_of_three f (x ∷ y ∷ []) d three = absurd (omega arith)
+map_of_three f (x ∷ y ∷ z ∷ []) d three = refl
+map_of_three f (x ∷ y ∷ z ∷ u ∷ zs) d three = absurd (omega arith)
+
+-- the words of a form, by their number
+module _ (words : List (Bor (List ℕ))) (none : Bor (List ℕ)) (empty : none.now ≡ []) where
+  first_text : (of : List (Bor (List ℕ))) → get_or (map (λ (word : Bor (List ℕ)). word.now) of) 0 [] ≡ (get_or of 0 none).now
+  first_text [] = sym empty
+  first_text (word ∷ of) = refl
+
+  how_many : (texts : List (List ℕ)) → map (λ (word : Bor (List ℕ)). word.now) words ≡ texts → length words ≡ length texts
+  how_many texts is = sym (length-map words (λ (word : Bor (List ℕ)). word.now)) ∙ ap length is
+
+  which : (texts : List (List ℕ)) → map (λ (word : Bor (List ℕ)). word.now) words ≡ texts → (get_or words 0 none).now ≡ get_or texts 0 []
+  which texts is = sym (first_text words) ∙ ap (λ (l : List (List ℕ)). get_or l 0 []) is
+
+  pub by_number : IsWordForm (map (λ (word : Bor (List ℕ)). word.now) words) → (length words ≡ 2 → (get_or words 0 none).now ≡ codes "run" → ⊥) → (length words ≡ 3 → (get_or words 0 none).now ≡ codes "generate" → ⊥)
+      → (length words ≡ 1 → (get_or words 0 none).now ≡ codes "--help" → ⊥) → (length words ≡ 1 → (get_or words 0 none).now ≡ codes "--version" → ⊥) → ⊥
+  by_number (inl (name, is)) two three help version = two (how_many _ is) (which _ is)
+  by_number (inr (inl (name, seed, of))) two three help version = three (how_many _ of.1) (which _ of.1)
+  by_number (inr (inr (inl is))) two three help version = help (how_many _ is) (which _ is)
+  by_number (inr (inr (inr is))) two three help version = version (how_many _ is) (which _ is)
+
+-- the words tell one name and one number
+pub one_generate : (words : List (List ℕ)) (name name' : List ℕ) (seed seed' : ℕ) → IsGenerateOf name seed words → IsGenerateOf name' seed' words → (name ≡ name') × (seed ≡ seed')
+one_generate words name name' seed seed' a b = (
+  ap (λ (l : List (List ℕ)). get_or l 1 []) (sym a.1 ∙ b.1),
+  let digits : a.0 ≡ b.0 = ap (λ (l : List (List ℕ)). get_or l 2 []) (sym a.1 ∙ b.1) in
+      let same : Some seed ≡ Some seed' = sym a.2 ∙ ap seed_of digits ∙ b.2 in
+      cc,
+)

@@ -82,7 +82,7 @@ begins first stands left written state fresh left_is written_is start = record {
   at = record {
     left_is = ap (λ l. prepend_known l left) fresh.buffered ∙ ap (prepend_known []) left_is;
     taken_is = ap (λ n. n + length first.script) fresh.taken ∙ omega arith;
-    tallied = record { lines = ap (λ (t : Tally). t.lines) fresh.tally; answered = ap (λ (t : Tally). t.answered) fresh.tally };
+    tallied = record { lines = ap (λ (t : Tally). t.lines) fresh.tally; answered = ap (λ (t : Tally). t.answered) fresh.tally; counts = ap (λ (t : Tally). t.counts) fresh.tally };
     due_is = ap (append_known written) fresh.gathered ∙ ap (λ o. append_known o []) written_is;
   };
 }
@@ -119,7 +119,7 @@ module _ (due due' before written : Option (List ℕ)) (gathered : List ℕ) (f 
 
 module _ (first : Beginning) (stands : State → Type 0) (image : Option (List ℕ)) (leaves : (s : State) → stands s → LeavesImage s image) where
   -- the image is as the line leaves it
-  comes_to : (far : SoFar first) (outcome : Outcome) → ComesOut far stands outcome → ComesToThis far image outcome
+  pub comes_to : (far : SoFar first) (outcome : Outcome) → ComesOut far stands outcome → ComesToThis far image outcome
   comes_to far outcome out = record {
     line = out.line;
     payload = out.payload;

@@ -30,7 +30,7 @@ agreed_cell Torn bytes good agrees = absurd good
 agreed_cell Dead bytes good agrees = absurd good
 
 -- the cells of a drive are known whatever it stands for
-known_of : (shown : Shown) (s : Standing) → StandsFor shown s → IsKnown shown
+pub known_of : (shown : Shown) (s : Standing) → StandsFor shown s → IsKnown shown
 known_of shown (On disc) stands = stands.0
 known_of shown (Off discs) stands = stands.0
 
@@ -59,14 +59,14 @@ in_cells shown lists disc cells at bytes same in_use fits has good =
     }
 
 -- which of the covered blocks a sector of a request lies in
-record InCovered (lba n at : ℕ) : Type 0 where
-  k : ℕ
-  covered : k < blocks_covered lba n
-  there : block_with lba + k ≡ block_with at
-  last : ℕ
-  last_is : blocks_covered lba n ≡ last + 1
+pub record InCovered (lba n at : ℕ) : Type 0 where
+  pub k : ℕ
+  pub covered : k < blocks_covered lba n
+  pub there : block_with lba + k ≡ block_with at
+  pub last : ℕ
+  pub last_is : blocks_covered lba n ≡ last + 1
 
-in_covered : (lba n at : ℕ) → IsAmong lba n at → InCovered lba n at
+pub in_covered : (lba n at : ℕ) → IsAmong lba n at → InCovered lba n at
 in_covered lba n at among =
     let from : lba ≤ at = among.0 in
     let to : at < lba + n = among.1 in
@@ -98,7 +98,7 @@ home_good old new lba n at same_shape sound known cause among =
     subst (λ (b : ℕ). IsGood (cell_at (cells_in new) b)) home_is good
 
 -- what a drive that stands for something has in the image that it leaves
-left_in_cells : (shown : Shown) (s : Standing) (lists : Lists) (cells : List Cell) (at : ℕ) (bytes : List ℕ) → StandsFor shown s → cells ≡ cells_in shown → shown.lists ≡ Some lists
+pub left_in_cells : (shown : Shown) (s : Standing) (lists : Lists) (cells : List Cell) (at : ℕ) (bytes : List ℕ) → StandsFor shown s → cells ≡ cells_in shown → shown.lists ≡ Some lists
     → StandsWithSector s at bytes → IsGood (cell_at (cells_in shown) (home_of shown.shape lists (block_with at))) → HasInCells shown cells at bytes
 left_in_cells shown (On disc) lists cells at bytes stands same in_use has good = in_cells shown lists disc cells at bytes same in_use (fits_of shown disc lists stands in_use) has good
 left_in_cells shown (Off discs) lists cells at bytes stands same in_use has good = absurd has

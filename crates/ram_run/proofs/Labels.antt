@@ -1,18 +1,19 @@
 -- No line changes the label of the medium, nor the geometry: an image keeps the geometry that it was pressed with.
-use Rattle.std.specs.Prelude.{◌≡◌, ℕ, Result, Ok, Err, List}
+use Rattle.std.specs.Prelude.{◌≡◌, ℕ, ◌==◌, Bool, true, false, Result, Ok, Err, List}
+use Rattle.std.specs.Bool.{MatchBool}
 use Rattle.std.proofs.Common.{sym, ap, ◌∙◌, inl, inr}
 use Rattle.model_geometry.specs.Geometry.{label_of}
 use Rattle.model_medium.specs.Machine.{Machine}
 use Rattle.model_medium.specs.declared.WornBlock.{WornBlock}
 use Rattle.model_sectors.specs.Discs.{Standing}
 use Rattle.model_drive.specs.Shown.{Shown}
-use Rattle.model_drive.proofs.Kept.{read_kept, write_kept, power_kept, format_kept}
+use Rattle.model_drive.proofs.Kept.{read_kept, verify_kept, write_kept, power_kept, expand_kept, format_kept}
 use Rattle.ram_sense.specs.declared.sense.Sense.{Sense}
 use Rattle.ram_sense.specs.declared.answer.Answer.{Answer}
 use Rattle.ram_cdb.specs.declared.commands.Command.{Command}
 use Rattle.ram_cdb.specs.declared.commands.Command.TheVariants as commands
 use Rattle.model_target.specs.declared.host.Host.{Host}
-use Rattle.model_target.specs.Steps.{Untouched, IsDone, IsAnsweredBy, IsStep}
+use Rattle.model_target.specs.Steps.{Untouched, TellsStructure, TellsSpares, IsDone, IsAnsweredBy, IsStep}
 use Rattle.ram_medium.specs.Control.{WearRule}
 use Rattle.ram_medium.specs.declared.control.FailEnd.{FailEnd}
 use Rattle.ram_medium.specs.declared.control.FailEnd.TheVariants as fails
@@ -43,24 +44,29 @@ module _ (old new : Shown) where
     untouched_label : Untouched old new before after → SameLabel
     untouched_label p = ap (λ (s : Shown). s.medium.world.label) p.same
 
+    told_label : (structure : Bool) (alloc : ℕ) (answer : Answer) (data_in : List ℕ)
+        → MatchBool structure (TellsStructure old new before after alloc answer data_in) (TellsSpares old new before after alloc answer data_in) → SameLabel
+    told_label true alloc answer data_in p = untouched_label p.is_answered.untouched
+    told_label false alloc answer data_in p = untouched_label p.untouched
+
     done_label : (host : Host) (payload : List ℕ) (command : Command) (answer : Answer) (data_in : List ℕ) → IsDone old new before after host payload command answer data_in → SameLabel
     done_label host payload commands.TestUnitReady answer data_in p = untouched_label p.untouched
     done_label host payload (commands.RequestSense alloc) answer data_in p = untouched_label p.untouched
     done_label host payload (commands.Format kind) answer data_in p = (format_kept old new kind p.out p.cause).same_label
-    done_label host payload (commands.Expand sectors) answer data_in p = absurd p
+    done_label host payload (commands.Expand sectors) answer data_in p = (expand_kept old new sectors p.out p.cause).same_label
     done_label host payload (commands.Inquiry alloc) answer data_in p = untouched_label p.untouched
     done_label host payload (commands.StartStop start eject) answer data_in p = untouched_label p.untouched
     done_label host payload (commands.Prevent on) answer data_in p = untouched_label p.untouched
-    done_label host payload (commands.FormatCapacities alloc) answer data_in p = absurd p
+    done_label host payload (commands.FormatCapacities alloc) answer data_in p = untouched_label p.untouched
     done_label host payload commands.ReadCapacity answer data_in p = untouched_label p.untouched
     done_label host payload (commands.Read lba n) answer data_in p = (read_kept old new lba n p.out p.cause).same_label
     done_label host payload (commands.Write lba n fua) answer data_in p = (write_kept old new lba n p.out p.cause).same_label
-    done_label host payload (commands.Verify lba n) answer data_in p = absurd p
+    done_label host payload (commands.Verify lba n) answer data_in p = (verify_kept old new lba n p.out p.cause).same_label
     done_label host payload commands.Synchronize answer data_in p = untouched_label p.untouched
     done_label host payload (commands.Configuration rt start alloc) answer data_in p = untouched_label p.untouched
     done_label host payload commands.ModeSelect answer data_in p = untouched_label p.untouched
     done_label host payload (commands.ModeSense control page alloc) answer data_in p = untouched_label p.untouched
-    done_label host payload (commands.Structure format alloc) answer data_in p = absurd p
+    done_label host payload (commands.Structure format alloc) answer data_in p = told_label (format == 0x08) alloc answer data_in p
 
     by_label : (host : Host) (payload : List ℕ) (judged : Result Command Sense) (answer : Answer) (data_in : List ℕ) → IsAnsweredBy old new before after host payload judged answer data_in → SameLabel
     by_label host payload (Err why) answer data_in p = untouched_label p.untouched

@@ -43,7 +43,7 @@ module _ (first : Beginning) (far : SoFar first) (old new : View) (at : IsAt far
   still_due = same_due ∙ at.due_is
 
   still_tallied : IsTallied far new.tally
-  still_tallied = record { lines = ap (λ (t : Tally). t.lines) same_tally ∙ at.tallied.lines; answered = ap (λ (t : Tally). t.answered) same_tally ∙ at.tallied.answered }
+  still_tallied = record { lines = ap (λ (t : Tally). t.lines) same_tally ∙ at.tallied.lines; answered = ap (λ (t : Tally). t.answered) same_tally ∙ at.tallied.answered; counts = ap (λ (t : Tally). t.counts) same_tally ∙ at.tallied.counts }
 
   module _ (raw : List ℕ) (f f' : ℕ) (gives : GivesLine (unread old) (unread new) old.taken new.taken raw f f') where
     abbrev on : Follows (unread new) old.taken new.taken far.rest raw
@@ -66,7 +66,7 @@ module _ (first : Beginning) (far : SoFar first) (old new : View) (at : IsAt far
     }
 
     pub stops_unread : ((line : Line) (payload : List ℕ) → ¬ Reads raw line payload) → IsStoppedAt far new (Err stopped.NotInLanguage)
-    stops_unread nothing = record { due_is = still_due; last_is = (record { raw = raw; comes = comes; nothing = nothing }, ap (λ n. n + 1) still_tallied.lines); unended = tt }
+    stops_unread nothing = record { due_is = still_due; last_is = (record { raw = raw; comes = comes; nothing = nothing }, ap (λ n. n + 1) still_tallied.lines); unended = tt; tallied = still_tallied }
 
 -- an arm or a cut in a line that was read falls at a use from the next one on
 form_uses : (words : List (List ℕ)) (line : Line) (payload : List ℕ) → IsForm words line payload → WorkCountsUses (work_of line)

@@ -3,6 +3,7 @@ use Rattle.std.specs.Prelude.{◌≡◌, ℕ, ◌+◌, ◌<◌, ◌⊎◌, Optio
 use Rattle.std.specs.Io.KnownBytes.{append_known, prepend_known}
 use Rattle.std.proofs.Common.{arith, refl, sym, ap, ◌∙◌, inl, inr, subst, append_assoc, append-nil, length-append, take-append-drop}
 use Rattle.ram_text.specs.Lines.{line_feed}
+use Rattle.ram_run.specs.declared.counts.AnswerCounts.{AnswerCounts}
 use Rattle.ram_run.specs.declared.line.Work.{Work}
 use Rattle.ram_run.specs.declared.line.Work.TheVariants as works
 use Rattle.ram_run.specs.declared.reply.Reply.{Reply}
@@ -11,9 +12,11 @@ use Rattle.ram_run.specs.declared.state.Tally.{Tally}
 use Rattle.ram_run.specs.declared.stopped.Stopped.{Stopped}
 use Rattle.ram_run.specs.declared.stopped.Stopped.TheVariants as stopped
 use Rattle.ram_run.proofs.Answering.{lacks_same}
+use Rattle.ram_run.proofs.Counted.{one_counted}
 use Rattle.ram_run.specs.NextLines.{ComesNext}
 use Rattle.ram_run.specs.Work.{work_of}
 use Rattle.ram_run.specs.Replies.{Outcome}
+use Rattle.ram_run.specs.Counting.{with_reply}
 use Rattle.ram_run.specs.States.{State}
 use Rattle.ram_run.specs.LineSteps.{Step}
 use Rattle.ram_run.specs.Inserted.{IsAnswered}
@@ -66,8 +69,9 @@ module _ (first : Beginning) (far : SoFar first) (view : View) (work : Work) (pa
       left_is = ap (λ b. prepend_known b new.left) replied.same_buffered ∙ ap (prepend_known view.buffered) replied.same_left ∙ t.left_is;
       taken_is = ap (λ n. n + length t.comes.next.after) replied.same_taken ∙ t.taken_is;
       tallied = record {
-        lines = ap (λ (x : Tally). x.lines) replied.counted ∙ ap (λ n. n + 1) t.tallied.lines ∙ omega arith;
-        answered = ap (λ (x : Tally). x.answered) replied.counted ∙ ap (λ n. n + answers_of reply) t.tallied.answered;
+        lines = ap (λ (x : Tally). x.lines) replied.tally_is ∙ ap (λ n. n + 1) t.tallied.lines ∙ omega arith;
+        answered = ap (λ (x : Tally). x.answered) replied.tally_is ∙ ap (λ n. n + answers_of reply) t.tallied.answered;
+        counts = ap (λ (x : Tally). x.counts) replied.tally_is ∙ ap (λ (x : AnswerCounts). with_reply x reply) t.tallied.counts ∙ one_counted (event reply) far.events;
       };
       due_is = due_more view.due new.due first.report (report_text far.events) (line_text (length far.events + 1) reply data_in) t.due_is
           (replied.grew ∙ ap (λ n. append_known view.due (line_text (n + 1) reply data_in)) t.tallied.lines);
@@ -107,6 +111,7 @@ module _ (first : Beginning) (far : SoFar first) (view : View) (work : Work) (pa
       due_is = t.due_is;
       last_is = ((t.line, payload, data_in, answered.state, comes_next, step_of (Err stopped.NotADisc) answered.state answered.step), ap (λ n. n + 1) t.tallied.lines);
       unended = tt;
+      tallied = t.tallied;
     };
   }
 

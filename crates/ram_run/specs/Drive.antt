@@ -7,6 +7,8 @@ use Rattle.model_image.specs.Image.{IsDiscImage, IsImageOf}
 use Rattle.model_sectors.specs.Discs.{Standing}
 use Rattle.model_drive.specs.Shown.{Shown}
 use Rattle.model_drive.specs.Runs.{Loaded, IsOpenedOn}
+use Rattle.model_target.specs.declared.host.Host.{Host}
+use Rattle.model_target.specs.Host.{powered_on}
 
 -- An image of these bytes was opened: they are the image of a disc, in whose state the drive is. (This project's own, as all
 -- here.)
@@ -22,6 +24,12 @@ pub record IsOpenedBy (bytes : List ℕ) (shown : Shown) (stands : Standing → 
 pub record OpensDrive (image : Option (List ℕ)) (faults : ℕ) (shown : Shown) (stands : Standing → Type 0) : Type 0 where
   pub opened : (bytes : List ℕ) → image ≡ Some bytes → IsOpenedBy bytes shown stands
   pub count : shown.medium.world.faults ≡ faults
+
+-- The same, with what is remembered for a host when the power just came on.
+pub record IsInsertedTarget (image : Option (List ℕ)) (faults : ℕ) (shown : Shown) (stands : Standing → Type 0)
+    (host : Host) : Type 0 where
+  pub opens : OpensDrive image faults shown stands
+  pub host_is : host ≡ powered_on
 
 -- The image of a medium has its cells, where these are known, and the geometry that its label tells.
 abbrev pub HasCells : World → Option (List ℕ) → Type 0

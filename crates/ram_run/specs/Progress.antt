@@ -18,6 +18,7 @@ use Rattle.ram_run.specs.declared.stopped.Stopped.TheVariants as stopped
 use Rattle.ram_run.specs.NextLines.{IsWithinLimit, IsNextWithin, IsNextUnread, PassesLineLimit, PassesScriptLimit, ComesNext}
 use Rattle.ram_run.specs.Work.{work_of, WorkCountsUses}
 use Rattle.ram_run.specs.Replies.{Outcome}
+use Rattle.ram_run.specs.Counting.{counts_in, with_reply}
 use Rattle.ram_run.specs.States.{State, IsFirst}
 use Rattle.ram_run.specs.LineSteps.{Step}
 use Rattle.ram_run.specs.Run.{AnsweredLine, Run, Reaches, answers_of, answered_in, line_text, report_text}
@@ -44,10 +45,11 @@ pub record SoFar (first : Beginning) : Type 0 where
 abbrev pub IsReported : {first : Beginning} → SoFar first → Option (List ℕ) → Type 0
 IsReported {first} far due = due ≡ Some (first.report ++ report_text far.events)
 
--- so many lines were read, of which so many were answered
+-- so many lines were read, of which so many were answered, and the commands among them so
 pub record IsTallied {first : Beginning} (far : SoFar first) (tally : Tally) : Type 0 where
   pub lines : tally.lines ≡ length far.events
   pub answered : tally.answered ≡ answered_in far.events
+  pub counts : tally.counts ≡ counts_in far.events
 
 -- What is known of the script and the report: the bytes that came from the source and are not taken yet, what the source
 -- has left, what is written and gathered, and how many bytes and lines were taken.
@@ -134,11 +136,12 @@ abbrev pub IsUnended : {first : Beginning} → SoFar first → View → Ending �
 IsUnended far view (Err stopped.SourceFault) = HasNoFeed view.buffered × (unread view ≡ Some far.rest)
 IsUnended far view _ = Unit {0}
 
--- The answers so far are due, and where the lines stop between two of them the last line says why.
+-- The answers so far are due and counted, and where the lines stop between two of them the last line says why.
 pub record IsStoppedAt {first : Beginning} (far : SoFar first) (view : View) (ending : Ending) : Type 0 where
   pub due_is : IsReported far view.due
   pub last_is : IsLastIfAny far (last_line view.tally ending)
   pub unended : IsUnended far view ending
+  pub tallied : IsTallied far view.tally
 
 -- why the search for the next line may stop the run
 abbrev pub IsStop : Stopped → Type 0
@@ -210,13 +213,21 @@ abbrev pub TurnsTo : Beginning → (State → Type 0) → View → Ending → Ty
 TurnsTo first stands view (Ok done) = Between first stands view
 TurnsTo first stands view (Err why) = Ends first stands view (Err why)
 
+-- the tally after one line more, with this reply
+abbrev pub tally_with : Tally → Reply → Tally
+tally_with tally reply = record {
+  lines = tally.lines + 1;
+  answered = tally.answered + answers_of reply;
+  counts = with_reply tally.counts reply;
+}
+
 -- the text of a reply went to the end of what is due, and the line counts; what was read of the script stays
 pub record IsReplied (old new : View) (reply : Reply) (data_in : List ℕ) : Type 0 where
   pub same_buffered : new.buffered ≡ old.buffered
   pub same_left : new.left ≡ old.left
   pub same_taken : new.taken ≡ old.taken
   pub grew : new.due ≡ append_known old.due (line_text (old.tally.lines + 1) reply data_in)
-  pub counted : new.tally ≡ record { lines = old.tally.lines + 1; answered = old.tally.answered + answers_of reply }
+  pub tally_is : new.tally ≡ tally_with old.tally reply
 
 -- What telling the outcome of a line may do.
 abbrev pub TellRule : View → View → List ℕ → Outcome → Ending → Type 0

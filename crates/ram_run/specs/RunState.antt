@@ -4,25 +4,28 @@ use Rattle.ram_text.specs.declared.payload.TheConstants.{PAYLOAD_ROOM}
 use Rattle.ram_run.specs.declared.state.RunState.{RunState}
 use Rattle.ram_run.specs.declared.state.Tally.{Tally}
 use Rattle.ram_run.specs.declared.stopped.Stopped.{Stopped}
+use Rattle.ram_run.specs.Counting.{AreAtMost, counts_in}
 
 -- nothing was read yet, and nothing is gathered (this project's own, as all here)
 pub record IsFresh (state : RunState) : Type 0 where
   pub buffered : state.reader.buffered ≡ []
   pub taken : state.reader.taken ≡ 0
   pub gathered : state.writer ≡ []
-  pub tally : state.tally ≡ record { lines = 0; answered = 0 }
+  pub tally : state.tally ≡ record { lines = 0; answered = 0; counts = counts_in [] }
 
 -- there is room for the data of any line, both ways
 pub record HasRoom (state : RunState) : Type 0 where
   pub payload : PAYLOAD_ROOM ≤ vec_capacity state.payload
   pub data_in : PAYLOAD_ROOM ≤ vec_capacity state.data_in
 
--- no more lines came than bytes, and no more answers than lines
+-- no more lines came than bytes, and no more answers than lines, of any kind
 pub record IsFewLines (tally : Tally) (taken : ℕ) : Type 0 where
   pub lines : tally.lines ≤ taken
   pub answered : tally.answered ≤ tally.lines
+  pub counts : AreAtMost tally.counts tally.lines
 
 -- a line that was told counts, and one that ends the run does not
 abbrev pub TallyRule : Tally → Tally → Result (Unit {0}) Stopped → Type 0
-TallyRule old new (Ok done) = (new.lines ≡ old.lines + 1) × (new.answered ≤ old.answered + 1)
+TallyRule old new (Ok done) =
+    (new.lines ≡ old.lines + 1) × (new.answered ≤ old.answered + 1) × AreAtMost new.counts new.lines
 TallyRule old new (Err why) = new ≡ old

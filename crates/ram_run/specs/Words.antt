@@ -1,11 +1,14 @@
 -- The words of the program, and what it does for each. For the main clause of the run.
-use Rattle.std.specs.Prelude.{◌≡◌, ℕ, ◌⊎◌, Option, None, Some, List, [], ◌∷◌, take, codes}
+use Rattle.std.specs.Prelude.{◌≡◌, ℕ, ◌⊎◌, ◌&&◌, nat_lt, nat_le, if◌then◌else◌, Option, None, Some, List, [], ◌∷◌, length, take, codes}
+use Rattle.std.specs.Char.{is_ascii_digit}
 use Rattle.std.specs.Io.KnownBytes.{append_known}
+use Rattle.std.specs.List.{list_all}
 use Rattle.model_counts.specs.Counts.{Rose}
 use Rattle.ram_outside.specs.Opener.{OpenerView, opener_view, and_asked}
 use Rattle.ram_outside.specs.declared.opener.Opener.{Ghosts as Openers}
 use Rattle.ram_outside.specs.declared.sink.Sink.{Ghosts as Sinks}
 use Rattle.ram_outside.specs.declared.source.Source.{Ghosts as Sources}
+use Rattle.ram_text.specs.ScriptWords.{decimal_value}
 use Rattle.ram_run.specs.RunCounts.{Counts, counts_of}
 use Rattle.ram_run.specs.declared.run.Form.{Form}
 use Rattle.ram_run.specs.declared.run.Form.TheVariants as forms
@@ -20,6 +23,22 @@ IsRunOf name words = words ≡ codes "run" ∷ name ∷ []
 abbrev pub IsRunImage : List (List ℕ) → Type 0
 IsRunImage words = (name : List ℕ) × IsRunOf name words
 
+-- the number that a word spells: 1 to 20 decimal digits, at most 18,446,744,073,709,551,615; none of another word
+unfoldable pub seed_of : List ℕ → Option ℕ
+seed_of word =
+    if nat_lt 0 (length word) && nat_le (length word) 20 && list_all is_ascii_digit word
+    && nat_le (decimal_value word) 18446744073709551615
+    then Some (decimal_value word) else None
+
+-- the words are `generate`, this name of an image and the digits of this number
+abbrev pub IsGenerateOf : List ℕ → ℕ → List (List ℕ) → Type 0
+IsGenerateOf name seed words =
+    (digits : List ℕ) × (words ≡ codes "generate" ∷ name ∷ digits ∷ []) × (seed_of digits ≡ Some seed)
+
+-- the words are `generate`, the name of an image and a number
+abbrev pub IsGenerate : List (List ℕ) → Type 0
+IsGenerate words = (name : List ℕ) × (seed : ℕ) × IsGenerateOf name seed words
+
 -- the words are `--help` alone
 abbrev pub IsHelp : List (List ℕ) → Type 0
 IsHelp words = words ≡ codes "--help" ∷ []
@@ -30,7 +49,7 @@ IsVersion words = words ≡ codes "--version" ∷ []
 
 -- the words are one of the program's forms
 abbrev pub IsWordForm : List (List ℕ) → Type 0
-IsWordForm words = IsRunImage words ⊎ IsHelp words ⊎ IsVersion words
+IsWordForm words = IsRunImage words ⊎ IsGenerate words ⊎ IsHelp words ⊎ IsVersion words
 
 -- the words are none of the program's forms exactly where the status is that of usage
 abbrev pub UsageRule : List (List ℕ) → Status → Type 0
@@ -112,5 +131,6 @@ module _ {I : Type 0} (old new : Surroundings I) where
 abbrev pub FormRule : List (List ℕ) → Option Form → Type 0
 FormRule words None = ¬ IsWordForm words
 FormRule words (Some (forms.Run name)) = words ≡ codes "run" ∷ name.now ∷ []
+FormRule words (Some (forms.Generate name seed)) = IsGenerateOf name.now seed words
 FormRule words (Some forms.Help) = IsHelp words
 FormRule words (Some forms.Version) = IsVersion words

@@ -9,6 +9,10 @@ pub const HELP: &[u8] = b"ram_drive: a DVD-RAM drive that hides dead blocks, ove
 
   ram_drive run IMAGE    answer the script on standard input over this image and
                          print the report; the file is made where there is none
+  ram_drive generate IMAGE N
+                         try a disc with a load: answer the two thousand steps
+                         that are drawn from the number N, at most 2^64 - 1,
+                         and print how often each answer came
   ram_drive --help       print this text
   ram_drive --version    print the version
 
@@ -26,12 +30,13 @@ The script has one of these a line; words are parted by spaces, # is a comment:
   cdb HEX hex HEX        with exactly these data
 
 The commands, by the first byte of the command block:
-  00 TEST UNIT READY     25 READ CAPACITY(10)    46 GET CONFIGURATION
-  03 REQUEST SENSE       28 READ(10)             55 MODE SELECT(10)
-  04 FORMAT UNIT         2a WRITE(10)            5a MODE SENSE(10)
-  12 INQUIRY             2e WRITE AND VERIFY     a8 READ(12)
-  1b START STOP UNIT     35 SYNCHRONIZE CACHE    aa WRITE(12)
-  1e PREVENT ALLOW MEDIUM REMOVAL
+  00 TEST UNIT READY     23 READ FORMAT CAPACITIES  35 SYNCHRONIZE CACHE
+  03 REQUEST SENSE       25 READ CAPACITY(10)       46 GET CONFIGURATION
+  04 FORMAT UNIT         28 READ(10)                55 MODE SELECT(10)
+  12 INQUIRY             2a WRITE(10)               5a MODE SENSE(10)
+  1b START STOP UNIT     2e WRITE AND VERIFY(10)    a8 READ(12)
+  1e PREVENT ALLOW       2f VERIFY(10)              aa WRITE(12)
+     MEDIUM REMOVAL                                 ad READ DVD STRUCTURE
 The first command after power is told of it (check 6/29/00) in place of being
 done. A new disc has to be formatted before it has sectors, like this:
   cdb 041100000000 hex 000000080000013000000800

@@ -1,8 +1,10 @@
 //! The inserted disc, and what one line does with it: the drive is worked on where it lies, and only a press takes its
 //! image out.
-ghost use Rattle.std.specs.Prelude.{◌≡◌, ◌≤◌, [], vec_capacity};
+ghost use Rattle.std.specs.Prelude.{◌≡◌, ◌≤◌, MatchResult, [], vec_capacity};
 ghost use Rattle.model_geometry.specs.Geometry.{shape_of};
 ghost use Rattle.ram_text.specs.declared.payload.TheConstants.{PAYLOAD_ROOM};
+ghost use Rattle.ram_image.specs.Opening.{IsRefused};
+ghost use Rattle.ram_run.specs.Drive.{IsInsertedTarget};
 ghost use Rattle.ram_run.specs.declared.line.Work.TheVariants as works;
 ghost use Rattle.ram_run.specs.Work.{CountsUses};
 ghost use Rattle.ram_run.specs.Replies.{PrintsWhere, power_outcome, fail_outcome, wear_outcome, command_outcome};
@@ -15,8 +17,8 @@ use crate::drive::Drive;
 use crate::line::DiscLine;
 use crate::reply::Reply;
 use crate::stopped::Stopped;
-use ram_bytes::Cdb;
-use ram_image::{PressOut, press};
+use ram_bytes::{Block, Cdb};
+use ram_image::{OpenFault, PressOut, press};
 use ram_medium::{Arm, FailEnd};
 use ram_mmc::{Answer, Target};
 use ram_outside::Image;
@@ -157,6 +159,24 @@ fn command_outcome(cdb: Cdb, answer: Answer) -> Result<Reply, Stopped>
     }
 }
 
+/// The disc that an image holds, with what is remembered for its host when its power just came on. Else the image is
+/// handed back with the bytes that it had, and the reason. Room for the replies is taken first.
+pub fn insert<D: Drive>(alloc: Global, image: D::Image) -> Result<Target<D>, (D::Image, OpenFault)>
+    ensures { MatchResult result
+        (λ target. IsInsertedTarget (D.Image.bytes image) (D.Image.faults image)
+        (D.shows target.disc) (D.stands target.disc) target.host)
+        (λ refused. IsRefused (D.Image.bytes image) (D.Image.bytes refused.0)
+        (D.Image.faults image) (D.Image.faults refused.0) refused.1) }
+{
+    let Ok(block) = Block::zeros(alloc) else {
+        return Err((image, OpenFault::NoMemory));
+    };
+    match D::open(alloc, image) {
+        Ok(disc) => Ok(Target::new(disc, block)),
+        Err(refused) => Err(refused),
+    }
+}
+
 /// Presses a disc of this geometry on the image that lies in the drive, where it is within its limits.
 pub fn press_disc<D: Drive>(
     alloc: Global,
@@ -180,11 +200,8 @@ pub fn press_disc<D: Drive>(
         PressOut::Failed => return (Inserted::Image(image), Err(Stopped::ImageFault)),
         PressOut::Done => {}
     }
-    match D::open(alloc, image) {
-        Ok(disc) => (
-            Inserted::Disc(Target::new(disc)),
-            Ok(Reply::Event(Event::Pressed)),
-        ),
+    match insert::<D>(alloc, image) {
+        Ok(target) => (Inserted::Disc(target), Ok(Reply::Event(Event::Pressed))),
         Err((image, fault)) => (Inserted::Image(image), Err(Stopped::from(fault))),
     }
 }

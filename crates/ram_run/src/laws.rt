@@ -1,5 +1,5 @@
 //! Laws of runs, for whoever relies on a drive: what it acknowledged stays, and is read back.
-ghost use Rattle.std.specs.Prelude.{◌≡◌, ℕ, Bool, Ok, List};
+ghost use Rattle.std.specs.Prelude.{◌≡◌, ◌<◌, ◌≤◌, ℕ, Bool, Ok, List};
 ghost use Rattle.ram_cdb.specs.declared.commands.Command.TheVariants as commands;
 ghost use Rattle.ram_cdb.specs.Decoding.{decoded};
 ghost use Rattle.ram_run.specs.declared.line.DiscLine.TheVariants as discs;
@@ -78,4 +78,23 @@ pub fn a_write_told_good_is_in_the_image()
     ensures { (s t : State) (event : AnsweredLine) (lba n at : ℕ) (fua : Bool) (image : List ℕ)
         → IsStep s event t → WasDone event (commands.Write lba n fua) → IsAmong lba n at
         → IsLeft t image → HasInImage t image at (bytes_of_sector lba event.payload at) }
+{}
+
+/// After a verification that is answered Good the image has each sector that was verified, as it was acknowledged, in the home
+/// of its block.
+pub fn a_verified_sector_is_in_the_image()
+    ensures { (s t : State) (event : AnsweredLine) (lba n at : ℕ) (bytes image : List ℕ)
+        → IsStep s event t → WasDone event (commands.Verify lba n) → IsAmong lba n at
+        → Acknowledged s at bytes → IsLeft t image → HasInImage t image at bytes }
+{}
+
+/// After an expansion that is answered Good the disc has each sector below the new capacity, with the bytes that it had, and
+/// no sector from there on.
+pub fn an_expansion_keeps_what_it_leaves()
+    ensures stays { (s t : State) (event : AnsweredLine) (sectors at : ℕ) (bytes : List ℕ)
+        → IsStep s event t → WasDone event (commands.Expand sectors) → at < sectors
+        → HasNow s at bytes → HasNow t at bytes }
+    ensures gone { (s t : State) (event : AnsweredLine) (sectors at : ℕ) (bytes : List ℕ)
+        → IsStep s event t → WasDone event (commands.Expand sectors) → sectors ≤ at
+        → ¬ HasNow t at bytes }
 {}

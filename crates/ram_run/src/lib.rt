@@ -1,16 +1,22 @@
 //! Runs a script of commands over a disc image, and reports every answer.
 #![tactic(auto)]
 
+mod counts;
 mod drive;
 mod ending;
+mod generate;
 pub mod help;
 mod inserted;
+mod kept;
 pub mod laws;
 mod line;
 mod reply;
 pub mod run;
+mod seed;
 mod serve;
 mod state;
 pub mod status;
 mod stopped;
+mod summary;
+mod telling;
 mod volume;

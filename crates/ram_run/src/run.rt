@@ -3,16 +3,19 @@ ghost use Rattle.std.specs.Prelude.{◌⊎◌, ℕ, List, map};
 ghost use Rattle.ram_run.specs.declared.help.TheConstants.{HELP, VERSION};
 ghost use Rattle.ram_run.specs.Progress.{Beginning};
 ghost use Rattle.ram_run.specs.Completes.{IsInLanguage, BeginsWithDisc, NoneRose, IsComplete};
-ghost use Rattle.ram_run.specs.Words.{IsRunOf, WritesText, TextCount, IsRunImage, IsHelp, IsVersion, UsageRule, FormRule, IsNotOpened, UntouchedByUsage, TellsText, AsksOnce, around};
+ghost use Rattle.ram_run.specs.Words.{IsRunOf, IsRunImage, IsGenerateOf, IsHelp, IsVersion, UsageRule, FormRule, IsNotOpened, UntouchedByUsage, TellsText, AsksOnce, around};
 ghost use Rattle.ram_run.specs.Endings.{IsBeginning, IsUnopened, IsNoUsage, StandsWith, StatusCounts, aftermath_of};
+ghost use Rattle.ram_run.specs.Generating.{BeginsFrom, Generates, AsksUnread};
 
+use crate::generate::generate_image;
 use crate::help::{HELP, VERSION};
+use crate::seed::seed_of;
 use crate::serve::serve;
 use crate::state::RunState;
 use crate::status::Status;
+use crate::telling::tell;
 use ram_image::ImageMedium;
 use ram_outside::{Opened, Opener, Sink, Source};
-use ram_text::hand_over;
 use ram_volume::Volume;
 use std::alloc::Global;
 
@@ -21,6 +24,8 @@ use std::alloc::Global;
 enum Form<'a> {
     /// Run a script over the image of this name.
     Run(&'a str),
+    /// Run the script of a number over the image of this name.
+    Generate(&'a str, u64),
     /// Tell what the program does.
     Help,
     /// Tell the program's version.
@@ -28,7 +33,8 @@ enum Form<'a> {
 }
 
 /// Runs the words of the program: `run IMAGE` answers the script over the image of that name, and reports every
-/// answer; `--help` and `--version` tell of the program.
+/// answer; `generate IMAGE N` answers the script that is drawn from the number N, and tells how often each answer came;
+/// `--help` and `--version` tell of the program.
 pub fn run<S: Source, K: Sink, O: Opener>(
     alloc: Global,
     words: &[&str],
@@ -52,6 +58,17 @@ pub fn run<S: Source, K: Sink, O: Opener>(
     ensures asks { (name : List ℕ) → IsRunOf name (map (λ word. word.now) words.now) → AsksOnce
         (around S.Source K.Sink O.Opener script.old report.old opener.old)
         (around S.Source K.Sink O.Opener script.new report.new opener.new) name result }
+    ensures generate_asks { (name : List ℕ) (seed : ℕ)
+        → IsGenerateOf name seed (map (λ word. word.now) words.now) → AsksUnread
+        (around S.Source K.Sink O.Opener script.old report.old opener.old)
+        (around S.Source K.Sink O.Opener script.new report.new opener.new) name result }
+    ensures generate { (first : Beginning) (name : List ℕ) (seed : ℕ)
+        → IsGenerateOf name seed (map (λ word. word.now) words.now)
+        → BeginsFrom O.Image.bytes seed first
+        (around S.Source K.Sink O.Opener script.old report.old opener.old) O.returned_known
+        → Generates O.Image.bytes seed first
+        (around S.Source K.Sink O.Opener script.old report.old opener.old)
+        (around S.Source K.Sink O.Opener script.new report.new opener.new) result }
     ensures run { (first : Beginning) → IsRunImage (map (λ word. word.now) words.now)
         → IsBeginning O.Image.bytes first
         (around S.Source K.Sink O.Opener script.old report.old opener.old) O.returned_known
@@ -71,6 +88,7 @@ pub fn run<S: Source, K: Sink, O: Opener>(
 {
     match form_of(words) {
         Some(Form::Run(name)) => run_image(alloc, name, script, report, opener),
+        Some(Form::Generate(name, seed)) => generate_image(alloc, name, seed, report, opener),
         Some(Form::Help) => tell(report, HELP),
         Some(Form::Version) => tell(report, VERSION),
         None => Status::Usage,
@@ -83,21 +101,13 @@ fn form_of<'a>(words: &[&'a str]) -> Option<Form<'a>>
 {
     match words {
         [verb, name] if *verb == "run" => Some(Form::Run(*name)),
+        [verb, name, number] if *verb == "generate" => match seed_of(number.as_bytes()) {
+            Some(seed) => Some(Form::Generate(*name, seed)),
+            None => None,
+        },
         [word] if *word == "--help" => Some(Form::Help),
         [word] if *word == "--version" => Some(Form::Version),
         _ => None,
-    }
-}
-
-/// Writes a text to the report. It takes no memory.
-fn tell<K: Sink>(report: &mut K, text: &[u8]) -> Status
-    ensures other { IsNoUsage result }
-    ensures writes { WritesText (K.written report.old) (K.written report.new) text.now result }
-    ensures count { TextCount (K.faults report.old) (K.faults report.new) result }
-{
-    match hand_over(report, text) {
-        Ok(()) => Status::Done,
-        Err(_) => Status::SinkFault,
     }
 }
 

@@ -3,23 +3,24 @@ ghost use Rattle.std.specs.Prelude.{◌≡◌, ◌^◌, ◌<◌, ◌≤◌, ◌+
 ghost use Rattle.ram_text.specs.declared.payload.TheConstants.{PAYLOAD_ROOM};
 ghost use Rattle.ram_run.specs.declared.line.Work.TheVariants as works;
 ghost use Rattle.ram_run.specs.Work.{CountsUses};
+ghost use Rattle.ram_run.specs.Counting.{AreAtMost};
 ghost use Rattle.ram_run.specs.Inserted.{Stands, faults_of};
 ghost use Rattle.ram_run.specs.RunCounts.{StopCounts, counts_of};
 ghost use Rattle.ram_run.specs.RunState.{IsFresh, HasRoom, TallyRule};
 ghost use Rattle.ram_run.specs.Progress.{Beginning, SoFar, Between, Taken, TurnsTo, Ends, run_view};
+ghost use Rattle.ram_run.specs.Generating.{LeavesBy};
 ghost use Rattle.ram_run.specs.Starts.{StartRule};
 ghost use Rattle.ram_run.specs.Endings.{Begins, IsNoUsage, StandsWith, StatusCounts, aftermath};
 
 use crate::drive::Drive;
 use crate::ending::{finish, status_of};
-use crate::inserted::{Inserted, press_disc};
+use crate::inserted::{Inserted, insert, press_disc};
 use crate::line::{DiscLine, Work};
 use crate::reply::Reply;
 use crate::state::{RunState, next_work, tell};
 use crate::status::Status;
 use crate::stopped::Stopped;
 use ram_image::OpenFault;
-use ram_mmc::Target;
 use ram_outside::{Image, Sink, Source};
 use std::alloc::Global;
 
@@ -34,6 +35,7 @@ fn answer_line<D: Drive, K: Sink>(
     requires uses { CountsUses line }
     requires lines { state.old.tally.lines < 2 ^ 63 }
     requires answered { state.old.tally.answered < 2 ^ 63 }
+    requires few { AreAtMost state.old.tally.counts state.old.tally.lines }
     requires empty { state.old.data_in.items ≡ [] }
     requires room { HasRoom state.old }
     ensures turn { (first : Beginning) (far : SoFar first) (left : Option (List ℕ))
@@ -66,6 +68,7 @@ fn press_line<D: Drive, K: Sink>(
 ) -> (Inserted<D>, Result<(), Stopped>)
     requires lines { state.old.tally.lines < 2 ^ 63 }
     requires answered { state.old.tally.answered < 2 ^ 63 }
+    requires few { AreAtMost state.old.tally.counts state.old.tally.lines }
     requires empty { state.old.data_in.items ≡ [] }
     requires room { HasRoom state.old }
     ensures turn { (first : Beginning) (far : SoFar first) (left : Option (List ℕ))
@@ -144,13 +147,38 @@ pub fn serve_lines<D: Drive, S: Source, K: Sink>(
 fn begin<D: Drive>(alloc: Global, image: D::Image) -> Result<Inserted<D>, (D::Image, Stopped)>
     ensures { StartRule D.Sectors D.Image.Image image result }
 {
-    match D::open(alloc, image) {
-        Ok(disc) => Ok(Inserted::Disc(Target::new(disc))),
+    match insert::<D>(alloc, image) {
+        Ok(target) => Ok(Inserted::Disc(target)),
         Err((image, fault)) => match fault {
             OpenFault::Header | OpenFault::Length { .. } => Ok(Inserted::Image(image)),
             OpenFault::Fault | OpenFault::NoMemory => Err((image, Stopped::from(fault))),
         },
     }
+}
+
+/// Answers the lines of a script over an image, and tells why they end. The image is handed back as they leave it.
+pub fn answer_lines<D: Drive, S: Source, K: Sink>(
+    alloc: Global,
+    image: D::Image,
+    state: &mut RunState,
+    script: &mut S,
+    report: &mut K,
+) -> (D::Image, Result<(), Stopped>)
+    requires fresh { IsFresh state.old }
+    requires room { HasRoom state.old }
+    ensures leaves { (first : Beginning)
+        → Begins first (S.left script.old) (K.written report.old) (D.Image.bytes image)
+        → LeavesBy first state.new.tally (D.Image.bytes result.0) result.1 }
+    ensures counts { StopCounts
+        (counts_of (S.faults script.old) (K.faults report.old) (D.Image.faults image))
+        (counts_of (S.faults script.new) (K.faults report.new) (D.Image.faults result.0)) result.1 }
+{
+    let inserted = match begin::<D>(alloc, image) {
+        Ok(inserted) => inserted,
+        Err((image, stopped)) => return (image, Err(stopped)),
+    };
+    let (inserted, ending) = serve_lines(alloc, inserted, state, script, report);
+    (inserted.into_image(), ending)
 }
 
 /// Serves a script over an image, and hands the image back as the lines leave it.

@@ -2,12 +2,13 @@
 //! a command both ways.
 ghost use Rattle.std.specs.Prelude.{◌≡◌, ◌^◌, ◌<◌, ◌+◌, ℕ, Option, List, [], IfOk};
 ghost use Rattle.ram_text.specs.Writer.{due};
+ghost use Rattle.ram_run.specs.Counting.{AreAtMost};
 ghost use Rattle.ram_run.specs.Replies.{Outcome, PrintsWhere};
-ghost use Rattle.ram_run.specs.Run.{answers_of};
 ghost use Rattle.ram_run.specs.RunCounts.{StopCounts, SinkCount, TellCount, counts_of};
 ghost use Rattle.ram_run.specs.RunState.{IsFresh, HasRoom, TallyRule};
-ghost use Rattle.ram_run.specs.Progress.{Beginning, SoFar, IsAt, NextRule, FoundCountsUses, TakesBytes, TellRule, ShownRule, run_view};
+ghost use Rattle.ram_run.specs.Progress.{Beginning, SoFar, IsAt, NextRule, FoundCountsUses, TakesBytes, TellRule, ShownRule, run_view, tally_with};
 
+use crate::counts::AnswerCounts;
 use crate::line::{Work, work_of};
 use crate::reply::{Reply, print_reply};
 use crate::stopped::{Stopped, printed};
@@ -22,6 +23,8 @@ pub struct Tally {
     pub lines: u64,
     /// Those that had an answer.
     pub answered: u64,
+    /// How the commands among them were answered.
+    pub counts: AnswerCounts,
 }
 
 /// The state of a run beside what lies in the drive.
@@ -53,6 +56,7 @@ impl RunState {
             tally: Tally {
                 lines: 0,
                 answered: 0,
+                counts: AnswerCounts::new(),
             },
         })
     }
@@ -60,19 +64,20 @@ impl RunState {
 
 impl Tally {
     /// One line more, and one answer more where it has one.
-    fn with(self, reply: &Reply) -> Tally
-        requires lines { self.lines < 2 ^ 63 }
-        requires answered { self.answered < 2 ^ 63 }
-        ensures { result ≡ record { lines = self.lines + 1; answered = self.answered + answers_of reply.now } }
+    fn add(&mut self, reply: &Reply)
+        requires lines { self.old.lines < 2 ^ 63 }
+        requires answered { self.old.answered < 2 ^ 63 }
+        requires counts { AreAtMost self.old.counts self.old.lines }
+        ensures tally { self.new ≡ tally_with self.old reply.now }
+        ensures counts { AreAtMost self.new.counts self.new.lines }
     {
         let answers = match reply {
             Reply::Nothing => 0,
             Reply::Event(_) | Reply::Command { .. } => 1,
         };
-        Tally {
-            lines: self.lines + 1,
-            answered: self.answered + answers,
-        }
+        self.lines += 1;
+        self.answered += answers;
+        self.counts.count(reply);
     }
 }
 
@@ -137,6 +142,7 @@ pub fn tell<K: Sink>(
     requires printable { PrintsWhere outcome }
     requires lines { state.old.tally.lines < 2 ^ 63 }
     requires answered { state.old.tally.answered < 2 ^ 63 }
+    requires counts { AreAtMost state.old.tally.counts state.old.tally.lines }
     ensures tells { (left : Option (List ℕ)) → TellRule (run_view left (K.written report.old) state.old)
         (run_view left (K.written report.new) state.new) state.old.data_in.items outcome result }
     ensures count { TellCount (K.faults report.old) (K.faults report.new) outcome result }
@@ -147,6 +153,6 @@ pub fn tell<K: Sink>(
     let reply = outcome?;
     let number = state.tally.lines + 1;
     printed(print_reply(&mut state.writer, report, number, &reply, &state.data_in))?;
-    state.tally = state.tally.with(&reply);
+    state.tally.add(&reply);
     Ok(())
 }

@@ -72,18 +72,31 @@ pub fn run_script(
     let script = source(alloc, script, piece, failure)?;
     let report = sink(alloc, piece, failure)?;
     let opener = opener(alloc, image, failure)?;
-    run_over(alloc, script, report, opener)
+    run_over(alloc, &WORDS, script, report, opener)
 }
 
-/// Runs a script over the image that the opener gives.
+/// Runs the words of the program over an empty script and an empty image.
+pub fn run_words(
+    alloc: Global,
+    words: &[&str],
+    failure: Option<Failure>,
+) -> Result<Ran, AllocError> {
+    let script = source(alloc, b"", PIECE, failure)?;
+    let report = sink(alloc, PIECE, failure)?;
+    let opener = opener(alloc, b"", failure)?;
+    run_over(alloc, words, script, report, opener)
+}
+
+/// Runs the words of the program over a script and the image that the opener gives.
 fn run_over(
     alloc: Global,
+    words: &[&str],
     script: MemSource,
     report: MemSink,
     opener: MemOpener,
 ) -> Result<Ran, AllocError> {
     let (mut script, mut report, mut opener) = (script, report, opener);
-    let status = run(alloc, &WORDS, &mut script, &mut report, &mut opener);
+    let status = run(alloc, words, &mut script, &mut report, &mut opener);
     what_is_left(alloc, status, &script, &report, &opener)
 }
 

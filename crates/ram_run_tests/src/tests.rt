@@ -3,6 +3,7 @@ ghost use Rattle.std.specs.Prelude.{◌<◌};
 
 mod endings;
 mod failures;
+mod generated;
 mod images;
 mod payloads;
 

@@ -1,22 +1,33 @@
 //! A drive as its host sees it, whatever it does with bad blocks: the sectors that it reads and writes, and the disc that it
-//! formats. Contracts alone.
+//! formats, expands, verifies and tells of. Contracts alone.
 #![tactic(auto)]
 
 ghost use Rattle.std.specs.Prelude.{◌≡◌, ◌*◌, ◌≤◌, List, length};
 ghost use Rattle.model_commands.specs.declared.TheConstants.{TRANSFER_LIMIT};
 ghost use Rattle.model_sectors.specs.Discs.{Standing};
 ghost use Rattle.model_drive.specs.Shown.{Shown};
-ghost use Rattle.model_drive.specs.Reads.{ReadCause, ReadStep, ReadCompletes, ReadIsQuiet};
+ghost use Rattle.model_drive.specs.Reads.{ReadCause, ReadStep, ReadCompletes, ReadIsQuiet, VerifyCause, VerifyStep};
 ghost use Rattle.model_drive.specs.Writes.{WriteCause, WriteStep, WriteCompletes};
 ghost use Rattle.model_drive.specs.Power.{PowerCause, PowerStep};
 ghost use Rattle.model_drive.specs.Formats.{FormatCause, FormatStep, FormatCompletes};
-ghost use Rattle.model_drive.specs.Tells.{CapacityRule};
+ghost use Rattle.model_drive.specs.Expands.{ExpandCause, ExpandStep, ExpandCompletes};
+ghost use Rattle.model_drive.specs.Tells.{CapacityRule, CountsRule, DdsRule};
+ghost use Rattle.ram_sectors.specs.declared.TheConstants.{VERIFY_LIMIT};
 ghost use Rattle.ram_sectors.specs.Laws.{SectorsLaws};
 
 pub use model_commands::TRANSFER_LIMIT;
-pub use model_drive::{FormatOut, Kind, WriteOut};
+pub use model_drive::{DriveCounts, ExpandOut, FormatOut, Kind, WriteOut};
 pub use model_sectors::{PowerOut, ReadOut};
+use ram_bytes::Block;
 use std::alloc::Global;
+
+/// How many sectors are verified at once at most. (INCITS MMC gives their number two bytes.)
+pub const VERIFY_LIMIT: u32 = 65_535;
+
+/// The number that contracts share with the code.
+pub fn limits_are_these()
+    ensures verify { VERIFY_LIMIT ≡ 65535 }
+{}
 
 /// A disc as its host sees it: a list of sectors of 2,048 bytes, numbered from 0. Wherever the cells of its medium are known,
 /// it stands for a disc whose sectors are those that were last acknowledged.
@@ -75,7 +86,7 @@ pub trait Sectors {
     ghost laws: { SectorsLaws shows stands };
 }
 
-/// A disc that can be formatted.
+/// A disc that can be formatted, expanded and verified, and that tells of itself.
 pub trait Disc: Sectors {
     /// Formats the disc: anew, with a certification that leaves zeros, or by writing both lists again. A disc that is not
     /// formatted is formatted anew in both cases.
@@ -85,4 +96,33 @@ pub trait Disc: Sectors {
             → FormatStep (Self.shows self.old) (Self.shows self.new) (Self.stands self.new) s kind result }
         ensures completes { FormatCompletes (Self.shows self.old) (Self.shows self.new) kind result }
         ensures same_shape { (Self.shows self.new).shape ≡ (Self.shows self.old).shape };
+
+    /// Gives the disc a smaller capacity, in sectors: its last blocks become supplementary spares. The sectors that are left
+    /// stay. Refused, with the capacity, where the disc cannot have this one: 0, no multiple of 16, more than it has, or
+    /// more spares in all than 4,092. NoUpdate, where the list that would say so could not be written: its copies are all
+    /// dead, or its counter is the last one.
+    fn expand(&mut self, capacity: u32) -> ExpandOut
+        ensures cause { ExpandCause (Self.shows self.old) (Self.shows self.new) capacity result }
+        ensures step { (s : Standing) → Self.stands self.old s
+            → ExpandStep (Self.stands self.new) s capacity result }
+        ensures completes { ExpandCompletes (Self.shows self.old) (Self.shows self.new) capacity result }
+        ensures same_shape { (Self.shows self.new).shape ≡ (Self.shows self.old).shape };
+
+    /// Reads each block in which some of `n` sectors from sector `lba` on lie from its home, and gives no bytes of it. What is
+    /// buffered does not count, and stays. The answers are those of a read.
+    fn verify(&mut self, lba: u32, n: u32) -> ReadOut
+        requires few { n ≤ VERIFY_LIMIT }
+        ensures cause { VerifyCause (Self.shows self.old) (Self.shows self.new) lba n result }
+        ensures step { (s : Standing) → Self.stands self.old s → VerifyStep (Self.stands self.new) s result }
+        ensures completes { ReadCompletes (Self.shows self.old) (Self.shows self.new) lba n result }
+        ensures same_shape { (Self.shows self.new).shape ≡ (Self.shows self.old).shape };
+
+    /// What the disc is, and how many of its spares are free. The numbers that depend on a formatted disc are 0 without one.
+    fn counts(&self) -> DriveCounts
+        ensures { CountsRule (Self.shows self.now) result };
+
+    /// Puts the text of the disc definition structure in use into the block. False, with the block as it was, exactly where
+    /// the power is off or the disc is not formatted.
+    fn dds_block(&self, into: &mut Block) -> bool
+        ensures { DdsRule (Self.shows self.now) into.old into.new result };
 }

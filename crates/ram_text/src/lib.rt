@@ -14,6 +14,6 @@ mod words;
 pub use gathered::{Print, hand_over};
 pub use lines::{LINE_LIMIT, LineReader, NextLine, SCRIPT_LIMIT};
 pub use payload::PAYLOAD_ROOM;
-pub use printing::{Event, LastLine, print_answer, print_event, print_last, print_line};
+pub use printing::{Event, LastLine, digits_of, print_answer, print_event, print_last, print_line};
 pub use report::ReportWriter;
 pub use script::{Line, Unread, parse_line};

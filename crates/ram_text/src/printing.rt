@@ -8,7 +8,7 @@ mod parts;
 #[cfg(test)]
 mod tests;
 
-pub use commands::print_answer;
+pub use commands::{digits_of, print_answer};
 pub use events::print_event;
 pub use last_lines::print_last;
 pub use parts::print_line;

@@ -1,5 +1,5 @@
 -- What each call does in a state that refuses it, and what a drive stands for after it was turned off and on again.
-use Rattle.std.proofs.Common.{◌≡◌, ℕ, Option, Some, None, List, [], refl, sym, ap, ◌∙◌, subst}
+use Rattle.std.proofs.Common.{◌≡◌, ℕ, Option, Some, None, List, [], sym, subst}
 use Rattle.model_sectors.specs.Discs.{Standing, On, Off, candidates}
 use Rattle.model_sectors.specs.declared.ReadOut.TheVariants as reads
 use Rattle.model_sectors.specs.declared.PowerOut.{PowerOut}

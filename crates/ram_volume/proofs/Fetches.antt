@@ -25,10 +25,10 @@ home_below shape lists i place blocks valid within place_is size =
     omega arith
 
 -- one use leaves the other cells as they were
-use_dies : (old new : World) (place : ℕ) → IsUse old new place → IsSameOrDead (cell_at old.cells place) (cell_at new.cells place) → DiesAtMost old.cells new.cells place
+pub use_dies : (old new : World) (place : ℕ) → IsUse old new place → IsSameOrDead (cell_at old.cells place) (cell_at new.cells place) → DiesAtMost old.cells new.cells place
 use_dies old new place one left = record { others = one.others; left = left }
 
-off_dies : (old new : World) (place : ℕ) → IsOff old new → DiesAtMost old.cells new.cells place
+pub off_dies : (old new : World) (place : ℕ) → IsOff old new → DiesAtMost old.cells new.cells place
 off_dies old new place off = record {
   others = λ other ne. ap (λ (w : World). cell_at w.cells other) off.nothing;
   left = inl (ap (λ (w : World). cell_at w.cells place) off.nothing);

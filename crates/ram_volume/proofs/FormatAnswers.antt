@@ -1,5 +1,5 @@
 -- The answers of a format in each state: why they come, and what the drive stands for then.
-use Rattle.std.proofs.Common.{◌≡◌, ℕ, ◌⊎◌, Bool, true, false, Option, Some, None, List, [], refl}
+use Rattle.std.proofs.Common.{◌≡◌, ℕ, ◌⊎◌, Bool, false, Option, Some, None, List, [], refl}
 use Rattle.model_geometry.specs.Geometry.{Shape}
 use Rattle.model_lists.specs.declared.dds.PdlEntry.{PdlEntry}
 use Rattle.model_lists.specs.declared.dds.PdlKind.TheVariants as pdl_kinds
@@ -9,7 +9,6 @@ use Rattle.model_medium.specs.Exact.{Event}
 use Rattle.model_medium.specs.declared.WornBlock.{WornBlock}
 use Rattle.model_medium.specs.declared.ArmedCut.{ArmedCut}
 use Rattle.model_stops.specs.declared.Stop.TheVariants as stops
-use Rattle.model_volume.specs.Given.{GivesNone}
 use Rattle.model_places.specs.Places.{Lists}
 use Rattle.model_drive.specs.declared.Kind.{Kind}
 use Rattle.model_drive.specs.declared.Kind.TheVariants as kinds
@@ -18,7 +17,6 @@ use Rattle.model_drive.specs.declared.FormatOut.TheVariants as outs
 use Rattle.model_drive.specs.Shown.{Shown}
 use Rattle.model_drive.specs.FullFormats.{FullCause}
 use Rattle.model_drive.specs.Formats.{FormatCause}
-use Rattle.model_drive.proofs.Ends.{stop_off}
 use Rattle.model_drive.proofs.Powers.{KeepsRight}
 use Rattle.model_drive.proofs.FormatSteps.{format_step}
 use Rattle.ram_medium.specs.Laws.{ControlLaws, machine_shown}

@@ -1,5 +1,5 @@
 -- From the rule of a full format to the cause of its answer, one lemma for each.
-use Rattle.std.proofs.Common.{◌≡◌, ℕ, ◌+◌, ◌-◌, ◌*◌, ◌⊎◌, inl, inr, Bool, Option, Some, None, List, [], length, refl, sym, ap, ◌∙◌, subst, arith}
+use Rattle.std.proofs.Common.{◌≡◌, ℕ, ◌+◌, ◌-◌, ◌*◌, ◌⊎◌, inl, inr, Bool, Option, Some, None, List, [], length, refl, ap, subst, arith}
 use Rattle.std.specs.List.{Contains}
 use Rattle.model_geometry.specs.Geometry.{Shape, data_blocks}
 use Rattle.model_lists.specs.declared.dds.PdlEntry.{PdlEntry}
@@ -12,7 +12,7 @@ use Rattle.model_medium.specs.declared.WornBlock.{WornBlock}
 use Rattle.model_medium.specs.declared.ArmedCut.{ArmedCut}
 use Rattle.model_stops.specs.declared.Stop.{Stop}
 use Rattle.model_places.specs.Places.{Lists}
-use Rattle.model_formats.specs.Defects.{IsKept, kind_found, AreDefective}
+use Rattle.model_formats.specs.Defects.{IsKept, kind_found}
 use Rattle.model_drive.specs.declared.FormatOut.TheVariants as outs
 use Rattle.model_drive.specs.Shown.{Shown, WhenKnown}
 use Rattle.model_drive.specs.FullFormats.{uses_to_certify, uses_to_sdl, uses_of_format, FormatsAny, HasFoundDefective, AreFewDefective, StopsInFormat, FullCause}

@@ -1,15 +1,17 @@
 -- What a drive shows while it holds a state, before and after a call.
-use Rattle.std.proofs.Common.{◌≡◌, ℕ, true, IsSome, Option, Some, None, List, refl, sym, ap, ◌∙◌, subst}
+use Rattle.std.proofs.Common.{◌≡◌, ℕ, IsSome, Option, Some, None, List, sym, ap, subst}
 use Rattle.std.specs.Prelude.{is_some}
 use Rattle.model_sectors.specs.Discs.{Standing, Off, candidates}
 use Rattle.model_sectors.specs.declared.ReadOut.{ReadOut}
 use Rattle.model_sectors.specs.declared.PowerOut.{PowerOut}
 use Rattle.model_drive.specs.declared.WriteOut.{WriteOut}
+use Rattle.model_drive.specs.declared.ExpandOut.{ExpandOut}
 use Rattle.model_drive.specs.declared.Kind.{Kind}
 use Rattle.model_drive.specs.declared.FormatOut.{FormatOut}
 use Rattle.model_drive.specs.Shown.{Shown, StandsFor}
-use Rattle.model_drive.specs.Reads.{ReadStep}
+use Rattle.model_drive.specs.Reads.{ReadStep, VerifyStep}
 use Rattle.model_drive.specs.Writes.{WriteStep}
+use Rattle.model_drive.specs.Expands.{ExpandStep}
 use Rattle.model_drive.specs.Power.{PowerStep}
 use Rattle.model_drive.specs.Formats.{FormatStep}
 use Rattle.ram_medium.specs.declared.blocks.Medium.{Ghosts}
@@ -19,9 +21,11 @@ use Rattle.ram_medium.specs.declared.control.FailEnd.TheVariants as fails
 use Rattle.ram_volume.specs.Control.{FailOnDrive, FailStands}
 use Rattle.ram_volume.specs.Reading.{ReadSteps}
 use Rattle.ram_volume.specs.Writing.{WriteSteps}
+use Rattle.ram_volume.specs.Expanding.{ExpandSteps}
 use Rattle.ram_volume.specs.Powers.{PowerSteps}
 use Rattle.ram_volume.specs.Formats.{FormatSteps}
 use Rattle.ram_volume.specs.Shown.{shown_state}
+use Rattle.ram_volume.specs.Verifying.{VerifySteps}
 use Rattle.ram_volume.specs.Volume.{StandsForSome, shown_in}
 use Rattle.ram_volume.specs.declared.states.State.{State}
 use Rattle.ram_volume.proofs.Somes.{still_some}
@@ -63,11 +67,23 @@ module _ {M : Type 0} {c : ControlGhosts M} {d : Ghosts M} where
         subst (λ (x : Shown). ReadStep (StandsFor x) s lba n into out) (sym (held_is new is after put))
         (read s (subst (λ (x : Shown). StandsFor x s) (held_is old was before took) stands))
 
+    pub verify_held : (out : ReadOut) → VerifySteps (shown_state before) (shown_state after) out
+        → (s : Standing) → StandsFor (shown_in old was) s → VerifyStep (StandsFor (shown_in new is)) s out
+    verify_held out verified s stands =
+        subst (λ (x : Shown). VerifyStep (StandsFor x) s out) (sym (held_is new is after put))
+        (verified s (subst (λ (x : Shown). StandsFor x s) (held_is old was before took) stands))
+
     pub write_held : (lba n : ℕ) (from : List ℕ) (out : WriteOut) → WriteSteps (shown_state before) (shown_state after) lba n from out
         → (s : Standing) → StandsFor (shown_in old was) s → WriteStep (shown_in new is) (StandsFor (shown_in new is)) s lba n from out
     write_held lba n from out wrote s stands =
         subst (λ (x : Shown). WriteStep x (StandsFor x) s lba n from out) (sym (held_is new is after put))
         (wrote s (subst (λ (x : Shown). StandsFor x s) (held_is old was before took) stands))
+
+    pub expand_held : (sectors : ℕ) (out : ExpandOut) → ExpandSteps (shown_state before) (shown_state after) sectors out
+        → (s : Standing) → StandsFor (shown_in old was) s → ExpandStep (StandsFor (shown_in new is)) s sectors out
+    expand_held sectors out expanded s stands =
+        subst (λ (x : Shown). ExpandStep (StandsFor x) s sectors out) (sym (held_is new is after put))
+        (expanded s (subst (λ (x : Shown). StandsFor x s) (held_is old was before took) stands))
 
     pub power_held : (out : PowerOut) → PowerSteps (shown_state before) (shown_state after) out
         → (s : Standing) → StandsFor (shown_in old was) s → PowerStep (shown_in new is) (StandsFor (shown_in new is)) s out

@@ -1,6 +1,8 @@
 mod Buffers
 mod Completing
 mod Controlling
+mod ExpandCalls
+mod ExpandCauses
 mod Fetches
 mod FormatAnswers
 mod FormatCauses
@@ -14,6 +16,9 @@ mod Rests
 mod RewriteCauses
 mod SameKept
 mod TurningOff
+mod VerifyCalls
+mod VerifyShown
+mod VerifyTurns
 mod WriteEnds
 mod WriteTurns
 mod CallSteps

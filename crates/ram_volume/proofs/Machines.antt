@@ -1,5 +1,5 @@
 -- What a part of the work did to a controllable medium, with its arms and its armed cut.
-use Rattle.std.proofs.Common.{◌≡◌, ℕ, ◌≤◌, ◌<◌, Option, List, subst}
+use Rattle.std.proofs.Common.{◌≡◌, ℕ, Option, List, subst}
 use Rattle.model_medium.specs.World.{World}
 use Rattle.model_medium.specs.Machine.{Machine}
 use Rattle.model_medium.specs.Exact.{Event}

@@ -1,9 +1,8 @@
 -- What turning the power on shows, by how the mount ended.
 use Rattle.std.proofs.Common.{arith, ◌≡◌, ℕ, ◌+◌, Bool, true, false, IsTrue, Option, Some, None, List, [], refl, sym, ap, ◌∙◌, subst}
-use Rattle.std.specs.Option.{option_map_or}
 use Rattle.model_geometry.specs.Geometry.{Shape}
 use Rattle.model_lists.specs.Values.{Dds}
-use Rattle.model_medium.specs.World.{World, IsCut, IsOff}
+use Rattle.model_medium.specs.World.{World}
 use Rattle.model_medium.specs.Machine.{Machine}
 use Rattle.model_medium.specs.Exact.{Event, PowerOn, PowerOff}
 use Rattle.model_medium.specs.Reach.{Reach}
@@ -20,9 +19,8 @@ use Rattle.model_sectors.specs.declared.PowerOut.TheVariants as outs
 use Rattle.model_lists.specs.Values.{Sdl}
 use Rattle.model_places.specs.Places.{Lists}
 use Rattle.model_drive.proofs.Ends.{stop_off}
-use Rattle.model_drive.proofs.Powers.{KeepsRight, power_step}
+use Rattle.model_drive.proofs.Powers.{power_step}
 use Rattle.model_drive.specs.Shown.{Shown, capacity}
-use Rattle.model_drive.specs.Sound.{AreInUse}
 use Rattle.model_drive.specs.Repairs.{mount_most, RepairsList}
 use Rattle.model_drive.specs.Power.{turned_on, MountsAny, MountsLists, MountsNone, RepairsChosenDds, StopsInMount, MountLacksMemory}
 use Rattle.ram_medium.specs.Laws.{ControlLaws, machine_shown}

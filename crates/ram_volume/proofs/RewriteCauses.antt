@@ -1,5 +1,5 @@
 -- From the rule of a rewriting format to the cause of its answer, one lemma for each.
-use Rattle.std.proofs.Common.{◌≡◌, ℕ, ◌+◌, Option, Some, None, List, [], refl, subst}
+use Rattle.std.proofs.Common.{ℕ, ◌+◌, Option, List, [], refl}
 use Rattle.model_geometry.specs.Geometry.{Shape, dds_block, sdl_block}
 use Rattle.model_lists.specs.Texts.{IsDdsText, IsSdlText}
 use Rattle.model_medium.specs.World.{World}

@@ -1,6 +1,5 @@
 -- A drive stands for something after each call, as it did before.
 use Rattle.std.proofs.Common.{◌≡◌, ℕ, false, true, List, sym, ◌∙◌, subst, length}
-use Rattle.std.specs.Bool.{OnTrue}
 use Rattle.model_geometry.specs.Geometry.{Shape, total}
 use Rattle.model_medium.specs.Cells.{AreWhole}
 use Rattle.model_medium.specs.Machine.{Machine}
@@ -10,7 +9,7 @@ use Rattle.model_sectors.specs.declared.PowerOut.{PowerOut}
 use Rattle.model_drive.specs.declared.WriteOut.{WriteOut}
 use Rattle.model_drive.specs.declared.Kind.{Kind}
 use Rattle.model_drive.specs.declared.FormatOut.{FormatOut}
-use Rattle.model_drive.specs.Shown.{Shown, IsKnown, IsOn, StandsFor, cells_in}
+use Rattle.model_drive.specs.Shown.{Shown, IsKnown, IsOn, StandsFor}
 use Rattle.model_drive.specs.Runs.{Loaded, opened_drive, IsOpenedOn}
 use Rattle.model_drive.specs.Reads.{ReadCause}
 use Rattle.model_drive.specs.Writes.{WriteCause}

@@ -1,10 +1,12 @@
 pub mod Blocks
 pub mod Control
+pub mod Expanding
 pub mod Formats
 pub mod OneProof
 pub mod Powers
 pub mod Reading
 pub mod Shown
 pub mod Sounding
+pub mod Verifying
 pub mod Volume
 pub mod Writing

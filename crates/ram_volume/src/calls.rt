@@ -2,20 +2,24 @@
 
 ghost use Rattle.std.specs.Prelude.{◌≡◌, ◌*◌, ◌≤◌, length};
 ghost use Rattle.model_commands.specs.declared.TheConstants.{TRANSFER_LIMIT};
-ghost use Rattle.model_drive.specs.Reads.{ReadCause, ReadCompletes, ReadIsQuiet};
+ghost use Rattle.model_drive.specs.Reads.{ReadCause, ReadCompletes, ReadIsQuiet, VerifyCause};
 ghost use Rattle.model_drive.specs.Writes.{WriteCause, WriteCompletes};
 ghost use Rattle.model_drive.specs.Power.{PowerCause};
 ghost use Rattle.model_drive.specs.Formats.{FormatCause, FormatCompletes};
+ghost use Rattle.model_drive.specs.Expands.{ExpandCause, ExpandCompletes};
+ghost use Rattle.ram_sectors.specs.declared.TheConstants.{VERIFY_LIMIT};
 ghost use Rattle.ram_volume.specs.Shown.{shown_off, shown_state};
 ghost use Rattle.ram_volume.specs.Reading.{ReadSteps};
 ghost use Rattle.ram_volume.specs.Writing.{WriteSteps};
 ghost use Rattle.ram_volume.specs.Powers.{PowerSteps};
 ghost use Rattle.ram_volume.specs.Formats.{FormatSteps};
+ghost use Rattle.ram_volume.specs.Expanding.{ExpandSteps};
+ghost use Rattle.ram_volume.specs.Verifying.{VerifySteps};
 ghost use Rattle.ram_volume.specs.Volume.{StandsForSome};
 
 use crate::states::{PowerOn, PoweredOff, State};
 use ram_medium::MediumControl;
-use ram_sectors::{FormatOut, Kind, PowerOut, ReadOut, WriteOut};
+use ram_sectors::{ExpandOut, FormatOut, Kind, PowerOut, ReadOut, WriteOut};
 use std::alloc::Global;
 
 /// Reads sectors, where there is a formatted disc.
@@ -111,5 +115,36 @@ pub fn format_state<M: MediumControl>(
         State::Off(off) => (State::Off(off), FormatOut::Off),
         State::Ready(ready) => ready.format(alloc, kind),
         State::NotFormatted(bare) => bare.format(alloc, kind),
+    }
+}
+
+/// Verifies sectors, where there is a formatted disc.
+pub fn verify_state<M: MediumControl>(state: State<M>, lba: u32, n: u32) -> (State<M>, ReadOut)
+    requires few { n ≤ VERIFY_LIMIT }
+    ensures cause { VerifyCause (shown_state state) (shown_state result.0) lba n result.1 }
+    ensures step { VerifySteps (shown_state state) (shown_state result.0) result.1 }
+    ensures some { StandsForSome (shown_state state) → StandsForSome (shown_state result.0) }
+    ensures completes { ReadCompletes (shown_state state) (shown_state result.0) lba n result.1 }
+    ensures same_shape { (shown_state result.0).shape ≡ (shown_state state).shape }
+{
+    match state {
+        State::Off(off) => (State::Off(off), ReadOut::Off),
+        State::Ready(ready) => ready.verify(lba, n),
+        State::NotFormatted(bare) => (State::NotFormatted(bare), ReadOut::NotFormatted),
+    }
+}
+
+/// Gives the disc a capacity of so many sectors, where there is a formatted disc.
+pub fn expand_state<M: MediumControl>(state: State<M>, capacity: u32) -> (State<M>, ExpandOut)
+    ensures cause { ExpandCause (shown_state state) (shown_state result.0) capacity result.1 }
+    ensures step { ExpandSteps (shown_state state) (shown_state result.0) capacity result.1 }
+    ensures some { StandsForSome (shown_state state) → StandsForSome (shown_state result.0) }
+    ensures completes { ExpandCompletes (shown_state state) (shown_state result.0) capacity result.1 }
+    ensures same_shape { (shown_state result.0).shape ≡ (shown_state state).shape }
+{
+    match state {
+        State::Off(off) => (State::Off(off), ExpandOut::Off),
+        State::Ready(ready) => ready.expand(capacity),
+        State::NotFormatted(bare) => (State::NotFormatted(bare), ExpandOut::NotFormatted),
     }
 }

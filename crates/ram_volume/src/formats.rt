@@ -128,7 +128,7 @@ impl<M: MediumControl> NotFormatted<M> {
 
 impl<M: MediumControl> Ready<M> {
     /// A drive of these parts, with these lists in use.
-    fn under(
+    pub(crate) fn under(
         medium: M,
         geometry: Geometry,
         lists: Lists,
@@ -160,7 +160,7 @@ impl<M: MediumControl> Ready<M> {
     }
 
     /// The same, with an empty buffer.
-    fn over(
+    pub(crate) fn over(
         medium: M,
         geometry: Geometry,
         lists: Lists,

@@ -4,6 +4,7 @@
 
 mod calls;
 mod control;
+mod expanding;
 mod fetching;
 mod formats;
 mod holding;
@@ -12,6 +13,8 @@ mod memory;
 mod power;
 mod reading;
 mod states;
+mod telling;
+mod verifying;
 mod volume;
 mod writing;
 

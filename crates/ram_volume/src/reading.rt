@@ -81,7 +81,7 @@ fn read_parts<M: Medium>(
 }
 
 /// How a read ended that was not stopped: at the block after so many, where there is such a one.
-fn ended_at(geometry: &Geometry, lists: &Lists, request: Request, met: Option<u32>) -> ReadOut
+pub fn ended_at(geometry: &Geometry, lists: &Lists, request: Request, met: Option<u32>) -> ReadOut
     requires valid { AreValid geometry.now (lists_of lists.now) }
     requires inside { request.lba + request.n ≤ capacity_of geometry.now (lists_of lists.now) }
     requires covered { IfSome met (λ before. before < blocks_covered request.lba request.n) }
@@ -147,7 +147,7 @@ impl<M: MediumControl> Ready<M> {
     }
 
     /// Reads `n` sectors of 2,048 bytes from sector `lba` on into `into`, which has room for just these: `n` is at most
-    /// [`TRANSFER_LIMIT`](ram_requests::TRANSFER_LIMIT). One logical block after another is taken out of the buffer, or
+    /// [`TRANSFER_LIMIT`](ram_sectors::TRANSFER_LIMIT). One logical block after another is taken out of the buffer, or
     /// read from its home.
     ///
     /// - `Good`: all of them were read.

@@ -1,5 +1,5 @@
-//! Refused memory, which no row of `ram_volume_tests` meets. These tests meet it under `rt try --test --fail-alloc`; else they
-//! show that ample memory is enough.
+//! Refused memory, which no row of `ram_volume_tests` meets. These tests meet it under `rt try --test --fail-alloc`; without
+//! that they run as the rows do, where memory is ample.
 
 use super::*;
 use model_sectors::ReadOut;

@@ -4,12 +4,17 @@ ghost use Rattle.std.specs.Prelude.{IsSome};
 ghost use Rattle.std.proofs.Props.{props};
 ghost use Rattle.ram_volume.specs.Volume.{StandsForSome, shown_in};
 
-use crate::calls::{format_state, power_state, read_state, write_state};
+use crate::calls::{
+    expand_state, format_state, power_state, read_state, verify_state, write_state,
+};
 use crate::control::fail_state;
 use crate::holding::{put_in, take_out};
 use crate::states::{PoweredOff, State};
+use ram_bytes::Block;
 use ram_medium::{Arm, FailEnd, Fate, MediumControl};
-use ram_sectors::{Disc, FormatOut, Kind, PowerOut, ReadOut, Sectors, WriteOut};
+use ram_sectors::{
+    Disc, DriveCounts, ExpandOut, FormatOut, Kind, PowerOut, ReadOut, Sectors, WriteOut,
+};
 use ram_zones::Geometry;
 use std::alloc::Global;
 
@@ -155,5 +160,38 @@ impl<M: MediumControl> Disc for Volume<M> {
         let (state, out) = format_state(state, alloc, kind);
         put_in(&mut self.state, state);
         out
+    }
+
+    fn expand(&mut self, capacity: u32) -> ExpandOut {
+        let state = take_out(&mut self.state);
+        let (state, out) = expand_state(state, capacity);
+        put_in(&mut self.state, state);
+        out
+    }
+
+    fn verify(&mut self, lba: u32, n: u32) -> ReadOut {
+        let state = take_out(&mut self.state);
+        let (state, out) = verify_state(state, lba, n);
+        put_in(&mut self.state, state);
+        out
+    }
+
+    fn counts(&self) -> DriveCounts {
+        match &self.state {
+            Some(State::Off(off)) => off.counts(),
+            Some(State::Ready(ready)) => ready.counts(),
+            Some(State::NotFormatted(bare)) => bare.counts(),
+            None => unreachable!(),
+        }
+    }
+
+    fn dds_block(&self, into: &mut Block) -> bool {
+        match &self.state {
+            Some(State::Ready(ready)) => {
+                ready.dds_block(into);
+                true
+            }
+            Some(State::Off(_) | State::NotFormatted(_)) | None => false,
+        }
     }
 }

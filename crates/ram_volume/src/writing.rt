@@ -221,7 +221,7 @@ impl<M: MediumControl> Ready<M> {
     }
 
     /// Writes `n` sectors of 2,048 bytes from sector `lba` on, whose bytes are `from`: `n` is at most
-    /// [`TRANSFER_LIMIT`](ram_requests::TRANSFER_LIMIT), and `from` has `2,048 * n` bytes. One logical block after another,
+    /// [`TRANSFER_LIMIT`](ram_sectors::TRANSFER_LIMIT), and `from` has `2,048 * n` bytes. One logical block after another,
     /// in order, is written to its home and read back, which takes 2 uses of the medium; one that is covered in part is
     /// taken out of the buffer before, or read, 1 use. A block whose home is dead goes to the first free spare that is not,
     /// 2 uses for each that is tried, and the secondary list is updated, 8 uses. It takes no memory.

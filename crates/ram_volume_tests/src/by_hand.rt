@@ -230,6 +230,7 @@ pub fn answer_work(
             let list = List {
                 counter,
                 under,
+                ssa: 0,
                 entries,
             };
             write_list(alloc, taken, areas, &list, answer)

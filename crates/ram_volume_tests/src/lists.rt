@@ -13,12 +13,14 @@ const ENTRIES_AT: usize = 32;
 
 const ENTRY_BYTES: usize = 8;
 
-/// A secondary list without supplementary spares.
+/// A secondary list.
 #[derive(Drop)]
 pub struct List {
     pub counter: u32,
     /// The counter of the structure that it belongs to.
     pub under: u32,
+    /// How many supplementary spares there are.
+    pub ssa: u16,
     pub entries: Vec<Entry>,
 }
 
@@ -184,6 +186,7 @@ impl List {
         put(&mut text, 0, &BEGIN);
         put(&mut text, 4, &self.counter.to_be_bytes());
         put(&mut text, 8, &self.under.to_be_bytes());
+        put(&mut text, 12, &self.ssa.to_be_bytes());
         put(&mut text, 14, &count.to_be_bytes());
         put(&mut text, ENTRIES_AT, &entry_bytes(alloc, &self.entries)?);
         Ok(text)
@@ -196,6 +199,7 @@ impl List {
         let list = List {
             counter: number_at(bytes, 4, 4),
             under: number_at(bytes, 8, 4),
+            ssa: (number_at(bytes, 12, 2) & 0xffff) as u16,
             entries: entries_in(alloc, bytes.get(ENTRIES_AT..).unwrap_or(&[]), count)?,
         };
         let is_text = list.text(alloc)?.same(block);
@@ -233,11 +237,15 @@ fn end_run(run: Option<Run>, text: &mut String) -> Result<(), AllocError> {
     run.add_to(text)
 }
 
-/// Adds what a block says as a secondary list: its counter, that of its structure, and its entries.
+/// Adds what a block says as a secondary list: its counter, that of its structure, how many supplementary spares there are, if
+/// any, and its entries.
 pub fn add_list(alloc: Global, block: &Block, text: &mut String) -> Result<(), AllocError> {
     let Some(list) = List::of(alloc, block)? else {
         return text.push_str("no list");
     };
     write!(text, "{} under {}", list.counter, list.under)?;
+    if list.ssa > 0 {
+        write!(text, " with {}", list.ssa)?;
+    }
     list.add_runs(text)
 }

@@ -38,6 +38,10 @@ pub enum Call {
     Format(Kind),
     Write { lba: u32, n: u32, byte: u8 },
     Read { lba: u32, n: u32 },
+    Expand { capacity: u32 },
+    Verify { lba: u32, n: u32 },
+    Counts,
+    Structure,
 }
 
 /// What happens to the medium.
@@ -149,6 +153,15 @@ fn call_of(words: &[&str]) -> Option<Call> {
             lba: number_of(lba)?,
             n: number_of(n)?,
         }),
+        ["expand", capacity] => Some(Call::Expand {
+            capacity: number_of(capacity)?,
+        }),
+        ["verify", lba, n] => Some(Call::Verify {
+            lba: number_of(lba)?,
+            n: number_of(n)?,
+        }),
+        ["counts"] => Some(Call::Counts),
+        ["structure"] => Some(Call::Structure),
         _ => None,
     }
 }

@@ -123,8 +123,9 @@ fn print_info<K: Sink>(
     }
 }
 
-/// The key, the code and its qualifier, parted by slashes.
-fn digits_of(sense: &Sense) -> [u8; 7]
+/// The key, the code and its qualifier of a sense in lower-case hexadecimal digits, parted by slashes: `K/AA/QQ`. (This
+/// project's own, of the numbers of INCITS MMC.)
+pub fn digits_of(sense: &Sense) -> [u8; 7]
     ensures { result ≡ sense_code sense.now }
 {
     [

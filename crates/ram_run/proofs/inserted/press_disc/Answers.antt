@@ -10,12 +10,12 @@ returns-in-Failed-clause-step g c s h =
     press_stopped g.D.Sectors g.D.Image.Image s (shape_of c.args.zones c.args.scale c.args.psa) (subst (λ (z : Shape). IsLawful z) c.in-Ok.ensures.0 c.in-Ok.ensures.1)
     (g.D.Image.Image.bytes c.into_image-image.result) c.press.new.image (c.into_image-image.ensures.left s h) c.in-Failed.ensures.0
 
-pub returns-in-Ok-open-clause-step : goal.returns-in-Ok-open-clause-step
-returns-in-Ok-open-clause-step g c s h =
+pub returns-in-Ok-insert-clause-step : goal.returns-in-Ok-insert-clause-step
+returns-in-Ok-insert-clause-step g c s h =
     press_opened g.D.Sectors g.D.Image.Image s (shape_of c.args.zones c.args.scale c.args.psa) (subst (λ (z : Shape). IsLawful z) c.in-Ok.ensures.0 c.in-Ok.ensures.1)
     (g.D.Image.Image.bytes c.into_image-image.result) c.press.new.image (c.into_image-image.ensures.left s h)
     (subst (λ (z : Shape). WhereKnown (g.D.Image.Image.bytes c.into_image-image.result) (g.D.Image.Image.bytes c.press.new.image) (PressesImage z)) c.in-Ok.ensures.0 c.in-Done.ensures.0)
-    c.new-in-Ok-open.result c.new-in-Ok-open.ensures.host (rw c.new-in-Ok-open.ensures.disc c.in-Ok-open.ensures.opened)
+    c.in-Ok-insert.target c.in-Ok-insert.ensures.host_is c.in-Ok-insert.ensures.opens.opened
 
 pub returns-in-Err-clause-step : goal.returns-in-Err-clause-step
 returns-in-Err-clause-step g c s h =

@@ -1,5 +1,5 @@
 use Rattle.std.proofs.Common.{ap, sym, subst}
-use Rattle.model_drive.specs.Shown.{Shown, StandsFor}
+use Rattle.model_drive.specs.Shown.{Shown}
 use Rattle.model_drive.specs.Power.{PowerCause}
 use Rattle.ram_volume.specs.Shown.{shown_off, shown_bare, shown_ready, shown_state}
 use Rattle.ram_volume.proofs.CallSteps.{power_cause_again, power_steps_again, power_steps_as}

@@ -3,7 +3,6 @@ use Rattle.model_drive.specs.declared.FormatOut.TheVariants as outs
 use Rattle.model_drive.specs.Shown.{Shown}
 use Rattle.model_drive.specs.Formats.{FormatCause}
 use Rattle.model_volume.specs.Given.{GivesNone}
-use Rattle.model_medium.specs.World.{World}
 use Rattle.ram_lists.specs.Lists.{lists_of}
 use Rattle.ram_volume.specs.Shown.{shown_bare}
 use Rattle.ram_volume.specs.Formats.{FormatSteps}

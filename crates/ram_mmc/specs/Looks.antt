@@ -1,5 +1,5 @@
 -- What the parts of a target do: for the calls under `execute`. (This project's own, as all here.)
-use Rattle.std.specs.Prelude.{◌≡◌, ℕ, ⊤, Option, Some, None}
+use Rattle.std.specs.Prelude.{◌≡◌, ℕ, ⊤, Bool, IsTrue, Option, Some, None}
 use Rattle.model_sectors.specs.Discs.{Standing}
 use Rattle.model_drive.specs.Shown.{Shown, IsOn, IsFormatted, capacity}
 use Rattle.ram_cdb.specs.declared.commands.Command.{Command}
@@ -8,20 +8,10 @@ use Rattle.model_target.specs.Steps.{Untouched}
 use Rattle.ram_mmc.specs.declared.target.Look.{Look}
 use Rattle.ram_mmc.specs.declared.target.Look.TheVariants as looks
 
--- a command of the table of those that are done at this stage, with the format that expands, which is always refused
-abbrev pub IsListed : Command → Type 0
-IsListed (commands.FormatCapacities alloc) = ⊥
-IsListed (commands.Verify lba n) = ⊥
-IsListed (commands.Structure format alloc) = ⊥
-IsListed _ = ⊤
-
--- a command that is done at this stage, where nothing is against it
-abbrev pub IsServed : Command → Type 0
-IsServed (commands.Expand sectors) = ⊥
-IsServed (commands.FormatCapacities alloc) = ⊥
-IsServed (commands.Verify lba n) = ⊥
-IsServed (commands.Structure format alloc) = ⊥
-IsServed _ = ⊤
+-- a command that gives what the disc says of itself has a formatted disc
+abbrev pub HasItsFormat : (formatted : Bool) → Command → Type 0
+HasItsFormat formatted (commands.Structure format alloc) = IsTrue formatted
+HasItsFormat formatted _ = ⊤
 
 -- the power is on, and the disc has so many sectors, or is not formatted
 abbrev pub IsFormattedAs : Shown → Option ℕ → Type 0

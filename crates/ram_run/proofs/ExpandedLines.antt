@@ -1,0 +1,68 @@
+-- What an expansion that was answered Good leaves of the disc.
+use Rattle.std.specs.Prelude.{◌≡◌, ℕ, ◌+◌, ◌*◌, ◌<◌, ◌≤◌, List, length}
+use Rattle.std.proofs.Common.{arith, refl, sym, ◌∙◌, subst, length-take}
+use Rattle.model_sectors.specs.Discs.{Standing, On, Off}
+use Rattle.model_drive.specs.declared.ExpandOut.{ExpandOut}
+use Rattle.model_drive.specs.declared.ExpandOut.TheVariants as expands
+use Rattle.model_drive.specs.Expands.{ExpandStep, shortened}
+use Rattle.model_drive.specs.Shown.{Shown}
+use Rattle.ram_sense.specs.declared.answer.Answer.TheVariants as answers
+use Rattle.ram_cdb.specs.declared.commands.Command.TheVariants as commands
+use Rattle.model_target.specs.Steps.{IsExpanded, expand_answer}
+use Rattle.ram_run.specs.States.{State, Unopened, Disc}
+use Rattle.ram_run.specs.Run.{AnsweredLine, IsStep}
+use Rattle.ram_run.specs.Acknowledged.{HasSector, StandsWithSector, HasNow, WasDone}
+use Rattle.ram_run.proofs.DoneLines.{Done, line_done}
+use Rattle.ram_run.proofs.Shortened.{front_sector}
+
+good_expand : (out : ExpandOut) → answers.Good ≡ expand_answer out → out ≡ expands.Good
+good_expand expands.Good is = refl
+good_expand expands.NotFormatted is = absurd cc
+good_expand (expands.Refused known) is = absurd cc
+good_expand (expands.NoUpdate counter) is = absurd cc
+good_expand expands.Cut is = absurd cc
+good_expand expands.Off is = absurd cc
+good_expand expands.Fault is = absurd cc
+
+expand_good : (old new : Shown) (s t : Standing) (sectors : ℕ) (data_in : List ℕ) → IsExpanded old new (λ x. x ≡ s) (λ x. x ≡ t) sectors answers.Good data_in → ExpandStep (λ x. x ≡ t) s sectors expands.Good
+expand_good old new s t sectors data_in p =
+    subst (λ (o : ExpandOut). ExpandStep (λ x. x ≡ t) s sectors o) (good_expand p.out p.answer_is) (p.step s refl)
+
+-- a sector below the new capacity is left, with its bytes
+short_has : (disc : List ℕ) (sectors at : ℕ) (bytes : List ℕ) → at < sectors → HasSector disc at bytes → HasSector (shortened sectors disc) at bytes
+short_has disc sectors at bytes below has =
+    let inside : 2048 * (at + 1) ≤ length disc = has.inside in
+    let within : 2048 * (at + 1) ≤ length (shortened sectors disc) = omega (arith, below, inside, length-take (2048 * sectors) disc) in
+    record { inside = within; bytes_are = front_sector disc sectors at within ∙ has.bytes_are }
+
+-- and no other
+short_lacks : (disc : List ℕ) (sectors at : ℕ) (bytes : List ℕ) → sectors ≤ at → HasSector (shortened sectors disc) at bytes → ⊥
+short_lacks disc sectors at bytes past has =
+    let inside : 2048 * (at + 1) ≤ length (shortened sectors disc) = has.inside in absurd (omega (arith, past, inside, length-take (2048 * sectors) disc))
+
+module _ (t : Standing) (sectors at : ℕ) (bytes : List ℕ) where
+  stays : (s : Standing) → ExpandStep (λ x. x ≡ t) s sectors expands.Good → at < sectors → StandsWithSector s at bytes → StandsWithSector t at bytes
+  stays (On disc) step below has = subst (λ (x : Standing). StandsWithSector x at bytes) step (short_has disc sectors at bytes below has)
+  stays (Off discs) step below has = absurd has
+
+  gone : (s : Standing) → ExpandStep (λ x. x ≡ t) s sectors expands.Good → sectors ≤ at → StandsWithSector t at bytes → ⊥
+  gone (On disc) step past has = short_lacks disc sectors at bytes past (subst (λ (x : Standing). StandsWithSector x at bytes) (sym step) has)
+  gone (Off discs) step past has = absurd step
+
+pub line_leaves : (s t : State) (event : AnsweredLine) (sectors at : ℕ) (bytes : List ℕ) → IsStep s event t → WasDone event (commands.Expand sectors) → at < sectors → HasNow s at bytes → HasNow t at bytes
+line_leaves s t event sectors at bytes step done below has = by_states s t (line_done s t event (commands.Expand sectors) step done) has
+  where
+    by_states : (s t : State) → Done s t (commands.Expand sectors) event.payload event.data_in → HasNow s at bytes → HasNow t at bytes
+    by_states (Unopened image) t is has = absurd is
+    by_states (Disc s) (Unopened image) is has = absurd is
+    by_states (Disc s) (Disc t) is has =
+        stays t.disc.standing sectors at bytes s.disc.standing (expand_good s.disc.shown t.disc.shown s.disc.standing t.disc.standing sectors event.data_in is.done) below has
+
+pub line_takes : (s t : State) (event : AnsweredLine) (sectors at : ℕ) (bytes : List ℕ) → IsStep s event t → WasDone event (commands.Expand sectors) → sectors ≤ at → HasNow t at bytes → ⊥
+line_takes s t event sectors at bytes step done past has = by_states s t (line_done s t event (commands.Expand sectors) step done) has
+  where
+    by_states : (s t : State) → Done s t (commands.Expand sectors) event.payload event.data_in → HasNow t at bytes → ⊥
+    by_states (Unopened image) t is has = absurd is
+    by_states (Disc s) (Unopened image) is has = absurd is
+    by_states (Disc s) (Disc t) is has =
+        gone t.disc.standing sectors at bytes s.disc.standing (expand_good s.disc.shown t.disc.shown s.disc.standing t.disc.standing sectors event.data_in is.done) past has

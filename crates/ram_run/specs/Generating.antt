@@ -1,0 +1,142 @@
+-- What stands with each status where a script was drawn from a number. For the program's form that runs such a script.
+use Rattle.std.specs.Prelude.{◌≡◌, ℕ, ◌⊎◌, Bool, true, Option, Some, Result, Ok, Err, List, [], take}
+use Rattle.std.specs.Io.KnownBytes.{append_known}
+use Rattle.model_counts.specs.Counts.{Rose}
+use Rattle.ram_generate.specs.Script.{script_from}
+use Rattle.ram_outside.specs.Opener.{opener_view}
+use Rattle.ram_outside.specs.declared.opener.Opener.{Ghosts as Openers}
+use Rattle.ram_outside.specs.declared.sink.Sink.{Ghosts as Sinks}
+use Rattle.ram_text.specs.declared.printing.LastLine.{LastLine}
+use Rattle.ram_text.specs.declared.printing.LastLine.TheVariants as lasts
+use Rattle.ram_run.specs.declared.state.Tally.{Tally}
+use Rattle.ram_run.specs.declared.status.Status.{Status}
+use Rattle.ram_run.specs.declared.status.Status.TheVariants as statuses
+use Rattle.ram_run.specs.declared.stopped.Stopped.TheVariants as stopped
+use Rattle.ram_run.specs.Replies.{Outcome}
+use Rattle.ram_run.specs.Inserted.{LeavesImage}
+use Rattle.ram_run.specs.RunCounts.{counts_of}
+use Rattle.ram_run.specs.Progress.{Beginning, SoFar, IsTallied, IsLastIfAny, Ending, last_line}
+use Rattle.ram_run.specs.Endings.{ComesToThis, IsOfScript, IsUnopened, bytes_returned, status_of}
+use Rattle.ram_run.specs.Summary.{summary_text}
+use Rattle.ram_run.specs.Words.{Surroundings, IsNotOpened, AsksOnce}
+
+-- What a run of the script of this number begins with: no report, and the image that is opened next. The opener tells
+-- what is handed back. (This project's own, as all here.)
+pub record BeginsFrom {I : Type 0} (bytes_of : I → Option (List ℕ)) (seed : ℕ) (first : Beginning) (before : Surroundings I)
+    (returned_known : Bool) : Type 0 where
+  pub script_is : first.script ≡ script_from seed
+  pub report_is : first.report ≡ []
+  pub image : I
+  pub next_is : before.opener.next ≡ Some image
+  pub image_is : bytes_of image ≡ Some first.image
+  pub returned_known_is : returned_known ≡ true
+
+-- The script was answered to its end: the tally is that of the lines, and the image is as they leave it.
+pub record IsAnsweredWhole (first : Beginning) (tally : Tally) (image : Option (List ℕ)) : Type 0 where
+  pub far : SoFar first
+  pub ended : far.rest ≡ []
+  pub tallied : IsTallied far tally
+  pub image_is : LeavesImage far.now image
+
+-- The lines ended between two of them, for the reason that this last line tells, and the image is as they leave it.
+pub record IsLeftBetween (first : Beginning) (image : Option (List ℕ)) (last : Option LastLine) : Type 0 where
+  pub far : SoFar first
+  pub last_is : IsLastIfAny far last
+  pub image_is : LeavesImage far.now image
+
+-- The next line came out so, and the image is as it leaves it.
+pub record IsLeftInLine (first : Beginning) (image : Option (List ℕ)) (outcome : Outcome) : Type 0 where
+  pub far : SoFar first
+  pub line : ComesToThis far image outcome
+
+-- the run did not begin, and the image has the bytes that it had, or the next line came out so
+abbrev pub IsLeftBy : Beginning → Option (List ℕ) → Outcome → Type 0
+IsLeftBy first image outcome = (image ≡ Some first.image) ⊎ IsLeftInLine first image outcome
+
+-- How the lines end, and what they leave of the image.
+abbrev pub LeavesBy : Beginning → Tally → Option (List ℕ) → Ending → Type 0
+LeavesBy first tally image (Ok done) = IsAnsweredWhole first tally image
+LeavesBy first tally image (Err stopped.ImageFault) = IsLeftBy first image (Err stopped.ImageFault)
+LeavesBy first tally image (Err stopped.NoMemory) = IsLeftBy first image (Err stopped.NoMemory)
+LeavesBy first tally image ending = IsLeftBetween first image (last_line tally ending)
+
+-- Where the summary does not come: what the image is like, by the status. Memory may run out at any time.
+abbrev pub StopsWith : Beginning → Option (List ℕ) → Status → Type 0
+StopsWith first image statuses.Script = (last : LastLine) × IsOfScript last × IsLeftBetween first image (Some last)
+StopsWith first image statuses.NotADisc = (line : ℕ) × IsLeftBetween first image (Some (lasts.NotADisc line))
+StopsWith first image statuses.ImageFault = IsLeftBy first image (Err stopped.ImageFault)
+StopsWith first image statuses.NoMemory =
+    IsLeftBy first image (Err stopped.NoMemory) ⊎ ((far : SoFar first) × LeavesImage far.now image)
+StopsWith first image _ = ⊥
+
+-- how the lines ended: whole, or told by a status
+abbrev pub EndsAs : Beginning → Tally → Option (List ℕ) → Result (Unit {0}) Status → Type 0
+EndsAs first tally image (Ok done) = IsAnsweredWhole first tally image
+EndsAs first tally image (Err status) = StopsWith first image status
+
+-- The status that the lines' end is told by: where the report that is kept aside has no room, that of no memory.
+abbrev pub ended_by : Ending → Result (Unit {0}) Status
+ended_by (Ok done) = Ok tt
+ended_by (Err stopped.SinkFault) = Err statuses.NoMemory
+ended_by ending = Err (status_of ending)
+
+-- the image's count by how the lines ended: it rose exactly where the status tells so
+abbrev pub EndCount : ℕ → ℕ → Result (Unit {0}) Status → Type 0
+EndCount faults faults' (Err statuses.ImageFault) = Rose faults faults'
+EndCount faults faults' (Err statuses.SinkFault) = ⊥
+EndCount faults faults' (Err statuses.SourceFault) = ⊥
+EndCount faults faults' (Err statuses.Usage) = ⊥
+EndCount faults faults' _ = faults' ≡ faults
+
+-- The whole script was answered, and the image is as it leaves it; this beginning of the summary, or all of it, was written.
+pub record IsSummed (seed : ℕ) (first : Beginning) (before after image : Option (List ℕ))
+    (part : List ℕ → List ℕ) : Type 0 where
+  pub far : SoFar first
+  pub ended : far.rest ≡ []
+  pub image_is : LeavesImage far.now image
+  pub written_is : after ≡ append_known before (part (summary_text seed far.events))
+
+-- What stands with each status: what was written before and after, and what the image is like. Nothing is written where the
+-- summary does not come.
+abbrev pub GeneratedWith : (seed : ℕ) → Beginning → (before after image : Option (List ℕ)) → Status → Type 0
+GeneratedWith seed first before after image statuses.Done = IsSummed seed first before after image (λ text. text)
+GeneratedWith seed first before after image statuses.SinkFault =
+    (n : ℕ) × IsSummed seed first before after image (take n)
+GeneratedWith seed first before after image status = (after ≡ before) × StopsWith first image status
+
+-- The same, by what is known before and after; or no image was opened.
+abbrev pub Generates : {I : Type 0} (bytes_of : I → Option (List ℕ)) (seed : ℕ) → Beginning
+    → (old new : Surroundings I) → Status → Type 0
+Generates bytes_of seed first old new status =
+    GeneratedWith seed first old.written new.written (bytes_returned bytes_of new.opener.returned) status
+    ⊎ (IsUnopened status × IsNotOpened old new)
+
+-- the opener was asked for this name, as for a run; the source of the program's script was not touched
+pub record AsksUnread {I : Type 0} (old new : Surroundings I) (name : List ℕ) (status : Status) : Type 0 where
+  pub asks : AsksOnce old new name status
+  pub left : new.left ≡ old.left
+  pub count : new.counts.source ≡ old.counts.source
+
+-- a text is written, by the status; with that of no memory nothing is
+abbrev pub TellsOrNot : Option (List ℕ) → Option (List ℕ) → List ℕ → Status → Type 0
+TellsOrNot written written' text statuses.Done = written' ≡ append_known written text
+TellsOrNot written written' text statuses.SinkFault = (n : ℕ) × (written' ≡ append_known written (take n text))
+TellsOrNot written written' text statuses.NoMemory = written' ≡ written
+TellsOrNot written written' text _ = ⊥
+
+-- the sink's count then
+abbrev pub TellsOrNotCount : ℕ → ℕ → Status → Type 0
+TellsOrNotCount faults faults' statuses.Done = faults' ≡ faults
+TellsOrNotCount faults faults' statuses.SinkFault = Rose faults faults'
+TellsOrNotCount faults faults' statuses.NoMemory = faults' ≡ faults
+TellsOrNotCount faults faults' _ = ⊥
+
+module _ {K O I : Type 0} (left : Option (List ℕ)) (source : ℕ) (sinks : Sinks K) (openers : Openers O I) where
+  -- the surroundings of sink and opener, beside a source that has this left and has failed so often
+  abbrev pub beside : K → O → Surroundings I
+  beside report opener = record {
+    left = left;
+    written = sinks.written report;
+    opener = opener_view (openers.next opener) (openers.returned opener) (openers.asked opener) (openers.faults opener);
+    counts = counts_of source (sinks.faults report) (openers.faults opener);
+  }

@@ -1,0 +1,19 @@
+//! A text that is written to the report as it is.
+ghost use Rattle.ram_run.specs.Endings.{IsNoUsage};
+ghost use Rattle.ram_run.specs.Words.{WritesText, TextCount};
+
+use crate::status::Status;
+use ram_outside::Sink;
+use ram_text::hand_over;
+
+/// Writes a text to the report. It takes no memory.
+pub fn tell<K: Sink>(report: &mut K, text: &[u8]) -> Status
+    ensures other { IsNoUsage result }
+    ensures writes { WritesText (K.written report.old) (K.written report.new) text.now result }
+    ensures count { TextCount (K.faults report.old) (K.faults report.new) result }
+{
+    match hand_over(report, text) {
+        Ok(()) => Status::Done,
+        Err(_) => Status::SinkFault,
+    }
+}

@@ -1,0 +1,13 @@
+use Rattle.std.proofs.Common.{ap}
+use Rattle.ram_volume.specs.Shown.{shown_off, shown_ready, shown_state}
+use Rattle.ram_volume.proofs.VerifyCalls.{verify_steps_off, verify_keeps}
+use Rattle.ram_volume.proofs.calls.verify_state.Goals as goal
+
+pub returns-in-Off-clause-step : goal.returns-in-Off-clause-step
+returns-in-Off-clause-step g c =
+    verify_steps_off (shown_state c.args.state) (shown_off c.in-Off.off) (ap (λ state. shown_state state) c.in-Off.is) c.in-Off.off.off
+
+pub returns-in-Ready-clause-some : goal.returns-in-Ready-clause-some
+returns-in-Ready-clause-some g c =
+    verify_keeps (shown_state c.args.state) (shown_ready c.in-Ready.ready) (shown_state c.verify.result.0) (ap (λ state. shown_state state) c.in-Ready.is)
+    c.args.lba c.args.n c.verify.result.1 c.verify.ensures.cause c.verify.ensures.step
