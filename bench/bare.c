@@ -1,7 +1,12 @@
-/* The bare system calls for the same blocks: each is written and read back, or read, and nothing is looked at.
-   usage: bare write|read|look FILE BLOCKS TURNS     prints the seconds that the calls took
+/* The bare system calls for some blocks, and the least that a drive of this image does with them.
+   usage: bare WHAT FILE BLOCKS TURNS GROUP     prints the seconds that it took
 
-   look: each block is read, moved once, and each byte of a sector is compared with the first. */
+   write         each block is written and read back, and nothing is looked at
+   read          each block is read, and nothing is looked at
+   least-write   the data of a group of blocks are made; each is moved into a block of its own; its state byte is read and
+                 written, its data are written, and its state byte is written again; then state byte and data are read back
+   least-read    room for a group of blocks is zeroed; the state byte and the data of each are read, and moved there once;
+                 then each byte of a sector is compared with the next one, as for its line in the report */
 #include <fcntl.h>
 #include <stdio.h>
 #include <stdlib.h>
@@ -11,42 +16,97 @@
 
 enum { SECTOR_BYTES = 2048, BLOCK_BYTES = 32768, HEADER_BYTES = 16 };
 
-static char block[BLOCK_BYTES], read_back[BLOCK_BYTES], moved_on[BLOCK_BYTES];
+static char block[BLOCK_BYTES], read_back[BLOCK_BYTES];
 
 static volatile int fills;
 
-static void move(ssize_t moved) {
-    if (moved != BLOCK_BYTES) {
+static int file;
+
+static long blocks, group;
+
+static void moved(ssize_t bytes, ssize_t due) {
+    if (bytes != due) {
         perror("bare");
         exit(1);
     }
 }
 
-static void look(void) {
-    memcpy(moved_on, read_back, BLOCK_BYTES);
-    for (char *sector = moved_on; sector < moved_on + BLOCK_BYTES; sector += SECTOR_BYTES)
+static off_t data_place(long i) {
+    return HEADER_BYTES + blocks + i * BLOCK_BYTES;
+}
+
+static void write_data(long i) {
+    moved(pwrite(file, block, BLOCK_BYTES, data_place(i)), BLOCK_BYTES);
+}
+
+static void read_data(long i) {
+    moved(pread(file, read_back, BLOCK_BYTES, data_place(i)), BLOCK_BYTES);
+}
+
+static void write_state(long i, char state) {
+    moved(pwrite(file, &state, 1, HEADER_BYTES + i), 1);
+}
+
+static void read_state(long i) {
+    char state;
+    moved(pread(file, &state, 1, HEADER_BYTES + i), 1);
+}
+
+static void least_write(char *data, long first) {
+    memset(data, (char)first, group * BLOCK_BYTES);
+    for (long k = 0; k < group; k++) {
+        memcpy(block, data + k * BLOCK_BYTES, BLOCK_BYTES);
+        read_state(first + k);
+        write_state(first + k, 2);
+        write_data(first + k);
+        write_state(first + k, 1);
+        read_state(first + k);
+        read_data(first + k);
+    }
+}
+
+static void least_read(char *data, long first) {
+    memset(data, 0, group * BLOCK_BYTES);
+    for (long k = 0; k < group; k++) {
+        read_state(first + k);
+        read_data(first + k);
+        memcpy(data + k * BLOCK_BYTES, read_back, BLOCK_BYTES);
+    }
+    for (char *sector = data; sector < data + group * BLOCK_BYTES; sector += SECTOR_BYTES)
         fills += memcmp(sector, sector + 1, SECTOR_BYTES - 1) == 0;
 }
 
+static void once(const char *what, char *data, long first) {
+    if (strcmp(what, "least-write") == 0)
+        least_write(data, first);
+    else if (strcmp(what, "least-read") == 0)
+        least_read(data, first);
+    else
+        for (long i = first; i < first + group; i++) {
+            if (strcmp(what, "write") == 0)
+                write_data(i);
+            read_data(i);
+        }
+}
+
 int main(int count, char **words) {
-    if (count != 5)
+    if (count != 6)
         return 2;
-    int writes = strcmp(words[1], "write") == 0, looks = strcmp(words[1], "look") == 0;
-    int file = open(words[2], O_RDWR | O_CREAT, 0666);
-    long blocks = atol(words[3]), turns = atol(words[4]);
+    file = open(words[2], O_RDWR | O_CREAT, 0666);
+    blocks = atol(words[3]);
+    group = atol(words[5]);
+    long turns = atol(words[4]);
+    char *data = calloc(group, BLOCK_BYTES);
     memset(block, 0xaa, BLOCK_BYTES);
-    for (long i = 0; i < blocks; i++)
-        move(pwrite(file, block, BLOCK_BYTES, HEADER_BYTES + i * BLOCK_BYTES));
+    for (long i = 0; i < blocks; i++) {
+        write_state(i, 1);
+        write_data(i);
+    }
     struct timespec start, end;
     clock_gettime(CLOCK_MONOTONIC, &start);
     for (long turn = 0; turn < turns; turn++)
-        for (long i = 0; i < blocks; i++) {
-            if (writes)
-                move(pwrite(file, block, BLOCK_BYTES, HEADER_BYTES + i * BLOCK_BYTES));
-            move(pread(file, read_back, BLOCK_BYTES, HEADER_BYTES + i * BLOCK_BYTES));
-            if (looks)
-                look();
-        }
+        for (long first = 0; first + group <= blocks; first += group)
+            once(words[1], data, first);
     clock_gettime(CLOCK_MONOTONIC, &end);
     printf("%.6f\n", (double)(end.tv_sec - start.tv_sec) + (double)(end.tv_nsec - start.tv_nsec) / 1e9);
     return 0;

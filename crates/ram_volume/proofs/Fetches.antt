@@ -15,7 +15,7 @@ use Rattle.model_places.specs.Places.{Lists, logical_count, home_of}
 use Rattle.model_places.specs.Valid.{AreValid}
 use Rattle.model_places.proofs.Homes.{home_inside}
 use Rattle.ram_medium.specs.WholeBlocks.{EndedRead, StoppedRead}
-use Rattle.ram_volume.specs.Blocks.{DiesAtMost, FromHome, CannotBeRead, Fetches, FetchStopped}
+use Rattle.ram_volume.specs.Blocks.{DiesAtMost, FromHome, IsFetched, CannotBeRead, Fetches, FetchStopped}
 use Rattle.ram_volume.proofs.Buffers.{same_in_some, newest_twice}
 
 -- the home of a logical block is a block of the medium
@@ -44,6 +44,11 @@ module _ {M : Type 0} (world : M → World) (reaches : M → M → ℕ → Type 
   }
   read_it false e rule continues = absurd (cc)
 
+  -- it was read, and put into the buffer
+  pub read_in : (found : Bool) → found ≡ true → EndedRead (world old) (world new) place into bytes found → Continues world reaches old new 1 → (held' : List (ℕ × List ℕ)) → held' ≡ with_newest i bytes held
+      → IsFetched world reaches old new held i place bytes held'
+  read_in found e rule continues held' is = record { buffer_is = is; came = inr (read_it found e rule continues); few = few }
+
   -- it was put into the buffer, and is found there
   pub fetched : (found : Bool) → found ≡ true → EndedRead (world old) (world new) place into bytes found → Continues world reaches old new 1
       → (put : List (ℕ × List ℕ)) → put ≡ with_newest i bytes held → (room out : List ℕ) (held' : List (ℕ × List ℕ)) (there : Bool)
@@ -60,7 +65,7 @@ module _ {M : Type 0} (world : M → World) (reaches : M → M → ℕ → Type 
       absurd (let none : Some bytes ≡ None = sym (bytes_at_used i bytes held) ∙ sym (ap (bytes_at i) put_is) ∙ looked.0 in cc)
 
   pub unread : (found : Bool) → found ≡ false → EndedRead (world old) (world new) place into bytes found → Continues world reaches old new 1
-      → CannotBeRead world reaches old new held i place bytes held
+      → CannotBeRead world reaches old new held i place held
   unread true e rule continues = absurd (cc)
   unread false e rule continues = record {
     continues = continues;

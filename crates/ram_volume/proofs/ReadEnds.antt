@@ -55,8 +55,8 @@ module _ {M : Type 0} (world : M → World) (block_count : M → ℕ) (reaches :
     }
 
     -- and its home has no whole bytes
-    module _ (valid : AreValid shape lists) (inside : lba + n ≤ 16 * logical_count shape lists) (held'' : List (ℕ × List ℕ)) (bytes : List ℕ)
-        (did : CannotBeRead world reaches mid new held' i place bytes held'') where
+    module _ (valid : AreValid shape lists) (inside : lba + n ≤ 16 * logical_count shape lists) (held'' : List (ℕ × List ℕ))
+        (did : CannotBeRead world reaches mid new held' i place held'') where
       within : i < logical_count shape lists
       within = covered_inside lba n k (logical_count shape lists) inside covered
 

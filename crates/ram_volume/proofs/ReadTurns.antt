@@ -140,16 +140,16 @@ module _ {M : Type 0} (world : M → World) (block_count : M → ℕ) (reaches :
         is_block_of disc stood = turn.is_block disc stood within
 
   -- one block more was read
-  pub read_more : (old mid new : M) (held held' held'' : List (ℕ × List ℕ)) (bytes : List ℕ) (lba n k : ℕ) (into into' : List ℕ) → ReadSoFar world reaches shape lists old mid held held' lba n k into
+  pub read_more : (old mid new : M) (held held' held'' : List (ℕ × List ℕ)) (lba n k : ℕ) (into into' : List ℕ) → ReadSoFar world reaches shape lists old mid held held' lba n k into
       → lba + n ≤ 16 * logical_count shape lists → k < blocks_covered lba n
-      → IsCopied world reaches mid new held' lba n (block_with lba + k) (home_of shape lists (block_with lba + k)) bytes held'' into into' → length into' ≡ 2048 * n
+      → IsCopied world reaches mid new held' lba n (block_with lba + k) (home_of shape lists (block_with lba + k)) held'' into into' → length into' ≡ 2048 * n
       → ReadSoFar world reaches shape lists old new held held'' lba n (k + 1) into'
-  read_more old mid new held held' held'' bytes lba n k into into' so_far inside covered did long =
+  read_more old mid new held held' held'' lba n k into into' so_far inside covered did long =
       let within : block_with lba + k < logical_count shape lists = covered_inside lba n k (logical_count shape lists) inside covered in
       let more : suc k ≡ k + 1 = omega arith in
       subst (λ (m : ℕ). ReadSoFar world reaches shape lists old new held held'' lba n m into') more (record {
-        read = up_to_next old mid held held' lba n k so_far.read new held'' bytes did.fetched within;
+        read = up_to_next old mid held held' lba n k so_far.read new held'' did.bytes did.fetched within;
         long = long;
-        prefix = λ disc stood. (prefix_more lba n k (logical_count shape lists) disc bytes into into' covered inside stood.1.fits.as_long so_far.long
-            (is_block_of old mid held held' lba n k so_far.read new held'' bytes did.fetched within disc stood) did.copied (so_far.prefix disc stood)).1;
+        prefix = λ disc stood. (prefix_more lba n k (logical_count shape lists) disc did.bytes into into' covered inside stood.1.fits.as_long so_far.long
+            (is_block_of old mid held held' lba n k so_far.read new held'' did.bytes did.fetched within disc stood) did.copied (so_far.prefix disc stood)).1;
       })

@@ -25,6 +25,15 @@ module _ {M : Type 0} (world : M → World) (reaches : M → M → ℕ → Type 
     pub dies : DiesAtMost (world old).cells (world new).cells place
     pub few : length held ≤ BUFFERED_BLOCKS
 
+  -- the block is not buffered, and its home has no whole bytes
+  pub record CannotBeRead (held' : List (ℕ × List ℕ)) : Type 0 where
+    pub continues : Continues world reaches old new 1
+    pub not_buffered : ¬ IsTrue (is_buffered (numbers_in held) i)
+    pub buffer_is : held' ≡ held
+    pub dies : DiesAtMost (world old).cells (world new).cells place
+    pub not_good : ¬ IsGood (cell_at (world new).cells place)
+    pub few : length held ≤ BUFFERED_BLOCKS
+
   module _ (bytes : List ℕ) where
     -- the block came out of the buffer
     pub record FromBuffer : Type 0 where
@@ -45,15 +54,6 @@ module _ {M : Type 0} (world : M → World) (reaches : M → M → ℕ → Type 
         pub came : FromBuffer ⊎ FromHome
         pub few : length held ≤ BUFFERED_BLOCKS
 
-      -- the block is not buffered, and its home has no whole bytes
-      pub record CannotBeRead : Type 0 where
-        pub continues : Continues world reaches old new 1
-        pub not_buffered : ¬ IsTrue (is_buffered (numbers_in held) i)
-        pub buffer_is : held' ≡ held
-        pub dies : DiesAtMost (world old).cells (world new).cells place
-        pub not_good : ¬ IsGood (cell_at (world new).cells place)
-        pub few : length held ≤ BUFFERED_BLOCKS
-
       -- what a fetch of a block does, by whether it can be read
       abbrev pub Fetches : Bool → Type 0
-      Fetches found = MatchBool found IsFetched CannotBeRead
+      Fetches found = MatchBool found IsFetched (CannotBeRead held')

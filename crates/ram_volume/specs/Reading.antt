@@ -40,15 +40,16 @@ HaveBytes shape lists cells buffered first count = (k : ℕ) → k < count
 
 module _ {M : Type 0} (world : M → World) (reaches : M → M → ℕ → Type 0) (old new : M)
     (held : List (ℕ × List ℕ)) where
-  module _ (lba n i place : ℕ) (bytes : List ℕ) (held' : List (ℕ × List ℕ)) (into into' : List ℕ) where
-    -- the block was fetched, and what the request covers of it was copied
+  module _ (lba n i place : ℕ) (held' : List (ℕ × List ℕ)) (into into' : List ℕ) where
+    -- the block was fetched, with these bytes, and what the request covers of it was copied
     pub record IsCopied : Type 0 where
+      pub bytes : List ℕ
       pub fetched : IsFetched world reaches old new held i place bytes held'
       pub copied : into' ≡ filled_by lba n i bytes into
 
     -- what a read of a part does, by whether its block can be read
     abbrev pub ReadsPart : Bool → Type 0
-    ReadsPart found = MatchBool found IsCopied (CannotBeRead world reaches old new held i place bytes held')
+    ReadsPart found = MatchBool found IsCopied (CannotBeRead world reaches old new held i place held')
 
   module _ (shape : Shape) (lists : Lists) (lba n : ℕ) where
     -- The block after so many is one of the request, and was not at hand. No cell changed but that of its home.

@@ -43,7 +43,7 @@ module _ {M : Type 0} (world : M → World) (reaches : M → M → ℕ → Type 
     -- it covers the block in part, and the block cannot be read
     pub record LacksItsRest : Type 0 where
       pub partly : IsTrue (is_partly lba n i)
-      pub unread : CannotBeRead world reaches old new held i place rest held'
+      pub unread : CannotBeRead world reaches old new held i place held'
 
     -- the block can be merged with its part of the request
     abbrev pub HasRest : Type 0

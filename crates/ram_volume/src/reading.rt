@@ -13,17 +13,17 @@ ghost use Rattle.ram_volume.specs.Blocks.{FetchStopped};
 ghost use Rattle.ram_volume.specs.Reading.{ReadsPart, PartsEnd, ReadSteps, read_end_at};
 ghost use Rattle.ram_volume.specs.Shown.{shown_ready, shown_state};
 
-use crate::fetching::fetch;
 use crate::states::{PoweredOff, Ready, State};
 use model_sectors::ReadOut;
 use ram_buffer::BlockBuffer;
 use ram_bytes::Block;
 use ram_lists::{Lists, home};
-use ram_medium::{Medium, MediumControl, Stop};
+use ram_medium::{Medium, MediumControl, Stop, read_whole};
 use ram_requests::{Part, Request};
 use ram_zones::Geometry;
 
-/// Reads a part of a request. Whether its block can be read.
+/// Reads a part of a request, out of the buffer or from the home of its block, which is buffered then. Whether its block can be
+/// read. Its bytes are copied once: into the buffer they go by an exchange of blocks.
 fn read_part<M: Medium>(
     medium: &mut M,
     geometry: &Geometry,
@@ -40,15 +40,21 @@ fn read_part<M: Medium>(
     ensures rule { MatchResult result
         (λ found. ReadsPart M.world M.reaches medium.old medium.new buffer.old
         part.request.lba part.request.n part.block (home_of geometry.now (lists_of lists.now) part.block)
-        block.new buffer.new into.old into.new found)
+        buffer.new into.old into.new found)
         (λ stop. FetchStopped M.world M.reaches medium.old medium.new buffer.old
         part.block (home_of geometry.now (lists_of lists.now) part.block) stop) }
     ensures as_many { M.block_count medium.new ≡ M.block_count medium.old }
 {
-    if !fetch(medium, geometry, lists, buffer, block, part.block)? {
+    if buffer.lookup(part.block, block) {
+        part.copy_out(block, into);
+        return Ok(true);
+    }
+    let place = home(geometry, lists, part.block);
+    if !read_whole(medium, place, block)? {
         return Ok(false);
     }
     part.copy_out(block, into);
+    buffer.put(part.block, block);
     Ok(true)
 }
 

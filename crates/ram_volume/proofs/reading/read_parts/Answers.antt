@@ -35,22 +35,22 @@ returns-then-not-branch-clause-rule g c =
     let covered : c.loop-k.k < blocks_covered c.args.request.lba c.args.request.n = omega (arith, c.loop-k-test.true, c.blocks-k-end.ensures) in
     let inside : c.args.request.lba + c.args.request.n ≤ 16 * logical_count c.args.geometry.now (lists_of c.args.lists.now) = omega (arith, c.requires.inside) in
     let did = in_block (λ lba n block. CannotBeRead g.M.Medium.world g.M.Medium.reaches c.loop-k.medium c.read_part.new.medium c.loop-k.buffer block
-    (home_of c.args.geometry.now (lists_of c.args.lists.now) block) c.read_part.new.block c.read_part.new.buffer)
+    (home_of c.args.geometry.now (lists_of c.args.lists.now) block) c.read_part.new.buffer)
     c.part-part.result c.args.request c.loop-k.k c.part-part.ensures.request c.part-part.ensures.block (rw c.if-not-branch.true at c.in_ok-read_part.ensures.rule) in
     read_meets g.M.Medium.world g.M.Medium.block_count g.M.Medium.reaches g.met.M.Medium.laws c.args.geometry.now (lists_of c.args.lists.now)
     c.args.medium.now c.loop-k.medium c.read_part.new.medium c.args.buffer.now c.loop-k.buffer c.args.request.lba c.args.request.n c.loop-k.k c.loop-k.into c.loop-k.invariant.so_far covered
-    c.requires.valid inside c.read_part.new.buffer c.read_part.new.block did
+    c.requires.valid inside c.read_part.new.buffer did
 
 pub loop-k-preserved : goal.loop-k-preserved
 loop-k-preserved g c =
     let covered : c.loop-k.k < blocks_covered c.args.request.lba c.args.request.n = omega (arith, c.loop-k-test.true, c.blocks-k-end.ensures) in
     let inside : c.args.request.lba + c.args.request.n ≤ 16 * logical_count c.args.geometry.now (lists_of c.args.lists.now) = omega (arith, c.requires.inside) in
     let did = in_block (λ lba n block. IsCopied g.M.Medium.world g.M.Medium.reaches c.loop-k.medium c.read_part.new.medium c.loop-k.buffer lba n block
-    (home_of c.args.geometry.now (lists_of c.args.lists.now) block) c.read_part.new.block c.read_part.new.buffer c.loop-k.into c.read_part.new.into)
+    (home_of c.args.geometry.now (lists_of c.args.lists.now) block) c.read_part.new.buffer c.loop-k.into c.read_part.new.into)
     c.part-part.result c.args.request c.loop-k.k c.part-part.ensures.request c.part-part.ensures.block (rw c.if-not-branch.false at c.in_ok-read_part.ensures.rule) in
     record {
       so_far = read_more g.M.Medium.world g.M.Medium.block_count g.M.Medium.reaches g.met.M.Medium.laws c.args.geometry.now (lists_of c.args.lists.now)
-          c.args.medium.now c.loop-k.medium c.read_part.new.medium c.args.buffer.now c.loop-k.buffer c.read_part.new.buffer c.read_part.new.block c.args.request.lba c.args.request.n c.loop-k.k
+          c.args.medium.now c.loop-k.medium c.read_part.new.medium c.args.buffer.now c.loop-k.buffer c.read_part.new.buffer c.args.request.lba c.args.request.n c.loop-k.k
           c.loop-k.into c.read_part.new.into c.loop-k.invariant.so_far inside covered did (c.read_part.auto.into ∙ c.loop-k.invariant.so_far.long);
       as_many = c.read_part.ensures.as_many ∙ c.loop-k.invariant.as_many;
     }
