@@ -78,7 +78,8 @@ impl<D: Disc> Target<D> {
     }
 
     /// Does one command, with the command's data in `payload`. The data that it gives are then in `data_in`, whose room is taken
-    /// before, and which stays empty on every other answer than Good. The first of these that applies is the answer:
+    /// before, and which is empty on every other answer than Good. What it held before does not matter. The first of these that
+    /// applies is the answer:
     ///
     /// Off, where the power is off; 5/20/00 for an operation code that is none of the drive's; 6/29/00 at the first command
     /// after a power on, but for INQUIRY, REQUEST SENSE and GET CONFIGURATION, if REQUEST SENSE did not tell so before;
@@ -93,7 +94,6 @@ impl<D: Disc> Target<D> {
         payload: &[u8],
         data_in: &mut Vec<u8>,
     ) -> Answer
-        requires empty { data_in.old.items ≡ [] }
         requires room { 2048 * TRANSFER_LIMIT ≤ vec_capacity data_in.old }
         ensures step { IsStep (D.shows self.old.disc) (D.shows self.new.disc)
             (D.stands self.old.disc) (D.stands self.new.disc)
@@ -102,7 +102,10 @@ impl<D: Disc> Target<D> {
         ensures room { vec_capacity data_in.old ≤ vec_capacity data_in.new }
     {
         match look_at(&mut self.disc) {
-            Look::Off => Answer::Off,
+            Look::Off => {
+                data_in.clear();
+                Answer::Off
+            }
             Look::NotFormatted => self.execute_on(alloc, None, cdb, payload, data_in),
             Look::Formatted(sectors) => {
                 self.execute_on(alloc, Some(sectors), cdb, payload, data_in)
@@ -120,7 +123,6 @@ impl<D: Disc> Target<D> {
         data_in: &mut Vec<u8>,
     ) -> Answer
         requires formatted { IsFormattedAs (D.shows self.old.disc) formatted }
-        requires empty { data_in.old.items ≡ [] }
         requires room { 2048 * TRANSFER_LIMIT ≤ vec_capacity data_in.old }
         ensures step { IsExecuted (D.shows self.old.disc) (D.shows self.new.disc)
             (D.stands self.old.disc) (D.stands self.new.disc)
@@ -193,7 +195,6 @@ fn answer<D: Disc>(
     requires on { IsOn (D.shows disc.old) }
     requires formatted { IfOk judged (HasItsFormat (is_some (D.shows disc.old).lists)) }
     requires sectors { sectors ≡ capacity (D.shows disc.old) }
-    requires empty { data_in.old.items ≡ [] }
     requires room { 2048 * TRANSFER_LIMIT ≤ vec_capacity data_in.old }
     ensures rule { IsAnsweredBy (D.shows disc.old) (D.shows disc.new) (D.stands disc.old)
         (D.stands disc.new) host.now payload.now judged result data_in.new.items }
@@ -201,7 +202,10 @@ fn answer<D: Disc>(
     ensures room { vec_capacity data_in.old ≤ vec_capacity data_in.new }
 {
     match judged {
-        Err(why) => Answer::Check(why),
+        Err(why) => {
+            data_in.clear();
+            Answer::Check(why)
+        }
         Ok(command) => do_command(disc, block, alloc, host, command, sectors, payload, data_in),
     }
 }
@@ -221,15 +225,18 @@ fn do_command<D: Disc>(
     requires on { IsOn (D.shows disc.old) }
     requires formatted { HasItsFormat (is_some (D.shows disc.old).lists) command }
     requires sectors { sectors ≡ capacity (D.shows disc.old) }
-    requires empty { data_in.old.items ≡ [] }
     requires room { 2048 * TRANSFER_LIMIT ≤ vec_capacity data_in.old }
     ensures rule { IsDone (D.shows disc.old) (D.shows disc.new) (D.stands disc.old) (D.stands disc.new)
         host.now payload.now command result data_in.new.items }
     ensures same_shape { (D.shows disc.new).shape ≡ (D.shows disc.old).shape }
     ensures room { vec_capacity data_in.old ≤ vec_capacity data_in.new }
 {
+    if let Command::Read { lba, n } = command {
+        return read(disc, lba, n, data_in);
+    }
+    data_in.clear();
     match command {
-        Command::Read { lba, n } => return read(disc, lba, n, data_in),
+        Command::Read { .. } => unreachable!(),
         Command::Write { lba, n, .. } => return write(disc, lba, n, payload),
         Command::Verify { lba, n } => return verify(disc, lba, n),
         Command::Format { kind } => return format(disc, alloc, kind),

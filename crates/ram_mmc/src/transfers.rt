@@ -15,10 +15,10 @@ use ram_sense::codes::{
 };
 use std::alloc::Global;
 
-/// Reads sectors into `data_in`, which stays empty where they are not all read.
+/// Reads sectors into `data_in`, which is empty where they are not all read. The room of one read is the next one's: what it
+/// held is written over, and zeros are put in only where it grows.
 pub fn read<D: Sectors>(disc: &mut D, lba: u32, n: u32, data_in: &mut Vec<u8>) -> Answer
     requires few { n ≤ TRANSFER_LIMIT }
-    requires empty { data_in.old.items ≡ [] }
     requires room { 2048 * TRANSFER_LIMIT ≤ vec_capacity data_in.old }
     ensures rule { IsRead (D.shows disc.old) (D.shows disc.new) (D.stands disc.old) (D.stands disc.new)
         lba n result data_in.new.items }

@@ -1,34 +1,41 @@
--- Whether each byte is as the next one is whether all are as the first.
-use Rattle.std.proofs.Common.{◌≡◌, ℕ, ◌-◌, ◌<◌, inl, inr, Bool, true, false, List, [], ◌∷◌, length, take, drop, refl, sym, ap, ◌∙◌, arith, subst}
-use Rattle.std.specs.Prelude.{◌==◌, ◌&&◌, bytes_eq}
-use Rattle.std.specs.List.{list_all}
-use Rattle.std.proofs.lemmas.Bool.{cases_Bool, eqb-true, eq-eqb}
-use Rattle.std.proofs.lemmas.List.{take_all}
-use Rattle.ram_text.specs.ReportLines.{is_one_byte}
+-- Whether all bytes are as the first, by what a fold of their differences finds.
+use Rattle.std.proofs.Common.{◌≡◌, ℕ, Bool, true, false, List, [], ◌∷◌, bit_or, bit_xor, refl, sym, ap, ◌∙◌, arith}
+use Rattle.std.specs.Prelude.{◌==◌, ◌&&◌}
+use Rattle.std.specs.List.{list_all, fold}
+use Rattle.std.specs.Cmp.{both_ways}
+use Rattle.std.specs.Int.Bits.{xor_self, xor_assoc, xor_zero_r}
+use Rattle.std.proofs.lemmas.Bool.{and_parts, and_from, eqb-true, eq-eqb}
+use Rattle.std.proofs.lemmas.Nat.{le_or_l, le_or_r}
 
-and_false : (b c d : Bool) → b ≡ false → (b && c) ≡ (b && d)
-and_false true c d e = absurd cc
-and_false false c d e = refl
+same_from_xor : (a b : ℕ) → bit_xor a b ≡ 0 → a ≡ b
+same_from_xor a b none =
+    sym (xor_zero_r a) ∙ ap (λ (n : ℕ). bit_xor a n) (sym (xor_self b)) ∙ sym (xor_assoc a b b) ∙ ap (λ (n : ℕ). bit_xor n b) none
 
-and_true : (b c : Bool) → b ≡ true → (b && c) ≡ c
-and_true true c e = refl
-and_true false c e = absurd cc
+-- none is found by then just where none was found before and the byte is the first
+none_more : (found byte first : ℕ) → (bit_or found (bit_xor byte first) == 0) ≡ ((found == 0) && (byte == first))
+none_more found byte first =
+    both_ways (bit_or found (bit_xor byte first) == 0) ((found == 0) && (byte == first))
+    (λ none.
+    let is : bit_or found (bit_xor byte first) ≡ 0 = eqb-true (bit_or found (bit_xor byte first)) 0 none in
+    and_from (found == 0) (byte == first)
+    (eq-eqb found 0 (omega (arith, is, le_or_l found (bit_xor byte first))))
+    (eq-eqb byte first (same_from_xor byte first (omega (arith, is, le_or_r found (bit_xor byte first))))))
+    (λ both.
+    let p = and_parts (found == 0) (byte == first) both in
+    eq-eqb (bit_or found (bit_xor byte first)) 0 (rw (eqb-true found 0 p.0, eqb-true byte first p.1) (xor_self first)))
 
--- each of the others is as the one before it just where each is as the first
-next_same : (x : ℕ) (rest : List ℕ) → bytes_eq rest (take (length rest) (x ∷ rest)) ≡ list_all (λ byte. byte == x) rest
-next_same x [] = refl
-next_same x (y ∷ ys) =
-    ap (λ (b : Bool). (y == x) && b) (next_same y ys)
-    ∙ elim (cases_Bool (y == x)) [
-      | inl same ↦ ap (λ (z : ℕ). (y == x) && list_all (λ byte. byte == z) ys) (eqb-true y x same)
-      | inr other ↦ and_false (y == x) (list_all (λ byte. byte == y) ys) (list_all (λ byte. byte == x) ys) other
-    ]
+and_true : (b : Bool) → (b && true) ≡ b
+and_true true = refl
+and_true false = refl
 
-pub one_byte : (xs : List ℕ) → 0 < length xs → bytes_eq (take (length xs - 1) (drop 1 xs)) (take (length xs - 1) xs) ≡ is_one_byte xs
-one_byte [] some = absurd (omega (arith, some))
-one_byte (x ∷ rest) some =
-    let many : length (x ∷ rest) - 1 ≡ length rest = omega arith in
-    ap (λ (n : ℕ). bytes_eq (take n rest) (take n (x ∷ rest))) many
-    ∙ ap (λ (l : List ℕ). bytes_eq l (take (length rest) (x ∷ rest))) (take_all (length rest) rest (omega arith))
-    ∙ next_same x rest
-    ∙ sym (and_true (x == x) (list_all (λ byte. byte == x) rest) (eq-eqb x x refl))
+and_assoc : (a b c : Bool) → ((a && b) && c) ≡ (a && (b && c))
+and_assoc true b c = refl
+and_assoc false b c = refl
+
+pub none_found : (first : ℕ) (bytes : List ℕ) (found : ℕ)
+    → (fold (λ (n byte : ℕ). bit_or n (bit_xor byte first)) found bytes == 0) ≡ ((found == 0) && list_all (λ byte. byte == first) bytes)
+none_found first [] found = sym (and_true (found == 0))
+none_found first (byte ∷ bytes) found =
+    none_found first bytes (bit_or found (bit_xor byte first))
+    ∙ ap (λ (b : Bool). b && list_all (λ byte. byte == first) bytes) (none_more found byte first)
+    ∙ and_assoc (found == 0) (byte == first) (list_all (λ byte. byte == first) bytes)

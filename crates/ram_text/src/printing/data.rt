@@ -83,12 +83,14 @@ fn print_sector<K: Sink>(
     }
 }
 
-/// Whether all bytes of the sector are equal.
+/// Whether all bytes of the sector are equal. No byte ends the fold, so many of them are looked at together.
 fn is_fill(sector: &[u8]) -> bool
     requires { 0 < length sector.now }
     ensures { result ≡ is_one_byte sector.now }
 {
-    sector[1..] == sector[..sector.len() - 1]
+    let first = sector[0];
+    let differences = sector.iter().fold(0, |found, byte| found | (byte ^ first));
+    differences == 0
 }
 
 /// Prints a sector's line, with the bytes in hexadecimal digits after the words.
