@@ -162,7 +162,7 @@ ends_between first stands far view stopped.ImageFault now at is = absurd is
 ends_between first stands far view stopped.NoMemory now at is = absurd is
 
 -- a line that is to do nothing was passed
-pub nothing_done : (first : Beginning) (stands : State → Type 0) (old new after : View) (b : Between first stands old) (payload data_in : List ℕ) (result : Ending) → Taken b.far new works.Nothing payload → data_in ≡ []
-    → TellRule new after data_in (Ok replies.Nothing) result → TurnsTo first stands after result
-nothing_done first stands old new after b payload data_in result t empty rule =
-    answered_line first b.far new works.Nothing payload t stands data_in after 0 0 (Ok replies.Nothing) result (record { state = b.far.now; step = (refl, empty, refl); stands = b.stands_now }) refl rule
+pub nothing_done : (first : Beginning) (stands : State → Type 0) (old new after : View) (b : Between first stands old) (payload : List ℕ) (result : Ending) → Taken b.far new works.Nothing payload
+    → TellRule new after [] (Ok replies.Nothing) result → TurnsTo first stands after result
+nothing_done first stands old new after b payload result t rule =
+    answered_line first b.far new works.Nothing payload t stands [] after 0 0 (Ok replies.Nothing) result (record { state = b.far.now; step = (refl, refl, refl); stands = b.stands_now }) refl rule

@@ -49,7 +49,7 @@ impl<D: Drive> Inserted<D> {
     }
 
     /// What a line does that needs a disc, with its data in `payload`. The data that a command gives are then in
-    /// `data_in`.
+    /// `data_in`, and what it held before does not matter.
     pub fn answer(
         &mut self,
         alloc: Global,
@@ -58,7 +58,6 @@ impl<D: Drive> Inserted<D> {
         data_in: &mut Vec<u8>,
     ) -> Result<Reply, Stopped>
         requires uses { CountsUses line }
-        requires empty { data_in.old.items ≡ [] }
         requires room { PAYLOAD_ROOM ≤ vec_capacity data_in.old }
         ensures step { (s : State) → Stands D.Sectors D.Image.Image self.old s
             → IsAnswered s (works.OnDisc line) payload.now data_in.new.items
@@ -69,7 +68,10 @@ impl<D: Drive> Inserted<D> {
         ensures room { vec_capacity data_in.old ≤ vec_capacity data_in.new }
     {
         match self {
-            Inserted::Image(_) => Err(Stopped::NotADisc),
+            Inserted::Image(_) => {
+                data_in.clear();
+                Err(Stopped::NotADisc)
+            }
             Inserted::Disc(target) => {
                 let outcome = answer_on_disc(target, alloc, line, payload, data_in);
                 outcome
@@ -87,7 +89,6 @@ fn answer_on_disc<D: Drive>(
     data_in: &mut Vec<u8>,
 ) -> Result<Reply, Stopped>
     requires uses { CountsUses line }
-    requires empty { data_in.old.items ≡ [] }
     requires room { PAYLOAD_ROOM ≤ vec_capacity data_in.old }
     ensures rule { DiscRule (D.shows target.old.disc) (D.shows target.new.disc)
         (D.stands target.old.disc) (D.stands target.new.disc) target.old.host target.new.host
@@ -96,17 +97,19 @@ fn answer_on_disc<D: Drive>(
     ensures same_shape { (D.shows target.new.disc).shape ≡ (D.shows target.old.disc).shape }
     ensures room { vec_capacity data_in.old ≤ vec_capacity data_in.new }
 {
+    if let DiscLine::Command { cdb } = line {
+        let answer = target.execute(alloc, &cdb, payload, data_in);
+        return command_outcome(cdb, answer);
+    }
+    data_in.clear();
     match line {
+        DiscLine::Command { .. } => unreachable!(),
         DiscLine::Power => power_outcome(target.power(alloc)),
         DiscLine::Fail { block } => fail_outcome(target.disc.fail(block)),
         DiscLine::Wear { block, n } => wear_outcome(target.disc.wear(block, n)),
         DiscLine::Cut { n, fate } => {
             target.disc.arm_cut(n, fate);
             Ok(Reply::Event(Event::Armed))
-        }
-        DiscLine::Command { cdb } => {
-            let answer = target.execute(alloc, &cdb, payload, data_in);
-            command_outcome(cdb, answer)
         }
     }
 }

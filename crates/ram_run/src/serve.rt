@@ -17,7 +17,7 @@ use crate::ending::{finish, status_of};
 use crate::inserted::{Inserted, insert, press_disc};
 use crate::line::{DiscLine, Work};
 use crate::reply::Reply;
-use crate::state::{RunState, next_work, tell};
+use crate::state::{RunState, next_work, tell, tell_without_data};
 use crate::status::Status;
 use crate::stopped::Stopped;
 use ram_image::OpenFault;
@@ -36,7 +36,6 @@ fn answer_line<D: Drive, K: Sink>(
     requires lines { state.old.tally.lines < 2 ^ 63 }
     requires answered { state.old.tally.answered < 2 ^ 63 }
     requires few { AreAtMost state.old.tally.counts state.old.tally.lines }
-    requires empty { state.old.data_in.items ≡ [] }
     requires room { HasRoom state.old }
     ensures turn { (first : Beginning) (far : SoFar first) (left : Option (List ℕ))
         → Stands D.Sectors D.Image.Image inserted.old far.now
@@ -69,7 +68,6 @@ fn press_line<D: Drive, K: Sink>(
     requires lines { state.old.tally.lines < 2 ^ 63 }
     requires answered { state.old.tally.answered < 2 ^ 63 }
     requires few { AreAtMost state.old.tally.counts state.old.tally.lines }
-    requires empty { state.old.data_in.items ≡ [] }
     requires room { HasRoom state.old }
     ensures turn { (first : Beginning) (far : SoFar first) (left : Option (List ℕ))
         → Stands D.Sectors D.Image.Image inserted far.now
@@ -87,7 +85,7 @@ fn press_line<D: Drive, K: Sink>(
     ensures room { HasRoom state.new }
 {
     let (inserted, outcome) = press_disc(alloc, inserted, zones, scale, psa);
-    let reported = tell(state, report, outcome);
+    let reported = tell_without_data(state, report, outcome);
     (inserted, reported)
 }
 
@@ -118,7 +116,7 @@ pub fn serve_lines<D: Drive, S: Source, K: Sink>(
         match next_work(state, script, report) {
             Err(stopped) => return (inserted, Err(stopped)),
             Ok(None) => return (inserted, Ok(())),
-            Ok(Some(Work::Nothing)) => match tell(state, report, Ok(Reply::Nothing)) {
+            Ok(Some(Work::Nothing)) => match tell_without_data(state, report, Ok(Reply::Nothing)) {
                 Ok(()) => {}
                 Err(stopped) => return (inserted, Err(stopped)),
             },

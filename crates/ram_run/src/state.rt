@@ -36,7 +36,7 @@ pub struct RunState {
     pub writer: ReportWriter,
     /// The data that go with a command.
     pub payload: Vec<u8>,
-    /// The data that a command gave.
+    /// The data that the last command gave, until a line comes that gives none.
     pub data_in: Vec<u8>,
     /// How many lines came so far.
     pub tally: Tally,
@@ -114,10 +114,8 @@ pub fn next_work<S: Source, K: Sink>(
     ensures takes { TakesBytes state.old.reader.taken state.new.reader.taken result }
     ensures uses { FoundCountsUses result }
     ensures same_tally { state.new.tally ≡ state.old.tally }
-    ensures empty { state.new.data_in.items ≡ [] }
     ensures room { HasRoom state.new }
 {
-    state.data_in.clear();
     hand_over(state, report)?;
     match state.reader.next_line(script, &state.writer) {
         NextLine::Line => {}
@@ -155,4 +153,25 @@ pub fn tell<K: Sink>(
     printed(print_reply(&mut state.writer, report, number, &reply, &state.data_in))?;
     state.tally.add(&reply);
     Ok(())
+}
+
+/// The same of a line that gave no data, whatever the command before it gave.
+pub fn tell_without_data<K: Sink>(
+    state: &mut RunState,
+    report: &mut K,
+    outcome: Result<Reply, Stopped>,
+) -> Result<(), Stopped>
+    requires printable { PrintsWhere outcome }
+    requires lines { state.old.tally.lines < 2 ^ 63 }
+    requires answered { state.old.tally.answered < 2 ^ 63 }
+    requires counts { AreAtMost state.old.tally.counts state.old.tally.lines }
+    ensures tells { (left : Option (List ℕ)) → TellRule (run_view left (K.written report.old) state.old)
+        (run_view left (K.written report.new) state.new) [] outcome result }
+    ensures count { TellCount (K.faults report.old) (K.faults report.new) outcome result }
+    ensures tally { TallyRule state.old.tally state.new.tally result }
+    ensures same_reader { state.new.reader ≡ state.old.reader }
+    ensures room { HasRoom state.old → HasRoom state.new }
+{
+    state.data_in.clear();
+    tell(state, report, outcome)
 }

@@ -5,6 +5,7 @@ mod endings;
 mod failures;
 mod generated;
 mod images;
+mod lengths;
 mod payloads;
 
 use crate::runs::{Failure, PIECE, Ran, run_script};

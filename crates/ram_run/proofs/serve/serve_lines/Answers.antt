@@ -1,4 +1,4 @@
-use Rattle.std.proofs.Common.{arith, refl, ap, Ok, Err}
+use Rattle.std.proofs.Common.{arith, refl, ap, Ok, Err, []}
 use Rattle.ram_text.specs.Lines.{Reading}
 use Rattle.ram_run.specs.declared.reply.Reply.TheVariants as replies
 use Rattle.ram_run.specs.Inserted.{Stands, faults_of}
@@ -35,47 +35,47 @@ pub loop-stopped-preserved-in-Ok : goal.loop-stopped-preserved-in-Ok
 loop-stopped-preserved-in-Ok g c =
     let takes = rw (c.in-Ok-Some-Nothing.is, c.in-Ok-Some-Nothing.field-0-is) at c.next_work.ensures.takes in
     let more = c.in-Ok.ensures.tally in
-    let reader = ap (λ (r : Reading). r.taken) c.tell.ensures.same_reader in
+    let reader = ap (λ (r : Reading). r.taken) c.tell_without_data.ensures.same_reader in
     let tally = c.next_work.ensures.same_tally in
     record {
       between = λ first b. let now = c.loop-stopped.invariant.between first b in nothing_done first (Stands g.D.Sectors g.D.Image.Image c.loop-stopped.inserted) (run_view (g.S.Source.left c.loop-stopped.script) (g.K.Sink.written c.loop-stopped.report) c.loop-stopped.state) (run_view (g.S.Source.left c.next_work.new.script) (g.K.Sink.written c.next_work.new.report) c.next_work.new.state)
-          (run_view (g.S.Source.left c.next_work.new.script) (g.K.Sink.written c.tell.new.report) c.tell.new.state)
-          now c.next_work.new.state.payload.items c.next_work.new.state.data_in.items (Ok tt) (rw (c.in-Ok-Some-Nothing.is, c.in-Ok-Some-Nothing.field-0-is, c.in-Ok-Some-Nothing.field-0-0-is) at (c.next_work.ensures.next first now.far now.at)) c.next_work.ensures.empty (c.in-Ok.ensures.tells (g.S.Source.left c.next_work.new.script));
+          (run_view (g.S.Source.left c.next_work.new.script) (g.K.Sink.written c.tell_without_data.new.report) c.tell_without_data.new.state)
+          now c.next_work.new.state.payload.items (Ok tt) (rw (c.in-Ok-Some-Nothing.is, c.in-Ok-Some-Nothing.field-0-is, c.in-Ok-Some-Nothing.field-0-0-is) at (c.next_work.ensures.next first now.far now.at)) (c.in-Ok.ensures.tells (g.S.Source.left c.next_work.new.script));
       counts = none_rose (counts_of (g.S.Source.faults c.args.script.now) (g.K.Sink.faults c.args.report.now) (faults_of g.D.Sectors g.D.Image.Image c.args.inserted)) (counts_of (g.S.Source.faults c.next_work.new.script) (g.K.Sink.faults c.next_work.new.report) (faults_of g.D.Sectors g.D.Image.Image c.loop-stopped.inserted))
-          (counts_of (g.S.Source.faults c.next_work.new.script) (g.K.Sink.faults c.tell.new.report) (faults_of g.D.Sectors g.D.Image.Image c.loop-stopped.inserted))
+          (counts_of (g.S.Source.faults c.next_work.new.script) (g.K.Sink.faults c.tell_without_data.new.report) (faults_of g.D.Sectors g.D.Image.Image c.loop-stopped.inserted))
           (none_rose (counts_of (g.S.Source.faults c.args.script.now) (g.K.Sink.faults c.args.report.now) (faults_of g.D.Sectors g.D.Image.Image c.args.inserted)) (counts_of (g.S.Source.faults c.loop-stopped.script) (g.K.Sink.faults c.loop-stopped.report) (faults_of g.D.Sectors g.D.Image.Image c.loop-stopped.inserted))
           (counts_of (g.S.Source.faults c.next_work.new.script) (g.K.Sink.faults c.next_work.new.report) (faults_of g.D.Sectors g.D.Image.Image c.loop-stopped.inserted))
-          c.loop-stopped.invariant.counts (rw c.in-Ok-Some-Nothing.is at (c.next_work.ensures.counts (faults_of g.D.Sectors g.D.Image.Image c.loop-stopped.inserted)))) (line_counts (g.S.Source.faults c.next_work.new.script) (g.K.Sink.faults c.next_work.new.report) (g.K.Sink.faults c.tell.new.report) (faults_of g.D.Sectors g.D.Image.Image c.loop-stopped.inserted) (faults_of g.D.Sectors g.D.Image.Image c.loop-stopped.inserted)
+          c.loop-stopped.invariant.counts (rw c.in-Ok-Some-Nothing.is at (c.next_work.ensures.counts (faults_of g.D.Sectors g.D.Image.Image c.loop-stopped.inserted)))) (line_counts (g.S.Source.faults c.next_work.new.script) (g.K.Sink.faults c.next_work.new.report) (g.K.Sink.faults c.tell_without_data.new.report) (faults_of g.D.Sectors g.D.Image.Image c.loop-stopped.inserted) (faults_of g.D.Sectors g.D.Image.Image c.loop-stopped.inserted)
           (run_view (g.S.Source.left c.next_work.new.script) (g.K.Sink.written c.next_work.new.report) c.next_work.new.state)
-          (run_view (g.S.Source.left c.next_work.new.script) (g.K.Sink.written c.tell.new.report) c.tell.new.state)
-          c.next_work.new.state.data_in.items (Ok replies.Nothing) (Ok tt) refl c.in-Ok.ensures.count (c.in-Ok.ensures.tells (g.S.Source.left c.next_work.new.script)));
-      room = c.tell.ensures.room c.next_work.ensures.room;
-      few = few_more c.loop-stopped.state.tally c.next_work.new.state.tally c.tell.new.state.tally c.loop-stopped.state.reader.taken c.next_work.new.state.reader.taken c.tell.new.state.reader.taken c.loop-stopped.invariant.few takes.0 reader tally more;
+          (run_view (g.S.Source.left c.next_work.new.script) (g.K.Sink.written c.tell_without_data.new.report) c.tell_without_data.new.state)
+          [] (Ok replies.Nothing) (Ok tt) refl c.in-Ok.ensures.count (c.in-Ok.ensures.tells (g.S.Source.left c.next_work.new.script)));
+      room = c.tell_without_data.ensures.room c.next_work.ensures.room;
+      few = few_more c.loop-stopped.state.tally c.next_work.new.state.tally c.tell_without_data.new.state.tally c.loop-stopped.state.reader.taken c.next_work.new.state.reader.taken c.tell_without_data.new.state.reader.taken c.loop-stopped.invariant.few takes.0 reader tally more;
       within = omega (arith, takes.1, reader);
     }
 
-pub returns-in-Err-tell-clause-ends : goal.returns-in-Err-tell-clause-ends
-returns-in-Err-tell-clause-ends g c first b =
+pub returns-in-Err-tell_without_data-clause-ends : goal.returns-in-Err-tell_without_data-clause-ends
+returns-in-Err-tell_without_data-clause-ends g c first b =
     let now = c.loop-stopped.invariant.between first b in
     nothing_done first (Stands g.D.Sectors g.D.Image.Image c.loop-stopped.inserted) (run_view (g.S.Source.left c.loop-stopped.script) (g.K.Sink.written c.loop-stopped.report) c.loop-stopped.state) (run_view (g.S.Source.left c.next_work.new.script) (g.K.Sink.written c.next_work.new.report) c.next_work.new.state)
-    (run_view (g.S.Source.left c.next_work.new.script) (g.K.Sink.written c.tell.new.report) c.tell.new.state)
-    now c.next_work.new.state.payload.items c.next_work.new.state.data_in.items (Err c.in-Err-tell.stopped) (rw (c.in-Ok-Some-Nothing.is, c.in-Ok-Some-Nothing.field-0-is, c.in-Ok-Some-Nothing.field-0-0-is) at (c.next_work.ensures.next first now.far now.at)) c.next_work.ensures.empty (c.in-Err-tell.ensures.tells (g.S.Source.left c.next_work.new.script))
+    (run_view (g.S.Source.left c.next_work.new.script) (g.K.Sink.written c.tell_without_data.new.report) c.tell_without_data.new.state)
+    now c.next_work.new.state.payload.items (Err c.in-Err-tell_without_data.stopped) (rw (c.in-Ok-Some-Nothing.is, c.in-Ok-Some-Nothing.field-0-is, c.in-Ok-Some-Nothing.field-0-0-is) at (c.next_work.ensures.next first now.far now.at)) (c.in-Err-tell_without_data.ensures.tells (g.S.Source.left c.next_work.new.script))
 
-pub returns-in-Err-tell-clause-counts : goal.returns-in-Err-tell-clause-counts
-returns-in-Err-tell-clause-counts g c =
+pub returns-in-Err-tell_without_data-clause-counts : goal.returns-in-Err-tell_without_data-clause-counts
+returns-in-Err-tell_without_data-clause-counts g c =
     why_counts (counts_of (g.S.Source.faults c.args.script.now) (g.K.Sink.faults c.args.report.now) (faults_of g.D.Sectors g.D.Image.Image c.args.inserted)) (counts_of (g.S.Source.faults c.next_work.new.script) (g.K.Sink.faults c.next_work.new.report) (faults_of g.D.Sectors g.D.Image.Image c.loop-stopped.inserted))
-    (counts_of (g.S.Source.faults c.next_work.new.script) (g.K.Sink.faults c.tell.new.report) (faults_of g.D.Sectors g.D.Image.Image c.loop-stopped.inserted))
-    c.in-Err-tell.stopped
+    (counts_of (g.S.Source.faults c.next_work.new.script) (g.K.Sink.faults c.tell_without_data.new.report) (faults_of g.D.Sectors g.D.Image.Image c.loop-stopped.inserted))
+    c.in-Err-tell_without_data.stopped
     (none_rose (counts_of (g.S.Source.faults c.args.script.now) (g.K.Sink.faults c.args.report.now) (faults_of g.D.Sectors g.D.Image.Image c.args.inserted)) (counts_of (g.S.Source.faults c.loop-stopped.script) (g.K.Sink.faults c.loop-stopped.report) (faults_of g.D.Sectors g.D.Image.Image c.loop-stopped.inserted))
     (counts_of (g.S.Source.faults c.next_work.new.script) (g.K.Sink.faults c.next_work.new.report) (faults_of g.D.Sectors g.D.Image.Image c.loop-stopped.inserted))
-    c.loop-stopped.invariant.counts (rw c.in-Ok-Some-Nothing.is at (c.next_work.ensures.counts (faults_of g.D.Sectors g.D.Image.Image c.loop-stopped.inserted)))) (line_counts (g.S.Source.faults c.next_work.new.script) (g.K.Sink.faults c.next_work.new.report) (g.K.Sink.faults c.tell.new.report) (faults_of g.D.Sectors g.D.Image.Image c.loop-stopped.inserted) (faults_of g.D.Sectors g.D.Image.Image c.loop-stopped.inserted)
+    c.loop-stopped.invariant.counts (rw c.in-Ok-Some-Nothing.is at (c.next_work.ensures.counts (faults_of g.D.Sectors g.D.Image.Image c.loop-stopped.inserted)))) (line_counts (g.S.Source.faults c.next_work.new.script) (g.K.Sink.faults c.next_work.new.report) (g.K.Sink.faults c.tell_without_data.new.report) (faults_of g.D.Sectors g.D.Image.Image c.loop-stopped.inserted) (faults_of g.D.Sectors g.D.Image.Image c.loop-stopped.inserted)
     (run_view (g.S.Source.left c.next_work.new.script) (g.K.Sink.written c.next_work.new.report) c.next_work.new.state)
-    (run_view (g.S.Source.left c.next_work.new.script) (g.K.Sink.written c.tell.new.report) c.tell.new.state)
-    c.next_work.new.state.data_in.items (Ok replies.Nothing) (Err c.in-Err-tell.stopped) refl c.in-Err-tell.ensures.count (c.in-Err-tell.ensures.tells (g.S.Source.left c.next_work.new.script)))
+    (run_view (g.S.Source.left c.next_work.new.script) (g.K.Sink.written c.tell_without_data.new.report) c.tell_without_data.new.state)
+    [] (Ok replies.Nothing) (Err c.in-Err-tell_without_data.stopped) refl c.in-Err-tell_without_data.ensures.count (c.in-Err-tell_without_data.ensures.tells (g.S.Source.left c.next_work.new.script)))
 
-pub returns-in-Err-tell-clause-few : goal.returns-in-Err-tell-clause-few
-returns-in-Err-tell-clause-few g c =
-    few_still c.loop-stopped.state.tally c.next_work.new.state.tally c.tell.new.state.tally c.loop-stopped.state.reader.taken c.loop-stopped.invariant.few c.loop-stopped.invariant.within c.next_work.ensures.same_tally c.in-Err-tell.ensures.tally
+pub returns-in-Err-tell_without_data-clause-few : goal.returns-in-Err-tell_without_data-clause-few
+returns-in-Err-tell_without_data-clause-few g c =
+    few_still c.loop-stopped.state.tally c.next_work.new.state.tally c.tell_without_data.new.state.tally c.loop-stopped.state.reader.taken c.loop-stopped.invariant.few c.loop-stopped.invariant.within c.next_work.ensures.same_tally c.in-Err-tell_without_data.ensures.tally
 
 pub loop-stopped-preserved-in-Ok-answer_line : goal.loop-stopped-preserved-in-Ok-answer_line
 loop-stopped-preserved-in-Ok-answer_line g c =
