@@ -1,6 +1,6 @@
 //! The target: a disc with what is remembered for its host.
 
-ghost use Rattle.std.specs.Prelude.{◌≡◌, ◌*◌, ◌≤◌, [], IfOk, is_some, vec_capacity};
+ghost use Rattle.std.specs.Prelude.{◌≡◌, ◌*◌, ◌≤◌, IfOk, is_some, vec_capacity};
 ghost use Rattle.model_commands.specs.declared.TheConstants.{TRANSFER_LIMIT};
 ghost use Rattle.model_commands.specs.Commands.{operation_of};
 ghost use Rattle.model_drive.specs.Shown.{IsOn, capacity};

@@ -1,7 +1,7 @@
 -- What a verification that was answered Good shows of the image.
 use Rattle.std.specs.Prelude.{◌≡◌, ℕ, ◌+◌, Option, Some, None, IsSome, List, [], length}
 use Rattle.std.specs.Option.{option_map_or}
-use Rattle.std.proofs.Common.{refl, sym, ap, ◌∙◌, subst}
+use Rattle.std.proofs.Common.{refl, ap, ◌∙◌, subst}
 use Rattle.std.proofs.lemmas.Bool.{false≢true}
 use Rattle.std.proofs.lemmas.List.Elements.{All-head}
 use Rattle.model_geometry.specs.Geometry.{total}
@@ -19,7 +19,7 @@ use Rattle.ram_cdb.specs.declared.commands.Command.TheVariants as commands
 use Rattle.model_target.specs.Steps.{IsVerified}
 use Rattle.ram_run.specs.States.{State, Unopened, Disc, IsLeft}
 use Rattle.ram_run.specs.Run.{AnsweredLine, IsStep}
-use Rattle.ram_run.specs.Acknowledged.{KeepsSector, Acknowledged, StandsWithSector, WasDone, IsAmong, HasInCells, HasInImage}
+use Rattle.ram_run.specs.Acknowledged.{KeepsSector, Acknowledged, StandsWithSector, WasDone, IsAmong, HasInImage}
 use Rattle.ram_run.proofs.Acknowledged.{AllKeep}
 use Rattle.ram_run.proofs.DoneLines.{Done, line_done, good_read, sector_inside}
 use Rattle.ram_run.proofs.InImage.{known_of, in_covered, left_in_cells}

@@ -1,6 +1,6 @@
 //! The inserted disc, and what one line does with it: the drive is worked on where it lies, and only a press takes its
 //! image out.
-ghost use Rattle.std.specs.Prelude.{◌≡◌, ◌≤◌, MatchResult, [], vec_capacity};
+ghost use Rattle.std.specs.Prelude.{◌≡◌, ◌≤◌, MatchResult, vec_capacity};
 ghost use Rattle.model_geometry.specs.Geometry.{shape_of};
 ghost use Rattle.ram_text.specs.declared.payload.TheConstants.{PAYLOAD_ROOM};
 ghost use Rattle.ram_image.specs.Opening.{IsRefused};

@@ -1,6 +1,5 @@
 //! The lines of a script, answered one after another.
-ghost use Rattle.std.specs.Prelude.{◌≡◌, ◌^◌, ◌<◌, ◌≤◌, ◌+◌, ℕ, List, [], Option, vec_capacity};
-ghost use Rattle.ram_text.specs.declared.payload.TheConstants.{PAYLOAD_ROOM};
+ghost use Rattle.std.specs.Prelude.{◌≡◌, ◌^◌, ◌<◌, ℕ, List, Option};
 ghost use Rattle.ram_run.specs.declared.line.Work.TheVariants as works;
 ghost use Rattle.ram_run.specs.Work.{CountsUses};
 ghost use Rattle.ram_run.specs.Counting.{AreAtMost};
