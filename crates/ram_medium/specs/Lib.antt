@@ -5,3 +5,4 @@ pub mod Slots
 pub mod Memory
 pub mod Begun
 pub mod WholeBlocks
+pub mod ReadInto

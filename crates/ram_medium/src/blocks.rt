@@ -1,9 +1,11 @@
 //! The trait of any medium.
 
-ghost use Rattle.std.specs.Prelude.{◌≡◌, ℕ, ◌<◌, true, false};
+ghost use Rattle.std.specs.Prelude.{◌≡◌, ℕ, ◌<◌, true, false, [], length};
 ghost use Rattle.model_medium.specs.World.{World, ReadRule, WriteRule, ReadContinues, WriteContinues};
 ghost use Rattle.model_medium.specs.Exact.{Event, Read, Write, PowerOn, PowerOff};
+ghost use Rattle.ram_bytes.specs.declared.block.TheConstants.{BLOCK_BYTES};
 ghost use Rattle.ram_medium.specs.Laws.{MediumLaws};
+ghost use Rattle.ram_medium.specs.ReadInto.{bytes_read};
 
 use model_medium::{ReadEnd, WriteEnd};
 use ram_bytes::Block;
@@ -38,6 +40,16 @@ pub trait Medium {
         ensures rule { ReadRule (world self.old) (world self.new) block into.old into.new result }
         ensures continues { ReadContinues (reaches self.old self.new) result }
         ensures event { takes self.old self.new (Read block into.old into.new result) }
+        ensures as_many { block_count self.new ≡ block_count self.old };
+
+    /// Reads a block straight into the caller's bytes, as many as a block has. It does what `read` does, but that what these
+    /// bytes are is said only where all of the block was read.
+    fn read_into(&mut self, block: u32, into: &mut [u8]) -> ReadEnd
+        requires inside { block < block_count self.old }
+        requires whole { length into.old ≡ BLOCK_BYTES }
+        ensures rule { ReadRule (world self.old) (world self.new) block [] (bytes_read result into.new) result }
+        ensures continues { ReadContinues (reaches self.old self.new) result }
+        ensures event { takes self.old self.new (Read block [] (bytes_read result into.new) result) }
         ensures as_many { block_count self.new ≡ block_count self.old };
 
     /// Writes a block. A dead one stays dead, and the write of one is done all the same: a read tells. With the power off

@@ -14,4 +14,4 @@ pub use countdown::{Armed, Due, MOST_ARMS, limits_are_these};
 pub use memory::MemMedium;
 pub use model_medium::{ArmedCut, Fate, ReadEnd, WornBlock, WriteEnd};
 pub use model_stops::Stop;
-pub use whole_blocks::{read_whole, write_whole};
+pub use whole_blocks::{read_whole, read_whole_into, write_whole};

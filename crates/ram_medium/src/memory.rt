@@ -2,6 +2,7 @@
 
 ghost use Rattle.std.specs.Prelude.{◌≡◌, ℕ, ◌+◌, ◌<◌, ◌≤◌, ◌^◌, length, vec_len};
 ghost use Rattle.model_medium.specs.Cells.{AreWhole};
+ghost use Rattle.ram_bytes.specs.declared.block.TheConstants.{BLOCK_BYTES};
 ghost use Rattle.ram_medium.specs.Slots.{slot_cells};
 
 use crate::blocks::Medium;
@@ -86,9 +87,10 @@ impl MemMedium {
         }
     }
 
-    /// A read, as the trait has it.
-    fn read_block(&mut self, block: u32, into: &mut Block) -> ReadEnd
-        requires { block < vec_len self.old.slots }
+    /// A read into bytes. They change only where all of the block was read.
+    fn read_bytes(&mut self, block: u32, into: &mut [u8]) -> ReadEnd
+        requires inside { block < vec_len self.old.slots }
+        requires whole { length into.old ≡ BLOCK_BYTES }
         ensures event { MemTakes self.old self.new (Read block into.old into.new result) }
         ensures len { vec_len self.new.slots ≡ vec_len self.old.slots }
     {
@@ -106,6 +108,17 @@ impl MemMedium {
                 }
             }
         }
+    }
+
+    /// A read into a block, as the trait has it.
+    fn read_block(&mut self, block: u32, into: &mut Block) -> ReadEnd
+        requires { block < vec_len self.old.slots }
+        ensures event { MemTakes self.old self.new (Read block into.old into.new result) }
+        ensures len { vec_len self.new.slots ≡ vec_len self.old.slots }
+    {
+        let bytes = into.bytes_mut();
+        let end = self.read_bytes(block, bytes);
+        end
     }
 
     /// A write, as the trait has it.
@@ -158,6 +171,10 @@ impl Medium for MemMedium {
 
     fn read(&mut self, block: u32, into: &mut Block) -> ReadEnd {
         self.read_block(block, into)
+    }
+
+    fn read_into(&mut self, block: u32, into: &mut [u8]) -> ReadEnd {
+        self.read_bytes(block, into)
     }
 
     fn write(&mut self, block: u32, from: &Block) -> WriteEnd {

@@ -60,8 +60,9 @@ pub(crate) fn kill_where(slots: &mut Vec<Slot>, block: u32, dies: bool)
 }
 
 /// Reads a slot with whole bytes. Whether it has any; else `into` is as it was.
-pub(crate) fn read_slot(slots: &Vec<Slot>, block: u32, into: &mut Block) -> bool
-    requires { block < vec_len slots.now }
+pub(crate) fn read_slot(slots: &Vec<Slot>, block: u32, into: &mut [u8]) -> bool
+    requires inside { block < vec_len slots.now }
+    requires whole { length into.old ≡ BLOCK_BYTES }
     ensures { MatchBool result
         (cell_at (slot_cells slots.now.items) block ≡ Good into.new)
         ((¬ IsGood (cell_at (slot_cells slots.now.items) block)) × (into.new ≡ into.old)) }
@@ -69,7 +70,7 @@ pub(crate) fn read_slot(slots: &Vec<Slot>, block: u32, into: &mut Block) -> bool
     let slot = &slots[block as usize];
     match slot.state {
         State::Good => {
-            into.copy_from(&slot.block);
+            into.copy_from_slice(slot.block.bytes());
             true
         }
         State::Blank => false,

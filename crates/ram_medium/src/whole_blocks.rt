@@ -1,9 +1,11 @@
 //! Reads and writes over any medium, with the ways to stop as an error.
 
-ghost use Rattle.std.specs.Prelude.{◌≡◌, ◌<◌, MatchResult};
+ghost use Rattle.std.specs.Prelude.{◌≡◌, ◌<◌, MatchResult, [], length};
 ghost use Rattle.model_medium.specs.World.{WritesCell};
 ghost use Rattle.model_medium.specs.Exact.{Read, Write};
 ghost use Rattle.model_stops.specs.Stops.{Continues, Stops};
+ghost use Rattle.ram_bytes.specs.declared.block.TheConstants.{BLOCK_BYTES};
+ghost use Rattle.ram_medium.specs.ReadInto.{bytes_read};
 ghost use Rattle.ram_medium.specs.WholeBlocks.{StoppedRead, EndedRead, StoppedWrite, read_end, write_end};
 
 use crate::blocks::Medium;
@@ -24,6 +26,30 @@ pub fn read_whole<M: Medium>(medium: &mut M, block: u32, into: &mut Block) -> Re
     ensures as_many { M.block_count medium.new ≡ M.block_count medium.old }
 {
     match medium.read(block, into) {
+        ReadEnd::Done => Ok(true),
+        ReadEnd::Unreadable => Ok(false),
+        ReadEnd::Cut => Err(Stop::Cut),
+        ReadEnd::Off => Err(Stop::Off),
+        ReadEnd::Failed => Err(Stop::Fault),
+    }
+}
+
+/// Reads a block straight into the caller's bytes, as many as a block has. Whether it has whole bytes, or why the read was
+/// stopped; what the caller's bytes are then is said only where it has.
+pub fn read_whole_into<M: Medium>(medium: &mut M, block: u32, into: &mut [u8]) -> Result<bool, Stop>
+    requires inside { block < M.block_count medium.old }
+    requires whole { length into.old ≡ BLOCK_BYTES }
+    ensures rule { MatchResult result
+        (EndedRead (M.world medium.old) (M.world medium.new) block [] (bytes_read (read_end result) into.new))
+        (StoppedRead (M.world medium.old) (M.world medium.new) block [] []) }
+    ensures continues { MatchResult result
+        (λ whole. Continues M.world M.reaches medium.old medium.new 1)
+        (Stops M.world M.reaches medium.old medium.new 1) }
+    ensures event { M.takes medium.old medium.new
+        (Read block [] (bytes_read (read_end result) into.new) (read_end result)) }
+    ensures as_many { M.block_count medium.new ≡ M.block_count medium.old }
+{
+    match medium.read_into(block, into) {
         ReadEnd::Done => Ok(true),
         ReadEnd::Unreadable => Ok(false),
         ReadEnd::Cut => Err(Stop::Cut),
