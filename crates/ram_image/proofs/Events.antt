@@ -1,8 +1,8 @@
 -- A use of a controllable medium in two parts: it begins, and then the block is read or left.
-use Rattle.std.specs.Prelude.{◌≡◌, ℕ, IsTrue, is_some, Option, Some, None, IsSome, List}
+use Rattle.std.specs.Prelude.{◌≡◌, ℕ, IsTrue, is_some, Option, Some, None, IsSome, List, []}
 use Rattle.std.specs.Bool.{OnTrue}
 use Rattle.std.specs.Option.{option_map_or}
-use Rattle.std.proofs.Common.{sym, ap, ◌∙◌, inl, inr, subst, arith}
+use Rattle.std.proofs.Common.{refl, sym, ap, ◌∙◌, inl, inr, subst, arith}
 use Rattle.model_medium.specs.Cells.{Good, cell_at, IsSameOrDead, MayLeave, written, cut_short}
 use Rattle.model_medium.specs.World.{IsUse, HasFailed}
 use Rattle.model_medium.specs.Machine.{Machine, fate_due, begun, cut_off, with_cell, after_read}
@@ -79,3 +79,11 @@ module _ (old mid new : Machine) (block : ℕ) (was_on : IsTrue old.world.power)
   }
   event_cut_write bytes fate due writes.Off rule = absurd rule
   event_cut_write bytes fate due writes.Failed rule = failed_write bytes rule
+
+-- a read that was not done, into bytes that then stayed as they were
+pub event_left : (old new : Machine) (block : ℕ) (gave into into' : List ℕ) (how : ReadEnd) → ¬ (how ≡ reads.Done) → into' ≡ into → ReadExactly old new block [] gave how → ReadExactly old new block into into' how
+event_left old new block gave into into' reads.Done not_done same exactly = absurd (not_done refl)
+event_left old new block gave into into' reads.Unreadable not_done same exactly = record { was_on = exactly.was_on; not_due = exactly.not_due; exactly = exactly.exactly; not_good = exactly.not_good; kept = same }
+event_left old new block gave into into' reads.Cut not_done same exactly = (exactly.0, same)
+event_left old new block gave into into' reads.Off not_done same exactly = (exactly.0, same)
+event_left old new block gave into into' reads.Failed not_done same exactly = (record { one = exactly.0.one; failed = exactly.0.failed; left = exactly.0.left; kept = same }, exactly.1)

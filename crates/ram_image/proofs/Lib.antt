@@ -1,4 +1,4 @@
-pub mod BlockReads
+pub mod CellReads
 pub mod CellSteps
 pub mod ByteSteps
 pub mod TellsCells

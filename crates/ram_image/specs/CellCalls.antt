@@ -1,5 +1,5 @@
 -- What each call on the cell of one block of an image may do, by its answer: for the functions of `cells`.
-use Rattle.std.specs.Prelude.{◌≡◌, ℕ, Bool, MatchBool, Option, IfSome, List, take, drop}
+use Rattle.std.specs.Prelude.{◌≡◌, ℕ, Bool, MatchBool, Option, IfSome, List}
 use Rattle.model_counts.specs.Counts.{Rose}
 use Rattle.model_bytes.specs.Known.{WhereKnown}
 use Rattle.model_medium.specs.Cells.{Cell, Good, Dead, IsGood, cell_at, cut_short}
@@ -54,14 +54,7 @@ abbrev pub BytesRule : CellCall → (List ℕ → List ℕ → Type 0) → (List
 BytesRule call done failed moves.Done = WhereKnown call.before call.after done
 BytesRule call done failed moves.Failed = WhereKnown call.before call.after failed
 
--- What a read of a whole block's bytes from `at` on may do, by its answer.
-module _ {I : Type 0} (images : Images I) where
-  abbrev pub ReadBlockRule : I → I → ℕ → List ℕ → Moved → Type 0
-  ReadBlockRule old new at into moves.Done = IsUnchanged (images.bytes old) (images.bytes new) (images.faults old) (images.faults new)
-      × IfSome (images.bytes old) (λ held. into ≡ take 32768 (drop at held))
-  ReadBlockRule old new at into moves.Failed = ImageFails (images.bytes old) (images.bytes new) (images.faults old) (images.faults new)
-
--- What a read of a block's cell may do, by its answer; `into` is what the block that is read into then holds.
+-- What a read of a block's cell may do, by its answer; `into` is what the bytes that it is read into then are.
 abbrev pub ReadCellRule : CellCall → List ℕ → CellRead → Type 0
 ReadCellRule call into reads.Good = ChangesNothing call × IfSome call.before (λ held. cell_in call.total held call.block ≡ Good into)
 ReadCellRule call into reads.NotGood = ChangesNothing call × IfSome call.before (λ held. ¬ IsGood (cell_in call.total held call.block))

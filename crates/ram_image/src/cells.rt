@@ -8,7 +8,7 @@ ghost use Rattle.model_image.specs.Writes.{torn_state, dead_state};
 ghost use Rattle.model_medium.specs.Cells.{Torn, Dead};
 ghost use Rattle.ram_bytes.specs.declared.block.TheConstants.{BLOCK_BYTES};
 ghost use Rattle.ram_image.specs.CellCalls.{WriteStateRule, WriteStateBytes, WriteCellRule, WriteCellBytes, KillWhereRule, KillWhereBytes};
-ghost use Rattle.ram_image.specs.CellCalls.{cell_call, ReadBlockRule, ReadCellRule, ReadStateRule, LeaveCellRule, LeaveCellBytes};
+ghost use Rattle.ram_image.specs.CellCalls.{cell_call, ReadCellRule, ReadStateRule, LeaveCellRule, LeaveCellBytes};
 
 use crate::header::HEADER_BYTES;
 use ram_bytes::{BLOCK_BYTES, Block};
@@ -35,9 +35,11 @@ pub enum CellRead {
     Failed,
 }
 
-/// Reads the cell of a block in an image of so many blocks: its state byte, and its data where it has whole bytes.
-pub fn read_cell<I: Image>(image: &mut I, total: u32, block: u32, into: &mut Block) -> CellRead
+/// Reads the cell of a block in an image of so many blocks: its state byte, and then, where it has whole bytes, its data
+/// straight into the caller's bytes.
+pub fn read_cell<I: Image>(image: &mut I, total: u32, block: u32, into: &mut [u8]) -> CellRead
     requires inside { block < total }
+    requires fits { length into.old ≡ BLOCK_BYTES }
     requires whole { ForSome (I.bytes image.old) (λ held. length held ≡ image_len total) }
     ensures { ReadCellRule (cell_call I.Image total block image.old image.new) into.new result }
 {
@@ -49,20 +51,10 @@ pub fn read_cell<I: Image>(image: &mut I, total: u32, block: u32, into: &mut Blo
     if state[0] != GOOD {
         return CellRead::NotGood;
     }
-    match read_block(image, data_place(total, block), into) {
+    match image.read_at(data_place(total, block), into) {
         Moved::Failed => CellRead::Failed,
         Moved::Done => CellRead::Good,
     }
-}
-
-/// Reads a whole block from `at` on.
-fn read_block<I: Image>(image: &mut I, at: u64, into: &mut Block) -> Moved
-    requires { ForSome (I.bytes image.old) (λ held. at + BLOCK_BYTES ≤ length held) }
-    ensures { ReadBlockRule I.Image image.old image.new at into.new result }
-{
-    let bytes = into.bytes_mut();
-    let moved = image.read_at(at, bytes);
-    moved
 }
 
 /// Writes the cell of a block that is not dead, in an image of so many blocks: the state byte of a torn block, the

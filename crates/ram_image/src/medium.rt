@@ -41,6 +41,8 @@ impl<I: Image> ImageMedium<I> {
     ghost use Rattle.model_geometry.specs.Geometry.{total};
     ghost use Rattle.model_medium.specs.Machine.{cut_off};
     ghost use Rattle.model_medium.specs.Exact.{Read, Write};
+    ghost use Rattle.ram_bytes.specs.declared.block.TheConstants.{BLOCK_BYTES};
+    ghost use Rattle.ram_medium.specs.ReadInto.{bytes_read};
     ghost use Rattle.ram_image.specs.Medium.{shape_of_medium, world_of, machine_in, bytes_in, dies_in, ImageTakes};
     ghost use Rattle.ram_image.specs.Begun.{IsNew, ImageBeginRule, BeginBytes, ReadOnRule, WriteCutRule, WriteCutBytes, LeaveRule, LeaveBytes};
 
@@ -88,6 +90,7 @@ impl<I: Image> ImageMedium<I> {
         ensures rule { ImageBeginRule (machine_in self.old) (machine_in self.new) block result }
         ensures bytes { BeginBytes (dies_in self.old block) block (bytes_in self.old) (bytes_in self.new) result }
         ensures same_shape { shape_of_medium self.new ≡ shape_of_medium self.old }
+        ensures same_room { self.new.room ≡ self.old.room }
     {
         self.uses = self.uses.saturating_add(1);
         let due = self.armed.count(block);
@@ -108,15 +111,18 @@ impl<I: Image> ImageMedium<I> {
         ensures machine { machine_in self.new ≡ cut_off (machine_in self.old) }
         ensures bytes { bytes_in self.new ≡ bytes_in self.old }
         ensures same_shape { shape_of_medium self.new ≡ shape_of_medium self.old }
+        ensures same_room { self.new.room ≡ self.old.room }
     {
         self.cuts = self.cuts.saturating_add(1);
         self.powered = false;
     }
 
-    /// A read, as the trait has it.
-    fn read_block(&mut self, block: u32, into: &mut Block) -> ReadEnd
-        requires { block < total (shape_of_medium self.old) }
-        ensures { ImageTakes self.old self.new (Read block into.old into.new result) }
+    /// A read straight into the caller's bytes, as the trait has it.
+    fn read_bytes(&mut self, block: u32, into: &mut [u8]) -> ReadEnd
+        requires inside { block < total (shape_of_medium self.old) }
+        requires whole { length into.old ≡ BLOCK_BYTES }
+        ensures event { ImageTakes self.old self.new (Read block [] (bytes_read result into.new) result) }
+        ensures same_room { self.new.room ≡ self.old.room }
     {
         if !self.powered {
             return ReadEnd::Off;
@@ -132,28 +138,42 @@ impl<I: Image> ImageMedium<I> {
     }
 
     /// Reads the cell of a block in a use that goes on.
-    fn read_on(&mut self, block: u32, into: &mut Block) -> ReadEnd
-        requires { block < total (shape_of_medium self.old) }
-        ensures rule { ReadOnRule (machine_in self.old) (machine_in self.new) block into.old into.new result }
+    fn read_on(&mut self, block: u32, into: &mut [u8]) -> ReadEnd
+        requires inside { block < total (shape_of_medium self.old) }
+        requires whole { length into.old ≡ BLOCK_BYTES }
+        ensures rule { ReadOnRule (machine_in self.old) (machine_in self.new) block
+            [] (bytes_read result into.new) result }
         ensures bytes { bytes_in self.new ≡ bytes_in self.old }
         ensures same_shape { shape_of_medium self.new ≡ shape_of_medium self.old }
+        ensures same_room { self.new.room ≡ self.old.room }
     {
-        match read_cell(
-            &mut self.image,
-            self.geometry.total(),
-            block,
-            &mut self.room,
-        ) {
-            CellRead::Good => {
-                swap(&mut self.room, into);
-                ReadEnd::Done
-            }
+        match read_cell(&mut self.image, self.geometry.total(), block, into) {
+            CellRead::Good => ReadEnd::Done,
             CellRead::NotGood => ReadEnd::Unreadable,
             CellRead::Failed => {
                 self.powered = false;
                 ReadEnd::Failed
             }
         }
+    }
+
+    /// A read into a block, as the trait has it. While it goes on, the medium's room keeps the bytes that the block had,
+    /// and gives them back but for `Done`.
+    fn read_block(&mut self, block: u32, into: &mut Block) -> ReadEnd
+        requires { block < total (shape_of_medium self.old) }
+        ensures { ImageTakes self.old self.new (Read block into.old into.new result) }
+    {
+        swap(&mut self.room, into);
+        let bytes = into.bytes_mut();
+        let end = self.read_bytes(block, bytes);
+        match end {
+            ReadEnd::Done => {}
+            ReadEnd::Unreadable => swap(&mut self.room, into),
+            ReadEnd::Cut => swap(&mut self.room, into),
+            ReadEnd::Off => swap(&mut self.room, into),
+            ReadEnd::Failed => swap(&mut self.room, into),
+        }
+        end
     }
 
     /// A write, as the trait has it.
@@ -234,6 +254,10 @@ impl<I: Image> Medium for ImageMedium<I> {
 
     fn read(&mut self, block: u32, into: &mut Block) -> ReadEnd {
         self.read_block(block, into)
+    }
+
+    fn read_into(&mut self, block: u32, into: &mut [u8]) -> ReadEnd {
+        self.read_bytes(block, into)
     }
 
     fn write(&mut self, block: u32, from: &Block) -> WriteEnd {

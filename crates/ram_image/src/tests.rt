@@ -8,11 +8,12 @@ use std::alloc::Global;
 use std::test::Fail;
 
 /// What is done to a medium.
-#[derive(Clone, Copy, Debug)]
+#[derive(Clone, Copy, Debug, PartialEq, Eq)]
 enum Step {
     On,
     Off,
     Read(u32),
+    ReadInto(u32),
     Write(u32, u8),
     Fails(u32),
     Wear(u32, u32),
@@ -32,11 +33,31 @@ enum Answer {
     Full,
 }
 
+/// What a block is full of before it is read into: a byte that no step writes.
+const BEFORE_A_READ: u8 = 0x99;
+
 fn read<M: MediumControl>(medium: &mut M, number: u32, block: &mut Block) -> Answer {
     if number >= medium.blocks() {
         return Answer::NoBlock;
     }
-    match medium.read(number, block) {
+    block.fill(BEFORE_A_READ);
+    let end = medium.read(number, block);
+    read_answer(end, block)
+}
+
+fn read_into<M: MediumControl>(medium: &mut M, number: u32, block: &mut Block) -> Answer {
+    if number >= medium.blocks() {
+        return Answer::NoBlock;
+    }
+    block.fill(BEFORE_A_READ);
+    let bytes = block.bytes_mut();
+    let end = medium.read_into(number, bytes);
+    read_answer(end, block)
+}
+
+/// What a read answers that left this block.
+fn read_answer(end: ReadEnd, block: &Block) -> Answer {
+    match end {
         ReadEnd::Done => Answer::Filled(
             block.bytes()[0] ^ block.bytes()[1] ^ block.bytes()[32_767],
         ),
@@ -80,6 +101,7 @@ fn take<M: MediumControl>(medium: &mut M, step: Step, block: &mut Block) -> Answ
         Step::On => medium.power_on(),
         Step::Off => medium.power_off(),
         Step::Read(number) => return read(medium, number, block),
+        Step::ReadInto(number) => return read_into(medium, number, block),
         Step::Write(number, byte) => {
             block.fill(byte);
             return write(medium, number, block);
@@ -89,6 +111,14 @@ fn take<M: MediumControl>(medium: &mut M, step: Step, block: &mut Block) -> Answ
         Step::Cut(n, fate) => medium.arm_cut(n.max(1), fate),
     }
     Answer::Done
+}
+
+/// The same step, where a read goes straight into the caller's bytes.
+fn straight(step: Step) -> Step {
+    match step {
+        Step::Read(number) => Step::ReadInto(number),
+        other => other,
+    }
 }
 
 /// A pressed disc of one zone, 41 blocks.
@@ -175,23 +205,34 @@ fn both_media_take_the_same_steps(rt: HostRuntime) -> Result<(), Fail> {
         (Wear(41, 1), NoBlock),
         (Read(40), Unreadable),
     ];
-    let mut block = Block::zeros(rt.alloc())?;
-    let mut in_memory = MemMedium::new(rt.alloc(), 41, Vec::new(rt.alloc()))?;
-    let mut over_image = opened(rt.alloc(), pressed(rt.alloc())?)?;
+    for into_bytes in [false, true] {
+        assert_eq!(rt; first_wrong(rt.alloc(), &steps, into_bytes)?, None);
+    }
+    Ok(())
+}
+
+/// Takes a new medium in memory and one over an image through these steps. The first of which an answer is another one,
+/// with what the two media answered.
+fn first_wrong(
+    alloc: Global,
+    steps: &[(Step, Answer)],
+    into_bytes: bool,
+) -> Result<Option<(Step, Answer, Answer)>, Fail> {
+    let mut block = Block::zeros(alloc)?;
+    let mut in_memory = MemMedium::new(alloc, 41, Vec::new(alloc))?;
+    let mut over_image = opened(alloc, pressed(alloc)?)?;
+    let mut wrong = None;
     for (step, answer) in steps {
-        assert_eq!(rt;
-            take(&mut in_memory, step, &mut block),
-            answer,
-            "{step:?} in memory"
-        );
-        assert_eq!(rt;
-            take(&mut over_image, step, &mut block),
-            answer,
-            "{step:?} over an image"
-        );
+        let step = if into_bytes { straight(*step) } else { *step };
+        let one = take(&mut in_memory, step, &mut block);
+        let other = take(&mut over_image, step, &mut block);
+        if one != *answer || other != *answer {
+            wrong = Some((step, one, other));
+            break;
+        }
     }
     let _ = over_image.into_image();
-    Ok(())
+    Ok(wrong)
 }
 
 #[test]
@@ -211,7 +252,7 @@ fn at_most_64_arms_stand(rt: HostRuntime) -> Result<(), Fail> {
 
 #[test]
 fn the_named_uses_fail(rt: HostRuntime) -> Result<(), Fail> {
-    let failing = [2, 3].to_vec(rt.alloc())?;
+    let failing = [2, 3, 5].to_vec(rt.alloc())?;
     let mut block = Block::zeros(rt.alloc())?;
     let mut medium = MemMedium::new(rt.alloc(), 2, failing)?;
     for (step, answer) in [
@@ -223,20 +264,29 @@ fn the_named_uses_fail(rt: HostRuntime) -> Result<(), Fail> {
         (Step::Write(1, 0xbb), Answer::Failed),
         (Step::On, Answer::Done),
         (Step::Read(1), Answer::Filled(0xaa)),
+        (Step::ReadInto(1), Answer::Failed),
+        (Step::ReadInto(1), Answer::PowerOff),
+        (Step::On, Answer::Done),
+        (Step::ReadInto(1), Answer::Filled(0xaa)),
     ] {
         assert_eq!(rt; take(&mut medium, step, &mut block), answer, "{step:?}");
     }
     Ok(())
 }
 
-/// Writes a block anew on an image that fails at one of its calls, and reads what it then has.
-fn rewritten(alloc: Global, image: MemImage, block: &mut Block) -> Result<(Answer, Answer), Fail> {
+/// Writes a block anew on an image that fails at one of its calls, and reads by this step what it then has.
+fn rewritten(
+    alloc: Global,
+    image: MemImage,
+    read: Step,
+    block: &mut Block,
+) -> Result<(Answer, Answer), Fail> {
     let mut medium = opened(alloc, image)?;
     medium.power_on();
     take(&mut medium, Step::Write(5, 0xaa), block);
     let answer = take(&mut medium, Step::Write(5, 0xbb), block);
     medium.power_on();
-    let after = take(&mut medium, Step::Read(5), block);
+    let after = take(&mut medium, read, block);
     let _ = medium.into_image();
     Ok((answer, after))
 }
@@ -254,10 +304,12 @@ fn a_write_over_an_image_that_fails(rt: HostRuntime) -> Result<(), Fail> {
         (12, Answer::Done, Answer::Failed),
         (13, Answer::Done, Answer::Filled(0xbb)),
     ] {
-        let failing = [call].to_vec(rt.alloc())?;
-        let image = MemImage::new(pressed(rt.alloc())?.bytes().to_vec(rt.alloc())?, failing);
-        let found = rewritten(rt.alloc(), image, &mut block)?;
-        assert_eq!(rt; found, (answer, after), "call {call}");
+        for read in [Step::Read(5), Step::ReadInto(5)] {
+            let failing = [call].to_vec(rt.alloc())?;
+            let image = MemImage::new(pressed(rt.alloc())?.bytes().to_vec(rt.alloc())?, failing);
+            let found = rewritten(rt.alloc(), image, read, &mut block)?;
+            assert_eq!(rt; found, (answer, after), "call {call}, {read:?}");
+        }
     }
     Ok(())
 }

@@ -12,14 +12,14 @@ pub returns-in-Good-clause-rule : goal.returns-in-Good-clause-rule
 returns-in-Good-clause-rule g c = (
   exactly_same (label_of c.args.self.now.geometry) (total c.args.self.now.geometry) _ _ c.args.self.now.powered c.args.self.now.uses c.args.self.now.cuts _ _ (arms_of c.args.self.now.armed) (armed_cut_of c.args.self.now.armed)
       c.in-Good.ensures.0.same c.in-Good.ensures.0.count,
-  rw c.swap.ensures.y_after (cell_found (total c.args.self.now.geometry) c.args.block (λ cell. cell ≡ Good c.read_cell.new.into) c.requires _ _ c.in-Good.ensures.0.same
-      (rw c.total.ensures.blocks at c.in-Good.ensures.1)),
+  cell_found (total c.args.self.now.geometry) c.args.block (λ cell. cell ≡ Good c.read_cell.new.into) c.requires.inside _ _ c.in-Good.ensures.0.same
+      (rw c.total.ensures.blocks at c.in-Good.ensures.1),
 )
 
 pub returns-in-NotGood-clause-rule : goal.returns-in-NotGood-clause-rule
 returns-in-NotGood-clause-rule g c = (
   exactly_same (label_of c.args.self.now.geometry) (total c.args.self.now.geometry) _ _ c.args.self.now.powered c.args.self.now.uses c.args.self.now.cuts _ _ (arms_of c.args.self.now.armed) (armed_cut_of c.args.self.now.armed)
       c.in-NotGood.ensures.0.same c.in-NotGood.ensures.0.count,
-  not_good_found (total c.args.self.now.geometry) c.args.block c.requires _ _ c.in-NotGood.ensures.0.same (rw c.total.ensures.blocks at c.in-NotGood.ensures.1),
+  not_good_found (total c.args.self.now.geometry) c.args.block c.requires.inside _ _ c.in-NotGood.ensures.0.same (rw c.total.ensures.blocks at c.in-NotGood.ensures.1),
   refl,
 )
