@@ -1,18 +1,20 @@
 -- A read of a request, block after block: how many of its sectors were read before a block, that their bytes are the
 -- disc's, and how many uses of a medium the blocks take. All is over numbers and lists, and knows no drive.
 use Rattle.std.specs.Prelude.{◌≡◌, ℕ, zero, suc, ◌+◌, ◌-◌, ◌*◌, ◌<◌, ◌≤◌, ◌⊎◌, min, true, IsTrue, if◌then◌else◌, List, ◌++◌, length, take, drop}
-use Rattle.std.proofs.Common.{sym, ap, ◌∙◌, inl, inr, subst, arith}
+use Rattle.std.proofs.Common.{sym, ap, ◌∙◌, inl, inr, subst, arith, append_assoc}
 use Rattle.std.proofs.lemmas.Bool.{cases_eq, cond-true, cond-false, false_from_ne_true}
-use Rattle.std.proofs.lemmas.List.{length-map, take_all}
+use Rattle.std.proofs.lemmas.List.{length-map, take_all, drop-take, drop-drop}
+use Rattle.std.proofs.Math.Seq.{drop-append_seam}
 use Rattle.model_bytes.specs.Bytes.{put_at}
 use Rattle.model_bytes.proofs.Laws.{length-put_at, take-put_at-end}
 use Rattle.model_buffer.specs.Buffer.{numbers_in}
 use Rattle.model_buffer.specs.declared.TheConstants.{BUFFERED_BLOCKS}
 use Rattle.model_sectors.specs.Discs.{sectors_of, block_of}
-use Rattle.model_sectors.specs.Requests.{block_with, blocks_covered, start_in, end_in, taken_from, filled_by}
+use Rattle.model_sectors.specs.Requests.{block_with, blocks_covered, start_in, end_in, is_partly, part_of, merged_in, taken_from, filled_by}
 use Rattle.model_sectors.specs.Uses.{touched_from, is_at_hand, read_uses}
-use Rattle.model_sectors.proofs.Pieces.{sectors_in_block, sectors_more, sectors_none, length_sectors}
-use Rattle.model_sectors.proofs.Covering.{covered_part, covered_after, covered_all}
+use Rattle.model_sectors.proofs.Pieces.{put_at-whole, sectors_in_block, sectors_more, sectors_none, length_sectors}
+use Rattle.model_sectors.proofs.Covering.{covered_part, covered_after, covered_all, wholly_start, wholly_end}
+use Rattle.model_sectors.proofs.Merges.{length_part_of}
 
 -- how many sectors of a request lie before the block after k others
 abbrev pub done : (lba n k : ℕ) → ℕ
@@ -74,6 +76,56 @@ prefix_more lba n k blocks disc block into into' covered inside long whole is pu
           ∙ sym (sectors_more disc lba at count)
           ∙ ap (λ (m : ℕ). sectors_of disc lba m) (sym next),
     )
+
+-- a block that the request covers wholly has its bytes among those that were read before the next one
+pub whole_block_read : (lba n j blocks : ℕ) (disc into room : List ℕ) → ¬ IsTrue (is_partly lba n (block_with lba + j)) → j < blocks_covered lba n → lba + n ≤ 16 * blocks → length disc ≡ 32768 * blocks
+    → length into ≡ 2048 * n → length room ≡ 32768 → take (2048 * done lba n (suc j)) into ≡ sectors_of disc lba (done lba n (suc j))
+    → merged_in lba n into (block_with lba + j) room ≡ block_of disc (block_with lba + j)
+unfolding merged_in part_of sectors_of block_of
+whole_block_read lba n j blocks disc into room wholly covered inside long whole room_whole prefix =
+    let i : ℕ = block_with lba + j in
+    let start = wholly_start lba n i wholly in
+    let end = wholly_end lba n i wholly in
+    let at : ℕ = 16 * i - lba in
+    let none : 2048 * (start_in lba i - 16 * i) ≡ 0 = omega arith in
+    let count : 2048 * (end_in lba n i - start_in lba i) ≡ 32768 = omega arith in
+    let place : 2048 * (start_in lba i - lba) ≡ 2048 * at = omega arith in
+    let after = done_after lba n j covered in
+    let next : done lba n (suc j) ≡ at + 16 = omega arith in
+    let up_to : 2048 * at + 32768 ≡ 2048 * done lba n (suc j) = omega arith in
+    let there : 2048 * (lba + at) ≡ 32768 * i = omega arith in
+    let part_long : length (part_of lba n into i) ≡ length room = length_part_of lba n into i whole ∙ count ∙ sym room_whole in
+    let before_long : length (sectors_of disc lba at) ≡ 2048 * at = length_sectors disc blocks lba at (omega arith) long in
+    ap (λ (m : ℕ). put_at m (part_of lba n into i) room) none
+    ∙ put_at-whole (part_of lba n into i) room (omega (arith, part_long))
+    ∙ ap (λ (m : ℕ). take m (drop (2048 * (start_in lba i - lba)) into)) count
+    ∙ ap (λ (m : ℕ). take 32768 (drop m into)) place
+    ∙ sym (drop-take (2048 * at) 32768 into)
+    ∙ ap (λ (m : ℕ). drop (2048 * at) (take m into)) up_to
+    ∙ ap (drop (2048 * at)) prefix
+    ∙ ap (λ (m : ℕ). drop (2048 * at) (sectors_of disc lba m)) next
+    ∙ ap (drop (2048 * at)) (sectors_more disc lba at 16)
+    ∙ ap (λ (m : ℕ). drop m (sectors_of disc lba at ++ sectors_of disc (lba + at) 16)) (sym before_long)
+    ∙ drop-append_seam (sectors_of disc lba at) (sectors_of disc (lba + at) 16)
+    ∙ ap (λ (m : ℕ). take 32768 (drop m disc)) there
+
+-- a whole block's bytes that were put among those of the request fill its place there
+pub filled_whole : (lba n i at : ℕ) (block into : List ℕ) → ¬ IsTrue (is_partly lba n i) → at ≡ 2048 * (start_in lba i - lba) → length block ≡ 32768
+    → take at into ++ (block ++ drop (at + 32768 - at) (drop at into)) ≡ filled_by lba n i block into
+unfolding filled_by taken_from
+filled_whole lba n i at block into wholly at_is long =
+    let start = wholly_start lba n i wholly in
+    let end = wholly_end lba n i wholly in
+    let many : at + 32768 - at ≡ length block = omega (arith, long) in
+    let first : 2048 * (start_in lba i - 16 * i) ≡ 0 = omega arith in
+    let count : 2048 * (end_in lba n i - start_in lba i) ≡ length block = omega (arith, long) in
+    let all : block ≡ take (2048 * (end_in lba n i - start_in lba i)) (drop (2048 * (start_in lba i - 16 * i)) block) =
+    sym (ap (λ (m : ℕ). take m (drop (2048 * (start_in lba i - 16 * i)) block)) count ∙ ap (λ (m : ℕ). take (length block) (drop m block)) first ∙ take_all (length block) block (omega arith)) in
+    ap (λ (m : ℕ). take at into ++ (block ++ drop m (drop at into))) many
+    ∙ ap (λ (l : List ℕ). take at into ++ (block ++ l)) (drop-drop (length block) at into)
+    ∙ sym (append_assoc (take at into) block (drop (at + length block) into))
+    ∙ ap (λ (m : ℕ). put_at m block into) at_is
+    ∙ ap (λ (l : List ℕ). put_at (2048 * (start_in lba i - lba)) l into) all
 
 -- before the first block nothing is to be read
 pub prefix_none : (lba n : ℕ) (disc into : List ℕ) → take (2048 * done lba n 0) into ≡ sectors_of disc lba (done lba n 0)

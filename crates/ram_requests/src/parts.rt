@@ -40,7 +40,7 @@ impl Part {
     }
 
     /// The byte of the request at which it begins.
-    fn skipped(self) -> usize
+    pub fn skipped(self) -> usize
         ensures { result ≡ 2048 * (self.start - self.request.lba) }
     {
         SECTOR_BYTES * (self.start - self.request.lba) as usize

@@ -24,3 +24,4 @@ mod WriteTurns
 mod CallSteps
 mod Somes
 mod Held
+pub mod ReadAhead

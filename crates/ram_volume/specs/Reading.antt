@@ -1,13 +1,13 @@
 -- What a read does with the parts of its request, and what the drive stands for after it. `held` are the blocks that were
 -- buffered before, and `held'` those after it. (This project's own, as all here.)
-use Rattle.std.specs.Prelude.{◌≡◌, ℕ, ◌+◌, ◌<◌, ◌≤◌, ◌⊎◌, Bool, true, IsTrue, MatchBool, Option, Some, None, Result, Ok, Err, List, length}
+use Rattle.std.specs.Prelude.{◌≡◌, ℕ, zero, suc, ◌+◌, ◌-◌, ◌*◌, ◌<◌, ◌≤◌, ◌⊎◌, Bool, true, false, IsTrue, MatchBool, Option, Some, None, Result, Ok, Err, List, [], length, take}
 use Rattle.model_geometry.specs.Geometry.{Shape}
 use Rattle.model_medium.specs.Cells.{Cell, IsGood, cell_at}
 use Rattle.model_medium.specs.World.{World}
-use Rattle.model_buffer.specs.Buffer.{numbers_in}
+use Rattle.model_buffer.specs.Buffer.{numbers_in, bytes_at, with_newest}
 use Rattle.model_buffer.specs.declared.TheConstants.{BUFFERED_BLOCKS}
 use Rattle.model_sectors.specs.Discs.{Standing, sectors_of}
-use Rattle.model_sectors.specs.Requests.{block_with, blocks_covered, start_in, filled_by}
+use Rattle.model_sectors.specs.Requests.{block_with, blocks_covered, start_in, is_partly, merged_in, filled_by}
 use Rattle.model_sectors.specs.Uses.{touched_from, is_buffered, is_at_hand, read_uses}
 use Rattle.model_sectors.specs.declared.ReadOut.{ReadOut}
 use Rattle.model_sectors.specs.declared.ReadOut.TheVariants as outs
@@ -38,18 +38,53 @@ abbrev pub HaveBytes : Shape → Lists → List Cell → List ℕ → (first cou
 HaveBytes shape lists cells buffered first count = (k : ℕ) → k < count
     → IsGood (cell_at cells (home_of shape lists (first + k))) ⊎ IsTrue (is_buffered buffered (first + k))
 
+-- the bytes of a request before its part in a block are as they were
+abbrev pub KeepsBefore : (lba block : ℕ) → (into into' : List ℕ) → Type 0
+KeepsBefore lba block into into' =
+    take (2048 * (start_in lba block - lba)) into' ≡ take (2048 * (start_in lba block - lba)) into
+
+-- A block was read, and is still to be buffered: it is covered whole, and the buffer has nothing.
+pub record IsOwed (lba n block : ℕ) (held' : List (ℕ × List ℕ)) : Type 0 where
+  pub all : is_partly lba n block ≡ false
+  pub nothing : held' ≡ []
+
+-- A block is the one used last: it was buffered, or its bytes came out of those of a request. `room` is what the block had
+-- through which they went.
+pub record PutsNewest (lba n block : ℕ) (into room : List ℕ) (held held' : List (ℕ × List ℕ)) : Type 0 where
+  pub bytes : List ℕ
+  pub buffer_is : held' ≡ with_newest block bytes held
+  pub came : (bytes_at block held ≡ Some bytes)
+      ⊎ ((bytes_at block held ≡ None) × (length room ≡ 32768) × (bytes ≡ merged_in lba n into block room))
+
+-- the same of the block before the one after k others of a request, where there is such a one
+abbrev pub PutsBefore : (lba n k : ℕ) → (into room : List ℕ) → (held held' : List (ℕ × List ℕ)) → Type 0
+PutsBefore lba n zero into room held held' = held' ≡ held
+PutsBefore lba n (suc k) into room held held' = PutsNewest lba n (block_with lba + k) into room held held'
+
 module _ {M : Type 0} (world : M → World) (reaches : M → M → ℕ → Type 0) (old new : M)
     (held : List (ℕ × List ℕ)) where
-  module _ (lba n i place : ℕ) (held' : List (ℕ × List ℕ)) (into into' : List ℕ) where
+  module _ (lba n i place : ℕ) where
     -- the block was fetched, with these bytes, and what the request covers of it was copied
-    pub record IsCopied : Type 0 where
+    pub record IsCopied (held' : List (ℕ × List ℕ)) (into into' : List ℕ) : Type 0 where
       pub bytes : List ℕ
       pub fetched : IsFetched world reaches old new held i place bytes held'
       pub copied : into' ≡ filled_by lba n i bytes into
 
-    -- what a read of a part does, by whether its block can be read
-    abbrev pub ReadsPart : Bool → Type 0
-    ReadsPart found = MatchBool found IsCopied (CannotBeRead world reaches old new held i place held')
+    module _ (last : Bool) (held' : List (ℕ × List ℕ)) (into into' : List ℕ) where
+      -- The part was read. The buffer is then the one that is due, or the block is owed to it, if it is not the last one.
+      pub record IsReadPart : Type 0 where
+        pub due : List (ℕ × List ℕ)
+        pub copied : IsCopied due into into'
+        pub kept : (held' ≡ due) ⊎ ((last ≡ false) × IsOwed lba n i held')
+
+      -- its block cannot be read, and the parts before it are as they were
+      pub record IsUnreadPart : Type 0 where
+        pub unread : CannotBeRead world reaches old new held i place held'
+        pub before : KeepsBefore lba i into into'
+
+      -- what a read of a part does, by whether its block can be read
+      abbrev pub ReadsPart : Bool → Type 0
+      ReadsPart found = MatchBool found IsReadPart IsUnreadPart
 
   module _ (shape : Shape) (lists : Lists) (lba n : ℕ) where
     -- The block after so many is one of the request, and was not at hand. No cell changed but that of its home.

@@ -1,29 +1,60 @@
 //! Reads of sectors, one logical block after another.
 
-ghost use Rattle.std.specs.Prelude.{◌≡◌, ◌+◌, ◌*◌, ◌<◌, ◌≤◌, IsTrue, IfSome, MatchResult, length};
+ghost use Rattle.std.specs.Prelude.{◌≡◌, ◌+◌, ◌*◌, ◌<◌, ◌≤◌, IsTrue, IfSome, MatchResult, false, None, length};
 ghost use Rattle.model_commands.specs.declared.TheConstants.{TRANSFER_LIMIT};
 ghost use Rattle.model_geometry.specs.Geometry.{total};
-ghost use Rattle.model_sectors.specs.Requests.{blocks_covered};
+ghost use Rattle.model_sectors.specs.Requests.{blocks_covered, is_partly};
+ghost use Rattle.model_buffer.specs.Buffer.{bytes_at};
+ghost use Rattle.model_buffer.specs.declared.TheConstants.{BUFFERED_BLOCKS};
 ghost use Rattle.model_places.specs.Places.{logical_count, capacity_of, home_of};
 ghost use Rattle.model_places.specs.Valid.{AreValid};
 ghost use Rattle.model_drive.specs.Shown.{capacity};
 ghost use Rattle.model_drive.specs.Reads.{ReadCause, ReadCompletes, ReadIsQuiet};
 ghost use Rattle.ram_lists.specs.Lists.{lists_of};
 ghost use Rattle.ram_volume.specs.Blocks.{FetchStopped};
-ghost use Rattle.ram_volume.specs.Reading.{ReadsPart, PartsEnd, ReadSteps, read_end_at};
+ghost use Rattle.ram_volume.specs.Reading.{ReadsPart, PutsBefore, PartsEnd, ReadSteps, read_end_at};
 ghost use Rattle.ram_volume.specs.Shown.{shown_ready, shown_state};
 
 use crate::states::{PoweredOff, Ready, State};
 use model_sectors::ReadOut;
 use ram_buffer::BlockBuffer;
-use ram_bytes::Block;
+use ram_bytes::{BLOCK_BYTES, Block};
 use ram_lists::{Lists, home};
-use ram_medium::{Medium, MediumControl, Stop, read_whole};
+use ram_medium::{Medium, MediumControl, Stop, read_whole, read_whole_into};
 use ram_requests::{Part, Request};
 use ram_zones::Geometry;
 
-/// Reads a part of a request, out of the buffer or from the home of its block, which is buffered then. Whether its block can be
-/// read. Its bytes are copied once: into the buffer they go by an exchange of blocks.
+/// Reads a part that is a whole block from its home, straight to its place among the bytes of the request. Whether the block
+/// can be read. Then the buffer has nothing.
+fn read_through<M: Medium>(
+    medium: &mut M,
+    buffer: &mut BlockBuffer,
+    part: Part,
+    place: u32,
+    into: &mut [u8],
+) -> Result<bool, Stop>
+    requires inside { place < M.block_count medium.old }
+    requires few { length buffer.old ≤ BUFFERED_BLOCKS }
+    requires not_buffered { bytes_at part.block buffer.old ≡ None }
+    requires all { is_partly part.request.lba part.request.n part.block ≡ false }
+    requires whole { length into.old ≡ 2048 * part.request.n }
+    ensures rule { MatchResult result
+        (λ found. ReadsPart M.world M.reaches medium.old medium.new buffer.old
+        part.request.lba part.request.n part.block place false buffer.new into.old into.new found)
+        (λ stop. FetchStopped M.world M.reaches medium.old medium.new buffer.old part.block place stop) }
+    ensures as_many { M.block_count medium.new ≡ M.block_count medium.old }
+{
+    let at = part.skipped();
+    let read = read_whole_into(medium, place, &mut into[at..at + BLOCK_BYTES]);
+    if !read? {
+        return Ok(false);
+    }
+    buffer.drop_all();
+    Ok(true)
+}
+
+/// Reads a part of a request, out of the buffer or from the home of its block. Whether its block can be read. It is buffered
+/// then, but where it is a whole block that is not the last one of the request: the next one would take its place.
 fn read_part<M: Medium>(
     medium: &mut M,
     geometry: &Geometry,
@@ -31,6 +62,7 @@ fn read_part<M: Medium>(
     buffer: &mut BlockBuffer,
     block: &mut Block,
     part: Part,
+    last: bool,
     into: &mut [u8],
 ) -> Result<bool, Stop>
     requires size { M.block_count medium.old ≡ total geometry.now }
@@ -40,7 +72,7 @@ fn read_part<M: Medium>(
     ensures rule { MatchResult result
         (λ found. ReadsPart M.world M.reaches medium.old medium.new buffer.old
         part.request.lba part.request.n part.block (home_of geometry.now (lists_of lists.now) part.block)
-        buffer.new into.old into.new found)
+        last buffer.new into.old into.new found)
         (λ stop. FetchStopped M.world M.reaches medium.old medium.new buffer.old
         part.block (home_of geometry.now (lists_of lists.now) part.block) stop) }
     ensures as_many { M.block_count medium.new ≡ M.block_count medium.old }
@@ -50,12 +82,31 @@ fn read_part<M: Medium>(
         return Ok(true);
     }
     let place = home(geometry, lists, part.block);
+    if !last && !part.is_partly() {
+        return read_through(medium, buffer, part, place, into);
+    }
     if !read_whole(medium, place, block)? {
         return Ok(false);
     }
     part.copy_out(block, into);
     buffer.put(part.block, block);
     Ok(true)
+}
+
+/// Puts the block before this part into the buffer, out of the bytes of the request, where a read of it did not.
+fn put_before(buffer: &mut BlockBuffer, block: &mut Block, request: Request, k: u32, into: &[u8])
+    requires covered { k < blocks_covered request.lba request.n }
+    requires whole { length into.now ≡ 2048 * request.n }
+    ensures { PutsBefore request.lba request.n k into.now block.old buffer.old buffer.new }
+{
+    if k == 0 {
+        return;
+    }
+    let before = request.part(k - 1);
+    if !buffer.lookup(before.block, block) {
+        before.merge(into, block);
+        buffer.put(before.block, block);
+    }
 }
 
 /// Reads all parts of a request, in order. How many were read before one whose block cannot be, if there is such a one.
@@ -77,9 +128,12 @@ fn read_parts<M: Medium>(
         geometry.now (lists_of lists.now) request.lba request.n buffer.new into.new result }
     ensures as_many { M.block_count medium.new ≡ M.block_count medium.old }
 {
-    for k in 0..request.blocks() {
+    let blocks = request.blocks();
+    for k in 0..blocks {
         let part = request.part(k);
-        if !read_part(medium, geometry, lists, buffer, block, part, into)? {
+        let last = k + 1 == blocks;
+        if !read_part(medium, geometry, lists, buffer, block, part, last, into)? {
+            put_before(buffer, block, request, k, into);
             return Ok(Some(k));
         }
     }

@@ -1,10 +1,11 @@
-use Rattle.std.specs.Prelude.{ℕ, ◌*◌, List}
-use Rattle.std.proofs.Common.{sym, ap, ◌∙◌, subst}
+use Rattle.std.specs.Prelude.{ℕ, Bool, false, MatchResult, List}
+use Rattle.std.proofs.Common.{refl, sym, ap, ◌∙◌, inl, subst}
 use Rattle.std.proofs.lemmas.Result.{err_from_is_err_and}
 use Rattle.model_buffer.specs.Buffer.{with_newest}
 use Rattle.model_places.specs.Places.{home_of}
 use Rattle.ram_lists.specs.Lists.{lists_of}
 use Rattle.ram_volume.specs.Blocks.{IsFetched, CannotBeRead, FetchStopped}
+use Rattle.ram_volume.specs.Reading.{ReadsPart}
 use Rattle.ram_volume.proofs.Fetches.{home_below, read_in, unread, halted}
 use Rattle.ram_volume.proofs.reading.read_part.Goals as goal
 
@@ -20,20 +21,53 @@ returns-in_err-read_whole-clause-rule g c =
     (halted g.M.Medium.world g.M.Medium.reaches c.args.medium.now c.read_whole.new.medium c.args.buffer.now c.args.part.block c.home-place.result c.if-lookup.ensures.few c.if-lookup.ensures.found.0
     _ _ c.in_err-read_whole.field-0.0 c.in_err-read_whole.ensures.rule c.in_err-read_whole.ensures.continues))
 
+pub read_through-requires-clause-inside : goal.read_through-requires-clause-inside
+read_through-requires-clause-inside g c =
+    home_below c.args.geometry.now (lists_of c.args.lists.now) c.args.part.block c.home-place.result (g.M.Medium.block_count c.args.medium.now) c.requires.valid c.requires.inside c.home-place.ensures c.requires.size
+
 pub returns-then-not-branch-clause-rule : goal.returns-then-not-branch-clause-rule
-returns-then-not-branch-clause-rule g c =
-    subst (λ (held' : List (ℕ × List ℕ)). CannotBeRead {M = g.row.M.Denot} g.M.Medium.world g.M.Medium.reaches c.args.medium.now c.read_whole.new.medium c.args.buffer.now c.args.part.block
-    (home_of c.args.geometry.now (lists_of c.args.lists.now) c.args.part.block) held') (sym c.if-lookup.ensures.found.1)
-    (subst (λ (place : ℕ). CannotBeRead {M = g.row.M.Denot} g.M.Medium.world g.M.Medium.reaches c.args.medium.now c.read_whole.new.medium c.args.buffer.now c.args.part.block place c.args.buffer.now) c.home-place.ensures
-    (unread g.M.Medium.world g.M.Medium.reaches c.args.medium.now c.read_whole.new.medium c.args.buffer.now c.args.part.block c.home-place.result c.if-lookup.ensures.few c.if-lookup.ensures.found.0
-    _ c.read_whole.new.into c.in_ok-read_whole.field-0 c.if-not-branch.true c.in_ok-read_whole.ensures.rule c.in_ok-read_whole.ensures.continues))
+returns-then-not-branch-clause-rule g c = record {
+  unread = subst (λ (held' : List (ℕ × List ℕ)). CannotBeRead {M = g.row.M.Denot} g.M.Medium.world g.M.Medium.reaches c.args.medium.now c.read_whole.new.medium c.args.buffer.now c.args.part.block
+      (home_of c.args.geometry.now (lists_of c.args.lists.now) c.args.part.block) held') (sym c.if-lookup.ensures.found.1)
+      (subst (λ (place : ℕ). CannotBeRead {M = g.row.M.Denot} g.M.Medium.world g.M.Medium.reaches c.args.medium.now c.read_whole.new.medium c.args.buffer.now c.args.part.block place c.args.buffer.now) c.home-place.ensures
+      (unread g.M.Medium.world g.M.Medium.reaches c.args.medium.now c.read_whole.new.medium c.args.buffer.now c.args.part.block c.home-place.result c.if-lookup.ensures.few c.if-lookup.ensures.found.0
+      _ c.read_whole.new.into c.in_ok-read_whole.field-0 c.if-not-branch.true c.in_ok-read_whole.ensures.rule c.in_ok-read_whole.ensures.continues));
+  before = refl;
+}
 
 pub returns-clause-rule : goal.returns-clause-rule
 returns-clause-rule g c = record {
-  bytes = c.read_whole.new.into;
-  fetched = subst (λ (place : ℕ). IsFetched {M = g.row.M.Denot} g.M.Medium.world g.M.Medium.reaches c.args.medium.now c.read_whole.new.medium c.args.buffer.now c.args.part.block place c.read_whole.new.into c.put.new.self) c.home-place.ensures
-      (read_in g.M.Medium.world g.M.Medium.reaches c.args.medium.now c.read_whole.new.medium c.args.buffer.now c.args.part.block c.home-place.result c.if-lookup.ensures.few c.if-lookup.ensures.found.0
-      _ c.read_whole.new.into c.in_ok-read_whole.field-0 c.if-not-branch.false c.in_ok-read_whole.ensures.rule c.in_ok-read_whole.ensures.continues
-      c.put.new.self (c.put.ensures ∙ ap (with_newest c.args.part.block c.read_whole.new.into) c.if-lookup.ensures.found.1));
-  copied = c.copy_out-2.ensures;
+  due = c.put.new.self;
+  copied = record {
+    bytes = c.read_whole.new.into;
+    fetched = subst (λ (place : ℕ). IsFetched {M = g.row.M.Denot} g.M.Medium.world g.M.Medium.reaches c.args.medium.now c.read_whole.new.medium c.args.buffer.now c.args.part.block place c.read_whole.new.into c.put.new.self) c.home-place.ensures
+        (read_in g.M.Medium.world g.M.Medium.reaches c.args.medium.now c.read_whole.new.medium c.args.buffer.now c.args.part.block c.home-place.result c.if-lookup.ensures.few c.if-lookup.ensures.found.0
+        _ c.read_whole.new.into c.in_ok-read_whole.field-0 c.if-not-branch.false c.in_ok-read_whole.ensures.rule c.in_ok-read_whole.ensures.continues
+        c.put.new.self (c.put.ensures ∙ ap (with_newest c.args.part.block c.read_whole.new.into) c.if-lookup.ensures.found.1));
+    copied = c.copy_out-2.ensures;
+  };
+  kept = inl refl;
 }
+
+pub returns-then-lookup-clause-rule : goal.returns-then-lookup-clause-rule
+returns-then-lookup-clause-rule g c = record {
+  due = c.lookup.new.self;
+  copied = record {
+    bytes = c.lookup.new.into;
+    fetched = record { buffer_is = c.if-lookup.ensures.found.1; came = inl (record { unused = refl; was_there = c.if-lookup.ensures.found.0 }); few = c.if-lookup.ensures.few };
+    copied = c.copy_out.ensures;
+  };
+  kept = inl refl;
+}
+
+pub returns-then-not-is_partly-clause-rule : goal.returns-then-not-is_partly-clause-rule
+returns-then-not-is_partly-clause-rule g c =
+    subst (λ (last : Bool). R c.args.buffer.now (home_of c.args.geometry.now (lists_of c.args.lists.now) c.args.part.block) last) (sym c.if-not-last.true)
+    (subst (λ (held : List (ℕ × List ℕ)). R held (home_of c.args.geometry.now (lists_of c.args.lists.now) c.args.part.block) false) c.if-lookup.ensures.found.1
+    (subst (λ (place : ℕ). R c.lookup.new.self place false) c.home-place.ensures c.read_through.ensures.rule))
+  where
+    R : List (ℕ × List ℕ) → ℕ → Bool → Type 0
+    R held place last = MatchResult c.read_through.result
+        (λ found. ReadsPart {M = g.row.M.Denot} g.M.Medium.world g.M.Medium.reaches c.args.medium.now c.read_through.new.medium held c.args.part.request.lba c.args.part.request.n c.args.part.block place last
+        c.read_through.new.buffer c.args.into.now c.read_through.new.into found)
+        (λ stop. FetchStopped {M = g.row.M.Denot} g.M.Medium.world g.M.Medium.reaches c.args.medium.now c.read_through.new.medium held c.args.part.block place stop)
