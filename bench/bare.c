@@ -5,8 +5,9 @@
    read          each block is read, and nothing is looked at
    least-write   the data of a group of blocks are made; each is moved into a block of its own; its state byte is read and
                  written, its data are written, and its state byte is written again; then state byte and data are read back
-   least-read    room for a group of blocks is zeroed; the state byte and the data of each are read, and moved there once;
-                 then each byte of a sector is compared with the next one, as for its line in the report */
+   least-read    the state byte and the data of each block of a group are read, each to its place; the last one is moved into
+                 the block that is kept; then each byte of a sector is compared with the next one, as for its line in the
+                 report */
 #include <fcntl.h>
 #include <stdio.h>
 #include <stdlib.h>
@@ -39,8 +40,8 @@ static void write_data(long i) {
     moved(pwrite(file, block, BLOCK_BYTES, data_place(i)), BLOCK_BYTES);
 }
 
-static void read_data(long i) {
-    moved(pread(file, read_back, BLOCK_BYTES, data_place(i)), BLOCK_BYTES);
+static void read_data(long i, char *into) {
+    moved(pread(file, into, BLOCK_BYTES, data_place(i)), BLOCK_BYTES);
 }
 
 static void write_state(long i, char state) {
@@ -61,17 +62,16 @@ static void least_write(char *data, long first) {
         write_data(first + k);
         write_state(first + k, 1);
         read_state(first + k);
-        read_data(first + k);
+        read_data(first + k, read_back);
     }
 }
 
 static void least_read(char *data, long first) {
-    memset(data, 0, group * BLOCK_BYTES);
     for (long k = 0; k < group; k++) {
         read_state(first + k);
-        read_data(first + k);
-        memcpy(data + k * BLOCK_BYTES, read_back, BLOCK_BYTES);
+        read_data(first + k, data + k * BLOCK_BYTES);
     }
+    memcpy(read_back, data + (group - 1) * BLOCK_BYTES, BLOCK_BYTES);
     for (char *sector = data; sector < data + group * BLOCK_BYTES; sector += SECTOR_BYTES)
         fills += memcmp(sector, sector + 1, SECTOR_BYTES - 1) == 0;
 }
@@ -85,7 +85,7 @@ static void once(const char *what, char *data, long first) {
         for (long i = first; i < first + group; i++) {
             if (strcmp(what, "write") == 0)
                 write_data(i);
-            read_data(i);
+            read_data(i, read_back);
         }
 }
 

@@ -6,12 +6,12 @@ use Rattle.std.proofs.lemmas.Bool.{eq-eqb, eqb-true, cases_Bool}
 use Rattle.std.proofs.lemmas.List.{length-map}
 use Rattle.model_geometry.specs.Geometry.{Shape}
 use Rattle.model_medium.specs.World.{World}
-use Rattle.model_buffer.specs.Buffer.{numbers_in, bytes_at, with_newest}
+use Rattle.model_buffer.specs.Buffer.{numbers_in, bytes_at}
 use Rattle.model_buffer.specs.declared.TheConstants.{BUFFERED_BLOCKS}
 use Rattle.model_sectors.specs.Discs.{block_of, sectors_of}
-use Rattle.model_sectors.specs.Requests.{block_with, blocks_covered, start_in, is_partly, merged_in}
+use Rattle.model_sectors.specs.Requests.{block_with, blocks_covered, merged_in}
 use Rattle.model_sectors.specs.Uses.{is_buffered, touched_from}
-use Rattle.model_sectors.proofs.Covering.{bytes_at_none, bytes_at_some, numbers_in-with_newest}
+use Rattle.model_sectors.proofs.Covering.{bytes_at_none, numbers_in-with_newest}
 use Rattle.model_stops.specs.declared.Stop.{Stop}
 use Rattle.model_places.specs.Places.{Lists, logical_count, home_of}
 use Rattle.model_places.specs.Valid.{AreValid}

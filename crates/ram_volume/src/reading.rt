@@ -24,8 +24,8 @@ use ram_medium::{Medium, MediumControl, Stop, read_whole, read_whole_into};
 use ram_requests::{Part, Request};
 use ram_zones::Geometry;
 
-/// Reads a part that is a whole block from its home, straight to its place among the bytes of the request. Whether the block
-/// can be read. Then the buffer has nothing.
+/// Reads a part that is a whole block from its home, past the buffer and straight to its place among the bytes of the request.
+/// Whether the block can be read. Then nothing is buffered.
 fn read_through<M: Medium>(
     medium: &mut M,
     buffer: &mut BlockBuffer,
@@ -93,7 +93,8 @@ fn read_part<M: Medium>(
     Ok(true)
 }
 
-/// Puts the block before this part into the buffer, out of the bytes of the request, where a read of it did not.
+/// Puts the block before the one after `k` others of a request into the buffer, out of the request's bytes, where it was read
+/// past the buffer.
 fn put_before(buffer: &mut BlockBuffer, block: &mut Block, request: Request, k: u32, into: &[u8])
     requires covered { k < blocks_covered request.lba request.n }
     requires whole { length into.now ≡ 2048 * request.n }

@@ -1,5 +1,5 @@
 use Rattle.std.specs.Prelude.{◌≡◌, ℕ, List, length}
-use Rattle.std.proofs.Common.{sym, ap, ◌∙◌, inl, inr, subst}
+use Rattle.std.proofs.Common.{ap, ◌∙◌, inl, inr, subst}
 use Rattle.model_buffer.specs.Buffer.{with_newest}
 use Rattle.model_sectors.specs.Requests.{merged_in}
 use Rattle.ram_requests.specs.declared.requests.Request.{Request}
