@@ -10,8 +10,8 @@ pub fn encode_prefix(bytes: &[u8], digits: &mut [u8])
     encode(bytes, &mut digits[..2 * bytes.len()]);
 }
 
-// Writes the bytes as hexadecimal digits into the whole of `digits`.
-fn encode(bytes: &[u8], digits: &mut [u8])
+/// Writes the bytes as hexadecimal digits into the whole of `digits`.
+pub fn encode(bytes: &[u8], digits: &mut [u8])
     requires { length digits.old ≡ 2 * length bytes.now }
     ensures { digits.new ≡ encode_lower bytes.now }
 {

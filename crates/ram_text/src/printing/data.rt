@@ -1,18 +1,23 @@
 //! What goes out behind `good`: a line for each sector that was read, or one line of data. Text alone.
-ghost use Rattle.std.specs.Prelude.{◌≡◌, ◌<◌, ◌≤◌, ◌/◌, ◌++◌, length, codes, decimal};
+ghost use Rattle.std.specs.Prelude.{◌≡◌, ◌<◌, ◌≤◌, ◌/◌, ◌++◌, ◌∷◌, [], drop, length, codes, decimal};
 ghost use Rattle.hex.specs.Hex.{encode_lower};
 ghost use Rattle.model_commands.specs.Commands.{operation_of};
 ghost use Rattle.ram_text.specs.Writer.{PutsText};
 ghost use Rattle.ram_text.specs.ReportLines.{reply_text, IsAddressed, is_read, is_one_byte, sector_text, sectors_text, data_text};
 
 use crate::gathered::SinkFailed;
+use crate::hexadecimal::encode;
 use crate::printing::parts::print_labelled;
 use crate::report::ReportWriter;
+use itoa::write_digits;
 use model_commands::Operation;
 use ram_bytes::{Cdb, SECTOR_BYTES, get_u32};
 use ram_cdb::operation;
 use ram_outside::Sink;
 use ram_sense::Answer;
+
+/// What the line of a sector begins with.
+const LABEL: &[u8; 7] = b"sector ";
 
 /// Prints the reply of a command that was done.
 pub(crate) fn print_reply<K: Sink>(
@@ -77,10 +82,26 @@ fn print_sector<K: Sink>(
     ensures { PutsText K.Sink writer.old sink.old writer.new sink.new (sector_text lba sector.now) result }
 {
     if is_fill(sector) {
-        print_bytes(writer, sink, lba, b" fill ", &sector[..1])
+        let (line, start) = fill_line(lba, sector[0]);
+        writer.put(sink, &line[start..])
     } else {
-        print_bytes(writer, sink, lba, b" hex ", sector)
+        print_bytes(writer, sink, lba, sector)
     }
+}
+
+/// The line of a sector whose bytes are all this one, at the end of some room, and where it begins there. It is made in one
+/// piece, since most sectors of a disc are such.
+fn fill_line(lba: u64, byte: u8) -> ([u8; 40], usize)
+    ensures inside { result.1 ≤ 40 }
+    ensures line { drop result.1 result.0 ≡ codes "sector " ++ decimal lba ++ codes " fill "
+        ++ encode_lower (byte ∷ []) ++ codes "\n" }
+{
+    let mut line = *b"                                fill 00\n";
+    encode(&[byte], &mut line[37..39]);
+    let digits = write_digits(lba, &mut line, 31);
+    let start = digits - LABEL.len();
+    line[start..digits].copy_from_slice(LABEL);
+    (line, start)
 }
 
 /// Whether all bytes of the sector are equal. No byte ends the fold, so many of them are looked at together.
@@ -93,20 +114,19 @@ fn is_fill(sector: &[u8]) -> bool
     differences == 0
 }
 
-/// Prints a sector's line, with the bytes in hexadecimal digits after the words.
+/// Prints a sector's line with all its bytes.
 fn print_bytes<K: Sink>(
     writer: &mut ReportWriter,
     sink: &mut K,
     lba: u64,
-    words: &[u8],
     bytes: &[u8],
 ) -> Result<(), SinkFailed>
     requires { length bytes.now ≤ SECTOR_BYTES }
     ensures { PutsText K.Sink writer.old sink.old writer.new sink.new
-        (codes "sector " ++ decimal lba ++ words.now ++ encode_lower bytes.now ++ codes "\n") result }
+        (codes "sector " ++ decimal lba ++ codes " hex " ++ encode_lower bytes.now ++ codes "\n") result }
 {
-    print_labelled(writer, sink, b"sector ", lba)?;
-    writer.put(sink, words)?;
+    print_labelled(writer, sink, LABEL, lba)?;
+    writer.put(sink, b" hex ")?;
     writer.put_hex(sink, bytes)?;
     writer.put(sink, b"\n")
 }
