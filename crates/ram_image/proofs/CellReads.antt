@@ -1,22 +1,64 @@
--- What a read of a good block's cell found.
-use Rattle.std.specs.Prelude.{◌≡◌, ℕ, Option, Some, None, IfSome, List, length, take, drop, slice_index, slice_index_or}
-use Rattle.std.proofs.Common.{arith, sym, ap, ◌∙◌, get_or-take, get_or-drop}
-use Rattle.model_medium.specs.Cells.{Good}
+-- What a read of state bytes found, and one of a good block's data.
+use Rattle.std.specs.Prelude.{◌≡◌, ◌≢◌, ℕ, ◌+◌, ◌-◌, ◌<◌, ◌==◌, if◌then◌else◌, Option, Some, None, IfSome, List, length, take, drop, slice_index, slice_index_or}
+use Rattle.std.specs.Option.{ForSome}
+use Rattle.std.proofs.Common.{arith, refl, sym, ap, ◌∙◌, inl, inr, subst, get_or-take, get_or-drop}
+use Rattle.std.proofs.lemmas.Bool.{cases_Bool, cond-true, cond-false, eqb-true}
+use Rattle.model_medium.specs.Cells.{Cell, Blank, Good, Torn, Dead, IsGood}
 use Rattle.model_image.specs.Cells.{state_place, data_place, cell_of, data_in, cell_in}
+use Rattle.ram_image.specs.CellCalls.{call_between, AreGood, LeadsWithGood, ReadDataRule}
+use Rattle.ram_outside.specs.Image.{ReadAtRule}
+use Rattle.ram_outside.specs.declared.image.Moved.{Moved}
+use Rattle.ram_outside.specs.declared.image.Moved.TheVariants as moves
 
--- the first byte that was read from a place on is the one that stands there
-first_read : (at : ℕ) (state held : List ℕ) → length state ≡ 1 → state ≡ take (length state) (drop at held) → slice_index held at ≡ slice_index_or state 0 0
-first_read at state held one is = sym (ap (λ l. slice_index_or l 0 0) is ∙ get_or-take (length state) (drop at held) 0 0 (omega (arith, one)) ∙ get_or-drop at held 0 0 ∙ ap (slice_index held) (omega arith))
+-- a byte that was read from a place on is the one that stands there
+byte_read : (at j : ℕ) (states held : List ℕ) → j < length states → states ≡ take (length states) (drop at held) → slice_index states j ≡ slice_index held (at + j)
+byte_read at j states held inside is = ap (λ l. slice_index_or l j 0) is ∙ get_or-take (length states) (drop at held) j 0 inside ∙ get_or-drop at held j 0
 
--- where the state byte is that of a good block, the block has the bytes that were read from its data
-pub good_found : (total block at place : ℕ) (state into : List ℕ) → at ≡ state_place block → place ≡ data_place total block → length state ≡ 1 → length into ≡ 32768 → slice_index_or state 0 0 ≡ 1
-    → (before : Option (List ℕ)) → IfSome before (λ held. state ≡ take (length state) (drop at held)) → IfSome before (λ held. into ≡ take (length into) (drop place held))
-    → IfSome before (λ held. cell_in total held block ≡ Good into)
-good_found total block at place state into at_is place_is one long good None states gives = tt
-good_found total block at place state into at_is place_is one long good (Some held) states gives = ap (λ byte. cell_of byte (data_in total held block)) byte_is ∙ ap Good (sym data_is)
+-- a block with another state byte than a good one's is not good
+not_good_by : (state : ℕ) (block_data : List ℕ) → state ≢ 1 → ¬ IsGood (cell_of state block_data)
+not_good_by state block_data other good = elim (cases_Bool (state == 0)) [
+  | inl blank ↦ subst IsGood (cond-true (state == 0) Blank rest blank) good
+  | inr more ↦ elim (cases_Bool (state == 1)) [
+    | inl one ↦ other (eqb-true state 1 one)
+    | inr neither ↦ elim (cases_Bool (state == 3)) [
+      | inl dead ↦ subst IsGood (cond-false (state == 0) Blank rest more ∙ cond-false (state == 1) (Good block_data) last neither ∙ cond-true (state == 3) Dead Torn dead) good
+      | inr torn ↦ subst IsGood (cond-false (state == 0) Blank rest more ∙ cond-false (state == 1) (Good block_data) last neither ∙ cond-false (state == 3) Dead Torn torn) good
+    ]
+  ]
+]
   where
-    byte_is : slice_index held (state_place block) ≡ 1
-    byte_is = ap (slice_index held) (sym at_is) ∙ first_read at state held one states ∙ good
+    last : Cell
+    last = if state == 3 then Dead else Torn
 
+    rest : Cell
+    rest = if state == 1 then Good block_data else last
+
+-- the blocks whose state bytes lead are good
+pub row_good : (at block count : ℕ) (states : List ℕ) → at ≡ 16 + block → LeadsWithGood states count → (before : Option (List ℕ)) → IfSome before (λ held. states ≡ take (length states) (drop at held))
+    → IfSome before (λ held. AreGood held block (block + count))
+row_good at block count states at_is leads None read = tt
+row_good at block count states at_is leads (Some held) read = λ k from to.
+    let place : at + (k - block) ≡ 16 + k = omega (arith, at_is, from) in
+    ap (slice_index held) (sym place) ∙ sym (byte_read at (k - block) states held (omega (arith, from, to, leads.inside)) read) ∙ leads.good (k - block) (omega (arith, from, to))
+
+-- and where there are none, the first is not
+pub row_not_good : (total at block count : ℕ) (states : List ℕ) → at ≡ 16 + block → 0 < length states → LeadsWithGood states count → (before : Option (List ℕ)) → IfSome before (λ held. states ≡ take (length states) (drop at held))
+    → IfSome before (λ held. count ≡ 0 → ¬ IsGood (cell_in total held block))
+row_not_good total at block count states at_is some leads None read = tt
+row_not_good total at block count states at_is some leads (Some held) read = λ none.
+    not_good_by (slice_index held (state_place block)) (data_in total held block)
+    (λ one. leads.next (omega (arith, none, some)) (ap (slice_index states) none ∙ byte_read at 0 states held some read ∙ ap (slice_index held) (omega (arith, at_is)) ∙ one))
+
+-- a good block has the bytes that were read from its data
+pub data_found : (total block place : ℕ) (into : List ℕ) → place ≡ data_place total block → length into ≡ 32768 → (before : Option (List ℕ)) → ForSome before (λ held. slice_index held (16 + block) ≡ 1)
+    → IfSome before (λ held. into ≡ take (length into) (drop place held)) → IfSome before (λ held. cell_in total held block ≡ Good into)
+data_found total block place into place_is long None good gives = tt
+data_found total block place into place_is long (Some held) good gives = ap (λ byte. cell_of byte (data_in total held block)) (good held refl) ∙ ap Good (sym data_is)
+  where
     data_is : into ≡ data_in total held block
     data_is = gives ∙ ap (λ n. take n (drop place held)) long ∙ ap (λ p. take 32768 (drop p held)) place_is
+
+pub data_read : (total block place : ℕ) (into : List ℕ) → place ≡ data_place total block → length into ≡ 32768 → (before after : Option (List ℕ)) (f f' : ℕ) → ForSome before (λ held. slice_index held (16 + block) ≡ 1) → (r : Moved)
+    → ReadAtRule before after f f' place into r → ReadDataRule (call_between total block before after f f') into r
+data_read total block place into place_is long before after f f' good moves.Done rule = (rule.0, data_found total block place into place_is long before good rule.1)
+data_read total block place into place_is long before after f f' good moves.Failed rule = rule

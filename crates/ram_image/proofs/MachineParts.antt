@@ -1,8 +1,8 @@
 -- The machine that a medium over an image shows, of its parts.
-use Rattle.std.specs.Prelude.{◌≡◌, ℕ, ◌<◌, Bool, true, false, MatchBool, Option, Some, None, is_some, IfSome, List}
+use Rattle.std.specs.Prelude.{◌≡◌, ℕ, ◌<◌, not, if◌then◌else◌, Bool, true, false, MatchBool, Option, Some, None, is_some, IfSome, List}
 use Rattle.std.specs.Bool.{OnTrue}
 use Rattle.std.specs.Option.{ForSome}
-use Rattle.std.proofs.Common.{refl, sym, ap, ◌∙◌, subst}
+use Rattle.std.proofs.Common.{refl, sym, ap, ◌∙◌, subst, arith}
 use Rattle.model_bytes.specs.Known.{WhereKnown}
 use Rattle.model_geometry.specs.Geometry.{Shape, total}
 use Rattle.model_medium.specs.Cells.{Cell, Dead, IsGood, cell_at}
@@ -12,6 +12,7 @@ use Rattle.model_medium.specs.declared.ArmedCut.{ArmedCut}
 use Rattle.model_image.specs.Cells.{cell_in, cells_known, SetsCell}
 use Rattle.model_image.specs.Image.{IsDiscImage}
 use Rattle.model_image.proofs.Writes.{cell_at-cells_of}
+use Rattle.ram_image.specs.CellCalls.{AreGood}
 use Rattle.ram_image.proofs.TellsCells.{known_cell}
 
 abbrev pub machine_by : List ℕ → ℕ → Option (List ℕ) → Bool → ℕ → ℕ → ℕ → List WornBlock → Option ArmedCut → Machine
@@ -40,6 +41,11 @@ not_good_found total block inside before after e found = subst (λ o. ¬ IsGood 
     cases None h = λ good. good
     cases (Some held) h = λ good. h (subst IsGood (cell_at-cells_of total held block inside) good)
 
+-- where no block of a row is good, the first is not
+pub none_good : (total block count : ℕ) → count ≡ 0 → (o : Option (List ℕ)) → IfSome o (λ held. count ≡ 0 → ¬ IsGood (cell_in total held block)) → IfSome o (λ held. ¬ IsGood (cell_in total held block))
+none_good total block count none None h = tt
+none_good total block count none (Some held) h = h none
+
 -- a disc image stays one
 disc_sets : (shape : Shape) (block : ℕ) (cell : Cell) (held held' : List ℕ) → IsDiscImage shape held → SetsCell (total shape) block cell held held' → IsDiscImage shape held'
 disc_sets shape block cell held held' disc sets = record {
@@ -57,3 +63,9 @@ disc_after_kill shape block true before after disc known = cases before after di
     cases None (Some held') d t = absurd t
     cases (Some held) None d t = absurd t
     cases (Some held) (Some held') d t = λ x e. subst (IsDiscImage shape) (let both : Some held' ≡ Some x = e in cc) (disc_sets shape block Dead held held' (d held refl) t)
+
+-- the row of blocks that are known to be good, behind an arm that may kill a block: it is empty where one does
+pub good_after_kill : (total block from to : ℕ) (dies : Bool) (before after : Option (List ℕ)) → ForSome before (λ held. AreGood held from to)
+    → MatchBool dies (WhereKnown before after (SetsCell total block Dead)) (after ≡ before) → ForSome after (λ held. AreGood held from (if not dies then to else 0))
+good_after_kill total block from to false before after good e = subst (λ o. ForSome o (λ held. AreGood held from to)) (sym e) good
+good_after_kill total block from to true before after good known = λ held is k low high. absurd (omega (arith, high))

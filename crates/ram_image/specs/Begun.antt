@@ -1,5 +1,5 @@
 -- How a use of a medium over an image begins and goes on: for the private calls of `ImageMedium`.
-use Rattle.std.specs.Prelude.{◌≡◌, ◌≢◌, ℕ, Bool, Option, false, IsTrue, Some, None, is_some, List, []}
+use Rattle.std.specs.Prelude.{◌≡◌, ◌≢◌, ℕ, ◌<◌, ◌≤◌, Bool, Option, false, IsTrue, Some, None, is_some, List, []}
 use Rattle.std.specs.Bool.{OnTrue}
 use Rattle.model_counts.specs.Counts.{Rose}
 use Rattle.model_geometry.specs.Geometry.{Shape, label_of, total}
@@ -23,6 +23,8 @@ use Rattle.ram_image.specs.Medium.{shape_of_medium, machine_in}
 use Rattle.ram_image.specs.declared.medium.ImageMedium.{ImageMedium}
 use Rattle.ram_image.specs.declared.medium.Begun.{Begun}
 use Rattle.ram_image.specs.declared.medium.Begun.TheVariants as begins
+use Rattle.ram_image.specs.declared.medium.Looked.{Looked}
+use Rattle.ram_image.specs.declared.medium.Looked.TheVariants as looks
 
 -- A medium just opened over this image: its cells, with the power off, nothing counted and nothing armed. (This
 -- project's own.)
@@ -61,6 +63,13 @@ pub record FailsWithin (old new : Machine) (block : ℕ) : Type 0 where
   pub cut_same : new.cut ≡ old.cut
   pub others : (other : ℕ) → other ≢ block → cell_at new.world.cells other ≡ cell_at old.world.cells other
   pub stays_dead : cell_at old.world.cells block ≡ Dead → cell_at new.world.cells block ≡ Dead
+
+-- What a look at the state byte of a block does in a use that had begun, by what it finds: nothing changes but that the
+-- block is one of those that are known to be good. (This project's own.)
+abbrev pub LookRule : Machine → Machine → (block from to : ℕ) → Looked → Type 0
+LookRule old new block from to looks.Good = (new ≡ old) × (from ≤ block) × (block < to)
+LookRule old new block from to looks.NotGood = (new ≡ old) × (¬ IsGood (cell_at new.world.cells block))
+LookRule old new block from to looks.Failed = FailsWithin old new block × (cell_at new.world.cells block ≡ cell_at old.world.cells block)
 
 -- What a read does in a use that had begun and goes on, by its answer. (This project's own.)
 abbrev pub ReadOnRule : Machine → Machine → ℕ → List ℕ → List ℕ → ReadEnd → Type 0

@@ -1,5 +1,5 @@
 -- What each call on the cell of one block of an image may do, by its answer: for the functions of `cells`.
-use Rattle.std.specs.Prelude.{◌≡◌, ℕ, Bool, MatchBool, Option, IfSome, List}
+use Rattle.std.specs.Prelude.{◌≡◌, ◌≢◌, ℕ, ◌+◌, ◌<◌, ◌≤◌, Bool, MatchBool, Option, IfSome, List, length, slice_index}
 use Rattle.model_counts.specs.Counts.{Rose}
 use Rattle.model_bytes.specs.Known.{WhereKnown}
 use Rattle.model_medium.specs.Cells.{Cell, Good, Dead, IsGood, cell_at, cut_short}
@@ -10,8 +10,8 @@ use Rattle.ram_outside.specs.Image.{IsUnchanged, ImageFails}
 use Rattle.ram_outside.specs.declared.image.Image.{Ghosts as Images}
 use Rattle.ram_outside.specs.declared.image.Moved.{Moved}
 use Rattle.ram_outside.specs.declared.image.Moved.TheVariants as moves
-use Rattle.ram_image.specs.declared.cells.CellRead.{CellRead}
-use Rattle.ram_image.specs.declared.cells.CellRead.TheVariants as reads
+use Rattle.ram_image.specs.declared.cells.GoodRow.{GoodRow}
+use Rattle.ram_image.specs.declared.cells.GoodRow.TheVariants as rows
 use Rattle.ram_image.specs.declared.cells.StateRead.{StateRead}
 use Rattle.ram_image.specs.declared.cells.StateRead.TheVariants as states
 
@@ -54,11 +54,27 @@ abbrev pub BytesRule : CellCall → (List ℕ → List ℕ → Type 0) → (List
 BytesRule call done failed moves.Done = WhereKnown call.before call.after done
 BytesRule call done failed moves.Failed = WhereKnown call.before call.after failed
 
--- What a read of a block's cell may do, by its answer; `into` is what the bytes that it is read into then are.
-abbrev pub ReadCellRule : CellCall → List ℕ → CellRead → Type 0
-ReadCellRule call into reads.Good = ChangesNothing call × IfSome call.before (λ held. cell_in call.total held call.block ≡ Good into)
-ReadCellRule call into reads.NotGood = ChangesNothing call × IfSome call.before (λ held. ¬ IsGood (cell_in call.total held call.block))
-ReadCellRule call into reads.Failed = FailsUnchanged call
+-- the state bytes of the blocks from one on up to another are those of good ones
+abbrev pub AreGood : List ℕ → (from to : ℕ) → Type 0
+AreGood held from to = (k : ℕ) → from ≤ k → k < to → slice_index held (16 + k) ≡ 1
+
+-- so many state bytes at the start are those of good blocks, and the next one, where there is one, is not
+pub record LeadsWithGood (states : List ℕ) (count : ℕ) : Type 0 where
+  pub inside : count ≤ length states
+  pub good : (k : ℕ) → k < count → slice_index states k ≡ 1
+  pub next : count < length states → slice_index states count ≢ 1
+
+-- What a look at the state bytes from a block on may do, by its answer.
+abbrev pub GoodRowRule : CellCall → GoodRow → Type 0
+GoodRowRule call (rows.Blocks count) = ChangesNothing call × (call.block + count ≤ call.total)
+    × IfSome call.before (λ held. AreGood held call.block (call.block + count))
+    × IfSome call.before (λ held. count ≡ 0 → ¬ IsGood (cell_in call.total held call.block))
+GoodRowRule call rows.Failed = FailsUnchanged call
+
+-- What a read of a good block's data may do, by its answer; `into` is what the bytes that are read into then hold.
+abbrev pub ReadDataRule : CellCall → List ℕ → Moved → Type 0
+ReadDataRule call into moves.Done = ChangesNothing call × IfSome call.before (λ held. cell_in call.total held call.block ≡ Good into)
+ReadDataRule call into moves.Failed = FailsUnchanged call
 
 -- What a write of a block's cell may do, by its answer.
 abbrev pub WriteCellRule : CellCall → List ℕ → Moved → Type 0

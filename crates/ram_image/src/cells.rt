@@ -1,14 +1,14 @@
 //! The cells of blocks in an image's bytes: the one place that writes state bytes and data. It knows no power and
 //! no arms.
 
-ghost use Rattle.std.specs.Prelude.{◌≡◌, ◌+◌, ◌*◌, ◌<◌, ◌≤◌, length};
+ghost use Rattle.std.specs.Prelude.{◌≡◌, ◌+◌, ◌*◌, ◌<◌, ◌≤◌, length, slice_index};
 ghost use Rattle.std.specs.Option.{ForSome};
 ghost use Rattle.model_image.specs.Cells.{image_len};
 ghost use Rattle.model_image.specs.Writes.{torn_state, dead_state};
 ghost use Rattle.model_medium.specs.Cells.{Torn, Dead};
 ghost use Rattle.ram_bytes.specs.declared.block.TheConstants.{BLOCK_BYTES};
 ghost use Rattle.ram_image.specs.CellCalls.{WriteStateRule, WriteStateBytes, WriteCellRule, WriteCellBytes, KillWhereRule, KillWhereBytes};
-ghost use Rattle.ram_image.specs.CellCalls.{cell_call, ReadCellRule, ReadStateRule, LeaveCellRule, LeaveCellBytes};
+ghost use Rattle.ram_image.specs.CellCalls.{cell_call, GoodRowRule, LeadsWithGood, ReadDataRule, ReadStateRule, LeaveCellRule, LeaveCellBytes};
 
 use crate::header::HEADER_BYTES;
 use ram_bytes::{BLOCK_BYTES, Block};
@@ -24,37 +24,53 @@ const TORN: u8 = 2;
 /// The state byte of a dead block.
 const DEAD: u8 = 3;
 
-/// What a read of a block's cell found.
+/// How many state bytes are read at a time.
+const STATES: usize = 64;
+
+/// What the state bytes of blocks in a row say.
 #[derive(Clone, Copy, Debug, PartialEq, Eq)]
-pub enum CellRead {
-    /// The whole bytes of the block.
-    Good,
-    /// No whole bytes.
-    NotGood,
+pub enum GoodRow {
+    /// So many blocks from the first on have whole bytes. The one behind them was not looked at, or has none.
+    Blocks(u32),
     /// The image failed.
     Failed,
 }
 
-/// Reads the cell of a block in an image of so many blocks: its state byte, and then, where it has whole bytes, its data
-/// straight into the caller's bytes.
-pub fn read_cell<I: Image>(image: &mut I, total: u32, block: u32, into: &mut [u8]) -> CellRead
+/// How many blocks have whole bytes, from this one on, in an image of so many blocks. It looks at 64 of them at most, by
+/// one read of their state bytes.
+pub fn count_good<I: Image>(image: &mut I, total: u32, block: u32) -> GoodRow
+    requires inside { block < total }
+    requires whole { ForSome (I.bytes image.old) (λ held. length held ≡ image_len total) }
+    ensures { GoodRowRule (cell_call I.Image total block image.old image.new) result }
+{
+    let count = STATES.min((total - block) as usize);
+    let mut room = [0u8; STATES];
+    let states = &mut room[..count];
+    match image.read_at(state_place(block), states) {
+        Moved::Failed => GoodRow::Failed,
+        Moved::Done => GoodRow::Blocks(leading_good(states) as u32),
+    }
+}
+
+/// How many state bytes at the start are those of blocks with whole bytes.
+fn leading_good(states: &[u8]) -> usize
+    ensures { LeadsWithGood states.now result }
+{
+    states
+        .iter()
+        .position(|state| *state != GOOD)
+        .unwrap_or(states.len())
+}
+
+/// Reads the data of a block that has whole bytes, in an image of so many blocks, straight into the caller's bytes.
+pub fn read_data<I: Image>(image: &mut I, total: u32, block: u32, into: &mut [u8]) -> Moved
     requires inside { block < total }
     requires fits { length into.old ≡ BLOCK_BYTES }
     requires whole { ForSome (I.bytes image.old) (λ held. length held ≡ image_len total) }
-    ensures { ReadCellRule (cell_call I.Image total block image.old image.new) into.new result }
+    requires good { ForSome (I.bytes image.old) (λ held. slice_index held (16 + block) ≡ 1) }
+    ensures { ReadDataRule (cell_call I.Image total block image.old image.new) into.new result }
 {
-    let mut state = [0u8; 1];
-    match image.read_at(state_place(block), &mut state) {
-        Moved::Failed => return CellRead::Failed,
-        Moved::Done => {}
-    }
-    if state[0] != GOOD {
-        return CellRead::NotGood;
-    }
-    match image.read_at(data_place(total, block), into) {
-        Moved::Failed => CellRead::Failed,
-        Moved::Done => CellRead::Good,
-    }
+    image.read_at(data_place(total, block), into)
 }
 
 /// Writes the cell of a block that is not dead, in an image of so many blocks: the state byte of a torn block, the

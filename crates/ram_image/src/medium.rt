@@ -1,11 +1,12 @@
 //! The medium over an opened image: power, counts, arms and the armed cut, around the calls of `cells`.
 
-ghost use Rattle.std.specs.Prelude.{◌≡◌, ◌<◌, ◌≤◌, true, false, is_some, IsTrue, MatchOption};
+ghost use Rattle.std.specs.Prelude.{◌≡◌, ◌<◌, ◌≤◌, if◌then◌else◌, true, false, is_some, IsTrue, MatchOption};
 ghost use Rattle.std.specs.Option.{ForSome};
 ghost use Rattle.std.proofs.Props.{props};
 ghost use Rattle.model_image.specs.Image.{IsDiscImage, IsImageOf};
+ghost use Rattle.ram_image.specs.CellCalls.{AreGood};
 
-use crate::cells::{CellRead, kill_cell, kill_where, leave_cell, read_cell};
+use crate::cells::{GoodRow, count_good, kill_cell, kill_where, leave_cell, read_data};
 use ram_bytes::Block;
 use ram_medium::{Arm, Armed, FailEnd, Fate, Medium, MediumControl, ReadEnd, WriteEnd};
 use ram_outside::{Image, Moved};
@@ -22,6 +23,10 @@ pub struct ImageMedium<I: Image> {
     uses: u64,
     cuts: u64,
     armed: Armed,
+    // The blocks from one on up to another whose state bytes were read and are those of good blocks. Nothing was written since.
+    good_from: u32,
+    good_to: u32,
+    ghost good: { ForSome (I.bytes image) (λ held. AreGood held good_from good_to) } by { Prim.hlevel props },
     // Where the bytes of the image are known, they are the image of a disc of this geometry.
     ghost disc: { ForSome (I.bytes image) (IsDiscImage geometry) } by { Prim.hlevel props },
 }
@@ -36,6 +41,23 @@ enum Begun {
     Failed,
 }
 
+/// The end of a row of blocks that stays known where this is so, else that of a row without blocks.
+fn kept_where(end: u32, stays: bool) -> u32
+    ensures { result ≡ (if stays then end else 0) }
+{
+    if stays { end } else { 0 }
+}
+
+/// What a look at the state byte of a block finds.
+enum Looked {
+    /// The block has whole bytes.
+    Good,
+    /// It has none.
+    NotGood,
+    /// The image failed, and the power is off.
+    Failed,
+}
+
 impl<I: Image> ImageMedium<I> {
     ghost use Rattle.std.specs.Prelude.{[], None, length};
     ghost use Rattle.model_geometry.specs.Geometry.{total};
@@ -44,7 +66,7 @@ impl<I: Image> ImageMedium<I> {
     ghost use Rattle.ram_bytes.specs.declared.block.TheConstants.{BLOCK_BYTES};
     ghost use Rattle.ram_medium.specs.ReadInto.{bytes_read};
     ghost use Rattle.ram_image.specs.Medium.{shape_of_medium, world_of, machine_in, bytes_in, dies_in, ImageTakes};
-    ghost use Rattle.ram_image.specs.Begun.{IsNew, ImageBeginRule, BeginBytes, ReadOnRule, WriteCutRule, WriteCutBytes, LeaveRule, LeaveBytes};
+    ghost use Rattle.ram_image.specs.Begun.{IsNew, ImageBeginRule, BeginBytes, LookRule, ReadOnRule, WriteCutRule, WriteCutBytes, LeaveRule, LeaveBytes};
 
     /// The medium of a disc of this geometry over its image, with the power off, nothing counted and nothing armed.
     pub(crate) fn new(image: I, geometry: Geometry, room: Block) -> Self
@@ -59,6 +81,8 @@ impl<I: Image> ImageMedium<I> {
             uses: 0,
             cuts: 0,
             armed: Armed::new(),
+            good_from: 0,
+            good_to: 0,
         }
     }
 
@@ -78,6 +102,8 @@ impl<I: Image> ImageMedium<I> {
             uses: _,
             cuts: _,
             armed: _,
+            good_from: _,
+            good_to: _,
         } = self;
         image
     }
@@ -94,9 +120,11 @@ impl<I: Image> ImageMedium<I> {
     {
         self.uses = self.uses.saturating_add(1);
         let due = self.armed.count(block);
+        self.good_to = kept_where(self.good_to, !due.dies);
         match kill_where(&mut self.image, self.geometry.total(), block, due.dies) {
             Moved::Failed => {
                 self.powered = false;
+                self.good_to = 0;
                 Begun::Failed
             }
             Moved::Done => match due.cut {
@@ -147,12 +175,41 @@ impl<I: Image> ImageMedium<I> {
         ensures same_shape { shape_of_medium self.new ≡ shape_of_medium self.old }
         ensures same_room { self.new.room ≡ self.old.room }
     {
-        match read_cell(&mut self.image, self.geometry.total(), block, into) {
-            CellRead::Good => ReadEnd::Done,
-            CellRead::NotGood => ReadEnd::Unreadable,
-            CellRead::Failed => {
+        match self.look_at(block) {
+            Looked::Failed => return ReadEnd::Failed,
+            Looked::NotGood => return ReadEnd::Unreadable,
+            Looked::Good => {}
+        }
+        match read_data(&mut self.image, self.geometry.total(), block, into) {
+            Moved::Done => ReadEnd::Done,
+            Moved::Failed => {
                 self.powered = false;
                 ReadEnd::Failed
+            }
+        }
+    }
+
+    /// Whether the block has whole bytes. Where that is not known yet, the state bytes from its own on are read.
+    fn look_at(&mut self, block: u32) -> Looked
+        requires { block < total (shape_of_medium self.old) }
+        ensures rule { LookRule (machine_in self.old) (machine_in self.new) block self.new.good_from self.new.good_to result }
+        ensures bytes { bytes_in self.new ≡ bytes_in self.old }
+        ensures same_shape { shape_of_medium self.new ≡ shape_of_medium self.old }
+        ensures same_room { self.new.room ≡ self.old.room }
+    {
+        if self.good_from <= block && block < self.good_to {
+            return Looked::Good;
+        }
+        match count_good(&mut self.image, self.geometry.total(), block) {
+            GoodRow::Blocks(0) => Looked::NotGood,
+            GoodRow::Blocks(count) => {
+                self.good_from = block;
+                self.good_to = block + count;
+                Looked::Good
+            }
+            GoodRow::Failed => {
+                self.powered = false;
+                Looked::Failed
             }
         }
     }
@@ -219,6 +276,7 @@ impl<I: Image> ImageMedium<I> {
             (bytes_in self.old) (bytes_in self.new) result }
         ensures same_shape { shape_of_medium self.new ≡ shape_of_medium self.old }
     {
+        self.good_to = 0;
         match leave_cell(&mut self.image, self.geometry.total(), block, from, fate) {
             Moved::Done => Moved::Done,
             Moved::Failed => {
@@ -305,6 +363,7 @@ impl<I: Image> MediumControl for ImageMedium<I> {
         if block >= blocks {
             return FailEnd::NoBlock { blocks };
         }
+        self.good_to = 0;
         match kill_cell(&mut self.image, blocks, block) {
             Moved::Done => FailEnd::Done,
             Moved::Failed => {

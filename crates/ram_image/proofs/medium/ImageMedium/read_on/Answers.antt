@@ -1,25 +1,21 @@
-use Rattle.std.proofs.Common.{◌≡◌, ◌∙◌, sym, refl}
-use Rattle.model_geometry.specs.Geometry.{label_of, total}
-use Rattle.model_medium.specs.Cells.{Good}
+use Rattle.std.specs.Prelude.{ℕ, ◌<◌, is_some, Option, List}
+use Rattle.std.specs.Bool.{OnTrue}
+use Rattle.std.proofs.Common.{◌≡◌, ◌∙◌, sym, refl, subst}
+use Rattle.model_geometry.specs.Geometry.{Shape, label_of, total}
+use Rattle.model_medium.specs.Cells.{Good, cell_at}
+use Rattle.model_image.specs.Cells.{cells_known}
 use Rattle.ram_medium.specs.Countdown.{arms_of, armed_cut_of}
-use Rattle.ram_image.proofs.MachineParts.{exactly_same, cell_found, not_good_found}
+use Rattle.ram_image.proofs.MachineParts.{exactly_same, cell_found}
 use Rattle.ram_image.proofs.medium.ImageMedium.read_on.Goals as goal
 
-pub invariant_of-self-in-Failed : goal.invariant_of-self-in-Failed
-invariant_of-self-in-Failed g c = record { disc = λ x e. c.args.self.now.disc x (sym c.in-Failed.ensures.same ∙ e) }
-
-pub returns-in-Good-clause-rule : goal.returns-in-Good-clause-rule
-returns-in-Good-clause-rule g c = (
-  exactly_same (label_of c.args.self.now.geometry) (total c.args.self.now.geometry) _ _ c.args.self.now.powered c.args.self.now.uses c.args.self.now.cuts _ _ (arms_of c.args.self.now.armed) (armed_cut_of c.args.self.now.armed)
-      c.in-Good.ensures.0.same c.in-Good.ensures.0.count,
-  cell_found (total c.args.self.now.geometry) c.args.block (λ cell. cell ≡ Good c.read_cell.new.into) c.requires.inside _ _ c.in-Good.ensures.0.same
-      (rw c.total.ensures.blocks at c.in-Good.ensures.1),
-)
-
 pub returns-in-NotGood-clause-rule : goal.returns-in-NotGood-clause-rule
-returns-in-NotGood-clause-rule g c = (
-  exactly_same (label_of c.args.self.now.geometry) (total c.args.self.now.geometry) _ _ c.args.self.now.powered c.args.self.now.uses c.args.self.now.cuts _ _ (arms_of c.args.self.now.armed) (armed_cut_of c.args.self.now.armed)
-      c.in-NotGood.ensures.0.same c.in-NotGood.ensures.0.count,
-  not_good_found (total c.args.self.now.geometry) c.args.block c.requires.inside _ _ c.in-NotGood.ensures.0.same (rw c.total.ensures.blocks at c.in-NotGood.ensures.1),
-  refl,
+returns-in-NotGood-clause-rule g c = (c.in-NotGood.ensures.rule.0, c.in-NotGood.ensures.rule.1, refl)
+
+pub returns-in-Done-clause-rule : goal.returns-in-Done-clause-rule
+returns-in-Done-clause-rule g c = (
+  exactly_same (label_of c.look_at.new.self.geometry) (total c.look_at.new.self.geometry) _ _ c.look_at.new.self.powered c.look_at.new.self.uses c.look_at.new.self.cuts _ _ (arms_of c.look_at.new.self.armed) (armed_cut_of c.look_at.new.self.armed)
+      c.in-Done.ensures.0.same c.in-Done.ensures.0.count ∙ c.in-Good.ensures.rule.0,
+  subst (λ (o : Option (List ℕ)). OnTrue (is_some o) (cell_at (cells_known (total c.look_at.new.self.geometry) (g.I.Image.bytes c.read_data.new.image)) c.args.block ≡ Good c.read_data.new.into)) c.in-Good.ensures.bytes
+      (cell_found (total c.look_at.new.self.geometry) c.args.block (λ cell. cell ≡ Good c.read_data.new.into) (subst (λ (s : Shape). c.args.block < total s) (sym c.in-Good.ensures.same_shape) c.requires.inside) _ _ c.in-Done.ensures.0.same
+      (rw c.total.ensures.blocks at c.in-Done.ensures.1)),
 )
