@@ -5,9 +5,9 @@
    read          each block is read, and nothing is looked at
    least-write   the data of a group of blocks are made; each is moved into a block of its own; its state byte is read and
                  written, its data are written, and its state byte is written again; then state byte and data are read back
-   least-read    the state byte and the data of each block of a group are read, each to its place; the last one is moved into
-                 the block that is kept; then each byte of a sector is compared with the next one, as for its line in the
-                 report */
+   least-read    the state bytes of 64 blocks are read at a time, and the data of each block of a group to its place; the last
+                 one is moved into the block that is kept; then each byte of a sector is compared with the next one, as for
+                 its line in the report */
 #include <fcntl.h>
 #include <stdio.h>
 #include <stdlib.h>
@@ -15,7 +15,7 @@
 #include <time.h>
 #include <unistd.h>
 
-enum { SECTOR_BYTES = 2048, BLOCK_BYTES = 32768, HEADER_BYTES = 16 };
+enum { SECTOR_BYTES = 2048, BLOCK_BYTES = 32768, HEADER_BYTES = 16, STATES = 64 };
 
 static char block[BLOCK_BYTES], read_back[BLOCK_BYTES];
 
@@ -53,6 +53,11 @@ static void read_state(long i) {
     moved(pread(file, &state, 1, HEADER_BYTES + i), 1);
 }
 
+static void read_states(long i) {
+    char states[STATES];
+    moved(pread(file, states, STATES, HEADER_BYTES + i), STATES);
+}
+
 static void least_write(char *data, long first) {
     memset(data, (char)first, group * BLOCK_BYTES);
     for (long k = 0; k < group; k++) {
@@ -67,10 +72,10 @@ static void least_write(char *data, long first) {
 }
 
 static void least_read(char *data, long first) {
-    for (long k = 0; k < group; k++) {
-        read_state(first + k);
+    if (first % STATES == 0)
+        read_states(first);
+    for (long k = 0; k < group; k++)
         read_data(first + k, data + k * BLOCK_BYTES);
-    }
     memcpy(read_back, data + (group - 1) * BLOCK_BYTES, BLOCK_BYTES);
     for (char *sector = data; sector < data + group * BLOCK_BYTES; sector += SECTOR_BYTES)
         fills += memcmp(sector, sector + 1, SECTOR_BYTES - 1) == 0;
