@@ -3,8 +3,8 @@
 
    write         each block is written and read back, and nothing is looked at
    read          each block is read, and nothing is looked at
-   least-write   the data of a group of blocks are made; each is moved into a block of its own; its state byte is read and
-                 written, its data are written, and its state byte is written again; then state byte and data are read back
+   least-write   the state bytes of 64 blocks are read at a time, and the data of a group of blocks are made; each block is moved
+                 into one of its own; its state byte is written, its data, and its state byte again; then its data are read back
    least-read    the state bytes of 64 blocks are read at a time, and the data of each block of a group to its place; the last
                  one is moved into the block that is kept; then each byte of a sector is compared with the next one, as for
                  its line in the report */
@@ -48,11 +48,6 @@ static void write_state(long i, char state) {
     moved(pwrite(file, &state, 1, HEADER_BYTES + i), 1);
 }
 
-static void read_state(long i) {
-    char state;
-    moved(pread(file, &state, 1, HEADER_BYTES + i), 1);
-}
-
 static void read_states(long i) {
     char states[STATES];
     moved(pread(file, states, STATES, HEADER_BYTES + i), STATES);
@@ -60,13 +55,13 @@ static void read_states(long i) {
 
 static void least_write(char *data, long first) {
     memset(data, (char)first, group * BLOCK_BYTES);
+    if (first % STATES == 0)
+        read_states(first);
     for (long k = 0; k < group; k++) {
         memcpy(block, data + k * BLOCK_BYTES, BLOCK_BYTES);
-        read_state(first + k);
         write_state(first + k, 2);
         write_data(first + k);
         write_state(first + k, 1);
-        read_state(first + k);
         read_data(first + k, read_back);
     }
 }

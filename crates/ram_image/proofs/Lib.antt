@@ -6,3 +6,4 @@ pub mod Leaving
 pub mod Events
 pub mod EventSteps
 pub mod MachineParts
+mod GoodRows

@@ -1,9 +1,9 @@
 //! The cells of blocks in an image's bytes: the one place that writes state bytes and data. It knows no power and
 //! no arms.
 
-ghost use Rattle.std.specs.Prelude.{◌≡◌, ◌+◌, ◌*◌, ◌<◌, ◌≤◌, length, slice_index};
+ghost use Rattle.std.specs.Prelude.{◌≡◌, ◌+◌, ◌*◌, ◌<◌, ◌≤◌, true, IfSome, length, slice_index};
 ghost use Rattle.std.specs.Option.{ForSome};
-ghost use Rattle.model_image.specs.Cells.{image_len};
+ghost use Rattle.model_image.specs.Cells.{image_len, cell_in};
 ghost use Rattle.model_image.specs.Writes.{torn_state, dead_state};
 ghost use Rattle.model_medium.specs.Cells.{Torn, Dead};
 ghost use Rattle.ram_bytes.specs.declared.block.TheConstants.{BLOCK_BYTES};
@@ -156,29 +156,45 @@ pub fn kill_where<I: Image>(image: &mut I, total: u32, block: u32, dies: bool) -
     Moved::Done
 }
 
-/// LeavesByFate a block as a write of these bytes does that is cut with this fate: an old one ends before the first of its
+/// Leaves a block as a write of these bytes does that is cut with this fate: an old one ends before the first of its
 /// three writes, a torn one after it, and a new one after the last, as a write does that is not cut. A dead block is
-/// left as it is.
+/// left as it is; whether it is dead is not read where the block is known to have whole bytes.
 pub fn leave_cell<I: Image>(
     image: &mut I,
     total: u32,
     block: u32,
     from: &Block,
     fate: Fate,
+    known: bool,
 ) -> Moved
     requires inside { block < total }
     requires whole { ForSome (I.bytes image.old) (λ held. length held ≡ image_len total) }
+    requires known { known ≡ true → ForSome (I.bytes image.old) (λ held. slice_index held (16 + block) ≡ 1) }
     ensures rule { LeaveCellRule (cell_call I.Image total block image.old image.new) from.now fate result }
     ensures bytes { LeaveCellBytes (cell_call I.Image total block image.old image.new) from.now fate result }
 {
+    if known {
+        return leave_alive(image, total, block, from, fate);
+    }
     match read_state(image, total, block) {
         StateRead::Failed => Moved::Failed,
         StateRead::Dead => Moved::Done,
-        StateRead::Alive => match fate {
-            Fate::Old => Moved::Done,
-            Fate::New => write_cell(image, total, block, from),
-            Fate::Torn => tear_cell(image, total, block),
-        },
+        StateRead::Alive => leave_alive(image, total, block, from, fate),
+    }
+}
+
+/// The same of a block that is not dead.
+fn leave_alive<I: Image>(image: &mut I, total: u32, block: u32, from: &Block, fate: Fate) -> Moved
+    requires inside { block < total }
+    requires whole { ForSome (I.bytes image.old) (λ held. length held ≡ image_len total) }
+    requires alive { IfSome (I.bytes image.old) (λ held. ¬ (cell_in total held block ≡ Dead)) }
+    ensures rule { LeaveCellRule (cell_call I.Image total block image.old image.new) from.now fate result }
+    ensures bytes { LeaveCellBytes (cell_call I.Image total block image.old image.new) from.now fate result }
+{
+    match fate {
+        Fate::Old => Moved::Done,
+        Fate::New => write_cell(image, total, block, from),
+        Fate::Torn => tear_cell(image, total, block),
     }
 }
 

@@ -1,8 +1,9 @@
 //! The medium over an opened image: power, counts, arms and the armed cut, around the calls of `cells`.
 
-ghost use Rattle.std.specs.Prelude.{◌≡◌, ◌<◌, ◌≤◌, if◌then◌else◌, true, false, is_some, IsTrue, MatchOption};
+ghost use Rattle.std.specs.Prelude.{◌≡◌, ◌<◌, ◌≤◌, ◌↔◌, if◌then◌else◌, true, false, is_some, IsTrue, MatchOption};
 ghost use Rattle.std.specs.Option.{ForSome};
 ghost use Rattle.std.proofs.Props.{props};
+ghost use Rattle.model_geometry.specs.Geometry.{total};
 ghost use Rattle.model_image.specs.Image.{IsDiscImage, IsImageOf};
 ghost use Rattle.ram_image.specs.CellCalls.{AreGood};
 
@@ -23,10 +24,11 @@ pub struct ImageMedium<I: Image> {
     uses: u64,
     cuts: u64,
     armed: Armed,
-    // The blocks from one on up to another whose state bytes were read and are those of good blocks. Nothing was written since.
+    // The row of blocks that are known to be good, from one on up to another: their state bytes need not be read.
     good_from: u32,
     good_to: u32,
     ghost good: { ForSome (I.bytes image) (λ held. AreGood held good_from good_to) } by { Prim.hlevel props },
+    ghost within: { good_to ≤ total geometry },
     // Where the bytes of the image are known, they are the image of a disc of this geometry.
     ghost disc: { ForSome (I.bytes image) (IsDiscImage geometry) } by { Prim.hlevel props },
 }
@@ -41,11 +43,22 @@ enum Begun {
     Failed,
 }
 
-/// The end of a row of blocks that stays known where this is so, else that of a row without blocks.
+/// The end of a row of blocks, which stays known where this is so, else that of a row without blocks.
 fn kept_where(end: u32, stays: bool) -> u32
     ensures { result ≡ (if stays then end else 0) }
 {
     if stays { end } else { 0 }
+}
+
+/// Whether a block that is known to be good, or is not, is known to be so after a write that ends by this fate.
+fn stays_good(known: bool, fate: Fate) -> bool
+    ensures { IsTrue result → IsTrue known × (fate ≡ Fate.New) }
+{
+    match fate {
+        Fate::New => known,
+        Fate::Old => false,
+        Fate::Torn => false,
+    }
 }
 
 /// What a look at the state byte of a block finds.
@@ -189,6 +202,13 @@ impl<I: Image> ImageMedium<I> {
         }
     }
 
+    /// Whether the block is one of those that are known to be good.
+    fn is_known(&self, block: u32) -> bool
+        ensures { IsTrue result ↔ ((self.now.good_from ≤ block) × (block < self.now.good_to)) }
+    {
+        self.good_from <= block && block < self.good_to
+    }
+
     /// Whether the block has whole bytes. Where that is not known yet, the state bytes from its own on are read.
     fn look_at(&mut self, block: u32) -> Looked
         requires { block < total (shape_of_medium self.old) }
@@ -197,7 +217,7 @@ impl<I: Image> ImageMedium<I> {
         ensures same_shape { shape_of_medium self.new ≡ shape_of_medium self.old }
         ensures same_room { self.new.room ≡ self.old.room }
     {
-        if self.good_from <= block && block < self.good_to {
+        if self.is_known(block) {
             return Looked::Good;
         }
         match count_good(&mut self.image, self.geometry.total(), block) {
@@ -276,11 +296,20 @@ impl<I: Image> ImageMedium<I> {
             (bytes_in self.old) (bytes_in self.new) result }
         ensures same_shape { shape_of_medium self.new ≡ shape_of_medium self.old }
     {
-        self.good_to = 0;
-        match leave_cell(&mut self.image, self.geometry.total(), block, from, fate) {
+        let known = self.is_known(block);
+        self.good_to = kept_where(self.good_to, stays_good(known, fate));
+        match leave_cell(
+            &mut self.image,
+            self.geometry.total(),
+            block,
+            from,
+            fate,
+            known,
+        ) {
             Moved::Done => Moved::Done,
             Moved::Failed => {
                 self.powered = false;
+                self.good_to = 0;
                 Moved::Failed
             }
         }

@@ -4,11 +4,11 @@ use Rattle.ram_medium.specs.Countdown.{arms_of, armed_cut_of}
 use Rattle.ram_image.proofs.MachineParts.{exactly_same, not_good_found, none_good}
 use Rattle.ram_image.proofs.medium.ImageMedium.look_at.Goals as goal
 
-pub invariant_of-self-in-Failed : goal.invariant_of-self-in-Failed
-invariant_of-self-in-Failed g c = record {
-  disc = λ x e. c.args.self.now.disc x (sym c.in-Failed.ensures.same ∙ e);
-  good = λ x e. c.args.self.now.good x (sym c.in-Failed.ensures.same ∙ e);
-}
+pub invariant_of-self-in-Failed-clause-disc : goal.invariant_of-self-in-Failed-clause-disc
+invariant_of-self-in-Failed-clause-disc g c = λ x e. c.args.self.now.disc x (sym c.in-Failed.ensures.same ∙ e)
+
+pub invariant_of-self-in-Failed-clause-good : goal.invariant_of-self-in-Failed-clause-good
+invariant_of-self-in-Failed-clause-good g c = λ x e. c.args.self.now.good x (sym c.in-Failed.ensures.same ∙ e)
 
 pub returns-in-Blocks-eq0-clause-rule : goal.returns-in-Blocks-eq0-clause-rule
 returns-in-Blocks-eq0-clause-rule g c = (
