@@ -5,7 +5,7 @@ use Rattle.std.proofs.Common.{arith, refl, sym, ap, ◌∙◌, inl, inr, subst, 
 use Rattle.std.proofs.lemmas.Bool.{cases_Bool, cond-true, cond-false, eqb-true}
 use Rattle.model_medium.specs.Cells.{Cell, Blank, Good, Torn, Dead, IsGood}
 use Rattle.model_image.specs.Cells.{state_place, data_place, cell_of, data_in, cell_in}
-use Rattle.ram_image.specs.CellCalls.{call_between, AreGood, LeadsWithGood, ReadDataRule}
+use Rattle.ram_image.specs.CellCalls.{call_between, HaveGoodStates, LeadsWithGood, ReadDataRule}
 use Rattle.ram_outside.specs.Image.{ReadAtRule}
 use Rattle.ram_outside.specs.declared.image.Moved.{Moved}
 use Rattle.ram_outside.specs.declared.image.Moved.TheVariants as moves
@@ -35,7 +35,7 @@ not_good_by state block_data other good = elim (cases_Bool (state == 0)) [
 
 -- the blocks whose state bytes lead are good
 pub row_good : (at block count : ℕ) (states : List ℕ) → at ≡ 16 + block → LeadsWithGood states count → (before : Option (List ℕ)) → IfSome before (λ held. states ≡ take (length states) (drop at held))
-    → IfSome before (λ held. AreGood held block (block + count))
+    → IfSome before (λ held. HaveGoodStates held block (block + count))
 row_good at block count states at_is leads None read = tt
 row_good at block count states at_is leads (Some held) read = λ k from to.
     let place : at + (k - block) ≡ 16 + k = omega (arith, at_is, from) in

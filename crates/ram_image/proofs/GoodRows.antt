@@ -12,7 +12,7 @@ use Rattle.model_medium.specs.declared.Fate.TheVariants as fates
 use Rattle.model_image.specs.Cells.{state_place, data_place, image_len}
 use Rattle.model_image.specs.Writes.{with_block, bytes_by, bytes_left, dead_state}
 use Rattle.model_image.proofs.ByteWrites.{bytes_left-alive}
-use Rattle.ram_image.specs.CellCalls.{AreGood}
+use Rattle.ram_image.specs.CellCalls.{HaveGoodStates}
 
 -- bytes that were written at a place reach to it
 put_at-reaches : (at : ℕ) (from held : List ℕ) → at ≤ length held → at ≤ length (put_at at from held)
@@ -24,7 +24,7 @@ put_at-reaches at from held inside = omega (
 )
 
 -- the state byte of each block of the row is that of a good one after a write of the whole bytes of one of them
-good_with_block : (total block from to : ℕ) (bytes held : List ℕ) → block < total → to ≤ total → length held ≡ image_len total → AreGood held from to → AreGood (with_block total block bytes held) from to
+good_with_block : (total block from to : ℕ) (bytes held : List ℕ) → block < total → to ≤ total → length held ≡ image_len total → HaveGoodStates held from to → HaveGoodStates (with_block total block bytes held) from to
 good_with_block total block from to bytes held inside within whole good k low high =
     let as_long : data_place total block ≤ length (put_at (data_place total block) bytes held) = put_at-reaches (data_place total block) bytes held (omega (arith, whole, inside)) in
     let data_stays : slice_index (put_at (data_place total block) bytes held) (16 + k) ≡ 1 =
@@ -40,8 +40,8 @@ good_with_block total block from to bytes held inside within whole good k low hi
 
 -- the same of a write that ends by a fate, behind which the row stays only where the block is one of it and the fate is new
 pub good_after_write : (total block from to end : ℕ) (bytes : List ℕ) (fate : Fate) (stays : Bool) (before after : Option (List ℕ)) → block < total → to ≤ total
-    → ForSome before (λ held. length held ≡ image_len total) → (IsTrue stays → (from ≤ block) × (block < to) × (fate ≡ fates.New)) → end ≡ (if stays then to else 0) → ForSome before (λ held. AreGood held from to)
-    → WhereKnown before after (λ held held'. held' ≡ bytes_left fate total block bytes held) → ForSome after (λ held. AreGood held from end)
+    → ForSome before (λ held. length held ≡ image_len total) → (IsTrue stays → (from ≤ block) × (block < to) × (fate ≡ fates.New)) → end ≡ (if stays then to else 0) → ForSome before (λ held. HaveGoodStates held from to)
+    → WhereKnown before after (λ held held'. held' ≡ bytes_left fate total block bytes held) → ForSome after (λ held. HaveGoodStates held from end)
 good_after_write total block from to end bytes fate false before after inside within whole of end_is good known = λ held is k low high. absurd (omega (arith, end_is, high))
 good_after_write total block from to end bytes fate true None None inside within whole of end_is good known = λ held is. absurd (let none : None ≡ Some held = is in cc)
 good_after_write total block from to end bytes fate true None (Some held') inside within whole of end_is good known = absurd known
@@ -50,6 +50,6 @@ good_after_write total block from to end bytes fate true (Some held) (Some held'
     let p = of refl in
     let alive : ¬ (slice_index held (state_place block) ≡ dead_state) = λ dead. absurd (omega (arith, dead, good held refl block p.0 p.1)) in
     let written : held' ≡ with_block total block bytes held = known ∙ sym (bytes_left-alive fate total block bytes held alive) ∙ ap (λ (f : Fate). bytes_by f total block bytes held) p.2 in
-    subst (λ (l : List ℕ). AreGood l from end) (let both : Some held' ≡ Some x = is in cc)
-    (subst (λ (m : ℕ). AreGood held' from m) (sym end_is)
-    (subst (λ (l : List ℕ). AreGood l from to) (sym written) (good_with_block total block from to bytes held inside within (whole held refl) (good held refl))))
+    subst (λ (l : List ℕ). HaveGoodStates l from end) (let both : Some held' ≡ Some x = is in cc)
+    (subst (λ (m : ℕ). HaveGoodStates held' from m) (sym end_is)
+    (subst (λ (l : List ℕ). HaveGoodStates l from to) (sym written) (good_with_block total block from to bytes held inside within (whole held refl) (good held refl))))

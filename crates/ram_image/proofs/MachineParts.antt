@@ -12,7 +12,7 @@ use Rattle.model_medium.specs.declared.ArmedCut.{ArmedCut}
 use Rattle.model_image.specs.Cells.{cell_in, cells_known, SetsCell}
 use Rattle.model_image.specs.Image.{IsDiscImage}
 use Rattle.model_image.proofs.Writes.{cell_at-cells_of}
-use Rattle.ram_image.specs.CellCalls.{AreGood}
+use Rattle.ram_image.specs.CellCalls.{HaveGoodStates}
 use Rattle.ram_image.proofs.TellsCells.{known_cell}
 
 abbrev pub machine_by : List ℕ → ℕ → Option (List ℕ) → Bool → ℕ → ℕ → ℕ → List WornBlock → Option ArmedCut → Machine
@@ -65,7 +65,7 @@ disc_after_kill shape block true before after disc known = cases before after di
     cases (Some held) (Some held') d t = λ x e. subst (IsDiscImage shape) (let both : Some held' ≡ Some x = e in cc) (disc_sets shape block Dead held held' (d held refl) t)
 
 -- the row of blocks that are known to be good, behind an arm that may kill a block: it is empty where one does
-pub good_after_kill : (total block from to : ℕ) (dies : Bool) (before after : Option (List ℕ)) → ForSome before (λ held. AreGood held from to)
-    → MatchBool dies (WhereKnown before after (SetsCell total block Dead)) (after ≡ before) → ForSome after (λ held. AreGood held from (if not dies then to else 0))
-good_after_kill total block from to false before after good e = subst (λ o. ForSome o (λ held. AreGood held from to)) (sym e) good
+pub good_after_kill : (total block from to : ℕ) (dies : Bool) (before after : Option (List ℕ)) → ForSome before (λ held. HaveGoodStates held from to)
+    → MatchBool dies (WhereKnown before after (SetsCell total block Dead)) (after ≡ before) → ForSome after (λ held. HaveGoodStates held from (if not dies then to else 0))
+good_after_kill total block from to false before after good e = subst (λ o. ForSome o (λ held. HaveGoodStates held from to)) (sym e) good
 good_after_kill total block from to true before after good known = λ held is k low high. absurd (omega (arith, high))

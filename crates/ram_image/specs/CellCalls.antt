@@ -4,8 +4,8 @@ use Rattle.model_counts.specs.Counts.{Rose}
 use Rattle.model_bytes.specs.Known.{WhereKnown}
 use Rattle.model_medium.specs.Cells.{Cell, Good, Dead, IsGood, cell_at, cut_short}
 use Rattle.model_medium.specs.declared.Fate.{Fate}
-use Rattle.model_image.specs.Cells.{cell_in, cells_of, SetsCell, StopsInCell, StopsInState}
-use Rattle.model_image.specs.Writes.{with_state, with_block, worn_bytes, bytes_left, PutsInBlock, StopsInBytes, IsBeforeOrAfter}
+use Rattle.model_image.specs.Cells.{state_place, cell_in, cells_of, SetsCell, StopsInCell, StopsInState}
+use Rattle.model_image.specs.Writes.{good_state, with_state, with_block, worn_bytes, bytes_left, PutsInBlock, StopsInBytes, IsBeforeOrAfter}
 use Rattle.ram_outside.specs.Image.{IsUnchanged, ImageFails}
 use Rattle.ram_outside.specs.declared.image.Image.{Ghosts as Images}
 use Rattle.ram_outside.specs.declared.image.Moved.{Moved}
@@ -55,19 +55,19 @@ BytesRule call done failed moves.Done = WhereKnown call.before call.after done
 BytesRule call done failed moves.Failed = WhereKnown call.before call.after failed
 
 -- the state bytes of the blocks from one on up to another are those of good ones
-abbrev pub AreGood : List ℕ → (from to : ℕ) → Type 0
-AreGood held from to = (k : ℕ) → from ≤ k → k < to → slice_index held (16 + k) ≡ 1
+abbrev pub HaveGoodStates : List ℕ → (from to : ℕ) → Type 0
+HaveGoodStates held from to = (k : ℕ) → from ≤ k → k < to → slice_index held (state_place k) ≡ good_state
 
 -- so many state bytes at the start are those of good blocks, and the next one, where there is one, is not
 pub record LeadsWithGood (states : List ℕ) (count : ℕ) : Type 0 where
   pub inside : count ≤ length states
-  pub good : (k : ℕ) → k < count → slice_index states k ≡ 1
-  pub next : count < length states → slice_index states count ≢ 1
+  pub good : (k : ℕ) → k < count → slice_index states k ≡ good_state
+  pub next : count < length states → slice_index states count ≢ good_state
 
 -- What a look at the state bytes from a block on may do, by its answer.
 abbrev pub GoodRowRule : CellCall → GoodRow → Type 0
 GoodRowRule call (rows.Blocks count) = ChangesNothing call × (call.block + count ≤ call.total)
-    × IfSome call.before (λ held. AreGood held call.block (call.block + count))
+    × IfSome call.before (λ held. HaveGoodStates held call.block (call.block + count))
     × IfSome call.before (λ held. count ≡ 0 → ¬ IsGood (cell_in call.total held call.block))
 GoodRowRule call rows.Failed = FailsUnchanged call
 

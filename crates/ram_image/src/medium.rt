@@ -5,7 +5,7 @@ ghost use Rattle.std.specs.Option.{ForSome};
 ghost use Rattle.std.proofs.Props.{props};
 ghost use Rattle.model_geometry.specs.Geometry.{total};
 ghost use Rattle.model_image.specs.Image.{IsDiscImage, IsImageOf};
-ghost use Rattle.ram_image.specs.CellCalls.{AreGood};
+ghost use Rattle.ram_image.specs.CellCalls.{HaveGoodStates};
 
 use crate::cells::{GoodRow, count_good, kill_cell, kill_where, leave_cell, read_data};
 use ram_bytes::Block;
@@ -27,7 +27,7 @@ pub struct ImageMedium<I: Image> {
     // The row of blocks that are known to be good, from one on up to another: their state bytes need not be read.
     good_from: u32,
     good_to: u32,
-    ghost good: { ForSome (I.bytes image) (λ held. AreGood held good_from good_to) } by { Prim.hlevel props },
+    ghost good: { ForSome (I.bytes image) (λ held. HaveGoodStates held good_from good_to) } by { Prim.hlevel props },
     ghost within: { good_to ≤ total geometry },
     // Where the bytes of the image are known, they are the image of a disc of this geometry.
     ghost disc: { ForSome (I.bytes image) (IsDiscImage geometry) } by { Prim.hlevel props },
@@ -212,7 +212,8 @@ impl<I: Image> ImageMedium<I> {
     /// Whether the block has whole bytes. Where that is not known yet, the state bytes from its own on are read.
     fn look_at(&mut self, block: u32) -> Looked
         requires { block < total (shape_of_medium self.old) }
-        ensures rule { LookRule (machine_in self.old) (machine_in self.new) block self.new.good_from self.new.good_to result }
+        ensures rule { LookRule (machine_in self.old) (machine_in self.new) block
+            self.new.good_from self.new.good_to result }
         ensures bytes { bytes_in self.new ≡ bytes_in self.old }
         ensures same_shape { shape_of_medium self.new ≡ shape_of_medium self.old }
         ensures same_room { self.new.room ≡ self.old.room }

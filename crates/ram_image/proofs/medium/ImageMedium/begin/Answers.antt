@@ -2,7 +2,7 @@ use Rattle.std.specs.Prelude.{ℕ}
 use Rattle.std.specs.Option.{ForSome}
 use Rattle.std.proofs.Common.{sym, subst}
 use Rattle.model_geometry.specs.Geometry.{total}
-use Rattle.ram_image.specs.CellCalls.{AreGood}
+use Rattle.ram_image.specs.CellCalls.{HaveGoodStates}
 use Rattle.ram_image.proofs.MachineParts.{disc_after_kill, good_after_kill}
 use Rattle.ram_image.proofs.medium.ImageMedium.begin.Goals as goal
 
@@ -13,6 +13,6 @@ invariant_of-self-in-Done-clause-disc g c =
 
 pub invariant_of-self-in-Done-clause-good : goal.invariant_of-self-in-Done-clause-good
 invariant_of-self-in-Done-clause-good g c =
-    subst (λ (end : ℕ). ForSome (g.I.Image.bytes c.kill_where.new.image) (λ held. AreGood held c.args.self.now.good_from end)) (sym c.kept_where-self.ensures)
+    subst (λ (end : ℕ). ForSome (g.I.Image.bytes c.kill_where.new.image) (λ held. HaveGoodStates held c.args.self.now.good_from end)) (sym c.kept_where-self.ensures)
     (good_after_kill (total c.args.self.now.geometry) c.args.block c.args.self.now.good_from c.args.self.now.good_to c.count-due.result.dies (g.I.Image.bytes c.args.self.now.image) (g.I.Image.bytes c.kill_where.new.image)
     c.args.self.now.good (rw c.total.ensures.blocks at c.in-Done.ensures.rule.0))
