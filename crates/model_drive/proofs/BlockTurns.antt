@@ -20,7 +20,7 @@ use Rattle.model_volume.specs.Moves.{OnlyMoves}
 use Rattle.model_volume.proofs.GivenFacts.{settled_alone}
 use Rattle.model_drive.specs.Shown.{Shown, IsKnown, WhenKnown, buffered, cells_in}
 use Rattle.model_drive.specs.Parts.{EndsBy, AreSameOrDead}
-use Rattle.model_drive.specs.Course.{Placing, ToHome, ToSpare, free_at, lists_placed, placing_uses, uses_of_rest, most_uses}
+use Rattle.model_drive.specs.Course.{Placing, ToHome, ToSpare, free_at, lists_placed, placing_uses, uses_of_rest, most_placing_uses}
 use Rattle.model_drive.specs.Blocks.{PutsBlock, FindsNoSpare, FindsNoCopy, StopsAtBlock}
 use Rattle.model_drive.specs.Writes.{WroteCourse, ReadRest, LacksSpare, LacksUpdate, StopsInWrite, uses_so_far, next_block, most_next}
 use Rattle.model_drive.proofs.Dying.{given_dies}
@@ -90,7 +90,7 @@ module _ (old mid new : Shown) (lba n : ℕ) (course : List Placing) (lists reac
     given = λ known. stopped.given (as_known known);
     stopped = record {
       stops = stops_then old.medium mid.medium new.medium (uses_so_far old lists lba n course) (most_next old reached lba n course) stop so_far.ends.reach so_far.ends.is_on
-          (stops_then mid.medium at new.medium (uses_of_rest (buffered old) lba n (length course)) (most_uses old.shape reached (next_block lba course)) stop rest.continues.reach rest.continues.is_on stopped.stops);
+          (stops_then mid.medium at new.medium (uses_of_rest (buffered old) lba n (length course)) (most_placing_uses old.shape reached (next_block lba course)) stop rest.continues.reach rest.continues.is_on stopped.stops);
       no_lists = no_lists;
       no_mark = no_mark;
       no_buffer = no_buffer;

@@ -110,8 +110,8 @@ course_uses lists buffered lba n (placing ∷ earlier) =
     + (uses_of_rest buffered lba n (length earlier) + placing_uses lists placing)
 
 -- the most that one more block can take: all free spares may be tried
-abbrev pub most_uses : Shape → Lists → ℕ → ℕ
-most_uses shape lists i = 2 + 2 * length (free_at shape lists i) + sdl_update_uses lists.sdl
+abbrev pub most_placing_uses : Shape → Lists → ℕ → ℕ
+most_placing_uses shape lists i = 2 + 2 * length (free_at shape lists i) + sdl_update_uses lists.sdl
 
 -- No cell changed but those of the homes of so many logical blocks, of their free spares, and of the secondary list.
 abbrev pub OnlyWritten : Shape → List Cell → List Cell → Lists → (first count : ℕ) → Type 0

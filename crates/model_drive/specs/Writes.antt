@@ -18,7 +18,7 @@ use Rattle.model_drive.specs.declared.WriteOut.TheVariants as outs
 use Rattle.model_drive.specs.Shown.{Shown, WhenKnown, HasLostSdl, cells_in, buffered, home, home_cell}
 use Rattle.model_drive.specs.Parts.{WasOff, IsUnformatted, IsInRange, IsOutOfRange, EndsBy, IsStopped, NoneCounted, AreGood}
 use Rattle.model_drive.specs.Repairs.{sdl_update_uses}
-use Rattle.model_drive.specs.Course.{Placing, free_at, IsUsable, lists_placed, lists_reached, TookCourse, CanTakeCourse, HasCopyOfMoves, AreDead, uses_of_rest, course_uses, most_uses, OnlyWritten}
+use Rattle.model_drive.specs.Course.{Placing, free_at, IsUsable, lists_placed, lists_reached, TookCourse, CanTakeCourse, HasCopyOfMoves, AreDead, uses_of_rest, course_uses, most_placing_uses, OnlyWritten}
 
 -- the next block of a request after those of a course
 abbrev pub next_block : ℕ → List Placing → ℕ
@@ -136,7 +136,7 @@ GivesPlaced old new reached i = (lists : Lists) → IsGiven old.shape (cells_in 
 -- the most uses of the next block, with its rest
 abbrev pub most_next : Shown → Lists → (lba n : ℕ) → List Placing → ℕ
 most_next old reached lba n course =
-    uses_of_rest (buffered old) lba n (length course) + most_uses old.shape reached (next_block lba course)
+    uses_of_rest (buffered old) lba n (length course) + most_placing_uses old.shape reached (next_block lba course)
 
 -- The write was stopped in a block of the request. The cells give no lists but those that it had reached, and those that
 -- this block makes of them, wherever it goes.

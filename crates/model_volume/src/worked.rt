@@ -84,7 +84,9 @@ pub fn worked_expansion()
 /// A call that found the copy of the secondary list in block 1 dead saw the other cells as they were. On a disc without a
 /// copy no structure is chosen.
 pub fn worked_seen()
-    ensures seen { (d old : List ℕ) → AreSeen small_shape (Good d ∷ Good old ∷ []) (Good d ∷ Dead ∷ []) (Good d ∷ Dead ∷ []) }
-    ensures other { (d old : List ℕ) → ¬ AreSeen small_shape (Good d ∷ Good old ∷ []) (Good d ∷ Dead ∷ []) (Good d ∷ Good old ∷ []) }
+    ensures seen { (d old : List ℕ)
+        → AreSeen small_shape (Good d ∷ Good old ∷ []) (Good d ∷ Dead ∷ []) (Good d ∷ Dead ∷ []) }
+    ensures other { (d old : List ℕ)
+        → ¬ AreSeen small_shape (Good d ∷ Good old ∷ []) (Good d ∷ Dead ∷ []) (Good d ∷ Good old ∷ []) }
     ensures bare { LacksLists small_shape [] None }
 {}

@@ -10,7 +10,7 @@ use Rattle.model_commands.specs.Fields.{bits}
 use Rattle.model_modes.specs.Pages.{is_page_code}
 use Rattle.model_drive.specs.declared.Kind.{Kind}
 use Rattle.ram_cdb.specs.declared.commands.Command.TheVariants as commands
-use Rattle.ram_cdb.specs.Decoding.{format_type, kind_of, has_refused_field, asks_for_saved_values, has_wrong_length, meaning, IsWithinLimits}
+use Rattle.ram_cdb.specs.Decoding.{format_type, format_kind, has_refused_field, asks_for_saved_values, has_wrong_length, meaning, IsWithinLimits}
 
 -- a command block that is long enough
 pub not_short : (long found bytes : ℕ) → found ≡ bytes → found ≤ long → nat_lt long bytes ≡ false
@@ -53,7 +53,7 @@ pub within_limits : (operation : Operation) (cdb payload : List ℕ) → ((i : �
 within_limits operations.TestUnitReady cdb payload small long taken saved given = search rules
 within_limits operations.RequestSense cdb payload small long taken saved given = search rules
 within_limits operations.FormatUnit cdb payload small long taken saved given =
-    format_fits payload (format_type payload == 1) (field 4 4 payload) (kind_of cdb payload)
+    format_fits payload (format_type payload == 1) (field 4 4 payload) (format_kind cdb payload)
 within_limits operations.Inquiry cdb payload small long taken saved given = search rules
 within_limits operations.StartStopUnit cdb payload small long taken saved given = search rules
 within_limits operations.PreventAllowMediumRemoval cdb payload small long taken saved given = search rules

@@ -85,8 +85,8 @@ refusals operation cdb payload =
 
 -- What a format is to do: FOV and DCRT in byte 1 of its list ask for one that certifies nothing, and CmpLst in the command
 -- block for one that forgets the secondary list. (After INCITS MMC; the meaning of DCRT and CmpLst is this project's own.)
-abbrev pub kind_of : (cdb payload : List ℕ) → Kind
-kind_of cdb payload = if flag 1 7 payload && flag 1 5 payload then Rewrite else Full (flag 1 3 cdb)
+abbrev pub format_kind : (cdb payload : List ℕ) → Kind
+format_kind cdb payload = if flag 1 7 payload && flag 1 5 payload then Rewrite else Full (flag 1 3 cdb)
 
 -- What a command asks for that is not refused: the table of the fields that are looked at. No other byte or bit is. (After
 -- INCITS MMC and SPC.)
@@ -94,7 +94,7 @@ abbrev pub meaning : Operation → (cdb payload : List ℕ) → Command
 meaning operations.TestUnitReady cdb payload = commands.TestUnitReady
 meaning operations.RequestSense cdb payload = commands.RequestSense (slice_index cdb 4)
 meaning operations.FormatUnit cdb payload =
-    if format_type payload == 1 then commands.Expand (field 4 4 payload) else commands.Format (kind_of cdb payload)
+    if format_type payload == 1 then commands.Expand (field 4 4 payload) else commands.Format (format_kind cdb payload)
 meaning operations.Inquiry cdb payload = commands.Inquiry (field 3 2 cdb)
 meaning operations.StartStopUnit cdb payload = commands.StartStop (flag 4 0 cdb) (flag 4 1 cdb)
 meaning operations.PreventAllowMediumRemoval cdb payload = commands.Prevent (flag 4 0 cdb)

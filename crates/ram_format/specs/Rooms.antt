@@ -7,7 +7,7 @@ use Rattle.ram_format.specs.declared.full.Room.{Room}
 
 -- A block of zeros, and room for what is found of a disc that keeps so many entries, for the entries of both lists.
 -- (This project's own.)
-pub record HasRoomFor (shape : Shape) (kept : ℕ) (room : Room) : Type 0 where
+pub record IsFormatRoom (shape : Shape) (kept : ℕ) (room : Room) : Type 0 where
   pub zero : room.defects.zero ≡ zeros 32768
   pub none_found : room.defects.found.items ≡ []
   pub found_room : shape.psa - kept ≤ vec_capacity room.defects.found

@@ -7,7 +7,7 @@ ghost use Rattle.model_formats.specs.Defects.{AreKept};
 ghost use Rattle.ram_format.specs.Phases.{kind_by};
 ghost use Rattle.ram_lists.specs.Lists.{lists_of};
 ghost use Rattle.ram_format.specs.Full.{MakesLists, EndsFormat, FullRule, IsRoomyEnd};
-ghost use Rattle.ram_format.specs.Rooms.{HasRoomFor};
+ghost use Rattle.ram_format.specs.Rooms.{IsFormatRoom};
 
 use crate::ends::End;
 use crate::phases::{DefectRoom, find_defects, write_list};
@@ -77,7 +77,7 @@ struct Room {
 impl Room {
     /// Takes the memory of a format that keeps so many entries.
     fn new(alloc: Global, geometry: &Geometry, kept: usize) -> Result<Room, AllocError>
-        ensures { IfOk result (HasRoomFor geometry.now kept) }
+        ensures { IfOk result (IsFormatRoom geometry.now kept) }
     {
         let psa = geometry.psa() as usize;
         let zero = zero_block(alloc)?;
@@ -112,7 +112,7 @@ fn format_disc<M: Medium>(
     requires kept { AreKept geometry.now kept.now }
     requires small { mark + 2 ≤ 4294967295 }
     requires marked { AreMarkedWithin geometry.now (M.world medium.old).cells mark }
-    requires room { HasRoomFor geometry.now (length kept.now) room }
+    requires room { IsFormatRoom geometry.now (length kept.now) room }
     ensures rule { MatchResult result
         (λ lists. MakesLists M.world M.reaches geometry.now kept.now (kind_by first) mark medium.old medium.new
         (lists_of lists))

@@ -26,7 +26,7 @@ use Rattle.model_volume.proofs.Moved.{home_not_free, home_is_data_block, free_is
 use Rattle.model_volume.proofs.Updates.{agrees_good, data_moves, settled_kept, dds_settled, fits_before, fits_written, fits_moved, cover_settled, cover_between}
 use Rattle.model_drive.specs.declared.TheConstants.{LAST_COUNTER}
 use Rattle.model_drive.specs.Repairs.{sdl_update_uses}
-use Rattle.model_drive.specs.Course.{ToHome, ToSpare, lists_placed, most_uses, AreDead}
+use Rattle.model_drive.specs.Course.{ToHome, ToSpare, lists_placed, most_placing_uses, AreDead}
 use Rattle.model_drive.specs.Blocks.{LeavesBlock, StopsAtBlock}
 use Rattle.ram_medium.specs.Laws.{MediumLaws}
 use Rattle.ram_medium.proofs.Parts.{continues_then, continues_quiet, stops_later, stops_within}
@@ -88,7 +88,7 @@ module _ {M : Type 0} (world : M → World) (block_count : M → ℕ) (reaches :
     stopped_by : (new : M) (stop : Stop) → IsTrue (world old).power → StopsAtBlock world reaches shape old new lists i bytes stop → PlacingStopped world reaches shape old new lists i bytes lists stop
     stopped_by new stop on stopped = record {
       was_on = on;
-      counts = stopped_counts old new (most_uses shape lists i) stop stopped.stops;
+      counts = stopped_counts old new (most_placing_uses shape lists i) stop stopped.stops;
       same = refl;
       stopped = stopped;
     }
@@ -102,11 +102,11 @@ module _ {M : Type 0} (world : M → World) (block_count : M → ℕ) (reaches :
       settled_new : AreSettled shape (world new).cells lists
       settled_new = settled_kept shape lists valid i inside (world old).cells (world new).cells data_only settled
 
-      stopped_at : (most : ℕ) (stop : Stop) → most ≤ most_uses shape lists i → Stops world reaches old new most stop → (world new).known ≡ (world old).known
+      stopped_at : (most : ℕ) (stop : Stop) → most ≤ most_placing_uses shape lists i → Stops world reaches old new most stop → (world new).known ≡ (world old).known
           → (cell_at (world new).cells (home_of shape lists i) ≡ cell_at (world old).cells (home_of shape lists i)) ⊎ (cell_at (world new).cells (home_of shape lists i) ≡ Good bytes)
           ⊎ (¬ IsGood (cell_at (world new).cells (home_of shape lists i))) → StopsAtBlock world reaches shape old new lists i bytes stop
       stopped_at most stop few stops as_known left = record {
-        stops = stops_within world block_count reaches laws old new most (most_uses shape lists i) stop few stops;
+        stops = stops_within world block_count reaches laws old new most (most_placing_uses shape lists i) stop few stops;
         given = λ known other given. (ToHome, settled_alone shape (world new).cells lists other settled_new given);
         as_known = as_known;
         only = moves;
@@ -273,7 +273,7 @@ module _ {M : Type 0} (world : M → World) (block_count : M → ℕ) (reaches :
           update_stopped : (stop : Stop) → IsTrue (world old).power → Stops world reaches here new 8 stop → MayLeaveCopies world reaches kinds.Sdl shape here new (SdlValue moved_sdl)
               → PlacingStopped world reaches shape old new lists i bytes lists stop
           update_stopped stop on stops left = stopped_by new stop on (record {
-            stops = stops_within world block_count reaches laws old new (2 + (2 * found.tried + 2) + 8) (most_uses shape lists i) stop (let inside = has.stands.inside in omega (arith, inside))
+            stops = stops_within world block_count reaches laws old new (2 + (2 * found.tried + 2) + 8) (most_placing_uses shape lists i) stop (let inside = has.stands.inside in omega (arith, inside))
                 (stops_later world block_count reaches laws old here new (2 + (2 * found.tried + 2)) 8 stop continues_here stops);
             given = λ known other given. elim (pair_between shape (world new).cells lists.dds lists.sdl moved_sdl other dds_still between given) [
               | inl before ↦ (ToHome, before)

@@ -11,7 +11,7 @@ use Rattle.ram_sense.specs.Sense.{sense}
 use Rattle.ram_sense.specs.declared.sense.Sense.{Sense}
 use Rattle.ram_cdb.specs.declared.commands.Command.{Command}
 use Rattle.ram_cdb.specs.declared.commands.Command.TheVariants as commands
-use Rattle.ram_cdb.specs.Decoding.{refusal, unless, format_type, kind_of, has_refused_field, asks_for_saved_values, has_wrong_length, has_refused_parameters, meaning, decoded_by, decoded}
+use Rattle.ram_cdb.specs.Decoding.{refusal, unless, format_type, format_kind, has_refused_field, asks_for_saved_values, has_wrong_length, has_refused_parameters, meaning, decoded_by, decoded}
 use Rattle.model_target.specs.declared.host.Host.{Host}
 use Rattle.model_target.specs.Host.{is_told}
 use Rattle.model_target.specs.Judging.{asked_in, asked_by, asked, IsJudgedBy, IsJudged}
@@ -65,7 +65,7 @@ format_data payload false capacity kind = tt
 
 meant_data : (operation : Operation) (cdb payload : List ℕ) → nat_lt (length cdb) (command operation).bytes ≡ false → has_refused_field operation cdb ≡ false → has_wrong_length operation cdb (length payload) ≡ false
     → HasItsData payload (meaning operation cdb payload)
-meant_data operations.FormatUnit cdb payload long taken given = format_data payload (format_type payload == 1) (field 4 4 payload) (kind_of cdb payload)
+meant_data operations.FormatUnit cdb payload long taken given = format_data payload (format_type payload == 1) (field 4 4 payload) (format_kind cdb payload)
 meant_data operations.Write10 cdb payload long taken given = written (length payload) (length cdb) 10 (field 7 2 cdb) long taken given
 meant_data operations.WriteAndVerify10 cdb payload long taken given = written (length payload) (length cdb) 10 (field 7 2 cdb) long taken given
 meant_data operations.Write12 cdb payload long taken given = written (length payload) (length cdb) 12 (field 6 4 cdb) long taken given

@@ -28,7 +28,7 @@ use Rattle.model_volume.proofs.Moved.{home_is_data_block, homes_apart, home_not_
 use Rattle.model_drive.specs.declared.WriteOut.TheVariants as outs
 use Rattle.model_drive.specs.Shown.{Shown, HoldsBlocksOf, StandsFor}
 use Rattle.model_drive.specs.Parts.{AreSameOrDead}
-use Rattle.model_drive.specs.Course.{Placing, ToHome, ToSpare, lists_placed, placing_uses, most_uses, uses_of_rest, TookCourse, LeavesCopy, HasCopyOfMoves}
+use Rattle.model_drive.specs.Course.{Placing, ToHome, ToSpare, lists_placed, placing_uses, most_placing_uses, uses_of_rest, TookCourse, LeavesCopy, HasCopyOfMoves}
 use Rattle.model_drive.specs.Blocks.{PutsBlock, LeavesBlock, FindsNoSpare, FindsNoCopy, StopsAtBlock}
 use Rattle.model_drive.specs.Writes.{WroteCourse, ReadRest, LacksRest, StopsInWrite, StopsInBlock, disc_after}
 use Rattle.model_drive.proofs.Ends.{stop_known, stop_off}
@@ -339,7 +339,7 @@ module _ {M : Type 0} (world : M → World) (block_count : M → ℕ) (reaches :
         where
           shown : StopsAtBlock (λ (m : Machine). m.world) Reach shape (machine at) (machine new) reached i put stop
           shown = record {
-            stops = machine_stops world reaches takes arms armed_cut laws at new (most_uses shape reached i) (most_uses shape reached i) refl stop halted.stops;
+            stops = machine_stops world reaches takes arms armed_cut laws at new (most_placing_uses shape reached i) (most_placing_uses shape reached i) refl stop halted.stops;
             given = halted.given;
             as_known = halted.as_known;
             only = halted.only;
@@ -347,7 +347,7 @@ module _ {M : Type 0} (world : M → World) (block_count : M → ℕ) (reaches :
           }
 
           is_off : ¬ IsTrue (world new).power
-          is_off = stop_off (machine at) (machine new) (most_uses shape reached i) stop shown.stops
+          is_off = stop_off (machine at) (machine new) (most_placing_uses shape reached i) stop shown.stops
 
       -- The block was refused, and the lists and the disc are as before.
       module _ (new : M) (lists' : Lists) (uses : ℕ) (leaves : LeavesBlock world reaches shape at new reached i put lists' uses) where
