@@ -52,10 +52,7 @@ module _ (shape : Shape) (lists : Lists) (valid : AreValid shape lists) where
       ]
 
   module _ (i : ℕ) (inside : i < logical_count shape lists) (failed : List ℕ) (spare : ℕ) (next : IsNextSpare shape lists failed spare) where
-    -- the spare that comes next is free, and so are those that failed
-    pub next_is_free : Contains (free_spares shape lists) spare
-    next_is_free = subst (Contains (free_spares shape lists)) (sym next.spare_is) (Contains-get_or (free_spares shape lists) next.tried 0 next.inside)
-
+    -- the spares that failed are free
     pub failed_are_free : (s : ℕ) → Contains failed s → Contains (free_spares shape lists) s
     failed_are_free s has = tried_are (free_spares shape lists) next.tried s next.inside (subst (λ (xs : List ℕ). Contains xs s) next.failed_are has)
 
