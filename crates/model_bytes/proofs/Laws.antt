@@ -1,7 +1,7 @@
--- What a write into a list of bytes, and a change of its length, make of it and leave.
-use Rattle.std.proofs.Common.{◌≡◌, ℕ, ◌+◌, ◌-◌, ◌<◌, ◌≤◌, ◌⊎◌, inl, inr, List, ◌++◌, length, get_or, take, drop, replicate, refl, sym, ◌∙◌, ap, arith, append_assoc, length-append, length-drop, length-take}
-use Rattle.std.proofs.lemmas.List.{length-take-le, take_at, drop_at, take-append-le, take-take, drop-drop, get_or_append_left, get_or-append_right, get_or-take, get_or-drop, take_all, append-nil, take-append-drop, length-replicate, get_or-replicate, drop-take}
-use Rattle.model_bytes.specs.Bytes.{put_at, resized}
+-- What a write into a list of bytes makes of it and leaves.
+use Rattle.std.proofs.Common.{◌≡◌, ℕ, ◌+◌, ◌-◌, ◌<◌, ◌≤◌, ◌⊎◌, inl, inr, List, ◌++◌, length, get_or, take, drop, sym, ◌∙◌, ap, arith, append_assoc, length-append, length-drop}
+use Rattle.std.proofs.lemmas.List.{length-take-le, take_at, drop_at, take-append-le, take-take, drop-drop, get_or_append_left, get_or-take, get_or-drop, drop-take}
+use Rattle.model_bytes.specs.Bytes.{put_at}
 
 -- a write inside a list leaves its length
 pub length-put_at : (at : ℕ) (from held : List ℕ) → at + length from ≤ length held → length (put_at at from held) ≡ length held
@@ -35,12 +35,6 @@ drop-put_at-start at from held inside =
     ap (drop at) (append_assoc (take at held) from (drop (at + length from) held))
     ∙ drop_at (take at held) (from ++ drop (at + length from) held) at (length-take-le at held inside)
 
--- the range has the bytes that were written
-pub range-put_at : (at : ℕ) (from held : List ℕ) → at ≤ length held → take (length from) (drop at (put_at at from held)) ≡ from
-range-put_at at from held inside =
-    ap (take (length from)) (drop-put_at-start at from held inside)
-    ∙ take_at from (drop (at + length from) held) (length from) refl
-
 -- a range apart from the written one has the bytes that were there
 pub other_range-put_at : (low n at : ℕ) (from held : List ℕ) → at ≤ length held → (low + n ≤ at) ⊎ (at + length from ≤ low) → take n (drop low (put_at at from held)) ≡ take n (drop low held)
 other_range-put_at low n at from held inside (inl below) =
@@ -69,45 +63,6 @@ get_or-put_at-inside k at from held d within inside =
     sym (get_or-drop at (put_at at from held) k d)
     ∙ ap (λ (l : List ℕ). get_or l k d) (drop-put_at-start at from held inside)
     ∙ get_or_append_left from (drop (at + length from) held) d k within
-
--- a second write of the same range takes the place of the first
-pub put_at-put_at : (at : ℕ) (first then held : List ℕ) → length first ≡ length then → at ≤ length held → put_at at then (put_at at first held) ≡ put_at at then held
-put_at-put_at at first then held same inside =
-    let prefix = take-put_at at at first held (omega arith) inside in
-    let back = drop-put_at (at + length then) at first held (omega arith) inside in
-    rw (prefix, back) refl
-
--- what a range holds, written there, changes nothing
-pub put_at-own : (at n : ℕ) (held : List ℕ) → at + n ≤ length held → put_at at (take n (drop at held)) held ≡ held
-put_at-own at n held inside =
-    let long : length (take n (drop at held)) ≡ n = length-take-le n (drop at held) (omega (arith, length-drop at held)) in
-    rw long (append_assoc (take at held) (take n (drop at held)) (drop (at + n) held)
-    ∙ ap (λ (l : List ℕ). take at held ++ (take n (drop at held) ++ l)) (sym (drop-drop n at held))
-    ∙ ap (λ (l : List ℕ). take at held ++ l) (take-append-drop n (drop at held))
-    ∙ take-append-drop at held)
-
--- a list made as long as that
-pub length-resized : (n : ℕ) (held : List ℕ) → length (resized n held) ≡ n
-length-resized n held =
-    omega (arith, length-append (take n held) (replicate (n - length held) 0), length-take n held, length-replicate {A = ℕ} (n - length held) 0)
-
--- at its own length a list stays as it is
-pub resized-own : (held : List ℕ) → resized (length held) held ≡ held
-resized-own held =
-    let none : length held - length held ≡ 0 = omega arith in
-    rw none (append-nil (take (length held) held) ∙ take_all (length held) held (omega arith))
-
--- a byte below both lengths
-pub get_or-resized-kept : (k n : ℕ) (held : List ℕ) (d : ℕ) → k < n → k < length held → get_or (resized n held) k d ≡ get_or held k d
-get_or-resized-kept k n held d below within =
-    get_or_append_left (take n held) (replicate (n - length held) 0) d k (omega (arith, length-take n held)) ∙ get_or-take n held k d below
-
--- a byte past the old length
-pub get_or-resized-new : (k n : ℕ) (held : List ℕ) (d : ℕ) → k < n → length held ≤ k → get_or (resized n held) k d ≡ 0
-get_or-resized-new k n held d below past =
-    let kept = take_all n held (omega arith) in
-    get_or-append_right (take n held) (replicate (n - length held) 0) (length held) k d (ap length kept) past
-    ∙ get_or-replicate (n - length held) (k - length held) 0 d (omega arith)
 
 -- a list written over its whole length, as by what `bytes_mut` of a block lends
 pub written_whole : (written held : List ℕ) → length written ≡ length held → take (length held) (written ++ drop (length written) held) ≡ written

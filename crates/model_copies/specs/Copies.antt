@@ -82,8 +82,10 @@ module _ {V : Type 0} (text : V → List ℕ → Type 0) where
   -- The copies of a list hold nothing new: each cell is as it was, or torn or dead, or holds what some copy held before.
   -- (This project's own.)
   abbrev pub HoldNothingNew : (ℕ → ℕ) → List Cell → List Cell → Type 0
-  HoldNothingNew place old new = (area : ℕ) → IsArea area → (cell_at new (place area) ≡ cell_at old (place area)) ⊎ (cell_at new (place area) ≡ Torn)
-      ⊎ (cell_at new (place area) ≡ Dead) ⊎ ((value : V) × (at : ℕ) × HasCopy place old value at × Holds (cell_at new (place area)) value)
+  HoldNothingNew place old new = (area : ℕ) → IsArea area → (cell_at new (place area) ≡ cell_at old (place area))
+      ⊎ (cell_at new (place area) ≡ Torn)
+      ⊎ (cell_at new (place area) ≡ Dead)
+      ⊎ ((value : V) × (at : ℕ) × HasCopy place old value at × Holds (cell_at new (place area)) value)
 
 -- The disc's copy of its disc definition structure in this area is the text of this value. (After ECMA-330.)
 abbrev pub HasDdsCopy : Shape → List Cell → Dds → ℕ → Type 0
@@ -137,7 +139,8 @@ module _ (exact : Cell → Type 0) (place : ℕ → ℕ) (old new : List Cell) w
   -- own.)
   abbrev pub Rewrites : ℕ → ℕ → Type 0
   Rewrites zero count = count ≡ 0
-  Rewrites (suc k) count = (WasExact (suc k) × Rewrites k count) ⊎ (¬ WasExact (suc k) × ((before : ℕ) × (count ≡ before + 1) × Rewrites k before))
+  Rewrites (suc k) count = (WasExact (suc k) × Rewrites k count)
+      ⊎ (¬ WasExact (suc k) × ((before : ℕ) × (count ≡ before + 1) × Rewrites k before))
 
 -- A repair of the disc's copies of its disc definition structure to this one wrote so many of the four again: those that
 -- were not exactly its text when they were read. (This project's own.)

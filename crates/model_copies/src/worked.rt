@@ -2,7 +2,7 @@
 
 ghost use Rattle.std.specs.Prelude.{◌≡◌, ℕ, ◌∷◌, [], List};
 ghost use Rattle.model_medium.specs.Cells.{Blank, Good, Torn, Dead};
-ghost use Rattle.model_copies.specs.Copies.{IsArea, Holds, HoldsOrDead, HoldsEither, HasCopy, HoldNothingNew, Settled, IsChosen, NoneChosen, IsGreatestMark, AllLost, IsSeen, good_count, Rewrites};
+ghost use Rattle.model_copies.specs.Copies.{Holds, HoldsOrDead, HoldsEither, HoldNothingNew, IsChosen, IsGreatestMark, good_count, Rewrites};
 
 /// What single cells hold.
 pub fn worked_copies()

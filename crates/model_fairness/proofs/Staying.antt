@@ -1,15 +1,14 @@
 -- What keeps a disc fair.
-use Rattle.std.proofs.Common.{◌≡◌, ℕ, zero, suc, ◌+◌, ◌<◌, ◌==◌, Bool, true, false, cond, if◌then◌else◌, Option, Some, None, List, [], ◌∷◌, inl, inr, refl, sym, ap, ◌∙◌, subst, arith, eqb, map, slice_index, length}
+use Rattle.std.proofs.Common.{◌≡◌, ℕ, zero, suc, ◌==◌, Bool, true, false, if◌then◌else◌, Option, Some, None, List, [], ◌∷◌, inl, inr, refl, sym, ap, ◌∙◌, subst, arith, map, slice_index}
 use Rattle.std.specs.List.{Contains, find}
 use Rattle.std.specs.Option.{option_and_then}
 use Rattle.std.specs.Prelude.{unwrap_or}
 use Rattle.std.proofs.lemmas.Bool.{eqb-true}
 use Rattle.model_geometry.specs.Geometry.{Shape}
 use Rattle.model_lists.specs.declared.sdl.SdlEntry.{SdlEntry}
-use Rattle.model_lists.specs.Values.{Dds, with_entry}
+use Rattle.model_lists.specs.Values.{with_entry, pair, retired}
 use Rattle.model_medium.specs.Cells.{Cell, Dead, cell_at}
 use Rattle.model_places.specs.Places.{Lists, is_listed, unreplaced, logical_block, home_of, free_spares, spares}
-use Rattle.model_places.specs.Worked.{pair, retired}
 use Rattle.model_places.proofs.Homes.{Contains-first, Contains-later}
 use Rattle.model_volume.specs.Moves.{with_retired, former, tried_of, lists_moved}
 use Rattle.model_volume.specs.Expansions.{entry_expanded, lists_expanded}

@@ -1,8 +1,8 @@
 -- The cells of an image whose bytes may not be known, after a write of one.
-use Rattle.std.specs.Prelude.{◌≡◌, ◌≢◌, ℕ, ◌<◌, Option, Some, None, is_some, IfSome, List, [], length, set}
+use Rattle.std.specs.Prelude.{◌≡◌, ℕ, Option, Some, None, is_some, IfSome, List, [], length, set}
 use Rattle.std.specs.Bool.{OnTrue, OnFalse}
-use Rattle.std.proofs.Common.{refl, sym, ap, ◌∙◌, subst, arith}
-use Rattle.std.proofs.lemmas.List.{get_or-set_same, get_or-set_other, set-get_or}
+use Rattle.std.proofs.Common.{refl, sym, ap, ◌∙◌, subst}
+use Rattle.std.proofs.lemmas.List.{set-get_or}
 use Rattle.std.proofs.lemmas.List.FromFn.{length-map-range_with_len}
 use Rattle.model_bytes.specs.Known.{WhereKnown}
 use Rattle.model_geometry.specs.Geometry.{Shape, total}
@@ -27,31 +27,9 @@ same_where_known R P step before after p e = subst (λ o. WhereKnown before o R)
     cases None p = tt
     cases (Some held) p = step held p
 
-pub known_stays : (R : List ℕ → List ℕ → Type 0) (before after : Option (List ℕ)) → WhereKnown before after R → is_some after ≡ is_some before
-known_stays R None None r = refl
-known_stays R None (Some held') r = absurd r
-known_stays R (Some held) None r = absurd r
-known_stays R (Some held) (Some held') r = refl
-
--- a cell was set, whichever it is
-pub cells_known-set : (total block : ℕ) (cell : Cell → Cell) (before after : Option (List ℕ)) → WhereKnown before after (λ held held'. SetsCell total block (cell (cell_at (cells_of total held) block)) held held')
-    → cells_known total after ≡ set (cells_known total before) block (cell (cell_at (cells_known total before) block))
-cells_known-set total block cell None None r = refl
-cells_known-set total block cell None (Some held') r = absurd r
-cells_known-set total block cell (Some held) None r = absurd r
-cells_known-set total block cell (Some held) (Some held') r = r.cells
-
 -- a cell that is set to what it is stays, with all others
 pub sets_same : (total block : ℕ) (held : List ℕ) (cell : Cell) → cell ≡ cell_at (cells_of total held) block → SetsCell total block cell held held
 sets_same total block held cell e = record { as_long = refl; header = refl; cells = sym (ap (set (cells_of total held) block) e ∙ set-get_or (cells_of total held) block Dead) }
-
--- what one set cell leaves
-pub sets-others : (total block : ℕ) (cell : Cell) (held held' : List ℕ) → SetsCell total block cell held held' → (other : ℕ) → other ≢ block → cell_at (cells_of total held') other ≡ cell_at (cells_of total held) other
-sets-others total block cell held held' sets other ne = ap (λ cells. cell_at cells other) sets.cells ∙ get_or-set_other (cells_of total held) block other cell Dead ne
-
-pub sets-here : (total block : ℕ) (cell : Cell) (held held' : List ℕ) → block < total → SetsCell total block cell held held' → cell_at (cells_of total held') block ≡ cell
-sets-here total block cell held held' inside sets =
-    ap (λ cells. cell_at cells block) sets.cells ∙ get_or-set_same (cells_of total held) block cell Dead (omega (arith, length-map-range_with_len (cell_in total held) 0 total))
 
 -- one cell for each block
 pub length-cells_known : (total : ℕ) (bytes : Option (List ℕ)) → OnTrue (is_some bytes) (length (cells_known total bytes) ≡ total)

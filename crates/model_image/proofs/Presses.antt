@@ -1,7 +1,7 @@
 -- What the three steps of a press make of an image, each of which may fail half way.
 use Rattle.std.specs.Prelude.{◌≡◌, ℕ, ◌+◌, ◌-◌, ◌≤◌, List, [], ◌++◌, length, take, drop, replicate, slice_index, Option, Some, None, MatchOption}
-use Rattle.std.specs.Option.{option_map, ForSome}
-use Rattle.std.proofs.Common.{arith, refl, sym, ap, ◌∙◌, inl, inr, subst, length-take}
+use Rattle.std.specs.Option.{option_map}
+use Rattle.std.proofs.Common.{arith, sym, ap, ◌∙◌, inl, inr, subst, length-take}
 use Rattle.std.proofs.lemmas.Bool.{cases_lt}
 use Rattle.std.proofs.lemmas.List.{nil_from_length, length-replicate, get_or-replicate, get_or_past, take_at, drop-replicate}
 use Rattle.std.proofs.lemmas.List.FromFn.{fill_by_all}
@@ -72,24 +72,8 @@ module _ (shape : Shape) (header_long : length (header_of shape) ≡ 16) where
   pub stopped_header : (after : List ℕ) → PartlyPut 0 (header_of shape) zeros after → IsBlankIfDisc after
   stopped_header after put = blank_if_disc after (behind after (SameBut-PartlyPut 0 (header_of shape) zeros after put))
 
-  pub zeros_blank : IsBlankIfDisc zeros
-  zeros_blank = blank_if_disc zeros (λ k h. zeros_at new_len k)
-
-pub nil_blank : IsBlankIfDisc []
-nil_blank = blank_if_disc [] (λ k h. refl)
-
 -- The same where the bytes of the image may not be known.
 module _ (shape : Shape) (header_long : length (header_of shape) ≡ 16) (before : Option (List ℕ)) where
-  -- the header may be written
-  pub has_room : (b1 b2 : Option (List ℕ)) → b1 ≡ option_map (resized 0) before → b2 ≡ option_map (resized (image_len (total shape))) b1 → ForSome b2 (λ held. 0 + length (header_of shape) ≤ length held)
-  has_room b1 b2 e1 e2 = cases before b2 (e2 ∙ ap (option_map (resized (image_len (total shape)))) e1)
-    where
-      cases : (o p : Option (List ℕ)) → p ≡ option_map (resized (image_len (total shape))) (option_map (resized 0) o) → ForSome p (λ held. 0 + length (header_of shape) ≤ length held)
-      cases None p e held is = absurd (let clash : Some held ≡ None = sym is ∙ e in cc)
-      cases (Some first) p e held is =
-          let same : held ≡ resized (image_len (total shape)) (resized 0 first) = (let both : Some held ≡ Some (resized (image_len (total shape)) (resized 0 first)) = sym is ∙ e in cc) in
-          omega (arith, header_long, ap length (same ∙ resized-anew (image_len (total shape)) first), length-replicate {A = ℕ} (image_len (total shape)) 0)
-
   pub known-pressed : IsLawful shape → (b1 b2 after : Option (List ℕ)) → b1 ≡ option_map (resized 0) before → b2 ≡ option_map (resized (image_len (total shape))) b1 → after ≡ option_map (put_at 0 (header_of shape)) b2
       → WhereKnown before after (PressesImage shape)
   known-pressed lawful b1 b2 after e1 e2 e3 =

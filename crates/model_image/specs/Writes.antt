@@ -43,7 +43,8 @@ pub record PutsInBlock (total block : ℕ) (block_data before after : List ℕ) 
   pub as_long : length after ≡ length before
   pub each : (k : ℕ) → (slice_index after k ≡ slice_index before k)
       ⊎ ((k ≡ state_place block) × ((slice_index after k ≡ torn_state) ⊎ (slice_index after k ≡ good_state)))
-      ⊎ ((data_place total block ≤ k) × (k < data_place total block + length block_data) × (slice_index after k ≡ slice_index block_data (k - data_place total block)))
+      ⊎ ((data_place total block ≤ k) × (k < data_place total block + length block_data)
+      × (slice_index after k ≡ slice_index block_data (k - data_place total block)))
 
 -- The image failed in a write of these data to a block: so much of it may have been done, and under a dead block
 -- nothing.

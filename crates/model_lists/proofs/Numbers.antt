@@ -56,6 +56,11 @@ pub bytes_are_2 : (at : ℕ) (block : List ℕ) → at + 2 ≤ length block → 
 bytes_are_2 at block inside small =
     bytes_of_2 (drop at block) (omega (arith, length-drop at block)) (λ k. rw get_or-drop (small (at + k)))
 
+-- and so of the number that was read of them
+pub number_bytes : (at m : ℕ) (bytes : List ℕ) → at + 2 ≤ length bytes → ((k : ℕ) → get_or bytes k 0 < 256) → m ≡ big_number 2 (drop at bytes) → bytes_from at 2 bytes ≡ big_bytes 2 m
+number_bytes at m bytes inside small is =
+    bytes_are_2 at bytes inside small ∙ ap (λ (k : ℕ). big_bytes 2 k) (sym is)
+
 -- bytes in a block are those of the number that they are
 pub bytes_are_3 : (at : ℕ) (block : List ℕ) → at + 3 ≤ length block → ((k : ℕ) → get_or block k 0 < 256) → bytes_from at 3 block ≡ big_bytes 3 (big_number 3 (drop at block))
 bytes_are_3 at block inside small =

@@ -83,6 +83,14 @@ abbrev pub IsEntryOf : List SdlEntry → ℕ → Option SdlEntry → Type 0
 IsEntryOf entries block None = All (λ (entry : SdlEntry). entry.defective ≡ block → ⊥) entries
 IsEntryOf entries block (Some found) = (found.defective ≡ block) × Contains entries found
 
+-- the entry of a block with its replacement (this project's own)
+abbrev pub pair : ℕ → ℕ → SdlEntry
+pair block replacement = record { defective = block; replacement = Some replacement }
+
+-- the entry of a spare that is no longer used (this project's own)
+abbrev pub retired : ℕ → SdlEntry
+retired block = record { defective = block; replacement = None }
+
 -- The list with this entry in its place, and no other of its defective block: those of lower blocks, this one, those
 -- of higher blocks. (This project's own.)
 abbrev pub with_entry : SdlEntry → List SdlEntry → List SdlEntry

@@ -127,14 +127,3 @@ cut_fell-then j k None None c one two = absurd two
 cut_fell-then j k None (Some b) c one two = absurd one
 cut_fell-then j k (Some a) None c one two = absurd one
 cut_fell-then j k (Some a) (Some b) c one two = (omega (arith, one.1, two.0), two.1)
-
--- an armed cut stays to come
-pub to_come-after : (cut : Option ArmedCut) → IsToCome (cut_after cut)
-to_come-after None armed e = absurd (let clash : None ≡ Some armed = e in cc)
-to_come-after (Some first) armed e = step (nat_le first.left 1) refl e
-  where
-    step : (b : Bool) → nat_le first.left 1 ≡ b → (if b then None else Some (record first { left = first.left - 1 })) ≡ Some armed → 1 ≤ armed.left
-    step true h e = absurd (let clash : None ≡ Some armed = e in cc)
-    step false h e =
-        let same : record first { left = first.left - 1 } ≡ armed = (cc) in
-        omega (arith, leb-false first.left 1 h, ap (λ a. a.left) same)

@@ -46,7 +46,8 @@ ReadExactly old new block into into' reads.Done = ReadsCellExactly old new block
 ReadExactly old new block into into' reads.Unreadable = FindsNothingExactly old new block into into'
 ReadExactly old new block into into' reads.Cut = IsCutExactly old (after_read block old) new × (into' ≡ into)
 ReadExactly old new block into into' reads.Off = IsOffExactly old new × (into' ≡ into)
-ReadExactly old new block into into' reads.Failed = FailsInRead old.world new.world block into into' × HasCountedDown old new block
+ReadExactly old new block into into' reads.Failed = FailsInRead old.world new.world block into into'
+    × HasCountedDown old new block
 
 -- the power was on, no cut was due, and the bytes were written
 pub record WritesCellExactly (old new : Machine) (block : ℕ) (bytes : List ℕ) : Type 0 where

@@ -28,7 +28,8 @@ pub record CutCame (old new : World) : Type 0 where
   pub turns_off : ¬ IsTrue new.power
   pub one_cut : new.cuts ≡ counted old.cuts 1
   pub torn : ℕ
-  pub others_stay_good : (block : ℕ) → block ≢ torn → IsGood (cell_at old.cells block) → IsGoodOrDead (cell_at new.cells block)
+  pub others_stay_good : (block : ℕ) → block ≢ torn → IsGood (cell_at old.cells block)
+      → IsGoodOrDead (cell_at new.cells block)
   pub one_torn : IsGood (cell_at old.cells torn) → IsGoodOrDead (cell_at new.cells torn) ⊎ (cell_at new.cells torn ≡ Torn)
 
 -- What can follow on any medium by k uses, none of which failed. While the power is off nothing happens.
@@ -58,7 +59,8 @@ abbrev pub WornBy : ℕ → List Cell → List WornBlock → List WornBlock → 
 WornBy k cells [] [] = Unit {0}
 WornBy k cells [] (arm' ∷ arms') = ⊥
 WornBy k cells (arm ∷ arms) [] = IsDropped k cells arm × WornBy k cells arms []
-WornBy k cells (arm ∷ arms) (arm' ∷ arms') = (IsDropped k cells arm × WornBy k cells arms (arm' ∷ arms')) ⊎ (IsLowered k arm arm' × WornBy k cells arms arms')
+WornBy k cells (arm ∷ arms) (arm' ∷ arms') = (IsDropped k cells arm × WornBy k cells arms (arm' ∷ arms'))
+    ⊎ (IsLowered k arm arm' × WornBy k cells arms arms')
 
 -- no cut came in k uses: an armed cut has k fewer left, and at least one
 abbrev pub CutStands : ℕ → Option ArmedCut → Option ArmedCut → Type 0
@@ -76,6 +78,8 @@ CutFell k (Some armed) cut' = (armed.left ≡ k) × (cut' ≡ None)
 pub record Reach (old new : Machine) (k : ℕ) : Type 0 where
   pub lasts : Lasts old.world new.world k
   pub off_is_still : ¬ IsTrue old.world.power → (new ≡ old) × (k ≡ 0)
-  pub dies_by_arm : (block : ℕ) → cell_at new.world.cells block ≡ Dead → (cell_at old.world.cells block ≡ Dead) ⊎ IsWornWithin k block old.arms
+  pub dies_by_arm : (block : ℕ) → cell_at new.world.cells block ≡ Dead
+      → (cell_at old.world.cells block ≡ Dead) ⊎ IsWornWithin k block old.arms
   pub arms : WornBy k new.world.cells old.arms new.arms
-  pub ends : (NoCutCame old.world new.world × CutStands k old.cut new.cut) ⊎ (CutCame old.world new.world × CutFell k old.cut new.cut)
+  pub ends : (NoCutCame old.world new.world × CutStands k old.cut new.cut)
+      ⊎ (CutCame old.world new.world × CutFell k old.cut new.cut)

@@ -85,7 +85,7 @@ used_once e es apart apart' sound has =
     used_none none = ap (λ o. unwrap_or o e.defective) none
 
 -- no two entries use up one spare
-used_differ : (entries : List SdlEntry) → IsDistinct eqb (replacements entries) → IsDistinct eqb (defectives entries)
+pub used_differ : (entries : List SdlEntry) → IsDistinct eqb (replacements entries) → IsDistinct eqb (defectives entries)
     → ((x : ℕ) → Contains (replacements entries) x → ¬ Contains (defectives entries) x) → IsDistinct eqb (map used entries)
 used_differ [] apart apart' sound = apart'
 used_differ (e ∷ es) apart apart' sound =

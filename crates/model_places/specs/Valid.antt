@@ -30,8 +30,10 @@ pub record IsValidSdl (shape : Shape) (lists : Lists) : Type 0 where
   pub area : IsValidSsa shape lists.sdl.ssa
   pub within : AreListed (unslipped shape lists.dds) (defectives lists.sdl.entries)
   pub rising : IsStrictlyIncreasing (defectives lists.sdl.entries)
-  pub logical_replaced : All (λ (e : SdlEntry). Contains (logical_blocks shape lists) e.defective → IsSome e.replacement) lists.sdl.entries
-  pub spares_retired : All (λ (e : SdlEntry). Contains (spares shape lists) e.defective → IsNone e.replacement) lists.sdl.entries
+  pub logical_replaced : All
+      (λ (e : SdlEntry). Contains (logical_blocks shape lists) e.defective → IsSome e.replacement) lists.sdl.entries
+  pub spares_retired : All
+      (λ (e : SdlEntry). Contains (spares shape lists) e.defective → IsNone e.replacement) lists.sdl.entries
   pub from_spares : AreListed (spares shape lists) (replacements lists.sdl.entries)
   pub different : IsDistinct nat_eq (replacements lists.sdl.entries)
   pub sound : All (λ b. ¬ Contains (defectives lists.sdl.entries) b) (replacements lists.sdl.entries)

@@ -1,18 +1,10 @@
 -- Small lists, of a disc with four primary spares: for the worked numbers.
-use Rattle.std.specs.Prelude.{ℕ, Some, None, List, map}
+use Rattle.std.specs.Prelude.{ℕ, List, map}
 use Rattle.model_lists.specs.declared.dds.DdsState.TheVariants.{Formatted}
 use Rattle.model_lists.specs.declared.dds.PdlEntry.{PdlEntry}
 use Rattle.model_lists.specs.declared.dds.PdlKind.TheVariants.{P}
 use Rattle.model_lists.specs.declared.sdl.SdlEntry.{SdlEntry}
 use Rattle.model_places.specs.Places.{Lists}
-
--- the entry of a block with its replacement (this project's own)
-abbrev pub pair : ℕ → ℕ → SdlEntry
-pair block replacement = record { defective = block; replacement = Some replacement }
-
--- the entry of a spare that is no longer used (this project's own)
-abbrev pub retired : ℕ → SdlEntry
-retired block = record { defective = block; replacement = None }
 
 -- the entries of a primary defect list of these blocks, which the maker found (this project's own)
 abbrev pub found_by_maker : List ℕ → List PdlEntry

@@ -7,11 +7,11 @@ ghost use Rattle.std.specs.List.{All, Contains, filter};
 ghost use Rattle.std.specs.List.Sorted.{IsStrictlyIncreasing};
 ghost use Rattle.model_geometry.specs.declared.TheConstants.{MOST_SPARES};
 ghost use Rattle.model_geometry.specs.Geometry.{Shape, shape_of, data_blocks};
-ghost use Rattle.model_lists.specs.Values.{Dds, defectives};
+ghost use Rattle.model_lists.specs.Values.{Dds, defectives, pair, retired};
 ghost use Rattle.model_places.specs.Places.{Lists, slipped, unslipped, logical_block, logical_blocks, logical_count, primary_count, capacity_of, primary_spares, supplementary_spares, spares};
 ghost use Rattle.model_places.specs.Places.{free_spares, free_spare_after, free_primary_count, free_supplementary_count, usable_spares, replacements, home_of};
 ghost use Rattle.model_places.specs.Valid.{IsValidPdl, IsValidSsa, IsValidSdl, AreValid};
-ghost use Rattle.model_places.specs.Worked.{small_lists, pair, retired};
+ghost use Rattle.model_places.specs.Worked.{small_lists};
 
 /// The blocks that are not slipped are data blocks, and rise. A valid primary list slips as many as it has, and
 /// each other block stands as many places earlier as slipped blocks come before it.

@@ -5,14 +5,13 @@ use Rattle.std.proofs.lemmas.Bool.{cases_lt}
 use Rattle.model_bytes.specs.Bytes.{put_at}
 use Rattle.model_bytes.proofs.Laws.{length-put_at, other_range-put_at}
 use Rattle.model_sectors.specs.Discs.{block_of, replaced}
-use Rattle.model_sectors.specs.Requests.{start_in, end_in, is_partly, part_of, merged_in, with_part}
-use Rattle.model_sectors.proofs.Pieces.{piece-put_at, put_at-whole, length_part_in, replaced_step}
+use Rattle.model_sectors.specs.Requests.{start_in, end_in, is_partly, part_of, merged_in}
+use Rattle.model_sectors.proofs.Pieces.{piece-put_at, put_at-whole, length_part_of, replaced_step}
 use Rattle.model_sectors.proofs.Covering.{wholly_start, wholly_end}
 
--- they are as many as its sectors there
-pub length_part_of : (lba n : ℕ) (bytes : List ℕ) (block : ℕ) → length bytes ≡ 2048 * n → length (part_of lba n bytes block) ≡ 2048 * (end_in lba n block - start_in lba block)
-unfolding part_of
-length_part_of lba n bytes block whole = length_part_in lba n bytes block whole
+-- the disc with the bytes of a request that lie in a block
+unfoldable pub with_part : (lba n : ℕ) → List ℕ → (block : ℕ) → List ℕ → List ℕ
+with_part lba n bytes block disc = put_at (2048 * start_in lba block) (part_of lba n bytes block) disc
 
 module _ (disc : List ℕ) (blocks lba n : ℕ) (bytes : List ℕ) (block : ℕ) (covered : start_in lba block < end_in lba n block) (whole : length bytes ≡ 2048 * n)
     (inside : lba + n ≤ 16 * blocks) (long : length disc ≡ 32768 * blocks) where
@@ -59,5 +58,5 @@ merged_whole lba n bytes block held other wholly whole long long' =
 -- one block more of a request
 pub replaced-with_part : (disc : List ℕ) (blocks lba n : ℕ) (bytes : List ℕ) (block : ℕ) → start_in lba block < end_in lba n block → length bytes ≡ 2048 * n → lba + n ≤ 16 * blocks
     → length disc ≡ 32768 * blocks → replaced disc lba bytes (block + 1) ≡ with_part lba n bytes block (replaced disc lba bytes block)
-unfolding with_part part_of
+unfolding with_part
 replaced-with_part disc blocks lba n bytes block covered whole inside long = replaced_step disc blocks lba n bytes block covered whole inside long

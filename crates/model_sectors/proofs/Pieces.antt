@@ -1,11 +1,11 @@
 -- Sectors and logical blocks as pieces of a disc, and what a write leaves of them.
 use Rattle.std.proofs.Common.{◌≡◌, ℕ, ◌+◌, ◌-◌, ◌*◌, ◌<◌, ◌≤◌, ◌⊎◌, inl, inr, List, [], ◌++◌, length, take, drop, min, refl, sym, ◌∙◌, ap, arith, append_assoc, length-append, length-drop, length-take}
 use Rattle.std.proofs.lemmas.Bool.{cases_lt}
-use Rattle.std.proofs.lemmas.List.{length-take-le, take-take, drop-drop, drop-take, take_all, take_min, drop_all, take-append-le, append-nil, take-append-drop, drop-append-le}
+use Rattle.std.proofs.lemmas.List.{length-take-le, take-take, drop-drop, drop-take, take_min, drop_all, take-append-le, append-nil, take-append-drop, drop-append-le}
 use Rattle.model_bytes.specs.Bytes.{put_at}
 use Rattle.model_bytes.proofs.Laws.{length-put_at, drop-put_at, other_range-put_at, take-put_at-end, drop-put_at-start}
 use Rattle.model_sectors.specs.Discs.{sectors_of, block_of, replaced}
-use Rattle.model_sectors.specs.Requests.{start_in, end_in}
+use Rattle.model_sectors.specs.Requests.{start_in, end_in, part_of}
 
 -- a piece of a piece is a piece
 pub piece_of_piece : (place many low n : ℕ) (d : List ℕ) → low + n ≤ many → take n (drop low (take many (drop place d))) ≡ take n (drop (place + low) d)
@@ -119,12 +119,6 @@ replaced_none d lba bytes block before =
     let none : 2048 * (16 * block - lba) ≡ 0 = omega arith in
     ap (λ (m : ℕ). put_at (2048 * lba) (take m bytes) d) none ∙ put_at-none (2048 * lba) d
 
--- from the end of the request on all is replaced
-pub replaced_all : (d : List ℕ) (lba n : ℕ) (bytes : List ℕ) (block : ℕ) → length bytes ≡ 2048 * n → lba + n ≤ 16 * block → replaced d lba bytes block ≡ put_at (2048 * lba) bytes d
-unfolding replaced
-replaced_all d lba n bytes block whole past =
-    ap (λ (l : List ℕ). put_at (2048 * lba) l d) (take_all (2048 * (16 * block - lba)) bytes (omega arith))
-
 -- what is replaced leaves the length of the disc
 pub length_replaced : (d : List ℕ) (blocks lba n : ℕ) (bytes : List ℕ) (block : ℕ) → length bytes ≡ 2048 * n → lba + n ≤ 16 * blocks → length d ≡ 32768 * blocks
     → length (replaced d lba bytes block) ≡ length d
@@ -132,26 +126,18 @@ unfolding replaced
 length_replaced d blocks lba n bytes block whole inside long =
     length-put_at (2048 * lba) (take (2048 * (16 * block - lba)) bytes) d (omega (arith, length-take (2048 * (16 * block - lba)) bytes))
 
--- a request for nothing replaces nothing
-pub replaced_empty : (d : List ℕ) (lba : ℕ) (bytes : List ℕ) (block : ℕ) → length bytes ≡ 0 → replaced d lba bytes block ≡ put_at (2048 * lba) bytes d
-unfolding replaced
-replaced_empty d lba bytes block none = ap (λ (l : List ℕ). put_at (2048 * lba) l d) (take_all (2048 * (16 * block - lba)) bytes (omega arith))
-
--- the bytes of the request in a block that it covers
-abbrev pub part_in : (lba n : ℕ) → List ℕ → (block : ℕ) → List ℕ
-part_in lba n bytes block = take (2048 * (end_in lba n block - start_in lba block)) (drop (2048 * (start_in lba block - lba)) bytes)
-
 -- the bytes of the request in a block are as many as its sectors there
-pub length_part_in : (lba n : ℕ) (bytes : List ℕ) (block : ℕ) → length bytes ≡ 2048 * n
-    → length (part_in lba n bytes block) ≡ 2048 * (end_in lba n block - start_in lba block)
-length_part_in lba n bytes block whole =
+pub length_part_of : (lba n : ℕ) (bytes : List ℕ) (block : ℕ) → length bytes ≡ 2048 * n
+    → length (part_of lba n bytes block) ≡ 2048 * (end_in lba n block - start_in lba block)
+unfolding part_of
+length_part_of lba n bytes block whole =
     length-take-le (2048 * (end_in lba n block - start_in lba block)) (drop (2048 * (start_in lba block - lba)) bytes)
     (omega (arith, length-drop (2048 * (start_in lba block - lba)) bytes))
 
 -- a block that the request covers replaces the bytes of the request in it
 pub replaced_step : (d : List ℕ) (blocks lba n : ℕ) (bytes : List ℕ) (block : ℕ) → start_in lba block < end_in lba n block → length bytes ≡ 2048 * n → lba + n ≤ 16 * blocks
-    → length d ≡ 32768 * blocks → replaced d lba bytes (block + 1) ≡ put_at (2048 * start_in lba block) (part_in lba n bytes block) (replaced d lba bytes block)
-unfolding replaced
+    → length d ≡ 32768 * blocks → replaced d lba bytes (block + 1) ≡ put_at (2048 * start_in lba block) (part_of lba n bytes block) (replaced d lba bytes block)
+unfolding replaced part_of
 replaced_step d blocks lba n bytes block covered whole inside long =
     let prefix : ℕ = 2048 * (16 * block - lba) in
     let more : ℕ = 2048 * (16 * (block + 1) - start_in lba block) in

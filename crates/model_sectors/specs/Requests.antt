@@ -47,10 +47,6 @@ part_of lba n bytes block =
 unfoldable pub merged_in : (lba n : ℕ) → List ℕ → (block : ℕ) → List ℕ → List ℕ
 merged_in lba n bytes block held = put_at (2048 * (start_in lba block - 16 * block)) (part_of lba n bytes block) held
 
--- the disc with the bytes of a request that lie in a block
-unfoldable pub with_part : (lba n : ℕ) → List ℕ → (block : ℕ) → List ℕ → List ℕ
-with_part lba n bytes block disc = put_at (2048 * start_in lba block) (part_of lba n bytes block) disc
-
 -- the bytes of a request's sectors in a block, of all bytes of the block
 unfoldable pub taken_from : (lba n block : ℕ) → List ℕ → List ℕ
 taken_from lba n block bytes =

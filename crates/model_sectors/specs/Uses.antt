@@ -1,5 +1,5 @@
 -- How many uses of the medium the calls of a drive take, and which blocks are buffered after them. For the causes of
--- reads, writes and power. (This project's own, as all here.)
+-- reads and writes. (This project's own, as all here.)
 use Rattle.std.specs.Prelude.{ℕ, zero, suc, ◌+◌, ◌==◌, ◌&&◌, not, Bool, if◌then◌else◌, List}
 use Rattle.std.specs.List.{list_any}
 use Rattle.model_buffer.specs.Buffer.{touched_one}

@@ -7,7 +7,8 @@ use Rattle.model_stops.specs.declared.Stop.TheVariants as stops
 -- A use of a block failed, by the medium's rule for it: a read of the block, or a write of some bytes. (This project's
 -- own, as all here.)
 abbrev pub FailsInUse : World → World → ℕ → Type 0
-FailsInUse old new block = ((into : List ℕ) × (into' : List ℕ) × FailsInRead old new block into into') ⊎ ((bytes : List ℕ) × FailsInWrite old new block bytes)
+FailsInUse old new block = ((into : List ℕ) × (into' : List ℕ) × FailsInRead old new block into into')
+    ⊎ ((bytes : List ℕ) × FailsInWrite old new block bytes)
 
 -- What a part of the work on a medium did, where `reaches` says what can follow by so many uses that did not fail.
 module _ {M : Type 0} (world : M → World) (reaches : M → M → ℕ → Type 0) where

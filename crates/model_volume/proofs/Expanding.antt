@@ -8,13 +8,12 @@ use Rattle.std.proofs.lemmas.List.{get_or-take, get_or-drop, take-take, drop-tak
 use Rattle.std.proofs.lemmas.List.Elements.{Contains-append_cases, Contains-append_left, Contains-append_right}
 use Rattle.model_geometry.specs.Geometry.{Shape, dds_block, sdl_block}
 use Rattle.model_lists.specs.declared.sdl.SdlEntry.{SdlEntry}
-use Rattle.model_lists.specs.Values.{Dds, defectives}
+use Rattle.model_lists.specs.Values.{Dds, defectives, pair, retired}
 use Rattle.model_lists.specs.Texts.{IsDdsText, IsSdlText}
 use Rattle.model_medium.specs.Cells.{Cell, cell_at}
 use Rattle.model_copies.specs.Copies.{Settled, AreBetween}
 use Rattle.model_places.specs.Places.{Lists, unreplaced, is_listed, unslipped, logical_block, logical_blocks, logical_count, primary_count, primary_spares, supplementary_spares, spares, home_of}
 use Rattle.model_places.specs.Valid.{IsValidPdl, IsValidSsa, AreValid}
-use Rattle.model_places.specs.Worked.{pair, retired}
 use Rattle.model_places.proofs.Homes.{Contains-first, Contains-later}
 use Rattle.model_places.proofs.Listed.{Decides-is_listed}
 use Rattle.model_places.proofs.Pools.{logical_is_no_spare, Contains-logical_block}

@@ -5,10 +5,9 @@ use Rattle.std.proofs.lemmas.Bool.{cases_eq, cases_Bool, cond-true, cond-false, 
 use Rattle.std.proofs.lemmas.List.Elements.{Contains-append_left, Contains-append_right, Contains-get_or}
 use Rattle.model_geometry.specs.Geometry.{Shape}
 use Rattle.model_lists.specs.declared.sdl.SdlEntry.{SdlEntry}
-use Rattle.model_lists.specs.Values.{with_entry}
+use Rattle.model_lists.specs.Values.{with_entry, pair, retired}
 use Rattle.model_places.specs.Places.{Lists, logical_block, logical_blocks, logical_count, home_of, spares, free_spares}
 use Rattle.model_places.specs.Valid.{AreValid}
-use Rattle.model_places.specs.Worked.{pair, retired}
 use Rattle.model_places.proofs.Homes.{Contains-later}
 use Rattle.model_places.proofs.Pools.{Contains-logical_block, logical_is_unslipped, logical_is_no_spare}
 use Rattle.model_volume.specs.Moves.{with_retired, former, lists_moved, tried_of, IsNextSpare}

@@ -8,11 +8,10 @@ use Rattle.std.proofs.lemmas.List.Elements.{All-filter, All-contains, filter_pas
 use Rattle.std.proofs.lemmas.Map.Keys.{IsDistinct-cons, IsDistinct-tail}
 use Rattle.model_geometry.specs.Geometry.{Shape}
 use Rattle.model_lists.specs.declared.sdl.SdlEntry.{SdlEntry}
-use Rattle.model_lists.specs.Values.{Dds, defectives, with_entry}
+use Rattle.model_lists.specs.Values.{Dds, defectives, with_entry, pair, retired}
 use Rattle.model_lists.proofs.Entries.{rises-with_entry}
 use Rattle.model_places.specs.Places.{Lists, unreplaced, free_spares, unslipped, logical_blocks, spares, replacements}
 use Rattle.model_places.specs.Valid.{IsValidPdl, IsValidSsa, IsValidSdl}
-use Rattle.model_places.specs.Worked.{pair, retired}
 use Rattle.model_places.proofs.Entries.{Contains-defectives, differs_from_all}
 use Rattle.model_places.proofs.Homes.{Contains-later, Contains-cons_option, Contains-cons_option_first, first_is_alone, IsDistinct-cons_option, alone_in_cons_option}
 use Rattle.model_places.proofs.Listed.{IsDistinct-from_increasing, listed-All, one_listed}

@@ -69,7 +69,8 @@ LacksLists shape cells (Some dds) =
 -- Of one counter there is one structure among the readable copies, as on a disc that one drive wrote. (This project's
 -- own.)
 abbrev pub HaveOneStructure : Shape → List Cell → Type 0
-HaveOneStructure shape cells = (v w : Dds) (a b : ℕ) → HasDdsCopy shape cells v a → HasDdsCopy shape cells w b → v.counter ≡ w.counter → v ≡ w
+HaveOneStructure shape cells = (v w : Dds) (a b : ℕ) → HasDdsCopy shape cells v a → HasDdsCopy shape cells w b
+    → v.counter ≡ w.counter → v ≡ w
 
 -- Each copy of each of both lists is exactly its text, or dead. (This project's own.)
 pub record AreSettled (shape : Shape) (cells : List Cell) (lists : Lists) : Type 0 where

@@ -3,11 +3,10 @@ use Rattle.std.specs.Prelude.{◌≡◌, ◌≢◌, ℕ, zero, suc, ◌+◌, ◌
 use Rattle.std.specs.List.{Contains}
 use Rattle.model_geometry.specs.Geometry.{Shape, sdl_block}
 use Rattle.model_lists.specs.declared.sdl.SdlEntry.{SdlEntry}
-use Rattle.model_lists.specs.Values.{Sdl, with_entry}
+use Rattle.model_lists.specs.Values.{Sdl, with_entry, pair, retired}
 use Rattle.model_medium.specs.Cells.{Cell, cell_at}
 use Rattle.model_sectors.specs.Discs.{block_of}
 use Rattle.model_places.specs.Places.{Lists, logical_block, home_of, free_spares}
-use Rattle.model_places.specs.Worked.{pair, retired}
 
 -- the entries with these spares retired (this project's own)
 abbrev pub with_retired : List ℕ → List SdlEntry → List SdlEntry
@@ -54,7 +53,8 @@ pub record DiffersAt (i : ℕ) (bytes : List ℕ) (disc disc' : List ℕ) : Type
 -- no cell changed but those of the home of a logical block and of free spares (this project's own)
 abbrev pub OnlyData : Shape → List Cell → List Cell → Lists → ℕ → Type 0
 OnlyData shape old new lists i =
-    (block : ℕ) → block ≢ home_of shape lists i → ¬ Contains (free_spares shape lists) block → cell_at new block ≡ cell_at old block
+    (block : ℕ) → block ≢ home_of shape lists i → ¬ Contains (free_spares shape lists) block
+    → cell_at new block ≡ cell_at old block
 
 -- no cell changed but those, and those of the secondary list (this project's own)
 abbrev pub OnlyMoves : Shape → List Cell → List Cell → Lists → ℕ → Type 0

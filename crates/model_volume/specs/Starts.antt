@@ -29,8 +29,10 @@ abbrev pub Precedes : Found → Found → Type 0
 Precedes a b =
     (b.lists.dds.counter < a.lists.dds.counter)
     ⊎ ((b.lists.dds.counter ≡ a.lists.dds.counter) × (b.lists.sdl.counter < a.lists.sdl.counter))
-    ⊎ ((b.lists.dds.counter ≡ a.lists.dds.counter) × (b.lists.sdl.counter ≡ a.lists.sdl.counter) × (a.dds_area < b.dds_area))
-    ⊎ ((b.lists.dds.counter ≡ a.lists.dds.counter) × (b.lists.sdl.counter ≡ a.lists.sdl.counter) × (a.dds_area ≡ b.dds_area) × (a.sdl_area < b.sdl_area))
+    ⊎ ((b.lists.dds.counter ≡ a.lists.dds.counter) × (b.lists.sdl.counter ≡ a.lists.sdl.counter)
+    × (a.dds_area < b.dds_area))
+    ⊎ ((b.lists.dds.counter ≡ a.lists.dds.counter) × (b.lists.sdl.counter ≡ a.lists.sdl.counter)
+    × (a.dds_area ≡ b.dds_area) × (a.sdl_area < b.sdl_area))
 
 -- each comes before all that stand behind it (this project's own)
 abbrev pub InOrder : List Found → Type 0

@@ -1,15 +1,15 @@
 -- How a certification continues, data block after data block.
 use Rattle.std.specs.Prelude.{◌≡◌, ◌≢◌, ℕ, ◌+◌, ◌-◌, ◌*◌, ◌<◌, ◌≤◌, ◌⊎◌, true, IsTrue, List, [], ◌∷◌, ◌++◌, length, take, slice_index, get_or}
 use Rattle.std.specs.Bool.{OnTrue}
-use Rattle.std.proofs.Common.{refl, sym, ap, ◌∙◌, inl, inr, subst, arith}
+use Rattle.std.proofs.Common.{sym, ap, ◌∙◌, inl, inr, subst, arith}
 use Rattle.std.specs.List.{Contains}
 use Rattle.std.specs.List.Sorted.{IsStrictlyIncreasing}
 use Rattle.std.proofs.lemmas.Bool.{cases_eq, cases_lt}
-use Rattle.std.proofs.lemmas.List.{map-id, length-append, take-append-le, take_all, length-take-le, get_or_default}
+use Rattle.std.proofs.lemmas.List.{map-id, length-append, take-append-le, take_all, length-take-le}
 use Rattle.std.proofs.lemmas.List.Elements.{Contains-append_left, Contains-push, Contains-push_cases, Contains-get_or}
 use Rattle.model_geometry.specs.Geometry.{Shape, data_blocks}
 use Rattle.model_lists.specs.declared.dds.PdlEntry.{PdlEntry}
-use Rattle.model_lists.proofs.Reading.{MayFollow, rises_on}
+use Rattle.model_lists.proofs.Reading.{rises_on}
 use Rattle.model_medium.specs.Cells.{Cell, Good, Dead, MayLeave, cell_at}
 use Rattle.model_medium.specs.World.{World}
 use Rattle.model_stops.specs.Stops.{Continues}
@@ -17,12 +17,12 @@ use Rattle.model_stops.specs.declared.Stop.{Stop}
 use Rattle.model_sectors.specs.Discs.{zeros}
 use Rattle.model_formats.specs.Defects.{AreKept, IsCertified}
 use Rattle.ram_medium.specs.Laws.{MediumLaws}
-use Rattle.ram_medium.proofs.Parts.{continues_none, continues_then, stops_later, stops_within}
+use Rattle.ram_medium.proofs.Parts.{continues_then, stops_later, stops_within}
 use Rattle.ram_copies.specs.Puts.{IsBlockPut, IsBlockLost, StopsPutting}
 use Rattle.ram_copies.proofs.Lifting.{quiet_counts}
-use Rattle.ram_certify.specs.Certifying.{certify_uses, HasCertified}
-use Rattle.ram_certify.specs.Blocks.{IsReached, ArePassed, IsNextKept, IsFoundBy, HasCertifiedUpTo, StopsCertifyingBlocks}
-use Rattle.ram_certify.proofs.Passing.{passed_none, is_certified, passed_by, passed_on, kept_is_not_certified, reached_here, reached_more, reached_before, reached_below, reached_all, not_reached, rest_is_room, passed_all}
+use Rattle.ram_certify.specs.Certifying.{HasCertified}
+use Rattle.ram_certify.specs.Blocks.{IsReached, IsNextKept, IsFoundBy, HasCertifiedUpTo, StopsCertifyingBlocks}
+use Rattle.ram_certify.proofs.Passing.{is_certified, passed_by, passed_on, kept_is_not_certified, reached_here, reached_more, reached_before, reached_below, reached_all, not_reached, rest_is_room, passed_all}
 
 -- one more, where there is room
 take_more : (most : ℕ) (xs : List ℕ) (x : ℕ) → take most (take most xs ++ x ∷ []) ≡ take most (xs ++ x ∷ [])
@@ -43,28 +43,6 @@ rises_with xs x rise above =
 
 module _ {M : Type 0} (world : M → World) (block_count : M → ℕ) (reaches : M → M → ℕ → Type 0) (laws : MediumLaws world block_count reaches)
     (shape : Shape) (kept : List PdlEntry) (are : AreKept shape kept) (old : M) (most : ℕ) where
-  -- before the first
-  pub certified_none : IsTrue (world old).power → HasCertifiedUpTo world reaches shape kept old old most 0 0 [] 0
-  certified_none on = record {
-    continues = continues_none world block_count reaches laws old on;
-    as_known = refl;
-    few = omega arith;
-    within = omega arith;
-    passed_are = passed_none shape kept;
-    others = λ block apart. refl;
-    done = λ block certified reached. absurd (none_reached block certified reached);
-    left = λ block. inl refl;
-    unreadable = [];
-    rise = λ k h. absurd (omega arith);
-    each = λ block has. absurd (omega (arith, has.1));
-    all = λ known block found. absurd (none_reached block found.certified found.reached);
-    count_is = refl;
-    found_are = sym (take_all most [] (omega arith));
-  }
-    where
-      none_reached : (block : ℕ) → IsCertified shape (Contains kept) block → IsReached shape 0 block → ⊥
-      none_reached block certified reached = let has = certified.data_block in let h = reached has.0 has.1 (get_or_default (data_blocks shape) has.0 0 block has.1 ∙ has.2) in omega (arith, h)
-
   module _ (mid new : M) (n passed count : ℕ) (found : List ℕ) (so_far : HasCertifiedUpTo world reaches shape kept old mid most n passed found count) (n_in : n < length (data_blocks shape)) where
     -- the block is kept
     pub kept_is_passed : IsNextKept kept passed (slice_index (data_blocks shape) n) → HasCertifiedUpTo world reaches shape kept old mid most (n + 1) (passed + 1) found count

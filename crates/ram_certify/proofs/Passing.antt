@@ -1,6 +1,6 @@
 -- Which of the kept blocks lie among the first data blocks.
-use Rattle.std.specs.Prelude.{◌≡◌, ◌≢◌, ℕ, zero, suc, ◌+◌, ◌-◌, ◌<◌, ◌≤◌, ◌⊎◌, List, length, slice_index, get_or, map}
-use Rattle.std.proofs.Common.{refl, sym, ap, ◌∙◌, inl, inr, subst, arith}
+use Rattle.std.specs.Prelude.{◌≡◌, ◌≢◌, ℕ, zero, suc, ◌+◌, ◌-◌, ◌<◌, ◌≤◌, List, length, slice_index, get_or}
+use Rattle.std.proofs.Common.{refl, sym, ap, ◌∙◌, inl, inr, arith}
 use Rattle.std.specs.List.{Contains}
 use Rattle.std.specs.List.Sorted.{IsStrictlyIncreasing}
 use Rattle.std.proofs.lemmas.Bool.{cases_eq, cases_lt}
@@ -26,12 +26,9 @@ lower_place xs rise i j i_in less = elim (cases_lt i j) [
   ]
 ]
 
--- nothing is reached before the first, and all data blocks are in the end
+-- in the end all data blocks are reached
 pub reached_all : (shape : Shape) (block : ℕ) → IsReached shape (length (data_blocks shape)) block
 reached_all shape block d within is = within
-
-pub passed_none : (shape : Shape) (kept : List PdlEntry) → ArePassed shape kept 0 0
-passed_none shape kept k d k_in d_in same = (λ h. absurd (omega (arith, h)), λ h. absurd (omega (arith, h)))
 
 module _ (shape : Shape) (kept : List PdlEntry) (are : AreKept shape kept) where
   data_place : (k : ℕ) → k < length kept → (d : ℕ) × (d < length (data_blocks shape)) × (slice_index (data_blocks shape) d ≡ slice_index (pdl_blocks kept) k)

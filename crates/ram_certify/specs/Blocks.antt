@@ -26,7 +26,8 @@ ArePassed shape kept n passed = (k d : ℕ) → k < length kept → d < length (
 abbrev pub IsNextKept : List PdlEntry → (passed block : ℕ) → Type 0
 IsNextKept kept passed block = (passed < length kept) × (slice_index (pdl_blocks kept) passed ≡ block)
 
-module _ {M : Type 0} (world : M → World) (reaches : M → M → ℕ → Type 0) (shape : Shape) (kept : List PdlEntry) (old new : M) where
+module _ {M : Type 0} (world : M → World) (reaches : M → M → ℕ → Type 0)
+    (shape : Shape) (kept : List PdlEntry) (old new : M) where
   -- the block was certified by now, and is dead
   pub record IsFoundBy (n block : ℕ) : Type 0 where
     pub certified : IsCertified shape (Contains kept) block

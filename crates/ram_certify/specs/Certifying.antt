@@ -15,7 +15,8 @@ use Rattle.ram_copies.specs.Calls.{StoppedCounts}
 use Rattle.ram_certify.specs.declared.certification.Certified.{Certified}
 use Rattle.ram_certify.specs.declared.certification.Certified.TheVariants as ends
 
-module _ {M : Type 0} (world : M → World) (reaches : M → M → ℕ → Type 0) (shape : Shape) (kept : List PdlEntry) (old new : M) where
+module _ {M : Type 0} (world : M → World) (reaches : M → M → ℕ → Type 0)
+    (shape : Shape) (kept : List PdlEntry) (old new : M) where
   -- how many uses it takes: each data block that is not kept is written and read back (this project's own, as all here)
   abbrev pub certify_uses : ℕ
   certify_uses = 2 * (length (data_blocks shape) - length kept)

@@ -1,8 +1,7 @@
 //! The data blocks one after another, of which those that are not kept are written with zeros and read back.
 
-ghost use Rattle.std.specs.Prelude.{◌≡◌, ◌<◌, ◌≤◌, ◌↔◌, IsTrue, MatchResult, [], ◌∷◌, ◌++◌, length, take, slice_index, vec_capacity};
+ghost use Rattle.std.specs.Prelude.{◌≡◌, ◌≤◌, ◌↔◌, IsTrue, MatchResult, [], ◌∷◌, ◌++◌, length, take, vec_capacity};
 ghost use Rattle.model_geometry.specs.Geometry.{total, data_blocks};
-ghost use Rattle.model_lists.specs.Values.{pdl_blocks};
 ghost use Rattle.model_sectors.specs.Discs.{zeros};
 ghost use Rattle.model_formats.specs.Defects.{AreKept};
 ghost use Rattle.ram_certify.specs.Blocks.{HasCertifiedUpTo, StopsCertifyingBlocks, IsNextKept};
@@ -11,18 +10,8 @@ use model_lists::PdlEntry;
 use ram_bytes::Block;
 use ram_copies::put_block;
 use ram_medium::{Medium, Stop};
+use ram_slip::data_block;
 use ram_zones::Geometry;
-
-/// The data block of this number, counted from 0.
-fn data_block_at(geometry: &Geometry, n: u32) -> u32
-    requires { n < length (data_blocks geometry.now) }
-    ensures { result ≡ slice_index (data_blocks geometry.now) n }
-{
-    match geometry.data_block(n) {
-        Some(block) => block,
-        None => unreachable!(),
-    }
-}
 
 /// Whether this block is kept, where so many kept ones lie before it.
 fn is_next_kept(kept: &[PdlEntry], passed: usize, block: u32) -> bool
@@ -74,7 +63,7 @@ pub fn certify_blocks<M: Medium>(
     let mut passed = 0;
     let mut count = 0;
     for n in 0..geometry.data_blocks() {
-        let block = data_block_at(geometry, n);
+        let block = data_block(geometry, n);
         if is_next_kept(kept, passed, block) {
             passed += 1;
         } else if !put_block(medium, block, zero, room)? {

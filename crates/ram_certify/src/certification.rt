@@ -40,8 +40,8 @@ pub fn zero_block(alloc: Global) -> Result<Block, AllocError>
 /// Writes zeros to each data block that is not kept, and reads it back, from the lowest on: two uses each. The numbers of
 /// those that are dead then go into `found`, as far as it has room, and all of them are counted.
 ///
-/// `kept` names data blocks that rise, `zero` is a block of zeros, and `found` is empty. (After ECMA-330's certification;
-/// the order is this project's own.)
+/// `kept` names data blocks that rise, `zero` is a block of zeros, and `found` is empty. After Cut and Fault what it has is
+/// not said. (After ECMA-330's certification; the order is this project's own.)
 pub fn certify<M: Medium>(
     medium: &mut M,
     geometry: &Geometry,

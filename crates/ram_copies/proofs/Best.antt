@@ -1,7 +1,7 @@
 -- The best of the copies so far, and one more.
-use Rattle.std.specs.Prelude.{◌≡◌, ℕ, ◌+◌, ◌<◌, ◌≤◌, ◌⊎◌, Option, Some, None, List}
+use Rattle.std.specs.Prelude.{◌≡◌, ℕ, ◌+◌, ◌<◌, ◌≤◌, ◌⊎◌, max, Option, Some, None, List}
 use Rattle.std.proofs.Common.{refl, sym, ap, inl, inr, subst, arith}
-use Rattle.std.proofs.lemmas.Bool.{cases_eq}
+use Rattle.std.proofs.lemmas.Bool.{cases_eq, cases_lt}
 use Rattle.model_medium.specs.Cells.{Cell, Blank, Good, Torn, Dead, cell_at}
 use Rattle.model_copies.specs.Copies.{Holds, HasCopy}
 use Rattle.ram_zones.specs.declared.list_kind.ListKind.{ListKind}
@@ -119,3 +119,9 @@ module _ (kind : ListKind) (place : ℕ → ℕ) (accepted : ListValue → Type 
       ];
       reached = inr (record { value = v; area = k + 1; early = omega arith; copy = copy; has = refl });
     }
+
+    pub mark_greater : (high : ℕ) → high ≡ max mark (mark_of v) → IsGreatestMarkUpTo kind place cells (k + 1) high
+    mark_greater high is = elim (cases_lt mark (mark_of v)) [
+      | inl less ↦ subst (IsGreatestMarkUpTo kind place cells (k + 1)) (let e : mark_of v ≡ high = omega (arith, is, less) in e) (mark_raised less)
+      | inr more ↦ subst (IsGreatestMarkUpTo kind place cells (k + 1)) (let e : mark ≡ high = omega (arith, is, more) in e) (mark_kept more)
+    ]

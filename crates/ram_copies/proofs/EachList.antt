@@ -44,17 +44,6 @@ module _ {V W : Type 0} (text : V → List ℕ → Type 0) (other : W → List �
   holds_to Torn v h = h
   holds_to Dead v h = h
 
-  pub settled_to : (cell : Cell) (v : V) → HoldsOrDead text cell v → HoldsOrDead other cell (to v)
-  settled_to Blank v h = h
-  settled_to (Good bytes) v h = same v bytes h
-  settled_to Torn v h = h
-  settled_to Dead v h = h
-
-  pub may_hold_to : (old cell : Cell) (v : V) → MayHold text old v cell → MayHold other old (to v) cell
-  may_hold_to old cell v (inl as_was) = inl as_was
-  may_hold_to old cell v (inr (inl held)) = inr (inl (holds_to cell v held))
-  may_hold_to old cell v (inr (inr left)) = inr (inr left)
-
   pub copy_to : (place : ℕ → ℕ) (cells : List Cell) (v : V) (area : ℕ) → HasCopy text place cells v area → HasCopy other place cells (to v) area
   copy_to place cells v area copy = record { is_area = copy.is_area; holds = holds_to (cell_at cells (place area)) v copy.holds }
 

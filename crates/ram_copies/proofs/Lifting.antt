@@ -1,5 +1,5 @@
 -- From the bytes of a text to the value that it spells: what an update and a repair do.
-use Rattle.std.specs.Prelude.{◌≡◌, ◌≢◌, ℕ, zero, suc, ◌+◌, ◌*◌, ◌≤◌, ◌⊎◌, true, IsTrue, MatchResult, List}
+use Rattle.std.specs.Prelude.{◌≡◌, ℕ, zero, suc, ◌+◌, ◌*◌, ◌≤◌, ◌⊎◌, true, IsTrue, MatchResult, List}
 use Rattle.std.proofs.Common.{Result, Ok, Err, refl, sym, ap, ◌∙◌, inl, inr, subst, arith}
 use Rattle.model_geometry.specs.Geometry.{Shape}
 use Rattle.model_lists.proofs.DdsTexts as dds_texts
@@ -24,7 +24,6 @@ use Rattle.ram_copies.specs.Writes.{HasPutCopies, StopsPuttingCopies}
 use Rattle.ram_copies.specs.Calls.{StoppedCounts, ChangesCopiesAlone, CallEnds, StoppedWithin, Keeps, MayLeaveCopies, SparesExactCopies, Repairs, PurposeRule, updated_of}
 use Rattle.ram_copies.specs.declared.writes.Purpose.{Purpose}
 use Rattle.ram_copies.specs.declared.writes.Purpose.TheVariants as purposes
-use Rattle.ram_copies.specs.declared.updates.Updated.TheVariants as updates
 
 -- each value has one text
 pub one_text : (kind : ListKind) (v : ListValue) (x y : List ℕ) → IsText kind v x → IsText kind v y → x ≡ y
@@ -32,11 +31,6 @@ one_text kinds.Dds (DdsValue v) x y a b = dds_texts.one_text v x y a b
 one_text kinds.Dds (SdlValue v) x y a b = absurd a
 one_text kinds.Sdl (DdsValue v) x y a b = absurd a
 one_text kinds.Sdl (SdlValue v) x y a b = sdl_texts.one_text v x y a b
-
--- the answer where some copy can be read
-pub kept_is : (n : ℕ) → n ≢ 0 → updated_of (Ok n) ≡ updates.Kept n
-kept_is zero some = absurd (some refl)
-kept_is (suc n) some = refl
 
 -- ---- one cell
 

@@ -22,7 +22,8 @@ StoppedCounts old new stops.Cut = IsCut old new
 StoppedCounts old new stops.Off = IsOff old new
 StoppedCounts old new stops.Fault = HasFailed old new
 
-module _ {M : Type 0} (world : M → World) (reaches : M → M → ℕ → Type 0) (kind : ListKind) (shape : Shape) (old new : M) where
+module _ {M : Type 0} (world : M → World) (reaches : M → M → ℕ → Type 0)
+    (kind : ListKind) (shape : Shape) (old new : M) where
   -- no cell changed but those of the list's four copies
   pub record ChangesCopiesAlone : Type 0 where
     pub as_known : (world new).known ≡ (world old).known
@@ -62,7 +63,8 @@ module _ {M : Type 0} (world : M → World) (reaches : M → M → ℕ → Type 
 
     -- a copy that was exactly the text is so still, or is dead: it was not written
     abbrev pub SparesExactCopies : Type 0
-    SparesExactCopies = (area : ℕ) → IsArea area → Holds (IsText kind) (cell_at (world old).cells (list_block shape area kind)) value
+    SparesExactCopies = (area : ℕ) → IsArea area
+        → Holds (IsText kind) (cell_at (world old).cells (list_block shape area kind)) value
         → IsSameOrDead (cell_at (world old).cells (list_block shape area kind)) (cell_at (world new).cells (list_block shape area kind))
 
     -- What an update does, by its answer: each copy was written and read back, in 8 uses.

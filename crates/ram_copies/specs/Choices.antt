@@ -26,7 +26,8 @@ module _ (kind : ListKind) (place : ℕ → ℕ) (cells : List Cell) where
 
   -- the greatest mark of the copies of the first so many areas, and 0 where there is none
   pub record IsGreatestMarkUpTo (k mark : ℕ) : Type 0 where
-    pub within : (value : ListValue) (area : ℕ) → area ≤ k → HasCopy (IsText kind) place cells value area → mark_of value ≤ mark
+    pub within : (value : ListValue) (area : ℕ) → area ≤ k → HasCopy (IsText kind) place cells value area
+        → mark_of value ≤ mark
     pub reached : (mark ≡ 0) ⊎ IsMarkedUpTo k mark
 
 module _ (kind : ListKind) (place : ℕ → ℕ) (accepted : ListValue → Type 0) (cells : List Cell) where
@@ -86,11 +87,13 @@ module _ {M : Type 0} (world : M → World) (reaches : M → M → ℕ → Type 
   -- no cell changed but those of the list, which are as they were or dead
   pub record OnlyLooks (place : ℕ → ℕ) : Type 0 where
     pub as_known : (world new).known ≡ (world old).known
-    pub others : (block : ℕ) → ((area : ℕ) → IsArea area → block ≢ place area) → cell_at (world new).cells block ≡ cell_at (world old).cells block
+    pub others : (block : ℕ) → ((area : ℕ) → IsArea area → block ≢ place area)
+        → cell_at (world new).cells block ≡ cell_at (world old).cells block
     pub left : (block : ℕ) → IsSameOrDead (cell_at (world old).cells block) (cell_at (world new).cells block)
 
   -- the copies of the first so many areas were looked at
-  pub record HasLooked (place : ℕ → ℕ) (accepted : ListValue → Type 0) (k : ℕ) (best : Option (ListValue × ℕ)) (mark : ℕ) : Type 0 where
+  pub record HasLooked (place : ℕ → ℕ) (accepted : ListValue → Type 0)
+      (k : ℕ) (best : Option (ListValue × ℕ)) (mark : ℕ) : Type 0 where
     pub continues : Continues world reaches old new k
     pub only : OnlyLooks place
     pub best_is : (world old).known ≡ true → BestUpTo kind place accepted (world new).cells k best

@@ -16,7 +16,8 @@ use Rattle.ram_copies.specs.declared.looks.Choice.{Choice}
 use Rattle.ram_copies.specs.declared.looks.Halt.{Halt}
 use Rattle.ram_copies.specs.declared.looks.Halt.TheVariants as halts
 
-module _ {M : Type 0} (world : M → World) (reaches : M → M → ℕ → Type 0) (kind : ListKind) (shape : Shape) (old new : M) where
+module _ {M : Type 0} (world : M → World) (reaches : M → M → ℕ → Type 0)
+    (kind : ListKind) (shape : Shape) (old new : M) where
   -- The copies as the choice saw them are those of now: each was then as at entry, or dead. (This project's own, as all
   -- here.)
   abbrev pub SawCopies : Type 0
@@ -33,23 +34,28 @@ module _ {M : Type 0} (world : M → World) (reaches : M → M → ℕ → Type 
 
   -- the mark is the greatest of all copies that were seen
   abbrev pub IsMarkSeen : ℕ → Type 0
-  IsMarkSeen mark = (world old).known ≡ true → IsGreatestMark (IsText kind) (λ area. list_block shape area kind) (world new).cells mark_of mark
+  IsMarkSeen mark = (world old).known ≡ true
+      → IsGreatestMark (IsText kind) (λ area. list_block shape area kind) (world new).cells mark_of mark
 
   module _ (accepted : ListValue → Type 0) where
     -- The value is one of its grammar and is accepted, and of the copies that were seen this one is chosen.
     pub record Finds (value : ListValue) (area : ℕ) : Type 0 where
       pub in_grammar : IsInGrammar kind value
       pub fits : accepted value
-      pub chosen : (world old).known ≡ true → IsChosen (IsText kind) (λ area. list_block shape area kind) (world new).cells counter_of accepted value area
+      pub chosen : (world old).known ≡ true
+          → IsChosen (IsText kind) (λ area. list_block shape area kind) (world new).cells counter_of accepted value area
 
     -- of the copies that were seen none is accepted
     abbrev pub FindsNone : Type 0
-    FindsNone = (world old).known ≡ true → NoneChosen (IsText kind) (λ area. list_block shape area kind) (world new).cells accepted
+    FindsNone = (world old).known ≡ true
+        → NoneChosen (IsText kind) (λ area. list_block shape area kind) (world new).cells accepted
 
     -- What a choice does, by its answer: it reads each copy once, in 4 uses.
     abbrev pub ChooseRule : {T : Type 0} → (T → ListValue) → Chosen T → Type 0
-    ChooseRule value_of (chosens.Found value area mark) = CallEnds world reaches kind shape old new 4 × SawCopies × Finds (value_of value) area × IsMarkSeen mark
-    ChooseRule value_of (chosens.Nothing mark) = CallEnds world reaches kind shape old new 4 × SawCopies × FindsNone × IsMarkSeen mark
+    ChooseRule value_of (chosens.Found value area mark) = CallEnds world reaches kind shape old new 4 × SawCopies
+        × Finds (value_of value) area × IsMarkSeen mark
+    ChooseRule value_of (chosens.Nothing mark) = CallEnds world reaches kind shape old new 4 × SawCopies × FindsNone
+        × IsMarkSeen mark
     ChooseRule value_of chosens.Cut = StoppedWithin world reaches kind shape old new 4 stops.Cut × SawCopies
     ChooseRule value_of chosens.Off = IsOff (world old) (world new)
     ChooseRule value_of chosens.Fault = StoppedWithin world reaches kind shape old new 4 stops.Fault × SawCopies

@@ -19,8 +19,10 @@ module _ {M : Type 0} (world : M → World) (reaches : M → M → ℕ → Type 
     pub left : (cell_at (world new).cells block ≡ Good text) ⊎ (cell_at (world new).cells block ≡ Dead)
     pub dead : kept ≡ false → cell_at (world new).cells block ≡ Dead
     pub good : kept ≡ true → (world old).known ≡ true → cell_at (world new).cells block ≡ Good text
-    pub how : (Continues world reaches old new 1 × ((world old).known ≡ true → WasExact (λ c. c ≡ Good text) (λ b. b) (world old).cells (world new).cells block))
-        ⊎ (Continues world reaches old new 3 × ((world old).known ≡ true → ¬ WasExact (λ c. c ≡ Good text) (λ b. b) (world old).cells (world new).cells block))
+    pub how : (Continues world reaches old new 1
+        × ((world old).known ≡ true → WasExact (λ c. c ≡ Good text) (λ b. b) (world old).cells (world new).cells block))
+        ⊎ (Continues world reaches old new 3
+        × ((world old).known ≡ true → ¬ WasExact (λ c. c ≡ Good text) (λ b. b) (world old).cells (world new).cells block))
 
   -- it was stopped
   pub record StopsMending (stop : Stop) : Type 0 where

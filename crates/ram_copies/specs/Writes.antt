@@ -38,7 +38,8 @@ module _ {M : Type 0} (world : M → World) (reaches : M → M → ℕ → Type 
     pub rewritten : ℕ
     pub few : rewritten ≤ k
     pub continues : Continues world reaches old new (k + 2 * rewritten)
-    pub rewrites : (world old).known ≡ true → Rewrites (λ c. c ≡ Good text) place (world old).cells (world new).cells k rewritten
+    pub rewrites : (world old).known ≡ true
+        → Rewrites (λ c. c ≡ Good text) place (world old).cells (world new).cells k rewritten
 
   -- how many uses the first so many copies took
   abbrev pub UsesUpTo : Purpose → ℕ → Type 0
@@ -49,8 +50,10 @@ module _ {M : Type 0} (world : M → World) (reaches : M → M → ℕ → Type 
   pub record HasPutCopies (purpose : Purpose) (k readable : ℕ) : Type 0 where
     pub uses : UsesUpTo purpose k
     pub as_known : (world new).known ≡ (world old).known
-    pub others : (block : ℕ) → ((area : ℕ) → 1 ≤ area → area ≤ k → block ≢ place area) → cell_at (world new).cells block ≡ cell_at (world old).cells block
-    pub done : (area : ℕ) → 1 ≤ area → area ≤ k → (cell_at (world new).cells (place area) ≡ Good text) ⊎ (cell_at (world new).cells (place area) ≡ Dead)
+    pub others : (block : ℕ) → ((area : ℕ) → 1 ≤ area → area ≤ k → block ≢ place area)
+        → cell_at (world new).cells block ≡ cell_at (world old).cells block
+    pub done : (area : ℕ) → 1 ≤ area → area ≤ k
+        → (cell_at (world new).cells (place area) ≡ Good text) ⊎ (cell_at (world new).cells (place area) ≡ Dead)
     pub lost : readable ≡ 0 → (area : ℕ) → 1 ≤ area → area ≤ k → cell_at (world new).cells (place area) ≡ Dead
     pub counts : (world old).known ≡ true → readable ≡ good_count place (world new).cells k
 
@@ -58,5 +61,7 @@ module _ {M : Type 0} (world : M → World) (reaches : M → M → ℕ → Type 
   pub record StopsPuttingCopies (purpose : Purpose) (stop : Stop) : Type 0 where
     pub stops : Stops world reaches old new (most_uses purpose) stop
     pub as_known : (world new).known ≡ (world old).known
-    pub others : (block : ℕ) → ((area : ℕ) → IsArea area → block ≢ place area) → cell_at (world new).cells block ≡ cell_at (world old).cells block
-    pub left : (area : ℕ) → IsArea area → StopLeaves purpose (cell_at (world old).cells (place area)) text (cell_at (world new).cells (place area))
+    pub others : (block : ℕ) → ((area : ℕ) → IsArea area → block ≢ place area)
+        → cell_at (world new).cells block ≡ cell_at (world old).cells block
+    pub left : (area : ℕ) → IsArea area
+        → StopLeaves purpose (cell_at (world old).cells (place area)) text (cell_at (world new).cells (place area))

@@ -6,7 +6,7 @@ ghost use Rattle.model_geometry.specs.Geometry.{total};
 ghost use Rattle.ram_zones.specs.ListKind.{list_block};
 ghost use Rattle.ram_copies.specs.declared.looks.Held.{Held};
 ghost use Rattle.ram_copies.specs.declared.looks.Choice.{Choice};
-ghost use Rattle.ram_copies.specs.Values.{ListValue, IsInGrammar};
+ghost use Rattle.ram_copies.specs.Values.{IsInGrammar};
 ghost use Rattle.ram_copies.specs.Choices.{BestUpTo, SeenAt, IsGreatestMarkUpTo, held_of, LooksAt, HaltsLooking, HasLooked, HaltsLookingAt};
 
 use crate::blocks::{Accept, ListBlock};
@@ -50,7 +50,8 @@ fn look_at<T: ListBlock, M: Medium>(
     ensures rule { MatchResult result
         (λ found. LooksAt M.world M.reaches T.LIST medium.old medium.new block (option_map T.value found))
         (λ halt. HaltsLooking M.world M.reaches T.LIST medium.old medium.new block halt) }
-    ensures in_grammar { IfOk result (λ (found : Option T). IfSome found (λ list. IsInGrammar T.LIST (T.value list))) }
+    ensures in_grammar { IfOk result
+        (λ (found : Option T). IfSome found (λ list. IsInGrammar T.LIST (T.value list))) }
     ensures as_many { M.block_count medium.new ≡ M.block_count medium.old }
 {
     match read_whole(medium, block, room) {
@@ -71,10 +72,7 @@ fn higher<T: ListBlock>(mark: u32, found: &Option<T>) -> u32
 {
     match found {
         None => mark,
-        Some(value) => {
-            let own = value.mark();
-            if mark < own { own } else { mark }
-        }
+        Some(value) => mark.max(value.mark()),
     }
 }
 
@@ -124,7 +122,8 @@ pub fn look_at_copies<T: ListBlock, M: Medium, A: Accept<T>>(
     requires size { M.block_count medium.old ≡ total geometry.now }
     requires on { IsTrue (M.world medium.old).power }
     ensures rule { MatchResult result
-        (λ found. HasLooked M.world M.reaches T.LIST medium.old medium.new (λ area. list_block geometry.now area T.LIST)
+        (λ found. HasLooked M.world M.reaches T.LIST medium.old medium.new
+        (λ area. list_block geometry.now area T.LIST)
         (A.accepted accept.now) 4 (held_of T.value found.best) found.mark)
         (λ halt. HaltsLookingAt M.world M.reaches T.LIST medium.old medium.new
         (λ area. list_block geometry.now area T.LIST) halt) }

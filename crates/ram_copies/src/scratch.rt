@@ -6,7 +6,8 @@ ghost use Rattle.ram_bytes.specs.declared.block.TheConstants.{BLOCK_BYTES};
 use ram_bytes::Block;
 use std::alloc::{AllocError, Global};
 
-/// Two blocks of memory: one for the text of a list, one for a copy that is read.
+/// Two blocks of memory: one for the text of a list, one for a copy that is read. What they have after a call is not
+/// said.
 #[derive(Drop)]
 pub struct Scratch {
     /// The text of the list that is written.

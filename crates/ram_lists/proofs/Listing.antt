@@ -17,7 +17,7 @@ use Rattle.model_places.specs.Places.{Lists, unslipped, spares, replacements}
 use Rattle.model_places.specs.Valid.{IsValidSsa, IsValidSdl}
 use Rattle.model_places.proofs.Listed.{All-listed, listed-All}
 use Rattle.model_places.proofs.Homes.{Contains-cons_option, Contains-cons_option_first, IsDistinct-cons_option, alone_in_cons_option}
-use Rattle.ram_lists.specs.Entries.{MayReplace, IsEntryValid, IsNamedWithin, AreApart, replacement_at}
+use Rattle.ram_lists.specs.Entries.{MayReplace, IsEntryValid, IsNamedWithin, replacement_at}
 
 long : (entries : List SdlEntry) → length (defectives entries) ≡ length entries
 long entries = length-map entries (λ (e : SdlEntry). e.defective)
@@ -108,6 +108,10 @@ apart_pairs : (entries : List SdlEntry) → ((i j r : ℕ) → i < j → replace
 apart_pairs [] apart = λ i j d less below. absurd (omega (arith, below))
 apart_pairs (e ∷ es) apart = pairs_cons_option e.replacement (replacements es) (λ r is. none_there r es (λ j is'. apart 0 (suc j) r (omega arith) is is'))
     (apart_pairs es (λ i j r less is is'. apart (suc i) (suc j) r (omega (arith, less)) is is'))
+
+-- no two of the first so many entries have one replacement
+abbrev pub AreApart : List SdlEntry → ℕ → Type 0
+AreApart entries n = (i j block : ℕ) → i < j → j < n → replacement_at entries i ≡ Some block → replacement_at entries j ≡ Some block → ⊥
 
 pub apart_distinct : (entries : List SdlEntry) (n : ℕ) → length entries ≤ n → AreApart entries n → IsDistinct eqb (replacements entries)
 apart_distinct entries n past apart = IsDistinct-from_AllPairs Decides-eqb (replacements entries) (apart_pairs entries inside)

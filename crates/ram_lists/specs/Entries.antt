@@ -42,12 +42,10 @@ pub record IsNamedWithin (entries : List SdlEntry) (n block : ℕ) : Type 0 wher
   pub early : place < n
   pub has : replacement_at entries place ≡ Some block
 
--- no two of the first so many entries have one replacement
-abbrev pub AreApart : List SdlEntry → ℕ → Type 0
-AreApart entries n = (i j block : ℕ) → i < j → j < n → replacement_at entries i ≡ Some block → replacement_at entries j ≡ Some block → ⊥
-
 -- The flags say of each spare, by its number, whether one of the first so many entries has it as its replacement.
 pub record TellsNamed (shape : Shape) (lists : Lists) (flags : List Bool) (k : ℕ) : Type 0 where
   pub long : length (spares shape lists) ≤ length flags
-  pub set : (n : ℕ) → n < length (spares shape lists) → get_or flags n false ≡ true → IsNamedWithin lists.sdl.entries k (slice_index (spares shape lists) n)
-  pub clear : (n : ℕ) → n < length (spares shape lists) → get_or flags n false ≡ false → ¬ IsNamedWithin lists.sdl.entries k (slice_index (spares shape lists) n)
+  pub set : (n : ℕ) → n < length (spares shape lists) → get_or flags n false ≡ true
+      → IsNamedWithin lists.sdl.entries k (slice_index (spares shape lists) n)
+  pub clear : (n : ℕ) → n < length (spares shape lists) → get_or flags n false ≡ false
+      → ¬ IsNamedWithin lists.sdl.entries k (slice_index (spares shape lists) n)

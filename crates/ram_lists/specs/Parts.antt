@@ -18,7 +18,8 @@ abbrev pub picked_of : {T : Type 0} → (T → ListValue) → Option (Picked T) 
 picked_of value None = None
 picked_of value (Some picked) = Some (value picked.value, picked.area)
 
-module _ {M : Type 0} (world : M → World) (reaches : M → M → ℕ → Type 0) (kind : ListKind) (shape : Shape) (old new : M) where
+module _ {M : Type 0} (world : M → World) (reaches : M → M → ℕ → Type 0)
+    (kind : ListKind) (shape : Shape) (old new : M) where
   module _ (accepted : ListValue → Type 0) where
     -- what was chosen of the copies that were seen, if anything
     abbrev pub PicksBest : Option (ListValue × ℕ) → Type 0
@@ -34,10 +35,13 @@ module _ {M : Type 0} (world : M → World) (reaches : M → M → ℕ → Type 
 
   -- the choice ended before its end
   abbrev pub EndsPicking : End → Type 0
-  EndsPicking ends.Cut = StoppedWithin world reaches kind shape old new 4 stops.Cut × SawCopies world reaches kind shape old new
+  EndsPicking ends.Cut = StoppedWithin world reaches kind shape old new 4 stops.Cut
+      × SawCopies world reaches kind shape old new
   EndsPicking ends.Off = IsOff (world old) (world new)
-  EndsPicking ends.Fault = StoppedWithin world reaches kind shape old new 4 stops.Fault × SawCopies world reaches kind shape old new
-  EndsPicking ends.NoMemory = ChoosesOutOfMemory world reaches kind shape old new × SawCopies world reaches kind shape old new
+  EndsPicking ends.Fault = StoppedWithin world reaches kind shape old new 4 stops.Fault
+      × SawCopies world reaches kind shape old new
+  EndsPicking ends.NoMemory = ChoosesOutOfMemory world reaches kind shape old new
+      × SawCopies world reaches kind shape old new
 
   module _ (value : ListValue) where
     -- the copies were repaired, and are settled
@@ -47,7 +51,9 @@ module _ {M : Type 0} (world : M → World) (reaches : M → M → ℕ → Type 
 
     -- the repair ended before its end
     abbrev pub EndsMending : End → Type 0
-    EndsMending ends.Cut = StoppedWithin world reaches kind shape old new 12 stops.Cut × MayLeaveCopies world reaches kind shape old new value
+    EndsMending ends.Cut = StoppedWithin world reaches kind shape old new 12 stops.Cut
+        × MayLeaveCopies world reaches kind shape old new value
     EndsMending ends.Off = IsOff (world old) (world new)
-    EndsMending ends.Fault = StoppedWithin world reaches kind shape old new 12 stops.Fault × MayLeaveCopies world reaches kind shape old new value
+    EndsMending ends.Fault = StoppedWithin world reaches kind shape old new 12 stops.Fault
+        × MayLeaveCopies world reaches kind shape old new value
     EndsMending ends.NoMemory = ⊥

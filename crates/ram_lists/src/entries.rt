@@ -45,8 +45,8 @@ fn is_spare(geometry: &Geometry, dds: &DdsPdl, sdl: &Sdl, block: u32) -> bool
     }
 }
 
-/// Whether an entry names the block as defective.
-fn is_defective(sdl: &Sdl, block: u32) -> bool
+/// Whether an entry names the block as defective, by halving.
+pub fn is_defective(sdl: &Sdl, block: u32) -> bool
     requires { IsStrictlyIncreasing (defectives sdl.now.entries.list) }
     ensures { IsTrue result ↔ Contains (defectives sdl.now.entries.list) block }
 {

@@ -7,7 +7,7 @@ ghost use Rattle.ram_lists.specs.Mounts.{MountRule, FoundRule, EndRule};
 
 use crate::ends::End;
 use crate::lists::Lists;
-use crate::parts::{Pick, greater, mend, pick_dds, pick_none, pick_sdl};
+use crate::parts::{Pick, mend, pick_dds, pick_none, pick_sdl};
 use model_lists::DdsState;
 use ram_copies::Scratch;
 use ram_dds::DdsPdl;
@@ -82,14 +82,14 @@ fn mount_lists<M: Medium>(
     let Some(dds) = best else {
         let other = pick_none(alloc, medium, geometry, scratch)?;
         return Ok(Disc::Bare {
-            mark: greater(first, other),
+            mark: first.max(other),
         });
     };
     let Pick {
         best: below,
         mark: second,
     } = pick_sdl(alloc, medium, geometry, &dds.value, scratch)?;
-    let mark = greater(first, second);
+    let mark = first.max(second);
     mend::<DdsPdl, M>(medium, geometry, &dds.value, scratch)?;
     if !is_formatted(&dds.value) {
         return Ok(Disc::Bare { mark });

@@ -1,6 +1,6 @@
 //! The parts of a mount: the choice of one list, and the repair of one. Each touches the copies of that list alone.
 
-ghost use Rattle.std.specs.Prelude.{◌≡◌, ℕ, ◌≤◌, ◌⊎◌, MatchResult, Option, None};
+ghost use Rattle.std.specs.Prelude.{◌≡◌, MatchResult, None};
 ghost use Rattle.model_geometry.specs.Geometry.{total};
 ghost use Rattle.model_places.specs.Valid.{IsValidPdl};
 ghost use Rattle.ram_zones.specs.declared.list_kind.ListKind.TheVariants.{Dds};
@@ -142,13 +142,4 @@ pub fn mend<T: ListBlock, M: Medium>(
         Updated::Off => Err(End::Off),
         Updated::Fault => Err(End::Fault),
     }
-}
-
-/// The greater one of two marks.
-pub fn greater(a: u32, b: u32) -> u32
-    ensures first { a ≤ result }
-    ensures second { b ≤ result }
-    ensures one { (result ≡ a) ⊎ (result ≡ b) }
-{
-    if a < b { b } else { a }
 }

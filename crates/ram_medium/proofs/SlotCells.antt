@@ -1,7 +1,7 @@
 -- The cells of slots, after a change of one.
-use Rattle.std.specs.Prelude.{◌≡◌, ℕ, ◌+◌, ◌<◌, Bool, true, false, List, [], ◌∷◌, ◌++◌, length, set, get_or, replicate}
+use Rattle.std.specs.Prelude.{◌≡◌, ℕ, ◌<◌, Bool, true, false, List, length, set, get_or}
 use Rattle.std.proofs.Common.{refl, sym, ap, ◌∙◌, subst, arith, eqb}
-use Rattle.std.proofs.lemmas.List.{map-set, get_or-map, map_push, replicate_more, length-map, get_or-set_same, get_or-set_other}
+use Rattle.std.proofs.lemmas.List.{map-set, get_or-map, length-map, get_or-set_same, get_or-set_other}
 use Rattle.model_medium.specs.Cells.{Cell, Blank, Good, Torn, Dead, AreWhole, cell_at, unless_dead, written, cut_short}
 use Rattle.model_medium.specs.declared.Fate.{Fate}
 use Rattle.model_medium.specs.declared.Fate.TheVariants as fates
@@ -17,10 +17,6 @@ slot_cells-set slots block slot cell is = map-set slot_cell slots block slot ∙
 pub slot_cells-change : (slots : List Slot) (block : ℕ) (before after : Slot) (change : Cell → Cell) → block < length slots → before ≡ get_or slots block before → slot_cell after ≡ change (slot_cell before)
     → slot_cells (set slots block after) ≡ set (slot_cells slots) block (change (cell_at (slot_cells slots) block))
 slot_cells-change slots block before after change inside was is = slot_cells-set slots block after (change (cell_at (slot_cells slots) block)) (is ∙ ap change (ap slot_cell was ∙ sym (get_or-map slot_cell slots block before Dead inside)))
-
--- one blank slot more
-pub slot_cells-push : (slots : List Slot) (n : ℕ) (slot : Slot) → slot_cells slots ≡ replicate n Blank → slot_cell slot ≡ Blank → slot_cells (slots ++ slot ∷ []) ≡ replicate (n + 1) Blank
-slot_cells-push slots n slot before blank = map_push slot_cell slots slot ∙ ap (λ cells. cells ++ slot_cell slot ∷ []) before ∙ ap (λ cell. replicate n Blank ++ cell ∷ []) blank ∙ replicate_more n Blank
 
 -- cells stay whole where one of them is changed to one that is
 whole_set : (cells : List Cell) (block : ℕ) (cell : Cell) → block < length cells → ((bytes : List ℕ) → cell ≡ Good bytes → length bytes ≡ 32768)

@@ -19,6 +19,8 @@ pub record IsNewInMemory (blocks : ℕ) (failing : List ℕ) (medium : MemMedium
 
 -- How a use of a block begins. (This project's own.)
 abbrev pub MemBeginRule : MemMedium → MemMedium → ℕ → Begun → Type 0
-MemBeginRule old new block begins.On = (¬ IsNamedUse old) × (fate_due (mem_machine old).cut ≡ None) × (mem_machine new ≡ begun block (mem_machine old))
-MemBeginRule old new block (begins.Cut fate) = (¬ IsNamedUse old) × (fate_due (mem_machine old).cut ≡ Some fate) × (mem_machine new ≡ cut_off (begun block (mem_machine old)))
+MemBeginRule old new block begins.On = (¬ IsNamedUse old) × (fate_due (mem_machine old).cut ≡ None)
+    × (mem_machine new ≡ begun block (mem_machine old))
+MemBeginRule old new block (begins.Cut fate) = (¬ IsNamedUse old) × (fate_due (mem_machine old).cut ≡ Some fate)
+    × (mem_machine new ≡ cut_off (begun block (mem_machine old)))
 MemBeginRule old new block begins.Failed = IsNamedUse old × (mem_machine new ≡ after_failed_use block (mem_machine old))

@@ -39,8 +39,7 @@ enum Begun {
 }
 
 impl MemMedium {
-    ghost use Rattle.std.specs.Prelude.{[], IfOk, replicate, false, true};
-    ghost use Rattle.model_medium.specs.Cells.{Blank};
+    ghost use Rattle.std.specs.Prelude.{[], IfOk, false, true};
     ghost use Rattle.model_medium.specs.Exact.{Read, Write};
     ghost use Rattle.ram_medium.specs.Memory.{mem_world, mem_machine, failing_of, MemTakes};
     ghost use Rattle.ram_medium.specs.Begun.{IsNewInMemory, MemBeginRule};
@@ -210,7 +209,8 @@ impl MediumControl for MemMedium {
     ghost armed_cut = { λ medium. armed_cut_of medium.armed };
 
     fn fail(&mut self, block: u32) -> FailEnd
-        ensures rule { FailRule (vec_len self.old.slots) (mem_machine self.old) (mem_machine self.new) block result }
+        ensures rule { FailRule (vec_len self.old.slots) (mem_machine self.old) (mem_machine self.new) block
+            result }
         ensures never_fails { result ≢ FailEnd.Failed }
         ensures same_names { failing_of self.new ≡ failing_of self.old }
         ensures as_many { vec_len self.new.slots ≡ vec_len self.old.slots }

@@ -1,6 +1,6 @@
 //! The blocks of a medium in memory: a state and the bytes of each. It knows neither power nor uses.
 
-ghost use Rattle.std.specs.Prelude.{◌≡◌, ℕ, ◌<◌, IfOk, MatchBool, if◌then◌else◌, length, map, set, replicate, [], vec_len};
+ghost use Rattle.std.specs.Prelude.{◌≡◌, ℕ, ◌<◌, IfOk, MatchBool, if◌then◌else◌, length, set, replicate, [], vec_len};
 ghost use Rattle.ram_bytes.specs.declared.block.TheConstants.{BLOCK_BYTES};
 ghost use Rattle.model_medium.specs.Cells.{Blank, Good, Dead, IsGood, cell_at, written, cut_short};
 ghost use Rattle.ram_medium.specs.Slots.{slot_cell, slot_cells, ChangesSlot};

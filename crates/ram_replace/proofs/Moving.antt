@@ -9,10 +9,9 @@ use Rattle.model_geometry.specs.Geometry.{Shape, IsLawful, lead_out, data_blocks
 use Rattle.model_geometry.proofs.DataBlocks.{data_blocks_bounds}
 use Rattle.model_geometry.proofs.Zones.{total_most}
 use Rattle.model_lists.specs.declared.sdl.SdlEntry.{SdlEntry}
-use Rattle.model_lists.specs.Values.{Sdl, IsBlockNumber, HasNumbers, IsLawfulSdl, defectives, with_entry}
+use Rattle.model_lists.specs.Values.{Sdl, IsBlockNumber, HasNumbers, IsLawfulSdl, defectives, with_entry, pair, retired}
 use Rattle.model_places.specs.Places.{Lists, logical_block, logical_count, home_of, free_spares, unslipped}
 use Rattle.model_places.specs.Valid.{AreValid}
-use Rattle.model_places.specs.Worked.{pair, retired}
 use Rattle.model_places.proofs.Entries.{length-entries_most}
 use Rattle.model_places.proofs.Homes.{Contains-later}
 use Rattle.model_places.proofs.Pools.{unslipped_are_data, spare_is_unslipped}

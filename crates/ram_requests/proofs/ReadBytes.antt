@@ -14,7 +14,7 @@ use Rattle.model_sectors.specs.Requests.{block_with, blocks_covered, start_in, e
 use Rattle.model_sectors.specs.Uses.{touched_from, is_at_hand, read_uses}
 use Rattle.model_sectors.proofs.Pieces.{put_at-whole, sectors_in_block, sectors_more, sectors_none, length_sectors}
 use Rattle.model_sectors.proofs.Covering.{covered_part, covered_after, covered_all, wholly_start, wholly_end}
-use Rattle.model_sectors.proofs.Merges.{length_part_of}
+use Rattle.model_sectors.proofs.Pieces.{length_part_of}
 
 -- how many sectors of a request lie before the block after k others
 abbrev pub done : (lba n k : ℕ) → ℕ

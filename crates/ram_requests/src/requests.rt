@@ -1,6 +1,6 @@
 //! A request for sectors, which keeps that it ends on a disc, and which logical blocks it covers.
 ghost use Rattle.std.specs.Prelude.{◌≡◌, ◌+◌, ◌<◌, ◌≤◌, MatchOption};
-ghost use Rattle.model_sectors.specs.Requests.{block_with, blocks_covered, start_in, end_in};
+ghost use Rattle.model_sectors.specs.Requests.{block_with, blocks_covered};
 ghost use Rattle.model_sectors.specs.declared.TheConstants.{MOST_SECTORS};
 
 use crate::parts::Part;

@@ -1,11 +1,11 @@
 -- What was read of the bytes before the entries is what they say.
-use Rattle.std.proofs.Common.{◌≡◌, ℕ, ◌+◌, ◌<◌, ◌≤◌, List, [], ◌∷◌, length, get_or, take, drop, replicate, sym, ◌∙◌, ap, subst, arith, length-drop}
+use Rattle.std.proofs.Common.{◌≡◌, ℕ, ◌<◌, ◌≤◌, List, [], ◌∷◌, length, get_or, take, drop, replicate, sym, ◌∙◌, ap, subst, arith, length-drop}
 use Rattle.std.proofs.lemmas.List.{length-take-le}
 use Rattle.byteorder.specs.Endian.{big_number, big_bytes}
 use Rattle.model_lists.specs.Values.{IsWithinSdlLimits}
 use Rattle.model_lists.specs.Texts.{bytes_from, IsSdlHeader}
 use Rattle.model_lists.proofs.Spelled.{zero_bytes-is, zero_bytes-all}
-use Rattle.model_lists.proofs.Numbers.{bytes_are_2, bytes_are_4, big_bytes-injective}
+use Rattle.model_lists.proofs.Numbers.{number_bytes, bytes_are_4, big_bytes-injective}
 
 -- the fields, as the code reads them
 pub record Reads (ssa count : ℕ) (bytes : List ℕ) : Type 0 where
@@ -15,10 +15,6 @@ pub record Reads (ssa count : ℕ) (bytes : List ℕ) : Type 0 where
   pub count_fits : count < 65536
   pub ssa_is : ssa ≡ big_number 2 (drop 12 bytes)
   pub count_is : count ≡ big_number 2 (drop 14 bytes)
-
-number_bytes : (at m : ℕ) (bytes : List ℕ) → at + 2 ≤ length bytes → ((k : ℕ) → get_or bytes k 0 < 256) → m ≡ big_number 2 (drop at bytes) → bytes_from at 2 bytes ≡ big_bytes 2 m
-number_bytes at m bytes inside small is =
-    bytes_are_2 at bytes inside small ∙ ap (λ (k : ℕ). big_bytes 2 k) (sym is)
 
 -- where the bytes say other fields, those that were read are within the same limits
 pub other_header : (ssa count c d s n : ℕ) (bytes : List ℕ) → Reads ssa count bytes → IsWithinSdlLimits s n → IsSdlHeader c d s n bytes → IsWithinSdlLimits ssa count

@@ -1,6 +1,6 @@
 //! The bytes before the entries, and the limits of what they say.
 
-ghost use Rattle.std.specs.Prelude.{◌≡◌, ℕ, ◌+◌, ◌<◌, ◌≤◌, ◌^◌, ◌↔◌, [], ◌∷◌, ◌++◌, length, take, IsTrue, MatchOption};
+ghost use Rattle.std.specs.Prelude.{◌≡◌, ℕ, ◌+◌, ◌<◌, ◌≤◌, ◌^◌, ◌↔◌, [], ◌∷◌, ◌++◌, length, IsTrue, MatchOption};
 ghost use Rattle.byteorder.specs.Endian.{big_bytes};
 ghost use Rattle.model_lists.specs.Values.{IsWithinSdlLimits};
 ghost use Rattle.model_lists.specs.Texts.{IsSdlHeader};
@@ -52,7 +52,8 @@ pub fn header_of(bytes: &[u8]) -> Option<Header>
     ensures { MatchOption result
         ((counter dds_counter ssa count : ℕ) → IsWithinSdlLimits ssa count
         → IsSdlHeader counter dds_counter ssa count bytes.now → ⊥)
-        (λ header. (header.counter < 2 ^ 32) × (header.dds_counter < 2 ^ 32) × IsWithinSdlLimits header.ssa header.count
+        (λ header. (header.counter < 2 ^ 32) × (header.dds_counter < 2 ^ 32)
+        × IsWithinSdlLimits header.ssa header.count
         × IsSdlHeader header.counter header.dds_counter header.ssa header.count bytes.now) }
 {
     if !begins_list(&bytes[..4]) {

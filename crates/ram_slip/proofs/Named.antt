@@ -1,21 +1,14 @@
 -- Where a block stands among the entries of a primary defect list, which rise.
-use Rattle.std.proofs.Common.{◌≡◌, ℕ, ◌<◌, ◌≤◌, ◌⊎◌, inl, inr, Bool, true, false, nat_lt, nat_eq, IsTrue, List, length, get_or, refl, sym, ◌∙◌, ap, arith}
+use Rattle.std.proofs.Common.{◌≡◌, ℕ, ◌<◌, ◌≤◌, inl, inr, true, false, nat_lt, nat_eq, IsTrue, List, length, get_or, sym, ◌∙◌, ap, arith}
 use Rattle.std.specs.List.{Contains}
 use Rattle.std.specs.List.Sorted.{IsStrictlyIncreasing, IsNonDecreasingBy, IsPartitionPoint}
-use Rattle.std.proofs.lemmas.Bool.{cases_eq, lt-ltb, ltb-true, ltb-false, eqb-true, eq-eqb}
+use Rattle.std.proofs.lemmas.Bool.{cases_eq, cases_lt, lt-ltb, ltb-true, ltb-false, eqb-true, eq-eqb}
 use Rattle.std.proofs.lemmas.List.{get_or-map, length-map, get_or_default}
 use Rattle.std.proofs.lemmas.List.Kept.{AllPairs-from_increasing}
 use Rattle.model_lists.specs.declared.dds.PdlEntry.{PdlEntry}
 use Rattle.model_lists.specs.declared.dds.PdlKind.TheVariants.{P}
 use Rattle.model_lists.specs.Values.{pdl_blocks}
 use Rattle.ram_slip.specs.Counts.{IsCountBefore}
-
-pub before_or_from : (k place : ℕ) → (k < place) ⊎ (place ≤ k)
-before_or_from k place = by_test (nat_lt k place) refl
-  where
-    by_test : (t : Bool) → nat_lt k place ≡ t → (k < place) ⊎ (place ≤ k)
-    by_test true low = inl (ltb-true k place low)
-    by_test false high = inr (ltb-false k place high)
 
 abbrev block_of : PdlEntry → ℕ
 block_of entry = entry.block
@@ -43,7 +36,7 @@ pub named_there : (entries : List PdlEntry) (before block : ℕ) → IsStrictlyI
 named_there entries before block rise count (k, within, is) =
     let below : k < length entries = omega (arith, length-map entries block_of) in
     let here : get_or (pdl_blocks entries) k 0 ≡ block = get_or_default (pdl_blocks entries) k 0 block within ∙ is in
-    elim (before_or_from k before) [
+    elim (cases_lt k before) [
       | inl low ↦ absurd (let less = count.lower k low in omega (arith, less, here))
       | inr from ↦
           elim (cases_eq k before) [

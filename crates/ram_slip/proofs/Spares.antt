@@ -14,7 +14,8 @@ use Rattle.ram_slip.proofs.OnePlace.{not_slipped}
 use Rattle.ram_slip.proofs.Slips.{logical_by_place}
 
 module _ (shape : Shape) (lists : Lists) (valid : IsValidPdl shape lists.dds) (area : IsValidSsa shape lists.sdl.ssa) where
-  first_many : length (primary_spares shape lists.dds) ≡ primary_count shape lists.dds
+  -- how many primary spares there are
+  pub first_many : length (primary_spares shape lists.dds) ≡ primary_count shape lists.dds
   first_many = let all = pools_are_all shape lists valid area in omega (arith, length-take (primary_count shape lists.dds) (unslipped shape lists.dds), all)
 
   -- the first numbers are the first places

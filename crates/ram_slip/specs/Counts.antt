@@ -15,4 +15,5 @@ pub record IsCountBefore (entries : List PdlEntry) (block count : ℕ) : Type 0 
 pub record IsCountPassed (shape : Shape) (entries : List PdlEntry) (place count : ℕ) : Type 0 where
   pub within : count ≤ length entries
   pub lower : (k : ℕ) → k < count → slice_index (pdl_blocks entries) k < slice_index (data_blocks shape) (place + count)
-  pub higher : (k : ℕ) → count ≤ k → k < length entries → slice_index (data_blocks shape) (place + count) < slice_index (pdl_blocks entries) k
+  pub higher : (k : ℕ) → count ≤ k → k < length entries
+      → slice_index (data_blocks shape) (place + count) < slice_index (pdl_blocks entries) k

@@ -12,7 +12,8 @@ use Rattle.ram_slip.specs.declared.place.Place.TheVariants as places
 -- A block is logical block i, a primary or a supplementary spare, slipped, or no data block. (After ECMA-330's slipping
 -- and spare areas, by whole blocks.)
 abbrev pub IsAtPlace : Shape → Dds → ℕ → ℕ → Place → Type 0
-IsAtPlace shape dds ssa block (places.Logical i) = (i < logical_count shape (unreplaced dds ssa)) × (logical_block shape dds i ≡ block)
+IsAtPlace shape dds ssa block (places.Logical i) = (i < logical_count shape (unreplaced dds ssa))
+    × (logical_block shape dds i ≡ block)
 IsAtPlace shape dds ssa block places.Primary = Contains (primary_spares shape dds) block
 IsAtPlace shape dds ssa block places.Supplementary = Contains (supplementary_spares shape (unreplaced dds ssa)) block
 IsAtPlace shape dds ssa block places.Slipped = Contains (slipped dds) block

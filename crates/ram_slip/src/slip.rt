@@ -16,8 +16,8 @@ use crate::place::Place;
 use ram_dds::{DdsPdl, PdlEntry};
 use ram_zones::Geometry;
 
-/// The `n`-th data block, which there is.
-fn data_block(geometry: &Geometry, n: u32) -> u32
+/// Data block `n`, counted from 0, which there is.
+pub fn data_block(geometry: &Geometry, n: u32) -> u32
     requires { n < length (data_blocks geometry.now) }
     ensures { result ≡ slice_index (data_blocks geometry.now) n }
 {
@@ -59,6 +59,15 @@ fn unslipped_block(geometry: &Geometry, dds: &DdsPdl, place: u32) -> u32
     data_block(geometry, place + passed as u32)
 }
 
+/// How many primary spares are left: each slipped block has taken one.
+pub fn primary_left(geometry: &Geometry, dds: &DdsPdl) -> u32
+    requires { IsValidPdl geometry.now (dds_of dds.now) }
+    ensures lawful { IsLawful geometry.now }
+    ensures left { result ≡ primary_count geometry.now (dds_of dds.now) }
+{
+    geometry.psa() - dds.entries.len() as u32
+}
+
 /// The block of logical block `i`, or of the supplementary spare that comes as many places after logical block 0.
 pub fn physical(geometry: &Geometry, dds: &DdsPdl, i: u32) -> u32
     requires valid { IsValidPdl geometry.now (dds_of dds.now) }
@@ -66,7 +75,7 @@ pub fn physical(geometry: &Geometry, dds: &DdsPdl, i: u32) -> u32
         < length (unslipped geometry.now (dds_of dds.now)) }
     ensures { result ≡ logical_block geometry.now (dds_of dds.now) i }
 {
-    let primary = geometry.psa() - dds.entries.as_slice().len() as u32;
+    let primary = primary_left(geometry, dds);
     unslipped_block(geometry, dds, primary + i)
 }
 
@@ -109,7 +118,7 @@ pub fn place_of(geometry: &Geometry, dds: &DdsPdl, ssa: u32, block: u32) -> Plac
         Rank::Slipped => return Place::Slipped,
         Rank::At { place } => place,
     };
-    let primary = geometry.psa() - dds.entries.as_slice().len() as u32;
+    let primary = primary_left(geometry, dds);
     if place < primary {
         return Place::Primary;
     }
@@ -131,7 +140,7 @@ pub fn spare_number(geometry: &Geometry, dds: &DdsPdl, ssa: u32, block: u32) -> 
         Rank::Slipped => return None,
         Rank::At { place } => place,
     };
-    let primary = geometry.psa() - dds.entries.as_slice().len() as u32;
+    let primary = primary_left(geometry, dds);
     let logical = geometry.data_blocks() - geometry.psa() - ssa;
     if place < primary {
         return Some(place);
@@ -149,7 +158,7 @@ pub fn spare_of(geometry: &Geometry, dds: &DdsPdl, ssa: u32, number: u32) -> u32
     requires inside { number < length (spares geometry.now (unreplaced (dds_of dds.now) ssa)) }
     ensures { result ≡ slice_index (spares geometry.now (unreplaced (dds_of dds.now) ssa)) number }
 {
-    let primary = geometry.psa() - dds.entries.as_slice().len() as u32;
+    let primary = primary_left(geometry, dds);
     if number < primary {
         return unslipped_block(geometry, dds, number);
     }

@@ -1,27 +1,17 @@
 -- Which blocks the entries of a secondary defect list name.
-use Rattle.std.proofs.Common.{◌≡◌, ℕ, suc, ◌+◌, ◌<◌, ◌≤◌, Bool, true, false, ◌||◌, List, length, get_or, drop, drop-cons, drop_of_length-le, Option, Some, None, refl, sym, ap, ◌∙◌, subst, arith}
+use Rattle.std.proofs.Common.{◌≡◌, ℕ, suc, ◌+◌, ◌<◌, ◌≤◌, Bool, true, false, ◌||◌, List, length, get_or, drop, drop-cons, drop_of_length-le, Option, Some, None, refl, sym, ap, ◌∙◌, arith}
 use Rattle.std.specs.List.{Contains, cons_option}
 use Rattle.std.proofs.lemmas.Bool.{false_from_ne_true, eq-eqb, ne_eqb}
-use Rattle.std.proofs.lemmas.List.{length-map, get_or-map}
 use Rattle.model_lists.specs.declared.sdl.SdlEntry.{SdlEntry}
-use Rattle.model_lists.specs.Values.{defectives, IsEntryOf}
 use Rattle.model_places.specs.Places.{is_listed, replacements}
 use Rattle.model_places.proofs.Listed.{Decides-is_listed}
-use Rattle.model_places.proofs.Entries.{Contains-defectives}
 
 -- ---- as defective
 
-pub found_listed : (entries : List SdlEntry) (b : ℕ) (e : SdlEntry) → IsEntryOf entries b (Some e) → is_listed (defectives entries) b ≡ true
-found_listed entries b e (is, has) = (Decides-is_listed (defectives entries) b).1 (subst (Contains (defectives entries)) is (Contains-defectives entries e has))
-
-pub none_listed : (entries : List SdlEntry) (b : ℕ) → IsEntryOf entries b None → is_listed (defectives entries) b ≡ false
-none_listed entries b none = false_from_ne_true (is_listed (defectives entries) b) (λ t. differs ((Decides-is_listed (defectives entries) b).0 t))
-  where
-    differs : ¬ Contains (defectives entries) b
-    differs (k, within, is) =
-        let d : SdlEntry = record { defective = b; replacement = None } in
-        let below : k < length entries = omega (arith, within, length-map entries (λ (e : SdlEntry). e.defective)) in
-        none k d below (sym (get_or-map (λ (e : SdlEntry). e.defective) entries k d b below) ∙ is)
+-- a test that is true just of a listed block
+pub listed_by : (xs : List ℕ) (b : ℕ) (test : Bool) → (test ≡ true → Contains xs b) × (Contains xs b → test ≡ true) → test ≡ is_listed xs b
+listed_by xs b true both = sym ((Decides-is_listed xs b).1 (both.0 refl))
+listed_by xs b false both = sym (false_from_ne_true (is_listed xs b) (λ t. let e : false ≡ true = both.1 ((Decides-is_listed xs b).0 t) in cc))
 
 -- ---- as a replacement
 

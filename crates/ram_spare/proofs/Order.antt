@@ -2,10 +2,10 @@
 use Rattle.std.proofs.Common.{◌≡◌, ℕ, zero, suc, ◌+◌, ◌-◌, ◌<◌, ◌≤◌, ◌⊎◌, inl, inr, ⊎_elim, Bool, true, false, not, cond, eqb, List, [], ◌∷◌, reverse, length, get_or, drop, Option, Some, None, IfSome, slice_get, slice_index, refl, sym, ap, ◌∙◌, subst, le_antisymm, arith}
 use Rattle.std.specs.List.{Contains, IsDistinct, filter, find, after_first, position_or_len}
 use Rattle.std.proofs.lemmas.Bool.{cases_Bool, cases_lt, cond-true, cond-false, eq-eqb, ne_eqb}
-use Rattle.std.proofs.lemmas.List.{get_or_append_left, get_or-append_right, get_or-reverse, get_or_default, length-take, length-drop, length-append, length-reverse}
+use Rattle.std.proofs.lemmas.List.{get_or_append_left, get_or-append_right, get_or-reverse, get_or_default, length-drop, length-append, length-reverse}
 use Rattle.std.proofs.lemmas.List.Sums.{position_or_len_is}
 use Rattle.std.proofs.lemmas.Map.Keys.{IsDistinct-from_apart, IsDistinct-tail}
-use Rattle.std.proofs.lemmas.Option.{slice_get-get_or, slice_get_within, get_or_from_slice_get}
+use Rattle.std.proofs.lemmas.Option.{slice_get-get_or}
 use Rattle.model_geometry.specs.Geometry.{Shape}
 use Rattle.model_geometry.proofs.DataBlocks.{Contains-slice_get}
 use Rattle.model_places.specs.Places.{Lists, unslipped, is_free, primary_count, primary_spares, supplementary_spares, spares, spares_down, free_spares, free_spare_after}
@@ -13,8 +13,7 @@ use Rattle.model_places.specs.Valid.{IsValidPdl, IsValidSsa, AreValid}
 use Rattle.model_places.proofs.Listed.{Contains-from_filter}
 use Rattle.model_places.proofs.Homes.{first_is_alone}
 use Rattle.model_places.proofs.Pools.{pools_are_all, length-spares}
-use Rattle.ram_slip.proofs.Spares.{spare_differs}
-use Rattle.model_volume.specs.Moves.{IsNextSpare, tried_of}
+use Rattle.ram_slip.proofs.Spares.{first_many, spare_differs}
 use Rattle.ram_spare.specs.Spares.{next_spare, spare_before}
 
 -- ---- what a filter keeps, one after another
@@ -80,26 +79,23 @@ past_end xs k none =
 -- ---- the number of each turn
 
 module _ (shape : Shape) (lists : Lists) (valid : IsValidPdl shape lists.dds) (area : IsValidSsa shape lists.sdl.ssa) where
-  pub first_many : length (primary_spares shape lists.dds) ≡ primary_count shape lists.dds
-  first_many = let all = pools_are_all shape lists valid area in omega (arith, length-take (primary_count shape lists.dds) (unslipped shape lists.dds), all)
-
   pub last_many : length (supplementary_spares shape lists) ≡ lists.sdl.ssa
   last_many = let all = pools_are_all shape lists valid area in omega (arith, length-drop (length (unslipped shape lists.dds) - lists.sdl.ssa) (unslipped shape lists.dds), all)
 
   pub length-spares_down : length (spares_down shape lists) ≡ primary_count shape lists.dds + lists.sdl.ssa
   length-spares_down =
-      omega (arith, length-append (reverse (primary_spares shape lists.dds)) (reverse (supplementary_spares shape lists)), length-reverse (primary_spares shape lists.dds), length-reverse (supplementary_spares shape lists), first_many, last_many)
+      omega (arith, length-append (reverse (primary_spares shape lists.dds)) (reverse (supplementary_spares shape lists)), length-reverse (primary_spares shape lists.dds), length-reverse (supplementary_spares shape lists), first_many shape lists valid area, last_many)
 
   -- the first turns are those of the primary spares
   pub down_first : (turn number : ℕ) → turn < primary_count shape lists.dds → number ≡ primary_count shape lists.dds - 1 - turn → slice_index (spares_down shape lists) turn ≡ slice_index (spares shape lists) number
   down_first turn number less is =
       let first = primary_spares shape lists.dds in
       let last = supplementary_spares shape lists in
-      let there : length first - 1 - turn ≡ number = omega (arith, first_many, is) in
-      get_or_append_left (reverse first) (reverse last) 0 turn (omega (arith, length-reverse first, first_many, less))
-      ∙ get_or-reverse first turn 0 (omega (arith, first_many, less))
+      let there : length first - 1 - turn ≡ number = omega (arith, first_many shape lists valid area, is) in
+      get_or_append_left (reverse first) (reverse last) 0 turn (omega (arith, length-reverse first, first_many shape lists valid area, less))
+      ∙ get_or-reverse first turn 0 (omega (arith, first_many shape lists valid area, less))
       ∙ ap (slice_index first) there
-      ∙ sym (get_or_append_left first last 0 number (omega (arith, first_many, less, is)))
+      ∙ sym (get_or_append_left first last 0 number (omega (arith, first_many shape lists valid area, less, is)))
 
   -- the others are those of the supplementary ones
   pub down_last : (turn number : ℕ) → primary_count shape lists.dds ≤ turn → turn < primary_count shape lists.dds + lists.sdl.ssa → number + turn + 1 ≡ primary_count shape lists.dds + primary_count shape lists.dds + lists.sdl.ssa
@@ -109,10 +105,10 @@ module _ (shape : Shape) (lists : Lists) (valid : IsValidPdl shape lists.dds) (a
       let last = supplementary_spares shape lists in
       let n = primary_count shape lists.dds in
       let there : length last - 1 - (turn - n) ≡ number - n = omega (arith, last_many, from, less, is) in
-      get_or-append_right (reverse first) (reverse last) n turn 0 (omega (arith, length-reverse first, first_many)) from
+      get_or-append_right (reverse first) (reverse last) n turn 0 (omega (arith, length-reverse first, first_many shape lists valid area)) from
       ∙ get_or-reverse last (turn - n) 0 (omega (arith, last_many, from, less))
       ∙ ap (slice_index last) there
-      ∙ sym (get_or-append_right first last n number 0 first_many (omega (arith, less, is)))
+      ∙ sym (get_or-append_right first last n number 0 (first_many shape lists valid area) (omega (arith, less, is)))
 
   -- the number of the spare whose turn it is
   record HasNumber (turn : ℕ) : Type 0 where
@@ -193,30 +189,13 @@ module _ (shape : Shape) (lists : Lists) (valid : AreValid shape lists) where
       ∙ sym (free_follows_at k inside)
       ∙ ap (slice_get (free_spares shape lists)) next
 
-  -- What is given after the one before the k-th is the k-th,
+  -- What is given after the one before the k-th is the k-th.
   pub given_is : (k spare : ℕ) → k ≤ length (free_spares shape lists) → next_spare shape lists (spare_before shape lists k) ≡ Some spare → slice_get (free_spares shape lists) k ≡ Some spare
   given_is k spare within is = sym (next_is k within) ∙ is
 
-  -- which is the next one after the first k were tried,
-  pub given_next : (k spare : ℕ) → k ≤ length (free_spares shape lists) → next_spare shape lists (spare_before shape lists k) ≡ Some spare → IsNextSpare shape lists (tried_of (free_spares shape lists) k) spare
-  given_next k spare within is =
-      let at = given_is k spare within is in
-      record {
-        tried = k;
-        failed_are = refl;
-        inside = slice_get_within (free_spares shape lists) k spare at;
-        spare_is = sym (get_or_from_slice_get (free_spares shape lists) k spare 0 at);
-      }
-
-  -- and where nothing is given, the first k are all.
+  -- Where nothing is given, the first k are all.
   pub none_given : (k : ℕ) → k ≤ length (free_spares shape lists) → next_spare shape lists (spare_before shape lists k) ≡ None → k ≡ length (free_spares shape lists)
   none_given k within is = le_antisymm within (past_end (free_spares shape lists) k (sym (next_is k within) ∙ is))
-
--- with the one at a place, those that were tried are one more
-pub tried_more : (free : List ℕ) (k spare : ℕ) → slice_get free k ≡ Some spare → tried_of free (k + 1) ≡ spare ∷ tried_of free k
-tried_more free k spare at =
-    let next : k + 1 ≡ suc k = omega arith in
-    ap (tried_of free) next ∙ ap (λ x. x ∷ tried_of free k) (get_or_from_slice_get free k spare 0 at)
 
 -- the one before the next place is the one at this place
 pub before_more : (shape : Shape) (lists : Lists) (k spare : ℕ) → slice_get (free_spares shape lists) k ≡ Some spare → spare_before shape lists (k + 1) ≡ Some spare

@@ -16,15 +16,16 @@ use Rattle.model_lists.specs.Values.{defectives}
 use Rattle.model_places.specs.Places.{Lists, is_listed, is_free, unslipped, replacements, primary_count, primary_spares, supplementary_spares, spares, free_primary_count, free_supplementary_count}
 use Rattle.model_places.specs.Valid.{IsValidSdl, AreValid}
 use Rattle.model_places.proofs.Listed.{Decides-is_listed, is_listed-filter, is_member_is, Contains-from_filter, IsDistinct-from_increasing}
-use Rattle.model_places.proofs.Homes.{Contains-first, Contains-later, Contains-cons_option, Contains-cons_option_first, first_is_alone, IsDistinct-cons_option, alone_in_cons_option, replacement_cases}
-use Rattle.model_places.proofs.Entries.{used, differs_from_all}
+use Rattle.model_places.proofs.Homes.{Contains-later, Contains-cons_option, Contains-cons_option_first, first_is_alone, replacement_cases}
+use Rattle.model_places.proofs.Entries.{used, used_differ, differs_from_all}
 use Rattle.model_places.proofs.Free.{free_from_unnamed, unnamed_from_free}
 use Rattle.model_places.proofs.Pools.{unslipped_rise}
 use Rattle.ram_slip.specs.declared.place.Place.{Place}
 use Rattle.ram_slip.specs.declared.place.Place.TheVariants as places
 use Rattle.ram_slip.specs.Place.{IsAtPlace}
 use Rattle.ram_slip.proofs.OnePlace.{one_place}
-use Rattle.ram_spare.proofs.Order.{first_many, last_many}
+use Rattle.ram_slip.proofs.Spares.{first_many}
+use Rattle.ram_spare.proofs.Order.{last_many}
 
 -- ---- numbers that differ
 
@@ -99,35 +100,6 @@ retired_used entries x alone (k, within, is) =
     by_none : (o : Option ℕ) (b : ℕ) → IsNone o → unwrap_or o b ≡ b
     by_none None b none = refl
     by_none (Some r) b none = absurd (let f = none in cc)
-
--- what the first entry uses up no other does
-used_once : (e : SdlEntry) (es : List SdlEntry) → IsDistinct eqb (replacements (e ∷ es)) → IsDistinct eqb (defectives (e ∷ es))
-    → ((x : ℕ) → Contains (replacements (e ∷ es)) x → ¬ Contains (defectives (e ∷ es)) x) → ¬ Contains (map used es) (used e)
-used_once e es apart apart' sound has =
-    ⊎_elim
-    (λ some.
-    let same : used e ≡ some.0 = ap (λ o. unwrap_or o e.defective) some.1 in
-    ⊎_elim
-    (λ l. alone_in_cons_option e.replacement (replacements es) some.0 some.1 apart (subst (Contains (replacements es)) same l))
-    (λ r. sound (used e) (Contains-cons_option_first e.replacement (replacements es) (used e) (some.1 ∙ ap Some (sym same))) (Contains-later e.defective (defectives es) (used e) r))
-    (used_named es (used e) has))
-    (λ none.
-    let same : used e ≡ e.defective = ap (λ o. unwrap_or o e.defective) none in
-    ⊎_elim
-    (λ l. sound (used e) (Contains-cons_option e.replacement (replacements es) (used e) l) (subst (Contains (defectives (e ∷ es))) (sym same) (Contains-first e.defective (defectives es))))
-    (λ r. first_is_alone e.defective (defectives es) apart' (subst (Contains (defectives es)) same r))
-    (used_named es (used e) has))
-    (replacement_cases e.replacement)
-
--- no two entries use up one spare
-used_differ : (entries : List SdlEntry) → IsDistinct eqb (replacements entries) → IsDistinct eqb (defectives entries)
-    → ((x : ℕ) → Contains (replacements entries) x → ¬ Contains (defectives entries) x) → IsDistinct eqb (map used entries)
-used_differ [] apart apart' sound = apart'
-used_differ (e ∷ es) apart apart' sound =
-    IsDistinct-cons eqb (used e) (map used es)
-    (differs_from_all (used e) (map used es) (used_once e es apart apart' sound))
-    (used_differ es (IsDistinct-cons_option e.replacement (replacements es) apart) (IsDistinct-tail eqb e.defective (defectives es) apart')
-    (λ x h h'. sound x (Contains-cons_option e.replacement (replacements es) x h) (Contains-later e.defective (defectives es) x h')))
 
 both_ways : (a b : Bool) → (a && b) ≡ (b && a)
 both_ways true true = refl

@@ -5,11 +5,10 @@ ghost use Rattle.model_places.specs.Places.{free_primary_count, free_supplementa
 ghost use Rattle.model_places.specs.Valid.{AreValid};
 ghost use Rattle.ram_spare.specs.Spares.{both_lists};
 
-use crate::turns::primary_left;
 use model_lists::SdlEntry;
 use ram_dds::DdsPdl;
 use ram_sdl::Sdl;
-use ram_slip::{Place, place_of};
+use ram_slip::{Place, place_of, primary_left};
 use ram_zones::Geometry;
 
 /// How many spares are free, in each of the two areas.

@@ -11,19 +11,9 @@ ghost use Rattle.ram_spare.specs.Spares.{both_lists, next_spare};
 use crate::turns::{spare_at, spare_count, turn_of};
 use model_lists::SdlEntry;
 use ram_dds::DdsPdl;
+use ram_lists::is_defective;
 use ram_sdl::Sdl;
 use ram_zones::Geometry;
-
-/// Whether an entry names the block as defective, by halving.
-fn is_defective(sdl: &Sdl, block: u32) -> bool
-    requires { IsStrictlyIncreasing (defectives sdl.now.entries.list) }
-    ensures { result ≡ is_listed (defectives sdl.now.entries.list) block }
-{
-    match sdl.find(block) {
-        Some(_) => true,
-        None => false,
-    }
-}
 
 /// Whether the entry has this replacement.
 fn is_replaced_by(entry: SdlEntry, block: u32) -> bool

@@ -2,23 +2,15 @@
 
 ghost use Rattle.std.specs.Prelude.{◌≡◌, ◌<◌, length, slice_index};
 ghost use Rattle.std.specs.List.{Contains};
-ghost use Rattle.model_places.specs.Places.{primary_count, spares_down};
+ghost use Rattle.model_places.specs.Places.{spares_down};
 ghost use Rattle.model_places.specs.Valid.{IsValidPdl, IsValidSsa};
 ghost use Rattle.ram_dds.specs.Dds.{dds_of};
 ghost use Rattle.ram_spare.specs.Spares.{both_lists};
 
 use ram_dds::DdsPdl;
 use ram_sdl::Sdl;
-use ram_slip::{spare_number, spare_of};
+use ram_slip::{primary_left, spare_number, spare_of};
 use ram_zones::Geometry;
-
-/// How many primary spares are left: each slipped block has taken one.
-pub fn primary_left(geometry: &Geometry, dds: &DdsPdl) -> u32
-    requires { IsValidPdl geometry.now (dds_of dds.now) }
-    ensures { result ≡ primary_count geometry.now (dds_of dds.now) }
-{
-    geometry.psa() - dds.entries.len() as u32
-}
 
 /// How many spares there are.
 pub fn spare_count(geometry: &Geometry, dds: &DdsPdl, sdl: &Sdl) -> u32

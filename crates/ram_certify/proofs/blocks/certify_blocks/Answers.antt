@@ -1,13 +1,13 @@
 use Rattle.std.proofs.Common.{arith, ap, ◌≡◌, ◌≤◌, ◌∙◌, sym, length, subst, take, List, Bool, true, false, slice_index}
 use Rattle.std.proofs.lemmas.Result.{err_from_is_err_and}
 use Rattle.std.proofs.lemmas.List.Elements.{Contains-get_or, All-contains}
-use Rattle.std.specs.Prelude.{ℕ, ◌<◌, vec_capacity}
+use Rattle.std.specs.Prelude.{ℕ, ◌<◌}
 use Rattle.std.specs.List.{Contains}
 use Rattle.model_geometry.specs.Geometry.{Shape, data_blocks, lead_out, total}
 use Rattle.model_geometry.proofs.DataBlocks.{data_blocks_bounds}
 use Rattle.std.proofs.lemmas.List.{length-take}
 use Rattle.ram_certify.specs.Blocks.{IsNextKept, HasCertifiedUpTo}
-use Rattle.ram_certify.proofs.Going.{certified_none, kept_is_passed, block_kept, block_found, certifying_stops, certified_all}
+use Rattle.ram_certify.proofs.Going.{kept_is_passed, block_kept, block_found, certifying_stops, certified_all}
 use Rattle.ram_certify.proofs.blocks.certify_blocks.Goals as goal
 use Rattle.ram_certify.proofs.blocks.certify_blocks.Goals.{then-is_next_kept, else-is_next_kept+in_ok-put_block+then-not-branch, else-is_next_kept+in_ok-put_block+else-not-branch}
 
@@ -23,7 +23,7 @@ not_next test P is_false when p = let e : false ≡ true = sym is_false ∙ when
 pub put_block-requires-clause-inside : goal.put_block-requires-clause-inside
 put_block-requires-clause-inside g c =
     let n_in : c.loop-n.n < length (data_blocks c.args.geometry.now) = omega (arith, c.loop-n-test.true, c.loop-n.auto.n-end, c.data_blocks-n-end.ensures.count) in
-    let h = data_inside c.args.geometry.now c.data_block_at-block.result (rw c.data_block_at-block.ensures (Contains-get_or (data_blocks c.args.geometry.now) c.loop-n.n 0 n_in)) in
+    let h = data_inside c.args.geometry.now c.data_block-block.result (rw c.data_block-block.ensures (Contains-get_or (data_blocks c.args.geometry.now) c.loop-n.n 0 n_in)) in
     omega (arith, h, c.loop-n.invariant.as_many, c.requires.size)
 
 pub returns-in_err-put_block-clause-rule : goal.returns-in_err-put_block-clause-rule
@@ -32,8 +32,8 @@ returns-in_err-put_block-clause-rule g c =
     rw (p.1, p.2)
     (certifying_stops g.M.Medium.world g.M.Medium.block_count g.M.Medium.reaches g.met.M.Medium.laws c.args.geometry.now c.args.kept.now c.requires.kept c.args.medium.now c.capacity-most.result c.loop-n.medium c.put_block.new.medium c.loop-n.n c.loop-n.passed c.loop-n.count c.loop-n.found.items
     c.loop-n.invariant.so_far (omega (arith, c.loop-n-test.true, c.loop-n.auto.n-end, c.data_blocks-n-end.ensures.count))
-    (not_next c.is_next_kept.result (IsNextKept c.args.kept.now c.loop-n.passed (slice_index (data_blocks c.args.geometry.now) c.loop-n.n)) c.if-is_next_kept.false (rw c.data_block_at-block.ensures at c.is_next_kept.ensures.1))
-    _ (rw (c.data_block_at-block.ensures, c.requires.zero) at c.in_err-put_block.ensures.rule))
+    (not_next c.is_next_kept.result (IsNextKept c.args.kept.now c.loop-n.passed (slice_index (data_blocks c.args.geometry.now) c.loop-n.n)) c.if-is_next_kept.false (rw c.data_block-block.ensures at c.is_next_kept.ensures.1))
+    _ (rw (c.data_block-block.ensures, c.requires.zero) at c.in_err-put_block.ensures.rule))
 
 pub overflow_add-count : goal.overflow_add-count
 overflow_add-count g c = (let h = c.loop-n.invariant.so_far.few in omega (arith, h, c.loop-n-test.true, c.loop-n.auto.n-end, c.data_blocks-n-end.ensures.most))
@@ -47,23 +47,23 @@ loop-n-preserved g c =
     elim c.if-is_next_kept.branch [
       | then-is_next_kept w ↦ record {
         so_far = rw (w.medium-is, w.found-is, w.passed-is, w.count-is) (kept_is_passed g.M.Medium.world g.M.Medium.block_count g.M.Medium.reaches g.met.M.Medium.laws c.args.geometry.now c.args.kept.now c.requires.kept c.args.medium.now c.capacity-most.result c.loop-n.medium c.loop-n.medium c.loop-n.n c.loop-n.passed c.loop-n.count c.loop-n.found.items
-            c.loop-n.invariant.so_far n_in (rw c.data_block_at-block.ensures at (c.is_next_kept.ensures.0 w.if-is_next_kept.true)));
+            c.loop-n.invariant.so_far n_in (rw c.data_block-block.ensures at (c.is_next_kept.ensures.0 w.if-is_next_kept.true)));
         room = rw w.found-is c.loop-n.invariant.room;
         as_many = rw w.medium-is c.loop-n.invariant.as_many;
       }
       | else-is_next_kept+in_ok-put_block+then-not-branch w ↦ record {
-        so_far = rw (w.medium-is, w.found-is, w.passed-is, w.count-is, w.note.ensures.found, c.data_block_at-block.ensures) (block_found g.M.Medium.world g.M.Medium.block_count g.M.Medium.reaches g.met.M.Medium.laws c.args.geometry.now c.args.kept.now c.requires.kept c.args.medium.now c.capacity-most.result c.loop-n.medium w.put_block.new.medium c.loop-n.n c.loop-n.passed c.loop-n.count c.loop-n.found.items
+        so_far = rw (w.medium-is, w.found-is, w.passed-is, w.count-is, w.note.ensures.found, c.data_block-block.ensures) (block_found g.M.Medium.world g.M.Medium.block_count g.M.Medium.reaches g.met.M.Medium.laws c.args.geometry.now c.args.kept.now c.requires.kept c.args.medium.now c.capacity-most.result c.loop-n.medium w.put_block.new.medium c.loop-n.n c.loop-n.passed c.loop-n.count c.loop-n.found.items
             c.loop-n.invariant.so_far n_in
-            (not_next c.is_next_kept.result (IsNextKept c.args.kept.now c.loop-n.passed (slice_index (data_blocks c.args.geometry.now) c.loop-n.n)) w.if-is_next_kept.false (rw c.data_block_at-block.ensures at c.is_next_kept.ensures.1))
-            (rw (w.if-not-branch.true, c.data_block_at-block.ensures, c.requires.zero) at w.in_ok-put_block.ensures.rule));
+            (not_next c.is_next_kept.result (IsNextKept c.args.kept.now c.loop-n.passed (slice_index (data_blocks c.args.geometry.now) c.loop-n.n)) w.if-is_next_kept.false (rw c.data_block-block.ensures at c.is_next_kept.ensures.1))
+            (rw (w.if-not-branch.true, c.data_block-block.ensures, c.requires.zero) at w.in_ok-put_block.ensures.rule));
         room = rw w.found-is w.note.ensures.room;
         as_many = rw w.medium-is (w.in_ok-put_block.ensures.as_many ∙ c.loop-n.invariant.as_many);
       }
       | else-is_next_kept+in_ok-put_block+else-not-branch w ↦ record {
         so_far = rw (w.medium-is, w.found-is, w.passed-is, w.count-is) (block_kept g.M.Medium.world g.M.Medium.block_count g.M.Medium.reaches g.met.M.Medium.laws c.args.geometry.now c.args.kept.now c.requires.kept c.args.medium.now c.capacity-most.result c.loop-n.medium w.put_block.new.medium c.loop-n.n c.loop-n.passed c.loop-n.count c.loop-n.found.items
             c.loop-n.invariant.so_far n_in
-            (not_next c.is_next_kept.result (IsNextKept c.args.kept.now c.loop-n.passed (slice_index (data_blocks c.args.geometry.now) c.loop-n.n)) w.if-is_next_kept.false (rw c.data_block_at-block.ensures at c.is_next_kept.ensures.1))
-            (rw (w.if-not-branch.false, c.data_block_at-block.ensures, c.requires.zero) at w.in_ok-put_block.ensures.rule));
+            (not_next c.is_next_kept.result (IsNextKept c.args.kept.now c.loop-n.passed (slice_index (data_blocks c.args.geometry.now) c.loop-n.n)) w.if-is_next_kept.false (rw c.data_block-block.ensures at c.is_next_kept.ensures.1))
+            (rw (w.if-not-branch.false, c.data_block-block.ensures, c.requires.zero) at w.in_ok-put_block.ensures.rule));
         room = rw w.found-is c.loop-n.invariant.room;
         as_many = rw w.medium-is (w.in_ok-put_block.ensures.as_many ∙ c.loop-n.invariant.as_many);
       }

@@ -1,4 +1,5 @@
-use Rattle.std.proofs.Common.{ap}
+use Rattle.std.proofs.Common.{◌≡◌, ℕ, ◌⊎◌, inl, inr, max, ap, arith}
+use Rattle.std.proofs.lemmas.Bool.{cases_lt}
 use Rattle.std.proofs.lemmas.Result.{err_from_is_err_and}
 use Rattle.ram_dds.specs.Dds.{dds_of}
 use Rattle.ram_sdl.specs.Sdl.{sdl_of}
@@ -7,6 +8,10 @@ use Rattle.ram_lists.specs.Lists.{AcceptsDds}
 use Rattle.ram_lists.specs.Parts.{picked_of}
 use Rattle.ram_lists.proofs.MountSteps.{first_ends, second_ends, nothing_by, third_by, formatting_by, lone_by, fourth_by, both_by, not_formatted}
 use Rattle.ram_lists.proofs.mounting.mount_lists.Goals as goal
+
+-- the greater one of two numbers is one of them
+is_one : (a b high : ℕ) → high ≡ max a b → (high ≡ a) ⊎ (high ≡ b)
+is_one a b high is = elim (cases_lt a b) [ inl less ↦ inr (omega (arith, is, less)) | inr more ↦ inl (omega (arith, is, more)) ]
 
 pub returns-in_err-best-clause-rule : goal.returns-in_err-best-clause-rule
 returns-in_err-best-clause-rule g c =
@@ -22,8 +27,8 @@ returns-in_err-other-clause-rule g c =
 pub returns-in_default-clause-rule : goal.returns-in_default-clause-rule
 returns-in_default-clause-rule g c =
     nothing_by g.M.Medium.world g.M.Medium.block_count g.M.Medium.reaches g.met.M.Medium.laws c.args.geometry.now c.args.medium.now c.pick_dds.new.medium c.pick_none.new.medium
-    (picked_of (λ d. DdsValue (dds_of d)) c.in_ok-best.field-0.best) c.in_ok-best.field-0.mark c.in_ok-other.other c.greater.result c.in_ok-best.ensures.rule c.in_ok-other.ensures.rule
-    (ap (picked_of (λ d. DdsValue (dds_of d))) c.in_default.is) c.greater.ensures.first c.greater.ensures.second c.greater.ensures.one
+    (picked_of (λ d. DdsValue (dds_of d)) c.in_ok-best.field-0.best) c.in_ok-best.field-0.mark c.in_ok-other.other c.max.result c.in_ok-best.ensures.rule c.in_ok-other.ensures.rule
+    (ap (picked_of (λ d. DdsValue (dds_of d))) c.in_default.is) (omega (arith, c.max.ensures)) (omega (arith, c.max.ensures)) (is_one _ _ _ c.max.ensures)
 
 pub returns-in_err-below-clause-rule : goal.returns-in_err-below-clause-rule
 returns-in_err-below-clause-rule g c =
@@ -43,14 +48,14 @@ returns-then-not-is_formatted-clause-rule g c =
     formatting_by g.M.Medium.world g.M.Medium.block_count g.M.Medium.reaches g.met.M.Medium.laws c.args.geometry.now c.args.medium.now c.pick_dds.new.medium c.pick_sdl.new.medium
     (picked_of (λ d. DdsValue (dds_of d)) c.in_ok-best.field-0.best) (picked_of (λ s. SdlValue (sdl_of s)) c.in_ok-below.field-0.best) c.in_ok-best.field-0.mark c.in_ok-below.field-0.mark
     (dds_of c.in-Some.dds.value) c.in-Some.dds.area c.in_ok-best.ensures.rule (ap (picked_of (λ d. DdsValue (dds_of d))) c.in-Some.is) c.in_ok-below.ensures.rule c.mend.new.medium c.in_ok-mend.ensures.rule
-    c.greater-mark.result c.greater-mark.ensures.first c.greater-mark.ensures.second c.greater-mark.ensures.one (not_formatted _ _ c.is_formatted.ensures.1 c.if-not-is_formatted.true)
+    c.max-mark.result (omega (arith, c.max-mark.ensures)) (omega (arith, c.max-mark.ensures)) (is_one _ _ _ c.max-mark.ensures) (not_formatted _ _ c.is_formatted.ensures.1 c.if-not-is_formatted.true)
 
 pub returns-in_default-below-clause-rule : goal.returns-in_default-below-clause-rule
 returns-in_default-below-clause-rule g c =
     lone_by g.M.Medium.world g.M.Medium.block_count g.M.Medium.reaches g.met.M.Medium.laws c.args.geometry.now c.args.medium.now c.pick_dds.new.medium c.pick_sdl.new.medium
     (picked_of (λ d. DdsValue (dds_of d)) c.in_ok-best.field-0.best) (picked_of (λ s. SdlValue (sdl_of s)) c.in_ok-below.field-0.best) c.in_ok-best.field-0.mark c.in_ok-below.field-0.mark
     (dds_of c.in-Some.dds.value) c.in-Some.dds.area c.in_ok-best.ensures.rule (ap (picked_of (λ d. DdsValue (dds_of d))) c.in-Some.is) c.in_ok-below.ensures.rule c.mend.new.medium c.in_ok-mend.ensures.rule
-    c.greater-mark.result c.greater-mark.ensures.first c.greater-mark.ensures.second c.greater-mark.ensures.one (ap (picked_of (λ s. SdlValue (sdl_of s))) c.in_default-below.is)
+    c.max-mark.result (omega (arith, c.max-mark.ensures)) (omega (arith, c.max-mark.ensures)) (is_one _ _ _ c.max-mark.ensures) (ap (picked_of (λ s. SdlValue (sdl_of s))) c.in_default-below.is)
 
 pub returns-in_err-mend-2-clause-rule : goal.returns-in_err-mend-2-clause-rule
 returns-in_err-mend-2-clause-rule g c =

@@ -1,8 +1,7 @@
 use Rattle.std.proofs.Common.{arith, ◌≤◌, ◌∙◌, sym, ap, subst}
 use Rattle.model_geometry.specs.declared.TheConstants.{MOST_SPARES}
-use Rattle.model_lists.specs.Values.{Sdl, IsLawfulSdl, with_entry}
+use Rattle.model_lists.specs.Values.{Sdl, IsLawfulSdl, with_entry, pair}
 use Rattle.model_places.specs.Places.{free_spares}
-use Rattle.model_places.specs.Worked.{pair}
 use Rattle.model_volume.specs.Moves.{tried_of, lists_moved}
 use Rattle.ram_sdl.specs.Sdl.{sdl_of}
 use Rattle.ram_lists.specs.Lists.{lists_of}

@@ -2,9 +2,8 @@ use Rattle.std.proofs.Common.{arith, ◌≡◌, ◌≤◌, ℕ, ◌∙◌, sym, 
 use Rattle.std.specs.List.Sorted.{IsStrictlyIncreasing}
 use Rattle.model_geometry.specs.declared.TheConstants.{MOST_SPARES}
 use Rattle.model_lists.specs.declared.sdl.SdlEntry.{SdlEntry}
-use Rattle.model_lists.specs.Values.{Sdl, defectives}
+use Rattle.model_lists.specs.Values.{Sdl, defectives, retired}
 use Rattle.model_places.specs.Places.{free_spares}
-use Rattle.model_places.specs.Worked.{retired}
 use Rattle.model_volume.specs.Moves.{with_retired, tried_of}
 use Rattle.ram_sdl.specs.Sdl.{sdl_of}
 use Rattle.ram_lists.specs.Lists.{lists_of}

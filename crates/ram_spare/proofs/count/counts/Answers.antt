@@ -5,7 +5,7 @@ use Rattle.ram_spare.proofs.count.counts.Goals as goal
 use Rattle.ram_spare.proofs.count.counts.Goals.{in-Primary, in-Supplementary, in-Logical, in-Slipped, in-Outside}
 
 pub loop-entry-init : goal.loop-entry-init
-loop-entry-init c = left_first c.args.geometry.now (both_lists c.args.dds.now c.args.sdl.now) c.requires c.primary_left.result c.primary_left.ensures
+loop-entry-init c = left_first c.args.geometry.now (both_lists c.args.dds.now c.args.sdl.now) c.requires c.primary_left.result c.primary_left.ensures.left
 
 pub overflow_sub-free : goal.overflow_sub-free
 overflow_sub-free c =

@@ -10,7 +10,7 @@ unreachable-requires c = c.in-None.ensures (Contains-from_spares_down c.args.geo
 
 pub returns-then-number-primary : goal.returns-then-number-primary
 returns-then-number-primary c =
-    let left = c.primary_left-primary.ensures in
+    let left = c.primary_left-primary.ensures.left in
     let less = c.if-number-primary.true in
     let long = length-spares_down c.args.geometry.now (both_lists c.args.dds.now c.args.sdl.now) c.requires.valid c.requires.area in
     record {
@@ -22,7 +22,7 @@ returns-then-number-primary c =
 
 pub returns : goal.returns
 returns c =
-    let left = c.primary_left-primary.ensures in
+    let left = c.primary_left-primary.ensures.left in
     let from = c.if-number-primary.false in
     let inside = c.in-Some.ensures.0 in
     let many = length-spares c.args.geometry.now (both_lists c.args.dds.now c.args.sdl.now) c.requires.valid c.requires.area in
