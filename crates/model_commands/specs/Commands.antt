@@ -19,6 +19,7 @@ pub record Row : Type 0 where
   pub bytes : ℕ
   pub taken : Data
 
+-- the row of these three (this project's own)
 abbrev pub row : ℕ → ℕ → Data → Row
 row code bytes taken = record { code = code; bytes = bytes; taken = taken }
 
@@ -59,10 +60,6 @@ operation_with code = find (λ operation. (command operation).code == code) oper
 abbrev pub operation_of : List ℕ → Option Operation
 operation_of cdb = operation_with (slice_index cdb 0)
 
--- how many sectors a command reads or writes at most (this project's own)
-abbrev pub transfer_limit : ℕ
-transfer_limit = TRANSFER_LIMIT
-
 -- the number in this field of a command block: so many bytes from this one on, the highest first
 abbrev pub field : (at width : ℕ) → List ℕ → ℕ
 field at width cdb = big_number width (drop at cdb)
@@ -71,7 +68,7 @@ field at width cdb = big_number width (drop at cdb)
 abbrev pub data_length : Data → List ℕ → ℕ
 data_length NoData cdb = 0
 data_length (Bytes n) cdb = n
-data_length (Sectors at width) cdb = if nat_le (field at width cdb) transfer_limit then field at width cdb * 2048 else 0
+data_length (Sectors at width) cdb = if nat_le (field at width cdb) TRANSFER_LIMIT then field at width cdb * 2048 else 0
 data_length (Listed at width) cdb = field at width cdb
 
 -- The same for a command; none where the command block is shorter than the table says. Further bytes are not looked

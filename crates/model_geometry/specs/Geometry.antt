@@ -62,7 +62,8 @@ data_blocks shape = filter (is_data shape) (range_with_len 0 (total shape))
 -- The place of a block among the data blocks, counted from 0; there is none exactly where it is no data block.
 -- (This project's own.)
 abbrev pub IsDataIndex : Shape → ℕ → Option ℕ → Type 0
-IsDataIndex shape block index = MatchOption index (¬ Contains (data_blocks shape) block) (λ n. slice_get (data_blocks shape) n ≡ Some block)
+IsDataIndex shape block index =
+    MatchOption index (¬ Contains (data_blocks shape) block) (λ n. slice_get (data_blocks shape) n ≡ Some block)
 
 -- The zone of a block; there is none exactly where it lies in no zone. (This project's own.)
 abbrev pub IsZoneOf : Shape → ℕ → Option ℕ → Type 0
@@ -86,7 +87,8 @@ formattable shape = (length (data_blocks shape) - shape.psa) * 16
 -- The block of the disc definition structure and primary defect list of areas 1 to 4: the first and the third of
 -- the lead-in, and the first and the third of the lead-out. (This project's own, after the four areas of ECMA-330.)
 abbrev pub dds_block : Shape → ℕ → ℕ
-dds_block shape area = if area == 1 then 0 else (if area == 2 then 2 else (if area == 3 then lead_out shape else lead_out shape + 2))
+dds_block shape area =
+    if area == 1 then 0 else (if area == 2 then 2 else (if area == 3 then lead_out shape else lead_out shape + 2))
 
 -- The block of the secondary defect list of areas 1 to 4: each the next after the area's other list. (This
 -- project's own, after the four areas of ECMA-330.)

@@ -52,9 +52,9 @@ done_by (commands.Prevent on) host = record host { prevented = on }
 done_by (commands.StartStop start eject) host = record host { out = if eject then not start else host.out }
 done_by _ host = host
 
--- a command was done, or checked
-abbrev pub keeps : Host → Answer → Host
-keeps host answer = record host { kept = kept_after host.kept answer }
+-- the host with the sense that is kept after this answer
+abbrev pub with_kept_sense : Host → Answer → Host
+with_kept_sense host answer = record host { kept = kept_after host.kept answer }
 
 -- The attention is cleared where a command is told of it, and stands where the code is unknown.
 abbrev pub attention_after : Host → Option Operation → Bool

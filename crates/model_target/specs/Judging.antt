@@ -19,10 +19,12 @@ abbrev pub asked_in : (told : Bool) → Operation → (cdb payload : List ℕ) �
 asked_in true operation cdb payload = Err (sense 0x6 0x29 0x00)
 asked_in false operation cdb payload = decoded_as operation cdb payload
 
+-- the same where the table may have no command with this code
 abbrev pub asked_by : Host → Option Operation → (cdb payload : List ℕ) → Result Command Sense
 asked_by host None cdb payload = Err (sense 0x5 0x20 0x00)
 asked_by host (Some operation) cdb payload = asked_in (is_told host operation) operation cdb payload
 
+-- the same of a whole command block
 abbrev pub asked : Host → (cdb payload : List ℕ) → Result Command Sense
 asked host cdb payload = asked_by host (operation_of cdb) cdb payload
 
@@ -66,9 +68,11 @@ IsAllowed host formatted payload asked_for result =
 
 -- What a target makes of a command block with these data while the power is on: a command that is to be done, or the first
 -- reason against it.
-abbrev pub IsJudgedBy : Host → (formatted : Bool) → (payload : List ℕ) → Result Command Sense → Result Command Sense → Type 0
+abbrev pub IsJudgedBy : Host → (formatted : Bool) → (payload : List ℕ)
+    → Result Command Sense → Result Command Sense → Type 0
 IsJudgedBy host formatted payload (Err why) result = result ≡ Err why
 IsJudgedBy host formatted payload (Ok asked_for) result = IsAllowed host formatted payload asked_for result
 
+-- the same of a whole command block and its data
 abbrev pub IsJudged : Host → (formatted : Bool) → (cdb payload : List ℕ) → Result Command Sense → Type 0
 IsJudged host formatted cdb payload result = IsJudgedBy host formatted payload (asked host cdb payload) result

@@ -17,7 +17,8 @@ padded size text = text ++ replicate (size - length text) 0x20
 -- the texts are this project's own.)
 abbrev pub inquiry_reply : List ℕ
 inquiry_reply =
-    0x05 ∷ 0x80 ∷ 0x00 ∷ 0x02 ∷ 0x1f ∷ 0 ∷ 0 ∷ 0 ∷ [] ++ padded 8 (codes "DVDRAM") ++ padded 16 (codes "SECTOR DRIVE") ++ codes "1.00"
+    0x05 ∷ 0x80 ∷ 0x00 ∷ 0x02 ∷ 0x1f ∷ 0 ∷ 0 ∷ 0 ∷ []
+    ++ padded 8 (codes "DVDRAM") ++ padded 16 (codes "SECTOR DRIVE") ++ codes "1.00"
 
 -- READ CAPACITY: the last sector, and how many bytes a sector has (after INCITS MMC)
 abbrev pub capacity_reply : (capacity : ℕ) → List ℕ

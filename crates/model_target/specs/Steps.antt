@@ -35,7 +35,7 @@ use Rattle.ram_sense.specs.declared.answer.Answer.TheVariants as answers
 use Rattle.ram_cdb.specs.declared.commands.Command.{Command}
 use Rattle.ram_cdb.specs.declared.commands.Command.TheVariants as commands
 use Rattle.model_target.specs.declared.host.Host.{Host}
-use Rattle.model_target.specs.Host.{powered_on, done_by, keeps, attention_after}
+use Rattle.model_target.specs.Host.{powered_on, done_by, with_kept_sense, attention_after}
 use Rattle.model_target.specs.Judging.{IsJudged}
 use Rattle.model_target.specs.Replies.{sense_reply, inquiry_reply, capacity_reply, configuration_reply, format_capacities_reply, structure_reply, spares_reply}
 
@@ -100,8 +100,8 @@ spares_told shown = spares_reply (option_map_or (free_primary_count shown.shape)
 -- What stands in the four things after a command, by how it was judged and answered.
 abbrev pub host_after : Host → Option Operation → Result Command Sense → Answer → Host
 host_after host operation (Err why) answer =
-    keeps (record host { attention = attention_after host operation }) answer
-host_after host operation (Ok asked) answer = keeps (done_by asked host) answer
+    with_kept_sense (record host { attention = attention_after host operation }) answer
+host_after host operation (Ok asked) answer = with_kept_sense (done_by asked host) answer
 
 module _ (old new : Shown) (before after : Standing → Type 0) where
   -- nothing was done on the disc

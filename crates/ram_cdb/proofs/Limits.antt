@@ -3,9 +3,10 @@ use Rattle.std.proofs.Common.{rules, arith, ◌≡◌, ℕ, ◌+◌, ◌*◌, �
 use Rattle.std.proofs.lemmas.List.{get_or-drop}
 use Rattle.std.proofs.lemmas.Bool.{ltb-false, le-ltb, eqb-false, eqb-true, not-false}
 use Rattle.byteorder.specs.Numbers.{big_from-lt}
+use Rattle.model_commands.specs.declared.TheConstants.{TRANSFER_LIMIT}
 use Rattle.model_commands.specs.declared.Operation.{Operation}
 use Rattle.model_commands.specs.declared.Operation.TheVariants as operations
-use Rattle.model_commands.specs.Commands.{command, transfer_limit, field}
+use Rattle.model_commands.specs.Commands.{command, field}
 use Rattle.model_commands.specs.Fields.{bits}
 use Rattle.model_modes.specs.Pages.{is_page_code}
 use Rattle.model_drive.specs.declared.Kind.{Kind}
@@ -17,7 +18,7 @@ pub not_short : (long found bytes : ℕ) → found ≡ bytes → found ≤ long 
 not_short long found bytes is fits = le-ltb long bytes (omega (arith, is, fits))
 
 -- what a write takes as its data
-whole : (given n : ℕ) (long few : Bool) → long ≡ false → few ≡ true
+pub whole : (given n : ℕ) (long few : Bool) → long ≡ false → few ≡ true
     → not (given == (if long then 0 else if few then n * 2048 else 0)) ≡ false → given ≡ 2048 * n
 whole given n true few enough fits same = search rules
 whole given n false false enough fits same = search rules
@@ -25,12 +26,12 @@ whole given n false true enough fits same =
     let is = eqb-true given (n * 2048) (not-false (given == n * 2048) same) in omega (arith, is)
 
 -- what is written, by the tests that failed
-written : (given long bytes n : ℕ) → nat_lt long bytes ≡ false → nat_lt transfer_limit n ≡ false
-    → not (given == (if nat_lt long bytes then 0 else if nat_le n transfer_limit then n * 2048 else 0)) ≡ false
-    → (n ≤ transfer_limit) × (given ≡ 2048 * n)
+written : (given long bytes n : ℕ) → nat_lt long bytes ≡ false → nat_lt TRANSFER_LIMIT n ≡ false
+    → not (given == (if nat_lt long bytes then 0 else if nat_le n TRANSFER_LIMIT then n * 2048 else 0)) ≡ false
+    → (n ≤ TRANSFER_LIMIT) × (given ≡ 2048 * n)
 written given long bytes n enough most same =
-    let fits = ltb-false transfer_limit n most in
-    (fits, whole given n (nat_lt long bytes) (nat_le n transfer_limit) enough (search (rules, fits)) same)
+    let fits = ltb-false TRANSFER_LIMIT n most in
+    (fits, whole given n (nat_lt long bytes) (nat_le n TRANSFER_LIMIT) enough (search (rules, fits)) same)
 
 two_bytes : (cdb : List ℕ) (at : ℕ) → ((i : ℕ) → slice_index cdb i < 256) → field at 2 cdb ≤ 65535
 two_bytes cdb at small =
@@ -59,7 +60,7 @@ within_limits operations.StartStopUnit cdb payload small long taken saved given 
 within_limits operations.PreventAllowMediumRemoval cdb payload small long taken saved given = search rules
 within_limits operations.ReadFormatCapacities cdb payload small long taken saved given = search rules
 within_limits operations.ReadCapacity10 cdb payload small long taken saved given = search rules
-within_limits operations.Read10 cdb payload small long taken saved given = ltb-false transfer_limit (field 7 2 cdb) taken
+within_limits operations.Read10 cdb payload small long taken saved given = ltb-false TRANSFER_LIMIT (field 7 2 cdb) taken
 within_limits operations.Write10 cdb payload small long taken saved given =
     written (length payload) (length cdb) 10 (field 7 2 cdb) long taken given
 within_limits operations.WriteAndVerify10 cdb payload small long taken saved given =
@@ -71,7 +72,7 @@ within_limits operations.GetConfiguration cdb payload small long taken saved giv
 within_limits operations.ModeSelect10 cdb payload small long taken saved given = search rules
 within_limits operations.ModeSense10 cdb payload small long taken saved given =
     (below_three (bits 2 6 2 cdb) saved (omega arith), rw (not-false (is_page_code (bits 2 0 6 cdb)) taken) (search rules))
-within_limits operations.Read12 cdb payload small long taken saved given = ltb-false transfer_limit (field 6 4 cdb) taken
+within_limits operations.Read12 cdb payload small long taken saved given = ltb-false TRANSFER_LIMIT (field 6 4 cdb) taken
 within_limits operations.Write12 cdb payload small long taken saved given =
     written (length payload) (length cdb) 12 (field 6 4 cdb) long taken given
 within_limits operations.ReadDvdStructure cdb payload small long taken saved given = search rules

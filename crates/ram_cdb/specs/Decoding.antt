@@ -2,9 +2,10 @@
 -- what a command does.
 use Rattle.std.specs.Prelude.{◌≡◌, ℕ, ◌*◌, ◌<◌, ◌≤◌, Bool, true, false, ◌&&◌, ◌||◌, not, nat_lt, ◌==◌, if◌then◌else◌, IsTrue, ⊤, Option, Some, None, Result, Ok, Err, List, [], ◌∷◌, length, slice_index}
 use Rattle.std.specs.List.{find}
+use Rattle.model_commands.specs.declared.TheConstants.{TRANSFER_LIMIT}
 use Rattle.model_commands.specs.declared.Operation.{Operation}
 use Rattle.model_commands.specs.declared.Operation.TheVariants as operations
-use Rattle.model_commands.specs.Commands.{command, operation_of, length_for, transfer_limit, field}
+use Rattle.model_commands.specs.Commands.{command, operation_of, length_for, field}
 use Rattle.model_commands.specs.Fields.{flag, bits}
 use Rattle.model_modes.specs.Pages.{is_page_code}
 use Rattle.model_drive.specs.declared.Kind.{Kind}
@@ -22,17 +23,21 @@ use Rattle.ram_cdb.specs.declared.commands.Command.TheVariants as commands
 abbrev pub has_refused_field : Operation → List ℕ → Bool
 has_refused_field operations.FormatUnit cdb = not (flag 1 4 cdb) || not (bits 1 0 3 cdb == 1) || not (bits 1 5 3 cdb == 0)
 has_refused_field operations.Inquiry cdb = flag 1 0 cdb
-has_refused_field operations.Read10 cdb = nat_lt transfer_limit (field 7 2 cdb)
-has_refused_field operations.Write10 cdb = nat_lt transfer_limit (field 7 2 cdb)
-has_refused_field operations.WriteAndVerify10 cdb = nat_lt transfer_limit (field 7 2 cdb)
+has_refused_field operations.Read10 cdb = nat_lt TRANSFER_LIMIT (field 7 2 cdb)
+has_refused_field operations.Write10 cdb = nat_lt TRANSFER_LIMIT (field 7 2 cdb)
+has_refused_field operations.WriteAndVerify10 cdb = nat_lt TRANSFER_LIMIT (field 7 2 cdb)
 has_refused_field operations.Verify10 cdb = flag 1 1 cdb
 has_refused_field operations.GetConfiguration cdb = bits 1 0 2 cdb == 3
 has_refused_field operations.ModeSelect10 cdb = not (flag 1 4 cdb) || flag 1 0 cdb
 has_refused_field operations.ModeSense10 cdb = not (is_page_code (bits 2 0 6 cdb))
-has_refused_field operations.Read12 cdb = nat_lt transfer_limit (field 6 4 cdb)
-has_refused_field operations.Write12 cdb = nat_lt transfer_limit (field 6 4 cdb)
+has_refused_field operations.Read12 cdb = nat_lt TRANSFER_LIMIT (field 6 4 cdb)
+has_refused_field operations.Write12 cdb = nat_lt TRANSFER_LIMIT (field 6 4 cdb)
 has_refused_field operations.ReadDvdStructure cdb = not (slice_index cdb 7 == 0x08) && not (slice_index cdb 7 == 0x0a)
 has_refused_field _ cdb = false
+
+-- the command block is too short, or a field has a value that is not taken (this project's own)
+abbrev pub has_bad_field : Operation → (cdb : List ℕ) → Bool
+has_bad_field operation cdb = nat_lt (length cdb) (command operation).bytes || has_refused_field operation cdb
 
 -- the saved values of mode pages are asked for, and none are saved (after INCITS SPC)
 abbrev pub asks_for_saved_values : Operation → List ℕ → Bool
@@ -70,6 +75,7 @@ pub record Refusal : Type 0 where
   pub applies : Bool
   pub why : Sense
 
+-- the reason that applies where this holds, with this sense (this project's own)
 abbrev pub refusal : Bool → Sense → Refusal
 refusal applies why = record { applies = applies; why = why }
 
@@ -77,7 +83,7 @@ refusal applies why = record { applies = applies; why = why }
 -- length of the data, 5/26/00 for a parameter list. (After INCITS MMC and SPC; the order is this project's own.)
 abbrev pub refusals : Operation → (cdb payload : List ℕ) → List Refusal
 refusals operation cdb payload =
-    refusal (nat_lt (length cdb) (command operation).bytes || has_refused_field operation cdb) (sense 0x5 0x24 0x00)
+    refusal (has_bad_field operation cdb) (sense 0x5 0x24 0x00)
     ∷ refusal (asks_for_saved_values operation cdb) (sense 0x5 0x39 0x00)
     ∷ refusal (has_wrong_length operation cdb (length payload)) (sense 0x5 0x1a 0x00)
     ∷ refusal (has_refused_parameters operation payload) (sense 0x5 0x26 0x00)
@@ -134,8 +140,8 @@ decoded cdb payload = decoded_by (operation_of cdb) cdb payload
 -- What holds of a command that is not refused: it moves no more sectors than a command may, those that it writes are its
 -- data, and mode pages and features are asked for as the drive has them. (This project's own.)
 abbrev pub IsWithinLimits : (payload : List ℕ) → Command → Type 0
-IsWithinLimits payload (commands.Read lba n) = n ≤ transfer_limit
-IsWithinLimits payload (commands.Write lba n fua) = (n ≤ transfer_limit) × (length payload ≡ 2048 * n)
+IsWithinLimits payload (commands.Read lba n) = n ≤ TRANSFER_LIMIT
+IsWithinLimits payload (commands.Write lba n fua) = (n ≤ TRANSFER_LIMIT) × (length payload ≡ 2048 * n)
 IsWithinLimits payload (commands.Verify lba n) = n ≤ 65535
 IsWithinLimits payload (commands.Configuration rt start alloc) = rt < 3
 IsWithinLimits payload (commands.ModeSense control page alloc) = (control < 3) × IsTrue (is_page_code page)

@@ -1,17 +1,16 @@
 -- When each reason to refuse a command is the answer: for the law that says so.
-use Rattle.std.specs.Prelude.{ℕ, ◌||◌, nat_lt, IsTrue, List, length}
+use Rattle.std.specs.Prelude.{ℕ, IsTrue, List, length}
 use Rattle.std.specs.Bool.{IsFalse}
 use Rattle.model_commands.specs.declared.Operation.{Operation}
-use Rattle.model_commands.specs.Commands.{command}
-use Rattle.ram_cdb.specs.Decoding.{has_refused_field, asks_for_saved_values, has_wrong_length, has_refused_parameters}
+use Rattle.ram_cdb.specs.Decoding.{has_bad_field, asks_for_saved_values, has_wrong_length, has_refused_parameters}
 
 -- the command block is too short, or a field has a value that is not taken (this project's own, as all here)
 abbrev pub HasBadField : Operation → (cdb : List ℕ) → Type 0
-HasBadField operation cdb = IsTrue (nat_lt (length cdb) (command operation).bytes || has_refused_field operation cdb)
+HasBadField operation cdb = IsTrue (has_bad_field operation cdb)
 
 -- it is not so
 abbrev pub HasGoodFields : Operation → (cdb : List ℕ) → Type 0
-HasGoodFields operation cdb = IsFalse (nat_lt (length cdb) (command operation).bytes || has_refused_field operation cdb)
+HasGoodFields operation cdb = IsFalse (has_bad_field operation cdb)
 
 -- the fields are taken, and saved values are asked for
 abbrev pub AsksForSaved : Operation → (cdb : List ℕ) → Type 0

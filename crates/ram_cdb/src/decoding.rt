@@ -1,7 +1,7 @@
 //! What a command block asks for, or why it is refused.
 ghost use Rattle.std.specs.Prelude.{◌≡◌, ◌+◌, ◌<◌, ◌≤◌, ◌==◌, ◌||◌, not, true, false, length, IfOk};
 ghost use Rattle.std.specs.Bool.{OnFalse};
-ghost use Rattle.model_commands.specs.Commands.{command, field, transfer_limit};
+ghost use Rattle.model_commands.specs.Commands.{command, field};
 ghost use Rattle.model_commands.specs.Fields.{flag, bits};
 ghost use Rattle.model_modes.specs.Pages.{is_page_code};
 ghost use Rattle.model_commands.specs.declared.Operation.TheVariants.{FormatUnit};

@@ -2,9 +2,9 @@
 #![tactic(auto)]
 
 ghost use Rattle.std.specs.Prelude.{◌≡◌, ◌↔◌, ◌*◌, ◌≤◌, length, IsTrue, IsSome, nat_le, if◌then◌else◌};
-ghost use Rattle.model_commands.specs.declared.TheConstants.{DATA_LIMIT};
+ghost use Rattle.model_commands.specs.declared.TheConstants.{DATA_LIMIT, TRANSFER_LIMIT};
 ghost use Rattle.ram_cdb.specs.declared.TheConstants.{FORMAT_LIST_BYTES};
-ghost use Rattle.model_commands.specs.Commands.{command, operation_with, operation_of, out_length_of, transfer_limit, data_length};
+ghost use Rattle.model_commands.specs.Commands.{command, operation_with, operation_of, out_length_of, data_length};
 
 pub mod commands;
 pub mod decoding;
@@ -31,7 +31,7 @@ pub fn known(cdb: &Cdb) -> bool
     operation(cdb.operation_code()).is_some()
 }
 
-/// How many bytes of data the command takes, at most [`DATA_LIMIT`]. None where the operation code is unknown, the
+/// How many bytes of data the command takes, at most [`DATA_LIMIT`]. 0 where the operation code is unknown, the
 /// command block is too short, or more than [`TRANSFER_LIMIT`] sectors would be written.
 pub fn out_length(cdb: &Cdb) -> usize
     ensures exact { result ≡ out_length_of cdb.now }
@@ -129,9 +129,9 @@ pub fn data_bytes(operation: Operation, cdb: &[u8]) -> usize
     }
 }
 
-// How many bytes so many sectors have; none where they are more than a command writes.
+// How many bytes so many sectors have; 0 where they are more than a command writes.
 fn sectors_bytes(count: u32) -> usize
-    ensures exact { result ≡ (if nat_le count transfer_limit then count * 2048 else 0) }
+    ensures exact { result ≡ (if nat_le count TRANSFER_LIMIT then count * 2048 else 0) }
     ensures bound { result ≤ DATA_LIMIT }
 {
     if count <= TRANSFER_LIMIT {

@@ -1,3 +1,5 @@
+//! Tests of the table: which codes are known, and how many bytes of data go with each command block.
+
 use super::{known, out_length};
 use ram_bytes::Cdb;
 use std::test::Fail;

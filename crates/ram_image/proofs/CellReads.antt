@@ -1,5 +1,5 @@
 -- What a read of state bytes found, and one of a good block's data.
-use Rattle.std.specs.Prelude.{◌≡◌, ◌≢◌, ℕ, ◌+◌, ◌-◌, ◌<◌, ◌==◌, if◌then◌else◌, Option, Some, None, IfSome, List, length, take, drop, slice_index, slice_index_or}
+use Rattle.std.specs.Prelude.{◌≡◌, ◌≢◌, ℕ, ◌+◌, ◌-◌, ◌<◌, ◌==◌, if◌then◌else◌, Option, Some, None, IfSome, List, length, take, drop, slice_index, slice_index_or, slice_range}
 use Rattle.std.specs.Option.{ForSome}
 use Rattle.std.proofs.Common.{arith, refl, sym, ap, ◌∙◌, inl, inr, subst, get_or-take, get_or-drop}
 use Rattle.std.proofs.lemmas.Bool.{cases_Bool, cond-true, cond-false, eqb-true}
@@ -40,6 +40,15 @@ row_good at block count states at_is leads None read = tt
 row_good at block count states at_is leads (Some held) read = λ k from to.
     let place : at + (k - block) ≡ 16 + k = omega (arith, at_is, from) in
     ap (slice_index held) (sym place) ∙ sym (byte_read at (k - block) states held (omega (arith, from, to, leads.inside)) read) ∙ leads.good (k - block) (omega (arith, from, to))
+
+-- and they are those at the front of the state bytes that were read
+pub row_leads : (at block most count : ℕ) (states : List ℕ) → at ≡ 16 + block → length states ≡ most → LeadsWithGood states count → (before : Option (List ℕ)) → IfSome before (λ held. states ≡ take (length states) (drop at held))
+    → IfSome before (λ held. LeadsWithGood (slice_range held (state_place block) (state_place block + most)) count)
+row_leads at block most count states at_is long leads None read = tt
+row_leads at block most count states at_is long leads (Some held) read = subst (λ row. LeadsWithGood row count) (read ∙ ap (λ n. take n (drop at held)) many ∙ ap (λ p. take ((16 + block + most) - (16 + block)) (drop p held)) at_is) leads
+  where
+    many : length states ≡ (16 + block + most) - (16 + block)
+    many = omega (arith, long)
 
 -- and where there are none, the first is not
 pub row_not_good : (total at block count : ℕ) (states : List ℕ) → at ≡ 16 + block → 0 < length states → LeadsWithGood states count → (before : Option (List ℕ)) → IfSome before (λ held. states ≡ take (length states) (drop at held))

@@ -51,13 +51,6 @@ module _ (total block : ℕ) (inside : block < total) (bytes : List ℕ) where
       same_where_known (LeavesByFate total block bytes fate) (λ held. cell_in total held block ≡ Dead)
       (λ held d. let is : cell_at (cells_of total held) block ≡ Dead = here held ∙ d in sets_same total block held _ (ap (cut_short fate bytes) is ∙ dead_left fate ∙ sym is)) before after dead e
 
-  pub left_old : (before after : Option (List ℕ)) → after ≡ before → WhereKnown before after (LeavesByFate total block bytes fates.Old)
-  left_old before after e = same_where_known (LeavesByFate total block bytes fates.Old) (λ held. Unit {0}) (λ held p. sets_same total block held _ refl) before after (any before) e
-    where
-      any : (o : Option (List ℕ)) → IfSome o (λ held. Unit {0})
-      any None = tt
-      any (Some held) = tt
-
   -- a block that is not dead
   alive : (old cell : Cell) → ¬ (old ≡ Dead) → unless_dead old cell ≡ cell
   alive Blank cell h = refl

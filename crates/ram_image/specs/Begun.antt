@@ -32,7 +32,15 @@ pub record IsNew {I : Type 0} {d : Ghosts I} (image : I) (shape : Shape) (medium
   pub shape_is : shape_of_medium medium ≡ shape
   pub image_is : medium.image ≡ image
   pub machine : machine_in medium ≡ record {
-    world = record { label = label_of shape; known = is_some (d.bytes image); cells = cells_known (total shape) (d.bytes image); power = false; uses = 0; cuts = 0; faults = d.faults image };
+    world = record {
+      label = label_of shape;
+      known = is_some (d.bytes image);
+      cells = cells_known (total shape) (d.bytes image);
+      power = false;
+      uses = 0;
+      cuts = 0;
+      faults = d.faults image;
+    };
     arms = [];
     cut = None;
   }
@@ -69,28 +77,36 @@ pub record FailsWithin (old new : Machine) (block : ℕ) : Type 0 where
 abbrev pub LookRule : Machine → Machine → (block from to : ℕ) → Looked → Type 0
 LookRule old new block from to looks.Good = (new ≡ old) × (from ≤ block) × (block < to)
 LookRule old new block from to looks.NotGood = (new ≡ old) × (¬ IsGood (cell_at new.world.cells block))
-LookRule old new block from to looks.Failed = FailsWithin old new block × (cell_at new.world.cells block ≡ cell_at old.world.cells block)
+LookRule old new block from to looks.Failed =
+    FailsWithin old new block × (cell_at new.world.cells block ≡ cell_at old.world.cells block)
 
 -- What a read does in a use that had begun and goes on, by its answer. (This project's own.)
 abbrev pub ReadOnRule : Machine → Machine → ℕ → List ℕ → List ℕ → ReadEnd → Type 0
-ReadOnRule old new block into into' reads.Done = (new ≡ old) × OnTrue old.world.known (cell_at new.world.cells block ≡ Good into')
-ReadOnRule old new block into into' reads.Unreadable = (new ≡ old) × (¬ IsGood (cell_at new.world.cells block)) × (into' ≡ into)
+ReadOnRule old new block into into' reads.Done =
+    (new ≡ old) × OnTrue old.world.known (cell_at new.world.cells block ≡ Good into')
+ReadOnRule old new block into into' reads.Unreadable =
+    (new ≡ old) × (¬ IsGood (cell_at new.world.cells block)) × (into' ≡ into)
 ReadOnRule old new block into into' reads.Cut = ⊥
 ReadOnRule old new block into into' reads.Off = ⊥
-ReadOnRule old new block into into' reads.Failed = FailsWithin old new block × (cell_at new.world.cells block ≡ cell_at old.world.cells block) × (into' ≡ into)
+ReadOnRule old new block into into' reads.Failed =
+    FailsWithin old new block
+    × (cell_at new.world.cells block ≡ cell_at old.world.cells block)
+    × (into' ≡ into)
 
 -- What a write of these bytes with this fate makes of the block in a use that had begun, by its answer. (This
 -- project's own.)
 abbrev pub LeaveRule : Machine → Machine → ℕ → List ℕ → Fate → Moved → Type 0
 LeaveRule old new block bytes fate moves.Done = (new ≡ with_cell block (cut_short fate bytes) old)
-LeaveRule old new block bytes fate moves.Failed = FailsWithin old new block × MayLeave (cell_at old.world.cells block) bytes (cell_at new.world.cells block)
+LeaveRule old new block bytes fate moves.Failed =
+    FailsWithin old new block × MayLeave (cell_at old.world.cells block) bytes (cell_at new.world.cells block)
 
 -- What such a write does where the power is cut in it, by its answer. (This project's own.)
 abbrev pub WriteCutRule : Machine → Machine → ℕ → List ℕ → Fate → WriteEnd → Type 0
 WriteCutRule old new block bytes fate writes.Done = ⊥
 WriteCutRule old new block bytes fate writes.Cut = (new ≡ cut_off (with_cell block (cut_short fate bytes) old))
 WriteCutRule old new block bytes fate writes.Off = ⊥
-WriteCutRule old new block bytes fate writes.Failed = FailsWithin old new block × MayLeave (cell_at old.world.cells block) bytes (cell_at new.world.cells block)
+WriteCutRule old new block bytes fate writes.Failed =
+    FailsWithin old new block × MayLeave (cell_at old.world.cells block) bytes (cell_at new.world.cells block)
 
 -- Which bytes the beginning of a use changes, by its answer, where `dies` says whether an arm of the block runs out.
 abbrev pub BeginBytes : Bool → ℕ → Option (List ℕ) → Option (List ℕ) → Begun → Type 0
@@ -100,12 +116,14 @@ BeginBytes dies block before after begins.Failed = WhereKnown before after (MayW
 
 -- Which bytes a write with this fate changes in a use that had begun, by its answer.
 abbrev pub LeaveBytes : ℕ → ℕ → List ℕ → Fate → Option (List ℕ) → Option (List ℕ) → Moved → Type 0
-LeaveBytes total block bytes fate before after moves.Done = WhereKnown before after (λ held held'. held' ≡ bytes_left fate total block bytes held)
+LeaveBytes total block bytes fate before after moves.Done =
+    WhereKnown before after (λ held held'. held' ≡ bytes_left fate total block bytes held)
 LeaveBytes total block bytes fate before after moves.Failed = WhereKnown before after (StopsInBytes total block bytes)
 
 -- The same where the power is cut in it.
 abbrev pub WriteCutBytes : ℕ → ℕ → List ℕ → Fate → Option (List ℕ) → Option (List ℕ) → WriteEnd → Type 0
 WriteCutBytes total block bytes fate before after writes.Done = Unit {0}
-WriteCutBytes total block bytes fate before after writes.Cut = WhereKnown before after (λ held held'. held' ≡ bytes_left fate total block bytes held)
+WriteCutBytes total block bytes fate before after writes.Cut =
+    WhereKnown before after (λ held held'. held' ≡ bytes_left fate total block bytes held)
 WriteCutBytes total block bytes fate before after writes.Off = Unit {0}
 WriteCutBytes total block bytes fate before after writes.Failed = WhereKnown before after (StopsInBytes total block bytes)

@@ -1,5 +1,5 @@
 -- What each call on the cell of one block of an image may do, by its answer: for the functions of `cells`.
-use Rattle.std.specs.Prelude.{◌≡◌, ◌≢◌, ℕ, ◌+◌, ◌<◌, ◌≤◌, Bool, MatchBool, Option, IfSome, List, length, slice_index}
+use Rattle.std.specs.Prelude.{◌≡◌, ◌≢◌, ℕ, ◌+◌, ◌-◌, ◌<◌, ◌≤◌, min, Bool, MatchBool, Option, IfSome, List, length, slice_index, slice_range}
 use Rattle.model_counts.specs.Counts.{Rose}
 use Rattle.model_bytes.specs.Known.{WhereKnown}
 use Rattle.model_medium.specs.Cells.{Cell, Good, Dead, IsGood, cell_at, cut_short}
@@ -25,13 +25,15 @@ pub record CellCall : Type 0 where
   pub faults : ℕ
   pub faults' : ℕ
 
+-- the call on this block of an image of so many, between these bytes and counts
 abbrev pub call_between : ℕ → ℕ → Option (List ℕ) → Option (List ℕ) → ℕ → ℕ → CellCall
 call_between total block before after faults faults' =
     record { total = total; block = block; before = before; after = after; faults = faults; faults' = faults' }
 
 -- the call that made the second image of the first
 abbrev pub cell_call : {I : Type 0} → Images I → ℕ → ℕ → I → I → CellCall
-cell_call images total block old new = call_between total block (images.bytes old) (images.bytes new) (images.faults old) (images.faults new)
+cell_call images total block old new =
+    call_between total block (images.bytes old) (images.bytes new) (images.faults old) (images.faults new)
 
 -- it changed and counted nothing
 abbrev pub ChangesNothing : CellCall → Type 0
@@ -64,16 +66,23 @@ pub record LeadsWithGood (states : List ℕ) (count : ℕ) : Type 0 where
   pub good : (k : ℕ) → k < count → slice_index states k ≡ good_state
   pub next : count < length states → slice_index states count ≢ good_state
 
+-- the state bytes that one look reads, from a block's own on: 64, or those up to the last block's
+abbrev pub states_read : CellCall → List ℕ → List ℕ
+states_read call held =
+    slice_range held (state_place call.block) (state_place call.block + min 64 (call.total - call.block))
+
 -- What a look at the state bytes from a block on may do, by its answer.
 abbrev pub GoodRowRule : CellCall → GoodRow → Type 0
 GoodRowRule call (rows.Blocks count) = ChangesNothing call × (call.block + count ≤ call.total)
     × IfSome call.before (λ held. HaveGoodStates held call.block (call.block + count))
     × IfSome call.before (λ held. count ≡ 0 → ¬ IsGood (cell_in call.total held call.block))
+    × IfSome call.before (λ held. LeadsWithGood (states_read call held) count)
 GoodRowRule call rows.Failed = FailsUnchanged call
 
 -- What a read of a good block's data may do, by its answer; `into` is what the bytes that are read into then hold.
 abbrev pub ReadDataRule : CellCall → List ℕ → Moved → Type 0
-ReadDataRule call into moves.Done = ChangesNothing call × IfSome call.before (λ held. cell_in call.total held call.block ≡ Good into)
+ReadDataRule call into moves.Done =
+    ChangesNothing call × IfSome call.before (λ held. cell_in call.total held call.block ≡ Good into)
 ReadDataRule call into moves.Failed = FailsUnchanged call
 
 -- What a write of a block's cell may do, by its answer.
@@ -83,12 +92,17 @@ WriteCellRule call from moves.Failed = FailsLeaving call (StopsInCell call.total
 
 -- Which bytes it changes.
 abbrev pub WriteCellBytes : CellCall → List ℕ → Moved → Type 0
-WriteCellBytes call from = BytesRule call (λ held held'. held' ≡ with_block call.total call.block from held) (PutsInBlock call.total call.block from)
+WriteCellBytes call from =
+    BytesRule call
+    (λ held held'. held' ≡ with_block call.total call.block from held)
+    (PutsInBlock call.total call.block from)
 
 -- What a read of a block's state byte may do, by its answer.
 abbrev pub ReadStateRule : CellCall → StateRead → Type 0
-ReadStateRule call states.Dead = ChangesNothing call × IfSome call.before (λ held. cell_in call.total held call.block ≡ Dead)
-ReadStateRule call states.Alive = ChangesNothing call × IfSome call.before (λ held. ¬ (cell_in call.total held call.block ≡ Dead))
+ReadStateRule call states.Dead =
+    ChangesNothing call × IfSome call.before (λ held. cell_in call.total held call.block ≡ Dead)
+ReadStateRule call states.Alive =
+    ChangesNothing call × IfSome call.before (λ held. ¬ (cell_in call.total held call.block ≡ Dead))
 ReadStateRule call states.Failed = FailsUnchanged call
 
 -- What a write of a block's state byte may do that makes this cell, by its answer.
@@ -98,16 +112,24 @@ WriteStateRule call cell moves.Failed = FailsLeaving call (StopsInState call.tot
 
 -- Which bytes it changes: the state byte alone, to this one.
 abbrev pub WriteStateBytes : CellCall → ℕ → Moved → Type 0
-WriteStateBytes call state = BytesRule call (λ held held'. held' ≡ with_state call.block state held) (λ held held'. IsBeforeOrAfter held (with_state call.block state held) held')
+WriteStateBytes call state =
+    BytesRule call
+    (λ held held'. held' ≡ with_state call.block state held)
+    (λ held held'. IsBeforeOrAfter held (with_state call.block state held) held')
 
 -- What making a block dead where it is to die may do, by its answer.
 abbrev pub KillWhereRule : CellCall → Bool → Moved → Type 0
-KillWhereRule call dies moves.Done = MatchBool dies (WhereKnown call.before call.after (SetsCell call.total call.block Dead)) (call.after ≡ call.before) × (call.faults' ≡ call.faults)
+KillWhereRule call dies moves.Done =
+    MatchBool dies (WhereKnown call.before call.after (SetsCell call.total call.block Dead)) (call.after ≡ call.before)
+    × (call.faults' ≡ call.faults)
 KillWhereRule call dies moves.Failed = FailsLeaving call (StopsInState call.total call.block Dead)
 
 -- Which bytes it changes.
 abbrev pub KillWhereBytes : CellCall → Bool → Moved → Type 0
-KillWhereBytes call dies = BytesRule call (λ held held'. held' ≡ worn_bytes dies call.block held) (λ held held'. IsBeforeOrAfter held (worn_bytes dies call.block held) held')
+KillWhereBytes call dies =
+    BytesRule call
+    (λ held held'. held' ≡ worn_bytes dies call.block held)
+    (λ held held'. IsBeforeOrAfter held (worn_bytes dies call.block held) held')
 
 -- A write of these bytes to a block was stopped, and the block is dead now if it was.
 pub record StopsInLeaving (total block : ℕ) (bytes before after : List ℕ) : Type 0 where
@@ -116,7 +138,8 @@ pub record StopsInLeaving (total block : ℕ) (bytes before after : List ℕ) : 
 
 -- A write of these bytes to a block that ends by this fate: the block's cell is what the fate leaves of it.
 abbrev pub LeavesByFate : ℕ → ℕ → List ℕ → Fate → List ℕ → List ℕ → Type 0
-LeavesByFate total block bytes fate before after = SetsCell total block (cut_short fate bytes (cell_at (cells_of total before) block)) before after
+LeavesByFate total block bytes fate before after =
+    SetsCell total block (cut_short fate bytes (cell_at (cells_of total before) block)) before after
 
 -- What such a write may do, by its answer.
 abbrev pub LeaveCellRule : CellCall → List ℕ → Fate → Moved → Type 0
@@ -125,4 +148,7 @@ LeaveCellRule call bytes fate moves.Failed = FailsLeaving call (StopsInLeaving c
 
 -- Which bytes it changes.
 abbrev pub LeaveCellBytes : CellCall → List ℕ → Fate → Moved → Type 0
-LeaveCellBytes call bytes fate = BytesRule call (λ held held'. held' ≡ bytes_left fate call.total call.block bytes held) (StopsInBytes call.total call.block bytes)
+LeaveCellBytes call bytes fate =
+    BytesRule call
+    (λ held held'. held' ≡ bytes_left fate call.total call.block bytes held)
+    (StopsInBytes call.total call.block bytes)

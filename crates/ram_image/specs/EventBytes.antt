@@ -32,23 +32,29 @@ ReadBytes dies block before after reads.Failed = WhereKnown before after (MayWea
 
 -- The bytes before and after a write of these data that ends by this fate, behind the arms of its block.
 abbrev pub LeavesBytes : Bool → Fate → ℕ → ℕ → List ℕ → List ℕ → List ℕ → Type 0
-LeavesBytes dies fate total block block_data held held' = held' ≡ bytes_left fate total block block_data (worn_bytes dies block held)
+LeavesBytes dies fate total block block_data held held' =
+    held' ≡ bytes_left fate total block block_data (worn_bytes dies block held)
 
 -- The image failed in a write of these data: nothing changed, or bytes of the block alone, behind its arms.
 abbrev pub MayLeaveBytes : Bool → ℕ → ℕ → List ℕ → List ℕ → List ℕ → Type 0
-MayLeaveBytes dies total block block_data held held' = (held' ≡ held) ⊎ StopsInBytes total block block_data (worn_bytes dies block held) held'
+MayLeaveBytes dies total block block_data held held' =
+    (held' ≡ held) ⊎ StopsInBytes total block block_data (worn_bytes dies block held) held'
 
 -- What a write makes of the bytes, by its answer; `due` is the fate of the cut that is due in it.
 abbrev pub WriteBytes : Bool → Option Fate → ℕ → ℕ → List ℕ → Option (List ℕ) → Option (List ℕ) → WriteEnd → Type 0
-WriteBytes dies due total block block_data before after writes.Done = WhereKnown before after (LeavesBytes dies fates.New total block block_data)
-WriteBytes dies due total block block_data before after writes.Cut = MatchOption due ⊥ (λ fate. WhereKnown before after (LeavesBytes dies fate total block block_data))
+WriteBytes dies due total block block_data before after writes.Done =
+    WhereKnown before after (LeavesBytes dies fates.New total block block_data)
+WriteBytes dies due total block block_data before after writes.Cut =
+    MatchOption due ⊥ (λ fate. WhereKnown before after (LeavesBytes dies fate total block block_data))
 WriteBytes dies due total block block_data before after writes.Off = after ≡ before
-WriteBytes dies due total block block_data before after writes.Failed = WhereKnown before after (MayLeaveBytes dies total block block_data)
+WriteBytes dies due total block block_data before after writes.Failed =
+    WhereKnown before after (MayLeaveBytes dies total block block_data)
 
 -- What an event makes of the bytes of an image of so many blocks.
 abbrev pub BytesAt : Machine → ℕ → Option (List ℕ) → Option (List ℕ) → Event → Type 0
 BytesAt old total before after (Read block into into' how) = ReadBytes (is_killed block old.arms) block before after how
-BytesAt old total before after (Write block block_data how) = WriteBytes (is_killed block old.arms) (fate_due old.cut) total block block_data before after how
+BytesAt old total before after (Write block block_data how) =
+    WriteBytes (is_killed block old.arms) (fate_due old.cut) total block block_data before after how
 BytesAt old total before after PowerOn = after ≡ before
 BytesAt old total before after PowerOff = after ≡ before
 
@@ -56,4 +62,5 @@ BytesAt old total before after PowerOff = after ≡ before
 abbrev pub FailBytes : ℕ → Option (List ℕ) → Option (List ℕ) → FailEnd → Type 0
 FailBytes block before after fails.Done = WhereKnown before after (λ held held'. held' ≡ with_state block dead_state held)
 FailBytes block before after (fails.NoBlock blocks) = after ≡ before
-FailBytes block before after fails.Failed = WhereKnown before after (λ held held'. IsBeforeOrAfter held (with_state block dead_state held) held')
+FailBytes block before after fails.Failed =
+    WhereKnown before after (λ held held'. IsBeforeOrAfter held (with_state block dead_state held) held')

@@ -31,14 +31,20 @@ pub record IsOpened {I : Type 0} {d : Ghosts I} (image : I) (medium : ImageMediu
 
 -- Why an image was not opened. It has the bytes that it had. (This project's own.)
 abbrev pub IsRefused : Option (List ℕ) → Option (List ℕ) → ℕ → ℕ → OpenFault → Type 0
-IsRefused before after faults faults' faulty.Header = IsUnchanged before after faults faults' × IfSome before (λ held. (16 ≤ length held) × ((shape : Shape) → ¬ HasHeader shape held))
+IsRefused before after faults faults' faulty.Header =
+    IsUnchanged before after faults faults'
+    × IfSome before (λ held. (16 ≤ length held) × ((shape : Shape) → ¬ HasHeader shape held))
 IsRefused before after faults faults' (faulty.Length len) = IsUnchanged before after faults faults'
-    × IfSome before (λ held. (len ≡ length held) × ((len < 16) ⊎ ((shape : Shape) × HasHeader shape held × (len ≢ image_len (total shape)))))
+    × IfSome before
+    (λ held. (len ≡ length held) × ((len < 16) ⊎ ((shape : Shape) × HasHeader shape held × (len ≢ image_len (total shape)))))
 IsRefused before after faults faults' faulty.Fault = ImageFails before after faults faults'
 IsRefused before after faults faults' faulty.NoMemory = IsUnchanged before after faults faults'
 
 -- What the start of an image was found to be. (This project's own.)
 abbrev pub HeaderRule : Option (List ℕ) → Option (List ℕ) → ℕ → ℕ → HeaderFound → Type 0
-HeaderRule before after faults faults' (found.Bytes len header) = IsUnchanged before after faults faults' × IfSome after (λ held. (len ≡ length held) × (16 ≤ length held) × (header ≡ take 16 held))
-HeaderRule before after faults faults' (found.Short len) = IsUnchanged before after faults faults' × IfSome before (λ held. (len ≡ length held) × (len < 16))
+HeaderRule before after faults faults' (found.Bytes len header) =
+    IsUnchanged before after faults faults'
+    × IfSome after (λ held. (len ≡ length held) × (16 ≤ length held) × (header ≡ take 16 held))
+HeaderRule before after faults faults' (found.Short len) =
+    IsUnchanged before after faults faults' × IfSome before (λ held. (len ≡ length held) × (len < 16))
 HeaderRule before after faults faults' found.Failed = ImageFails before after faults faults'

@@ -1,7 +1,7 @@
 //! A medium over the bytes of an image: pressing one, opening one that is there, and reading and writing its blocks.
 #![tactic(auto)]
 
-pub mod cells;
+mod cells;
 pub mod header;
 pub mod medium;
 pub mod opening;

@@ -289,7 +289,7 @@ impl<I: Image> ImageMedium<I> {
         }
     }
 
-    /// LeavesByFate the cell of a block as a write of these bytes with this fate does.
+    /// Leaves the cell of a block as a write of these bytes with this fate does.
     fn leave(&mut self, block: u32, from: &Block, fate: Fate) -> Moved
         requires { block < total (shape_of_medium self.old) }
         ensures rule { LeaveRule (machine_in self.old) (machine_in self.new) block from.now fate result }

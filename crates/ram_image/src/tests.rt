@@ -1,3 +1,5 @@
+//! Tests of a disc over an image in memory, step for step beside one in memory alone.
+
 use crate::header::image_len;
 use crate::{ImageMedium, PressOut, open, press};
 use ram_bytes::Block;
@@ -25,6 +27,7 @@ enum Step {
 enum Answer {
     Done,
     Filled(u8),
+    Mixed,
     Unreadable,
     PowerCut,
     PowerOff,
@@ -55,12 +58,21 @@ fn read_into<M: MediumControl>(medium: &mut M, number: u32, block: &mut Block) -
     read_answer(end, block)
 }
 
+/// Which byte the block is full of.
+fn filled(block: &Block) -> Answer {
+    let bytes = block.bytes();
+    let first = bytes[0];
+    if bytes.iter().all(|byte| *byte == first) {
+        Answer::Filled(first)
+    } else {
+        Answer::Mixed
+    }
+}
+
 /// What a read answers that left this block.
 fn read_answer(end: ReadEnd, block: &Block) -> Answer {
     match end {
-        ReadEnd::Done => Answer::Filled(
-            block.bytes()[0] ^ block.bytes()[1] ^ block.bytes()[32_767],
-        ),
+        ReadEnd::Done => filled(block),
         ReadEnd::Unreadable => Answer::Unreadable,
         ReadEnd::Cut => Answer::PowerCut,
         ReadEnd::Off => Answer::PowerOff,

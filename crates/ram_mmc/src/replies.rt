@@ -14,27 +14,27 @@ use ram_sense::codes::{NO_SENSE, POWER_ON_OCCURRED};
 pub const INQUIRY: &[u8] = b"\x05\x80\x00\x02\x1f\x00\x00\x00DVDRAM  SECTOR DRIVE    1.00";
 
 /// Puts a reply into `data_in`, cut to the allocation length, which is in bytes.
-pub fn reply(data_in: &mut Vec<u8>, whole: &[u8], alloc: u32)
+pub fn reply(data_in: &mut Vec<u8>, whole: &[u8], allocation: u32)
     requires empty { data_in.old.items ≡ [] }
     requires room { length whole.now ≤ vec_capacity data_in.old }
-    ensures given { data_in.new.items ≡ take alloc whole.now }
+    ensures given { data_in.new.items ≡ take allocation whole.now }
     ensures room { vec_capacity data_in.old ≤ vec_capacity data_in.new }
 {
     put(data_in, whole);
-    cut(data_in, alloc);
+    cut(data_in, allocation);
 }
 
 /// Puts the data of READ DVD STRUCTURE of format 08h into `data_in`, cut to the allocation length: a header of four bytes,
 /// and the first sector of the block, which has the text of the structure.
-pub fn reply_structure(data_in: &mut Vec<u8>, text: &Block, alloc: u32)
+pub fn reply_structure(data_in: &mut Vec<u8>, text: &Block, allocation: u32)
     requires empty { data_in.old.items ≡ [] }
     requires room { 2052 ≤ vec_capacity data_in.old }
-    ensures given { data_in.new.items ≡ take alloc (structure_reply text.now) }
+    ensures given { data_in.new.items ≡ take allocation (structure_reply text.now) }
     ensures room { vec_capacity data_in.old ≤ vec_capacity data_in.new }
 {
     put(data_in, &[0x08, 0x02, 0, 0]);
     put(data_in, text.sector(0));
-    cut(data_in, alloc);
+    cut(data_in, allocation);
 }
 
 fn put(data_in: &mut Vec<u8>, bytes: &[u8])
@@ -48,11 +48,11 @@ fn put(data_in: &mut Vec<u8>, bytes: &[u8])
     }
 }
 
-fn cut(data_in: &mut Vec<u8>, alloc: u32)
-    ensures given { data_in.new.items ≡ take alloc data_in.old.items }
+fn cut(data_in: &mut Vec<u8>, allocation: u32)
+    ensures given { data_in.new.items ≡ take allocation data_in.old.items }
     ensures room { vec_capacity data_in.new ≡ vec_capacity data_in.old }
 {
-    data_in.truncate(alloc as usize);
+    data_in.truncate(allocation as usize);
 }
 
 /// The sense that REQUEST SENSE gives.

@@ -139,18 +139,110 @@ impl<D: Disc> Target<D> {
             payload,
         );
         let sectors = formatted.unwrap_or(0);
-        let answer = answer(
-            &mut self.disc,
-            &mut self.block,
-            alloc,
-            &self.host,
-            judged,
-            sectors,
-            payload,
-            data_in,
-        );
+        let answer = self.answer(alloc, judged, sectors, payload, data_in);
         self.host = host_after(self.host, operation, judged, answer);
         answer
+    }
+
+    /// Answers a command that was judged so, on a disc of so many sectors, 0 where it is not formatted.
+    fn answer(
+        &mut self,
+        alloc: Global,
+        judged: Result<Command, Sense>,
+        sectors: u32,
+        payload: &[u8],
+        data_in: &mut Vec<u8>,
+    ) -> Answer
+        requires limits { IfOk judged (IsWithinLimits payload.now) }
+        requires on { IsOn (D.shows self.old.disc) }
+        requires formatted { IfOk judged (HasItsFormat (is_some (D.shows self.old.disc).lists)) }
+        requires sectors { sectors ≡ capacity (D.shows self.old.disc) }
+        requires room { 2048 * TRANSFER_LIMIT ≤ vec_capacity data_in.old }
+        ensures rule { IsAnsweredBy (D.shows self.old.disc) (D.shows self.new.disc)
+            (D.stands self.old.disc) (D.stands self.new.disc)
+            self.old.host payload.now judged result data_in.new.items }
+        ensures same_host { self.new.host ≡ self.old.host }
+        ensures same_shape { (D.shows self.new.disc).shape ≡ (D.shows self.old.disc).shape }
+        ensures room { vec_capacity data_in.old ≤ vec_capacity data_in.new }
+    {
+        match judged {
+            Err(why) => {
+                data_in.clear();
+                Answer::Check(why)
+            }
+            Ok(command) => self.do_command(alloc, command, sectors, payload, data_in),
+        }
+    }
+
+    /// Does a command, on a disc of so many sectors, 0 where it is not formatted.
+    fn do_command(
+        &mut self,
+        alloc: Global,
+        command: Command,
+        sectors: u32,
+        payload: &[u8],
+        data_in: &mut Vec<u8>,
+    ) -> Answer
+        requires limits { IsWithinLimits payload.now command }
+        requires on { IsOn (D.shows self.old.disc) }
+        requires formatted { HasItsFormat (is_some (D.shows self.old.disc).lists) command }
+        requires sectors { sectors ≡ capacity (D.shows self.old.disc) }
+        requires room { 2048 * TRANSFER_LIMIT ≤ vec_capacity data_in.old }
+        ensures rule { IsDone (D.shows self.old.disc) (D.shows self.new.disc)
+            (D.stands self.old.disc) (D.stands self.new.disc)
+            self.old.host payload.now command result data_in.new.items }
+        ensures same_host { self.new.host ≡ self.old.host }
+        ensures same_shape { (D.shows self.new.disc).shape ≡ (D.shows self.old.disc).shape }
+        ensures room { vec_capacity data_in.old ≤ vec_capacity data_in.new }
+    {
+        if let Command::Read { lba, n } = command {
+            return read(&mut self.disc, lba, n, data_in);
+        }
+        data_in.clear();
+        match command {
+            Command::Read { .. } => unreachable!(),
+            Command::Write { lba, n, .. } => return write(&mut self.disc, lba, n, payload),
+            Command::Verify { lba, n } => return verify(&mut self.disc, lba, n),
+            Command::Format { kind } => return format(&mut self.disc, alloc, kind),
+            Command::Expand { capacity } => return expand(&mut self.disc, capacity),
+            Command::RequestSense { alloc: allocation } => reply(
+                data_in,
+                &sense_told(&self.host).to_bytes(),
+                allocation,
+            ),
+            Command::Inquiry { alloc: allocation } => reply(data_in, INQUIRY, allocation),
+            Command::ReadCapacity => reply(data_in, &capacity_reply(sectors), 8),
+            Command::FormatCapacities { alloc: allocation } => tell_capacities(
+                &self.disc,
+                self.host.out,
+                allocation,
+                data_in,
+            ),
+            Command::Structure {
+                format,
+                alloc: allocation,
+            } => { tell_structure(&self.disc, &mut self.block, format, allocation, data_in) }
+            Command::Configuration {
+                start: 0,
+                alloc: allocation,
+                ..
+            } => { reply(data_in, &profiles_reply(self.host.out), allocation) }
+            Command::Configuration {
+                alloc: allocation,
+                ..
+            } => { reply(data_in, &no_features_reply(self.host.out), allocation) }
+            Command::ModeSense {
+                control,
+                page,
+                alloc: allocation,
+            } => Modes::new().sense_within(control, page, allocation, data_in),
+            Command::TestUnitReady
+            | Command::StartStop { .. }
+            | Command::Prevent { .. }
+            | Command::Synchronize
+            | Command::ModeSelect => {}
+        }
+        Answer::Good
     }
 }
 
@@ -178,96 +270,6 @@ fn look_at<D: Sectors>(disc: &mut D) -> Look
         ReadOut::Off => Look::Off,
         _ => Look::NotFormatted,
     }
-}
-
-/// Answers a command that was judged so, on a disc of so many sectors, 0 where it is not formatted.
-fn answer<D: Disc>(
-    disc: &mut D,
-    block: &mut Block,
-    alloc: Global,
-    host: &Host,
-    judged: Result<Command, Sense>,
-    sectors: u32,
-    payload: &[u8],
-    data_in: &mut Vec<u8>,
-) -> Answer
-    requires limits { IfOk judged (IsWithinLimits payload.now) }
-    requires on { IsOn (D.shows disc.old) }
-    requires formatted { IfOk judged (HasItsFormat (is_some (D.shows disc.old).lists)) }
-    requires sectors { sectors ≡ capacity (D.shows disc.old) }
-    requires room { 2048 * TRANSFER_LIMIT ≤ vec_capacity data_in.old }
-    ensures rule { IsAnsweredBy (D.shows disc.old) (D.shows disc.new) (D.stands disc.old)
-        (D.stands disc.new) host.now payload.now judged result data_in.new.items }
-    ensures same_shape { (D.shows disc.new).shape ≡ (D.shows disc.old).shape }
-    ensures room { vec_capacity data_in.old ≤ vec_capacity data_in.new }
-{
-    match judged {
-        Err(why) => {
-            data_in.clear();
-            Answer::Check(why)
-        }
-        Ok(command) => do_command(disc, block, alloc, host, command, sectors, payload, data_in),
-    }
-}
-
-/// Does a command, on a disc of so many sectors, 0 where it is not formatted.
-fn do_command<D: Disc>(
-    disc: &mut D,
-    block: &mut Block,
-    alloc: Global,
-    host: &Host,
-    command: Command,
-    sectors: u32,
-    payload: &[u8],
-    data_in: &mut Vec<u8>,
-) -> Answer
-    requires limits { IsWithinLimits payload.now command }
-    requires on { IsOn (D.shows disc.old) }
-    requires formatted { HasItsFormat (is_some (D.shows disc.old).lists) command }
-    requires sectors { sectors ≡ capacity (D.shows disc.old) }
-    requires room { 2048 * TRANSFER_LIMIT ≤ vec_capacity data_in.old }
-    ensures rule { IsDone (D.shows disc.old) (D.shows disc.new) (D.stands disc.old) (D.stands disc.new)
-        host.now payload.now command result data_in.new.items }
-    ensures same_shape { (D.shows disc.new).shape ≡ (D.shows disc.old).shape }
-    ensures room { vec_capacity data_in.old ≤ vec_capacity data_in.new }
-{
-    if let Command::Read { lba, n } = command {
-        return read(disc, lba, n, data_in);
-    }
-    data_in.clear();
-    match command {
-        Command::Read { .. } => unreachable!(),
-        Command::Write { lba, n, .. } => return write(disc, lba, n, payload),
-        Command::Verify { lba, n } => return verify(disc, lba, n),
-        Command::Format { kind } => return format(disc, alloc, kind),
-        Command::Expand { capacity } => return expand(disc, capacity),
-        Command::RequestSense { alloc } => reply(data_in, &sense_told(host).to_bytes(), alloc),
-        Command::Inquiry { alloc } => reply(data_in, INQUIRY, alloc),
-        Command::ReadCapacity => reply(data_in, &capacity_reply(sectors), 8),
-        Command::FormatCapacities { alloc } => tell_capacities(disc, host.out, alloc, data_in),
-        Command::Structure { format, alloc } => {
-            tell_structure(disc, block, format, alloc, data_in)
-        }
-        Command::Configuration {
-            start: 0,
-            alloc,
-            ..
-        } => { reply(data_in, &profiles_reply(host.out), alloc) }
-        Command::Configuration { alloc, .. } => {
-            reply(data_in, &no_features_reply(host.out), alloc)
-        }
-        Command::ModeSense {
-            control,
-            page,
-            alloc,
-        } => Modes::new().sense_within(control, page, alloc, data_in),
-        Command::TestUnitReady
-        | Command::StartStop { .. }
-        | Command::Prevent { .. }
-        | Command::Synchronize
-        | Command::ModeSelect => {}
-    }
-    Answer::Good
 }
 
 /// What is remembered after a command that was judged and answered so.

@@ -13,16 +13,16 @@ use ram_bytes::Block;
 use ram_sectors::Disc;
 
 /// Tells in `data_in` the capacity that the disc has, or that a format gives it, cut to the allocation length.
-pub fn tell_capacities<D: Disc>(disc: &D, out: bool, alloc: u32, data_in: &mut Vec<u8>)
+pub fn tell_capacities<D: Disc>(disc: &D, out: bool, allocation: u32, data_in: &mut Vec<u8>)
     requires on { IsOn (D.shows disc.now) }
     requires empty { data_in.old.items ≡ [] }
     requires room { 2048 * TRANSFER_LIMIT ≤ vec_capacity data_in.old }
-    ensures given { data_in.new.items ≡ take alloc (capacities_told out (D.shows disc.now)) }
+    ensures given { data_in.new.items ≡ take allocation (capacities_told out (D.shows disc.now)) }
     ensures room { vec_capacity data_in.old ≤ vec_capacity data_in.new }
 {
     let counts = disc.counts();
     let whole = format_capacities_reply(out, counts.formatted, counts.capacity, counts.formattable);
-    reply(data_in, &whole, alloc);
+    reply(data_in, &whole, allocation);
 }
 
 /// Tells in `data_in` what the disc says of itself, cut to the allocation length: the structure in use by format 08h, else its
@@ -31,7 +31,7 @@ pub fn tell_structure<D: Disc>(
     disc: &D,
     block: &mut Block,
     format: u8,
-    alloc: u32,
+    allocation: u32,
     data_in: &mut Vec<u8>,
 )
     requires has_disc { HasDisc (D.shows disc.now) }
@@ -39,41 +39,41 @@ pub fn tell_structure<D: Disc>(
     requires room { 2048 * TRANSFER_LIMIT ≤ vec_capacity data_in.old }
     ensures rule { MatchBool (format == 0x08)
         (TellsStructure (D.shows disc.now) (D.shows disc.now) (D.stands disc.now) (D.stands disc.now)
-        alloc answers.Good data_in.new.items)
+        allocation answers.Good data_in.new.items)
         (TellsSpares (D.shows disc.now) (D.shows disc.now) (D.stands disc.now) (D.stands disc.now)
-        alloc answers.Good data_in.new.items) }
+        allocation answers.Good data_in.new.items) }
     ensures room { vec_capacity data_in.old ≤ vec_capacity data_in.new }
 {
     if format == 0x08 {
-        tell_text(disc, block, alloc, data_in);
+        tell_text(disc, block, allocation, data_in);
     } else {
-        tell_spares(disc, alloc, data_in);
+        tell_spares(disc, allocation, data_in);
     }
 }
 
 /// Tells in `data_in` the text of the structure in use, which is put into the block first.
-fn tell_text<D: Disc>(disc: &D, block: &mut Block, alloc: u32, data_in: &mut Vec<u8>)
+fn tell_text<D: Disc>(disc: &D, block: &mut Block, allocation: u32, data_in: &mut Vec<u8>)
     requires has_disc { HasDisc (D.shows disc.now) }
     requires empty { data_in.old.items ≡ [] }
     requires room { 2048 * TRANSFER_LIMIT ≤ vec_capacity data_in.old }
     ensures rule { TellsStructure (D.shows disc.now) (D.shows disc.now) (D.stands disc.now) (D.stands disc.now)
-        alloc answers.Good data_in.new.items }
+        allocation answers.Good data_in.new.items }
     ensures room { vec_capacity data_in.old ≤ vec_capacity data_in.new }
 {
     match disc.dds_block(block) {
-        true => reply_structure(data_in, block, alloc),
+        true => reply_structure(data_in, block, allocation),
         false => unreachable!(),
     }
 }
 
 /// Tells in `data_in` how many spares are free, and how many supplementary ones there are.
-fn tell_spares<D: Disc>(disc: &D, alloc: u32, data_in: &mut Vec<u8>)
+fn tell_spares<D: Disc>(disc: &D, allocation: u32, data_in: &mut Vec<u8>)
     requires empty { data_in.old.items ≡ [] }
     requires room { 2048 * TRANSFER_LIMIT ≤ vec_capacity data_in.old }
-    ensures given { data_in.new.items ≡ take alloc (spares_told (D.shows disc.now)) }
+    ensures given { data_in.new.items ≡ take allocation (spares_told (D.shows disc.now)) }
     ensures room { vec_capacity data_in.old ≤ vec_capacity data_in.new }
 {
     let counts = disc.counts();
     let whole = spares_reply(counts.free_primary, counts.free_supplementary, counts.ssa);
-    reply(data_in, &whole, alloc);
+    reply(data_in, &whole, allocation);
 }

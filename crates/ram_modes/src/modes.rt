@@ -40,16 +40,16 @@ impl Modes {
     }
 
     /// The same, cut to the allocation length, which is in bytes.
-    pub fn sense_within(&self, control: u8, page: u8, alloc: u32, out: &mut Vec<u8>)
+    pub fn sense_within(&self, control: u8, page: u8, allocation: u32, out: &mut Vec<u8>)
         requires control { control < 3 }
         requires page { IsTrue (is_page_code page) }
         requires room { vec_len out.old + 32 ≤ vec_capacity out.old }
-        ensures appended { out.new.items ≡ out.old.items ++ take alloc (mode_data control page) }
+        ensures appended { out.new.items ≡ out.old.items ++ take allocation (mode_data control page) }
         ensures room { vec_capacity out.old ≤ vec_capacity out.new }
     {
         let start = out.len();
         self.sense(control, page, out);
-        out.truncate(start.saturating_add(alloc as usize));
+        out.truncate(start.saturating_add(allocation as usize));
     }
 
     /// Takes the parameter list of MODE SELECT(10). A list that is empty, or names no value that is not in force, is taken;

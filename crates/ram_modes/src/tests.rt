@@ -1,3 +1,5 @@
+//! Tests of the replies of MODE SENSE, and of the lists that MODE SELECT takes.
+
 use super::Modes;
 use ram_sense::codes::INVALID_FIELD_IN_PARAMETERS;
 use std::alloc::{AllocError, Global};

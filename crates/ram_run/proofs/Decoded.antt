@@ -1,16 +1,18 @@
 -- What a command that is to be done is: what its block asks for, with as many data as it writes.
 use Rattle.std.specs.Prelude.{◌≡◌, ℕ, ◌*◌, Bool, true, false, ◌||◌, not, ◌==◌, nat_lt, nat_le, if◌then◌else◌, Option, Some, None, Result, Ok, Err, List, [], ◌∷◌, length}
 use Rattle.std.specs.List.{find}
-use Rattle.std.proofs.Common.{rules, arith, refl, sym, ap, ◌∙◌, subst}
-use Rattle.std.proofs.lemmas.Bool.{ltb-false, eqb-true, not-false}
+use Rattle.std.proofs.Common.{rules, refl, sym, ap, ◌∙◌, subst}
+use Rattle.std.proofs.lemmas.Bool.{ltb-false}
+use Rattle.model_commands.specs.declared.TheConstants.{TRANSFER_LIMIT}
 use Rattle.model_commands.specs.declared.Operation.{Operation}
 use Rattle.model_commands.specs.declared.Operation.TheVariants as operations
-use Rattle.model_commands.specs.Commands.{command, operation_of, transfer_limit, field}
+use Rattle.model_commands.specs.Commands.{command, operation_of, field}
 use Rattle.model_drive.specs.declared.Kind.{Kind}
 use Rattle.ram_sense.specs.Sense.{sense}
 use Rattle.ram_sense.specs.declared.sense.Sense.{Sense}
 use Rattle.ram_cdb.specs.declared.commands.Command.{Command}
 use Rattle.ram_cdb.specs.declared.commands.Command.TheVariants as commands
+use Rattle.ram_cdb.proofs.Limits.{whole}
 use Rattle.ram_cdb.specs.Decoding.{refusal, unless, format_type, format_kind, has_refused_field, asks_for_saved_values, has_wrong_length, has_refused_parameters, meaning, decoded_by, decoded}
 use Rattle.model_target.specs.declared.host.Host.{Host}
 use Rattle.model_target.specs.Host.{is_told}
@@ -46,18 +48,11 @@ abbrev pub HasItsData : (payload : List ℕ) → Command → Type 0
 HasItsData payload (commands.Write lba n fua) = length payload ≡ 2048 * n
 HasItsData payload _ = Unit {0}
 
--- what a write takes as its data
-whole : (given n : ℕ) (long few : Bool) → long ≡ false → few ≡ true → not (given == (if long then 0 else if few then n * 2048 else 0)) ≡ false → given ≡ 2048 * n
-whole given n true few enough fits same = search rules
-whole given n false false enough fits same = search rules
-whole given n false true enough fits same =
-    let is = eqb-true given (n * 2048) (not-false (given == n * 2048) same) in omega (arith, is)
-
 -- what is written, by the tests that failed
-written : (given long bytes n : ℕ) → nat_lt long bytes ≡ false → nat_lt transfer_limit n ≡ false → not (given == (if nat_lt long bytes then 0 else if nat_le n transfer_limit then n * 2048 else 0)) ≡ false
+written : (given long bytes n : ℕ) → nat_lt long bytes ≡ false → nat_lt TRANSFER_LIMIT n ≡ false → not (given == (if nat_lt long bytes then 0 else if nat_le n TRANSFER_LIMIT then n * 2048 else 0)) ≡ false
     → given ≡ 2048 * n
 written given long bytes n enough most same =
-    let fits = ltb-false transfer_limit n most in whole given n (nat_lt long bytes) (nat_le n transfer_limit) enough (search (rules, fits)) same
+    let fits = ltb-false TRANSFER_LIMIT n most in whole given n (nat_lt long bytes) (nat_le n TRANSFER_LIMIT) enough (search (rules, fits)) same
 
 format_data : (payload : List ℕ) (expands : Bool) (capacity : ℕ) (kind : Kind) → HasItsData payload (if expands then commands.Expand capacity else commands.Format kind)
 format_data payload true capacity kind = tt

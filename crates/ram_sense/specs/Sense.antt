@@ -17,7 +17,8 @@ information (Some info) = big_bytes 4 info
 -- follow byte 7, the code and its qualifier in bytes 12 and 13, and zeros. (After INCITS MMC.)
 abbrev pub sense_data : Sense → List ℕ
 sense_data sense =
-    response_code sense.info ∷ 0 ∷ sense.key ∷ [] ++ information sense.info ++ 10 ∷ 0 ∷ 0 ∷ 0 ∷ 0 ∷ sense.asc ∷ sense.ascq ∷ 0 ∷ 0 ∷ 0 ∷ 0 ∷ []
+    response_code sense.info ∷ 0 ∷ sense.key ∷ [] ++ information sense.info
+    ++ 10 ∷ 0 ∷ 0 ∷ 0 ∷ 0 ∷ sense.asc ∷ sense.ascq ∷ 0 ∷ 0 ∷ 0 ∷ 0 ∷ []
 
 -- sense without information: its key, code and qualifier (after INCITS MMC)
 abbrev pub sense : (key asc ascq : ℕ) → Sense

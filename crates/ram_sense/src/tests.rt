@@ -1,3 +1,5 @@
+//! A test of sense data, byte for byte.
+
 use super::codes::{INVALID_OPERATION_CODE, NO_SENSE, no_spare_location, unrecovered_read_error};
 
 #[test]

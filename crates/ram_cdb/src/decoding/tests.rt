@@ -1,3 +1,5 @@
+//! Tests of what command blocks ask for, and why they are refused.
+
 use crate::{Command, Kind, decode};
 use ram_bytes::Cdb;
 use ram_sense::Sense;

@@ -1,6 +1,6 @@
 use Rattle.std.specs.Prelude.{◌≡◌, ◌-◌, min, length}
 use Rattle.std.proofs.Common.{arith, rules}
-use Rattle.ram_image.proofs.CellReads.{row_good, row_not_good}
+use Rattle.ram_image.proofs.CellReads.{row_good, row_leads, row_not_good}
 use Rattle.ram_image.proofs.cells.count_good.Goals as goal
 
 pub returns-in-Done : goal.returns-in-Done
@@ -10,5 +10,7 @@ returns-in-Done g c =
       omega (arith, many, c.leading_good.ensures.inside, c.requires.inside),
       row_good c.state_place.result c.args.block c.leading_good.result c.read_at.new.into c.state_place.ensures c.leading_good.ensures (g.I.Image.bytes c.args.image.now) c.in-Done.ensures.1,
       row_not_good c.args.total c.state_place.result c.args.block c.leading_good.result c.read_at.new.into c.state_place.ensures (omega (arith, many, c.requires.inside)) c.leading_good.ensures
+          (g.I.Image.bytes c.args.image.now) c.in-Done.ensures.1,
+      row_leads c.state_place.result c.args.block (min 64 (c.args.total - c.args.block)) c.leading_good.result c.read_at.new.into c.state_place.ensures many c.leading_good.ensures
           (g.I.Image.bytes c.args.image.now) c.in-Done.ensures.1,
     )
