@@ -59,8 +59,8 @@ module _ {M : Type 0} (world : M → World) (reaches : M → M → ℕ → Type 
       pub spare_has : (world old).known ≡ true
           → IsGood (cell_at (world new).cells (slice_index (free_at shape lists i) tried))
 
-    -- It was stopped: the cells give no lists but those that some place of the block makes, and the disc as it was or the one
-    -- as written fits under them.
+    -- It was stopped: the cells give no lists but those that some place of the block makes, and the disc as it was or the
+    -- one as written fits under them.
     pub record StopsAtBlock (stop : Stop) : Type 0 where
       pub stops : Stops world reaches old new (most_placing_uses shape lists i) stop
       pub given : (world old).known ≡ true → (other : Lists) → IsGiven shape (world new).cells other

@@ -22,13 +22,13 @@ use Rattle.model_drive.specs.Repairs.{sdl_update_uses}
 abbrev pub ssa_for : Shape → (sectors : ℕ) → ℕ
 ssa_for shape sectors = length (data_blocks shape) - shape.psa - sectors / 16
 
--- The disc may be cut to so many sectors: some whole blocks, no more than it has, and no more spares in all than a disc
--- may have.
-pub record IsLawfulSize (shown : Shown) (sectors : ℕ) : Type 0 where
+-- A disc that has so many sectors at present may be cut to these: some whole blocks, no more than it has, and no more spares
+-- in all than a disc may have.
+pub record IsLawfulSize (shape : Shape) (present sectors : ℕ) : Type 0 where
   pub some : 0 < sectors
   pub whole : sectors % 16 ≡ 0
-  pub fewer : sectors ≤ capacity shown
-  pub most : shown.shape.psa + ssa_for shown.shape sectors ≤ MOST_SPARES
+  pub fewer : sectors ≤ present
+  pub most : shape.psa + ssa_for shape sectors ≤ MOST_SPARES
 
 -- no cell changed but those of the secondary list
 abbrev pub OnlySdl : Shown → Shown → Type 0
@@ -39,7 +39,7 @@ OnlySdl old new = (block : ℕ) → ((area : ℕ) → IsArea area → block ≢ 
 pub record ExpandsAny (old new : Shown) (sectors : ℕ) (lists : Lists) : Type 0 where
   pub was_on : IsOn old
   pub in_use : old.lists ≡ Some lists
-  pub lawful : IsLawfulSize old sectors
+  pub lawful : IsLawfulSize old.shape (capacity old) sectors
   pub only : OnlySdl old new
 
 -- the disc has so many sectors already, and the lists stay as they are
@@ -67,7 +67,7 @@ pub record Grows (old new : Shown) (sectors : ℕ) : Type 0 where
 pub record RefusesSize (old new : Shown) (sectors known : ℕ) : Type 0 where
   pub was_on : IsOn old
   pub formatted : IsFormatted old
-  pub unlawful : ¬ IsLawfulSize old sectors
+  pub unlawful : ¬ IsLawfulSize old.shape (capacity old) sectors
   pub known_is : known ≡ capacity old
   pub nothing : new ≡ old
 
@@ -128,7 +128,7 @@ pub record CanExpand (old new : Shown) (sectors : ℕ) : Type 0 where
   pub on : IsOn old
   pub formatted : IsFormatted old
   pub none_counted : NoneCounted old new
-  pub lawful : IsLawfulSize old sectors
+  pub lawful : IsLawfulSize old.shape (capacity old) sectors
   pub can : (sectors ≡ capacity old)
       ⊎ (¬ HasLostSdl new × ((lists : Lists) → old.lists ≡ Some lists → lists.sdl.counter < LAST_COUNTER))
 

@@ -21,7 +21,10 @@ abbrev pub opened_drive : Shape → List Cell → (faults : ℕ) → Shown
 opened_drive shape cells faults = record {
   shape = shape;
   medium = record {
-    world = record { label = label_of shape; known = true; cells = cells; power = false; uses = 0; cuts = 0; faults = faults };
+    world = record {
+      label = label_of shape; known = true; cells = cells;
+      power = false; uses = 0; cuts = 0; faults = faults;
+    };
     arms = [];
     cut = None;
   };

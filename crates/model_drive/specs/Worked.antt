@@ -11,7 +11,10 @@ abbrev pub small_drive : List Cell → Option Lists → (mark uses : ℕ) → Sh
 small_drive cells lists mark uses = record {
   shape = small_shape;
   medium = record {
-    world = record { label = label_of small_shape; known = true; cells = cells; power = true; uses = uses; cuts = 0; faults = 0 };
+    world = record {
+      label = label_of small_shape; known = true; cells = cells;
+      power = true; uses = uses; cuts = 0; faults = 0;
+    };
     arms = [];
     cut = None;
   };

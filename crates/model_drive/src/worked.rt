@@ -56,7 +56,10 @@ pub fn worked_write()
 /// so is a part of a block.
 pub fn worked_expansion_sizes()
     ensures area { ssa_for small_shape 240 ≡ 4 }
-    ensures lawful { (cells : List Cell) → IsLawfulSize (small_drive cells (Some lists_before) 2 0) 240 }
-    ensures too_many { (cells : List Cell) → ¬ IsLawfulSize (small_drive cells (Some lists_before) 2 0) 320 }
-    ensures not_whole { (cells : List Cell) → ¬ IsLawfulSize (small_drive cells (Some lists_before) 2 0) 241 }
+    ensures lawful { (cells : List Cell) → IsLawfulSize small_shape
+        (capacity (small_drive cells (Some lists_before) 2 0)) 240 }
+    ensures too_many { (cells : List Cell) → ¬ IsLawfulSize small_shape
+        (capacity (small_drive cells (Some lists_before) 2 0)) 320 }
+    ensures not_whole { (cells : List Cell) → ¬ IsLawfulSize small_shape
+        (capacity (small_drive cells (Some lists_before) 2 0)) 241 }
 {}

@@ -1,5 +1,5 @@
 -- The lists of a disc that was just formatted are valid, and the disc of zeros fits under them.
-use Rattle.std.specs.Prelude.{◌≡◌, ℕ, ◌+◌, ◌-◌, ◌*◌, ◌<◌, ◌≤◌, ◌⊎◌, not, true, nat_eq, List, [], length, take, drop, replicate}
+use Rattle.std.specs.Prelude.{◌≡◌, ℕ, ◌+◌, ◌-◌, ◌*◌, ◌<◌, ◌≤◌, ◌⊎◌, not, nat_eq, List, [], length, take, drop, replicate}
 use Rattle.std.proofs.Common.{refl, sym, ap, ◌∙◌, inl, inr, subst, arith}
 use Rattle.std.specs.List.{All, Contains, IsDistinct}
 use Rattle.std.specs.List.Sorted.{IsStrictlyIncreasing}
@@ -12,7 +12,7 @@ use Rattle.model_medium.specs.Cells.{Cell, Good, Dead, IsGood, cell_at}
 use Rattle.model_sectors.specs.Discs.{Agrees, block_of, zeros}
 use Rattle.model_sectors.proofs.Fitting.{agrees_not_good, length-zeros}
 use Rattle.model_places.specs.Places.{is_listed, unslipped, logical_block, logical_count}
-use Rattle.model_places.specs.Valid.{IsValidPdl, AreValid}
+use Rattle.model_places.specs.Valid.{AreValid}
 use Rattle.model_places.proofs.Listed.{Contains-from_filter, Decides-is_listed, listed-All}
 use Rattle.model_places.proofs.Pools.{logical_is_unslipped, unslipped_are_data}
 use Rattle.model_volume.specs.Covers.{FitsUnder}

@@ -1,6 +1,6 @@
 -- The mark after each phase of a full format.
-use Rattle.std.specs.Prelude.{◌≡◌, ℕ, ◌+◌, ◌≤◌, List}
-use Rattle.std.proofs.Common.{refl, sym, ap, subst, arith}
+use Rattle.std.specs.Prelude.{◌≡◌, ℕ, ◌+◌, List}
+use Rattle.std.proofs.Common.{ap, subst, arith}
 use Rattle.model_geometry.specs.Geometry.{Shape, dds_block, sdl_block}
 use Rattle.model_lists.specs.Values.{Dds, Sdl}
 use Rattle.model_lists.specs.Texts.{IsDdsText, IsSdlText}

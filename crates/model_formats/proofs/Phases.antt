@@ -1,18 +1,17 @@
 -- Which lists are given while a disc is formatted, wherever that is stopped.
-use Rattle.std.specs.Prelude.{◌≡◌, ◌≢◌, ℕ, ◌⊎◌, List, [], ◌∷◌}
-use Rattle.std.proofs.Common.{refl, sym, ap, ◌∙◌, inl, inr, subst}
+use Rattle.std.specs.Prelude.{◌≡◌, ℕ, ◌⊎◌, List, [], ◌∷◌}
+use Rattle.std.proofs.Common.{sym, ap, ◌∙◌, inl, inr, subst}
 use Rattle.std.specs.List.{Contains}
 use Rattle.model_geometry.specs.Geometry.{Shape, data_blocks, dds_block, sdl_block}
-use Rattle.model_geometry.proofs.ListBlocks.{no_data_block_dds, no_data_block_sdl}
 use Rattle.model_lists.specs.declared.dds.DdsState.TheVariants.{Formatting, Formatted}
 use Rattle.model_lists.specs.declared.dds.PdlEntry.{PdlEntry}
-use Rattle.model_lists.specs.Values.{Dds, Sdl}
+use Rattle.model_lists.specs.Values.{Dds}
 use Rattle.model_lists.specs.Texts.{IsDdsText, IsSdlText}
 use Rattle.model_lists.proofs.DdsTexts as dds_texts
 use Rattle.model_lists.proofs.SdlTexts as sdl_texts
-use Rattle.model_medium.specs.Cells.{Cell, Dead, cell_at}
+use Rattle.model_medium.specs.Cells.{Cell, cell_at}
 use Rattle.model_sectors.specs.Discs.{Agrees, block_of}
-use Rattle.model_copies.specs.Copies.{IsArea, Holds, MayHold, HasCopy, HasDdsCopy, Settled, AllLost}
+use Rattle.model_copies.specs.Copies.{IsArea, Holds, MayHold, HasDdsCopy, Settled, AllLost}
 use Rattle.model_copies.proofs.CopyFacts.{OneValue, one_held, copy_settled}
 use Rattle.model_places.specs.Places.{Lists, home_of}
 use Rattle.model_places.specs.Valid.{AreValid}

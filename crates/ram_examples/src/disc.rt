@@ -13,6 +13,12 @@ use ram_medium::{Medium, MemMedium, ReadEnd, WriteEnd};
 use ram_zones::{Geometry, ListKind};
 use std::alloc::{AllocError, Global};
 
+/// The blocks of the structure of the example disc, in areas 1 to 4.
+pub const DDS_BLOCKS: [u32; 4] = [0, 2, 33, 35];
+
+/// The blocks of its secondary list, in areas 1 to 4.
+pub const SDL_BLOCKS: [u32; 4] = [1, 3, 34, 36];
+
 /// A disc of 41 blocks: one zone of scale 1, with four primary spares.
 #[derive(Drop)]
 pub struct ExampleDisc {

@@ -3,6 +3,10 @@
 
 mod disc;
 mod lists;
+mod says;
+mod trying;
 
-pub use disc::ExampleDisc;
+pub use disc::{DDS_BLOCKS, ExampleDisc, SDL_BLOCKS};
 pub use lists::{dds_text, empty_sdl, formatted_dds, sdl_text};
+pub use says::Says;
+pub use trying::{Before, FATES, prepare};

@@ -1,16 +1,12 @@
 -- How the secondary list of an expansion is made, entry after entry.
-use Rattle.std.proofs.Common.{◌≡◌, ℕ, zero, suc, ◌+◌, ◌<◌, ◌≤◌, true, false, List, [], ◌∷◌, ◌++◌, map, length, get_or, take, drop, set, refl, sym, ap, ◌∙◌, inl, inr, subst, arith}
-use Rattle.std.specs.List.{Contains}
+use Rattle.std.proofs.Common.{◌≡◌, ℕ, zero, suc, ◌+◌, ◌<◌, true, false, List, [], ◌∷◌, ◌++◌, map, length, get_or, take, drop, set, refl, sym, ap, ◌∙◌, inl, inr, subst, arith}
 use Rattle.std.specs.List.Sorted.{IsStrictlyIncreasing}
 use Rattle.std.proofs.lemmas.Bool.{cases_Bool, cond-true, cond-false}
-use Rattle.std.proofs.lemmas.List.Elements.{Contains-get_or}
 use Rattle.model_geometry.specs.Geometry.{Shape}
 use Rattle.model_lists.specs.declared.sdl.SdlEntry.{SdlEntry}
 use Rattle.model_lists.specs.Values.{Dds, Sdl, defectives, with_entry, retired}
 use Rattle.model_places.specs.Places.{Lists, unreplaced, is_listed, spares}
-use Rattle.model_places.proofs.Entries.{Contains-defectives}
 use Rattle.model_volume.specs.Expansions.{entry_expanded, lists_expanded}
-use Rattle.ram_sdl.specs.EntriesAndRoom.{EntriesAndRoom, HasRoomFor}
 use Rattle.ram_sdl.proofs.Gaps.{defective_at, set_there}
 
 module _ (shape : Shape) (dds : Dds) (ssa : ℕ) where
@@ -46,13 +42,6 @@ module _ (shape : Shape) (dds : Dds) (ssa : ℕ) where
   keep_next zero (e ∷ es) d h same = ap (λ (x : SdlEntry). x ∷ es) (sym same)
   keep_next (suc k) (e ∷ es) d h same = ap (λ (xs : List SdlEntry). entry_expanded shape dds ssa e ∷ xs) (keep_next k es d (omega (arith, h)) same)
 
-  -- all
-  pub until_end : (k : ℕ) (es : List SdlEntry) → length es ≤ k → expanded_until k es ≡ map (entry_expanded shape dds ssa) es
-  until_end zero [] h = refl
-  until_end (suc k) [] h = refl
-  until_end zero (e ∷ es) h = absurd (omega (arith, h))
-  until_end (suc k) (e ∷ es) h = ap (λ (xs : List SdlEntry). entry_expanded shape dds ssa e ∷ xs) (until_end k es (omega (arith, h)))
-
   -- ---- one turn
 
   module _ (es : List SdlEntry) (rise : IsStrictlyIncreasing (defectives es)) (k : ℕ) where
@@ -60,9 +49,6 @@ module _ (shape : Shape) (dds : Dds) (ssa : ℕ) where
     until_rises held is = subst IsStrictlyIncreasing (sym (ap defectives is ∙ same_blocks k es)) rise
 
     module _ (d : SdlEntry) (inside : k < length es) where
-      pub until_has : (held : EntriesAndRoom) → held.list ≡ expanded_until k es → HasRoomFor (get_or es k d).defective held
-      until_has held is = inr (subst (λ (bs : List ℕ). Contains bs (get_or es k d).defective) (sym (ap defectives is ∙ same_blocks k es)) (Contains-defectives es (get_or es k d) (Contains-get_or es k d inside)))
-
       pub turn_spare : is_listed (spares shape (unreplaced dds ssa)) (get_or es k d).defective ≡ true → with_entry (retired (get_or es k d).defective) (expanded_until k es) ≡ expanded_until (k + 1) es
       turn_spare spare =
           let e = get_or es k d in

@@ -4,19 +4,18 @@ use Rattle.std.proofs.Common.{refl, sym, ap, inl, subst, arith, eqb, take}
 use Rattle.std.proofs.lemmas.Bool.{cond-false, ne_eqb}
 use Rattle.model_geometry.specs.Geometry.{Shape, dds_block, sdl_block}
 use Rattle.model_lists.specs.Texts.{IsDdsText, IsSdlText}
-use Rattle.model_medium.specs.Cells.{Cell, cell_at}
+use Rattle.model_medium.specs.Cells.{cell_at}
 use Rattle.model_medium.specs.World.{World}
 use Rattle.model_stops.specs.declared.Stop.{Stop}
-use Rattle.model_copies.specs.Copies.{HoldsOrDead, Settled, AreBetween}
+use Rattle.model_copies.specs.Copies.{Settled, AreBetween}
 use Rattle.model_copies.proofs.CopyFacts.{between_left}
 use Rattle.model_places.specs.Places.{Lists, logical_count}
 use Rattle.model_places.specs.Valid.{IsValidSsa, AreValid}
-use Rattle.model_volume.specs.Given.{AreSettled, IsListBlock, OnlyLists}
+use Rattle.model_volume.specs.Given.{AreSettled, OnlyLists}
 use Rattle.model_volume.specs.Covers.{FitsUnder, Cover}
 use Rattle.model_volume.specs.Expansions.{disc_cut}
 use Rattle.model_volume.proofs.GivenFacts.{pair_between}
-use Rattle.model_volume.proofs.ListCells.{sdl_listed, fits_still}
-use Rattle.model_volume.proofs.Updates.{dds_no_sdl}
+use Rattle.model_volume.proofs.ListCells.{fits_still}
 use Rattle.model_volume.proofs.Expanding.{expanded_valid, cut_fits, expand_covers}
 use Rattle.model_drive.specs.declared.TheConstants.{LAST_COUNTER}
 use Rattle.model_drive.specs.Expands.{ssa_for, shortened}
@@ -26,6 +25,7 @@ use Rattle.ram_zones.specs.declared.list_kind.ListKind.TheVariants as kinds
 use Rattle.ram_copies.specs.Values.{SdlValue}
 use Rattle.ram_copies.specs.Calls.{ChangesCopiesAlone, CallEnds, StoppedWithin, Keeps, LeavesNone, MayLeaveCopies}
 use Rattle.ram_copies.proofs.EachList.{sdl_settled, sdl_may_hold}
+use Rattle.ram_lists.proofs.MountSteps.{settled_same, sdl_only, dds_stay}
 use Rattle.ram_replace.proofs.Placing.{settled_either, lost_settled}
 use Rattle.ram_expand.specs.Sizes.{IsSmaller}
 use Rattle.ram_expand.specs.Expanding.{lists_grown, HasGrown, LacksUpdate, StopsGrowing}
@@ -53,10 +53,10 @@ module _ {M : Type 0} (world : M → World) (block_count : M → ℕ) (reaches :
 
     module _ (new : M) (alone : ChangesCopiesAlone world reaches kinds.Sdl shape old new) where
       only_lists : OnlyLists shape (world old).cells (world new).cells
-      only_lists block away = alone.others block (λ at is same. away (subst (IsListBlock shape) (sym same) (sdl_listed shape at is)))
+      only_lists = sdl_only world reaches shape old new alone
 
       dds_kept : Settled IsDdsText (dds_block shape) (world new).cells lists.dds
-      dds_kept at is = subst (λ (c : Cell). HoldsOrDead IsDdsText c lists.dds) (sym (alone.others (dds_block shape at) (λ other its same. dds_no_sdl shape at other same))) (settled.dds at is)
+      dds_kept = settled_same IsDdsText (dds_block shape) (world old).cells (world new).cells (dds_stay world reaches shape old new alone) lists.dds settled.dds
 
       fits_now : (disc : List ℕ) → FitsUnder shape (world old).cells lists disc → FitsUnder shape (world new).cells lists disc
       fits_now disc fits = fits_still shape (world old).cells (world new).cells only_lists lists disc valid fits

@@ -5,16 +5,16 @@ use Rattle.model_medium.specs.World.{World}
 use Rattle.model_stops.specs.declared.Stop.{Stop}
 use Rattle.model_stops.specs.declared.Stop.TheVariants as stops
 use Rattle.model_copies.specs.Copies.{AllLost}
-use Rattle.model_places.specs.Places.{Lists}
+use Rattle.model_places.specs.Places.{Lists, capacity_of}
 use Rattle.model_volume.specs.Given.{AreSettled, IsGiven}
 use Rattle.model_volume.specs.Covers.{FitsUnder, Cover}
 use Rattle.model_volume.specs.Expansions.{lists_expanded}
 use Rattle.model_drive.specs.declared.TheConstants.{LAST_COUNTER}
 use Rattle.model_drive.specs.Repairs.{sdl_update_uses}
-use Rattle.model_drive.specs.Expands.{ssa_for, shortened}
+use Rattle.model_drive.specs.Expands.{IsLawfulSize, ssa_for, shortened}
 use Rattle.ram_zones.specs.declared.list_kind.ListKind.TheVariants as kinds
 use Rattle.ram_copies.specs.Calls.{CallEnds, StoppedWithin}
-use Rattle.ram_expand.specs.Sizes.{IsLawfulCapacity, IsPresent, IsSmaller}
+use Rattle.ram_expand.specs.Sizes.{IsPresent, IsSmaller}
 use Rattle.ram_expand.specs.declared.expanding.ExpandEnd.{ExpandEnd}
 use Rattle.ram_expand.specs.declared.expanding.ExpandEnd.TheVariants as ends
 
@@ -22,8 +22,8 @@ use Rattle.ram_expand.specs.declared.expanding.ExpandEnd.TheVariants as ends
 abbrev pub lists_grown : Shape → Lists → (capacity : ℕ) → Lists
 lists_grown shape lists capacity = lists_expanded shape lists (ssa_for shape capacity)
 
-module _ {M : Type 0} (world : M → World) (reaches : M → M → ℕ → Type 0) (shape : Shape) (old new : M) (lists : Lists) (capacity : ℕ)
-    (lists' : Lists) where
+module _ {M : Type 0} (world : M → World) (reaches : M → M → ℕ → Type 0)
+    (shape : Shape) (old new : M) (lists : Lists) (capacity : ℕ) (lists' : Lists) where
   -- nothing was done, and the lists are as before
   pub record DoesNothing : Type 0 where
     pub nothing : new ≡ old
@@ -38,7 +38,7 @@ module _ {M : Type 0} (world : M → World) (reaches : M → M → ℕ → Type 
   -- The power was on, and the disc cannot have the capacity.
   pub record RefusesCapacity : Type 0 where
     pub was_on : IsTrue (world old).power
-    pub unlawful : ¬ IsLawfulCapacity shape lists capacity
+    pub unlawful : ¬ IsLawfulSize shape (capacity_of shape lists) capacity
     pub does : DoesNothing
 
   -- The area has grown: the lists are the new ones, each of their copies is exactly its text or dead, and one of the
@@ -59,7 +59,8 @@ module _ {M : Type 0} (world : M → World) (reaches : M → M → ℕ → Type 
     pub size : IsSmaller shape lists capacity
     pub counter_is : counter ≡ lists.sdl.counter
     pub cause : AllLost (sdl_block shape) (world new).cells ⊎ (counter ≡ LAST_COUNTER)
-    pub ended : CallEnds world reaches kinds.Sdl shape old new (if counter == LAST_COUNTER then 0 else sdl_update_uses lists.sdl)
+    pub ended :
+        CallEnds world reaches kinds.Sdl shape old new (if counter == LAST_COUNTER then 0 else sdl_update_uses lists.sdl)
     pub same : lists' ≡ lists
     pub settled : AreSettled shape (world new).cells lists
     pub keeps : (disc : List ℕ) → FitsUnder shape (world old).cells lists disc

@@ -1,84 +1,26 @@
 ghost use Rattle.std.specs.Prelude.{◌≡◌, ◌≤◌, vec_len};
 ghost use Rattle.model_geometry.specs.Geometry.{total};
-ghost use Rattle.ram_medium.specs.Memory.{mem_world};
 
 use super::*;
 use ram_bytes::Block;
 use ram_copies::Scratch;
-use ram_examples::{dds_text, empty_sdl, sdl_text};
+use ram_examples::{
+    Before, DDS_BLOCKS, ExampleDisc, FATES, SDL_BLOCKS, Says, dds_text, empty_sdl, prepare,
+    sdl_text,
+};
 use ram_lists::{Mounted, home, mount};
 use ram_medium::{Fate, Medium, MediumControl, MemMedium, ReadEnd};
 use ram_replace::{Placed, write_home};
-use ram_sdl::{MOST_SPARES, Sdl};
+use ram_sdl::MOST_SPARES;
 use ram_zones::Geometry;
 use std::alloc::{AllocError, Global};
 use std::test::Fail;
-
-/// The blocks of the structure in areas 1 to 4.
-const DDS_BLOCKS: [u32; 4] = [0, 2, 33, 35];
-
-/// The blocks of the secondary list in areas 1 to 4.
-const SDL_BLOCKS: [u32; 4] = [1, 3, 34, 36];
 
 /// The capacity of the disc in sectors, of nineteen logical blocks in blocks 13 to 31.
 const PRESENT: u32 = 304;
 
 /// Two blocks less: blocks 30 and 31 are spares then.
 const SMALLER: u32 = 272;
-
-const FATES: [Fate; 3] = [Fate::Old, Fate::New, Fate::Torn];
-
-/// What a secondary list says: its counter, the size of the supplementary spare area, and of each entry the block and its
-/// replacement, or 0 where it has none.
-#[derive(Clone, Copy, Debug, PartialEq, Eq)]
-struct Says {
-    counter: u32,
-    ssa: u32,
-    entries: [(u32, u32); 5],
-}
-
-impl Says {
-    fn new(counter: u32, ssa: u32, wanted: &[(u32, u32)]) -> Says {
-        let mut entries = [(0, 0); 5];
-        for (place, entry) in entries.iter_mut().zip(wanted) {
-            *place = *entry;
-        }
-        Says {
-            counter,
-            ssa,
-            entries,
-        }
-    }
-
-    fn of(list: &Sdl) -> Says {
-        let mut entries = [(0, 0); 5];
-        for (place, entry) in entries.iter_mut().zip(list.entries.as_slice()) {
-            *place = (entry.defective, entry.replacement.unwrap_or(0));
-        }
-        Says {
-            counter: list.counter,
-            ssa: list.ssa,
-            entries,
-        }
-    }
-}
-
-/// What comes between a mount and an expansion: a cut is armed at a later use, or the power is turned off.
-#[derive(Clone, Copy)]
-enum Before {
-    Cut(u32, Fate),
-    Off,
-}
-
-fn prepare(medium: &mut MemMedium, before: Before)
-    ensures cells { (mem_world medium.new).cells ≡ (mem_world medium.old).cells }
-    ensures as_many { vec_len medium.new.slots ≡ vec_len medium.old.slots }
-{
-    match before {
-        Before::Cut(k, fate) => medium.arm_cut(k.max(1), fate),
-        Before::Off => medium.power_off(),
-    }
-}
 
 /// Mounts a disc that has lists, and expands its spares. How it ended, and what the list in memory says then.
 fn mount_and_expand(
@@ -142,11 +84,7 @@ struct Disc {
 impl Disc {
     /// A disc with a secondary list of this counter that has no entry, with these blocks dead, and the power on.
     fn new(alloc: Global, counter: u32, failed: &[u32]) -> Result<Disc, Fail> {
-        let Ok(geometry) = Geometry::new(1, 1, 4) else {
-            return Err(Fail::from("no geometry"));
-        };
-        let mut medium = MemMedium::new(alloc, 41, Vec::new(alloc))?;
-        medium.power_on();
+        let ExampleDisc { medium, geometry } = ExampleDisc::blank(alloc, Vec::new(alloc))?;
         let mut disc = Disc {
             medium,
             geometry,

@@ -1,11 +1,11 @@
 -- From the blocks that a certification found to the entries of the new primary list.
-use Rattle.std.specs.Prelude.{◌≡◌, ◌≢◌, ℕ, zero, suc, ◌+◌, ◌-◌, ◌<◌, ◌≤◌, ◌⊎◌, true, List, [], length, take, slice_index, get_or, map}
+use Rattle.std.specs.Prelude.{◌≡◌, ℕ, zero, suc, ◌+◌, ◌-◌, ◌<◌, ◌≤◌, ◌⊎◌, List, [], length, slice_index, get_or}
 use Rattle.std.proofs.Common.{refl, sym, ap, ◌∙◌, inl, inr, subst, arith}
 use Rattle.std.specs.List.{All, Contains}
 use Rattle.std.specs.List.Sorted.{IsStrictlyIncreasing}
 use Rattle.std.proofs.lemmas.Bool.{cases_eq, cases_lt}
-use Rattle.std.proofs.lemmas.List.{get_or_default, get_or-map, length-map, length-take, take_all}
-use Rattle.std.proofs.lemmas.List.Elements.{Contains-get_or, All-contains}
+use Rattle.std.proofs.lemmas.List.{get_or_default, get_or-map, length-map, take_all}
+use Rattle.std.proofs.lemmas.List.Elements.{Contains-get_or}
 use Rattle.std.proofs.lemmas.List.Kept.{AllPairs-from_increasing}
 use Rattle.model_geometry.specs.Geometry.{Shape, IsLawful, data_blocks}
 use Rattle.model_geometry.proofs.DataBlocks.{data_blocks_rise, length-data_blocks}
@@ -14,8 +14,8 @@ use Rattle.model_lists.specs.declared.dds.PdlEntry.{PdlEntry}
 use Rattle.model_lists.specs.declared.dds.PdlKind.{PdlKind}
 use Rattle.model_lists.specs.Values.{pdl_blocks}
 use Rattle.model_medium.specs.World.{World}
-use Rattle.model_formats.specs.Defects.{AreKept, IsCertified, IsFoundDefective, AreDefective}
-use Rattle.ram_certify.specs.Certifying.{HasCertified, IsCertifiedDead}
+use Rattle.model_formats.specs.Defects.{AreKept}
+use Rattle.ram_certify.specs.Certifying.{HasCertified}
 use Rattle.ram_format.specs.Merging.{found_entry, IsKeptNext, CanMerge, HasMerged, AreMerged}
 use Rattle.ram_format.specs.Phases.{HasFoundDefects, FindsFewDefects, FindsManyDefects}
 use Rattle.ram_format.proofs.Merges.{merged_none, kept_merged, found_next, found_merged, merged_all}

@@ -1,32 +1,31 @@
 -- How a rewriting format goes, list after list.
-use Rattle.std.specs.Prelude.{◌≡◌, ◌≢◌, ℕ, ◌+◌, ◌*◌, ◌≤◌, ◌⊎◌, Bool, true, false, IsTrue, Option, Some, None, List}
+use Rattle.std.specs.Prelude.{◌≡◌, ℕ, ◌+◌, ◌*◌, Bool, true, false, List}
 use Rattle.std.proofs.Common.{refl, sym, ap, ◌∙◌, inl, inr, subst, arith}
 use Rattle.std.proofs.lemmas.Bool.{cases_eq}
 use Rattle.model_counts.specs.Counts.{counted, Rose}
 use Rattle.model_geometry.specs.Geometry.{Shape, dds_block, sdl_block}
-use Rattle.model_lists.specs.Values.{Dds, Sdl}
+use Rattle.model_lists.specs.Values.{Dds}
 use Rattle.model_lists.specs.Texts.{IsDdsText, IsSdlText}
 use Rattle.model_lists.proofs.DdsTexts as dds_texts
 use Rattle.model_lists.proofs.SdlTexts as sdl_texts
 use Rattle.model_medium.specs.Cells.{Cell, Blank, Good, Torn, Dead, cell_at}
-use Rattle.model_medium.specs.World.{World, UseContinues, IsUse}
+use Rattle.model_medium.specs.World.{World, IsUse}
 use Rattle.model_stops.specs.Stops.{Continues, Stops, FailsInUse}
 use Rattle.model_stops.specs.declared.Stop.{Stop}
 use Rattle.model_stops.specs.declared.Stop.TheVariants as stops
-use Rattle.model_copies.specs.Copies.{IsArea, Holds, HoldsOrDead, MayHold, HasCopy, Settled, AllLost, Rewrites}
+use Rattle.model_copies.specs.Copies.{IsArea, Holds, HoldsOrDead, MayHold, HasCopy, Settled, AllLost}
 use Rattle.model_copies.proofs.CopyFacts.{OneValue, one_held}
 use Rattle.model_copies.proofs.Rewriting.{rewrites_like}
 use Rattle.model_places.specs.Places.{Lists}
-use Rattle.model_volume.specs.Given.{IsGiven, AreSettled, IsListBlock, OnlyLists}
-use Rattle.model_volume.proofs.ListCells.{dds_listed, sdl_listed}
-use Rattle.model_volume.proofs.Updates.{dds_no_sdl}
+use Rattle.model_volume.specs.Given.{AreSettled}
 use Rattle.ram_medium.specs.Laws.{MediumLaws}
 use Rattle.ram_medium.proofs.Parts.{continues_then, stops_later, stops_within}
 use Rattle.ram_zones.specs.declared.list_kind.ListKind.TheVariants as kinds
-use Rattle.ram_copies.specs.Values.{ListValue, DdsValue, SdlValue, IsText}
-use Rattle.ram_copies.specs.Calls.{StoppedCounts, ChangesCopiesAlone, CallEnds, StoppedWithin, MayLeaveCopies}
+use Rattle.ram_copies.specs.Values.{DdsValue, SdlValue}
+use Rattle.ram_copies.specs.Calls.{StoppedCounts, StoppedWithin, MayLeaveCopies}
 use Rattle.ram_copies.proofs.EachList.{dds_settled, dds_may_hold, dds_rewritten, sdl_settled, sdl_may_hold, sdl_rewritten}
-use Rattle.ram_format.specs.Rewriting.{HasRepairedList, StopsRepairingList, RepairsBothLists, HaveCopies, LacksCopies, RewritesBy, RewriteStopped, StopsRewriting, lost_of}
+use Rattle.ram_lists.proofs.MountSteps.{settled_may_hold, copy_back, settled_same, dds_only, sdl_only, sdl_stay, dds_stay}
+use Rattle.ram_format.specs.Rewriting.{HasRepairedList, StopsRepairingList, RepairsBothLists, RewritesBy, RewriteStopped, StopsRewriting, lost_of}
 
 module _ {V : Type 0} (text : V → List ℕ → Type 0) where
   -- a copy that holds a value now held it before, where it was settled, and a dead cell stays dead
@@ -42,24 +41,12 @@ module _ {V : Type 0} (text : V → List ℕ → Type 0) where
   held_before one_value Torn new v w settled dies left holds = absurd settled
   held_before one_value Dead new v w settled dies left holds = absurd (subst (λ (c : Cell). Holds text c w) (dies refl) holds)
 
-  settled_may_hold : (old cell : Cell) (v : V) → HoldsOrDead text cell v → MayHold text old v cell
-  settled_may_hold old Blank v h = absurd h
-  settled_may_hold old (Good bytes) v h = inr (inl h)
-  settled_may_hold old Torn v h = absurd h
-  settled_may_hold old Dead v h = inr (inr (inr refl))
-
-  settled_same : (place : ℕ → ℕ) (old new : List Cell) (v : V) → ((area : ℕ) → cell_at new (place area) ≡ cell_at old (place area)) → Settled text place old v → Settled text place new v
-  settled_same place old new v same settled area is = subst (λ (c : Cell). HoldsOrDead text c v) (sym (same area)) (settled area is)
-
   copy_held : (place : ℕ → ℕ) → OneValue text → (old new : List Cell) (v : V) → Settled text place old v → ((block : ℕ) → cell_at old block ≡ Dead → cell_at new block ≡ Dead)
       → ((area : ℕ) → IsArea area → MayHold text (cell_at old (place area)) v (cell_at new (place area))) → (w : V) (area : ℕ) → HasCopy text place new w area → HasCopy text place old w area
   copy_held place one_value old new v settled dies left w area copy = record {
     is_area = copy.is_area;
     holds = held_before one_value (cell_at old (place area)) (cell_at new (place area)) v w (settled area copy.is_area) (dies (place area)) (left area copy.is_area) copy.holds;
   }
-
-  copy_same : (place : ℕ → ℕ) (old new : List Cell) → ((area : ℕ) → cell_at new (place area) ≡ cell_at old (place area)) → (w : V) (area : ℕ) → HasCopy text place new w area → HasCopy text place old w area
-  copy_same place old new same w area copy = record { is_area = copy.is_area; holds = subst (λ (c : Cell). Holds text c w) (same area) copy.holds }
 
 -- a dead cell stays dead in the use that failed
 use_stays_dead : (old new : World) (block : ℕ) → IsUse old new block → (other : ℕ) → cell_at old.cells other ≡ Dead → cell_at new.cells other ≡ Dead
@@ -81,18 +68,6 @@ module _ {M : Type 0} (world : M → World) (block_count : M → ℕ) (reaches :
   stop_stays_dead a b most stops.Off s block dead = ap (λ (w : World). cell_at w.cells block) s.nothing ∙ dead
   stop_stays_dead a b most stops.Fault s block dead = failed_stays_dead (world s.mid) (world b) s.block s.fails block ((laws.follows a s.mid s.before s.reach).lasts.stays_dead block dead)
 
-  dds_only : (a b : M) → ChangesCopiesAlone world reaches kinds.Dds shape a b → OnlyLists shape (world a).cells (world b).cells
-  dds_only a b alone block away = alone.others block (λ area is same. away (subst (IsListBlock shape) (sym same) (dds_listed shape area is)))
-
-  sdl_only : (a b : M) → ChangesCopiesAlone world reaches kinds.Sdl shape a b → OnlyLists shape (world a).cells (world b).cells
-  sdl_only a b alone block away = alone.others block (λ area is same. away (subst (IsListBlock shape) (sym same) (sdl_listed shape area is)))
-
-  sdl_stay : (a b : M) → ChangesCopiesAlone world reaches kinds.Dds shape a b → (area : ℕ) → cell_at (world b).cells (sdl_block shape area) ≡ cell_at (world a).cells (sdl_block shape area)
-  sdl_stay a b alone area = alone.others (sdl_block shape area) (λ at is same. dds_no_sdl shape at area (sym same))
-
-  dds_stay : (a b : M) → ChangesCopiesAlone world reaches kinds.Sdl shape a b → (area : ℕ) → cell_at (world b).cells (dds_block shape area) ≡ cell_at (world a).cells (dds_block shape area)
-  dds_stay a b alone area = alone.others (dds_block shape area) (λ at is same. dds_no_sdl shape area at same)
-
   module _ (old one : M) (settled : AreSettled shape (world old).cells lists) where
     first_stop : (stop : Stop) → StoppedWithin world reaches kinds.Dds shape old one 12 stop → MayLeaveCopies world reaches kinds.Dds shape old one (DdsValue lists.dds) → RewriteStopped world reaches shape old one lists stop
     first_stop stop stopped left = record {
@@ -100,13 +75,13 @@ module _ {M : Type 0} (world : M → World) (block_count : M → ℕ) (reaches :
       stops = stops_within world block_count reaches laws old one 12 24 stop (omega arith) stopped.stops;
       counts = stopped.counts;
       as_known = stopped.alone.as_known;
-      only = dds_only old one stopped.alone;
+      only = dds_only world reaches shape old one stopped.alone;
       given = λ other given. record {
         dds_area = given.dds_area;
         dds_copy = copy_held IsDdsText (dds_block shape) dds_texts.one_value (world old).cells (world one).cells lists.dds settled.dds (stop_stays_dead old one 12 stop stopped.stops)
             (λ area is. dds_may_hold (cell_at (world old).cells (dds_block shape area)) (cell_at (world one).cells (dds_block shape area)) lists.dds (left area is)) other.dds given.dds_area given.dds_copy;
         sdl_area = given.sdl_area;
-        sdl_copy = copy_same IsSdlText (sdl_block shape) (world old).cells (world one).cells (sdl_stay old one stopped.alone) other.sdl given.sdl_area given.sdl_copy;
+        sdl_copy = copy_back IsSdlText (sdl_block shape) (world old).cells (world one).cells (sdl_stay world reaches shape old one stopped.alone) other.sdl given.sdl_area given.sdl_copy;
         valid = given.valid;
       };
     }
@@ -121,7 +96,7 @@ module _ {M : Type 0} (world : M → World) (block_count : M → ℕ) (reaches :
       dds_settled_one = dds_settled shape (world one).cells lists.dds did.settled
 
       sdl_settled_one : Settled IsSdlText (sdl_block shape) (world one).cells lists.sdl
-      sdl_settled_one = settled_same IsSdlText (sdl_block shape) (world old).cells (world one).cells lists.sdl (sdl_stay old one did.repairs.ends.alone) settled.sdl
+      sdl_settled_one = settled_same IsSdlText (sdl_block shape) (world old).cells (world one).cells (sdl_stay world reaches shape old one did.repairs.ends.alone) lists.sdl settled.sdl
 
       module _ (two : M) where
         -- a copy of the structure that can be read now could be before
@@ -129,7 +104,7 @@ module _ {M : Type 0} (world : M → World) (block_count : M → ℕ) (reaches :
             → HasCopy IsDdsText (dds_block shape) (world two).cells w area → HasCopy IsDdsText (dds_block shape) (world old).cells w area
         dds_held same w area copy = copy_held IsDdsText (dds_block shape) dds_texts.one_value (world old).cells (world one).cells lists.dds settled.dds (stays_dead old one (4 + 2 * did.repairs.rewritten) did.repairs.ends.continues)
             (λ at is. settled_may_hold IsDdsText (cell_at (world old).cells (dds_block shape at)) (cell_at (world one).cells (dds_block shape at)) lists.dds (dds_settled_one at is)) w area
-            (copy_same IsDdsText (dds_block shape) (world one).cells (world two).cells same w area copy)
+            (copy_back IsDdsText (dds_block shape) (world one).cells (world two).cells same w area copy)
 
         later_counts : (stop : Stop) → StoppedCounts (world one) (world two) stop → StoppedCounts (world old) (world two) stop
         later_counts stops.Cut cut = record { turns_off = cut.turns_off; one_cut = cut.one_cut ∙ ap (λ n. counted n 1) did.repairs.ends.counts.no_cut; no_fault = cut.no_fault ∙ did.repairs.ends.counts.no_fault }
@@ -142,12 +117,12 @@ module _ {M : Type 0} (world : M → World) (block_count : M → ℕ) (reaches :
           stops = stops_within world block_count reaches laws old two (4 + 2 * did.repairs.rewritten + 12) 24 stop (let few = did.repairs.few in omega (arith, few)) (stops_later world block_count reaches laws old one two (4 + 2 * did.repairs.rewritten) 12 stop did.repairs.ends.continues stopped.stops);
           counts = later_counts stop stopped.counts;
           as_known = stopped.alone.as_known ∙ did.repairs.ends.alone.as_known;
-          only = λ block away. sdl_only one two stopped.alone block away ∙ dds_only old one did.repairs.ends.alone block away;
+          only = λ block away. sdl_only world reaches shape one two stopped.alone block away ∙ dds_only world reaches shape old one did.repairs.ends.alone block away;
           given = λ other given. record {
             dds_area = given.dds_area;
-            dds_copy = dds_held (dds_stay one two stopped.alone) other.dds given.dds_area given.dds_copy;
+            dds_copy = dds_held (dds_stay world reaches shape one two stopped.alone) other.dds given.dds_area given.dds_copy;
             sdl_area = given.sdl_area;
-            sdl_copy = copy_same IsSdlText (sdl_block shape) (world old).cells (world one).cells (sdl_stay old one did.repairs.ends.alone) other.sdl given.sdl_area
+            sdl_copy = copy_back IsSdlText (sdl_block shape) (world old).cells (world one).cells (sdl_stay world reaches shape old one did.repairs.ends.alone) other.sdl given.sdl_area
                 (copy_held IsSdlText (sdl_block shape) sdl_texts.one_value (world one).cells (world two).cells lists.sdl sdl_settled_one (stop_stays_dead one two 12 stop stopped.stops)
                 (λ area is. sdl_may_hold (cell_at (world one).cells (sdl_block shape area)) (cell_at (world two).cells (sdl_block shape area)) lists.sdl (left area is)) other.sdl given.sdl_area given.sdl_copy);
             valid = given.valid;
@@ -170,8 +145,8 @@ module _ {M : Type 0} (world : M → World) (block_count : M → ℕ) (reaches :
               uses_are = refl;
               rewrites = λ known.
                   rewrites_like (λ (c : Cell). Holds IsDdsText c lists.dds) (dds_block shape) (world old).cells (world one).cells (λ (c : Cell). Holds IsDdsText c lists.dds) (dds_block shape) (world old).cells (world two).cells 4 did.repairs.rewritten
-                  (λ area some most was. (was.0, subst (λ (c : Cell). Holds IsDdsText c lists.dds) (sym (dds_stay one two done.repairs.ends.alone area)) was.1))
-                  (λ area some most was. (was.0, subst (λ (c : Cell). Holds IsDdsText c lists.dds) (dds_stay one two done.repairs.ends.alone area) was.1))
+                  (λ area some most was. (was.0, subst (λ (c : Cell). Holds IsDdsText c lists.dds) (sym (dds_stay world reaches shape one two done.repairs.ends.alone area)) was.1))
+                  (λ area some most was. (was.0, subst (λ (c : Cell). Holds IsDdsText c lists.dds) (dds_stay world reaches shape one two done.repairs.ends.alone area) was.1))
                   (dds_rewritten shape (world old).cells (world one).cells lists.dds did.repairs.rewritten (did.repairs.rewrites known));
             };
             sdl_uses = 4 + 2 * done.repairs.rewritten;
@@ -181,25 +156,25 @@ module _ {M : Type 0} (world : M → World) (block_count : M → ℕ) (reaches :
               uses_are = refl;
               rewrites = λ known.
                   rewrites_like (λ (c : Cell). Holds IsSdlText c lists.sdl) (sdl_block shape) (world one).cells (world two).cells (λ (c : Cell). Holds IsSdlText c lists.sdl) (sdl_block shape) (world old).cells (world two).cells 4 done.repairs.rewritten
-                  (λ area some most was. (subst (λ (c : Cell). Holds IsSdlText c lists.sdl) (sdl_stay old one did.repairs.ends.alone area) was.0, was.1))
-                  (λ area some most was. (subst (λ (c : Cell). Holds IsSdlText c lists.sdl) (sym (sdl_stay old one did.repairs.ends.alone area)) was.0, was.1))
+                  (λ area some most was. (subst (λ (c : Cell). Holds IsSdlText c lists.sdl) (sdl_stay world reaches shape old one did.repairs.ends.alone area) was.0, was.1))
+                  (λ area some most was. (subst (λ (c : Cell). Holds IsSdlText c lists.sdl) (sym (sdl_stay world reaches shape old one did.repairs.ends.alone area)) was.0, was.1))
                   (sdl_rewritten shape (world one).cells (world two).cells lists.sdl done.repairs.rewritten (done.repairs.rewrites (did.repairs.ends.alone.as_known ∙ known)));
             };
             continues = continues_then world block_count reaches laws old one two (4 + 2 * did.repairs.rewritten) (4 + 2 * done.repairs.rewritten) did.repairs.ends.continues done.repairs.ends.continues;
             counts = record { stays_on = done.repairs.ends.counts.stays_on; no_cut = done.repairs.ends.counts.no_cut ∙ did.repairs.ends.counts.no_cut; no_fault = done.repairs.ends.counts.no_fault ∙ did.repairs.ends.counts.no_fault };
             as_known = done.repairs.ends.alone.as_known ∙ did.repairs.ends.alone.as_known;
-            only = λ block away. sdl_only one two done.repairs.ends.alone block away ∙ dds_only old one did.repairs.ends.alone block away;
+            only = λ block away. sdl_only world reaches shape one two done.repairs.ends.alone block away ∙ dds_only world reaches shape old one did.repairs.ends.alone block away;
             settled = record {
-              dds = settled_same IsDdsText (dds_block shape) (world one).cells (world two).cells lists.dds (dds_stay one two done.repairs.ends.alone) dds_settled_one;
+              dds = settled_same IsDdsText (dds_block shape) (world one).cells (world two).cells (dds_stay world reaches shape one two done.repairs.ends.alone) lists.dds dds_settled_one;
               sdl = sdl_settled shape (world two).cells lists.sdl done.settled;
             };
           }
 
           dds_lost : AllLost (dds_block shape) (world one).cells → AllLost (dds_block shape) (world two).cells
-          dds_lost lost area is = dds_stay one two done.repairs.ends.alone area ∙ lost area is
+          dds_lost lost area is = dds_stay world reaches shape one two done.repairs.ends.alone area ∙ lost area is
 
           dds_not_lost : ¬ AllLost (dds_block shape) (world one).cells → ¬ AllLost (dds_block shape) (world two).cells
-          dds_not_lost has lost = has (λ area is. sym (dds_stay one two done.repairs.ends.alone area) ∙ lost area is)
+          dds_not_lost has lost = has (λ area is. sym (dds_stay world reaches shape one two done.repairs.ends.alone area) ∙ lost area is)
 
   -- how it ended, by which list has a copy
   pub rewritten_by : (old one two : M) (settled : AreSettled shape (world old).cells lists) (dds_kept sdl_kept : Bool) → HasRepairedList world reaches shape old one kinds.Dds (DdsValue lists.dds) dds_kept

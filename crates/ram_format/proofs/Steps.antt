@@ -1,19 +1,18 @@
 -- How a full format goes, phase after phase, on the cells.
-use Rattle.std.specs.Prelude.{◌≡◌, ◌≢◌, ℕ, ◌+◌, ◌≤◌, ◌<◌, ◌⊎◌, ◌^◌, true, IsTrue, List, [], ◌∷◌, length, get_or, map}
+use Rattle.std.specs.Prelude.{◌≡◌, ℕ, ◌+◌, ◌≤◌, ◌<◌, ◌⊎◌, true, IsTrue, List, [], ◌∷◌, length, get_or}
 use Rattle.std.proofs.Common.{refl, sym, ap, ◌∙◌, inl, inr, subst, arith}
 use Rattle.std.specs.List.{All, Contains}
 use Rattle.std.specs.List.Sorted.{IsStrictlyIncreasing}
 use Rattle.std.proofs.lemmas.List.{get_or-map, length-map}
-use Rattle.std.proofs.lemmas.List.Elements.{All-contains, Contains-get_or}
-use Rattle.model_geometry.specs.Geometry.{Shape, IsLawful, data_blocks, lead_out, total, dds_block, sdl_block}
+use Rattle.std.proofs.lemmas.List.Elements.{All-contains}
+use Rattle.model_geometry.specs.Geometry.{Shape, IsLawful, data_blocks, lead_out, dds_block, sdl_block}
 use Rattle.model_geometry.proofs.DataBlocks.{data_blocks_bounds}
 use Rattle.model_geometry.proofs.Zones.{total_most}
 use Rattle.model_geometry.proofs.ListBlocks.{no_data_block_dds, no_data_block_sdl}
-use Rattle.model_lists.specs.declared.dds.DdsState.TheVariants.{Formatting, Formatted}
+use Rattle.model_lists.specs.declared.dds.DdsState.TheVariants.{Formatted}
 use Rattle.model_lists.specs.declared.dds.PdlEntry.{PdlEntry}
 use Rattle.model_lists.specs.declared.dds.PdlKind.{PdlKind}
-use Rattle.model_lists.specs.declared.sdl.SdlEntry.{SdlEntry}
-use Rattle.model_lists.specs.Values.{Dds, Sdl, pdl_blocks, IsBlockNumber, IsLawfulPdl, IsLawfulDds}
+use Rattle.model_lists.specs.Values.{pdl_blocks, IsLawfulDds}
 use Rattle.model_lists.specs.Texts.{IsDdsText, IsSdlText}
 use Rattle.model_medium.specs.Cells.{Cell, Good, Dead, cell_at}
 use Rattle.model_counts.specs.Counts.{counted, Rose}
@@ -22,35 +21,30 @@ use Rattle.model_stops.specs.Stops.{Continues, Stops}
 use Rattle.model_stops.specs.declared.Stop.{Stop}
 use Rattle.model_stops.specs.declared.Stop.TheVariants as stops
 use Rattle.model_sectors.specs.Discs.{zeros}
-use Rattle.model_copies.specs.Copies.{IsArea, HoldsOrDead, Settled, AllLost, AreMarkedWithin}
+use Rattle.model_copies.specs.Copies.{Settled, AreMarkedWithin}
 use Rattle.model_places.specs.Places as places
 use Rattle.model_places.specs.Valid.{AreValid}
-use Rattle.model_volume.specs.Given.{IsGiven, GivesNone, AreSettled, IsListBlock}
-use Rattle.model_volume.specs.Covers.{FitsUnder, SomeFit, Cover}
+use Rattle.model_volume.specs.Given.{IsGiven, IsListBlock}
+use Rattle.model_volume.specs.Covers.{FitsUnder, SomeFit}
 use Rattle.model_volume.proofs.ListCells.{dds_listed, sdl_listed}
-use Rattle.model_volume.proofs.Updates.{dds_no_sdl}
-use Rattle.model_formats.specs.Defects.{IsCertified, AreCertified, ChangesFormatted, AreDefective, IsFoundDefective}
+use Rattle.model_formats.specs.Defects.{IsCertified, ChangesFormatted}
 use Rattle.model_formats.specs.Fresh.{formatting_dds, formatted_dds, fresh_sdl, fresh_lists}
-use Rattle.model_formats.specs.Stopped.{zero_disc, CoversStopped}
+use Rattle.model_formats.specs.Stopped.{zero_disc}
 use Rattle.model_formats.proofs.Phases.{lost_gives_none, formatting_gives_none, given_in_first, given_in_last, cover_data}
 use Rattle.model_formats.proofs.Fresh.{fresh_valid, zeros_fit}
 use Rattle.model_formats.proofs.Marks.{marked_kept, marked_begun, marked_middle, marked_last}
 use Rattle.ram_medium.specs.Laws.{MediumLaws}
 use Rattle.ram_medium.proofs.Parts.{continues_then, stops_later, stops_within}
-use Rattle.ram_zones.specs.declared.list_kind.ListKind.{ListKind}
 use Rattle.ram_zones.specs.declared.list_kind.ListKind.TheVariants as kinds
-use Rattle.ram_copies.specs.Values.{ListValue, DdsValue, SdlValue}
+use Rattle.ram_copies.specs.Values.{DdsValue, SdlValue}
 use Rattle.ram_copies.specs.Calls.{StoppedCounts, ChangesCopiesAlone, CallEnds, StoppedWithin, MayLeaveCopies}
-use Rattle.ram_copies.proofs.EachList.{dds_settled, dds_may_hold, sdl_settled, sdl_may_hold}
+use Rattle.ram_copies.proofs.EachList.{dds_settled, dds_may_hold, sdl_settled}
+use Rattle.ram_lists.proofs.MountSteps.{settled_same, sdl_stay, dds_stay}
 use Rattle.ram_certify.specs.Certifying.{certify_uses, ChangesCertifiedAlone, StopsCertifying}
 use Rattle.ram_format.specs.declared.ends.End.{End}
 use Rattle.ram_format.specs.declared.ends.End.TheVariants as ends
-use Rattle.ram_format.specs.Phases.{HasWrittenList, EndsWritingList, HasFoundDefects, FindsFewDefects, FindsManyDefects, EndsFinding}
-use Rattle.ram_format.specs.Full.{uses_of_all, FormatGoes, LeavesNoLists, AreDefects, AreFewDefects, MakesLists, MeetsTooMany, LosesFirst, LosesSecond, LosesThird, FormatStopped, EndsFormat}
-
--- copies that are as they were stay settled
-settled_still : {V : Type 0} (text : V → List ℕ → Type 0) (place : ℕ → ℕ) (old new : List Cell) (value : V) → ((area : ℕ) → cell_at new (place area) ≡ cell_at old (place area)) → Settled text place old value → Settled text place new value
-settled_still text place old new value same settled area is = subst (λ (c : Cell). HoldsOrDead text c value) (sym (same area)) (settled area is)
+use Rattle.ram_format.specs.Phases.{HasWrittenList, EndsWritingList, HasFoundDefects, FindsFewDefects, EndsFinding}
+use Rattle.ram_format.specs.Full.{uses_of_all, FormatGoes, AreDefects, AreFewDefects, MakesLists, FormatStopped, EndsFormat}
 
 -- a structure with entries that rise, and are data blocks, is lawful
 pub lawful_dds : (shape : Shape) (mark psa : ℕ) (entries : List PdlEntry) → IsLawful shape → psa ≡ shape.psa → mark + 2 ≤ 4294967295 → length entries ≤ shape.psa
@@ -85,12 +79,6 @@ module _ {M : Type 0} (world : M → World) (block_count : M → ℕ) (reaches :
 
   only_then : (a b c : M) → ChangesFormatted shape (Contains kept) (world a).cells (world b).cells → ChangesFormatted shape (Contains kept) (world b).cells (world c).cells → ChangesFormatted shape (Contains kept) (world a).cells (world c).cells
   only_then a b c one two block away apart = two block away apart ∙ one block away apart
-
-  sdl_stay : (old new : M) → ChangesCopiesAlone world reaches kinds.Dds shape old new → (area : ℕ) → cell_at (world new).cells (sdl_block shape area) ≡ cell_at (world old).cells (sdl_block shape area)
-  sdl_stay old new alone area = alone.others (sdl_block shape area) (λ at is same. dds_no_sdl shape at area (sym same))
-
-  dds_stay : (old new : M) → ChangesCopiesAlone world reaches kinds.Sdl shape old new → (area : ℕ) → cell_at (world new).cells (dds_block shape area) ≡ cell_at (world old).cells (dds_block shape area)
-  dds_stay old new alone area = alone.others (dds_block shape area) (λ at is same. dds_no_sdl shape area at same)
 
   data_stay_dds : (old new : M) → ChangesCopiesAlone world reaches kinds.Dds shape old new → (block : ℕ) → Contains (data_blocks shape) block → cell_at (world new).cells block ≡ cell_at (world old).cells block
   data_stay_dds old new alone block is = alone.others block (λ area at same. no_data_block_dds shape area (subst (Contains (data_blocks shape)) same is))
@@ -144,7 +132,7 @@ module _ {M : Type 0} (world : M → World) (block_count : M → ℕ) (reaches :
         before : (lists : places.Lists) → IsGiven shape (world one).cells lists → IsGiven shape (world old).cells lists
         before = given_in_first shape (world old).cells (world one).cells mark
             (λ area is. dds_may_hold (cell_at (world old).cells (dds_block shape area)) (cell_at (world one).cells (dds_block shape area)) (formatting_dds shape mark) (left area is))
-            (sdl_stay old one stopped.alone)
+            (sdl_stay world reaches shape old one stopped.alone)
 
     pub first_ends : (end : End) → EndsWritingList world reaches shape old one kinds.Dds (DdsValue (formatting_dds shape mark)) (mark + 1) mark end → EndsFormat world reaches shape kept kind mark old one end
     first_ends (ends.TooMany found left) h = absurd h
@@ -155,7 +143,7 @@ module _ {M : Type 0} (world : M → World) (block_count : M → ℕ) (reaches :
       left_is = h.3;
       leaves = record {
         gives_none = lost_gives_none shape (world one).cells h.1;
-        marked = subst (AreMarkedWithin shape (world one).cells) (sym h.3) (marked_kept shape mark (world old).cells (world one).cells marked h.1 (sdl_stay old one h.0.alone));
+        marked = subst (AreMarkedWithin shape (world one).cells) (sym h.3) (marked_kept shape mark (world old).cells (world one).cells marked h.1 (sdl_stay world reaches shape old one h.0.alone));
       };
     })
     first_ends ends.Cut h = first_stop stops.Cut h.0 h.1
@@ -173,7 +161,7 @@ module _ {M : Type 0} (world : M → World) (block_count : M → ℕ) (reaches :
 
       module _ (two : M) where
         stays_formatting : ChangesCertifiedAlone world reaches shape kept one two → Settled IsDdsText (dds_block shape) (world two).cells (formatting_dds shape mark)
-        stays_formatting alone = settled_still IsDdsText (dds_block shape) (world one).cells (world two).cells (formatting_dds shape mark) (dds_certified_stay one two alone) formatting_one
+        stays_formatting alone = settled_same IsDdsText (dds_block shape) (world one).cells (world two).cells (dds_certified_stay one two alone) (formatting_dds shape mark) formatting_one
 
         -- it was stopped while the structure said Formatting
         stopped_formatting : (new : M) (j k : ℕ) (mid : M) → FormatGoes world reaches shape kept kind mark old mid j → j + k ≤ uses_of_all world reaches shape kept kind mark old new → (stop : Stop)
@@ -211,7 +199,7 @@ module _ {M : Type 0} (world : M → World) (block_count : M → ℕ) (reaches :
           leaves = record {
             gives_none = formatting_gives_none shape (world two).cells mark (stays_formatting h.0.defects.alone);
             marked = subst (AreMarkedWithin shape (world two).cells) (sym h.1) (marked_begun shape mark (world old).cells (world two).cells marked (stays_formatting h.0.defects.alone)
-                (λ area. sdl_certified_stay one two h.0.defects.alone area ∙ sdl_stay old one did.ended.alone area));
+                (λ area. sdl_certified_stay one two h.0.defects.alone area ∙ sdl_stay world reaches shape old one did.ended.alone area));
           };
         }
         second_ends (ends.NoCopy due left) h = absurd h
@@ -248,7 +236,7 @@ module _ {M : Type 0} (world : M → World) (block_count : M → ℕ) (reaches :
 
           module _ (three : M) where
             stays_three : ChangesCopiesAlone world reaches kinds.Sdl shape two three → Settled IsDdsText (dds_block shape) (world three).cells (formatting_dds shape mark)
-            stays_three alone = settled_still IsDdsText (dds_block shape) (world two).cells (world three).cells (formatting_dds shape mark) (dds_stay two three alone) formatting_two
+            stays_three alone = settled_same IsDdsText (dds_block shape) (world two).cells (world three).cells (dds_stay world reaches shape two three alone) (formatting_dds shape mark) formatting_two
 
             gone_three : CallEnds world reaches kinds.Sdl shape two three 8 → FormatGoes world reaches shape kept kind mark old three (8 + certify_uses world reaches shape kept one two + 8)
             gone_three ended = goes_then old two three (8 + certify_uses world reaches shape kept one two) 8 gone_two ended.continues ended.counts ended.alone.as_known (sdl_only two three ended.alone)
@@ -291,7 +279,7 @@ module _ {M : Type 0} (world : M → World) (block_count : M → ℕ) (reaches :
                 data_stay alone block is = data_stay_dds three four alone block is ∙ data_stay_sdl two three done.ended.alone block is
 
                 fresh_four : ChangesCopiesAlone world reaches kinds.Dds shape three four → Settled IsSdlText (sdl_block shape) (world four).cells (fresh_sdl mark)
-                fresh_four alone = settled_still IsSdlText (sdl_block shape) (world three).cells (world four).cells (fresh_sdl mark) (sdl_stay three four alone) fresh_three
+                fresh_four alone = settled_same IsSdlText (sdl_block shape) (world three).cells (world four).cells (sdl_stay world reaches shape three four alone) (fresh_sdl mark) fresh_three
 
                 gone_four : CallEnds world reaches kinds.Dds shape three four 8 → FormatGoes world reaches shape kept kind mark old four (uses_of_all world reaches shape kept kind mark old four)
                 gone_four ended = goes_then old three four (8 + certify_uses world reaches shape kept one two + 8) 8 (gone_three done.ended) ended.continues ended.counts ended.alone.as_known (dds_only three four ended.alone)
@@ -352,5 +340,5 @@ module _ {M : Type 0} (world : M → World) (block_count : M → ℕ) (reaches :
                   lawful_sdl = record { counted = omega arith; dds_counted = omega (arith, room); limits = record { most = omega arith; few = omega arith }; list = record { rise = λ k h. absurd (omega arith); numbers = λ k d h. absurd (omega arith) } };
                   settled = record { dds = dds_settled shape (world four).cells (formatted_dds shape mark entries) last.settled; sdl = fresh_four last.ended.alone };
                   has_dds = λ known lost. last.not_lost (done.ended.alone.as_known ∙ few.defects.alone.as_known ∙ known_one known) lost;
-                  has_sdl = λ known lost. done.not_lost (few.defects.alone.as_known ∙ known_one known) (λ area is. sym (sdl_stay three four last.ended.alone area) ∙ lost area is);
+                  has_sdl = λ known lost. done.not_lost (few.defects.alone.as_known ∙ known_one known) (λ area is. sym (sdl_stay world reaches shape three four last.ended.alone area) ∙ lost area is);
                 }

@@ -25,8 +25,8 @@ use Rattle.ram_format.specs.declared.ends.End.TheVariants as ends
 use Rattle.ram_format.specs.declared.full.FullEnd.{FullEnd}
 use Rattle.ram_format.specs.declared.full.FullEnd.TheVariants as fulls
 
-module _ {M : Type 0} (world : M → World) (reaches : M → M → ℕ → Type 0) (shape : Shape) (kept : List PdlEntry) (kind : PdlKind)
-    (mark : ℕ) (old new : M) where
+module _ {M : Type 0} (world : M → World) (reaches : M → M → ℕ → Type 0)
+    (shape : Shape) (kept : List PdlEntry) (kind : PdlKind) (mark : ℕ) (old new : M) where
   -- The uses of the phases, up to the end of each: an update of the structure, the certification, an update of the
   -- secondary list, and one of the structure. (This project's own, as all here.)
   abbrev pub uses_of_two : ℕ

@@ -1,5 +1,5 @@
 -- What the phases of a full format do: the update of a list, and the certification: for `write_list` and `find_defects`.
-use Rattle.std.specs.Prelude.{◌≡◌, ℕ, ◌+◌, ◌≤◌, ◌<◌, true, IsTrue, Bool, if◌then◌else◌, List, length}
+use Rattle.std.specs.Prelude.{◌≡◌, ℕ, ◌≤◌, ◌<◌, true, IsTrue, Bool, if◌then◌else◌, List, length}
 use Rattle.std.specs.List.{All, Contains}
 use Rattle.std.specs.List.Sorted.{IsStrictlyIncreasing}
 use Rattle.model_geometry.specs.Geometry.{Shape, data_blocks}
@@ -36,7 +36,8 @@ module _ {M : Type 0} (world : M → World) (reaches : M → M → ℕ → Type 
     abbrev pub EndsWritingList : (counter mark : ℕ) → End → Type 0
     EndsWritingList counter mark (ends.TooMany found left) = ⊥
     EndsWritingList counter mark (ends.NoCopy due left) =
-        CallEnds world reaches kind shape old new 8 × LeavesNone world reaches kind shape old new × (due ≡ counter) × (left ≡ mark)
+        CallEnds world reaches kind shape old new 8 × LeavesNone world reaches kind shape old new
+        × (due ≡ counter) × (left ≡ mark)
     EndsWritingList counter mark ends.Cut =
         StoppedWithin world reaches kind shape old new 8 stops.Cut × MayLeaveCopies world reaches kind shape old new value
     EndsWritingList counter mark ends.Off = IsOff (world old) (world new)

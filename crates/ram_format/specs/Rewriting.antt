@@ -1,5 +1,5 @@
 -- What a rewriting format does, by its answer: for `rewrite`.
-use Rattle.std.specs.Prelude.{◌≡◌, ℕ, ◌+◌, ◌*◌, ◌≤◌, ◌⊎◌, Bool, MatchBool, true, false, IsTrue, Option, Some, None}
+use Rattle.std.specs.Prelude.{◌≡◌, ℕ, ◌+◌, ◌⊎◌, Bool, MatchBool, true, false, IsTrue, Option, Some, None}
 use Rattle.model_geometry.specs.Geometry.{Shape, dds_block, sdl_block}
 use Rattle.model_lists.specs.Texts.{IsDdsText, IsSdlText}
 use Rattle.model_medium.specs.World.{World, UseContinues, IsOff}
@@ -24,13 +24,17 @@ module _ {M : Type 0} (world : M → World) (reaches : M → M → ℕ → Type 
     pub record HasRepairedList (kept : Bool) : Type 0 where
       pub repairs : Repairs world reaches kind shape old new value
       pub settled : Settled (IsText kind) (λ area. list_block shape area kind) (world new).cells value
-      pub left : MatchBool kept ((world old).known ≡ true → ¬ LeavesNone world reaches kind shape old new) (LeavesNone world reaches kind shape old new)
+      pub left : MatchBool kept
+          ((world old).known ≡ true → ¬ LeavesNone world reaches kind shape old new)
+          (LeavesNone world reaches kind shape old new)
 
     -- the repair was stopped
     abbrev pub StopsRepairingList : Stop → Type 0
-    StopsRepairingList stops.Cut = StoppedWithin world reaches kind shape old new 12 stops.Cut × MayLeaveCopies world reaches kind shape old new value
+    StopsRepairingList stops.Cut =
+        StoppedWithin world reaches kind shape old new 12 stops.Cut × MayLeaveCopies world reaches kind shape old new value
     StopsRepairingList stops.Off = IsOff (world old) (world new)
-    StopsRepairingList stops.Fault = StoppedWithin world reaches kind shape old new 12 stops.Fault × MayLeaveCopies world reaches kind shape old new value
+    StopsRepairingList stops.Fault =
+        StoppedWithin world reaches kind shape old new 12 stops.Fault × MayLeaveCopies world reaches kind shape old new value
 
   module _ (lists : Lists) where
     -- Both lists were repaired, and are settled: no other cell changed.

@@ -1,6 +1,6 @@
 //! The rewriting format of a formatted disc: the copies of its lists are repaired, and nothing else changes.
 
-ghost use Rattle.std.specs.Prelude.{◌≡◌, IsTrue, MatchResult};
+ghost use Rattle.std.specs.Prelude.{◌≡◌, MatchResult};
 ghost use Rattle.model_geometry.specs.Geometry.{total};
 ghost use Rattle.model_lists.specs.Values.{IsLawfulDds, IsLawfulSdl};
 ghost use Rattle.model_volume.specs.Given.{AreSettled};

@@ -1,24 +1,16 @@
 ghost use Rattle.std.specs.Prelude.{◌≡◌, vec_len};
 ghost use Rattle.model_geometry.specs.Geometry.{total};
-ghost use Rattle.ram_medium.specs.Memory.{mem_world};
 
 use super::*;
 use ram_bytes::Block;
 use ram_copies::Scratch;
 use ram_dds::{DdsPdl, DdsState, PdlKind};
+use ram_examples::{Before, DDS_BLOCKS, ExampleDisc, FATES, SDL_BLOCKS, prepare};
 use ram_lists::{Mounted, mount};
 use ram_medium::{Fate, Medium, MediumControl, MemMedium, ReadEnd};
 use ram_zones::Geometry;
 use std::alloc::Global;
 use std::test::Fail;
-
-/// The blocks of the structure in areas 1 to 4.
-const DDS_BLOCKS: [u32; 4] = [0, 2, 33, 35];
-
-/// The blocks of the secondary list in areas 1 to 4.
-const SDL_BLOCKS: [u32; 4] = [1, 3, 34, 36];
-
-const FATES: [Fate; 3] = [Fate::Old, Fate::New, Fate::Torn];
 
 /// How a format ended, with both counters and the number of slipped blocks, or with what the answer carries.
 #[derive(Clone, Copy, Debug, PartialEq, Eq)]
@@ -56,23 +48,6 @@ enum Found {
     Lists(u32, u32),
     Bare,
     Other,
-}
-
-/// What comes between a mount and a format: a cut is armed at a later use, or the power is turned off.
-#[derive(Clone, Copy)]
-enum Before {
-    Cut(u32, Fate),
-    Off,
-}
-
-fn prepare(medium: &mut MemMedium, before: Before)
-    ensures cells { (mem_world medium.new).cells ≡ (mem_world medium.old).cells }
-    ensures as_many { vec_len medium.new.slots ≡ vec_len medium.old.slots }
-{
-    match before {
-        Before::Cut(k, fate) => medium.arm_cut(k.max(1), fate),
-        Before::Off => medium.power_off(),
-    }
 }
 
 /// Mounts a disc, and formats it: one without lists for the first time, and one with lists with its slipped blocks kept.
@@ -134,11 +109,10 @@ struct Disc {
 impl Disc {
     /// A blank disc on which these blocks have failed, with the power on.
     fn new(alloc: Global, failed: &[u32]) -> Result<Disc, Fail> {
-        let Ok(geometry) = Geometry::new(1, 1, 4) else {
-            return Err(Fail::from("no geometry"));
-        };
-        let mut medium = MemMedium::new(alloc, 41, Vec::new(alloc))?;
-        medium.power_on();
+        let ExampleDisc {
+            mut medium,
+            geometry,
+        } = ExampleDisc::blank(alloc, Vec::new(alloc))?;
         for block in failed {
             medium.fail(*block);
         }

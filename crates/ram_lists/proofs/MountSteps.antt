@@ -45,7 +45,7 @@ use Rattle.ram_lists.specs.declared.ends.End.TheVariants as ends
 seen_left : (place : ℕ → ℕ) (old new : List Cell) → IsSeen place old new new → (area : ℕ) → IsArea area → IsSameOrDead (cell_at old (place area)) (cell_at new (place area))
 seen_left place old new seen area is = elim (seen area is) [ inl same ↦ inl same | inr dead ↦ inr dead.0 ]
 
-settled_may_hold : {V : Type 0} (text : V → List ℕ → Type 0) (old cell : Cell) (v : V) → HoldsOrDead text cell v → MayHold text old v cell
+pub settled_may_hold : {V : Type 0} (text : V → List ℕ → Type 0) (old cell : Cell) (v : V) → HoldsOrDead text cell v → MayHold text old v cell
 settled_may_hold text old Blank v h = absurd h
 settled_may_hold text old (Good bytes) v h = inr (inl h)
 settled_may_hold text old Torn v h = absurd h
@@ -71,7 +71,7 @@ module _ {V : Type 0} (text : V → List ℕ → Type 0) (place : ℕ → ℕ) (
   copy_same : (v : V) (area : ℕ) → HasCopy text place one v area → HasCopy text place two v area
   copy_same v area copy = record { is_area = copy.is_area; holds = subst (λ (c : Cell). Holds text c v) (sym (same area)) copy.holds }
 
-  copy_back : (v : V) (area : ℕ) → HasCopy text place two v area → HasCopy text place one v area
+  pub copy_back : (v : V) (area : ℕ) → HasCopy text place two v area → HasCopy text place one v area
   copy_back v area copy = record { is_area = copy.is_area; holds = subst (λ (c : Cell). Holds text c v) (same area) copy.holds }
 
   chosen_same : (counter : V → ℕ) (accepted : V → Type 0) (v : V) (area : ℕ) → IsChosen text place one counter accepted v area → IsChosen text place two counter accepted v area
@@ -86,7 +86,7 @@ module _ {V : Type 0} (text : V → List ℕ → Type 0) (place : ℕ → ℕ) (
     reached = elim g.reached [ inl none ↦ inl none | inr m ↦ inr (record { value = m.value; area = m.area; copy = copy_same m.value m.area m.copy; has = m.has }) ];
   }
 
-  settled_same : (v : V) → Settled text place one v → Settled text place two v
+  pub settled_same : (v : V) → Settled text place one v → Settled text place two v
   settled_same v settled area is = subst (λ (c : Cell). HoldsOrDead text c v) (sym (same area)) (settled area is)
 
 -- a structure whose copies are settled is within a mark that it was within, while the other list's copies stay
@@ -112,6 +112,21 @@ keeps_then shape a b c one two = keeps_by shape a c (two.as_known ∙ one.as_kno
     (nothing_new_then IsDdsText (dds_block shape) a.cells b.cells c.cells dds_texts.one_value one.dds two.dds)
     (nothing_new_then IsSdlText (sdl_block shape) a.cells b.cells c.cells sdl_texts.one_value one.sdl two.sdl)
 
+-- an update of one list changes no cells but its own
+module _ {M : Type 0} (world : M → World) (reaches : M → M → ℕ → Type 0) (shape : Shape) where
+  -- the cells of the other list stay
+  pub sdl_stay : (old new : M) → ChangesCopiesAlone world reaches kinds.Dds shape old new → (a : ℕ) → cell_at (world new).cells (sdl_block shape a) ≡ cell_at (world old).cells (sdl_block shape a)
+  sdl_stay old new alone a = alone.others (sdl_block shape a) (λ at is same. dds_no_sdl shape at a (sym same))
+
+  pub dds_stay : (old new : M) → ChangesCopiesAlone world reaches kinds.Sdl shape old new → (a : ℕ) → cell_at (world new).cells (dds_block shape a) ≡ cell_at (world old).cells (dds_block shape a)
+  dds_stay old new alone a = alone.others (dds_block shape a) (λ at is same. dds_no_sdl shape a at same)
+
+  pub dds_only : (old new : M) → ChangesCopiesAlone world reaches kinds.Dds shape old new → OnlyLists shape (world old).cells (world new).cells
+  dds_only old new alone block away = alone.others block (λ at is same. away (subst (IsListBlock shape) (sym same) (dds_listed shape at is)))
+
+  pub sdl_only : (old new : M) → ChangesCopiesAlone world reaches kinds.Sdl shape old new → OnlyLists shape (world old).cells (world new).cells
+  sdl_only old new alone block away = alone.others block (λ at is same. away (subst (IsListBlock shape) (sym same) (sdl_listed shape at is)))
+
 module _ {M : Type 0} (world : M → World) (block_count : M → ℕ) (reaches : M → M → ℕ → Type 0) (laws : MediumLaws world block_count reaches) (shape : Shape) where
   by_known : (m : M) (P : Type 0) → ((world m).known ≡ true → P) → ((world m).cells ≡ [] → P) → P
   by_known m P known unknown = elim (cases_Bool (world m).known) [
@@ -119,36 +134,23 @@ module _ {M : Type 0} (world : M → World) (block_count : M → ℕ) (reaches :
     | inr no' ↦ unknown (subst (λ (b : Bool). OnFalse b ((world m).cells ≡ [])) no' (laws.unknown m))
   ]
 
-  -- the cells of the other list stay
-  sdl_stay : (old new : M) → ChangesCopiesAlone world reaches kinds.Dds shape old new → (a : ℕ) → cell_at (world new).cells (sdl_block shape a) ≡ cell_at (world old).cells (sdl_block shape a)
-  sdl_stay old new alone a = alone.others (sdl_block shape a) (λ at is same. dds_no_sdl shape at a (sym same))
-
-  dds_stay : (old new : M) → ChangesCopiesAlone world reaches kinds.Sdl shape old new → (a : ℕ) → cell_at (world new).cells (dds_block shape a) ≡ cell_at (world old).cells (dds_block shape a)
-  dds_stay old new alone a = alone.others (dds_block shape a) (λ at is same. dds_no_sdl shape a at same)
-
-  dds_only : (old new : M) → ChangesCopiesAlone world reaches kinds.Dds shape old new → OnlyLists shape (world old).cells (world new).cells
-  dds_only old new alone block away = alone.others block (λ at is same. away (subst (IsListBlock shape) (sym same) (dds_listed shape at is)))
-
-  sdl_only : (old new : M) → ChangesCopiesAlone world reaches kinds.Sdl shape old new → OnlyLists shape (world old).cells (world new).cells
-  sdl_only old new alone block away = alone.others block (λ at is same. away (subst (IsListBlock shape) (sym same) (sdl_listed shape at is)))
-
   dds_others : (old new : M) → ChangesCopiesAlone world reaches kinds.Sdl shape old new → HoldNothingNew IsDdsText (dds_block shape) (world old).cells (world new).cells
-  dds_others old new alone = nothing_new_from_dead IsDdsText (dds_block shape) (world old).cells (world new).cells (λ a is. inl (dds_stay old new alone a))
+  dds_others old new alone = nothing_new_from_dead IsDdsText (dds_block shape) (world old).cells (world new).cells (λ a is. inl (dds_stay world reaches shape old new alone a))
 
   sdl_others : (old new : M) → ChangesCopiesAlone world reaches kinds.Dds shape old new → HoldNothingNew IsSdlText (sdl_block shape) (world old).cells (world new).cells
-  sdl_others old new alone = nothing_new_from_dead IsSdlText (sdl_block shape) (world old).cells (world new).cells (λ a is. inl (sdl_stay old new alone a))
+  sdl_others old new alone = nothing_new_from_dead IsSdlText (sdl_block shape) (world old).cells (world new).cells (λ a is. inl (sdl_stay world reaches shape old new alone a))
 
   dds_look_keeps : (old new : M) → ChangesCopiesAlone world reaches kinds.Dds shape old new → SawCopies world reaches kinds.Dds shape old new → KeepsGiven shape (world old) (world new)
-  dds_look_keeps old new alone saw = keeps_by shape (world old) (world new) alone.as_known (dds_only old new alone)
+  dds_look_keeps old new alone saw = keeps_by shape (world old) (world new) alone.as_known (dds_only world reaches shape old new alone)
       (nothing_new_from_dead IsDdsText (dds_block shape) (world old).cells (world new).cells (seen_left (dds_block shape) (world old).cells (world new).cells saw)) (sdl_others old new alone)
 
   sdl_look_keeps : (old new : M) → ChangesCopiesAlone world reaches kinds.Sdl shape old new → SawCopies world reaches kinds.Sdl shape old new → KeepsGiven shape (world old) (world new)
-  sdl_look_keeps old new alone saw = keeps_by shape (world old) (world new) alone.as_known (sdl_only old new alone) (dds_others old new alone)
+  sdl_look_keeps old new alone saw = keeps_by shape (world old) (world new) alone.as_known (sdl_only world reaches shape old new alone) (dds_others old new alone)
       (nothing_new_from_dead IsSdlText (sdl_block shape) (world old).cells (world new).cells (seen_left (sdl_block shape) (world old).cells (world new).cells saw))
 
   dds_mend_keeps : (old new : M) (d : Dds) (area : ℕ) → ((world old).known ≡ true → HasDdsCopy shape (world old).cells d area) → ChangesCopiesAlone world reaches kinds.Dds shape old new
       → MayLeaveCopies world reaches kinds.Dds shape old new (DdsValue d) → KeepsGiven shape (world old) (world new)
-  dds_mend_keeps old new d area copy alone left = keeps_by shape (world old) (world new) alone.as_known (dds_only old new alone)
+  dds_mend_keeps old new d area copy alone left = keeps_by shape (world old) (world new) alone.as_known (dds_only world reaches shape old new alone)
       (by_known new (HoldNothingNew IsDdsText (dds_block shape) (world old).cells (world new).cells)
       (λ known. nothing_new_from_write IsDdsText (dds_block shape) (world old).cells (world new).cells d area (copy (sym alone.as_known ∙ known))
       (λ a is. dds_may_hold (cell_at (world old).cells (dds_block shape a)) (cell_at (world new).cells (dds_block shape a)) d (left a is)))
@@ -157,7 +159,7 @@ module _ {M : Type 0} (world : M → World) (block_count : M → ℕ) (reaches :
 
   sdl_mend_keeps : (old new : M) (s : Sdl) (area : ℕ) → ((world old).known ≡ true → HasSdlCopy shape (world old).cells s area) → ChangesCopiesAlone world reaches kinds.Sdl shape old new
       → MayLeaveCopies world reaches kinds.Sdl shape old new (SdlValue s) → KeepsGiven shape (world old) (world new)
-  sdl_mend_keeps old new s area copy alone left = keeps_by shape (world old) (world new) alone.as_known (sdl_only old new alone) (dds_others old new alone)
+  sdl_mend_keeps old new s area copy alone left = keeps_by shape (world old) (world new) alone.as_known (sdl_only world reaches shape old new alone) (dds_others old new alone)
       (by_known new (HoldNothingNew IsSdlText (sdl_block shape) (world old).cells (world new).cells)
       (λ known. nothing_new_from_write IsSdlText (sdl_block shape) (world old).cells (world new).cells s area (copy (sym alone.as_known ∙ known))
       (λ a is. sdl_may_hold (cell_at (world old).cells (sdl_block shape a)) (cell_at (world new).cells (sdl_block shape a)) s (left a is)))
@@ -200,7 +202,7 @@ module _ {M : Type 0} (world : M → World) (block_count : M → ℕ) (reaches :
   first_ends old new ends.Cut (stopped, saw) = record { was_on = stopped.was_on; stops = stops_within world block_count reaches laws old new 4 32 stops.Cut (omega arith) stopped.stops; counts = stopped.counts; keeps = dds_look_keeps old new stopped.alone saw }
   first_ends old new ends.Off off = off
   first_ends old new ends.Fault (stopped, saw) = record { was_on = stopped.was_on; stops = stops_within world block_count reaches laws old new 4 32 stops.Fault (omega arith) stopped.stops; counts = stopped.counts; keeps = dds_look_keeps old new stopped.alone saw }
-  first_ends old new ends.NoMemory (out, saw) = record { was_on = out.was_on; uses = out.uses; few = let f = out.few in omega (arith, f); continues = out.continues; counts = out.counts; keeps = dds_look_keeps old new out.alone saw; loses = loses_seen shape (world old).cells (world new).cells (seen_by shape (world old).cells (world new).cells (world new).cells (dds_only old new out.alone) saw (λ a is. inl (sdl_stay old new out.alone a))) }
+  first_ends old new ends.NoMemory (out, saw) = record { was_on = out.was_on; uses = out.uses; few = let f = out.few in omega (arith, f); continues = out.continues; counts = out.counts; keeps = dds_look_keeps old new out.alone saw; loses = loses_seen shape (world old).cells (world new).cells (seen_by shape (world old).cells (world new).cells (world new).cells (dds_only world reaches shape old new out.alone) saw (λ a is. inl (sdl_stay world reaches shape old new out.alone a))) }
 
   module _ (old one : M) (accepted : ListValue → Type 0) (best1 : Option (ListValue × ℕ)) (m : ℕ) (look1 : HasPicked world reaches kinds.Dds shape old one accepted best1 m) where
     gone_one : Gone old one 4
@@ -210,13 +212,13 @@ module _ {M : Type 0} (world : M → World) (block_count : M → ℕ) (reaches :
     both_seen : (two new : M) → ChangesCopiesAlone world reaches kinds.Sdl shape one two → SawCopies world reaches kinds.Sdl shape one two
         → ((block : ℕ) → cell_at (world two).cells block ≡ Dead → cell_at (world new).cells block ≡ Dead) → AreSeen shape (world old).cells (world two).cells (world new).cells
     both_seen two new alone saw stays = seen_by shape (world old).cells (world two).cells (world new).cells
-        (λ block away. sdl_only one two alone block away ∙ dds_only old one look1.ended.alone block away)
+        (λ block away. sdl_only world reaches shape one two alone block away ∙ dds_only world reaches shape old one look1.ended.alone block away)
         (λ a is. elim (look1.saw a is) [
-          | inl same ↦ inl (dds_stay one two alone a ∙ same)
-          | inr dead ↦ inr (dds_stay one two alone a ∙ dead.0, stays (dds_block shape a) (dds_stay one two alone a ∙ dead.0))
+          | inl same ↦ inl (dds_stay world reaches shape one two alone a ∙ same)
+          | inr dead ↦ inr (dds_stay world reaches shape one two alone a ∙ dead.0, stays (dds_block shape a) (dds_stay world reaches shape one two alone a ∙ dead.0))
         ])
         (λ a is. elim (saw a is) [
-          | inl same ↦ inl (same ∙ sdl_stay old one look1.ended.alone a)
+          | inl same ↦ inl (same ∙ sdl_stay world reaches shape old one look1.ended.alone a)
           | inr dead ↦ inr (dead.0, stays (sdl_block shape a) dead.0)
         ])
 
@@ -240,7 +242,7 @@ module _ {M : Type 0} (world : M → World) (block_count : M → ℕ) (reaches :
       gone_two = gone_then kinds.Sdl old one two 4 4 gone_one look2.ended (sdl_look_keeps one two look2.ended.alone look2.saw)
 
       same_dds : (a : ℕ) → cell_at (world two).cells (dds_block shape a) ≡ cell_at (world one).cells (dds_block shape a)
-      same_dds = dds_stay one two look2.ended.alone
+      same_dds = dds_stay world reaches shape one two look2.ended.alone
 
       are_seen : (new : M) → ((block : ℕ) → cell_at (world two).cells block ≡ Dead → cell_at (world new).cells block ≡ Dead) → AreSeen shape (world old).cells (world two).cells (world new).cells
       are_seen new = both_seen two new look2.ended.alone look2.saw
@@ -306,7 +308,7 @@ module _ {M : Type 0} (world : M → World) (block_count : M → ℕ) (reaches :
           d_settled = dds_settled shape (world three).cells d mended.settled
 
           same_sdl : (a : ℕ) → cell_at (world three).cells (sdl_block shape a) ≡ cell_at (world two).cells (sdl_block shape a)
-          same_sdl = sdl_stay two three mended.repairs.ends.alone
+          same_sdl = sdl_stay world reaches shape two three mended.repairs.ends.alone
 
           known_three : (world old).known ≡ true → (world three).known ≡ true
           known_three known = mended.repairs.ends.alone.as_known ∙ known_two known
@@ -411,7 +413,7 @@ module _ {M : Type 0} (world : M → World) (block_count : M → ℕ) (reaches :
               pub both_found : d.state ≡ Formatted → EndsWithLists world reaches shape old four (record { dds = d; sdl = s })
               both_found state = record {
                 dds_uses = 4 + 2 * mended.repairs.rewritten;
-                dds = dds_repaired four stays_both (dds_stay three four done.repairs.ends.alone);
+                dds = dds_repaired four stays_both (dds_stay world reaches shape three four done.repairs.ends.alone);
                 sdl_uses = 4 + 2 * done.repairs.rewritten;
                 sdl = sdl_repaired;
                 ended = record {
@@ -425,7 +427,7 @@ module _ {M : Type 0} (world : M → World) (block_count : M → ℕ) (reaches :
                   lawful_dds = found.in_grammar;
                   lawful_sdl = below.in_grammar;
                   settled = record {
-                    dds = settled_same IsDdsText (dds_block shape) (world three).cells (world four).cells (dds_stay three four done.repairs.ends.alone) d d_settled;
+                    dds = settled_same IsDdsText (dds_block shape) (world three).cells (world four).cells (dds_stay world reaches shape three four done.repairs.ends.alone) d d_settled;
                     sdl = sdl_settled shape (world four).cells s done.settled;
                   };
                   seen = (world two).cells;

@@ -13,14 +13,14 @@ use Rattle.ram_copies.specs.Calls.{CallEnds, StoppedWithin, LeavesNone, MayLeave
 
 module _ {M : Type 0} (world : M → World) (reaches : M → M → ℕ → Type 0) (shape : Shape) (old new : M) (value : Sdl) where
   -- Each copy is exactly the text or dead, and one at least can be read. (This project's own, as all here.)
-  pub record KeepsCopies : Type 0 where
+  pub record KeepsListCopies : Type 0 where
     pub settled : Settled (IsText kinds.Sdl) (λ area. list_block shape area kinds.Sdl) (world new).cells (SdlValue value)
     pub not_lost : (world old).known ≡ true → ¬ LeavesNone world reaches kinds.Sdl shape old new
 
   -- each copy was written and read back, and one can be read, or all are dead
   pub record HasUpdated (kept : Bool) : Type 0 where
     pub ended : CallEnds world reaches kinds.Sdl shape old new 8
-    pub left : MatchBool kept KeepsCopies (LeavesNone world reaches kinds.Sdl shape old new)
+    pub left : MatchBool kept KeepsListCopies (LeavesNone world reaches kinds.Sdl shape old new)
 
   -- the update was stopped
   abbrev pub StopsUpdating : Stop → Type 0

@@ -1,76 +1,25 @@
 ghost use Rattle.std.specs.Prelude.{◌≡◌, ◌≤◌, vec_len};
 ghost use Rattle.model_geometry.specs.Geometry.{total};
-ghost use Rattle.ram_medium.specs.Memory.{mem_world};
 
 use super::*;
 use ram_bytes::Block;
 use ram_copies::Scratch;
-use ram_examples::{dds_text, empty_sdl, sdl_text};
+use ram_examples::{
+    Before, DDS_BLOCKS, ExampleDisc, FATES, SDL_BLOCKS, Says, dds_text, empty_sdl, prepare,
+    sdl_text,
+};
 use ram_lists::{Mounted, home, mount};
 use ram_medium::{Fate, Medium, MediumControl, MemMedium, ReadEnd};
-use ram_sdl::{MOST_SPARES, Sdl};
+use ram_sdl::MOST_SPARES;
 use ram_zones::Geometry;
 use std::alloc::{AllocError, Global};
 use std::test::Fail;
-
-/// The blocks of the structure in areas 1 to 4.
-const DDS_BLOCKS: [u32; 4] = [0, 2, 33, 35];
-
-/// The blocks of the secondary list in areas 1 to 4.
-const SDL_BLOCKS: [u32; 4] = [1, 3, 34, 36];
 
 /// The block of logical block 0.
 const HOME: u32 = 13;
 
 /// The spares, in the order in which they are tried.
 const SPARES: [u32; 4] = [12, 11, 10, 9];
-
-const FATES: [Fate; 3] = [Fate::Old, Fate::New, Fate::Torn];
-
-/// What a secondary list says: its counter, and of each entry the block and its replacement, or 0 where it has none.
-#[derive(Clone, Copy, Debug, PartialEq, Eq)]
-struct Says {
-    counter: u32,
-    entries: [(u32, u32); 4],
-}
-
-impl Says {
-    fn new(counter: u32, wanted: &[(u32, u32)]) -> Says {
-        let mut entries = [(0, 0); 4];
-        for (place, entry) in entries.iter_mut().zip(wanted) {
-            *place = *entry;
-        }
-        Says { counter, entries }
-    }
-
-    fn of(list: &Sdl) -> Says {
-        let mut entries = [(0, 0); 4];
-        for (place, entry) in entries.iter_mut().zip(list.entries.as_slice()) {
-            *place = (entry.defective, entry.replacement.unwrap_or(0));
-        }
-        Says {
-            counter: list.counter,
-            entries,
-        }
-    }
-}
-
-/// What comes between a mount and a write: a cut is armed at a later use, or the power is turned off.
-#[derive(Clone, Copy)]
-enum Before {
-    Cut(u32, Fate),
-    Off,
-}
-
-fn prepare(medium: &mut MemMedium, before: Before)
-    ensures cells { (mem_world medium.new).cells ≡ (mem_world medium.old).cells }
-    ensures as_many { vec_len medium.new.slots ≡ vec_len medium.old.slots }
-{
-    match before {
-        Before::Cut(k, fate) => medium.arm_cut(k.max(1), fate),
-        Before::Off => medium.power_off(),
-    }
-}
 
 /// Mounts a disc that has lists, and writes a logical block. How it ended, and what the list in memory says then.
 fn mount_and_write(
@@ -113,11 +62,7 @@ struct Disc {
 impl Disc {
     /// A disc with a secondary list of this counter that has no entry, with these blocks dead, and the power on.
     fn new(alloc: Global, counter: u32, failed: &[u32]) -> Result<Disc, Fail> {
-        let Ok(geometry) = Geometry::new(1, 1, 4) else {
-            return Err(Fail::from("no geometry"));
-        };
-        let mut medium = MemMedium::new(alloc, 41, Vec::new(alloc))?;
-        medium.power_on();
+        let ExampleDisc { medium, geometry } = ExampleDisc::blank(alloc, Vec::new(alloc))?;
         let mut disc = Disc {
             medium,
             geometry,
@@ -216,10 +161,10 @@ impl Disc {
 fn a_block_goes_home_or_to_a_spare(rt: HostRuntime) -> Result<(), Fail> {
     let alloc = rt.alloc();
     let mut disc = Disc::new(alloc, 1, &[])?;
-    assert!(rt; disc.writes(alloc, 0, (Placed::Done, Says::new(1, &[])), 2)?);
+    assert!(rt; disc.writes(alloc, 0, (Placed::Done, Says::new(1, 0, &[])), 2)?);
     assert_eq!(rt; disc.first_byte(alloc, HOME)?, Some(0x55));
     disc.medium.fail(HOME);
-    let moved = Says::new(2, &[(HOME, 12)]);
+    let moved = Says::new(2, 0, &[(HOME, 12)]);
     assert!(rt; disc.writes(alloc, 0, (Placed::Done, moved), 12)?);
     assert_eq!(rt; disc.found(alloc)?, Some(moved));
     assert_eq!(rt; disc.first_byte(alloc, 12)?, Some(0x55));
@@ -232,11 +177,11 @@ fn a_block_goes_home_or_to_a_spare(rt: HostRuntime) -> Result<(), Fail> {
 fn a_former_replacement_is_retired(rt: HostRuntime) -> Result<(), Fail> {
     let alloc = rt.alloc();
     let mut disc = Disc::new(alloc, 1, &[HOME, 15])?;
-    assert!(rt; disc.writes(alloc, 0, (Placed::Done, Says::new(2, &[(HOME, 12)])), 12)?);
+    assert!(rt; disc.writes(alloc, 0, (Placed::Done, Says::new(2, 0, &[(HOME, 12)])), 12)?);
     disc.medium.fail(12);
-    let again = Says::new(3, &[(12, 0), (HOME, 11)]);
+    let again = Says::new(3, 0, &[(12, 0), (HOME, 11)]);
     assert!(rt; disc.writes(alloc, 0, (Placed::Done, again), 12)?);
-    let other = Says::new(4, &[(12, 0), (HOME, 11), (15, 10)]);
+    let other = Says::new(4, 0, &[(12, 0), (HOME, 11), (15, 10)]);
     assert!(rt; disc.writes(alloc, 2, (Placed::Done, other), 12)?);
     assert_eq!(rt; disc.found(alloc)?, Some(other));
     Ok(())
@@ -277,14 +222,11 @@ fn passes_dead_spares(alloc: Global, dead: u32) -> Result<bool, Fail> {
     }
     let tried = count_failed(dead);
     if tried == 4 {
-        let same = Says::new(1, &[]);
+        let same = Says::new(1, 0, &[]);
         let ended = disc.writes(alloc, 0, (Placed::NoSpare, same), 10)?;
         return Ok(ended && disc.found(alloc)? == Some(same));
     }
-    let moved = Says {
-        counter: 2,
-        entries: MOVES[tried],
-    };
+    let moved = Says::new(2, 0, &MOVES[tried]);
     let ended = disc.writes(alloc, 0, (Placed::Done, moved), 12 + 2 * tried as u32)?;
     Ok(ended && disc.found(alloc)? == Some(moved))
 }
@@ -307,15 +249,15 @@ fn without_an_update_the_lists_stay(rt: HostRuntime) -> Result<(), Fail> {
     for block in SDL_BLOCKS {
         worn.medium.wear(block, 3);
     }
-    let same = Says::new(7, &[]);
+    let same = Says::new(7, 0, &[]);
     assert!(rt; worn.writes(alloc, 0, (Placed::NoUpdate { counter: 7 }, same), 12)?);
     let mut full = Disc::new(alloc, u32::MAX, &[HOME])?;
-    let last = Says::new(u32::MAX, &[]);
+    let last = Says::new(u32::MAX, 0, &[]);
     let refused = Placed::NoUpdate { counter: u32::MAX };
     assert!(rt; full.writes(alloc, 0, (refused, last), 4)?);
     assert_eq!(rt; full.found(alloc)?, Some(last));
     let mut fits = Disc::new(alloc, u32::MAX - 1, &[HOME])?;
-    let moved = Says::new(u32::MAX, &[(HOME, 12)]);
+    let moved = Says::new(u32::MAX, 0, &[(HOME, 12)]);
     assert!(rt; fits.writes(alloc, 0, (Placed::Done, moved), 12)?);
     Ok(())
 }
@@ -323,8 +265,8 @@ fn without_an_update_the_lists_stay(rt: HostRuntime) -> Result<(), Fail> {
 /// Writes a block whose home and first spare are dead, with a cut at this use. Whether the lists in memory stay, and a mount
 /// finds those before or those after, with the bytes in the spare.
 fn survives_a_cut(alloc: Global, k: u32, fate: Fate) -> Result<bool, Fail> {
-    let before = Says::new(1, &[]);
-    let after = Says::new(2, &[(12, 0), (HOME, 11)]);
+    let before = Says::new(1, 0, &[]);
+    let after = Says::new(2, 0, &[(12, 0), (HOME, 11)]);
     let mut disc = Disc::new(alloc, 1, &[HOME, 12])?;
     let ended = disc.write(alloc, Before::Cut(k, fate), 0, 0x55)?;
     disc.medium.power_on();
@@ -350,7 +292,7 @@ fn a_cut_leaves_the_lists_before_or_after(rt: HostRuntime) -> Result<(), Fail> {
 #[test]
 fn a_cut_at_home_leaves_it_old_new_or_unreadable(rt: HostRuntime) -> Result<(), Fail> {
     let alloc = rt.alloc();
-    let same = Says::new(1, &[]);
+    let same = Says::new(1, 0, &[]);
     for (fate, left) in FATES.into_iter().zip([Some(0xaa), Some(0x55), None]) {
         let mut disc = Disc::new(alloc, 1, &[])?;
         let mut old = Block::zeros(alloc)?;
@@ -371,7 +313,7 @@ fn a_cut_at_home_leaves_it_old_new_or_unreadable(rt: HostRuntime) -> Result<(), 
 fn with_the_power_off_nothing_is_done(rt: HostRuntime) -> Result<(), Fail> {
     let alloc = rt.alloc();
     let mut disc = Disc::new(alloc, 1, &[HOME])?;
-    let same = Says::new(1, &[]);
+    let same = Says::new(1, 0, &[]);
     assert_eq!(rt;
         disc.write(alloc, Before::Off, 0, 0x55)?,
         (Placed::Off, same)

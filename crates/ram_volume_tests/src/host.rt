@@ -1,7 +1,5 @@
 //! The calls of a host, through the traits of a disc, and what each answered.
 
-ghost use Rattle.std.specs.Prelude.{◌≡◌, ◌*◌, ◌≤◌, length};
-
 use crate::sectors::add_sectors;
 use crate::steps::Call;
 use crate::structures::add_structure;

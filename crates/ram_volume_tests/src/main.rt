@@ -1,18 +1,8 @@
 //! Calls a drive with defect management over a disc in memory, where no proof reaches: which answer comes when. The rows
 //! stand in `stdin`, and what they must be answered in `stdout`.
 //!
-//! A row begins with `== TITLE`. Each line behind it is a step, and is answered by one line with its number. The README says
-//! what each step does and prints:
-//!
-//! - a disc: `blank ZONES SCALE SPARES [USE ..]`, `formatted`;
-//! - a call of the host: `power`, `capacity`, `format full`, `format full drop`, `format rewrite`, `write LBA N BYTE`,
-//!   `read LBA N`;
-//! - what happens to the medium: `fail BLOCK ..`, `wear BLOCK N [TIMES]`, `cut N FATE`;
-//! - what is done to it by hand: `fill BLOCK BYTE`, `count BLOCK BYTE`, `put BLOCK AT BYTE ..`, `structure AREAS COUNTER`,
-//!   `list AREAS COUNTER under COUNTER [BLOCK>SPARE ..]`, `structures`, `copies`, `medium`;
-//! - `cut each FIRST to LAST`: the row is made anew for each of these uses and each fate.
-//!
-//! Two kinds of rows have no steps: `mixtures FROM COUNT` and `random SEEDS CALLS`.
+//! A row begins with `== TITLE`. Each line behind it is a step, and is answered by one line with its number. The README
+//! lists the steps, with what each does and prints, and the two kinds of rows that have none.
 #![tactic(auto)]
 
 mod by_hand;

@@ -1,4 +1,4 @@
-use Rattle.std.proofs.Common.{arith, refl, sym, ap, ◌≡◌, ◌+◌, ◌∙◌, subst, List, ℕ, []}
+use Rattle.std.proofs.Common.{refl, ◌∙◌}
 use Rattle.std.proofs.lemmas.Result.{err_from_is_err_and}
 use Rattle.ram_format.specs.Phases.{kind_by}
 use Rattle.ram_format.proofs.Steps.{first_ends, second_ends, third_ends, fourth_ends, makes_lists, lawful_dds}

@@ -1,4 +1,4 @@
-use Rattle.std.proofs.Common.{arith, sym, length, Bool, true, false, ◌≡◌, ◌∙◌, ◌<◌, ◌+◌}
+use Rattle.std.proofs.Common.{arith, sym, Bool, true, false, ◌≡◌, ◌∙◌}
 use Rattle.std.proofs.lemmas.List.{get_or_default}
 use Rattle.ram_format.specs.Merging.{IsKeptNext}
 use Rattle.ram_format.proofs.Merges.{kept_merged, found_next, found_merged, merged_all}

@@ -1,4 +1,4 @@
-use Rattle.std.proofs.Common.{arith, refl, sym, ◌≡◌, ◌≤◌, ◌+◌, ◌-◌, ◌∙◌, length, subst, List, ℕ}
+use Rattle.std.proofs.Common.{arith, refl, sym, ◌≤◌, ◌+◌, ◌-◌, ◌∙◌, length, subst, ℕ}
 use Rattle.ram_format.specs.Merging.{CanMerge}
 use Rattle.ram_format.proofs.Found.{kept_few, data_few, can_merge, count_few, found_all, finds_many, finds_few}
 use Rattle.ram_format.proofs.phases.find_defects.Goals as goal

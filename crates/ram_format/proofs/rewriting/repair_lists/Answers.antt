@@ -1,4 +1,3 @@
-use Rattle.std.proofs.Common.{subst}
 use Rattle.std.proofs.lemmas.Result.{err_from_is_err_and}
 use Rattle.ram_lists.specs.Lists.{lists_of}
 use Rattle.ram_format.proofs.Rewrites.{first_ends, second_ends, rewritten_by}
