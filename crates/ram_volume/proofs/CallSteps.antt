@@ -1,5 +1,5 @@
 -- What each call does in a state that refuses it, and what a drive stands for after it was turned off and on again.
-use Rattle.std.proofs.Common.{◌≡◌, ℕ, Option, Some, None, List, [], sym, subst}
+use Rattle.std.proofs.Common.{◌≡◌, ℕ, Option, Some, None, List, sym, subst}
 use Rattle.model_sectors.specs.Discs.{Standing, On, Off, candidates}
 use Rattle.model_sectors.specs.declared.ReadOut.TheVariants as reads
 use Rattle.model_sectors.specs.declared.PowerOut.{PowerOut}
@@ -8,7 +8,7 @@ use Rattle.model_drive.specs.declared.WriteOut.TheVariants as writes
 use Rattle.model_drive.specs.declared.Kind.{Kind}
 use Rattle.model_drive.specs.declared.FormatOut.{FormatOut}
 use Rattle.model_drive.specs.declared.FormatOut.TheVariants as formats
-use Rattle.model_drive.specs.Shown.{Shown, IsOn, StandsBy, StandsFor, cells_in}
+use Rattle.model_drive.specs.Shown.{Shown, IsOn, StandsFor}
 use Rattle.model_drive.specs.Reads.{ReadStep}
 use Rattle.model_drive.specs.Writes.{WriteStep}
 use Rattle.model_drive.specs.Formats.{FormatStep}
@@ -42,18 +42,6 @@ module _ (old new : Shown) (same : old ≡ new) (off : ¬ IsOn new) where
 
   pub format_steps_off : (s : Standing) → StandsFor old s → (kind : Kind) → FormatStep old new (StandsFor new) s kind formats.Off
   format_steps_off s stands = format_off s (subst (λ (x : Shown). StandsFor x s) same stands)
-
--- on a disc that is not formatted
-module _ (old new : Shown) (same : old ≡ new) (on : IsOn new) (none : new.lists ≡ None) where
-  bare_disc : (disc : List ℕ) → StandsFor new (On disc) → disc ≡ []
-  bare_disc disc stands = (subst (λ o. StandsBy new.shape (cells_in new) o new.buffer disc) none stands.2).0
-
-  write_bare : (s : Standing) → StandsFor new s → (lba n : ℕ) (from : List ℕ) → WriteStep new (StandsFor new) s lba n from writes.NotFormatted
-  write_bare (On disc) stands lba n from = (bare_disc disc stands, stands)
-  write_bare (Off discs) stands lba n from = absurd (stands.1 on)
-
-  pub write_steps_bare : (s : Standing) → StandsFor old s → (lba n : ℕ) (from : List ℕ) → WriteStep new (StandsFor new) s lba n from writes.NotFormatted
-  write_steps_bare s stands = write_bare s (subst (λ (x : Shown). StandsFor x s) same stands)
 
 -- The turning off and on of the power: what comes after is said of the drive as it was before.
 repairs_again : {V : Type 0} (text : V → List ℕ → Type 0) (place : ℕ → ℕ) (old new : Shown) (value : V) (uses : ℕ)

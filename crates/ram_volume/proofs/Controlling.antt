@@ -19,7 +19,7 @@ use Rattle.ram_medium.specs.declared.control.FailEnd.TheVariants as fails
 use Rattle.ram_medium.specs.declared.control.Arm.{Arm}
 use Rattle.ram_medium.specs.declared.control.Arm.TheVariants as arming
 use Rattle.ram_volume.specs.Shown.{shown_without}
-use Rattle.ram_volume.specs.Control.{KeepsMemory, LosesMemory, FailOnDrive, FailStands}
+use Rattle.ram_volume.specs.Control.{KeepsMemory, LosesMemory, FailStands}
 
 -- ---- cells that die
 
@@ -80,15 +80,3 @@ module _ (old new : Shown) where
   pub stands_failed : (total block : ℕ) → LosesMemory old new → FailRule total old.medium new.medium block fails.Failed → (s : Standing) → StandsFor old s → FailStands new s fails.Failed
   stands_failed total block loses rule =
       gone loses.same_shape rule.1.as_known rule.1.turns_off (cells_die old.shape total old.medium new.medium block fails.Failed rule)
-
-  -- for a caller, whatever the answer: the geometry stays
-  pub shape_kept : (block : ℕ) (end : FailEnd) → FailOnDrive old new block end → new.shape ≡ old.shape
-  shape_kept block fails.Done rule = rule.1.same_shape
-  shape_kept block (fails.NoBlock blocks) rule = rule.1.same_shape
-  shape_kept block fails.Failed rule = rule.1.same_shape
-
-  -- and the rule of the medium holds
-  pub medium_failed : (block : ℕ) (end : FailEnd) → FailOnDrive old new block end → FailRule (total old.shape) old.medium new.medium block end
-  medium_failed block fails.Done rule = rule.0
-  medium_failed block (fails.NoBlock blocks) rule = rule.0
-  medium_failed block fails.Failed rule = rule.0

@@ -9,7 +9,7 @@ use Rattle.model_medium.specs.declared.WornBlock.{WornBlock}
 use Rattle.model_medium.specs.declared.ArmedCut.{ArmedCut}
 use Rattle.model_sectors.specs.Discs.{On, Off}
 use Rattle.model_stops.specs.declared.Stop.{Stop}
-use Rattle.model_places.specs.Places.{Lists}
+use Rattle.model_places.specs.Places.{Lists, capacity_of}
 use Rattle.model_drive.specs.declared.TheConstants.{LAST_COUNTER}
 use Rattle.model_drive.specs.declared.ExpandOut.{ExpandOut}
 use Rattle.model_drive.specs.declared.ExpandOut.TheVariants as outs
@@ -21,7 +21,6 @@ use Rattle.model_drive.proofs.ExpandSteps.{expand_step_on, expand_step_off}
 use Rattle.ram_medium.specs.Laws.{ControlLaws, machine_shown}
 use Rattle.ram_zones.specs.declared.list_kind.ListKind.TheVariants as kinds
 use Rattle.ram_copies.specs.Calls.{ChangesCopiesAlone}
-use Rattle.ram_expand.specs.Sizes.{IsLawfulCapacity}
 use Rattle.ram_expand.specs.Expanding.{KeepsSize, HasGrown, LacksUpdate, StopsGrowing}
 use Rattle.ram_volume.specs.Shown.{shown_without, shown_under}
 use Rattle.ram_volume.specs.Expanding.{ExpandSteps}
@@ -41,12 +40,9 @@ module _ {M : Type 0} (world : M → World) (reaches : M → M → ℕ → Type 
   abbrev pub off : Shown
   off = shown_without shape (machine new)
 
-  lawful : IsLawfulCapacity shape lists sectors → IsLawfulSize before sectors
-  lawful size = record { some = size.some; whole = size.whole; fewer = size.fewer; most = size.most }
-
-  any : (left : Option Lists) (mark : ℕ) → IsTrue (world old).power → IsLawfulCapacity shape lists sectors → ChangesCopiesAlone world reaches kinds.Sdl shape old new
+  any : (left : Option Lists) (mark : ℕ) → IsTrue (world old).power → IsLawfulSize shape (capacity_of shape lists) sectors → ChangesCopiesAlone world reaches kinds.Sdl shape old new
       → ExpandsAny before (record { shape = shape; medium = machine new; lists = left; mark = mark; buffer = [] }) sectors lists
-  any left mark on size alone = record { was_on = on; in_use = refl; lawful = lawful size; only = alone.others }
+  any left mark on size alone = record { was_on = on; in_use = refl; lawful = size; only = alone.others }
 
   -- the disc has the capacity already, or it has now
   stays_cause : KeepsSize world reaches shape old new lists sectors lists' → StaysAsLarge before after sectors

@@ -3,25 +3,17 @@ use Rattle.std.proofs.Common.{◌≡◌, ℕ, IsTrue, Option, Some, None, List, 
 use Rattle.std.specs.Option.{option_map_or}
 use Rattle.model_geometry.specs.Geometry.{Shape}
 use Rattle.model_medium.specs.Machine.{Machine}
-use Rattle.model_copies.specs.Copies.{AreMarkedWithin}
 use Rattle.model_places.specs.Places.{Lists}
 use Rattle.model_places.specs.Valid.{AreValid}
-use Rattle.model_volume.specs.Given.{GivesNone, AreSettled}
+use Rattle.model_volume.specs.Given.{AreSettled}
 use Rattle.model_drive.specs.Sound.{AreInUse}
 use Rattle.model_drive.proofs.Powers.{KeepsRight}
-use Rattle.ram_volume.specs.Shown.{shown_without, shown_unformatted, shown_under}
+use Rattle.ram_volume.specs.Shown.{shown_without, shown_under}
 
 -- with the power off nothing is kept
 pub off_right : (shape : Shape) (machine : Machine) → ¬ IsTrue machine.world.power → KeepsRight (shown_without shape machine)
 off_right shape machine off = record {
   bare = λ on none. absurd (off on);
-  in_use = λ lists is. absurd (let e : None ≡ Some lists = is in cc);
-}
-
--- without lists in use the cells give none, and the mark is at least that of the disc
-pub bare_right : (shape : Shape) (machine : Machine) (mark : ℕ) → GivesNone shape machine.world.cells → AreMarkedWithin shape machine.world.cells mark → KeepsRight (shown_unformatted shape machine mark)
-bare_right shape machine mark gives_none marked = record {
-  bare = λ on none. record { no_buffer = refl; gives_none = λ known. gives_none; marked = λ known. marked };
   in_use = λ lists is. absurd (let e : None ≡ Some lists = is in cc);
 }
 

@@ -1,5 +1,5 @@
 -- What turning the power on shows, by how the mount ended.
-use Rattle.std.proofs.Common.{arith, ◌≡◌, ℕ, ◌+◌, Bool, true, false, IsTrue, Option, Some, None, List, [], refl, sym, ap, ◌∙◌, subst}
+use Rattle.std.proofs.Common.{arith, ◌≡◌, ℕ, ◌+◌, Bool, true, false, Option, Some, None, List, [], refl, sym, ap, ◌∙◌, subst}
 use Rattle.model_geometry.specs.Geometry.{Shape}
 use Rattle.model_lists.specs.Values.{Dds}
 use Rattle.model_medium.specs.World.{World}
@@ -11,7 +11,6 @@ use Rattle.model_medium.specs.declared.ArmedCut.{ArmedCut}
 use Rattle.model_geometry.specs.Geometry.{dds_block, sdl_block}
 use Rattle.model_lists.specs.Texts.{IsDdsText, IsSdlText}
 use Rattle.model_volume.specs.Given.{AreSeen}
-use Rattle.model_medium.proofs.Compose.{reach_none}
 use Rattle.model_stops.specs.Stops.{Stops}
 use Rattle.model_stops.specs.declared.Stop.{Stop}
 use Rattle.model_stops.specs.declared.Stop.TheVariants as stops
@@ -40,18 +39,6 @@ module _ {M : Type 0} (world : M → World) (reaches : M → M → ℕ → Type 
 
   abbrev after : M → Option Lists → ℕ → Shown
   after new lists mark = record { shape = shape; medium = machine new; lists = lists; mark = mark; buffer = [] }
-
-  -- where memory was refused before the power went on, nothing changed
-  pub refused : (off : M) → ¬ IsTrue (world off).power → MountLacksMemory (before off) (before off)
-  refused off is_off = record {
-    any = record { only = λ block other. refl; given = λ known lists given. given; unbuffered = refl };
-    off = is_off;
-    no_lists = refl;
-    no_mark = refl;
-    uses = 0;
-    few = omega arith;
-    reach = reach_none (turned_on (before off)).medium (laws.to_come off);
-  }
 
   module _ (off on : M) (turned : takes off on PowerOn) (powers : world on ≡ record (world off) { power = true }) where
     abbrev old : Shown

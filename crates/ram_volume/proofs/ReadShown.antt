@@ -161,7 +161,3 @@ module _ {M : Type 0} (world : M → World) (reaches : M → M → ℕ → Type 
 
       pub fault_steps : (into : List ℕ) → StopsInBlock world reaches old new held shape lists lba n stops.Fault → ReadSteps (under old held) (shown_without shape (machine new)) lba n into outs.Fault
       fault_steps into did = stopped_steps_by stops.Fault did outs.Fault (fault_cause did) (λ same. cc) into
-
-      -- the power was on
-      pub never_off : StopsInBlock world reaches old new held shape lists lba n stops.Off → ⊥
-      never_off did = did.stops.was_off on

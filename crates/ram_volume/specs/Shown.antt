@@ -24,7 +24,13 @@ shown_unformatted shape machine mark = record { shape = shape; medium = machine;
 
 -- what one shows with these lists in use: its mark is the counter of their structure
 abbrev pub shown_under : Shape → Machine → Lists → List (ℕ × List ℕ) → Shown
-shown_under shape machine lists buffer = record { shape = shape; medium = machine; lists = Some lists; mark = lists.dds.counter; buffer = buffer }
+shown_under shape machine lists buffer = record {
+  shape = shape;
+  medium = machine;
+  lists = Some lists;
+  mark = lists.dds.counter;
+  buffer = buffer;
+}
 
 module _ {M : Type 0} {c : ControlGhosts M} {d : Ghosts M} where
   -- what each state shows
@@ -35,7 +41,8 @@ module _ {M : Type 0} {c : ControlGhosts M} {d : Ghosts M} where
   shown_bare bare = shown_unformatted bare.geometry (machine_shown d.world c.arms c.armed_cut bare.medium) bare.mark
 
   abbrev pub shown_ready : Ready M c d → Shown
-  shown_ready ready = shown_under ready.geometry (machine_shown d.world c.arms c.armed_cut ready.medium) (lists_of ready.lists) ready.buffer
+  shown_ready ready =
+      shown_under ready.geometry (machine_shown d.world c.arms c.armed_cut ready.medium) (lists_of ready.lists) ready.buffer
 
   abbrev pub shown_state : State M c d → Shown
   shown_state (states.Off off) = shown_off off

@@ -1,5 +1,5 @@
--- That a drive stands for something, and what it shows by the state that it holds: for `Volume` and the calls under it. (This
--- project's own, as all here.)
+-- That a drive stands for something, and what it shows by the state that it holds: for `Volume` and the calls under it.
+-- (This project's own, as all here.)
 use Rattle.std.specs.Prelude.{IsSome, Option, Some, None}
 use Rattle.std.proofs.lemmas.Bool.{false≢true}
 use Rattle.model_sectors.specs.Discs.{Standing}

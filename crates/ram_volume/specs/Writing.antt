@@ -26,7 +26,8 @@ abbrev pub WriteSteps : Shown → Shown → (lba n : ℕ) → List ℕ → Write
 WriteSteps old new lba n bytes out = (s : Standing) → StandsFor old s → WriteStep new (StandsFor new) s lba n bytes out
 
 -- The medium and the buffered blocks before a part of a request, and the logical block of the part with its home.
-module _ {M : Type 0} (world : M → World) (reaches : M → M → ℕ → Type 0) (old : M) (held : List (ℕ × List ℕ)) (lba n i place : ℕ) where
+module _ {M : Type 0} (world : M → World) (reaches : M → M → ℕ → Type 0)
+    (old : M) (held : List (ℕ × List ℕ)) (lba n i place : ℕ) where
   -- the medium, the block in work and the buffered blocks after the look for the rest of the block
   module _ (new : M) (rest : List ℕ) (held' : List (ℕ × List ℕ)) where
     -- the request covers all of the block, and nothing was done
@@ -59,7 +60,8 @@ module _ {M : Type 0} (world : M → World) (reaches : M → M → ℕ → Type 
     pub stopped : FetchStopped world reaches old new held i place stop
 
 -- The media before and after the write of a part, the lists in use, the buffered blocks, and the bytes of the request.
-module _ {M : Type 0} (world : M → World) (reaches : M → M → ℕ → Type 0) (shape : Shape) (old new : M) (lists lists' : Lists)
+module _ {M : Type 0} (world : M → World) (reaches : M → M → ℕ → Type 0)
+    (shape : Shape) (old new : M) (lists lists' : Lists)
     (held held' : List (ℕ × List ℕ)) (lba n i : ℕ) (bytes : List ℕ) where
   -- The rest of the block was in hand, and its part was merged into it. Then came what the rest of the record says.
   pub record AfterRest (Then : M → List ℕ → List (ℕ × List ℕ) → Type 0) : Type 0 where
@@ -76,12 +78,12 @@ module _ {M : Type 0} (world : M → World) (reaches : M → M → ℕ → Type 
     pub buffer_is : held' ≡ with_newest i put held_mid
 
   -- no spare is left for it
-  pub record MeetsNoSpare (mid : M) (put : List ℕ) (held_mid : List (ℕ × List ℕ)) : Type 0 where
+  pub record PartMeetsNoSpare (mid : M) (put : List ℕ) (held_mid : List (ℕ × List ℕ)) : Type 0 where
     pub finds : FindsNoSpare world reaches shape mid new lists i put lists'
     pub buffer_is : held' ≡ held_mid
 
   -- the list of this counter could not be updated for it
-  pub record MeetsNoCopy (counter : ℕ) (mid : M) (put : List ℕ) (held_mid : List (ℕ × List ℕ)) : Type 0 where
+  pub record PartMeetsNoCopy (counter : ℕ) (mid : M) (put : List ℕ) (held_mid : List (ℕ × List ℕ)) : Type 0 where
     pub finds : FindsNoCopy world reaches shape mid new lists i put lists' counter
     pub buffer_is : held' ≡ held_mid
 
@@ -95,8 +97,8 @@ module _ {M : Type 0} (world : M → World) (reaches : M → M → ℕ → Type 
   abbrev pub WritesPart : Wrote → Type 0
   WritesPart wrote.Done = AfterRest PutsPart
   WritesPart wrote.NoRest = MeetsUnread
-  WritesPart wrote.NoSpare = AfterRest MeetsNoSpare
-  WritesPart (wrote.NoUpdate counter) = AfterRest (MeetsNoCopy counter)
+  WritesPart wrote.NoSpare = AfterRest PartMeetsNoSpare
+  WritesPart (wrote.NoUpdate counter) = AfterRest (PartMeetsNoCopy counter)
 
 -- the write of a part was stopped: in the look for its rest, or in the block
 abbrev pub PartStops : {M : Type 0} → (M → World) → (M → M → ℕ → Type 0) → Shape → (old new : M) → Lists
