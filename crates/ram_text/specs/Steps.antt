@@ -59,8 +59,10 @@ pub record Refilled (before after : Reading) (rest rest' : Option (List ℕ)) (f
 -- what one more piece of the source brings (this project's own)
 abbrev pub FillRule : Reading → Reading → Option (List ℕ) → Option (List ℕ) → ℕ → ℕ → Take → Type 0
 FillRule before after rest rest' faults faults' (takes.Got n) = Refilled before after rest rest' faults faults' n
-FillRule before after rest rest' faults faults' takes.End = (after ≡ without_line before) × IsAtEnd rest × (rest' ≡ rest) × (faults' ≡ faults)
-FillRule before after rest rest' faults faults' takes.Failed = (after ≡ without_line before) × (rest' ≡ rest) × Rose faults faults'
+FillRule before after rest rest' faults faults' takes.End =
+    (after ≡ without_line before) × IsAtEnd rest × (rest' ≡ rest) × (faults' ≡ faults)
+FillRule before after rest rest' faults faults' takes.Failed =
+    (after ≡ without_line before) × (rest' ≡ rest) × Rose faults faults'
 
 -- what is buffered is the last line, unless nothing is (this project's own)
 pub record TookLast (before after : Reading) : Type 0 where
