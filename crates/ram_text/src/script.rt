@@ -24,7 +24,7 @@ pub enum Line {
         zones: u32,
         /// How large the zones are, from 1 to 100.
         scale: u32,
-        /// How many primary spares the disc has, in blocks, at least 1.
+        /// How many primary spares the disc has, in blocks: at least 1, at most 4,092, and fewer than its data blocks.
         psa: u32,
     },
     /// Turn the power off and on again.
