@@ -1,5 +1,6 @@
 //! The program: `ram_drive run IMAGE` answers the script on standard input over an image file, and writes the report
-//! to standard output; `ram_drive generate IMAGE N` answers one that is drawn from a number; `--help` and `--version` tell of the program. The exit status tells how the run ended.
+//! to standard output; `ram_drive generate IMAGE N` answers one that is drawn from a number; `--help` and `--version`
+//! tell of the program. The exit status tells how the run ended.
 #![tactic(auto)]
 
 use ram_outside::{FileOpener, StdSink, StdSource};

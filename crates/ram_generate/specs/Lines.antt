@@ -15,12 +15,15 @@ transfer_text code lba n data' = codes "cdb " ++ (encode_lower (transfer_block c
 abbrev pub write_text : (lba n first : ℕ) → List ℕ
 write_text lba n first = transfer_text 0x2a lba n (codes " count " ++ (encode_lower (first ∷ []) ++ codes "\n"))
 
+-- a read of so many sectors
 abbrev pub read_text : (lba n : ℕ) → List ℕ
 read_text lba n = transfer_text 0x28 lba n (codes "\n")
 
+-- this block dies
 abbrev pub fail_text : (block : ℕ) → List ℕ
 fail_text block = codes "fail " ++ (decimal block ++ codes "\n")
 
+-- this block dies at its n-th use
 abbrev pub wear_text : (block n : ℕ) → List ℕ
 wear_text block n = codes "wear " ++ (decimal block ++ (codes " " ++ (decimal n ++ codes "\n")))
 
@@ -28,9 +31,11 @@ wear_text block n = codes "wear " ++ (decimal block ++ (codes " " ++ (decimal n 
 abbrev pub fate_text : ℕ → List ℕ
 fate_text fate = if fate == 0 then codes " old\n" else if fate == 1 then codes " new\n" else codes " torn\n"
 
+-- the power is cut at the n-th use, with the fate of this number
 abbrev pub cut_text : (n fate : ℕ) → List ℕ
 cut_text n fate = codes "cut " ++ (decimal n ++ fate_text fate)
 
+-- the power goes off and on again, and a first command is told of it
 abbrev pub power_text : List ℕ
 power_text = codes "power\ncdb 000000000000\n"
 

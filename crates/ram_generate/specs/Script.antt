@@ -48,6 +48,7 @@ step_by kind words =
     else if kind == 97 then cut_step words
     else power_step words
 
+-- one step: its kind is drawn of a hundred, and then its numbers
 abbrev pub one_step : Lcg → Drawn
 one_step words = let kind = draw 100 words in step_by kind.0 kind.1
 

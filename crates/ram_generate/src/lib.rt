@@ -11,6 +11,7 @@ ghost use Rattle.ram_generate.specs.Script.{script_from};
 
 use crate::drawing::started;
 use crate::steps::add_steps;
+pub use crate::texts::{add, add_number};
 use std::alloc::{AllocError, Global};
 
 /// How many steps are drawn behind the first lines.

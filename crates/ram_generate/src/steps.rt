@@ -60,7 +60,7 @@ fn add_fail(script: &mut Vec<u8>, words: &mut Pcg32) -> Result<(), AllocError>
 {
     let block = 8 + draw(words, 102);
     add(script, b"fail ")?;
-    add_number(script, block)?;
+    add_number(script, u64::from(block))?;
     add(script, b"\n")
 }
 
@@ -71,9 +71,9 @@ fn add_wear(script: &mut Vec<u8>, words: &mut Pcg32) -> Result<(), AllocError>
     let block = 8 + draw(words, 102);
     let n = 1 + draw(words, 8);
     add(script, b"wear ")?;
-    add_number(script, block)?;
+    add_number(script, u64::from(block))?;
     add(script, b" ")?;
-    add_number(script, n)?;
+    add_number(script, u64::from(n))?;
     add(script, b"\n")
 }
 
@@ -84,7 +84,7 @@ fn add_cut(script: &mut Vec<u8>, words: &mut Pcg32) -> Result<(), AllocError>
     let n = 1 + draw(words, 40);
     let fate = draw(words, 3);
     add(script, b"cut ")?;
-    add_number(script, n)?;
+    add_number(script, u64::from(n))?;
     add(script, fate_words(fate))
 }
 

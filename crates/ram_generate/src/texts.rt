@@ -1,4 +1,4 @@
-//! Texts of lines, added to a script.
+//! Texts of lines, added to a script or to another text.
 
 ghost use Rattle.std.specs.Prelude.{◌≡◌, ◌++◌, ◌*◌, length, decimal, OnOk};
 ghost use Rattle.hex.specs.Hex.{encode_lower};
@@ -15,7 +15,7 @@ pub fn add(script: &mut Vec<u8>, text: &[u8]) -> Result<(), AllocError>
 }
 
 /// Adds a number in decimal digits.
-pub fn add_number(script: &mut Vec<u8>, number: u32) -> Result<(), AllocError>
+pub fn add_number(script: &mut Vec<u8>, number: u64) -> Result<(), AllocError>
     ensures { OnOk result (script.new.items ≡ script.old.items ++ decimal number) }
 {
     let mut buffer = Buffer::new();

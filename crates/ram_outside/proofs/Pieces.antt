@@ -1,3 +1,4 @@
+-- A piece of what lies in memory, and what is left behind it.
 use Rattle.std.proofs.Common.{◌≡◌, ℕ, ◌+◌, List, ◌++◌, length, take, drop, sym, ap, ◌∙◌}
 use Rattle.std.proofs.lemmas.List.{take_at, take-append-drop, drop-drop}
 

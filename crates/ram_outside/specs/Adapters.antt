@@ -15,7 +15,8 @@ use Rattle.ram_outside.specs.declared.opener.Opened.TheVariants as openings
 -- What becomes of the outcome of a call of the system: its value, or one error more in the count.
 -- (This project's own.)
 abbrev pub CountsError : {T E : Type 0} → Result T E → Option T → ℕ → ℕ → Type 0
-CountsError outcome value faults faults' = MatchResult outcome (λ x. (value ≡ Some x) × (faults' ≡ faults)) (λ _. (value ≡ None) × (faults' ≡ counted faults 1))
+CountsError outcome value faults faults' =
+    MatchResult outcome (λ x. (value ≡ Some x) × (faults' ≡ faults)) (λ _. (value ≡ None) × (faults' ≡ counted faults 1))
 
 -- A count of failures after a call of `take`: one more exactly where the call failed. (This project's own.)
 abbrev pub count_after_take : Take → ℕ → ℕ

@@ -25,20 +25,25 @@ pub record IsChanged (change : List ℕ → List ℕ) (before after : Option (Li
 
 -- What `len` may do, by its answer. (This project's own.)
 abbrev pub LenRule : Option (List ℕ) → Option (List ℕ) → ℕ → ℕ → Length → Type 0
-LenRule before after faults faults' (lengths.Is n) = IsUnchanged before after faults faults' × IfSome before (λ held. n ≡ length held)
+LenRule before after faults faults' (lengths.Is n) =
+    IsUnchanged before after faults faults' × IfSome before (λ held. n ≡ length held)
 LenRule before after faults faults' lengths.Failed = ImageFails before after faults faults'
 
 -- What `read_at` may do, by its answer; `into` is what the slice then holds. (This project's own.)
 abbrev pub ReadAtRule : Option (List ℕ) → Option (List ℕ) → ℕ → ℕ → ℕ → List ℕ → Moved → Type 0
-ReadAtRule before after faults faults' at into moves.Done = IsUnchanged before after faults faults' × IfSome before (λ held. into ≡ take (length into) (drop at held))
+ReadAtRule before after faults faults' at into moves.Done =
+    IsUnchanged before after faults faults' × IfSome before (λ held. into ≡ take (length into) (drop at held))
 ReadAtRule before after faults faults' at into moves.Failed = ImageFails before after faults faults'
 
 -- What `write_at` may do, by its answer. (This project's own.)
 abbrev pub WriteAtRule : Option (List ℕ) → Option (List ℕ) → ℕ → ℕ → ℕ → List ℕ → Moved → Type 0
 WriteAtRule before after faults faults' at from moves.Done = IsChanged (put_at at from) before after faults faults'
-WriteAtRule before after faults faults' at from moves.Failed = Rose faults faults' × MatchOption before (after ≡ before) (λ held. MatchOption after ⊥ (λ held'. PartlyPut at from held held'))
+WriteAtRule before after faults faults' at from moves.Failed =
+    Rose faults faults'
+    × MatchOption before (after ≡ before) (λ held. MatchOption after ⊥ (λ held'. PartlyPut at from held held'))
 
 -- What `set_len` may do, by its answer. (This project's own.)
 abbrev pub SetLenRule : Option (List ℕ) → Option (List ℕ) → ℕ → ℕ → ℕ → Moved → Type 0
 SetLenRule before after faults faults' len moves.Done = IsChanged (resized len) before after faults faults'
-SetLenRule before after faults faults' len moves.Failed = Rose faults faults' × ((after ≡ before) ⊎ (after ≡ option_map (resized len) before))
+SetLenRule before after faults faults' len moves.Failed =
+    Rose faults faults' × ((after ≡ before) ⊎ (after ≡ option_map (resized len) before))

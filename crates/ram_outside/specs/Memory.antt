@@ -43,7 +43,7 @@ pub record OpenerState : Type 0 where
   pub calls : CallLog
 
 -- The next n bytes came, as many as fit the slice and one piece; what the slice held behind them stays in it. (This
--- project's own.) (this project's own)
+-- project's own.)
 pub record GivesPiece (old new : SourceState) (into into' : List ℕ) (n : ℕ) : Type 0 where
   pub no_failure : ¬ NextCallFails old.calls
   pub some : 0 < n
@@ -96,8 +96,10 @@ PutsExactly old new piece puts.Failed = RefusesPiece old new piece
 
 -- Exactly what `len` of an image in memory does, by its answer. (This project's own.)
 abbrev pub GivesLengthExactly : ImageState → ImageState → Length → Type 0
-GivesLengthExactly old new (lengths.Is n) = (¬ NextCallFails old.calls) × (n ≡ length old.bytes) × (new ≡ record old { calls = with_call old.calls })
-GivesLengthExactly old new lengths.Failed = NextCallFails old.calls × (new ≡ record old { calls = with_failed_call old.calls })
+GivesLengthExactly old new (lengths.Is n) =
+    (¬ NextCallFails old.calls) × (n ≡ length old.bytes) × (new ≡ record old { calls = with_call old.calls })
+GivesLengthExactly old new lengths.Failed =
+    NextCallFails old.calls × (new ≡ record old { calls = with_failed_call old.calls })
 
 -- the slice has the bytes from here on, and nothing but the number of calls changed (this project's own)
 pub record ReadsBytes (old new : ImageState) (at : ℕ) (into' : List ℕ) : Type 0 where
@@ -120,8 +122,10 @@ ReadsImageExactly old new at into into' moves.Failed = FailsToRead old new into 
 -- Exactly what `write_at` of an image in memory does, by its answer: a call that fails writes nothing.
 -- (This project's own.)
 abbrev pub WritesImageExactly : ImageState → ImageState → ℕ → List ℕ → Moved → Type 0
-WritesImageExactly old new at from moves.Done = (¬ NextCallFails old.calls) × (new ≡ record old { bytes = put_at at from old.bytes; calls = with_call old.calls })
-WritesImageExactly old new at from moves.Failed = NextCallFails old.calls × (new ≡ record old { calls = with_failed_call old.calls })
+WritesImageExactly old new at from moves.Done =
+    (¬ NextCallFails old.calls) × (new ≡ record old { bytes = put_at at from old.bytes; calls = with_call old.calls })
+WritesImageExactly old new at from moves.Failed =
+    NextCallFails old.calls × (new ≡ record old { calls = with_failed_call old.calls })
 
 -- the image has these bytes now, no less room, and these calls (this project's own)
 pub record HasBytes (old new : ImageState) (bytes : List ℕ) (calls : CallLog) : Type 0 where
@@ -132,8 +136,10 @@ pub record HasBytes (old new : ImageState) (bytes : List ℕ) (calls : CallLog) 
 -- Exactly what `set_len` of an image in memory does, by its answer: it fails where the call is one that fails, or
 -- where room was refused, and then no byte changes. (This project's own.)
 abbrev pub ResizesExactly : ImageState → ImageState → ℕ → Moved → Type 0
-ResizesExactly old new len moves.Done = (¬ NextCallFails old.calls) × HasBytes old new (resized len old.bytes) (with_call old.calls)
-ResizesExactly old new len moves.Failed = (NextCallFails old.calls ⊎ (old.room < len)) × HasBytes old new old.bytes (with_failed_call old.calls)
+ResizesExactly old new len moves.Done =
+    (¬ NextCallFails old.calls) × HasBytes old new (resized len old.bytes) (with_call old.calls)
+ResizesExactly old new len moves.Failed =
+    (NextCallFails old.calls ⊎ (old.room < len)) × HasBytes old new old.bytes (with_failed_call old.calls)
 
 -- this image, with no failure counted (this project's own)
 abbrev pub unfailed : ImageState → ImageState
@@ -147,8 +153,13 @@ and_asked_now name opener = record opener { asked = opener.asked ++ name ∷ [] 
 -- or where the image was given before; or where memory for the name was refused, and then it asked for nothing.
 -- (This project's own.)
 abbrev pub OpensExactly : List ℕ → OpenerState → OpenerState → Opened ImageState → Type 0
-OpensExactly name old new (openings.Image image) = (¬ NextCallFails old.calls) × (old.next ≡ Some image) × (new ≡ record (and_asked_now name old) { next = None; calls = with_call old.calls })
-OpensExactly name old new openings.Failed = ((NextCallFails old.calls ⊎ (old.next ≡ None)) × (new ≡ record (and_asked_now name old) { calls = with_failed_call old.calls })) ⊎ (new ≡ record old { calls = with_failed_call old.calls })
+OpensExactly name old new (openings.Image image) =
+    (¬ NextCallFails old.calls) × (old.next ≡ Some image)
+    × (new ≡ record (and_asked_now name old) { next = None; calls = with_call old.calls })
+OpensExactly name old new openings.Failed =
+    ((NextCallFails old.calls ⊎ (old.next ≡ None))
+    × (new ≡ record (and_asked_now name old) { calls = with_failed_call old.calls }))
+    ⊎ (new ≡ record old { calls = with_failed_call old.calls })
 
 -- the opener after it took this image back (this project's own)
 abbrev pub after_close : ImageState → OpenerState → OpenerState

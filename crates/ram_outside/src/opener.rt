@@ -14,6 +14,7 @@ pub enum Opened<I> {
 
 /// Opens disc images by name, and takes them back.
 pub trait Opener {
+    /// The images that it opens.
     type Image: Image;
 
     /// Whether of openers of this kind it is known what was handed back.

@@ -99,10 +99,6 @@ at_most_more counts (replies.Command cdb (answers.Check given)) n few = let more
           (raised_at_most given (get_or counts.checks k d) n (few.checks k d inside) (is_same_sense (get_or counts.checks k d).sense given));
     }
 
--- no count of a sense is near the end of its type
-pub below_end : (counts : AnswerCounts) → AreAtMost counts (2 ^ 63) → All (λ (row : SenseCount). row.times < 2 ^ 64 - 1) counts.checks
-below_end counts few = λ k d below. let row = few.checks k d below in omega (arith, row)
-
 -- a list of which the first ones are mapped
 abbrev pub mapped_to : {X : Type 0} → (X → X) → ℕ → List X → List X
 mapped_to f zero xs = xs

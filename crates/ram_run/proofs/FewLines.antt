@@ -3,7 +3,12 @@ use Rattle.std.specs.Prelude.{◌≡◌, ℕ, ◌+◌, ◌^◌, ◌<◌, ◌≤�
 use Rattle.std.proofs.Common.{arith, ap}
 use Rattle.ram_run.specs.declared.state.Tally.{Tally}
 use Rattle.ram_run.specs.Counting.{AreAtMost}
-use Rattle.ram_run.specs.RunState.{IsFewLines}
+
+-- no more lines came than bytes, and no more answers than lines, of any kind
+pub record IsFewLines (tally : Tally) (taken : ℕ) : Type 0 where
+  pub lines : tally.lines ≤ taken
+  pub answered : tally.answered ≤ tally.lines
+  pub counts : AreAtMost tally.counts tally.lines
 
 -- one line more
 pub few_more : (a b c : Tally) (n m k : ℕ) → IsFewLines a n → n < m → k ≡ m → b ≡ a → (c.lines ≡ b.lines + 1) × (c.answered ≤ b.answered + 1) × AreAtMost c.counts c.lines → IsFewLines c k

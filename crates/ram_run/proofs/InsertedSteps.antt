@@ -1,7 +1,6 @@
 -- What a line leaves of the inserted disc, and what the image is as it is handed back.
-use Rattle.std.specs.Prelude.{◌≡◌, ℕ, Option, None, Some, List}
+use Rattle.std.specs.Prelude.{◌≡◌, ℕ, List}
 use Rattle.std.proofs.Common.{refl, sym, ap, ◌∙◌, subst}
-use Rattle.std.proofs.lemmas.Bool.{false≢true}
 use Rattle.model_sectors.specs.Discs.{Standing, On, Off}
 use Rattle.model_drive.specs.Shown.{Shown, IsKnown, StandsFor}
 use Rattle.model_target.specs.declared.host.Host.{Host}
@@ -12,11 +11,10 @@ use Rattle.ram_mmc.specs.declared.target.Target.{Target}
 use Rattle.ram_run.specs.declared.inserted.Inserted.TheVariants as inserts
 use Rattle.ram_run.specs.declared.line.DiscLine.{DiscLine}
 use Rattle.ram_run.specs.declared.line.Work.TheVariants as works
-use Rattle.ram_run.specs.Drive.{HasCells}
 use Rattle.ram_run.specs.Replies.{Outcome}
 use Rattle.ram_run.specs.States.{State, Served, Unopened, Disc, IsIn, IsLabelled}
 use Rattle.ram_run.specs.LineSteps.{DiscRule, DiscStep}
-use Rattle.ram_run.specs.Inserted.{Stands, LeavesImage, IsAnswered}
+use Rattle.ram_run.specs.Inserted.{Stands, IsAnswered}
 use Rattle.ram_run.proofs.StatesAfter.{rule_found}
 use Rattle.ram_run.proofs.Labels.{stays_labelled}
 
@@ -54,11 +52,3 @@ module _ {D I : Type 0} (drives : Drives D) (images : Images I) (laws : SectorsL
 known_of : (shown : Shown) (standing : Standing) → StandsFor shown standing → IsKnown shown
 known_of shown (On disc) stands = stands.0
 known_of shown (Off discs) stands = stands.0
-
--- the image of a disc as it is handed back
-pub image_left : (shown : Shown) (stands : Standing → Type 0) (host : Host) (s : Served) → IsIn shown stands host s → (image : Option (List ℕ)) → HasCells shown.medium.world image → LeavesImage (Disc s) image
-image_left shown stands host s is image cells = by_bytes image (subst (λ (x : Shown). HasCells x.medium.world image) is.shown_is cells)
-  where
-    by_bytes : (o : Option (List ℕ)) → HasCells s.disc.shown.medium.world o → LeavesImage (Disc s) o
-    by_bytes None unknown = absurd (false≢true (sym unknown ∙ known_of s.disc.shown s.disc.standing s.disc.stands))
-    by_bytes (Some bytes) has = has s.disc.shown.shape s.labelled

@@ -16,7 +16,6 @@ pub mod Finishes
 pub mod Summaries
 pub mod Generated
 pub mod Few
-pub mod Pieces
 pub mod Closes
 pub mod Decoded
 pub mod WrittenDiscs

@@ -100,7 +100,8 @@ pub record IsWrittenInPart {first : Beginning} (far : SoFar first) (written : Op
 -- the image is as the lines leave it, or as the next one does in which the image failed or memory ran out
 abbrev pub IsLeftBySome : {first : Beginning} → SoFar first → Option (List ℕ) → Type 0
 IsLeftBySome far image =
-    LeavesImage far.now image ⊎ ComesToThis far image (Err stopped.ImageFault) ⊎ ComesToThis far image (Err stopped.NoMemory)
+    LeavesImage far.now image ⊎ ComesToThis far image (Err stopped.ImageFault)
+    ⊎ ComesToThis far image (Err stopped.NoMemory)
 
 -- the sink failed
 pub record IsReportCutOff (first : Beginning) (after : Aftermath) : Type 0 where
@@ -151,10 +152,14 @@ last_of tally ending = text_if_any (last_line tally ending)
 
 -- what printing the last line makes of what is due; after a failure of the sink nothing is printed
 abbrev pub LastLineRule : Option (List ℕ) → Option (List ℕ) → ℕ → ℕ → Tally → Ending → Print → Type 0
-LastLineRule due due' faults faults' tally (Err stopped.SinkFault) result = (result ≡ prints.Failed) × (due' ≡ due) × (faults' ≡ faults)
-LastLineRule due due' faults faults' tally (Err stopped.SourceFault) result = (result ≡ prints.Done) × (due' ≡ due) × (faults' ≡ faults)
-LastLineRule due due' faults faults' tally (Err stopped.ImageFault) result = (result ≡ prints.Done) × (due' ≡ due) × (faults' ≡ faults)
-LastLineRule due due' faults faults' tally (Err stopped.NoMemory) result = (result ≡ prints.Done) × (due' ≡ due) × (faults' ≡ faults)
+LastLineRule due due' faults faults' tally (Err stopped.SinkFault) result =
+    (result ≡ prints.Failed) × (due' ≡ due) × (faults' ≡ faults)
+LastLineRule due due' faults faults' tally (Err stopped.SourceFault) result =
+    (result ≡ prints.Done) × (due' ≡ due) × (faults' ≡ faults)
+LastLineRule due due' faults faults' tally (Err stopped.ImageFault) result =
+    (result ≡ prints.Done) × (due' ≡ due) × (faults' ≡ faults)
+LastLineRule due due' faults faults' tally (Err stopped.NoMemory) result =
+    (result ≡ prints.Done) × (due' ≡ due) × (faults' ≡ faults)
 LastLineRule due due' faults faults' tally ending result = PrintRule due due' faults faults' (last_of tally ending) result
 
 -- the sink's bytes and its count
@@ -174,7 +179,8 @@ pub record EndsAtSink (due : Option (List ℕ)) (old new : SinkView) (tally : Ta
   pub cause : (ending ≡ Err stopped.SinkFault) ⊎ Rose old.faults new.faults
 
 -- all that is due is written, and the last line
-pub record EndsWhole (due : Option (List ℕ)) (old new : SinkView) (tally : Tally) (ending : Ending) (status : Status) : Type 0 where
+pub record EndsWhole (due : Option (List ℕ)) (old new : SinkView) (tally : Tally) (ending : Ending)
+    (status : Status) : Type 0 where
   pub status_is : status ≡ status_of ending
   pub whole : new.written ≡ append_known due (last_of tally ending)
   pub count : new.faults ≡ old.faults
@@ -193,7 +199,8 @@ pub record Begins (first : Beginning) (left written image : Option (List ℕ)) :
 
 -- What is known of source, sink and opener is what the run begins with: the script that is left, what was written before,
 -- and the image that is opened next. The opener tells what is handed back.
-pub record IsBeginning {I : Type 0} (bytes_of : I → Option (List ℕ)) (first : Beginning) (before : Surroundings I) (returned_known : Bool) : Type 0 where
+pub record IsBeginning {I : Type 0} (bytes_of : I → Option (List ℕ)) (first : Beginning) (before : Surroundings I)
+    (returned_known : Bool) : Type 0 where
   pub image : I
   pub next_is : before.opener.next ≡ Some image
   pub begins : Begins first before.left before.written (bytes_of image)

@@ -18,7 +18,7 @@ use Rattle.ram_run.specs.RunCounts.{counts_of}
 use Rattle.ram_run.specs.Progress.{Beginning, SoFar, IsTallied, IsLastIfAny, Ending, last_line}
 use Rattle.ram_run.specs.Endings.{ComesToThis, IsOfScript, IsUnopened, bytes_returned, status_of}
 use Rattle.ram_run.specs.Summary.{summary_text}
-use Rattle.ram_run.specs.Words.{Surroundings, IsNotOpened, AsksOnce}
+use Rattle.ram_run.specs.Words.{Surroundings, IsNotOpened, AsksOnce, WritesText, TextCount}
 
 -- What a run of the script of this number begins with: no report, and the image that is opened next. The opener tells
 -- what is handed back. (This project's own, as all here.)
@@ -119,17 +119,13 @@ pub record AsksUnread {I : Type 0} (old new : Surroundings I) (name : List ℕ) 
 
 -- a text is written, by the status; with that of no memory nothing is
 abbrev pub TellsOrNot : Option (List ℕ) → Option (List ℕ) → List ℕ → Status → Type 0
-TellsOrNot written written' text statuses.Done = written' ≡ append_known written text
-TellsOrNot written written' text statuses.SinkFault = (n : ℕ) × (written' ≡ append_known written (take n text))
 TellsOrNot written written' text statuses.NoMemory = written' ≡ written
-TellsOrNot written written' text _ = ⊥
+TellsOrNot written written' text status = WritesText written written' text status
 
 -- the sink's count then
 abbrev pub TellsOrNotCount : ℕ → ℕ → Status → Type 0
-TellsOrNotCount faults faults' statuses.Done = faults' ≡ faults
-TellsOrNotCount faults faults' statuses.SinkFault = Rose faults faults'
 TellsOrNotCount faults faults' statuses.NoMemory = faults' ≡ faults
-TellsOrNotCount faults faults' _ = ⊥
+TellsOrNotCount faults faults' status = TextCount faults faults' status
 
 module _ {K O I : Type 0} (left : Option (List ℕ)) (source : ℕ) (sinks : Sinks K) (openers : Openers O I) where
   -- the surroundings of sink and opener, beside a source that has this left and has failed so often

@@ -29,7 +29,8 @@ LeavesImage s None = ⊥
 LeavesImage s (Some bytes) = IsLeft s bytes
 
 -- What became of a line, of which the state before it is s, where the inserted disc then stands for some states.
-pub record IsAnswered (s : State) (work : Work) (payload data_in : List ℕ) (after : State → Type 0) (outcome : Outcome) : Type 0 where
+pub record IsAnswered (s : State) (work : Work) (payload data_in : List ℕ) (after : State → Type 0)
+    (outcome : Outcome) : Type 0 where
   pub state : State
   pub step : Step s work payload outcome data_in state
   pub stands : after state

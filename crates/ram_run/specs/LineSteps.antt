@@ -81,19 +81,22 @@ module _ (old new : Shown) (before after : Standing → Type 0) (host later : Ho
   DiscRule (Command cdb) payload outcome data_in = CommandLine cdb payload outcome data_in
 
 -- the same between two discs of one geometry
-pub record DiscStep (s t : Served) (line : DiscLine) (payload : List ℕ) (outcome : Outcome) (data_in : List ℕ) : Type 0 where
+pub record DiscStep (s t : Served) (line : DiscLine) (payload : List ℕ) (outcome : Outcome)
+    (data_in : List ℕ) : Type 0 where
   pub same_shape : t.disc.shown.shape ≡ s.disc.shown.shape
   pub rule : DiscRule s.disc.shown t.disc.shown (λ x. x ≡ s.disc.standing) (λ x. x ≡ t.disc.standing) s.host t.host
       line payload outcome data_in
 
 -- the same in any state: without a disc the line cannot be answered
 abbrev pub OnDisc : State → DiscLine → List ℕ → Outcome → List ℕ → State → Type 0
-OnDisc (Unopened bytes) line payload outcome data_in t = (outcome ≡ Err stopped.NotADisc) × (data_in ≡ []) × (t ≡ Unopened bytes)
+OnDisc (Unopened bytes) line payload outcome data_in t =
+    (outcome ≡ Err stopped.NotADisc) × (data_in ≡ []) × (t ≡ Unopened bytes)
 OnDisc (Disc s) line payload outcome data_in (Unopened bytes) = ⊥
 OnDisc (Disc s) line payload outcome data_in (Disc t) = DiscStep s t line payload outcome data_in
 
 -- From s a line with this work and these data may have this outcome, give these data, and leave t.
 abbrev pub Step : State → Work → List ℕ → Outcome → List ℕ → State → Type 0
 Step s works.Nothing payload outcome data_in t = (outcome ≡ Ok replies.Nothing) × (data_in ≡ []) × (t ≡ s)
-Step s (works.Press zones scale psa) payload outcome data_in t = PressStep s (shape_of zones scale psa) outcome t × (data_in ≡ [])
+Step s (works.Press zones scale psa) payload outcome data_in t =
+    PressStep s (shape_of zones scale psa) outcome t × (data_in ≡ [])
 Step s (works.OnDisc line) payload outcome data_in t = OnDisc s line payload outcome data_in t

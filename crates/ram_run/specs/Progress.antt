@@ -108,7 +108,8 @@ IsLast {first} far (lasts.LineTooLong line) = PassesLineLimit first.script far.r
 IsLast {first} far lasts.ScriptTooLong = PassesScriptLimit first.script far.rest
 IsLast {first} far (lasts.NotADisc line) =
     ((next : Line) × (payload : List ℕ) × (data_in : List ℕ) × (state : State)
-    × ComesNext first.script far.rest next payload × Step far.now (work_of next) payload (Err stopped.NotADisc) data_in state)
+    × ComesNext first.script far.rest next payload
+    × Step far.now (work_of next) payload (Err stopped.NotADisc) data_in state)
     × (line ≡ length far.events + 1)
 
 -- How the lines come to their end: the script's, or why the run stops.
@@ -127,6 +128,7 @@ last_line tally (Err stopped.SinkFault) = None
 last_line tally (Err stopped.ImageFault) = None
 last_line tally (Err stopped.NoMemory) = None
 
+-- the last line, if there is one, tells why the lines stop here
 abbrev pub IsLastIfAny : {first : Beginning} → SoFar first → Option LastLine → Type 0
 IsLastIfAny far None = Unit {0}
 IsLastIfAny far (Some last) = IsLast far last

@@ -1,5 +1,5 @@
 -- What holds of the state of a run as a thing with room of its own. For the calls of the run.
-use Rattle.std.specs.Prelude.{◌≡◌, ℕ, ◌+◌, ◌≤◌, Result, Ok, Err, [], vec_capacity}
+use Rattle.std.specs.Prelude.{◌≡◌, ◌+◌, ◌≤◌, Result, Ok, Err, [], vec_capacity}
 use Rattle.ram_text.specs.declared.payload.TheConstants.{PAYLOAD_ROOM}
 use Rattle.ram_run.specs.declared.state.RunState.{RunState}
 use Rattle.ram_run.specs.declared.state.Tally.{Tally}
@@ -17,12 +17,6 @@ pub record IsFresh (state : RunState) : Type 0 where
 pub record HasRoom (state : RunState) : Type 0 where
   pub payload : PAYLOAD_ROOM ≤ vec_capacity state.payload
   pub data_in : PAYLOAD_ROOM ≤ vec_capacity state.data_in
-
--- no more lines came than bytes, and no more answers than lines, of any kind
-pub record IsFewLines (tally : Tally) (taken : ℕ) : Type 0 where
-  pub lines : tally.lines ≤ taken
-  pub answered : tally.answered ≤ tally.lines
-  pub counts : AreAtMost tally.counts tally.lines
 
 -- a line that was told counts, and one that ends the run does not
 abbrev pub TallyRule : Tally → Tally → Result (Unit {0}) Stopped → Type 0

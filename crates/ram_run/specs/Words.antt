@@ -130,7 +130,7 @@ module _ {I : Type 0} (old new : Surroundings I) where
 -- the form of the words, where they have one
 abbrev pub FormRule : List (List ℕ) → Option Form → Type 0
 FormRule words None = ¬ IsWordForm words
-FormRule words (Some (forms.Run name)) = words ≡ codes "run" ∷ name.now ∷ []
+FormRule words (Some (forms.Run name)) = IsRunOf name.now words
 FormRule words (Some (forms.Generate name seed)) = IsGenerateOf name.now seed words
 FormRule words (Some forms.Help) = IsHelp words
 FormRule words (Some forms.Version) = IsVersion words

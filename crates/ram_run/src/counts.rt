@@ -1,11 +1,16 @@
 //! The answers to commands, counted by what they are.
-ghost use Rattle.std.specs.Prelude.{◌≡◌, ◌<◌, ◌-◌, ◌^◌, [], All, map};
-ghost use Rattle.ram_sense.specs.Sense.{sense};
+ghost use Rattle.std.specs.Prelude.{◌≡◌, ◌<◌, ◌-◌, ◌^◌, None, [], All, map};
 ghost use Rattle.ram_run.specs.Counting.{is_same_sense, counts_in, raised_by, with_reply, AreAtMost};
 
 use crate::reply::Reply;
 use ram_mmc::Answer;
 use ram_sense::Sense;
+use ram_sense::codes::{
+    ADDRESS_OUT_OF_RANGE, DEFECT_LIST_UPDATE_FAILURE, FORMAT_COMMAND_FAILED,
+    INVALID_FIELD_IN_COMMAND, INVALID_FIELD_IN_PARAMETERS, INVALID_OPERATION_CODE,
+    MEDIUM_FORMAT_CORRUPTED, MEDIUM_NOT_PRESENT, PARAMETER_LIST_LENGTH_ERROR, POWER_ON_OCCURRED,
+    REMOVAL_PREVENTED, SAVING_NOT_SUPPORTED, no_spare_location, unrecovered_read_error,
+};
 
 /// How often a sense came as the answer to a command.
 #[derive(Clone, Copy, Debug, PartialEq, Eq)]
@@ -39,20 +44,20 @@ impl AnswerCounts {
             cut: 0,
             off: 0,
             checks: [
-                never(0x2, 0x3a, 0x00),
-                never(0x3, 0x11, 0x00),
-                never(0x3, 0x31, 0x00),
-                never(0x3, 0x31, 0x01),
-                never(0x3, 0x32, 0x00),
-                never(0x3, 0x32, 0x01),
-                never(0x5, 0x1a, 0x00),
-                never(0x5, 0x20, 0x00),
-                never(0x5, 0x21, 0x00),
-                never(0x5, 0x24, 0x00),
-                never(0x5, 0x26, 0x00),
-                never(0x5, 0x39, 0x00),
-                never(0x5, 0x53, 0x02),
-                never(0x6, 0x29, 0x00),
+                never(MEDIUM_NOT_PRESENT),
+                never(unrecovered_read_error(0)),
+                never(MEDIUM_FORMAT_CORRUPTED),
+                never(FORMAT_COMMAND_FAILED),
+                never(no_spare_location(0)),
+                never(DEFECT_LIST_UPDATE_FAILURE),
+                never(PARAMETER_LIST_LENGTH_ERROR),
+                never(INVALID_OPERATION_CODE),
+                never(ADDRESS_OUT_OF_RANGE),
+                never(INVALID_FIELD_IN_COMMAND),
+                never(INVALID_FIELD_IN_PARAMETERS),
+                never(SAVING_NOT_SUPPORTED),
+                never(REMOVAL_PREVENTED),
+                never(POWER_ON_OCCURRED),
             ],
         }
     }
@@ -75,19 +80,17 @@ impl AnswerCounts {
     }
 }
 
-/// A sense that did not come so far.
-fn never(key: u8, asc: u8, ascq: u8) -> SenseCount
-    ensures { result ≡ record { sense = sense key asc ascq; times = 0 } }
+/// A sense that did not come so far, without its information.
+fn never(given: Sense) -> SenseCount
+    ensures { result ≡ record { sense = record given { info = None }; times = 0 } }
 {
-    SenseCount {
-        sense: Sense {
-            key,
-            asc,
-            ascq,
-            info: None,
-        },
-        times: 0,
-    }
+    let sense = Sense {
+        key: given.key,
+        asc: given.asc,
+        ascq: given.ascq,
+        info: None,
+    };
+    SenseCount { sense, times: 0 }
 }
 
 /// Counts this sense once more.

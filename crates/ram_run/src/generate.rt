@@ -8,13 +8,14 @@ ghost use Rattle.ram_run.specs.Endings.{IsNoUsage, StatusCounts};
 ghost use Rattle.ram_run.specs.Summary.{tally_text};
 ghost use Rattle.ram_run.specs.Generating.{BeginsFrom, EndsAs, EndCount, Generates, TellsOrNot, TellsOrNotCount, beside, ended_by};
 
+use crate::ending::status_of;
 use crate::kept::KeptScript;
 use crate::serve::answer_lines;
 use crate::state::{RunState, Tally};
 use crate::status::Status;
 use crate::stopped::Stopped;
 use crate::summary::summary;
-use crate::telling::tell;
+use crate::telling::write_text;
 use ram_generate::generated;
 use ram_image::ImageMedium;
 use ram_outside::{Image, MemSink, Opened, Opener, Sink};
@@ -97,13 +98,8 @@ fn ended_by(ending: Result<(), Stopped>) -> Result<(), Status>
 {
     match ending {
         Ok(()) => Ok(()),
-        Err(Stopped::NotInLanguage | Stopped::LineTooLong | Stopped::ScriptTooLong) => {
-            Err(Status::Script)
-        }
-        Err(Stopped::NotADisc) => Err(Status::NotADisc),
-        Err(Stopped::SourceFault) => Err(Status::SourceFault),
-        Err(Stopped::ImageFault) => Err(Status::ImageFault),
-        Err(Stopped::SinkFault | Stopped::NoMemory) => Err(Status::NoMemory),
+        Err(Stopped::SinkFault) => Err(Status::NoMemory),
+        Err(_) => Err(status_of(ending)),
     }
 }
 
@@ -113,7 +109,7 @@ fn tell_summary<K: Sink>(alloc: Global, seed: u64, tally: &Tally, report: &mut K
     ensures count { TellsOrNotCount (K.faults report.old) (K.faults report.new) result }
 {
     match summary(alloc, seed, tally) {
-        Ok(text) => tell(report, &text),
+        Ok(text) => write_text(report, &text),
         Err(_) => Status::NoMemory,
     }
 }

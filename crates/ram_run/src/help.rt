@@ -42,6 +42,7 @@ done. A new disc has to be formatted before it has sectors, like this:
   cdb 041100000000 hex 000000080000013000000800
 
 The exit status: 0 done, 2 other words than these, 3 a line is not in the script
-language or too long, 4 the image failed, 5 the script could not be read, 6 the
-report could not be written, 7 no memory, 8 a line needs a disc: there is none
+language, or it or the script is too long, 4 the image failed, 5 the script
+could not be read, 6 the report could not be written, 7 no memory, 8 a line
+needs a disc: there is none
 ";

@@ -163,7 +163,7 @@ fn command_outcome(cdb: Cdb, answer: Answer) -> Result<Reply, Stopped>
 }
 
 /// The disc that an image holds, with what is remembered for its host when its power just came on. Else the image is
-/// handed back with the bytes that it had, and the reason. Room for the replies is taken first.
+/// handed back with the bytes that it had, and the reason. Room for the text of the disc's structure is taken first.
 pub fn insert<D: Drive>(alloc: Global, image: D::Image) -> Result<Target<D>, (D::Image, OpenFault)>
     ensures { MatchResult result
         (λ target. IsInsertedTarget (D.Image.bytes image) (D.Image.faults image)

@@ -42,13 +42,13 @@ pub enum DiscLine {
 pub enum Work {
     /// Nothing, and it has no answer.
     Nothing,
-    /// Make the image anew.
+    /// Make the image anew. Numbers of which there is no disc are answered `not pressed`.
     Press {
-        /// How many zones the disc has.
+        /// How many zones the disc has, from 1 to 35.
         zones: u32,
-        /// How large the zones are.
+        /// How large the zones are, from 1 to 100.
         scale: u32,
-        /// How many primary spare blocks the disc has.
+        /// How many primary spares the disc has, in blocks: at least 1, at most 4,092, and fewer than its data blocks.
         psa: u32,
     },
     /// Something that needs a disc.

@@ -13,7 +13,7 @@ use crate::seed::seed_of;
 use crate::serve::serve;
 use crate::state::RunState;
 use crate::status::Status;
-use crate::telling::tell;
+use crate::telling::write_text;
 use ram_image::ImageMedium;
 use ram_outside::{Opened, Opener, Sink, Source};
 use ram_volume::Volume;
@@ -89,8 +89,8 @@ pub fn run<S: Source, K: Sink, O: Opener>(
     match form_of(words) {
         Some(Form::Run(name)) => run_image(alloc, name, script, report, opener),
         Some(Form::Generate(name, seed)) => generate_image(alloc, name, seed, report, opener),
-        Some(Form::Help) => tell(report, HELP),
-        Some(Form::Version) => tell(report, VERSION),
+        Some(Form::Help) => write_text(report, HELP),
+        Some(Form::Version) => write_text(report, VERSION),
         None => Status::Usage,
     }
 }

@@ -1,9 +1,8 @@
 //! The number of the word behind `generate IMAGE`.
-ghost use Rattle.std.specs.Prelude.{◌≡◌, ◌≤◌, length};
-ghost use Rattle.std.specs.List.{AllPass, list_all};
-ghost use Rattle.std.specs.Char.{is_ascii_digit};
-ghost use Rattle.ram_text.specs.ScriptWords.{decimal_value};
+ghost use Rattle.std.specs.Prelude.{◌≡◌};
 ghost use Rattle.ram_run.specs.Words.{seed_of};
+
+use ram_text::{are_digits, decimal};
 
 /// How many digits the number has at most.
 const SEED_DIGITS: usize = 20;
@@ -18,23 +17,4 @@ pub fn seed_of(word: &[u8]) -> Option<u64>
         return None;
     }
     u64::try_from(decimal(word)).ok()
-}
-
-fn are_digits(word: &[u8]) -> bool
-    ensures { result ≡ list_all is_ascii_digit word.now }
-{
-    word.iter().all(|byte| byte.is_ascii_digit())
-}
-
-/// The number that the digits spell, the highest first.
-fn decimal(digits: &[u8]) -> u128
-    requires short { length digits.now ≤ SEED_DIGITS }
-    requires whole { AllPass is_ascii_digit digits.now }
-    ensures { result ≡ decimal_value digits.now }
-{
-    let mut value = 0;
-    for digit in digits {
-        value = value * 10 + u128::from(*digit - b'0');
-    }
-    value
 }

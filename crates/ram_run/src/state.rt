@@ -88,7 +88,6 @@ fn hand_over<K: Sink>(state: &mut RunState, report: &mut K) -> Result<(), Stoppe
     ensures same_reader { state.new.reader ≡ state.old.reader }
     ensures same_tally { state.new.tally ≡ state.old.tally }
     ensures count { SinkCount (K.faults report.old) (K.faults report.new) result }
-    ensures same_data { state.new.data_in ≡ state.old.data_in }
     ensures room { HasRoom state.old → HasRoom state.new }
 {
     if state.reader.has_line() {

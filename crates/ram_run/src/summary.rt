@@ -1,11 +1,11 @@
 //! The summary of a script that was drawn from a number.
-ghost use Rattle.std.specs.Prelude.{◌≡◌, ◌++◌, decimal, IfOk, OnOk};
+ghost use Rattle.std.specs.Prelude.{◌≡◌, ◌++◌, IfOk, OnOk};
 ghost use Rattle.std.specs.List.{flat_map};
 ghost use Rattle.ram_run.specs.Summary.{count_text, row_text, tally_text};
 
 use crate::counts::SenseCount;
 use crate::state::Tally;
-use itoa::Buffer;
+use ram_generate::{add, add_number};
 use ram_text::digits_of;
 use std::alloc::{AllocError, Global};
 
@@ -53,19 +53,4 @@ fn add_count(text: &mut Vec<u8>, words: &[u8], number: u64) -> Result<(), AllocE
     add(text, words)?;
     add_number(text, number)?;
     add(text, b"\n")
-}
-
-/// Adds a number in decimal digits.
-fn add_number(text: &mut Vec<u8>, number: u64) -> Result<(), AllocError>
-    ensures { OnOk result (text.new.items ≡ text.old.items ++ decimal number) }
-{
-    let mut buffer = Buffer::new();
-    add(text, buffer.format(number).as_bytes())
-}
-
-/// Adds some bytes.
-fn add(text: &mut Vec<u8>, bytes: &[u8]) -> Result<(), AllocError>
-    ensures { OnOk result (text.new.items ≡ text.old.items ++ bytes.now) }
-{
-    text.extend_from_slice(bytes)
 }

@@ -7,7 +7,7 @@ use ram_outside::Sink;
 use ram_text::hand_over;
 
 /// Writes a text to the report. It takes no memory.
-pub fn tell<K: Sink>(report: &mut K, text: &[u8]) -> Status
+pub fn write_text<K: Sink>(report: &mut K, text: &[u8]) -> Status
     ensures other { IsNoUsage result }
     ensures writes { WritesText (K.written report.old) (K.written report.new) text.now result }
     ensures count { TextCount (K.faults report.old) (K.faults report.new) result }

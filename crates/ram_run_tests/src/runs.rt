@@ -75,6 +75,23 @@ pub fn run_script(
     run_over(alloc, &WORDS, script, report, opener)
 }
 
+/// Runs a script over an empty image, and nothing fails. The source gives at most `given` bytes at once, and the sink
+/// takes at most `taken`.
+pub fn run_in_pieces(
+    alloc: Global,
+    script: &[u8],
+    given: usize,
+    taken: usize,
+) -> Result<Ran, AllocError>
+    requires given { 0 < given }
+    requires taken { 0 < taken }
+{
+    let script = source(alloc, script, given, None)?;
+    let report = sink(alloc, taken, None)?;
+    let opener = opener(alloc, b"", None)?;
+    run_over(alloc, &WORDS, script, report, opener)
+}
+
 /// Runs the words of the program over an empty script and an empty image.
 pub fn run_words(
     alloc: Global,

@@ -46,7 +46,7 @@ answered before after rest first faults count LineTooLong cut = (
     stood = ap (λ (r : Reading). r.taken) cut.1;
     none = ap (λ (r : Reading). r.line) cut.1;
   },
-  record { bytes = prefix_left before.buffered rest 70001 70000 (omega (arith, cut.0.longer)) cut.0.longer cut.0.clear; first = cut.0.first },
+  record { bytes = prefix_left before.buffered rest 70001 70000 (omega (arith, cut.0.bytes.0)) cut.0.bytes.0 cut.0.bytes.1; first = cut.0.first },
   count,
 )
 answered before after rest first faults count ScriptTooLong cut = (
@@ -55,7 +55,7 @@ answered before after rest first faults count ScriptTooLong cut = (
     stood = ap (λ (r : Reading). r.taken) cut.1;
     none = ap (λ (r : Reading). r.line) cut.1;
   },
-  record { bytes = prefix_left before.buffered rest (67108864 - before.taken) (67108864 - before.taken) (omega (arith, cut.0.longer)) cut.0.longer cut.0.clear; first = cut.0.first },
+  record { bytes = prefix_left before.buffered rest (67108864 - before.taken) (67108864 - before.taken) (omega (arith, cut.0.bytes.0)) cut.0.bytes.0 cut.0.bytes.1; first = cut.0.first },
   count,
 )
 answered before after rest first faults count End cut = elim cut [ ]

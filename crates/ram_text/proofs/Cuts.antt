@@ -13,16 +13,14 @@ passed : (before : Reading) (n : ℕ) → n ≤ length before.buffered → befor
     → (answer : NextLine) → PassedFirst before.taken answer → CutRule before (without_line before) (Some answer)
 passed before n inside limit clear by_line by_script LineTooLong first = (
   record {
-    longer = omega (arith, by_line first);
-    clear = HasNoFeed-shorter before.buffered 70001 n (by_line first) clear;
+    bytes = (omega (arith, by_line first), HasNoFeed-shorter before.buffered 70001 n (by_line first) clear);
     first = first;
   },
   refl,
 )
 passed before n inside limit clear by_line by_script ScriptTooLong first = (
   record {
-    longer = (by_script first).1;
-    clear = HasNoFeed-shorter before.buffered (67108864 - before.taken) n (by_script first).0 clear;
+    bytes = ((by_script first).1, HasNoFeed-shorter before.buffered (67108864 - before.taken) n (by_script first).0 clear);
     first = first;
   },
   refl,

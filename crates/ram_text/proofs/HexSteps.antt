@@ -13,6 +13,7 @@ use Rattle.hex.specs.Hex.{decode_of, decode_sized, decode_pairs}
 use Rattle.hex.proofs.HexLemmas.{decode_of-ok}
 use Rattle.ram_text.specs.Script.{counted_up}
 use Rattle.ram_text.specs.ScriptReading.{hex_of, hex_byte_of, command_block_of, one_byte}
+use Rattle.ram_text.proofs.ScriptReadings.{ok_of}
 
 -- into room for half as many bytes
 half_sized : (word : List ℕ) → decode_sized word (length word / 2) ≡ decode_of word
@@ -44,13 +45,9 @@ refused word into out e long h =
     ap result_ok (sym (ap (decode_sized word) long ∙ half_sized word)) ∙ was_refused (decode_sized word (length into)) e out h
 
 -- the digits are two for each byte
-twice : (d : Result (List ℕ) FromHexError) (bytes : List ℕ) → result_ok d ≡ Some bytes → d ≡ Ok bytes
-twice (Ok x) bytes h = cc
-twice (Err e) bytes h = cc
-
 pub length-hex_of : (word bytes : List ℕ) → hex_of word ≡ Some bytes → length word ≡ 2 * length bytes
 unfolding hex_of
-length-hex_of word bytes h = (decode_of-ok word bytes (twice (decode_of word) bytes h)).2
+length-hex_of word bytes h = (decode_of-ok word bytes (ok_of (decode_of word) bytes h)).2
 
 one_byte-other : (bytes : List ℕ) → length bytes ≢ 1 → one_byte bytes ≡ None
 one_byte-other [] ne = refl

@@ -1,6 +1,6 @@
 -- One printed text after another.
-use Rattle.std.proofs.Common.{◌≡◌, ℕ, ◌+◌, ◌≤◌, Option, List, Result, Ok, Err, ◌++◌, length, take, min, sym, ap, ◌∙◌, arith}
-use Rattle.std.proofs.lemmas.List.{take-append-le, take_min, take-take, take_at}
+use Rattle.std.proofs.Common.{ℕ, ◌+◌, Option, List, Result, Ok, Err, ◌++◌, length, take, min, sym, ap, ◌∙◌, arith}
+use Rattle.std.proofs.lemmas.List.{take-append-le, take_min}
 use Rattle.std.proofs.Math.Seq.{take-append-add}
 use Rattle.std.specs.Io.KnownBytes.{append_known}
 use Rattle.ram_text.specs.declared.gathered.SinkFailed.{SinkFailed}
@@ -39,7 +39,3 @@ put_then a b c f g h s t first (Err failed) second = put_cut a b c f g h s t fir
 pub put_four : (a b c d e : Option (List ℕ)) (f g h i j : ℕ) (s t u v : List ℕ) → IsPut a b f g s → IsPut b c g h t → IsPut c d h i u → (answer : Result (Unit {0}) SinkFailed) → TextRule d e i j v answer → TextRule a e f j (s ++ t ++ u ++ v) answer
 put_four a b c d e f g h i j s t u v first second third answer last =
     put_then a d e f i j (s ++ t ++ u) v (put_both a c d f h i (s ++ t) u (put_both a b c f g h s t first second) third) answer last
-
--- the front of a list is what was put there
-pub prefix_is : (given rest : List ℕ) (n len : ℕ) → length given ≡ n → n ≤ len → take n (take len (given ++ rest)) ≡ given
-prefix_is given rest n len is le = take-take n len (given ++ rest) le ∙ take_at given rest n is

@@ -90,7 +90,8 @@ pairs_given i (a ∷ b ∷ digits) [] h = absurd h
 pairs_given i (a ∷ b ∷ digits) (y ∷ bytes) h =
     rw (h.0.high_digit, h.0.low_digit, pairs_given (i + 2) digits bytes h.1) (ap (λ x. Ok (x ∷ bytes)) (sym h.0.byte_is))
 
-ok_of : (d : Result (List ℕ) FromHexError) (bytes : List ℕ) → result_ok d ≡ Some bytes → d ≡ Ok bytes
+-- what was found is what the decoding answered
+pub ok_of : (d : Result (List ℕ) FromHexError) (bytes : List ℕ) → result_ok d ≡ Some bytes → d ≡ Ok bytes
 ok_of (Ok x) bytes h = cc
 ok_of (Err e) bytes h = cc
 

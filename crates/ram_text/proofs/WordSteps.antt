@@ -1,6 +1,5 @@
--- The first word of a line, by where its first space is; and how the value of digits grows.
-use Rattle.std.proofs.Common.{◌≡◌, ◌≢◌, ℕ, ◌+◌, ◌*◌, ◌^◌, ◌<◌, ◌≤◌, true, false, eqb, Some, None, suc, zero, List, [], ◌∷◌, ◌++◌, length, take, drop, get_or, refl, sym, ◌∙◌, ap, arith, take_all, length-take, add-one}
-use Rattle.std.proofs.Math.Nat.{pow-suc, pow-le-pow_right}
+-- The first word of a line, by where its first space is.
+use Rattle.std.proofs.Common.{◌≡◌, ◌≢◌, ℕ, ◌+◌, ◌<◌, true, false, eqb, Some, None, suc, zero, List, [], ◌∷◌, ◌++◌, length, take, drop, get_or, refl, sym, ◌∙◌, ap, arith, take_all, length-take, add-one}
 use Rattle.std.proofs.lemmas.Bool.{eq-eqb}
 use Rattle.std.proofs.lemmas.Bool.Decides.{nat_tests}
 use Rattle.std.proofs.lemmas.List.{take-append-drop, drop_more, get_or-take, drop_all}
@@ -78,11 +77,3 @@ pub words_behind : (line : List ℕ) (place : ℕ) → place < length line → g
 words_behind line place inside here same =
     sym (words_of-space (drop (place + 1) line))
     ∙ ap words_of (sym (drop_more line place 0 inside ∙ ap (λ x. x ∷ drop (place + 1) line) here)) ∙ same
-
--- ten times a number of i digits, and a digit, has a digit more
-pub shorter_more : (value digit i : ℕ) → value < 10 ^ i → digit ≤ 9 → value * 10 + digit < 10 ^ (i + 1)
-shorter_more value digit i short small = rw (add-one, pow-suc 10 i) (omega arith)
-
--- a number of at most nine digits
-pub nine_digits : (value i : ℕ) → value < 10 ^ i → i ≤ 9 → value < 1000000000
-nine_digits value i short few = omega (arith, pow-le-pow_right {n = 10} (omega arith) {i = i} {j = 9} few)

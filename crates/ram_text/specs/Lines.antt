@@ -81,7 +81,8 @@ pub record ScriptIsTooLong (left : Option (List ℕ)) (taken : ℕ) : Type 0 whe
 
 -- nothing went, what is buffered has no line feed in it, and the source failed and counted it: so of what the source
 -- gave no whole line is left (this project's own)
-pub record LineFails (left left' : Option (List ℕ)) (taken taken' : ℕ) (line buffered' : List ℕ) (faults faults' : ℕ) : Type 0 where
+pub record LineFails (left left' : Option (List ℕ)) (taken taken' : ℕ) (line buffered' : List ℕ)
+    (faults faults' : ℕ) : Type 0 where
   pub nothing : NothingWent left left' taken taken' line
   pub clear : HasNoFeed buffered'
   pub count : Rose faults faults'
@@ -92,10 +93,18 @@ module _ {S : Type 0} (sources : Sources S) where
   left_of reading source = prepend_known reading.buffered (sources.left source)
 
   -- What the search for the next line may do, by its answer: the reader and the source before and after. (This
-  -- project's own.) (this project's own)
+  -- project's own.)
   abbrev pub NextLineRule : Reading → Reading → S → S → NextLine → Type 0
-  NextLineRule r r' s s' Line = GivesLine (left_of r s) (left_of r' s') r.taken r'.taken r'.line (sources.faults s) (sources.faults s')
-  NextLineRule r r' s s' End = NothingWent (left_of r s) (left_of r' s') r.taken r'.taken r'.line × IsAtEnd (left_of r s) × (sources.faults s' ≡ sources.faults s)
-  NextLineRule r r' s s' LineTooLong = NothingWent (left_of r s) (left_of r' s') r.taken r'.taken r'.line × LineIsTooLong (left_of r s) r.taken × (sources.faults s' ≡ sources.faults s)
-  NextLineRule r r' s s' ScriptTooLong = NothingWent (left_of r s) (left_of r' s') r.taken r'.taken r'.line × ScriptIsTooLong (left_of r s) r.taken × (sources.faults s' ≡ sources.faults s)
-  NextLineRule r r' s s' Failed = LineFails (left_of r s) (left_of r' s') r.taken r'.taken r'.line r'.buffered (sources.faults s) (sources.faults s')
+  NextLineRule r r' s s' Line =
+      GivesLine (left_of r s) (left_of r' s') r.taken r'.taken r'.line (sources.faults s) (sources.faults s')
+  NextLineRule r r' s s' End =
+      NothingWent (left_of r s) (left_of r' s') r.taken r'.taken r'.line × IsAtEnd (left_of r s)
+      × (sources.faults s' ≡ sources.faults s)
+  NextLineRule r r' s s' LineTooLong =
+      NothingWent (left_of r s) (left_of r' s') r.taken r'.taken r'.line × LineIsTooLong (left_of r s) r.taken
+      × (sources.faults s' ≡ sources.faults s)
+  NextLineRule r r' s s' ScriptTooLong =
+      NothingWent (left_of r s) (left_of r' s') r.taken r'.taken r'.line × ScriptIsTooLong (left_of r s) r.taken
+      × (sources.faults s' ≡ sources.faults s)
+  NextLineRule r r' s s' Failed =
+      LineFails (left_of r s) (left_of r' s') r.taken r'.taken r'.line r'.buffered (sources.faults s) (sources.faults s')

@@ -33,7 +33,8 @@ event_words events.Full = codes "full"
 -- each, in lower case (this project's own, of the numbers of INCITS MMC)
 abbrev pub sense_code : Sense → List ℕ
 sense_code sense =
-    slice_index lower_digits (sense.key % 16) ∷ [] ++ codes "/" ++ encode_lower (sense.asc ∷ []) ++ codes "/" ++ encode_lower (sense.ascq ∷ [])
+    slice_index lower_digits (sense.key % 16) ∷ [] ++ codes "/" ++ encode_lower (sense.asc ∷ [])
+    ++ codes "/" ++ encode_lower (sense.ascq ∷ [])
 
 -- the information of sense data, where there is some (this project's own)
 abbrev pub info_words : Option ℕ → List ℕ
@@ -76,7 +77,8 @@ is_one_byte bytes = list_all (λ byte. byte == slice_index bytes 0) bytes
 -- the line of a sector that was read: its one byte where all are equal, else all its bytes (this project's own)
 abbrev pub sector_text : ℕ → List ℕ → List ℕ
 sector_text lba sector =
-    if is_one_byte sector then codes "sector " ++ decimal lba ++ codes " fill " ++ encode_lower (slice_index sector 0 ∷ []) ++ codes "\n"
+    if is_one_byte sector
+    then codes "sector " ++ decimal lba ++ codes " fill " ++ encode_lower (slice_index sector 0 ∷ []) ++ codes "\n"
     else codes "sector " ++ decimal lba ++ codes " hex " ++ encode_lower sector ++ codes "\n"
 
 -- sector k of these bytes (this project's own)

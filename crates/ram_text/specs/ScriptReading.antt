@@ -25,7 +25,8 @@ o >>= f = option_and_then f o
 -- the number that a word spells (this project's own)
 unfoldable pub number_of : List ℕ → Option ℕ
 number_of word =
-    if nat_lt 0 (length word) && nat_le (length word) 10 && list_all is_ascii_digit word && nat_le (decimal_value word) 4294967295
+    if nat_lt 0 (length word) && nat_le (length word) 10 && list_all is_ascii_digit word
+    && nat_le (decimal_value word) 4294967295
     then Some (decimal_value word) else None
 
 -- the bytes that a word spells (this project's own)

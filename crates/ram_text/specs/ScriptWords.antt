@@ -37,7 +37,7 @@ is_word [] = false
 is_word (byte ∷ bytes) = true
 
 -- The words of a line: they are parted by one or more spaces, and spaces may stand before and after them. (This
--- project's own.) (this project's own)
+-- project's own.)
 unfoldable pub words_of : List ℕ → List (List ℕ)
 words_of line = filter is_word (pieces line)
 

@@ -1,5 +1,5 @@
 -- The steps inside a reader of lines, for its own functions.
-use Rattle.std.specs.Prelude.{◌≡◌, ℕ, ◌+◌, ◌-◌, ◌<◌, ◌≤◌, Option, None, Some, List, [], ◌∷◌, ◌++◌, length, take}
+use Rattle.std.specs.Prelude.{◌≡◌, ℕ, ◌+◌, ◌<◌, ◌≤◌, Option, None, Some, List, [], ◌∷◌, ◌++◌, length}
 use Rattle.std.specs.Io.KnownBytes.{prepend_known, IsAtEnd}
 use Rattle.model_counts.specs.Counts.{Rose}
 use Rattle.ram_outside.specs.declared.source.Take.{Take}
@@ -7,7 +7,7 @@ use Rattle.ram_outside.specs.declared.source.Take.TheVariants as takes
 use Rattle.ram_text.specs.declared.lines.TheConstants.{LINE_LIMIT, SCRIPT_LIMIT}
 use Rattle.ram_text.specs.declared.lines.NextLine.{NextLine}
 use Rattle.ram_text.specs.declared.lines.NextLine.TheVariants.{Line, End, LineTooLong, ScriptTooLong, Failed}
-use Rattle.ram_text.specs.Lines.{Reading, HasNoFeed, line_feed}
+use Rattle.ram_text.specs.Lines.{Reading, HasNoFeed, LineIsTooLong, ScriptIsTooLong, line_feed}
 
 -- the reader with no line, and all else as before (this project's own)
 abbrev pub without_line : Reading → Reading
@@ -27,24 +27,14 @@ pub record TookLine (before after : Reading) : Type 0 where
   pub grew : after.taken ≡ before.taken + length after.line + 1
   pub within : after.taken ≤ SCRIPT_LIMIT
 
--- the line's limit is passed by what is buffered, and the script's is not passed before it (this project's own)
-pub record PassesLine (r : Reading) : Type 0 where
-  pub longer : LINE_LIMIT < length r.buffered
-  pub clear : HasNoFeed (take (LINE_LIMIT + 1) r.buffered)
-  pub first : r.taken + LINE_LIMIT < SCRIPT_LIMIT
-
--- the script's limit is passed by what is buffered, and the line's is not passed before it (this project's own)
-pub record PassesScript (r : Reading) : Type 0 where
-  pub longer : SCRIPT_LIMIT - r.taken < length r.buffered
-  pub clear : HasNoFeed (take (SCRIPT_LIMIT - r.taken) r.buffered)
-  pub first : SCRIPT_LIMIT ≤ r.taken + LINE_LIMIT
-
 -- what is decided by the bytes that are buffered (this project's own)
 abbrev pub CutRule : Reading → Reading → Option NextLine → Type 0
 CutRule before after None = IsOpen before × (after ≡ without_line before)
 CutRule before after (Some Line) = TookLine before after
-CutRule before after (Some LineTooLong) = PassesLine before × (after ≡ without_line before)
-CutRule before after (Some ScriptTooLong) = PassesScript before × (after ≡ without_line before)
+CutRule before after (Some LineTooLong) =
+    LineIsTooLong (Some before.buffered) before.taken × (after ≡ without_line before)
+CutRule before after (Some ScriptTooLong) =
+    ScriptIsTooLong (Some before.buffered) before.taken × (after ≡ without_line before)
 CutRule before after (Some End) = ⊥
 CutRule before after (Some Failed) = ⊥
 
@@ -59,8 +49,10 @@ pub record Refilled (before after : Reading) (rest rest' : Option (List ℕ)) (f
 -- what one more piece of the source brings (this project's own)
 abbrev pub FillRule : Reading → Reading → Option (List ℕ) → Option (List ℕ) → ℕ → ℕ → Take → Type 0
 FillRule before after rest rest' faults faults' (takes.Got n) = Refilled before after rest rest' faults faults' n
-FillRule before after rest rest' faults faults' takes.End = (after ≡ without_line before) × IsAtEnd rest × (rest' ≡ rest) × (faults' ≡ faults)
-FillRule before after rest rest' faults faults' takes.Failed = (after ≡ without_line before) × (rest' ≡ rest) × Rose faults faults'
+FillRule before after rest rest' faults faults' takes.End =
+    (after ≡ without_line before) × IsAtEnd rest × (rest' ≡ rest) × (faults' ≡ faults)
+FillRule before after rest rest' faults faults' takes.Failed =
+    (after ≡ without_line before) × (rest' ≡ rest) × Rose faults faults'
 
 -- what is buffered is the last line, unless nothing is (this project's own)
 pub record TookLast (before after : Reading) : Type 0 where

@@ -43,7 +43,8 @@ FlushRule before after gathered faults faults' Failed = (after ≡ before) × Ro
 -- (This project's own.)
 abbrev pub HandOverRule : Option (List ℕ) → Option (List ℕ) → ℕ → ℕ → List ℕ → Result (Unit {0}) ℕ → Type 0
 HandOverRule written written' faults faults' text (Ok done) = (written' ≡ append_known written text) × (faults' ≡ faults)
-HandOverRule written written' faults faults' text (Err n) = (n < length text) × (written' ≡ append_known written (take n text)) × Rose faults faults'
+HandOverRule written written' faults faults' text (Err n) =
+    (n < length text) × (written' ≡ append_known written (take n text)) × Rose faults faults'
 
 module _ {K : Type 0} (sinks : Sinks K) where
   -- What is due of a report: what its sink has written, and what is gathered for it. (This project's own.)

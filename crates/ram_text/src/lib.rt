@@ -17,3 +17,4 @@ pub use payload::PAYLOAD_ROOM;
 pub use printing::{Event, LastLine, digits_of, print_answer, print_event, print_last, print_line};
 pub use report::ReportWriter;
 pub use script::{Line, Unread, parse_line};
+pub use words::{are_digits, decimal};

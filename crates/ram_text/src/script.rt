@@ -17,13 +17,14 @@ use ram_bytes::Cdb;
 pub enum Line {
     /// It has no words, or is a comment. It has no answer.
     Empty,
-    /// Make the image anew, for a disc of so many zones, this scale and so many primary spares.
+    /// Make the image anew, for a disc of so many zones, this scale and so many primary spares. Numbers of which there is
+    /// no disc are answered `not pressed`.
     Press {
-        /// How many zones the disc has.
+        /// How many zones the disc has, from 1 to 35.
         zones: u32,
-        /// How large the zones are.
+        /// How large the zones are, from 1 to 100.
         scale: u32,
-        /// How many primary spare blocks the disc has.
+        /// How many primary spares the disc has, in blocks: at least 1, at most 4,092, and fewer than its data blocks.
         psa: u32,
     },
     /// Turn the power off and on again.

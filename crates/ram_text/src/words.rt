@@ -78,21 +78,22 @@ fn number(word: &[u8]) -> Option<u32>
     u32::try_from(decimal(word)).ok()
 }
 
-fn are_digits(word: &[u8]) -> bool
+/// Whether each byte is a decimal digit.
+pub fn are_digits(word: &[u8]) -> bool
     ensures { result ≡ list_all is_ascii_digit word.now }
 {
     word.iter().all(|byte| byte.is_ascii_digit())
 }
 
-/// The number that the digits spell, the highest first.
-fn decimal(digits: &[u8]) -> u64
-    requires short { length digits.now ≤ NUMBER_DIGITS }
+/// The number that the digits spell, the highest first. There are at most twenty of them.
+pub fn decimal(digits: &[u8]) -> u128
+    requires short { length digits.now ≤ 20 }
     requires whole { AllPass is_ascii_digit digits.now }
     ensures { result ≡ decimal_value digits.now }
 {
     let mut value = 0;
     for digit in digits {
-        value = value * 10 + u64::from(*digit - b'0');
+        value = value * 10 + u128::from(*digit - b'0');
     }
     value
 }

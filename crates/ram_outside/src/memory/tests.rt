@@ -1,3 +1,5 @@
+//! The objects in memory, used as a program uses them.
+
 use super::{MemImage, MemOpener, MemSink, MemSource};
 use crate::image::{Image, Length, Moved};
 use crate::opener::{Opened, Opener};

@@ -2,7 +2,7 @@
 ghost use Rattle.std.specs.Prelude.{None};
 
 use super::{ends, ends_in_pieces};
-use crate::runs::{PIECE, Ran, WORDS, opener, run_script, sink};
+use crate::runs::{PIECE, Ran, WORDS, opener, run_in_pieces, run_script, sink};
 use ram_outside::{Source, Take};
 use ram_run::run::run;
 use ram_run::status::Status;
@@ -200,7 +200,7 @@ fn a_long_script_takes_few_calls(rt: HostRuntime) -> Result<(), Fail> {
 #[test]
 fn no_answer_is_kept_back(rt: HostRuntime) -> Result<(), Fail> {
     let few = b"press 1 1 4\npower\npower\npower\npower\npower\npower\n";
-    let ran = run_script(rt.alloc(), few, b"", 6, None)?;
-    assert!(rt; ran.calls.sink >= 7);
+    let ran = run_in_pieces(rt.alloc(), few, 6, PIECE)?;
+    assert_eq!(rt; ran.calls.sink, 8);
     Ok(())
 }

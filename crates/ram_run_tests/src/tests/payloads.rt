@@ -5,8 +5,8 @@ use std::alloc::{AllocError, Global};
 use std::fmt::Write;
 use std::test::Fail;
 
-/// The digits of sixteen sectors, of which the first has the bytes 0 to 255 over and over, the second one byte that
-/// differs, and the others none.
+/// Adds the digits of one sector: sector 0 has the bytes 0 to 255 over and over, sector 1 one byte that differs, and
+/// every other none.
 fn digits(text: &mut String, sector: u32) -> Result<(), AllocError> {
     for place in 0..2_048u32 {
         let byte = match sector {

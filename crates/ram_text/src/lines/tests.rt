@@ -64,7 +64,7 @@ impl Source for Made {
     }
 }
 
-// The lines of `script`, each ended by a bar, and the last answer.
+// The lines of `script`, each ended by a bar, with a mark where the source failed, and the last answer.
 fn joined(
     alloc: Global,
     script: &[u8],
@@ -83,6 +83,10 @@ fn joined(
     let mut text = Vec::new(alloc);
     for _ in 0..1_000 {
         let answer = reader.next_line(&mut source, &report);
+        if answer == NextLine::Failed {
+            text.extend_from_slice(b"!")?;
+            continue;
+        }
         if answer != NextLine::Line {
             return Ok((text, answer));
         }
@@ -182,10 +186,14 @@ fn a_script_has_its_limit(rt: HostRuntime) -> Result<(), Fail> {
 
 #[test]
 fn a_failing_source_is_reported_and_asked_again(rt: HostRuntime) -> Result<(), Fail> {
-    for (failing, lines) in [(1, b"".as_slice()), (2, b"one|"), (3, b"one|two|")] {
+    for (failing, lines) in [
+        (1, b"!one|two|three|".as_slice()),
+        (2, b"one|!two|three|"),
+        (3, b"one|two|!three|"),
+    ] {
         let (text, last) = joined(rt.alloc(), b"one\ntwo\nthree", 4, failing)?;
         assert_eq!(rt; text.as_slice(), lines);
-        assert_eq!(rt; last, NextLine::Failed);
+        assert_eq!(rt; last, NextLine::End);
     }
     Ok(())
 }

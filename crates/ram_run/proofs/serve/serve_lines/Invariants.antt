@@ -1,8 +1,9 @@
 use Rattle.std.proofs.Common.{◌≤◌, ◌-◌}
 use Rattle.ram_run.specs.Inserted.{Stands, faults_of}
 use Rattle.ram_run.specs.RunCounts.{SameCounts, counts_of}
-use Rattle.ram_run.specs.RunState.{HasRoom, IsFewLines}
+use Rattle.ram_run.specs.RunState.{HasRoom}
 use Rattle.ram_run.specs.Progress.{Beginning, Between, run_view}
+use Rattle.ram_run.proofs.FewLines.{IsFewLines}
 use Rattle.ram_run.proofs.serve.serve_lines.Given as goal
 
 abbrev pub invariant-loop-stopped : goal.invariant-loop-stopped

@@ -1,6 +1,6 @@
 use Rattle.std.proofs.Common.{arith, refl}
 use Rattle.std.proofs.lemmas.Grind.{common_steps}
-use Rattle.ram_run.proofs.Pieces.{prefix_and_rest}
+use Rattle.ram_outside.proofs.Pieces.{prefix_and_rest}
 use Rattle.ram_run.proofs.kept.KeptScriptSource.take.Goals as goal
 
 pub returns : goal.returns
