@@ -1,8 +1,7 @@
--- What a line leaves of the inserted disc, and what the image is as it is handed back.
+-- What a line leaves of the inserted disc.
 use Rattle.std.specs.Prelude.{◌≡◌, ℕ, List}
 use Rattle.std.proofs.Common.{refl, sym, ap, ◌∙◌, subst}
-use Rattle.model_sectors.specs.Discs.{Standing, On, Off}
-use Rattle.model_drive.specs.Shown.{Shown, IsKnown, StandsFor}
+use Rattle.model_drive.specs.Shown.{Shown}
 use Rattle.model_target.specs.declared.host.Host.{Host}
 use Rattle.ram_outside.specs.declared.image.Image.{Ghosts as Images}
 use Rattle.ram_sectors.specs.Laws.{SectorsLaws}
@@ -47,8 +46,3 @@ module _ {D I : Type 0} (drives : Drives D) (images : Images I) (laws : SectorsL
   pub inserted_left : (s : State) → Stands drives images (inserts.Disc old) s → IsAnswered s (works.OnDisc line) payload data_in (Stands drives images (inserts.Disc new)) outcome
   inserted_left (Unopened bytes) stands = absurd stands
   inserted_left (Disc s) stands = let left = disc_left s stands in record { state = Disc left.0; step = left.1; stands = left.2 }
-
--- the cells of a drive that stands for something are known
-known_of : (shown : Shown) (standing : Standing) → StandsFor shown standing → IsKnown shown
-known_of shown (On disc) stands = stands.0
-known_of shown (Off discs) stands = stands.0
