@@ -177,7 +177,7 @@ impl<D: Disc> Target<D> {
     /// Does a command, on a disc of so many sectors, 0 where it is not formatted.
     fn do_command(
         &mut self,
-        alloc: Global,
+        allocator: Global,
         command: Command,
         sectors: u32,
         payload: &[u8],
@@ -203,39 +203,32 @@ impl<D: Disc> Target<D> {
             Command::Read { .. } => unreachable!(),
             Command::Write { lba, n, .. } => return write(&mut self.disc, lba, n, payload),
             Command::Verify { lba, n } => return verify(&mut self.disc, lba, n),
-            Command::Format { kind } => return format(&mut self.disc, alloc, kind),
+            Command::Format { kind } => return format(&mut self.disc, allocator, kind),
             Command::Expand { capacity } => return expand(&mut self.disc, capacity),
-            Command::RequestSense { alloc: allocation } => reply(
-                data_in,
-                &sense_told(&self.host).to_bytes(),
-                allocation,
-            ),
-            Command::Inquiry { alloc: allocation } => reply(data_in, INQUIRY, allocation),
+            Command::RequestSense { alloc } => {
+                reply(data_in, &sense_told(&self.host).to_bytes(), alloc)
+            }
+            Command::Inquiry { alloc } => reply(data_in, INQUIRY, alloc),
             Command::ReadCapacity => reply(data_in, &capacity_reply(sectors), 8),
-            Command::FormatCapacities { alloc: allocation } => tell_capacities(
-                &self.disc,
-                self.host.out,
-                allocation,
-                data_in,
-            ),
-            Command::Structure {
-                format,
-                alloc: allocation,
-            } => { tell_structure(&self.disc, &mut self.block, format, allocation, data_in) }
+            Command::FormatCapacities { alloc } => {
+                tell_capacities(&self.disc, self.host.out, alloc, data_in)
+            }
+            Command::Structure { format, alloc } => {
+                tell_structure(&self.disc, &mut self.block, format, alloc, data_in)
+            }
             Command::Configuration {
                 start: 0,
-                alloc: allocation,
+                alloc,
                 ..
-            } => { reply(data_in, &profiles_reply(self.host.out), allocation) }
-            Command::Configuration {
-                alloc: allocation,
-                ..
-            } => { reply(data_in, &no_features_reply(self.host.out), allocation) }
+            } => { reply(data_in, &profiles_reply(self.host.out), alloc) }
+            Command::Configuration { alloc, .. } => {
+                reply(data_in, &no_features_reply(self.host.out), alloc)
+            }
             Command::ModeSense {
                 control,
                 page,
-                alloc: allocation,
-            } => Modes::new().sense_within(control, page, allocation, data_in),
+                alloc,
+            } => Modes::new().sense_within(control, page, alloc, data_in),
             Command::TestUnitReady
             | Command::StartStop { .. }
             | Command::Prevent { .. }
