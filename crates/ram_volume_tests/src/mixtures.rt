@@ -24,7 +24,7 @@ const STEPS: &str = "power\nwrite 0 16 aa\npower\ncopies\npower\nread 0 1\n";
 const READY: &str = "Ready { capacity: 304 }";
 
 /// The list as it was.
-const NEW: &str = "1 under 2";
+const UNCHANGED: &str = "1 under 2";
 
 /// Which spares are dead, and which copies, by their bits. The copies die in the update, or were dead before.
 #[derive(Clone, Copy)]
@@ -93,7 +93,7 @@ impl Mixture {
             return Wanted {
                 write: "NoSpare { lba: 0 }",
                 uses: 10,
-                list: NEW,
+                list: UNCHANGED,
                 read: unread,
             };
         }
@@ -102,7 +102,7 @@ impl Mixture {
             return Wanted {
                 write: "NoUpdate { counter: 1 }",
                 uses,
-                list: NEW,
+                list: UNCHANGED,
                 read: unread,
             };
         }

@@ -1,5 +1,7 @@
 //! Random calls of a drive, with blocks that fail and cuts, beside a plain list of what each sector may be.
 
+ghost use Rattle.std.specs.Prelude.{◌<◌};
+
 use crate::drive::{Drive, Taken};
 use crate::host::{format, power, read, write};
 use crate::steps::number_of;
@@ -17,7 +19,7 @@ const BLOCKS: u32 = 66;
 const SECTORS: u32 = 448;
 
 /// The most sectors of a call.
-const MOST: u32 = 40;
+const MOST: u32 = 39;
 
 /// What each sector may be: of eight bytes that are written, and with which it is filled, those whose bit is set. One was
 /// acknowledged last; others are of writes that were stopped since.
@@ -91,14 +93,17 @@ impl Plain {
 }
 
 /// A random number below the limit.
-fn below(random: &mut Pcg32, limit: u32) -> u32 {
-    random.next_u32() % limit.max(1)
+fn below(random: &mut Pcg32, limit: u32) -> u32
+    requires { 0 < limit }
+    ensures { result < limit }
+{
+    random.next_u32() % limit
 }
 
 /// A random request.
 fn random_request(random: &mut Pcg32) -> Request {
     let lba = below(random, SECTORS);
-    let n = 1 + below(random, MOST - 1) % MOST;
+    let n = 1 + below(random, MOST);
     Request {
         lba,
         n: n.min(SECTORS.saturating_sub(lba)),
@@ -166,7 +171,7 @@ impl Run {
 
     /// Arms a cut.
     fn arm_cut(&mut self) {
-        let n = 1 + below(&mut self.random, 40) % 40;
+        let n = 1 + below(&mut self.random, 40);
         let fate = random_fate(&mut self.random);
         self.drive.volume.arm_cut(n, fate);
     }
@@ -180,7 +185,7 @@ impl Run {
     /// Arms a block.
     fn wear(&mut self) {
         let block = below(&mut self.random, BLOCKS);
-        let n = 1 + below(&mut self.random, 9) % 9;
+        let n = 1 + below(&mut self.random, 9);
         self.drive.volume.wear(block, n);
     }
 
