@@ -47,7 +47,7 @@ pub fn a_format_begins()
     ensures given { (shape : Shape) (old new : List Cell) (mark : ℕ)
         → ((area : ℕ) → IsArea area
         → MayHold IsDdsText (cell_at old (dds_block shape area)) (formatting_dds shape mark)
-            (cell_at new (dds_block shape area)))
+        (cell_at new (dds_block shape area)))
         → ((area : ℕ) → cell_at new (sdl_block shape area) ≡ cell_at old (sdl_block shape area))
         → (lists : Lists) → IsGiven shape new lists → IsGiven shape old lists }
     ensures covers { (shape : Shape) (old new : List Cell)
@@ -61,7 +61,7 @@ pub fn a_format_ends()
     ensures { (shape : Shape) (old new : List Cell) (mark : ℕ) (entries : List PdlEntry)
         → ((area : ℕ) → IsArea area
         → MayHold IsDdsText (cell_at old (dds_block shape area)) (formatted_dds shape mark entries)
-            (cell_at new (dds_block shape area)))
+        (cell_at new (dds_block shape area)))
         → Settled IsDdsText (dds_block shape) old (formatting_dds shape mark)
         → Settled IsSdlText (sdl_block shape) new (fresh_sdl mark)
         → (lists : Lists) → IsGiven shape new lists → lists ≡ fresh_lists shape mark entries }
