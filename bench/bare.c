@@ -3,8 +3,8 @@
 
    write         each block is written and read back, and nothing is looked at
    read          each block is read, and nothing is looked at
-   least-write   the state bytes of 64 blocks are read at a time, and the data of a group of blocks are made; each block is moved
-                 into one of its own; its state byte is written, its data, and its state byte again; then its data are read back
+   least-write   the state bytes of 64 blocks are read at a time, and the data of a group of blocks are made; of each block its
+                 state byte is written, its data, and its state byte again; then its data are read back
    least-read    the state bytes of 64 blocks are read at a time, and the data of each block of a group to its place; the last
                  one is moved into the block that is kept; then each byte of a sector is compared with the next one, as for
                  its line in the report */
@@ -36,8 +36,8 @@ static off_t data_place(long i) {
     return HEADER_BYTES + blocks + i * BLOCK_BYTES;
 }
 
-static void write_data(long i) {
-    moved(pwrite(file, block, BLOCK_BYTES, data_place(i)), BLOCK_BYTES);
+static void write_data(long i, const char *from) {
+    moved(pwrite(file, from, BLOCK_BYTES, data_place(i)), BLOCK_BYTES);
 }
 
 static void read_data(long i, char *into) {
@@ -58,9 +58,8 @@ static void least_write(char *data, long first) {
     if (first % STATES == 0)
         read_states(first);
     for (long k = 0; k < group; k++) {
-        memcpy(block, data + k * BLOCK_BYTES, BLOCK_BYTES);
         write_state(first + k, 2);
-        write_data(first + k);
+        write_data(first + k, data + k * BLOCK_BYTES);
         write_state(first + k, 1);
         read_data(first + k, read_back);
     }
@@ -84,7 +83,7 @@ static void once(const char *what, char *data, long first) {
     else
         for (long i = first; i < first + group; i++) {
             if (strcmp(what, "write") == 0)
-                write_data(i);
+                write_data(i, block);
             read_data(i, read_back);
         }
 }
@@ -100,7 +99,7 @@ int main(int count, char **words) {
     memset(block, 0xaa, BLOCK_BYTES);
     for (long i = 0; i < blocks; i++) {
         write_state(i, 1);
-        write_data(i);
+        write_data(i, block);
     }
     struct timespec start, end;
     clock_gettime(CLOCK_MONOTONIC, &start);
