@@ -61,6 +61,15 @@ pub trait Medium {
         ensures event { takes self.old self.new (Write block from.now result) }
         ensures as_many { block_count self.new ≡ block_count self.old };
 
+    /// Writes a block straight from the caller's bytes, as many as a block has. It does what `write` does.
+    fn write_from(&mut self, block: u32, from: &[u8]) -> WriteEnd
+        requires inside { block < block_count self.old }
+        requires whole { length from.now ≡ BLOCK_BYTES }
+        ensures rule { WriteRule (world self.old) (world self.new) block from.now result }
+        ensures continues { WriteContinues (reaches self.old self.new) result }
+        ensures event { takes self.old self.new (Write block from.now result) }
+        ensures as_many { block_count self.new ≡ block_count self.old };
+
     /// Turns the power on, and does nothing else.
     fn power_on(&mut self)
         ensures power { world self.new ≡ record (world self.old) { power = true } }

@@ -8,7 +8,7 @@ ghost use Rattle.ram_medium.specs.Slots.{slot_cells};
 use crate::blocks::Medium;
 use crate::control::{Arm, FailEnd, MediumControl};
 use crate::countdown::Armed;
-use crate::slots::{Slot, blank_slots, cut_slot, has_all_bytes, kill_where, read_slot, write_slot};
+use crate::slots::{Slot, blank_slots, cut_slot, kill_where, read_slot, write_slot};
 use model_medium::{Fate, ReadEnd, WriteEnd};
 use ram_bytes::Block;
 use std::alloc::{AllocError, Global};
@@ -121,12 +121,12 @@ impl MemMedium {
     }
 
     /// A write, as the trait has it.
-    fn write_block(&mut self, block: u32, from: &Block) -> WriteEnd
-        requires { block < vec_len self.old.slots }
+    fn write_bytes(&mut self, block: u32, from: &[u8]) -> WriteEnd
+        requires inside { block < vec_len self.old.slots }
+        requires whole { length from.now ≡ BLOCK_BYTES }
         ensures event { MemTakes self.old self.new (Write block from.now result) }
         ensures len { vec_len self.new.slots ≡ vec_len self.old.slots }
     {
-        has_all_bytes(from);
         if !self.powered {
             return WriteEnd::Off;
         }
@@ -177,7 +177,11 @@ impl Medium for MemMedium {
     }
 
     fn write(&mut self, block: u32, from: &Block) -> WriteEnd {
-        self.write_block(block, from)
+        self.write_bytes(block, from.bytes())
+    }
+
+    fn write_from(&mut self, block: u32, from: &[u8]) -> WriteEnd {
+        self.write_bytes(block, from)
     }
 
     fn power_on(&mut self) {

@@ -25,13 +25,6 @@ pub(crate) struct Slot {
     block: Block,
 }
 
-/// What a block holds are as many bytes as a block has: for a caller whose proof needs it.
-pub(crate) fn has_all_bytes(block: &Block)
-    ensures { length block.now ≡ BLOCK_BYTES }
-{
-    let _ = block.bytes();
-}
-
 /// So many blank slots.
 pub(crate) fn blank_slots(alloc: Global, blocks: u32) -> Result<Vec<Slot>, AllocError>
     ensures { IfOk result
@@ -80,8 +73,9 @@ pub(crate) fn read_slot(slots: &Vec<Slot>, block: u32, into: &mut [u8]) -> bool
 }
 
 /// Writes a slot. A dead one stays dead.
-pub(crate) fn write_slot(slots: &mut Vec<Slot>, block: u32, from: &Block)
-    requires { block < vec_len slots.old }
+pub(crate) fn write_slot(slots: &mut Vec<Slot>, block: u32, from: &[u8])
+    requires inside { block < vec_len slots.old }
+    requires whole { length from.now ≡ BLOCK_BYTES }
     ensures cells { ChangesSlot slots.old.items slots.new.items block (written from.now) }
     ensures len { vec_len slots.new ≡ vec_len slots.old }
 {
@@ -90,8 +84,9 @@ pub(crate) fn write_slot(slots: &mut Vec<Slot>, block: u32, from: &Block)
 }
 
 /// Leaves a slot as a write in which the power is cut does, by its fate.
-pub(crate) fn cut_slot(slots: &mut Vec<Slot>, block: u32, from: &Block, fate: Fate)
-    requires { block < vec_len slots.old }
+pub(crate) fn cut_slot(slots: &mut Vec<Slot>, block: u32, from: &[u8], fate: Fate)
+    requires inside { block < vec_len slots.old }
+    requires whole { length from.now ≡ BLOCK_BYTES }
     ensures cells { ChangesSlot slots.old.items slots.new.items block (cut_short fate from.now) }
     ensures len { vec_len slots.new ≡ vec_len slots.old }
 {
@@ -100,13 +95,15 @@ pub(crate) fn cut_slot(slots: &mut Vec<Slot>, block: u32, from: &Block, fate: Fa
 }
 
 impl Slot {
-    fn write(&mut self, from: &Block)
+    fn write(&mut self, from: &[u8])
+        requires whole { length from.now ≡ BLOCK_BYTES }
         ensures { slot_cell self.new ≡ written from.now (slot_cell self.old) }
     {
         match self.state {
             State::Dead => {}
             State::Blank | State::Good | State::Torn => {
-                self.block.copy_from(from);
+                let bytes = self.block.bytes_mut();
+                bytes.copy_from_slice(from);
                 self.state = State::Good;
             }
         }
@@ -121,7 +118,8 @@ impl Slot {
         }
     }
 
-    fn cut_short(&mut self, from: &Block, fate: Fate)
+    fn cut_short(&mut self, from: &[u8], fate: Fate)
+        requires whole { length from.now ≡ BLOCK_BYTES }
         ensures { slot_cell self.new ≡ cut_short fate from.now (slot_cell self.old) }
     {
         match fate {

@@ -58,9 +58,11 @@ pub fn read_whole_into<M: Medium>(medium: &mut M, block: u32, into: &mut [u8]) -
     }
 }
 
-/// Writes a block, or says why the write was stopped. A dead block stays dead.
-pub fn write_whole<M: Medium>(medium: &mut M, block: u32, from: &Block) -> Result<(), Stop>
-    requires { block < M.block_count medium.old }
+/// Writes a block straight from the caller's bytes, as many as a block has, or says why the write was stopped. A dead block
+/// stays dead.
+pub fn write_whole<M: Medium>(medium: &mut M, block: u32, from: &[u8]) -> Result<(), Stop>
+    requires inside { block < M.block_count medium.old }
+    requires whole { length from.now ≡ BLOCK_BYTES }
     ensures rule { MatchResult result
         (λ done. WritesCell (M.world medium.old) (M.world medium.new) block from.now)
         (StoppedWrite (M.world medium.old) (M.world medium.new) block from.now) }
@@ -70,7 +72,7 @@ pub fn write_whole<M: Medium>(medium: &mut M, block: u32, from: &Block) -> Resul
     ensures event { M.takes medium.old medium.new (Write block from.now (write_end result)) }
     ensures as_many { M.block_count medium.new ≡ M.block_count medium.old }
 {
-    match medium.write(block, from) {
+    match medium.write_from(block, from) {
         WriteEnd::Done => Ok(()),
         WriteEnd::Cut => Err(Stop::Cut),
         WriteEnd::Off => Err(Stop::Off),

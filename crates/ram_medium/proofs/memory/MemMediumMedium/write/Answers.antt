@@ -3,8 +3,8 @@ use Rattle.ram_medium.specs.Memory.{mem_machine}
 use Rattle.ram_medium.proofs.memory.MemMediumMedium.write.Goals as goal
 
 pub returns-clause-rule : goal.returns-clause-rule
-returns-clause-rule c = write_rule (mem_machine c.args.self.now) (mem_machine c.write_block.new.self) c.args.block c.args.from.now c.write_block.result c.write_block.ensures.event.exactly
+returns-clause-rule c = write_rule (mem_machine c.args.self.now) (mem_machine c.write_bytes.new.self) c.args.block c.args.from.now c.write_bytes.result (rw c.bytes.ensures.same at c.write_bytes.ensures.event.exactly)
 
 pub returns-clause-continues : goal.returns-clause-continues
 returns-clause-continues c =
-    write_continues (mem_machine c.args.self.now) (mem_machine c.write_block.new.self) c.args.block c.args.from.now c.write_block.result c.args.self.now.armed.to_come c.write_block.ensures.event.exactly
+    write_continues (mem_machine c.args.self.now) (mem_machine c.write_bytes.new.self) c.args.block c.args.from.now c.write_bytes.result c.args.self.now.armed.to_come (rw c.bytes.ensures.same at c.write_bytes.ensures.event.exactly)
