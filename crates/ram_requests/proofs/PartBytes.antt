@@ -1,9 +1,10 @@
 -- The bytes of a part of a request, by the numbers that the code has.
-use Rattle.std.specs.Prelude.{◌≡◌, ℕ, ◌+◌, ◌-◌, ◌*◌, List, ◌++◌, length, take, drop}
+use Rattle.std.specs.Prelude.{◌≡◌, ℕ, ◌+◌, ◌-◌, ◌*◌, ◌≤◌, List, ◌++◌, length, take, drop}
 use Rattle.std.proofs.Common.{sym, ap, ◌∙◌, arith}
 use Rattle.std.proofs.Math.Seq.{take-append_seam}
 use Rattle.model_bytes.specs.Bytes.{put_at}
 use Rattle.model_sectors.specs.Requests.{start_in, end_in, part_of, merged_in, taken_from, filled_by}
+use Rattle.model_sectors.proofs.Pieces.{put_at-whole, length_part_of}
 
 module _ (lba n block start end : ℕ) (start_is : start ≡ start_in lba block) (end_is : end ≡ end_in lba n block)
     (place skipped len : ℕ) (place_is : place ≡ 2048 * (start - 16 * block)) (skipped_is : skipped ≡ 2048 * (start - lba)) (len_is : len ≡ 2048 * (end - start)) where
@@ -37,6 +38,18 @@ module _ (lba n block start end : ℕ) (start_is : start ≡ start_in lba block)
       ∙ ap (λ (m : ℕ). put_at place (take m (drop skipped bytes)) held) (len_in skipped)
       ∙ ap (λ (m : ℕ). put_at place (take (2048 * (end_in lba n block - start_in lba block)) (drop m bytes)) held) skipped_in
       ∙ ap (λ (m : ℕ). put_at m (take (2048 * (end_in lba n block - start_in lba block)) (drop (2048 * (start_in lba block - lba)) bytes)) held) place_in
+
+  -- the bytes of the request that are all of the block are what is merged into it
+  pub merged_whole : (bytes held : List ℕ) → length bytes ≡ 2048 * n → length held ≡ 32768 → 32768 ≤ len → take (skipped + 32768 - skipped) (drop skipped bytes) ≡ merged_in lba n bytes block held
+  unfolding merged_in part_of
+  merged_whole bytes held whole full all =
+      let none : 2048 * (start_in lba block - 16 * block) ≡ 0 = omega (arith, start_is, end_is, len_is, all) in
+      let count : skipped + 32768 - skipped ≡ 2048 * (end_in lba n block - start_in lba block) = omega (arith, start_is, end_is, len_is, all) in
+      let long : length (part_of lba n bytes block) ≡ length held = length_part_of lba n bytes block whole ∙ sym count ∙ omega (arith, full) in
+      ap (λ (m : ℕ). take m (drop skipped bytes)) count
+      ∙ ap (λ (m : ℕ). take (2048 * (end_in lba n block - start_in lba block)) (drop m bytes)) skipped_in
+      ∙ sym (put_at-whole (part_of lba n bytes block) held (omega (arith, long)))
+      ∙ ap (λ (m : ℕ). put_at m (part_of lba n bytes block) held) (sym none)
 
 -- bytes as many as a list has, written over it, are what it has then
 pub written_back : (held written : List ℕ) → length written ≡ length held → take (length held) (written ++ drop (length written) held) ≡ written

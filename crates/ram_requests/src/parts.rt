@@ -5,7 +5,7 @@ ghost use Rattle.model_sectors.specs.Requests.{start_in, end_in, is_partly, merg
 ghost use Rattle.ram_bytes.specs.declared.block.TheConstants.{BLOCK_BYTES};
 
 use crate::requests::Request;
-use ram_bytes::{Block, SECTOR_BYTES, SECTORS_PER_BLOCK};
+use ram_bytes::{BLOCK_BYTES, Block, SECTOR_BYTES, SECTORS_PER_BLOCK};
 
 /// The part of a logical block that a request covers: some of its sectors.
 #[derive(Clone, Copy, Debug)]
@@ -81,5 +81,22 @@ impl Part {
         let len = self.len();
         let bytes = block.bytes_mut();
         put_bytes(bytes, place, &from[skipped..skipped + len]);
+    }
+
+    /// The bytes of its block with its sectors in their places: straight out of the bytes of the request where it is the whole
+    /// block, else those of `block`, into which it is merged. What `block` has then is not said.
+    pub fn merged<'a>(self, from: &'a [u8], block: &'a mut Block) -> &'a [u8]
+        requires { length from.now ≡ 2048 * self.request.n }
+        ensures merged { result.now
+            ≡ merged_in self.request.lba self.request.n from.now self.block block.old }
+        ensures whole { length result.now ≡ BLOCK_BYTES }
+        ensures len { length block.old ≡ BLOCK_BYTES }
+    {
+        if self.len() < block.bytes().len() {
+            self.merge(from, block);
+            return block.bytes();
+        }
+        let skipped = self.skipped();
+        &from[skipped..skipped + BLOCK_BYTES]
     }
 }
