@@ -66,7 +66,7 @@ pub fn certify_blocks<M: Medium>(
         let block = data_block(geometry, n);
         if is_next_kept(kept, passed, block) {
             passed += 1;
-        } else if !put_block(medium, block, zero, room)? {
+        } else if !put_block(medium, block, zero.bytes(), room)? {
             count += 1;
             note(found, block, most);
         }

@@ -1,5 +1,5 @@
 -- What writing one block and reading it back does: for `put_block`.
-use Rattle.std.specs.Prelude.{◌≡◌, ◌≢◌, ℕ, ◌⊎◌, Bool, MatchBool, List}
+use Rattle.std.specs.Prelude.{◌≡◌, ◌≢◌, ℕ, ◌⊎◌, Bool, true, IsTrue, MatchBool, List}
 use Rattle.std.specs.Bool.{OnTrue}
 use Rattle.model_medium.specs.Cells.{Good, Dead, MayLeave, cell_at}
 use Rattle.model_medium.specs.World.{World}
@@ -32,3 +32,7 @@ module _ {M : Type 0} (world : M → World) (reaches : M → M → ℕ → Type 
     pub others : (other : ℕ) → other ≢ block → cell_at (world new).cells other ≡ cell_at (world old).cells other
     pub left : MayLeave (cell_at (world old).cells block) bytes (cell_at (world new).cells block)
     pub stays_dead : cell_at (world old).cells block ≡ Dead → cell_at (world new).cells block ≡ Dead
+
+-- what was read back, where it can be read and cells are known
+abbrev pub HasReadBack : (known : Bool) → (bytes back : List ℕ) → (kept : Bool) → Type 0
+HasReadBack known bytes back kept = IsTrue kept → known ≡ true → back ≡ bytes

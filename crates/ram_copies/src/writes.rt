@@ -37,7 +37,7 @@ fn put_copy<M: Medium>(
     ensures as_many { M.block_count medium.new ≡ M.block_count medium.old }
 {
     match purpose {
-        Purpose::Update => put_block(medium, block, text, room),
+        Purpose::Update => put_block(medium, block, text.bytes(), room),
         Purpose::Repair => mend_block(medium, block, text, room),
     }
 }

@@ -1,5 +1,5 @@
 -- What the write of one logical block does, by its answer: for `place` and `write_home`.
-use Rattle.std.specs.Prelude.{◌≡◌, ℕ, IsTrue, List}
+use Rattle.std.specs.Prelude.{◌≡◌, ℕ, ⊤, Bool, true, IsTrue, List}
 use Rattle.model_geometry.specs.Geometry.{Shape}
 use Rattle.model_medium.specs.World.{World, UseContinues}
 use Rattle.model_stops.specs.declared.Stop.{Stop}
@@ -11,6 +11,21 @@ use Rattle.ram_replace.specs.declared.writing.Outcome.{Outcome}
 use Rattle.ram_replace.specs.declared.writing.Outcome.TheVariants as outcomes
 use Rattle.ram_replace.specs.declared.writing.Placed.{Placed}
 use Rattle.ram_replace.specs.declared.writing.Placed.TheVariants as places
+
+-- what was read back of a block whose write is done, where cells are known (this project's own)
+abbrev pub EndsWithReadBack : (known : Bool) → (bytes back : List ℕ) → Outcome → Type 0
+EndsWithReadBack known bytes back outcomes.Done = known ≡ true → back ≡ bytes
+EndsWithReadBack known bytes back outcomes.NoSpare = ⊤
+EndsWithReadBack known bytes back (outcomes.NoUpdate counter) = ⊤
+
+-- the same by the answer of the call
+abbrev pub LeavesReadBack : (known : Bool) → (bytes back : List ℕ) → Placed → Type 0
+LeavesReadBack known bytes back places.Done = known ≡ true → back ≡ bytes
+LeavesReadBack known bytes back places.NoSpare = ⊤
+LeavesReadBack known bytes back (places.NoUpdate counter) = ⊤
+LeavesReadBack known bytes back places.Cut = ⊤
+LeavesReadBack known bytes back places.Off = ⊤
+LeavesReadBack known bytes back places.Fault = ⊤
 
 module _ {M : Type 0} (world : M → World) (reaches : M → M → ℕ → Type 0) (shape : Shape) (old new : M)
     (lists : Lists) (i : ℕ) (bytes : List ℕ) (lists' : Lists) where

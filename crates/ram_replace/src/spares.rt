@@ -1,9 +1,10 @@
 //! The free spares tried one after another: each is written and read back, until one has the bytes.
 
-ghost use Rattle.std.specs.Prelude.{◌≡◌, IsTrue, MatchResult};
+ghost use Rattle.std.specs.Prelude.{◌≡◌, IsTrue, MatchResult, length};
 ghost use Rattle.model_geometry.specs.Geometry.{IsLawful, total};
 ghost use Rattle.model_places.specs.Places.{free_spares};
 ghost use Rattle.model_places.specs.Valid.{AreValid};
+ghost use Rattle.ram_bytes.specs.declared.block.TheConstants.{BLOCK_BYTES};
 ghost use Rattle.ram_lists.specs.Lists.{lists_of};
 ghost use Rattle.ram_replace.specs.Spares.{FindsSpare, StopsTrying};
 
@@ -28,12 +29,13 @@ pub fn find_spare<M: Medium>(
     medium: &mut M,
     geometry: &Geometry,
     lists: &Lists,
-    from: &Block,
+    from: &[u8],
     room: &mut Block,
 ) -> Result<Option<Found>, Stop>
     requires size { M.block_count medium.old ≡ total geometry.now }
     requires on { IsTrue (M.world medium.old).power }
     requires valid { AreValid geometry.now (lists_of lists.now) }
+    requires whole { length from.now ≡ BLOCK_BYTES }
     ensures rule { MatchResult result
         (FindsSpare M.world M.reaches medium.old medium.new
         (free_spares geometry.now (lists_of lists.now)) from.now)

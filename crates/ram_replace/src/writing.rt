@@ -1,21 +1,21 @@
 //! The write of one logical block, to its home or to a spare.
 
-ghost use Rattle.std.specs.Prelude.{◌≡◌, ◌<◌, ◌≤◌, IsTrue, MatchResult};
+ghost use Rattle.std.specs.Prelude.{◌≡◌, ◌<◌, ◌≤◌, IsTrue, IfOk, MatchResult, length};
 ghost use Rattle.model_geometry.specs.declared.TheConstants.{MOST_SPARES};
 ghost use Rattle.model_geometry.specs.Geometry.{total};
 ghost use Rattle.model_lists.specs.Values.{IsLawfulSdl};
 ghost use Rattle.model_places.specs.Places.{logical_count, home_of};
 ghost use Rattle.model_places.specs.Valid.{AreValid};
 ghost use Rattle.model_volume.specs.Given.{AreSettled};
+ghost use Rattle.ram_bytes.specs.declared.block.TheConstants.{BLOCK_BYTES};
 ghost use Rattle.ram_sdl.specs.Sdl.{sdl_of};
 ghost use Rattle.ram_lists.specs.Lists.{lists_of};
-ghost use Rattle.ram_replace.specs.Placing.{EndsPlacing, PlacingStopped, PlacedRule};
+ghost use Rattle.ram_replace.specs.Placing.{EndsPlacing, PlacingStopped, PlacedRule, EndsWithReadBack, LeavesReadBack};
 
 use crate::drafts::draft_moved;
 use crate::spares::find_spare;
 use crate::updates::update_list;
 use model_drive::LAST_COUNTER;
-use ram_bytes::Block;
 use ram_copies::{Scratch, put_block};
 use ram_lists::Lists;
 use ram_medium::{Medium, Stop};
@@ -51,7 +51,7 @@ enum Outcome {
     NoUpdate { counter: u32 },
 }
 
-/// Writes a logical block to its home, or to a spare, with the power on.
+/// Writes a logical block to its home, or to a spare, with the power on. After Done the room of `scratch` has its bytes.
 fn place<M: Medium>(
     medium: &mut M,
     geometry: &Geometry,
@@ -59,7 +59,7 @@ fn place<M: Medium>(
     draft: &mut Sdl,
     i: u32,
     home: u32,
-    from: &Block,
+    from: &[u8],
     scratch: &mut Scratch,
 ) -> Result<Outcome, Stop>
     requires size { M.block_count medium.old ≡ total geometry.now }
@@ -71,11 +71,13 @@ fn place<M: Medium>(
     requires home { home ≡ home_of geometry.now (lists_of lists.old) i }
     requires room { MOST_SPARES ≤ lists.old.sdl.entries.room }
     requires draft { MOST_SPARES ≤ draft.old.entries.room }
+    requires whole { length from.now ≡ BLOCK_BYTES }
     ensures rule { MatchResult result
         (EndsPlacing M.world M.reaches geometry.now medium.old medium.new (lists_of lists.old) i from.now
         (lists_of lists.new))
         (PlacingStopped M.world M.reaches geometry.now medium.old medium.new (lists_of lists.old) i from.now
         (lists_of lists.new)) }
+    ensures back { IfOk result (EndsWithReadBack (M.world medium.old).known from.now scratch.new.room) }
     ensures valid { AreValid geometry.now (lists_of lists.new) }
     ensures lawful { IsLawfulSdl (sdl_of lists.new.sdl) }
     ensures room { MOST_SPARES ≤ lists.new.sdl.entries.room }
@@ -97,6 +99,8 @@ fn place<M: Medium>(
         return Ok(Outcome::NoUpdate { counter });
     }
     lists.sdl.copy_from(draft);
+    let room = scratch.room.bytes_mut();
+    room.copy_from_slice(from);
     Ok(Outcome::Done)
 }
 
@@ -114,7 +118,7 @@ pub fn write_home<M: Medium>(
     draft: &mut Sdl,
     i: u32,
     home: u32,
-    from: &Block,
+    from: &[u8],
     scratch: &mut Scratch,
 ) -> Placed
     requires size { M.block_count medium.old ≡ total geometry.now }
@@ -125,8 +129,10 @@ pub fn write_home<M: Medium>(
     requires home { home ≡ home_of geometry.now (lists_of lists.old) i }
     requires room { MOST_SPARES ≤ lists.old.sdl.entries.room }
     requires draft { MOST_SPARES ≤ draft.old.entries.room }
+    requires whole { length from.now ≡ BLOCK_BYTES }
     ensures rule { PlacedRule M.world M.reaches geometry.now medium.old medium.new (lists_of lists.old) i
         from.now (lists_of lists.new) result }
+    ensures back { LeavesReadBack (M.world medium.old).known from.now scratch.new.room result }
     ensures valid { AreValid geometry.now (lists_of lists.new) }
     ensures lawful { IsLawfulSdl (sdl_of lists.new.sdl) }
     ensures room { MOST_SPARES ≤ lists.new.sdl.entries.room }

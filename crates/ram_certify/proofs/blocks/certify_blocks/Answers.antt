@@ -33,7 +33,7 @@ returns-in_err-put_block-clause-rule g c =
     (certifying_stops g.M.Medium.world g.M.Medium.block_count g.M.Medium.reaches g.met.M.Medium.laws c.args.geometry.now c.args.kept.now c.requires.kept c.args.medium.now c.capacity-most.result c.loop-n.medium c.put_block.new.medium c.loop-n.n c.loop-n.passed c.loop-n.count c.loop-n.found.items
     c.loop-n.invariant.so_far (omega (arith, c.loop-n-test.true, c.loop-n.auto.n-end, c.data_blocks-n-end.ensures.count))
     (not_next c.is_next_kept.result (IsNextKept c.args.kept.now c.loop-n.passed (slice_index (data_blocks c.args.geometry.now) c.loop-n.n)) c.if-is_next_kept.false (rw c.data_block-block.ensures at c.is_next_kept.ensures.1))
-    _ (rw (c.data_block-block.ensures, c.requires.zero) at c.in_err-put_block.ensures.rule))
+    _ (rw (c.data_block-block.ensures, c.bytes.ensures.same ∙ c.requires.zero) at c.in_err-put_block.ensures.rule))
 
 pub overflow_add-count : goal.overflow_add-count
 overflow_add-count g c = (let h = c.loop-n.invariant.so_far.few in omega (arith, h, c.loop-n-test.true, c.loop-n.auto.n-end, c.data_blocks-n-end.ensures.most))
@@ -55,7 +55,7 @@ loop-n-preserved g c =
         so_far = rw (w.medium-is, w.found-is, w.passed-is, w.count-is, w.note.ensures.found, c.data_block-block.ensures) (block_found g.M.Medium.world g.M.Medium.block_count g.M.Medium.reaches g.met.M.Medium.laws c.args.geometry.now c.args.kept.now c.requires.kept c.args.medium.now c.capacity-most.result c.loop-n.medium w.put_block.new.medium c.loop-n.n c.loop-n.passed c.loop-n.count c.loop-n.found.items
             c.loop-n.invariant.so_far n_in
             (not_next c.is_next_kept.result (IsNextKept c.args.kept.now c.loop-n.passed (slice_index (data_blocks c.args.geometry.now) c.loop-n.n)) w.if-is_next_kept.false (rw c.data_block-block.ensures at c.is_next_kept.ensures.1))
-            (rw (w.if-not-branch.true, c.data_block-block.ensures, c.requires.zero) at w.in_ok-put_block.ensures.rule));
+            (rw (w.if-not-branch.true, c.data_block-block.ensures, w.bytes.ensures.same ∙ c.requires.zero) at w.in_ok-put_block.ensures.rule));
         room = rw w.found-is w.note.ensures.room;
         as_many = rw w.medium-is (w.in_ok-put_block.ensures.as_many ∙ c.loop-n.invariant.as_many);
       }
@@ -63,7 +63,7 @@ loop-n-preserved g c =
         so_far = rw (w.medium-is, w.found-is, w.passed-is, w.count-is) (block_kept g.M.Medium.world g.M.Medium.block_count g.M.Medium.reaches g.met.M.Medium.laws c.args.geometry.now c.args.kept.now c.requires.kept c.args.medium.now c.capacity-most.result c.loop-n.medium w.put_block.new.medium c.loop-n.n c.loop-n.passed c.loop-n.count c.loop-n.found.items
             c.loop-n.invariant.so_far n_in
             (not_next c.is_next_kept.result (IsNextKept c.args.kept.now c.loop-n.passed (slice_index (data_blocks c.args.geometry.now) c.loop-n.n)) w.if-is_next_kept.false (rw c.data_block-block.ensures at c.is_next_kept.ensures.1))
-            (rw (w.if-not-branch.false, c.data_block-block.ensures, c.requires.zero) at w.in_ok-put_block.ensures.rule));
+            (rw (w.if-not-branch.false, c.data_block-block.ensures, w.bytes.ensures.same ∙ c.requires.zero) at w.in_ok-put_block.ensures.rule));
         room = rw w.found-is c.loop-n.invariant.room;
         as_many = rw w.medium-is (w.in_ok-put_block.ensures.as_many ∙ c.loop-n.invariant.as_many);
       }
