@@ -94,7 +94,7 @@ module _ {M : Type 0} (world : M → World) (block_count : M → ℕ) (reaches :
               course = _;
               as_many = (let many = did.as_many in omega (arith, many));
               blocks = wrote_block world block_count reaches takes arms armed_cut rules laws shape old mid lists reached held held_mid lba n bytes did.course did.blocks valid inside whole few
-                  part.mid part.rest part.held_mid part.has part.full new lists' held' part.then_did.puts part.then_did.buffer_is;
+                  part.mid part.rest part.held_mid part.has part.full new lists' held' part.then_did.puts part.then_did.back part.then_did.buffer_is part.then_did.as_put;
             }
 
         module _ (named : ℕ) (named_is : named ≡ start_in lba (block_with lba + k)) where

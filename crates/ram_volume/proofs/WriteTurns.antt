@@ -273,7 +273,7 @@ module _ {M : Type 0} (world : M → World) (block_count : M → ℕ) (reaches :
           (next_differs disc (logical_count shape lists) lba n bytes whole few stood.2.fits.as_long (length course) covered)
 
       -- The block is written.
-      module _ (new : M) (lists' : Lists) (held' : List (ℕ × List ℕ)) (puts : PutsBlock world reaches shape at new reached i put lists') (buffer_is : held' ≡ with_newest i put held_at) where
+      module _ (new : M) (lists' : Lists) (held' : List (ℕ × List ℕ)) (puts : PutsBlock world reaches shape at new reached i put lists') (back : List ℕ) (buffer_is : held' ≡ with_newest i back held_at) (as_put : (world at).known ≡ true → back ≡ put) where
         pub puts_shown : PutsBlock (λ (m : Machine). m.world) Reach shape (machine at) (machine new) reached i put lists'
         puts_shown = record {
           placing = puts.placing;
@@ -293,7 +293,7 @@ module _ {M : Type 0} (world : M → World) (block_count : M → ℕ) (reaches :
 
         touched_now : numbers_in held' ≡ touched_one (numbers_in held_mid) i
         touched_now =
-            ap numbers_in buffer_is ∙ numbers_in-with_newest i put held_at
+            ap numbers_in buffer_is ∙ numbers_in-with_newest i back held_at
             ∙ rest_put world block_count reaches rules shape reached mid held_mid (numbers_in held) lba n (length course) did.wrote.buffered_are at rest held_at has
 
         one_more : suc (length course) ≡ length course + 1
@@ -316,7 +316,7 @@ module _ {M : Type 0} (world : M → World) (block_count : M → ℕ) (reaches :
           makes = λ disc stood. subst (λ (m : ℕ). FitsUnder shape (world new).cells lists' (disc_after disc lba n bytes m)) (sym one_more)
               (puts.makes (disc_after disc lba n bytes (length course)) (disc_after disc lba n bytes (length course + 1)) (differs_at disc stood) (fits_at disc stood));
           holds = λ disc stood. subst (λ (m : ℕ). HoldsBlocksOf (disc_after disc lba n bytes m) held') (sym one_more)
-              (subst (HoldsBlocksOf (disc_after disc lba n bytes (length course + 1))) (sym buffer_is)
+              (subst (HoldsBlocksOf (disc_after disc lba n bytes (length course + 1))) (sym (buffer_is ∙ ap (λ (b : List ℕ). with_newest i b held_at) (as_put (known_at disc stood))))
               (holds_put (disc_after disc lba n bytes (length course)) (disc_after disc lba n bytes (length course + 1)) i put held_at
               (sym (differs_at disc stood).here) (differs_at disc stood).others (holds_at disc stood)));
         }

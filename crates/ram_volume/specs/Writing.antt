@@ -1,6 +1,6 @@
 -- What a write does with the parts of its request, and what the drive stands for after it. (This project's own, as all
 -- here.)
-use Rattle.std.specs.Prelude.{◌≡◌, ℕ, ◌⊎◌, Bool, IsTrue, MatchBool, List, length}
+use Rattle.std.specs.Prelude.{◌≡◌, ℕ, ◌⊎◌, Bool, true, IsTrue, MatchBool, List, length}
 use Rattle.model_geometry.specs.Geometry.{Shape}
 use Rattle.model_medium.specs.World.{World}
 use Rattle.model_medium.specs.Machine.{Machine}
@@ -72,10 +72,12 @@ module _ {M : Type 0} (world : M → World) (reaches : M → M → ℕ → Type 
     pub full : length rest ≡ 32768
     pub then_did : Then mid (merged_in lba n bytes i rest) held_mid
 
-  -- the block is written, and is buffered
+  -- the block is written, and is buffered as it was read back
   pub record PutsPart (mid : M) (put : List ℕ) (held_mid : List (ℕ × List ℕ)) : Type 0 where
     pub puts : PutsBlock world reaches shape mid new lists i put lists'
-    pub buffer_is : held' ≡ with_newest i put held_mid
+    pub back : List ℕ
+    pub buffer_is : held' ≡ with_newest i back held_mid
+    pub as_put : (world mid).known ≡ true → back ≡ put
 
   -- no spare is left for it
   pub record PartMeetsNoSpare (mid : M) (put : List ℕ) (held_mid : List (ℕ × List ℕ)) : Type 0 where

@@ -68,7 +68,7 @@ fn fetch_rest<M: Medium>(
     read_home(medium, buffer, block, part.block, place)
 }
 
-/// Writes a part of a request, and buffers its block once its home has it.
+/// Writes a part of a request, and buffers its block as it was read back, once its home has it.
 fn write_part<M: Medium>(
     medium: &mut M,
     geometry: &Geometry,
@@ -104,12 +104,12 @@ fn write_part<M: Medium>(
     if !fetch_rest(medium, buffer, block, part, place)? {
         return Ok(Wrote::NoRest);
     }
-    part.merge(from, block);
+    let bytes = part.merged(from, block);
     match write_home(
-        medium, geometry, lists, draft, part.block, place, block, scratch,
+        medium, geometry, lists, draft, part.block, place, bytes, scratch,
     ) {
         Placed::Done => {
-            buffer.put(part.block, block);
+            buffer.put(part.block, &mut scratch.room);
             Ok(Wrote::Done)
         }
         Placed::NoSpare => Ok(Wrote::NoSpare),
