@@ -6,4 +6,5 @@ pub mod Leaving
 pub mod Events
 pub mod EventSteps
 pub mod MachineParts
+mod LeftMachine
 mod GoodRows

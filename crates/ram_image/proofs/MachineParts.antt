@@ -47,7 +47,7 @@ none_good total block count none None h = tt
 none_good total block count none (Some held) h = h none
 
 -- a disc image stays one
-disc_sets : (shape : Shape) (block : ℕ) (cell : Cell) (held held' : List ℕ) → IsDiscImage shape held → SetsCell (total shape) block cell held held' → IsDiscImage shape held'
+pub disc_sets : (shape : Shape) (block : ℕ) (cell : Cell) (held held' : List ℕ) → IsDiscImage shape held → SetsCell (total shape) block cell held held' → IsDiscImage shape held'
 disc_sets shape block cell held held' disc sets = record {
   has_header = record { lawful = disc.has_header.lawful; header = sets.header ∙ disc.has_header.header };
   as_long = sets.as_long ∙ disc.as_long;

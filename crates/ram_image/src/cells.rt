@@ -11,7 +11,7 @@ ghost use Rattle.ram_image.specs.CellCalls.{WriteStateRule, WriteStateBytes, Wri
 ghost use Rattle.ram_image.specs.CellCalls.{cell_call, GoodRowRule, LeadsWithGood, ReadDataRule, ReadStateRule, LeaveCellRule, LeaveCellBytes};
 
 use crate::header::HEADER_BYTES;
-use ram_bytes::{BLOCK_BYTES, Block};
+use ram_bytes::BLOCK_BYTES;
 use ram_medium::Fate;
 use ram_outside::{Image, Moved};
 
@@ -75,18 +75,18 @@ pub fn read_data<I: Image>(image: &mut I, total: u32, block: u32, into: &mut [u8
 
 /// Writes the cell of a block that is not dead, in an image of so many blocks: the state byte of a torn block, the
 /// data, and then the state byte of one with whole bytes.
-pub fn write_cell<I: Image>(image: &mut I, total: u32, block: u32, from: &Block) -> Moved
+pub fn write_cell<I: Image>(image: &mut I, total: u32, block: u32, from: &[u8]) -> Moved
     requires inside { block < total }
+    requires fits { length from.now ≡ BLOCK_BYTES }
     requires whole { ForSome (I.bytes image.old) (λ held. length held ≡ image_len total) }
     ensures rule { WriteCellRule (cell_call I.Image total block image.old image.new) from.now result }
     ensures bytes { WriteCellBytes (cell_call I.Image total block image.old image.new) from.now result }
 {
-    let bytes = from.bytes();
     match image.write_at(state_place(block), &[TORN]) {
         Moved::Failed => return Moved::Failed,
         Moved::Done => {}
     }
-    match image.write_at(data_place(total, block), bytes) {
+    match image.write_at(data_place(total, block), from) {
         Moved::Failed => return Moved::Failed,
         Moved::Done => {}
     }
@@ -163,11 +163,12 @@ pub fn leave_cell<I: Image>(
     image: &mut I,
     total: u32,
     block: u32,
-    from: &Block,
+    from: &[u8],
     fate: Fate,
     known: bool,
 ) -> Moved
     requires inside { block < total }
+    requires fits { length from.now ≡ BLOCK_BYTES }
     requires whole { ForSome (I.bytes image.old) (λ held. length held ≡ image_len total) }
     requires known { known ≡ true → ForSome (I.bytes image.old) (λ held. slice_index held (16 + block) ≡ 1) }
     ensures rule { LeaveCellRule (cell_call I.Image total block image.old image.new) from.now fate result }
@@ -184,8 +185,9 @@ pub fn leave_cell<I: Image>(
 }
 
 /// The same of a block that is not dead.
-fn leave_alive<I: Image>(image: &mut I, total: u32, block: u32, from: &Block, fate: Fate) -> Moved
+fn leave_alive<I: Image>(image: &mut I, total: u32, block: u32, from: &[u8], fate: Fate) -> Moved
     requires inside { block < total }
+    requires fits { length from.now ≡ BLOCK_BYTES }
     requires whole { ForSome (I.bytes image.old) (λ held. length held ≡ image_len total) }
     requires alive { IfSome (I.bytes image.old) (λ held. ¬ (cell_in total held block ≡ Dead)) }
     ensures rule { LeaveCellRule (cell_call I.Image total block image.old image.new) from.now fate result }

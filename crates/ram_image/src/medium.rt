@@ -254,9 +254,10 @@ impl<I: Image> ImageMedium<I> {
         end
     }
 
-    /// A write, as the trait has it.
-    fn write_block(&mut self, block: u32, from: &Block) -> WriteEnd
-        requires { block < total (shape_of_medium self.old) }
+    /// A write straight from the caller's bytes, as the trait has it.
+    fn write_bytes(&mut self, block: u32, from: &[u8]) -> WriteEnd
+        requires inside { block < total (shape_of_medium self.old) }
+        requires whole { length from.now ≡ BLOCK_BYTES }
         ensures { ImageTakes self.old self.new (Write block from.now result) }
     {
         if !self.powered {
@@ -273,8 +274,9 @@ impl<I: Image> ImageMedium<I> {
     }
 
     /// Writes a block in a use in which the power is cut with this fate.
-    fn write_cut(&mut self, block: u32, from: &Block, fate: Fate) -> WriteEnd
-        requires { block < total (shape_of_medium self.old) }
+    fn write_cut(&mut self, block: u32, from: &[u8], fate: Fate) -> WriteEnd
+        requires inside { block < total (shape_of_medium self.old) }
+        requires whole { length from.now ≡ BLOCK_BYTES }
         ensures rule { WriteCutRule (machine_in self.old) (machine_in self.new) block from.now fate result }
         ensures bytes { WriteCutBytes (total (shape_of_medium self.old)) block from.now fate
             (bytes_in self.old) (bytes_in self.new) result }
@@ -290,8 +292,9 @@ impl<I: Image> ImageMedium<I> {
     }
 
     /// Leaves the cell of a block as a write of these bytes with this fate does.
-    fn leave(&mut self, block: u32, from: &Block, fate: Fate) -> Moved
-        requires { block < total (shape_of_medium self.old) }
+    fn leave(&mut self, block: u32, from: &[u8], fate: Fate) -> Moved
+        requires inside { block < total (shape_of_medium self.old) }
+        requires whole { length from.now ≡ BLOCK_BYTES }
         ensures rule { LeaveRule (machine_in self.old) (machine_in self.new) block from.now fate result }
         ensures bytes { LeaveBytes (total (shape_of_medium self.old)) block from.now fate
             (bytes_in self.old) (bytes_in self.new) result }
@@ -349,7 +352,11 @@ impl<I: Image> Medium for ImageMedium<I> {
     }
 
     fn write(&mut self, block: u32, from: &Block) -> WriteEnd {
-        self.write_block(block, from)
+        self.write_bytes(block, from.bytes())
+    }
+
+    fn write_from(&mut self, block: u32, from: &[u8]) -> WriteEnd {
+        self.write_bytes(block, from)
     }
 
     fn power_on(&mut self) {

@@ -17,6 +17,7 @@ enum Step {
     Read(u32),
     ReadInto(u32),
     Write(u32, u8),
+    WriteFrom(u32, u8),
     Fails(u32),
     Wear(u32, u32),
     Cut(u32, Fate),
@@ -84,7 +85,21 @@ fn write<M: MediumControl>(medium: &mut M, number: u32, block: &Block) -> Answer
     if number >= medium.blocks() {
         return Answer::NoBlock;
     }
-    match medium.write(number, block) {
+    let end = medium.write(number, block);
+    write_answer(end)
+}
+
+fn write_from<M: MediumControl>(medium: &mut M, number: u32, block: &Block) -> Answer {
+    if number >= medium.blocks() {
+        return Answer::NoBlock;
+    }
+    let end = medium.write_from(number, block.bytes());
+    write_answer(end)
+}
+
+/// What a write answers.
+fn write_answer(end: WriteEnd) -> Answer {
+    match end {
         WriteEnd::Done => Answer::Done,
         WriteEnd::Cut => Answer::PowerCut,
         WriteEnd::Off => Answer::PowerOff,
@@ -118,6 +133,10 @@ fn take<M: MediumControl>(medium: &mut M, step: Step, block: &mut Block) -> Answ
             block.fill(byte);
             return write(medium, number, block);
         }
+        Step::WriteFrom(number, byte) => {
+            block.fill(byte);
+            return write_from(medium, number, block);
+        }
         Step::Fails(number) => return fail(medium, number),
         Step::Wear(number, n) => return wear(medium, number, n),
         Step::Cut(n, fate) => medium.arm_cut(n.max(1), fate),
@@ -125,10 +144,11 @@ fn take<M: MediumControl>(medium: &mut M, step: Step, block: &mut Block) -> Answ
     Answer::Done
 }
 
-/// The same step, where a read goes straight into the caller's bytes.
+/// The same step, where a read goes straight into the caller's bytes, and a write comes straight from them.
 fn straight(step: Step) -> Step {
     match step {
         Step::Read(number) => Step::ReadInto(number),
+        Step::Write(number, byte) => Step::WriteFrom(number, byte),
         other => other,
     }
 }

@@ -3,8 +3,8 @@ use Rattle.ram_image.specs.Medium.{machine_in}
 use Rattle.ram_image.proofs.medium.ImageMediumMedium.write.Goals as goal
 
 pub returns-clause-rule : goal.returns-clause-rule
-returns-clause-rule g c = write_rule (machine_in c.args.self.now) (machine_in c.write_block.new.self) c.args.block c.args.from.now c.write_block.result c.write_block.ensures.exactly
+returns-clause-rule g c = write_rule (machine_in c.args.self.now) (machine_in c.write_bytes.new.self) c.args.block c.args.from.now c.write_bytes.result (rw c.bytes.ensures.same at c.write_bytes.ensures.exactly)
 
 pub returns-clause-continues : goal.returns-clause-continues
 returns-clause-continues g c =
-    write_continues (machine_in c.args.self.now) (machine_in c.write_block.new.self) c.args.block c.args.from.now c.write_block.result c.args.self.now.armed.to_come c.write_block.ensures.exactly
+    write_continues (machine_in c.args.self.now) (machine_in c.write_bytes.new.self) c.args.block c.args.from.now c.write_bytes.result c.args.self.now.armed.to_come (rw c.bytes.ensures.same at c.write_bytes.ensures.exactly)

@@ -6,7 +6,7 @@ use Rattle.ram_image.specs.Medium.{machine_in, bytes_in}
 use Rattle.ram_image.specs.Begun.{WriteCutBytes}
 use Rattle.ram_image.proofs.Events.{event_cut_write, failed_write}
 use Rattle.ram_image.proofs.EventSteps.{cut_bytes, stops_then}
-use Rattle.ram_image.proofs.medium.ImageMedium.write_block.Goals as goal
+use Rattle.ram_image.proofs.medium.ImageMedium.write_bytes.Goals as goal
 
 pub returns-in-Cut : goal.returns-in-Cut
 returns-in-Cut g c = record {
