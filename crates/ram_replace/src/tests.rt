@@ -46,7 +46,14 @@ fn mount_and_write(
     }
     let place = home(geometry, &lists, i);
     let placed = write_home(
-        medium, geometry, &mut lists, &mut draft, i, place, from, scratch,
+        medium,
+        geometry,
+        &mut lists,
+        &mut draft,
+        i,
+        place,
+        from.bytes(),
+        scratch,
     );
     Ok(Some((placed, Says::of(&lists.sdl))))
 }
