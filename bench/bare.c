@@ -1,8 +1,11 @@
-/* The bare system calls for some blocks, and the least that a drive of this image does with them.
-   usage: bare WHAT FILE BLOCKS TURNS GROUP     prints the seconds that it took
+/* The bare system calls for some blocks of a disc's image, and the least that a drive of this image does with them.
+   usage: bare WHAT IMAGE TOTAL FIRST BLOCKS TURNS GROUP     prints the seconds that it took
+
+   The image has TOTAL blocks. BLOCKS of them from FIRST on are used in turn, in groups of GROUP. They are the disc's logical
+   blocks, none of them replaced, and have whole bytes. The data of a group lie one after another, as those of a command do.
 
    write         each block is written and read back, and nothing is looked at
-   read          each block is read, and nothing is looked at
+   read          each block is read to its place, and nothing is looked at
    least-write   the state bytes of 64 blocks are read at a time, and the data of a group of blocks are made; of each block its
                  state byte is written, its data, and its state byte again; then its data are read back
    least-read    the state bytes of 64 blocks are read at a time, and the data of each block of a group to its place; the last
@@ -17,13 +20,13 @@
 
 enum { SECTOR_BYTES = 2048, BLOCK_BYTES = 32768, HEADER_BYTES = 16, STATES = 64 };
 
-static char block[BLOCK_BYTES], read_back[BLOCK_BYTES];
+static char read_back[BLOCK_BYTES];
 
 static volatile int fills;
 
 static int file;
 
-static long blocks, group;
+static long total, first_block, group;
 
 static void moved(ssize_t bytes, ssize_t due) {
     if (bytes != due) {
@@ -33,7 +36,7 @@ static void moved(ssize_t bytes, ssize_t due) {
 }
 
 static off_t data_place(long i) {
-    return HEADER_BYTES + blocks + i * BLOCK_BYTES;
+    return HEADER_BYTES + total + (first_block + i) * BLOCK_BYTES;
 }
 
 static void write_data(long i, const char *from) {
@@ -45,12 +48,12 @@ static void read_data(long i, char *into) {
 }
 
 static void write_state(long i, char state) {
-    moved(pwrite(file, &state, 1, HEADER_BYTES + i), 1);
+    moved(pwrite(file, &state, 1, HEADER_BYTES + first_block + i), 1);
 }
 
 static void read_states(long i) {
     char states[STATES];
-    moved(pread(file, states, STATES, HEADER_BYTES + i), STATES);
+    moved(pread(file, states, STATES, HEADER_BYTES + first_block + i), STATES);
 }
 
 static void least_write(char *data, long first) {
@@ -80,27 +83,26 @@ static void once(const char *what, char *data, long first) {
         least_write(data, first);
     else if (strcmp(what, "least-read") == 0)
         least_read(data, first);
-    else
-        for (long i = first; i < first + group; i++) {
-            if (strcmp(what, "write") == 0)
-                write_data(i, block);
-            read_data(i, read_back);
+    else if (strcmp(what, "write") == 0)
+        for (long k = 0; k < group; k++) {
+            write_data(first + k, data + k * BLOCK_BYTES);
+            read_data(first + k, read_back);
         }
+    else
+        for (long k = 0; k < group; k++)
+            read_data(first + k, data + k * BLOCK_BYTES);
 }
 
 int main(int count, char **words) {
-    if (count != 6)
+    if (count != 8)
         return 2;
-    file = open(words[2], O_RDWR | O_CREAT, 0666);
-    blocks = atol(words[3]);
-    group = atol(words[5]);
-    long turns = atol(words[4]);
-    char *data = calloc(group, BLOCK_BYTES);
-    memset(block, 0xaa, BLOCK_BYTES);
-    for (long i = 0; i < blocks; i++) {
-        write_state(i, 1);
-        write_data(i, block);
-    }
+    file = open(words[2], O_RDWR);
+    total = atol(words[3]);
+    first_block = atol(words[4]);
+    long blocks = atol(words[5]), turns = atol(words[6]);
+    group = atol(words[7]);
+    char *data = malloc(group * BLOCK_BYTES);
+    memset(data, 0xaa, group * BLOCK_BYTES);
     struct timespec start, end;
     clock_gettime(CLOCK_MONOTONIC, &start);
     for (long turn = 0; turn < turns; turn++)
