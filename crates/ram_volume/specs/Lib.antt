@@ -1,5 +1,6 @@
 pub mod Blocks
 pub mod Control
+pub mod Drives
 pub mod Expanding
 pub mod Formats
 pub mod OneProof

@@ -35,14 +35,14 @@ impl<M: MediumControl> Volume<M> {
     ghost use Rattle.ram_medium.specs.Laws.{machine_shown};
     ghost use Rattle.ram_medium.specs.Control.{WearRule, with_armed_cut};
     ghost use Rattle.ram_volume.specs.Shown.{shown_without};
+    ghost use Rattle.ram_volume.specs.Drives.{shown_by};
     ghost use Rattle.ram_volume.specs.Control.{FailOnDrive, FailStands, KeepsMemory};
 
     /// A drive of this geometry over its medium, with its power off.
     pub fn new(medium: M, geometry: Geometry) -> Volume<M>
         requires size { M.block_count medium ≡ total geometry }
         requires off { ¬ IsTrue (M.world medium).power }
-        ensures { shown_in result.state result.held
-            ≡ shown_without geometry (machine_shown M.world M.arms M.armed_cut medium) }
+        ensures { shown_by result ≡ shown_without geometry (machine_shown M.world M.arms M.armed_cut medium) }
     {
         Volume {
             state: Some(State::Off(PoweredOff::new(medium, geometry))),
@@ -52,10 +52,8 @@ impl<M: MediumControl> Volume<M> {
     /// Makes the block of the medium of this number, counted from 0, dead, with the power on or off. Where what the medium
     /// lies on failed, the power is off, nothing is kept in memory, and the disc is a candidate.
     pub fn fail(&mut self, block: u32) -> FailEnd
-        ensures rule { FailOnDrive (shown_in self.old.state self.old.held) (shown_in self.new.state self.new.held)
-            block result }
-        ensures stands { (s : Standing) → StandsFor (shown_in self.old.state self.old.held) s
-            → FailStands (shown_in self.new.state self.new.held) s result }
+        ensures rule { FailOnDrive (shown_by self.old) (shown_by self.new) block result }
+        ensures stands { (s : Standing) → StandsFor (shown_by self.old) s → FailStands (shown_by self.new) s result }
     {
         let state = take_out(&mut self.state);
         let (state, end) = fail_state(state, block);
@@ -66,13 +64,10 @@ impl<M: MediumControl> Volume<M> {
     /// Makes a block of the medium dead at its `n`-th use from now on: 1 is the next.
     pub fn wear(&mut self, block: u32, n: u32) -> Arm
         requires { 1 ≤ n }
-        ensures rule { WearRule (total (shown_in self.old.state self.old.held).shape)
-            (shown_in self.old.state self.old.held).medium (shown_in self.new.state self.new.held).medium
+        ensures rule { WearRule (total (shown_by self.old).shape) (shown_by self.old).medium (shown_by self.new).medium
             (record { block = block; left = n }) result }
-        ensures keeps { KeepsMemory (shown_in self.old.state self.old.held)
-            (shown_in self.new.state self.new.held) }
-        ensures stands { (s : Standing) → StandsFor (shown_in self.old.state self.old.held) s
-            → StandsFor (shown_in self.new.state self.new.held) s }
+        ensures keeps { KeepsMemory (shown_by self.old) (shown_by self.new) }
+        ensures stands { (s : Standing) → StandsFor (shown_by self.old) s → StandsFor (shown_by self.new) s }
     {
         let mut state = take_out(&mut self.state);
         let arm = state.wear(block, n);
@@ -83,12 +78,9 @@ impl<M: MediumControl> Volume<M> {
     /// Cuts the power at the `n`-th use of the medium from now on, and a write that is then cut leaves its block by the fate.
     pub fn arm_cut(&mut self, n: u32, fate: Fate)
         requires { 1 ≤ n }
-        ensures rule { (shown_in self.new.state self.new.held).medium
-            ≡ with_armed_cut n fate (shown_in self.old.state self.old.held).medium }
-        ensures keeps { KeepsMemory (shown_in self.old.state self.old.held)
-            (shown_in self.new.state self.new.held) }
-        ensures stands { (s : Standing) → StandsFor (shown_in self.old.state self.old.held) s
-            → StandsFor (shown_in self.new.state self.new.held) s }
+        ensures rule { (shown_by self.new).medium ≡ with_armed_cut n fate (shown_by self.old).medium }
+        ensures keeps { KeepsMemory (shown_by self.old) (shown_by self.new) }
+        ensures stands { (s : Standing) → StandsFor (shown_by self.old) s → StandsFor (shown_by self.new) s }
     {
         let mut state = take_out(&mut self.state);
         state.arm_cut(n, fate);
@@ -97,7 +89,7 @@ impl<M: MediumControl> Volume<M> {
 
     /// The medium, as the drive leaves it.
     pub fn into_medium(self) -> M
-        ensures { machine_shown M.world M.arms M.armed_cut result ≡ (shown_in self.state self.held).medium }
+        ensures { machine_shown M.world M.arms M.armed_cut result ≡ (shown_by self).medium }
     {
         let Volume { state } = self;
         match state {
@@ -112,11 +104,12 @@ impl<M: MediumControl> Volume<M> {
 impl<M: MediumControl> Sectors for Volume<M> {
     ghost use Rattle.model_drive.specs.Shown.{StandsFor};
     ghost use Rattle.ram_volume.specs.Volume.{state_in};
+    ghost use Rattle.ram_volume.specs.Drives.{shown_by};
     ghost use Rattle.ram_volume.specs.Sounding.{sound_state};
 
-    ghost shows = { λ volume. shown_in volume.state volume.held };
+    ghost shows = { λ volume. shown_by volume };
 
-    ghost stands = { λ volume s. StandsFor (shown_in volume.state volume.held) s };
+    ghost stands = { λ volume s. StandsFor (shown_by volume) s };
 
     fn capacity(&self) -> Option<u32> {
         match &self.state {
