@@ -17,7 +17,6 @@ use Rattle.model_drive.specs.declared.ExpandOut.TheVariants as expands
 use Rattle.model_drive.specs.Shown.{Shown}
 use Rattle.ram_sense.specs.Sense.{sense, sense_at}
 use Rattle.ram_sense.specs.declared.sense.Sense.{Sense}
-use Rattle.ram_sense.specs.declared.answer.Answer.{Answer}
 use Rattle.ram_sense.specs.declared.answer.Answer.TheVariants as answers
 use Rattle.ram_cdb.specs.declared.commands.Command.{Command}
 use Rattle.ram_cdb.specs.declared.commands.Command.TheVariants as commands

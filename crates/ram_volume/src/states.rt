@@ -48,7 +48,7 @@ pub struct Ready<M: MediumControl> {
     ghost size: { M.block_count medium ≡ total geometry },
     ghost on: { IsTrue (M.world medium).power } by { Prim.hlevel props },
     ghost valid: { AreValid geometry (lists_of lists) } by { valid-prop geometry (lists_of lists) },
-    ghost settled: { AreSettled geometry (M.world medium).cells (lists_of lists) } by { settled-prop geometry (M.world medium).cells (lists_of lists) },
+    ghost settled: { AreSettled geometry (M.world medium).cells (lists_of lists) } by { settled-prop _ _ _ },
     ghost lawful_dds: { IsLawfulDds (dds_of lists.dds) } by { lawful_dds-prop (dds_of lists.dds) },
     ghost lawful_sdl: { IsLawfulSdl (sdl_of lists.sdl) } by { Prim.hlevel props },
     ghost roomy: { MOST_SPARES ≤ lists.sdl.entries.room },

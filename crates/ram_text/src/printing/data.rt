@@ -82,26 +82,27 @@ fn print_sector<K: Sink>(
     ensures { PutsText K.Sink writer.old sink.old writer.new sink.new (sector_text lba sector.now) result }
 {
     if is_fill(sector) {
-        let (line, start) = fill_line(lba, sector[0]);
+        let mut line = [0u8; 40];
+        let start = fill_line(lba, sector[0], &mut line);
         writer.put(sink, &line[start..])
     } else {
         print_bytes(writer, sink, lba, sector)
     }
 }
 
-/// The line of a sector whose bytes are all this one, at the end of some room, and where it begins there. It is made in one
-/// piece, since most sectors of a disc are such.
-fn fill_line(lba: u64, byte: u8) -> ([u8; 40], usize)
-    ensures inside { result.1 ≤ 40 }
-    ensures line { drop result.1 result.0 ≡ codes "sector " ++ decimal lba ++ codes " fill "
+/// Makes the line of a sector whose bytes are all this one, at the end of `line`. Where it begins there. It is made in one
+/// piece, and in place, since most sectors of a disc are such.
+fn fill_line(lba: u64, byte: u8, line: &mut [u8; 40]) -> usize
+    ensures inside { result ≤ 40 }
+    ensures line { drop result line.new ≡ codes "sector " ++ decimal lba ++ codes " fill "
         ++ encode_lower (byte ∷ []) ++ codes "\n" }
 {
-    let mut line = *b"                                fill 00\n";
+    *line = *b"                                fill 00\n";
     encode(&[byte], &mut line[37..39]);
-    let digits = write_digits(lba, &mut line, 31);
+    let digits = write_digits(lba, line, 31);
     let start = digits - LABEL.len();
     line[start..digits].copy_from_slice(LABEL);
-    (line, start)
+    start
 }
 
 /// Whether all bytes of the sector are equal. No byte ends the fold, so many of them are looked at together.
