@@ -9,8 +9,8 @@
    least-write   the state bytes of 64 blocks are read at a time, and the data of a group of blocks are made; of each block its
                  state byte is written, its data, and its state byte again; then its data are read back
    least-read    the state bytes of 64 blocks are read at a time, and the data of each block of a group to its place; the last
-                 one is moved into the block that is kept; then each byte of a sector is compared with the next one, as for
-                 its line in the report */
+                 one is moved into the block that is kept; then each byte of a sector is compared with its first one, sixteen
+                 at a time, as for its line in the report */
 #include <fcntl.h>
 #include <stdio.h>
 #include <stdlib.h>
@@ -68,6 +68,17 @@ static void least_write(char *data, long first) {
     }
 }
 
+typedef char Row __attribute__((vector_size(16), aligned(1), may_alias));
+
+static int is_fill(const char *sector) {
+    const Row *rows = (const Row *)sector;
+    const Row none = {0}, byte = none + sector[0];
+    Row found = none;
+    for (int k = 0; k < SECTOR_BYTES / (int)sizeof(Row); k += 4)
+        found |= (rows[k] ^ byte) | (rows[k + 1] ^ byte) | (rows[k + 2] ^ byte) | (rows[k + 3] ^ byte);
+    return memcmp(&found, &none, sizeof none) == 0;
+}
+
 static void least_read(char *data, long first) {
     if (first % STATES == 0)
         read_states(first);
@@ -75,7 +86,7 @@ static void least_read(char *data, long first) {
         read_data(first + k, data + k * BLOCK_BYTES);
     memcpy(read_back, data + (group - 1) * BLOCK_BYTES, BLOCK_BYTES);
     for (char *sector = data; sector < data + group * BLOCK_BYTES; sector += SECTOR_BYTES)
-        fills += memcmp(sector, sector + 1, SECTOR_BYTES - 1) == 0;
+        fills += is_fill(sector);
 }
 
 static void once(const char *what, char *data, long first) {
