@@ -51,7 +51,7 @@ enum Outcome {
     NoUpdate { counter: u32 },
 }
 
-/// Writes a logical block to its home, or to a spare, with the power on. After Done the room of `scratch` has its bytes.
+/// Writes a logical block to its home, or to a spare, with the power on.
 fn place<M: Medium>(
     medium: &mut M,
     geometry: &Geometry,
@@ -99,6 +99,7 @@ fn place<M: Medium>(
         return Ok(Outcome::NoUpdate { counter });
     }
     lists.sdl.copy_from(draft);
+    // The update used the room.
     let room = scratch.room.bytes_mut();
     room.copy_from_slice(from);
     Ok(Outcome::Done)
@@ -107,7 +108,7 @@ fn place<M: Medium>(
 /// Writes logical block `i` to its home, which the caller has looked up, and reads it back: 2 uses. Where the home is
 /// dead, one free spare after another is written and read back, 2 uses each, until one has the bytes; then the secondary
 /// list that says so is updated, 8 uses, and taken over. `draft` holds that list until then, and nothing of use before
-/// and after. It takes no memory.
+/// and after. After Done the room of `scratch` has the bytes, where cells are known. It takes no memory.
 ///
 /// The lists in memory change with Done alone, once a copy of the new list can be read. (Linear replacement after
 /// ECMA-330; the order of the steps is this project's own.)

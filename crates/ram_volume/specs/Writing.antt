@@ -72,7 +72,7 @@ module _ {M : Type 0} (world : M → World) (reaches : M → M → ℕ → Type 
     pub full : length rest ≡ 32768
     pub then_did : Then mid (merged_in lba n bytes i rest) held_mid
 
-  -- the block is written, and is buffered as it was read back
+  -- the block is written, and is buffered: as it was put, where cells are known
   pub record PutsPart (mid : M) (put : List ℕ) (held_mid : List (ℕ × List ℕ)) : Type 0 where
     pub puts : PutsBlock world reaches shape mid new lists i put lists'
     pub back : List ℕ

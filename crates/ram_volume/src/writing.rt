@@ -68,7 +68,7 @@ fn fetch_rest<M: Medium>(
     read_home(medium, buffer, block, part.block, place)
 }
 
-/// Writes a part of a request, and buffers its block as it was read back, once its home has it.
+/// Writes a part of a request, and buffers its block once its home has it.
 fn write_part<M: Medium>(
     medium: &mut M,
     geometry: &Geometry,
