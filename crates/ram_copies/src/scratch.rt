@@ -7,7 +7,7 @@ use ram_bytes::Block;
 use std::alloc::{AllocError, Global};
 
 /// Two blocks of memory: one for the text of a list, one for a copy that is read. What they have after a call is not
-/// said.
+/// said, unless the call says it.
 #[derive(Drop)]
 pub struct Scratch {
     /// The text of the list that is written.

@@ -42,7 +42,7 @@ module _ {M : Type 0} {c : ControlGhosts M} {d : Ghosts M} where
 
   abbrev pub shown_ready : Ready M c d → Shown
   shown_ready ready =
-      shown_under ready.geometry (machine_shown d.world c.arms c.armed_cut ready.medium) (lists_of ready.lists) ready.buffer
+      shown_under ready.geometry (machine_shown d.world c.arms c.armed_cut ready.medium) (lists_of ready.lists) ready.workspace.buffer
 
   abbrev pub shown_state : State M c d → Shown
   shown_state (states.Off off) = shown_off off

@@ -71,10 +71,7 @@ impl<M: MediumControl> Ready<M> {
                     medium,
                     geometry,
                     lists: _,
-                    draft: _,
-                    buffer: _,
-                    block: _,
-                    scratch: _,
+                    workspace: _,
                 } = self;
                 (State::Off(PoweredOff { medium, geometry }), FailEnd::Failed)
             }
@@ -127,10 +124,7 @@ impl<M: MediumControl> NotFormatted<M> {
                     geometry,
                     mark: _,
                     spare_list: _,
-                    draft: _,
-                    buffer: _,
-                    block: _,
-                    scratch: _,
+                    workspace: _,
                 } = self;
                 (State::Off(PoweredOff { medium, geometry }), FailEnd::Failed)
             }

@@ -38,30 +38,32 @@ impl<M: MediumControl> Ready<M> {
             mut medium,
             geometry,
             mut lists,
-            mut draft,
-            buffer,
-            block,
-            mut scratch,
+            mut workspace,
         } = self;
         match expand_lists(
             &mut medium,
             &geometry,
             &mut lists,
-            &mut draft,
+            &mut workspace.draft,
             capacity,
-            &mut scratch,
+            &mut workspace.scratch,
         ) {
             ExpandEnd::Good => {
-                let ready = Ready::over(medium, geometry, lists, draft, buffer, block, scratch);
+                let ready = Ready::over(medium, geometry, lists, workspace);
                 (State::Ready(ready), ExpandOut::Good)
             }
             ExpandEnd::Refused => {
-                let ready = Ready::under(medium, geometry, lists, draft, buffer, block, scratch);
+                let ready = Ready {
+                    medium,
+                    geometry,
+                    lists,
+                    workspace,
+                };
                 let capacity = ready.capacity();
                 (State::Ready(ready), ExpandOut::Refused { capacity })
             }
             ExpandEnd::NoUpdate { counter } => {
-                let ready = Ready::over(medium, geometry, lists, draft, buffer, block, scratch);
+                let ready = Ready::over(medium, geometry, lists, workspace);
                 (State::Ready(ready), ExpandOut::NoUpdate { counter })
             }
             ExpandEnd::Cut => (State::Off(PoweredOff { medium, geometry }), ExpandOut::Cut),

@@ -16,10 +16,8 @@ ghost use Rattle.ram_lists.specs.Lists.{lists_of};
 ghost use Rattle.ram_volume.specs.Shown.{shown_bare, shown_ready, shown_state, shown_unformatted, shown_under};
 ghost use Rattle.ram_volume.specs.Formats.{FormatSteps};
 
+use crate::memory::Workspace;
 use crate::states::{NotFormatted, PoweredOff, Ready, State};
-use ram_buffer::BlockBuffer;
-use ram_bytes::Block;
-use ram_copies::Scratch;
 use ram_format::{FullEnd, Rewritten, full_format, kept_entries, rewrite};
 use ram_lists::Lists;
 use ram_medium::MediumControl;
@@ -35,30 +33,24 @@ impl<M: MediumControl> NotFormatted<M> {
         geometry: Geometry,
         mark: u32,
         spare_list: Sdl,
-        draft: Sdl,
-        mut buffer: BlockBuffer,
-        block: Block,
-        scratch: Scratch,
+        mut workspace: Workspace,
     ) -> NotFormatted<M>
         requires size { M.block_count medium ≡ total geometry }
         requires on { IsTrue (M.world medium).power }
         requires bare { GivesNone geometry (M.world medium).cells }
         requires marked { AreMarkedWithin geometry (M.world medium).cells mark }
         requires spare_roomy { MOST_SPARES ≤ spare_list.entries.room }
-        requires draft_roomy { MOST_SPARES ≤ draft.entries.room }
+        requires draft_roomy { MOST_SPARES ≤ workspace.draft.entries.room }
         ensures { shown_bare result ≡ shown_unformatted geometry
             (machine_shown M.world M.arms M.armed_cut medium) mark }
     {
-        buffer.drop_all();
+        workspace.buffer.drop_all();
         NotFormatted {
             medium,
             geometry,
             mark,
             spare_list,
-            draft,
-            buffer,
-            block,
-            scratch,
+            workspace,
         }
     }
 
@@ -87,29 +79,27 @@ impl<M: MediumControl> NotFormatted<M> {
             geometry,
             mark,
             spare_list: list,
-            draft,
-            buffer,
-            block,
-            mut scratch,
+            mut workspace,
         } = self;
-        match full_format(alloc, &mut medium, &geometry, &[], true, mark, &mut scratch) {
+        let scratch = &mut workspace.scratch;
+        match full_format(alloc, &mut medium, &geometry, &[], true, mark, scratch) {
             FullEnd::Good { lists } => {
-                let ready = Ready::over(medium, geometry, lists, draft, buffer, block, scratch);
+                let ready = Ready::over(medium, geometry, lists, workspace);
                 (State::Ready(ready), FormatOut::Good)
             }
             FullEnd::TooMany { found, mark } => {
-                let bare = Self::over(medium, geometry, mark, list, draft, buffer, block, scratch);
+                let bare = Self::over(medium, geometry, mark, list, workspace);
                 (State::NotFormatted(bare), FormatOut::TooMany { found })
             }
             FullEnd::NoRoom { mark: _ } => {
-                let bare = Self::over(medium, geometry, mark, list, draft, buffer, block, scratch);
+                let bare = Self::over(medium, geometry, mark, list, workspace);
                 (
                     State::NotFormatted(bare),
                     FormatOut::NoUpdate { counter: mark },
                 )
             }
             FullEnd::NoCopy { counter, mark } => {
-                let bare = Self::over(medium, geometry, mark, list, draft, buffer, block, scratch);
+                let bare = Self::over(medium, geometry, mark, list, workspace);
                 (State::NotFormatted(bare), FormatOut::NoUpdate { counter })
             }
             FullEnd::Cut => (State::Off(PoweredOff { medium, geometry }), FormatOut::Cut),
@@ -119,7 +109,7 @@ impl<M: MediumControl> NotFormatted<M> {
                 FormatOut::Fault,
             ),
             FullEnd::NoMemory => {
-                let bare = Self::over(medium, geometry, mark, list, draft, buffer, block, scratch);
+                let bare = Self::over(medium, geometry, mark, list, workspace);
                 (State::NotFormatted(bare), FormatOut::NoMemory)
             }
         }
@@ -127,47 +117,12 @@ impl<M: MediumControl> NotFormatted<M> {
 }
 
 impl<M: MediumControl> Ready<M> {
-    /// A drive of these parts, with these lists in use.
-    pub(crate) fn under(
-        medium: M,
-        geometry: Geometry,
-        lists: Lists,
-        draft: Sdl,
-        buffer: BlockBuffer,
-        block: Block,
-        scratch: Scratch,
-    ) -> Ready<M>
-        requires size { M.block_count medium ≡ total geometry }
-        requires on { IsTrue (M.world medium).power }
-        requires valid { AreValid geometry (lists_of lists) }
-        requires settled { AreSettled geometry (M.world medium).cells (lists_of lists) }
-        requires lawful_dds { IsLawfulDds (dds_of lists.dds) }
-        requires lawful_sdl { IsLawfulSdl (sdl_of lists.sdl) }
-        requires roomy { MOST_SPARES ≤ lists.sdl.entries.room }
-        requires draft_roomy { MOST_SPARES ≤ draft.entries.room }
-        ensures { shown_ready result ≡ shown_under geometry
-            (machine_shown M.world M.arms M.armed_cut medium) (lists_of lists) buffer }
-    {
-        Ready {
-            medium,
-            geometry,
-            lists,
-            draft,
-            buffer,
-            block,
-            scratch,
-        }
-    }
-
-    /// The same, with an empty buffer.
+    /// A drive of these parts, with these lists in use. It buffers nothing.
     pub(crate) fn over(
         medium: M,
         geometry: Geometry,
         lists: Lists,
-        draft: Sdl,
-        mut buffer: BlockBuffer,
-        block: Block,
-        scratch: Scratch,
+        mut workspace: Workspace,
     ) -> Ready<M>
         requires size { M.block_count medium ≡ total geometry }
         requires on { IsTrue (M.world medium).power }
@@ -176,12 +131,17 @@ impl<M: MediumControl> Ready<M> {
         requires lawful_dds { IsLawfulDds (dds_of lists.dds) }
         requires lawful_sdl { IsLawfulSdl (sdl_of lists.sdl) }
         requires roomy { MOST_SPARES ≤ lists.sdl.entries.room }
-        requires draft_roomy { MOST_SPARES ≤ draft.entries.room }
+        requires draft_roomy { MOST_SPARES ≤ workspace.draft.entries.room }
         ensures { shown_ready result ≡ shown_under geometry
             (machine_shown M.world M.arms M.armed_cut medium) (lists_of lists) [] }
     {
-        buffer.drop_all();
-        Ready::under(medium, geometry, lists, draft, buffer, block, scratch)
+        workspace.buffer.drop_all();
+        Ready {
+            medium,
+            geometry,
+            lists,
+            workspace,
+        }
     }
 
     /// Formats the disc. A full format certifies the data blocks that it does not keep as defective, leaves zeros in the
@@ -213,41 +173,32 @@ impl<M: MediumControl> Ready<M> {
             mut medium,
             geometry,
             lists,
-            draft,
-            buffer,
-            block,
-            mut scratch,
+            mut workspace,
         } = self;
         let mark = lists.dds.counter;
-        match full_format(
-            alloc,
-            &mut medium,
-            &geometry,
-            &kept,
-            false,
-            mark,
-            &mut scratch,
-        ) {
+        let scratch = &mut workspace.scratch;
+        match full_format(alloc, &mut medium, &geometry, &kept, false, mark, scratch) {
             FullEnd::Good { lists } => {
-                let ready = Ready::over(medium, geometry, lists, draft, buffer, block, scratch);
+                let ready = Ready::over(medium, geometry, lists, workspace);
                 (State::Ready(ready), FormatOut::Good)
             }
             FullEnd::TooMany { found, mark } => {
                 let Lists { dds: _, sdl: list } = lists;
-                let bare = NotFormatted::over(
-                    medium, geometry, mark, list, draft, buffer, block, scratch,
-                );
+                let bare = NotFormatted::over(medium, geometry, mark, list, workspace);
                 (State::NotFormatted(bare), FormatOut::TooMany { found })
             }
             FullEnd::NoRoom { mark } => {
-                let ready = Ready::under(medium, geometry, lists, draft, buffer, block, scratch);
+                let ready = Ready {
+                    medium,
+                    geometry,
+                    lists,
+                    workspace,
+                };
                 (State::Ready(ready), FormatOut::NoUpdate { counter: mark })
             }
             FullEnd::NoCopy { counter, mark } => {
                 let Lists { dds: _, sdl: list } = lists;
-                let bare = NotFormatted::over(
-                    medium, geometry, mark, list, draft, buffer, block, scratch,
-                );
+                let bare = NotFormatted::over(medium, geometry, mark, list, workspace);
                 (State::NotFormatted(bare), FormatOut::NoUpdate { counter })
             }
             FullEnd::Cut => (State::Off(PoweredOff { medium, geometry }), FormatOut::Cut),
@@ -257,7 +208,12 @@ impl<M: MediumControl> Ready<M> {
                 FormatOut::Fault,
             ),
             FullEnd::NoMemory => {
-                let ready = Ready::under(medium, geometry, lists, draft, buffer, block, scratch);
+                let ready = Ready {
+                    medium,
+                    geometry,
+                    lists,
+                    workspace,
+                };
                 (State::Ready(ready), FormatOut::NoMemory)
             }
         }
@@ -273,18 +229,15 @@ impl<M: MediumControl> Ready<M> {
             mut medium,
             geometry,
             lists,
-            draft,
-            buffer,
-            block,
-            mut scratch,
+            mut workspace,
         } = self;
-        match rewrite(&mut medium, &geometry, &lists, &mut scratch) {
+        match rewrite(&mut medium, &geometry, &lists, &mut workspace.scratch) {
             Rewritten::Good => {
-                let ready = Ready::over(medium, geometry, lists, draft, buffer, block, scratch);
+                let ready = Ready::over(medium, geometry, lists, workspace);
                 (State::Ready(ready), FormatOut::Good)
             }
             Rewritten::NoCopy { counter } => {
-                let ready = Ready::over(medium, geometry, lists, draft, buffer, block, scratch);
+                let ready = Ready::over(medium, geometry, lists, workspace);
                 (State::Ready(ready), FormatOut::NoUpdate { counter })
             }
             Rewritten::Cut => (State::Off(PoweredOff { medium, geometry }), FormatOut::Cut),

@@ -9,17 +9,28 @@ use ram_copies::Scratch;
 use ram_sdl::{MOST_SPARES, Sdl, SdlEntries};
 use std::alloc::{AllocError, Global};
 
+/// The memory in which the calls of a drive with its power on work, and the buffer that stays between them.
+#[derive(Drop)]
+pub struct Workspace {
+    /// Room for the secondary list that is written next.
+    pub draft: Sdl,
+    /// The blocks that are buffered.
+    pub buffer: BlockBuffer,
+    /// The scratch block, in which a block is read and merged.
+    pub block: Block,
+    /// Room for the copies of a list, and for what is read back.
+    pub scratch: Scratch,
+}
+
 /// All memory that a drive with its power on works with.
 #[derive(Drop)]
 pub struct Memory {
+    /// Room for the secondary list in use.
     pub list: Sdl,
-    pub draft: Sdl,
-    pub buffer: BlockBuffer,
-    pub block: Block,
-    pub scratch: Scratch,
+    pub workspace: Workspace,
     ghost list_roomy: { MOST_SPARES ≤ list.entries.room },
-    ghost draft_roomy: { MOST_SPARES ≤ draft.entries.room },
-    ghost unbuffered: { buffer ≡ [] },
+    ghost draft_roomy: { MOST_SPARES ≤ workspace.draft.entries.room },
+    ghost unbuffered: { workspace.buffer ≡ [] },
 }
 
 /// An empty secondary list with room for [`MOST_SPARES`] entries.
@@ -41,10 +52,12 @@ impl Memory {
     pub fn new(alloc: Global) -> Result<Memory, AllocError> {
         Ok(Memory {
             list: roomy_list(alloc)?,
-            draft: roomy_list(alloc)?,
-            buffer: BlockBuffer::new(alloc)?,
-            block: Block::zeros(alloc)?,
-            scratch: Scratch::new(alloc)?,
+            workspace: Workspace {
+                draft: roomy_list(alloc)?,
+                buffer: BlockBuffer::new(alloc)?,
+                block: Block::zeros(alloc)?,
+                scratch: Scratch::new(alloc)?,
+            },
         })
     }
 }

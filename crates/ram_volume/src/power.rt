@@ -30,13 +30,10 @@ impl<M: MediumControl> PoweredOff<M> {
         };
         let Memory {
             mut list,
-            draft,
-            buffer,
-            block,
-            mut scratch,
+            mut workspace,
         } = memory;
         medium.power_on();
-        match mount(alloc, &mut medium, &geometry, &mut scratch) {
+        match mount(alloc, &mut medium, &geometry, &mut workspace.scratch) {
             Mounted::Lists { lists } => {
                 list.copy_from(&lists.sdl);
                 PowerOn::Ready(Ready {
@@ -46,10 +43,7 @@ impl<M: MediumControl> PoweredOff<M> {
                         dds: lists.dds,
                         sdl: list,
                     },
-                    draft,
-                    buffer,
-                    block,
-                    scratch,
+                    workspace,
                 })
             }
             Mounted::Bare { mark } => PowerOn::NotFormatted(NotFormatted {
@@ -57,10 +51,7 @@ impl<M: MediumControl> PoweredOff<M> {
                 geometry,
                 mark,
                 spare_list: list,
-                draft,
-                buffer,
-                block,
-                scratch,
+                workspace,
             }),
             Mounted::Cut => PowerOn::Cut(PoweredOff { medium, geometry }),
             Mounted::Off => unreachable!(),
@@ -84,10 +75,7 @@ impl<M: MediumControl> Ready<M> {
             mut medium,
             geometry,
             lists: _,
-            draft: _,
-            buffer: _,
-            block: _,
-            scratch: _,
+            workspace: _,
         } = self;
         medium.power_off();
         PoweredOff { medium, geometry }
@@ -106,10 +94,7 @@ impl<M: MediumControl> NotFormatted<M> {
             geometry,
             mark: _,
             spare_list: _,
-            draft: _,
-            buffer: _,
-            block: _,
-            scratch: _,
+            workspace: _,
         } = self;
         medium.power_off();
         PoweredOff { medium, geometry }

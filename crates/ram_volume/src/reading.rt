@@ -174,17 +174,14 @@ impl<M: MediumControl> Ready<M> {
             mut medium,
             geometry,
             lists,
-            draft,
-            mut buffer,
-            mut block,
-            scratch,
+            mut workspace,
         } = self;
         match read_parts(
             &mut medium,
             &geometry,
             &lists,
-            &mut buffer,
-            &mut block,
+            &mut workspace.buffer,
+            &mut workspace.block,
             request,
             into,
         ) {
@@ -194,10 +191,7 @@ impl<M: MediumControl> Ready<M> {
                     medium,
                     geometry,
                     lists,
-                    draft,
-                    buffer,
-                    block,
-                    scratch,
+                    workspace,
                 };
                 (State::Ready(ready), out)
             }

@@ -15,9 +15,8 @@ ghost use Rattle.ram_sdl.specs.Sdl.{sdl_of};
 ghost use Rattle.ram_lists.specs.Lists.{lists_of};
 ghost use Rattle.ram_volume.specs.OneProof.{lawful_dds-prop};
 
-use ram_buffer::BlockBuffer;
-use ram_bytes::{Block, SECTORS_PER_BLOCK};
-use ram_copies::Scratch;
+use crate::memory::Workspace;
+use ram_bytes::SECTORS_PER_BLOCK;
 use ram_lists::Lists;
 use ram_medium::MediumControl;
 use ram_sdl::Sdl;
@@ -40,11 +39,7 @@ pub struct Ready<M: MediumControl> {
     pub(crate) geometry: Geometry,
     /// The lists in use.
     pub(crate) lists: Lists,
-    /// Room for the secondary list that is written next.
-    pub(crate) draft: Sdl,
-    pub(crate) buffer: BlockBuffer,
-    pub(crate) block: Block,
-    pub(crate) scratch: Scratch,
+    pub(crate) workspace: Workspace,
     ghost size: { M.block_count medium ≡ total geometry },
     ghost on: { IsTrue (M.world medium).power } by { Prim.hlevel props },
     ghost valid: { AreValid geometry (lists_of lists) } by { valid-prop geometry (lists_of lists) },
@@ -52,7 +47,7 @@ pub struct Ready<M: MediumControl> {
     ghost lawful_dds: { IsLawfulDds (dds_of lists.dds) } by { lawful_dds-prop (dds_of lists.dds) },
     ghost lawful_sdl: { IsLawfulSdl (sdl_of lists.sdl) } by { Prim.hlevel props },
     ghost roomy: { MOST_SPARES ≤ lists.sdl.entries.room },
-    ghost draft_roomy: { MOST_SPARES ≤ draft.entries.room },
+    ghost draft_roomy: { MOST_SPARES ≤ workspace.draft.entries.room },
 }
 
 /// A drive with its power on and a disc that is not formatted: its cells give no lists. The mark is no less than that of
@@ -62,19 +57,16 @@ pub struct NotFormatted<M: MediumControl> {
     pub(crate) medium: M,
     pub(crate) geometry: Geometry,
     pub(crate) mark: u32,
-    /// Room for both secondary lists that a formatted disc needs.
+    /// Room for the secondary list that a formatted disc has in use.
     pub(crate) spare_list: Sdl,
-    pub(crate) draft: Sdl,
-    pub(crate) buffer: BlockBuffer,
-    pub(crate) block: Block,
-    pub(crate) scratch: Scratch,
+    pub(crate) workspace: Workspace,
     ghost size: { M.block_count medium ≡ total geometry },
     ghost on: { IsTrue (M.world medium).power } by { Prim.hlevel props },
     ghost bare: { GivesNone geometry (M.world medium).cells } by { Prim.hlevel props },
     ghost marked: { AreMarkedWithin geometry (M.world medium).cells mark } by { Prim.hlevel props },
-    ghost unbuffered: { buffer ≡ [] } by { Prim.hlevel props },
+    ghost unbuffered: { workspace.buffer ≡ [] } by { Prim.hlevel props },
     ghost spare_roomy: { MOST_SPARES ≤ spare_list.entries.room },
-    ghost draft_roomy: { MOST_SPARES ≤ draft.entries.room },
+    ghost draft_roomy: { MOST_SPARES ≤ workspace.draft.entries.room },
 }
 
 /// A drive in any of its states.
@@ -149,10 +141,7 @@ impl<M: MediumControl> NotFormatted<M> {
             geometry: _,
             mark: _,
             spare_list: _,
-            draft: _,
-            buffer: _,
-            block: _,
-            scratch: _,
+            workspace: _,
         } = self;
         medium
     }
@@ -181,10 +170,7 @@ impl<M: MediumControl> Ready<M> {
             medium,
             geometry: _,
             lists: _,
-            draft: _,
-            buffer: _,
-            block: _,
-            scratch: _,
+            workspace: _,
         } = self;
         medium
     }

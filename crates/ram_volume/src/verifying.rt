@@ -58,22 +58,17 @@ impl<M: MediumControl> Ready<M> {
             mut medium,
             geometry,
             lists,
-            draft,
-            buffer,
-            mut block,
-            scratch,
+            mut workspace,
         } = self;
-        match read_homes(&mut medium, &geometry, &lists, &mut block, request) {
+        let block = &mut workspace.block;
+        match read_homes(&mut medium, &geometry, &lists, block, request) {
             Ok(met) => {
                 let out = ended_at(&geometry, &lists, request, met);
                 let ready = Ready {
                     medium,
                     geometry,
                     lists,
-                    draft,
-                    buffer,
-                    block,
-                    scratch,
+                    workspace,
                 };
                 (State::Ready(ready), out)
             }

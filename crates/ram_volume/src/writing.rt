@@ -18,16 +18,15 @@ ghost use Rattle.ram_volume.specs.Shown.{shown_ready, shown_state};
 ghost use Rattle.ram_volume.specs.Writing.{BringsRest, RestStopped, WritesPart, PartStops, EndsParts, StopsParts, WriteSteps};
 
 use crate::fetching::read_home;
+use crate::memory::Workspace;
 use crate::states::{PoweredOff, Ready, State};
 use model_drive::WriteOut;
 use ram_buffer::BlockBuffer;
 use ram_bytes::Block;
-use ram_copies::Scratch;
 use ram_lists::{Lists, home};
 use ram_medium::{Medium, MediumControl, Stop};
 use ram_replace::{Placed, write_home};
 use ram_requests::{Part, Request};
-use ram_sdl::Sdl;
 use ram_zones::Geometry;
 
 /// How the write of a part of a request ended that was not stopped.
@@ -73,10 +72,7 @@ fn write_part<M: Medium>(
     medium: &mut M,
     geometry: &Geometry,
     lists: &mut Lists,
-    draft: &mut Sdl,
-    buffer: &mut BlockBuffer,
-    block: &mut Block,
-    scratch: &mut Scratch,
+    workspace: &mut Workspace,
     part: Part,
     from: &[u8],
 ) -> Result<Wrote, Stop>
@@ -87,20 +83,26 @@ fn write_part<M: Medium>(
     requires settled { AreSettled geometry.now (M.world medium.old).cells (lists_of lists.old) }
     requires inside { part.block < logical_count geometry.now (lists_of lists.old) }
     requires room { MOST_SPARES ≤ lists.old.sdl.entries.room }
-    requires draft { MOST_SPARES ≤ draft.old.entries.room }
+    requires draft { MOST_SPARES ≤ workspace.old.draft.entries.room }
     requires whole { length from.now ≡ 2048 * part.request.n }
     ensures rule { MatchResult result
         (WritesPart M.world M.reaches geometry.now medium.old medium.new (lists_of lists.old) (lists_of lists.new)
-        buffer.old buffer.new part.request.lba part.request.n part.block from.now)
+        workspace.old.buffer workspace.new.buffer part.request.lba part.request.n part.block from.now)
         (PartStops M.world M.reaches geometry.now medium.old medium.new (lists_of lists.old)
-        buffer.old part.request.lba part.request.n part.block from.now) }
+        workspace.old.buffer part.request.lba part.request.n part.block from.now) }
     ensures valid { AreValid geometry.now (lists_of lists.new) }
     ensures lawful { IsLawfulSdl (sdl_of lists.new.sdl) }
     ensures room { MOST_SPARES ≤ lists.new.sdl.entries.room }
-    ensures draft { MOST_SPARES ≤ draft.new.entries.room }
+    ensures draft { MOST_SPARES ≤ workspace.new.draft.entries.room }
     ensures as_many { M.block_count medium.new ≡ M.block_count medium.old }
 {
     let place = home(geometry, lists, part.block);
+    let Workspace {
+        draft,
+        buffer,
+        block,
+        scratch,
+    } = workspace;
     if !fetch_rest(medium, buffer, block, part, place)? {
         return Ok(Wrote::NoRest);
     }
@@ -125,10 +127,7 @@ fn write_parts<M: MediumControl>(
     medium: &mut M,
     geometry: &Geometry,
     lists: &mut Lists,
-    draft: &mut Sdl,
-    buffer: &mut BlockBuffer,
-    block: &mut Block,
-    scratch: &mut Scratch,
+    workspace: &mut Workspace,
     request: Request,
     from: &[u8],
 ) -> Result<WriteOut, Stop>
@@ -139,26 +138,24 @@ fn write_parts<M: MediumControl>(
     requires settled { AreSettled geometry.now (M.world medium.old).cells (lists_of lists.old) }
     requires inside { request.lba + request.n ≤ capacity_of geometry.now (lists_of lists.old) }
     requires room { MOST_SPARES ≤ lists.old.sdl.entries.room }
-    requires draft { MOST_SPARES ≤ draft.old.entries.room }
+    requires draft { MOST_SPARES ≤ workspace.old.draft.entries.room }
     requires whole { length from.now ≡ 2048 * request.n }
     ensures rule { MatchResult result
         (EndsParts geometry.now (machine_shown M.world M.arms M.armed_cut medium.old)
-        (machine_shown M.world M.arms M.armed_cut medium.new) (lists_of lists.old) buffer.old
-        request.lba request.n from.now (lists_of lists.new) buffer.new)
+        (machine_shown M.world M.arms M.armed_cut medium.new) (lists_of lists.old) workspace.old.buffer
+        request.lba request.n from.now (lists_of lists.new) workspace.new.buffer)
         (StopsParts geometry.now (machine_shown M.world M.arms M.armed_cut medium.old)
-        (machine_shown M.world M.arms M.armed_cut medium.new) (lists_of lists.old) buffer.old
+        (machine_shown M.world M.arms M.armed_cut medium.new) (lists_of lists.old) workspace.old.buffer
         request.lba request.n from.now) }
     ensures valid { AreValid geometry.now (lists_of lists.new) }
     ensures lawful { IsLawfulSdl (sdl_of lists.new.sdl) }
     ensures room { MOST_SPARES ≤ lists.new.sdl.entries.room }
-    ensures draft { MOST_SPARES ≤ draft.new.entries.room }
+    ensures draft { MOST_SPARES ≤ workspace.new.draft.entries.room }
     ensures as_many { M.block_count medium.new ≡ M.block_count medium.old }
 {
     for k in 0..request.blocks() {
         let part = request.part(k);
-        match write_part(
-            medium, geometry, lists, draft, buffer, block, scratch, part, from,
-        )? {
+        match write_part(medium, geometry, lists, workspace, part, from)? {
             Wrote::Done => {}
             Wrote::NoRest => {
                 return Ok(WriteOut::Unread {
@@ -186,19 +183,13 @@ impl<M: MediumControl> Ready<M> {
             mut medium,
             geometry,
             mut lists,
-            mut draft,
-            mut buffer,
-            mut block,
-            mut scratch,
+            mut workspace,
         } = self;
         match write_parts(
             &mut medium,
             &geometry,
             &mut lists,
-            &mut draft,
-            &mut buffer,
-            &mut block,
-            &mut scratch,
+            &mut workspace,
             request,
             from,
         ) {
@@ -207,10 +198,7 @@ impl<M: MediumControl> Ready<M> {
                     medium,
                     geometry,
                     lists,
-                    draft,
-                    buffer,
-                    block,
-                    scratch,
+                    workspace,
                 };
                 (State::Ready(ready), out)
             }

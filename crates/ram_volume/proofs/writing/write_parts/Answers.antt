@@ -13,7 +13,7 @@ use Rattle.ram_volume.proofs.writing.write_parts.Goals as goal
 
 pub loop-k-init : goal.loop-k-init
 loop-k-init g c = record {
-  so_far = wrote_none g.M.Medium.world g.M.Medium.block_count g.M.Medium.reaches g.M.Medium.takes g.M.MediumControl.arms g.M.MediumControl.armed_cut g.met.M.Medium.laws g.met.M.MediumControl.control_laws c.args.geometry.now c.args.medium.now (lists_of c.args.lists.now) c.args.buffer.now c.args.request.lba c.args.request.n c.args.from.now c.requires.on c.requires.inside c.requires.settled;
+  so_far = wrote_none g.M.Medium.world g.M.Medium.block_count g.M.Medium.reaches g.M.Medium.takes g.M.MediumControl.arms g.M.MediumControl.armed_cut g.met.M.Medium.laws g.met.M.MediumControl.control_laws c.args.geometry.now c.args.medium.now (lists_of c.args.lists.now) c.args.workspace.now.buffer c.args.request.lba c.args.request.n c.args.from.now c.requires.on c.requires.inside c.requires.settled;
   valid = c.requires.valid;
   lawful = c.requires.lawful;
   room = c.requires.room;
@@ -41,7 +41,7 @@ write_part-requires-clause-inside g c =
     let covered : c.loop-k.k < blocks_covered c.args.request.lba c.args.request.n = omega (arith, c.loop-k-test.true, c.blocks-k-end.ensures) in
     subst (λ (block : ℕ). block < logical_count c.args.geometry.now (lists_of c.loop-k.lists)) (sym c.part-part.ensures.block)
     (part_within g.M.Medium.world g.M.Medium.block_count g.M.Medium.reaches g.M.Medium.takes g.M.MediumControl.arms g.M.MediumControl.armed_cut g.met.M.Medium.laws g.met.M.MediumControl.control_laws c.args.geometry.now
-    c.args.medium.now c.loop-k.medium (lists_of c.args.lists.now) (lists_of c.loop-k.lists) c.args.buffer.now c.loop-k.buffer c.args.request.lba c.args.request.n c.args.from.now c.loop-k.k c.loop-k.invariant.so_far
+    c.args.medium.now c.loop-k.medium (lists_of c.args.lists.now) (lists_of c.loop-k.lists) c.args.workspace.now.buffer c.loop-k.workspace.buffer c.args.request.lba c.args.request.n c.args.from.now c.loop-k.k c.loop-k.invariant.so_far
     c.requires.valid c.requires.inside c.requires.whole covered c.loop-k.medium)
 
 pub write_part-requires-clause-room : goal.write_part-requires-clause-room
@@ -55,10 +55,10 @@ returns-in_err-write_part-clause-rule g c =
     let p = err_from_is_err_and c.from_residual.result c.from_residual.ensures.1 in
     let covered : c.loop-k.k < blocks_covered c.args.request.lba c.args.request.n = omega (arith, c.loop-k-test.true, c.blocks-k-end.ensures) in
     let did = in_block (λ lba n block. PartStops g.M.Medium.world g.M.Medium.reaches c.args.geometry.now c.loop-k.medium c.write_part.new.medium (lists_of c.loop-k.lists)
-    c.loop-k.buffer lba n block c.args.from.now c.in_err-write_part.field-0.0) c.part-part.result c.args.request c.loop-k.k c.part-part.ensures.request c.part-part.ensures.block c.in_err-write_part.ensures.rule in
+    c.loop-k.workspace.buffer lba n block c.args.from.now c.in_err-write_part.field-0.0) c.part-part.result c.args.request c.loop-k.k c.part-part.ensures.request c.part-part.ensures.block c.in_err-write_part.ensures.rule in
     rw (p.1, p.2)
     (part_stopped g.M.Medium.world g.M.Medium.block_count g.M.Medium.reaches g.M.Medium.takes g.M.MediumControl.arms g.M.MediumControl.armed_cut g.met.M.Medium.laws g.met.M.MediumControl.control_laws c.args.geometry.now
-    c.args.medium.now c.loop-k.medium (lists_of c.args.lists.now) (lists_of c.loop-k.lists) c.args.buffer.now c.loop-k.buffer c.args.request.lba c.args.request.n c.args.from.now c.loop-k.k c.loop-k.invariant.so_far
+    c.args.medium.now c.loop-k.medium (lists_of c.args.lists.now) (lists_of c.loop-k.lists) c.args.workspace.now.buffer c.loop-k.workspace.buffer c.args.request.lba c.args.request.n c.args.from.now c.loop-k.k c.loop-k.invariant.so_far
     c.requires.valid c.requires.inside c.requires.whole covered c.write_part.new.medium c.in_err-write_part.field-0.0 did)
 
 pub returns-in_err-write_part-clause-as_many : goal.returns-in_err-write_part-clause-as_many
@@ -68,25 +68,25 @@ pub home-requires-clause-inside : goal.home-requires-clause-inside
 home-requires-clause-inside g c =
     let covered : c.loop-k.k < blocks_covered c.args.request.lba c.args.request.n = omega (arith, c.loop-k-test.true, c.blocks-k-end.ensures) in
     let did = in_block (λ lba n block. WritesPart g.M.Medium.world g.M.Medium.reaches c.args.geometry.now c.loop-k.medium c.write_part.new.medium (lists_of c.loop-k.lists) (lists_of c.write_part.new.lists)
-    c.loop-k.buffer c.write_part.new.buffer lba n block c.args.from.now wrote.NoRest) c.part-part.result c.args.request c.loop-k.k c.part-part.ensures.request c.part-part.ensures.block
+    c.loop-k.workspace.buffer c.write_part.new.workspace.buffer lba n block c.args.from.now wrote.NoRest) c.part-part.result c.args.request c.loop-k.k c.part-part.ensures.request c.part-part.ensures.block
     (rw c.in-NoRest.is at c.in_ok-write_part.ensures.rule) in
     subst (λ (l : Lists). c.part-part.result.block < logical_count c.args.geometry.now l) (sym did.same)
     (subst (λ (block : ℕ). block < logical_count c.args.geometry.now (lists_of c.loop-k.lists)) (sym c.part-part.ensures.block)
     (part_within g.M.Medium.world g.M.Medium.block_count g.M.Medium.reaches g.M.Medium.takes g.M.MediumControl.arms g.M.MediumControl.armed_cut g.met.M.Medium.laws g.met.M.MediumControl.control_laws c.args.geometry.now
-    c.args.medium.now c.loop-k.medium (lists_of c.args.lists.now) (lists_of c.loop-k.lists) c.args.buffer.now c.loop-k.buffer c.args.request.lba c.args.request.n c.args.from.now c.loop-k.k c.loop-k.invariant.so_far
+    c.args.medium.now c.loop-k.medium (lists_of c.args.lists.now) (lists_of c.loop-k.lists) c.args.workspace.now.buffer c.loop-k.workspace.buffer c.args.request.lba c.args.request.n c.args.from.now c.loop-k.k c.loop-k.invariant.so_far
     c.requires.valid c.requires.inside c.requires.whole covered c.write_part.new.medium))
 
 pub returns-in-NoRest-clause-rule : goal.returns-in-NoRest-clause-rule
 returns-in-NoRest-clause-rule g c =
     let covered : c.loop-k.k < blocks_covered c.args.request.lba c.args.request.n = omega (arith, c.loop-k-test.true, c.blocks-k-end.ensures) in
     let did = in_block (λ lba n block. WritesPart g.M.Medium.world g.M.Medium.reaches c.args.geometry.now c.loop-k.medium c.write_part.new.medium (lists_of c.loop-k.lists) (lists_of c.write_part.new.lists)
-    c.loop-k.buffer c.write_part.new.buffer lba n block c.args.from.now wrote.NoRest) c.part-part.result c.args.request c.loop-k.k c.part-part.ensures.request c.part-part.ensures.block
+    c.loop-k.workspace.buffer c.write_part.new.workspace.buffer lba n block c.args.from.now wrote.NoRest) c.part-part.result c.args.request c.loop-k.k c.part-part.ensures.request c.part-part.ensures.block
     (rw c.in-NoRest.is at c.in_ok-write_part.ensures.rule) in
     let named = in_block (λ lba n block. c.part-part.result.start ≡ start_in lba block) c.part-part.result c.args.request c.loop-k.k c.part-part.ensures.request c.part-part.ensures.block c.part-part.result.start_is in
     let here = in_block (λ lba n block. c.home.result ≡ home_of c.args.geometry.now (lists_of c.write_part.new.lists) block) c.part-part.result c.args.request c.loop-k.k c.part-part.ensures.request c.part-part.ensures.block c.home.ensures in
     part_unread g.M.Medium.world g.M.Medium.block_count g.M.Medium.reaches g.M.Medium.takes g.M.MediumControl.arms g.M.MediumControl.armed_cut g.met.M.Medium.laws g.met.M.MediumControl.control_laws c.args.geometry.now
-    c.args.medium.now c.loop-k.medium (lists_of c.args.lists.now) (lists_of c.loop-k.lists) c.args.buffer.now c.loop-k.buffer c.args.request.lba c.args.request.n c.args.from.now c.loop-k.k c.loop-k.invariant.so_far
-    c.requires.valid c.requires.inside c.requires.whole covered c.write_part.new.medium (lists_of c.write_part.new.lists) c.write_part.new.buffer c.part-part.result.start named c.home.result here did
+    c.args.medium.now c.loop-k.medium (lists_of c.args.lists.now) (lists_of c.loop-k.lists) c.args.workspace.now.buffer c.loop-k.workspace.buffer c.args.request.lba c.args.request.n c.args.from.now c.loop-k.k c.loop-k.invariant.so_far
+    c.requires.valid c.requires.inside c.requires.whole covered c.write_part.new.medium (lists_of c.write_part.new.lists) c.write_part.new.workspace.buffer c.part-part.result.start named c.home.result here did
 
 pub returns-in-NoRest-clause-as_many : goal.returns-in-NoRest-clause-as_many
 returns-in-NoRest-clause-as_many g c = c.write_part.ensures.as_many ∙ c.loop-k.invariant.as_many
@@ -95,12 +95,12 @@ pub returns-in-NoSpare-clause-rule : goal.returns-in-NoSpare-clause-rule
 returns-in-NoSpare-clause-rule g c =
     let covered : c.loop-k.k < blocks_covered c.args.request.lba c.args.request.n = omega (arith, c.loop-k-test.true, c.blocks-k-end.ensures) in
     let did = in_block (λ lba n block. WritesPart g.M.Medium.world g.M.Medium.reaches c.args.geometry.now c.loop-k.medium c.write_part.new.medium (lists_of c.loop-k.lists) (lists_of c.write_part.new.lists)
-    c.loop-k.buffer c.write_part.new.buffer lba n block c.args.from.now wrote.NoSpare) c.part-part.result c.args.request c.loop-k.k c.part-part.ensures.request c.part-part.ensures.block
+    c.loop-k.workspace.buffer c.write_part.new.workspace.buffer lba n block c.args.from.now wrote.NoSpare) c.part-part.result c.args.request c.loop-k.k c.part-part.ensures.request c.part-part.ensures.block
     (rw c.in-NoSpare.is at c.in_ok-write_part.ensures.rule) in
     let named = in_block (λ lba n block. c.part-part.result.start ≡ start_in lba block) c.part-part.result c.args.request c.loop-k.k c.part-part.ensures.request c.part-part.ensures.block c.part-part.result.start_is in
     part_spareless g.M.Medium.world g.M.Medium.block_count g.M.Medium.reaches g.M.Medium.takes g.M.MediumControl.arms g.M.MediumControl.armed_cut g.met.M.Medium.laws g.met.M.MediumControl.control_laws c.args.geometry.now
-    c.args.medium.now c.loop-k.medium (lists_of c.args.lists.now) (lists_of c.loop-k.lists) c.args.buffer.now c.loop-k.buffer c.args.request.lba c.args.request.n c.args.from.now c.loop-k.k c.loop-k.invariant.so_far
-    c.requires.valid c.requires.inside c.requires.whole covered c.write_part.new.medium (lists_of c.write_part.new.lists) c.write_part.new.buffer c.part-part.result.start named did
+    c.args.medium.now c.loop-k.medium (lists_of c.args.lists.now) (lists_of c.loop-k.lists) c.args.workspace.now.buffer c.loop-k.workspace.buffer c.args.request.lba c.args.request.n c.args.from.now c.loop-k.k c.loop-k.invariant.so_far
+    c.requires.valid c.requires.inside c.requires.whole covered c.write_part.new.medium (lists_of c.write_part.new.lists) c.write_part.new.workspace.buffer c.part-part.result.start named did
 
 pub returns-in-NoSpare-clause-as_many : goal.returns-in-NoSpare-clause-as_many
 returns-in-NoSpare-clause-as_many g c = c.write_part.ensures.as_many ∙ c.loop-k.invariant.as_many
@@ -109,11 +109,11 @@ pub returns-in-NoUpdate-clause-rule : goal.returns-in-NoUpdate-clause-rule
 returns-in-NoUpdate-clause-rule g c =
     let covered : c.loop-k.k < blocks_covered c.args.request.lba c.args.request.n = omega (arith, c.loop-k-test.true, c.blocks-k-end.ensures) in
     let did = in_block (λ lba n block. WritesPart g.M.Medium.world g.M.Medium.reaches c.args.geometry.now c.loop-k.medium c.write_part.new.medium (lists_of c.loop-k.lists) (lists_of c.write_part.new.lists)
-    c.loop-k.buffer c.write_part.new.buffer lba n block c.args.from.now (wrote.NoUpdate c.in-NoUpdate.counter)) c.part-part.result c.args.request c.loop-k.k c.part-part.ensures.request c.part-part.ensures.block
+    c.loop-k.workspace.buffer c.write_part.new.workspace.buffer lba n block c.args.from.now (wrote.NoUpdate c.in-NoUpdate.counter)) c.part-part.result c.args.request c.loop-k.k c.part-part.ensures.request c.part-part.ensures.block
     (rw c.in-NoUpdate.is at c.in_ok-write_part.ensures.rule) in
     part_unlisted g.M.Medium.world g.M.Medium.block_count g.M.Medium.reaches g.M.Medium.takes g.M.MediumControl.arms g.M.MediumControl.armed_cut g.met.M.Medium.laws g.met.M.MediumControl.control_laws c.args.geometry.now
-    c.args.medium.now c.loop-k.medium (lists_of c.args.lists.now) (lists_of c.loop-k.lists) c.args.buffer.now c.loop-k.buffer c.args.request.lba c.args.request.n c.args.from.now c.loop-k.k c.loop-k.invariant.so_far
-    c.requires.valid c.requires.inside c.requires.whole covered c.write_part.new.medium (lists_of c.write_part.new.lists) c.write_part.new.buffer c.in-NoUpdate.counter did
+    c.args.medium.now c.loop-k.medium (lists_of c.args.lists.now) (lists_of c.loop-k.lists) c.args.workspace.now.buffer c.loop-k.workspace.buffer c.args.request.lba c.args.request.n c.args.from.now c.loop-k.k c.loop-k.invariant.so_far
+    c.requires.valid c.requires.inside c.requires.whole covered c.write_part.new.medium (lists_of c.write_part.new.lists) c.write_part.new.workspace.buffer c.in-NoUpdate.counter did
 
 pub returns-in-NoUpdate-clause-as_many : goal.returns-in-NoUpdate-clause-as_many
 returns-in-NoUpdate-clause-as_many g c = c.write_part.ensures.as_many ∙ c.loop-k.invariant.as_many
@@ -122,12 +122,12 @@ pub loop-k-preserved : goal.loop-k-preserved
 loop-k-preserved g c =
     let covered : c.loop-k.k < blocks_covered c.args.request.lba c.args.request.n = omega (arith, c.loop-k-test.true, c.blocks-k-end.ensures) in
     let did = in_block (λ lba n block. WritesPart g.M.Medium.world g.M.Medium.reaches c.args.geometry.now c.loop-k.medium c.write_part.new.medium (lists_of c.loop-k.lists) (lists_of c.write_part.new.lists)
-    c.loop-k.buffer c.write_part.new.buffer lba n block c.args.from.now wrote.Done) c.part-part.result c.args.request c.loop-k.k c.part-part.ensures.request c.part-part.ensures.block
+    c.loop-k.workspace.buffer c.write_part.new.workspace.buffer lba n block c.args.from.now wrote.Done) c.part-part.result c.args.request c.loop-k.k c.part-part.ensures.request c.part-part.ensures.block
     (rw c.in-Done.is at c.in_ok-write_part.ensures.rule) in
     record {
       so_far = wrote_one_more g.M.Medium.world g.M.Medium.block_count g.M.Medium.reaches g.M.Medium.takes g.M.MediumControl.arms g.M.MediumControl.armed_cut g.met.M.Medium.laws g.met.M.MediumControl.control_laws c.args.geometry.now
-          c.args.medium.now c.loop-k.medium (lists_of c.args.lists.now) (lists_of c.loop-k.lists) c.args.buffer.now c.loop-k.buffer c.args.request.lba c.args.request.n c.args.from.now c.loop-k.k c.loop-k.invariant.so_far
-          c.requires.valid c.requires.inside c.requires.whole covered c.write_part.new.medium (lists_of c.write_part.new.lists) c.write_part.new.buffer did;
+          c.args.medium.now c.loop-k.medium (lists_of c.args.lists.now) (lists_of c.loop-k.lists) c.args.workspace.now.buffer c.loop-k.workspace.buffer c.args.request.lba c.args.request.n c.args.from.now c.loop-k.k c.loop-k.invariant.so_far
+          c.requires.valid c.requires.inside c.requires.whole covered c.write_part.new.medium (lists_of c.write_part.new.lists) c.write_part.new.workspace.buffer did;
       valid = c.write_part.ensures.valid;
       lawful = c.write_part.ensures.lawful;
       room = c.write_part.ensures.room;
@@ -139,7 +139,7 @@ pub returns-clause-rule : goal.returns-clause-rule
 returns-clause-rule g c =
     let all : c.loop-k.k ≡ blocks_covered c.args.request.lba c.args.request.n = omega (arith, c.loop-k-test.false, c.loop-k.auto.k-end, c.blocks-k-end.ensures) in
     wrote_all g.M.Medium.world g.M.Medium.block_count g.M.Medium.reaches g.M.Medium.takes g.M.MediumControl.arms g.M.MediumControl.armed_cut g.met.M.Medium.laws g.met.M.MediumControl.control_laws c.args.geometry.now
-    c.args.medium.now c.loop-k.medium (lists_of c.args.lists.now) (lists_of c.loop-k.lists) c.args.buffer.now c.loop-k.buffer c.args.request.lba c.args.request.n c.args.from.now c.loop-k.k c.loop-k.invariant.so_far c.loop-k.invariant.valid all
+    c.args.medium.now c.loop-k.medium (lists_of c.args.lists.now) (lists_of c.loop-k.lists) c.args.workspace.now.buffer c.loop-k.workspace.buffer c.args.request.lba c.args.request.n c.args.from.now c.loop-k.k c.loop-k.invariant.so_far c.loop-k.invariant.valid all
 
 pub returns-clause-valid : goal.returns-clause-valid
 returns-clause-valid g c = c.loop-k.invariant.valid

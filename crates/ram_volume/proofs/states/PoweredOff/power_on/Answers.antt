@@ -7,12 +7,12 @@ use Rattle.ram_volume.proofs.states.PoweredOff.power_on.Goals as goal
 pub returns-in-Lists-clause-cause : goal.returns-in-Lists-clause-cause
 returns-in-Lists-clause-cause g c =
     mounted_ready g.M.Medium.world g.M.Medium.reaches g.M.Medium.takes g.M.MediumControl.arms g.M.MediumControl.armed_cut g.met.M.MediumControl.control_laws c.args.self.geometry c.args.self.medium c.power_on.new.self c.power_on.ensures.event c.power_on.ensures.power
-    c.mount.new.medium (lists_of c.in-Lists.lists) c.in-Lists.ensures.rule (sdl_of c.copy_from.new.self) c.copy_from.ensures.value c.in-Ok.memory.buffer c.in-Ok.memory.unbuffered
+    c.mount.new.medium (lists_of c.in-Lists.lists) c.in-Lists.ensures.rule (sdl_of c.copy_from.new.self) c.copy_from.ensures.value c.in-Ok.memory.workspace.buffer c.in-Ok.memory.unbuffered
 
 pub returns-in-Lists-clause-step : goal.returns-in-Lists-clause-step
 returns-in-Lists-clause-step g c =
     ready_steps g.M.Medium.world g.M.Medium.reaches g.M.Medium.takes g.M.MediumControl.arms g.M.MediumControl.armed_cut g.met.M.MediumControl.control_laws c.args.self.geometry c.args.self.medium c.power_on.new.self c.power_on.ensures.event c.power_on.ensures.power
-    c.mount.new.medium (lists_of c.in-Lists.lists) c.in-Lists.ensures.rule (sdl_of c.copy_from.new.self) c.copy_from.ensures.value c.in-Ok.memory.buffer c.in-Ok.memory.unbuffered
+    c.mount.new.medium (lists_of c.in-Lists.lists) c.in-Lists.ensures.rule (sdl_of c.copy_from.new.self) c.copy_from.ensures.value c.in-Ok.memory.workspace.buffer c.in-Ok.memory.unbuffered
 
 pub returns-in-Bare-clause-cause : goal.returns-in-Bare-clause-cause
 returns-in-Bare-clause-cause g c =

@@ -38,7 +38,7 @@ invariant_of-self-in-NoBlock g c =
 
 pub returns-in-Done-clause-stands : goal.returns-in-Done-clause-stands
 returns-in-Done-clause-stands g c =
-    stands_done (shown_ready c.args.self) (shown_under c.args.self.geometry (machine_shown g.M.Medium.world g.M.MediumControl.arms g.M.MediumControl.armed_cut c.fail.new.self) (lists_of c.args.self.lists) c.args.self.buffer)
+    stands_done (shown_ready c.args.self) (shown_under c.args.self.geometry (machine_shown g.M.Medium.world g.M.MediumControl.arms g.M.MediumControl.armed_cut c.fail.new.self) (lists_of c.args.self.lists) c.args.self.workspace.buffer)
     _ c.args.block (record { same_shape = refl; same_lists = refl; same_mark = refl; same_buffer = refl }) c.in-Done.ensures.rule
 
 pub returns-in-Failed-clause-stands : goal.returns-in-Failed-clause-stands

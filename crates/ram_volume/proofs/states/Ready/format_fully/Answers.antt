@@ -26,35 +26,35 @@ full_format-requires-clause-marked g c =
 pub returns-in-Good-clause-cause : goal.returns-in-Good-clause-cause
 returns-in-Good-clause-cause g c =
     subst (λ (x : Shown). FormatCause (shown_ready c.args.self) x (kinds.Full c.args.drop_sdl) outs.Good) (sym c.over-ready.ensures)
-    (full_good g.M.Medium.world g.M.Medium.reaches g.M.Medium.takes g.M.MediumControl.arms g.M.MediumControl.armed_cut g.met.M.MediumControl.control_laws c.args.self.geometry c.args.self.medium c.full_format.new.medium (lists_of c.args.self.lists) c.args.self.buffer c.args.drop_sdl c.deref.result.now (rw c.deref.ensures.value c.in-Ok.ensures) (lists_of c.in-Good.lists) c.in-Good.ensures.rule)
+    (full_good g.M.Medium.world g.M.Medium.reaches g.M.Medium.takes g.M.MediumControl.arms g.M.MediumControl.armed_cut g.met.M.MediumControl.control_laws c.args.self.geometry c.args.self.medium c.full_format.new.medium (lists_of c.args.self.lists) c.args.self.workspace.buffer c.args.drop_sdl c.deref.result.now (rw c.deref.ensures.value c.in-Ok.ensures) (lists_of c.in-Good.lists) c.in-Good.ensures.rule)
 
 pub returns-in-Good-clause-step : goal.returns-in-Good-clause-step
 returns-in-Good-clause-step g c =
     subst (λ (x : Shown). FormatSteps (shown_ready c.args.self) x (kinds.Full c.args.drop_sdl) outs.Good) (sym c.over-ready.ensures)
-    (full_good_steps g.M.Medium.world g.M.Medium.reaches g.M.Medium.takes g.M.MediumControl.arms g.M.MediumControl.armed_cut g.met.M.MediumControl.control_laws c.args.self.geometry c.args.self.medium c.full_format.new.medium (lists_of c.args.self.lists) c.args.self.buffer c.args.drop_sdl c.deref.result.now (rw c.deref.ensures.value c.in-Ok.ensures) (lists_of c.in-Good.lists) c.in-Good.ensures.rule)
+    (full_good_steps g.M.Medium.world g.M.Medium.reaches g.M.Medium.takes g.M.MediumControl.arms g.M.MediumControl.armed_cut g.met.M.MediumControl.control_laws c.args.self.geometry c.args.self.medium c.full_format.new.medium (lists_of c.args.self.lists) c.args.self.workspace.buffer c.args.drop_sdl c.deref.result.now (rw c.deref.ensures.value c.in-Ok.ensures) (lists_of c.in-Good.lists) c.in-Good.ensures.rule)
 
 pub returns-in-TooMany-clause-cause : goal.returns-in-TooMany-clause-cause
 returns-in-TooMany-clause-cause g c =
     subst (λ (x : Shown). FormatCause (shown_ready c.args.self) x (kinds.Full c.args.drop_sdl) (outs.TooMany c.in-TooMany.found)) (sym c.over-bare.ensures)
-    (full_many g.M.Medium.world g.M.Medium.reaches g.M.Medium.takes g.M.MediumControl.arms g.M.MediumControl.armed_cut g.met.M.MediumControl.control_laws c.args.self.geometry c.args.self.medium c.full_format.new.medium (lists_of c.args.self.lists) c.args.self.buffer c.args.drop_sdl c.deref.result.now (rw c.deref.ensures.value c.in-Ok.ensures) c.in-TooMany.found c.in-TooMany.mark c.in-TooMany.ensures.rule)
+    (full_many g.M.Medium.world g.M.Medium.reaches g.M.Medium.takes g.M.MediumControl.arms g.M.MediumControl.armed_cut g.met.M.MediumControl.control_laws c.args.self.geometry c.args.self.medium c.full_format.new.medium (lists_of c.args.self.lists) c.args.self.workspace.buffer c.args.drop_sdl c.deref.result.now (rw c.deref.ensures.value c.in-Ok.ensures) c.in-TooMany.found c.in-TooMany.mark c.in-TooMany.ensures.rule)
 
 pub returns-in-NoCopy-clause-cause : goal.returns-in-NoCopy-clause-cause
 returns-in-NoCopy-clause-cause g c =
     subst (λ (x : Shown). FormatCause (shown_ready c.args.self) x (kinds.Full c.args.drop_sdl) (outs.NoUpdate c.in-NoCopy.counter)) (sym c.over-bare-in-NoCopy.ensures)
-    (full_lost g.M.Medium.world g.M.Medium.reaches g.M.Medium.takes g.M.MediumControl.arms g.M.MediumControl.armed_cut g.met.M.MediumControl.control_laws c.args.self.geometry c.args.self.medium c.full_format.new.medium (lists_of c.args.self.lists) c.args.self.buffer c.args.drop_sdl c.deref.result.now (rw c.deref.ensures.value c.in-Ok.ensures) c.in-NoCopy.counter c.in-NoCopy.mark c.in-NoCopy.ensures.rule)
+    (full_lost g.M.Medium.world g.M.Medium.reaches g.M.Medium.takes g.M.MediumControl.arms g.M.MediumControl.armed_cut g.met.M.MediumControl.control_laws c.args.self.geometry c.args.self.medium c.full_format.new.medium (lists_of c.args.self.lists) c.args.self.workspace.buffer c.args.drop_sdl c.deref.result.now (rw c.deref.ensures.value c.in-Ok.ensures) c.in-NoCopy.counter c.in-NoCopy.mark c.in-NoCopy.ensures.rule)
 
 pub returns-in-Cut-clause-cause : goal.returns-in-Cut-clause-cause
 returns-in-Cut-clause-cause g c =
-    full_cut g.M.Medium.world g.M.Medium.reaches g.M.Medium.takes g.M.MediumControl.arms g.M.MediumControl.armed_cut g.met.M.MediumControl.control_laws c.args.self.geometry c.args.self.medium c.full_format.new.medium (lists_of c.args.self.lists) c.args.self.buffer c.args.drop_sdl c.deref.result.now (rw c.deref.ensures.value c.in-Ok.ensures) c.in-Cut.ensures.rule
+    full_cut g.M.Medium.world g.M.Medium.reaches g.M.Medium.takes g.M.MediumControl.arms g.M.MediumControl.armed_cut g.met.M.MediumControl.control_laws c.args.self.geometry c.args.self.medium c.full_format.new.medium (lists_of c.args.self.lists) c.args.self.workspace.buffer c.args.drop_sdl c.deref.result.now (rw c.deref.ensures.value c.in-Ok.ensures) c.in-Cut.ensures.rule
 
 pub returns-in-Cut-clause-step : goal.returns-in-Cut-clause-step
 returns-in-Cut-clause-step g c =
-    full_cut_steps g.M.Medium.world g.M.Medium.reaches g.M.Medium.takes g.M.MediumControl.arms g.M.MediumControl.armed_cut g.met.M.MediumControl.control_laws c.args.self.geometry c.args.self.medium c.full_format.new.medium (lists_of c.args.self.lists) c.args.self.buffer c.args.drop_sdl c.deref.result.now (rw c.deref.ensures.value c.in-Ok.ensures) c.in-Cut.ensures.rule
+    full_cut_steps g.M.Medium.world g.M.Medium.reaches g.M.Medium.takes g.M.MediumControl.arms g.M.MediumControl.armed_cut g.met.M.MediumControl.control_laws c.args.self.geometry c.args.self.medium c.full_format.new.medium (lists_of c.args.self.lists) c.args.self.workspace.buffer c.args.drop_sdl c.deref.result.now (rw c.deref.ensures.value c.in-Ok.ensures) c.in-Cut.ensures.rule
 
 pub returns-in-Fault-clause-cause : goal.returns-in-Fault-clause-cause
 returns-in-Fault-clause-cause g c =
-    full_fault g.M.Medium.world g.M.Medium.reaches g.M.Medium.takes g.M.MediumControl.arms g.M.MediumControl.armed_cut g.met.M.MediumControl.control_laws c.args.self.geometry c.args.self.medium c.full_format.new.medium (lists_of c.args.self.lists) c.args.self.buffer c.args.drop_sdl c.deref.result.now (rw c.deref.ensures.value c.in-Ok.ensures) c.in-Fault.ensures.rule
+    full_fault g.M.Medium.world g.M.Medium.reaches g.M.Medium.takes g.M.MediumControl.arms g.M.MediumControl.armed_cut g.met.M.MediumControl.control_laws c.args.self.geometry c.args.self.medium c.full_format.new.medium (lists_of c.args.self.lists) c.args.self.workspace.buffer c.args.drop_sdl c.deref.result.now (rw c.deref.ensures.value c.in-Ok.ensures) c.in-Fault.ensures.rule
 
 pub returns-in-Fault-clause-step : goal.returns-in-Fault-clause-step
 returns-in-Fault-clause-step g c =
-    full_fault_steps g.M.Medium.world g.M.Medium.reaches g.M.Medium.takes g.M.MediumControl.arms g.M.MediumControl.armed_cut g.met.M.MediumControl.control_laws c.args.self.geometry c.args.self.medium c.full_format.new.medium (lists_of c.args.self.lists) c.args.self.buffer c.args.drop_sdl c.deref.result.now (rw c.deref.ensures.value c.in-Ok.ensures) c.in-Fault.ensures.rule
+    full_fault_steps g.M.Medium.world g.M.Medium.reaches g.M.Medium.takes g.M.MediumControl.arms g.M.MediumControl.armed_cut g.met.M.MediumControl.control_laws c.args.self.geometry c.args.self.medium c.full_format.new.medium (lists_of c.args.self.lists) c.args.self.workspace.buffer c.args.drop_sdl c.deref.result.now (rw c.deref.ensures.value c.in-Ok.ensures) c.in-Fault.ensures.rule

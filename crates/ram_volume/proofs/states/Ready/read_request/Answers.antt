@@ -9,10 +9,10 @@ pub invariant_of-ready : goal.invariant_of-ready
 invariant_of-ready g c = record {
   size = c.read_parts.ensures.as_many ∙ c.args.self.size;
   on = read_on g.M.Medium.world g.M.Medium.reaches g.M.Medium.takes g.M.MediumControl.arms g.M.MediumControl.armed_cut g.met.M.MediumControl.control_laws c.args.self.geometry (lists_of c.args.self.lists)
-      c.args.self.medium c.read_parts.new.medium c.args.self.buffer c.args.request.lba c.args.request.n c.args.self.on c.requires.inside c.read_parts.new.buffer c.read_parts.new.into c.in-Ok.met c.in-Ok.ensures.rule;
+      c.args.self.medium c.read_parts.new.medium c.args.self.workspace.buffer c.args.request.lba c.args.request.n c.args.self.on c.requires.inside c.read_parts.new.buffer c.read_parts.new.into c.in-Ok.met c.in-Ok.ensures.rule;
   valid = c.args.self.valid;
   settled = read_settled g.M.Medium.world g.M.Medium.reaches g.M.Medium.takes g.M.MediumControl.arms g.M.MediumControl.armed_cut g.met.M.MediumControl.control_laws c.args.self.geometry (lists_of c.args.self.lists)
-      c.args.self.medium c.read_parts.new.medium c.args.self.buffer c.args.request.lba c.args.request.n c.args.self.on c.requires.inside c.read_parts.new.buffer c.read_parts.new.into c.in-Ok.met c.in-Ok.ensures.rule c.args.self.settled;
+      c.args.self.medium c.read_parts.new.medium c.args.self.workspace.buffer c.args.request.lba c.args.request.n c.args.self.on c.requires.inside c.read_parts.new.buffer c.read_parts.new.into c.in-Ok.met c.in-Ok.ensures.rule c.args.self.settled;
   lawful_dds = c.args.self.lawful_dds;
   lawful_sdl = c.args.self.lawful_sdl;
   roomy = c.args.self.roomy;
@@ -22,44 +22,44 @@ invariant_of-ready g c = record {
 pub returns-in-Ok-clause-cause : goal.returns-in-Ok-clause-cause
 returns-in-Ok-clause-cause g c =
     read_cause g.M.Medium.world g.M.Medium.reaches g.M.Medium.takes g.M.MediumControl.arms g.M.MediumControl.armed_cut g.met.M.MediumControl.control_laws c.args.self.geometry (lists_of c.args.self.lists)
-    c.args.self.medium c.read_parts.new.medium c.args.self.buffer c.args.request.lba c.args.request.n c.args.self.on c.requires.inside c.read_parts.new.buffer c.read_parts.new.into c.in-Ok.met c.in-Ok.ensures.rule c.ended_at-out.result c.ended_at-out.ensures
+    c.args.self.medium c.read_parts.new.medium c.args.self.workspace.buffer c.args.request.lba c.args.request.n c.args.self.on c.requires.inside c.read_parts.new.buffer c.read_parts.new.into c.in-Ok.met c.in-Ok.ensures.rule c.ended_at-out.result c.ended_at-out.ensures
 
 pub returns-in-Ok-clause-step : goal.returns-in-Ok-clause-step
 returns-in-Ok-clause-step g c =
     read_steps g.M.Medium.world g.M.Medium.reaches g.M.Medium.takes g.M.MediumControl.arms g.M.MediumControl.armed_cut g.met.M.MediumControl.control_laws c.args.self.geometry (lists_of c.args.self.lists)
-    c.args.self.medium c.read_parts.new.medium c.args.self.buffer c.args.request.lba c.args.request.n c.args.self.on c.requires.inside c.read_parts.new.buffer c.read_parts.new.into c.in-Ok.met c.in-Ok.ensures.rule c.ended_at-out.result c.ended_at-out.ensures
+    c.args.self.medium c.read_parts.new.medium c.args.self.workspace.buffer c.args.request.lba c.args.request.n c.args.self.on c.requires.inside c.read_parts.new.buffer c.read_parts.new.into c.in-Ok.met c.in-Ok.ensures.rule c.ended_at-out.result c.ended_at-out.ensures
 
 pub returns-in-Ok-clause-quiet : goal.returns-in-Ok-clause-quiet
 returns-in-Ok-clause-quiet g c =
     read_quiet g.M.Medium.world g.M.Medium.reaches g.M.Medium.takes g.M.MediumControl.arms g.M.MediumControl.armed_cut g.met.M.MediumControl.control_laws c.args.self.geometry (lists_of c.args.self.lists)
-    c.args.self.medium c.read_parts.new.medium c.args.self.buffer c.args.request.lba c.args.request.n c.args.self.on c.requires.inside c.read_parts.new.buffer c.read_parts.new.into c.in-Ok.met c.in-Ok.ensures.rule c.ended_at-out.result c.ended_at-out.ensures
+    c.args.self.medium c.read_parts.new.medium c.args.self.workspace.buffer c.args.request.lba c.args.request.n c.args.self.on c.requires.inside c.read_parts.new.buffer c.read_parts.new.into c.in-Ok.met c.in-Ok.ensures.rule c.ended_at-out.result c.ended_at-out.ensures
 
 pub returns-in-Err-Cut-clause-cause : goal.returns-in-Err-Cut-clause-cause
 returns-in-Err-Cut-clause-cause g c =
     cut_cause g.M.Medium.world g.M.Medium.reaches g.M.Medium.takes g.M.MediumControl.arms g.M.MediumControl.armed_cut g.met.M.MediumControl.control_laws c.args.self.geometry (lists_of c.args.self.lists)
-    c.args.self.medium c.read_parts.new.medium c.args.self.buffer c.args.request.lba c.args.request.n c.args.self.on c.requires.inside (rw c.in-Err-Cut.field-0-is at c.in-Err-Cut.ensures.rule)
+    c.args.self.medium c.read_parts.new.medium c.args.self.workspace.buffer c.args.request.lba c.args.request.n c.args.self.on c.requires.inside (rw c.in-Err-Cut.field-0-is at c.in-Err-Cut.ensures.rule)
 
 pub returns-in-Err-Cut-clause-step : goal.returns-in-Err-Cut-clause-step
 returns-in-Err-Cut-clause-step g c =
     cut_steps g.M.Medium.world g.M.Medium.reaches g.M.Medium.takes g.M.MediumControl.arms g.M.MediumControl.armed_cut g.met.M.MediumControl.control_laws c.args.self.geometry (lists_of c.args.self.lists)
-    c.args.self.medium c.read_parts.new.medium c.args.self.buffer c.args.request.lba c.args.request.n c.args.self.on c.requires.inside c.read_parts.new.into (rw c.in-Err-Cut.field-0-is at c.in-Err-Cut.ensures.rule)
+    c.args.self.medium c.read_parts.new.medium c.args.self.workspace.buffer c.args.request.lba c.args.request.n c.args.self.on c.requires.inside c.read_parts.new.into (rw c.in-Err-Cut.field-0-is at c.in-Err-Cut.ensures.rule)
 
 pub returns-in-Err-Cut-clause-quiet : goal.returns-in-Err-Cut-clause-quiet
 returns-in-Err-Cut-clause-quiet g c =
     stopped_quiet g.M.Medium.world g.M.Medium.reaches g.M.Medium.takes g.M.MediumControl.arms g.M.MediumControl.armed_cut g.met.M.MediumControl.control_laws c.args.self.geometry (lists_of c.args.self.lists)
-    c.args.self.medium c.read_parts.new.medium c.args.self.buffer c.args.request.lba c.args.request.n c.args.self.on c.requires.inside stops.Cut (rw c.in-Err-Cut.field-0-is at c.in-Err-Cut.ensures.rule) outs.Cut
+    c.args.self.medium c.read_parts.new.medium c.args.self.workspace.buffer c.args.request.lba c.args.request.n c.args.self.on c.requires.inside stops.Cut (rw c.in-Err-Cut.field-0-is at c.in-Err-Cut.ensures.rule) outs.Cut
 
 pub returns-clause-cause : goal.returns-clause-cause
 returns-clause-cause g c =
     fault_cause g.M.Medium.world g.M.Medium.reaches g.M.Medium.takes g.M.MediumControl.arms g.M.MediumControl.armed_cut g.met.M.MediumControl.control_laws c.args.self.geometry (lists_of c.args.self.lists)
-    c.args.self.medium c.read_parts.new.medium c.args.self.buffer c.args.request.lba c.args.request.n c.args.self.on c.requires.inside (rw c.in-Err-Fault.field-0-is at c.in-Err-Fault.ensures.rule)
+    c.args.self.medium c.read_parts.new.medium c.args.self.workspace.buffer c.args.request.lba c.args.request.n c.args.self.on c.requires.inside (rw c.in-Err-Fault.field-0-is at c.in-Err-Fault.ensures.rule)
 
 pub returns-clause-step : goal.returns-clause-step
 returns-clause-step g c =
     fault_steps g.M.Medium.world g.M.Medium.reaches g.M.Medium.takes g.M.MediumControl.arms g.M.MediumControl.armed_cut g.met.M.MediumControl.control_laws c.args.self.geometry (lists_of c.args.self.lists)
-    c.args.self.medium c.read_parts.new.medium c.args.self.buffer c.args.request.lba c.args.request.n c.args.self.on c.requires.inside c.read_parts.new.into (rw c.in-Err-Fault.field-0-is at c.in-Err-Fault.ensures.rule)
+    c.args.self.medium c.read_parts.new.medium c.args.self.workspace.buffer c.args.request.lba c.args.request.n c.args.self.on c.requires.inside c.read_parts.new.into (rw c.in-Err-Fault.field-0-is at c.in-Err-Fault.ensures.rule)
 
 pub returns-clause-quiet : goal.returns-clause-quiet
 returns-clause-quiet g c =
     stopped_quiet g.M.Medium.world g.M.Medium.reaches g.M.Medium.takes g.M.MediumControl.arms g.M.MediumControl.armed_cut g.met.M.MediumControl.control_laws c.args.self.geometry (lists_of c.args.self.lists)
-    c.args.self.medium c.read_parts.new.medium c.args.self.buffer c.args.request.lba c.args.request.n c.args.self.on c.requires.inside stops.Fault (rw c.in-Err-Fault.field-0-is at c.in-Err-Fault.ensures.rule) outs.Fault
+    c.args.self.medium c.read_parts.new.medium c.args.self.workspace.buffer c.args.request.lba c.args.request.n c.args.self.on c.requires.inside stops.Fault (rw c.in-Err-Fault.field-0-is at c.in-Err-Fault.ensures.rule) outs.Fault

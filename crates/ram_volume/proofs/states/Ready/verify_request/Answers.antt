@@ -6,10 +6,10 @@ use Rattle.ram_volume.proofs.states.Ready.verify_request.Goals as goal
 pub invariant_of-ready : goal.invariant_of-ready
 invariant_of-ready g c = record {
   size = c.read_homes.ensures.as_many ∙ c.args.self.size;
-  on = verified_on g.M.Medium.world g.M.Medium.reaches g.M.Medium.takes g.M.MediumControl.arms g.M.MediumControl.armed_cut g.met.M.MediumControl.control_laws c.args.self.geometry (lists_of c.args.self.lists) c.args.self.buffer
+  on = verified_on g.M.Medium.world g.M.Medium.reaches g.M.Medium.takes g.M.MediumControl.arms g.M.MediumControl.armed_cut g.met.M.MediumControl.control_laws c.args.self.geometry (lists_of c.args.self.lists) c.args.self.workspace.buffer
       c.args.self.medium c.read_homes.new.medium c.args.request.lba c.args.request.n c.args.self.on c.requires.inside c.in-Ok.met c.in-Ok.ensures.rule;
   valid = c.args.self.valid;
-  settled = verified_settled g.M.Medium.world g.M.Medium.reaches g.M.Medium.takes g.M.MediumControl.arms g.M.MediumControl.armed_cut g.met.M.MediumControl.control_laws c.args.self.geometry (lists_of c.args.self.lists) c.args.self.buffer
+  settled = verified_settled g.M.Medium.world g.M.Medium.reaches g.M.Medium.takes g.M.MediumControl.arms g.M.MediumControl.armed_cut g.met.M.MediumControl.control_laws c.args.self.geometry (lists_of c.args.self.lists) c.args.self.workspace.buffer
       c.args.self.medium c.read_homes.new.medium c.args.request.lba c.args.request.n c.args.self.on c.requires.inside c.in-Ok.met c.in-Ok.ensures.rule c.args.self.settled;
   lawful_dds = c.args.self.lawful_dds;
   lawful_sdl = c.args.self.lawful_sdl;
@@ -19,15 +19,15 @@ invariant_of-ready g c = record {
 
 pub returns-in-Ok-clause-cause : goal.returns-in-Ok-clause-cause
 returns-in-Ok-clause-cause g c =
-    verified_cause g.M.Medium.world g.M.Medium.reaches g.M.Medium.takes g.M.MediumControl.arms g.M.MediumControl.armed_cut g.met.M.MediumControl.control_laws c.args.self.geometry (lists_of c.args.self.lists) c.args.self.buffer
+    verified_cause g.M.Medium.world g.M.Medium.reaches g.M.Medium.takes g.M.MediumControl.arms g.M.MediumControl.armed_cut g.met.M.MediumControl.control_laws c.args.self.geometry (lists_of c.args.self.lists) c.args.self.workspace.buffer
     c.args.self.medium c.read_homes.new.medium c.args.request.lba c.args.request.n c.args.self.on c.requires.inside c.in-Ok.met c.in-Ok.ensures.rule c.ended_at-out.result c.ended_at-out.ensures
 
 pub returns-in-Err-Cut-clause-cause : goal.returns-in-Err-Cut-clause-cause
 returns-in-Err-Cut-clause-cause g c =
-    verify_cut g.M.Medium.world g.M.Medium.reaches g.M.Medium.takes g.M.MediumControl.arms g.M.MediumControl.armed_cut g.met.M.MediumControl.control_laws c.args.self.geometry (lists_of c.args.self.lists) c.args.self.buffer
+    verify_cut g.M.Medium.world g.M.Medium.reaches g.M.Medium.takes g.M.MediumControl.arms g.M.MediumControl.armed_cut g.met.M.MediumControl.control_laws c.args.self.geometry (lists_of c.args.self.lists) c.args.self.workspace.buffer
     c.args.self.medium c.read_homes.new.medium c.args.request.lba c.args.request.n c.args.self.on c.requires.inside (rw c.in-Err-Cut.field-0-is at c.in-Err-Cut.ensures.rule)
 
 pub returns-clause-cause : goal.returns-clause-cause
 returns-clause-cause g c =
-    verify_fault g.M.Medium.world g.M.Medium.reaches g.M.Medium.takes g.M.MediumControl.arms g.M.MediumControl.armed_cut g.met.M.MediumControl.control_laws c.args.self.geometry (lists_of c.args.self.lists) c.args.self.buffer
+    verify_fault g.M.Medium.world g.M.Medium.reaches g.M.Medium.takes g.M.MediumControl.arms g.M.MediumControl.armed_cut g.met.M.MediumControl.control_laws c.args.self.geometry (lists_of c.args.self.lists) c.args.self.workspace.buffer
     c.args.self.medium c.read_homes.new.medium c.args.request.lba c.args.request.n c.args.self.on c.requires.inside (rw c.in-Err-Fault.field-0-is at c.in-Err-Fault.ensures.rule)
