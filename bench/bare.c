@@ -8,9 +8,9 @@
    read          each block is read to its place, and nothing is looked at
    least-write   the state bytes of 64 blocks are read at a time, and the data of a group of blocks are made; of each block its
                  state byte is written, its data, and its state byte again; then its data are read back
-   least-read    the state bytes of 64 blocks are read at a time, and the data of each block of a group to its place; the last
-                 one is moved into the block that is kept; then each byte of a sector is compared with its first one, sixteen
-                 at a time, as for its line in the report */
+   least-read    the state bytes of 64 blocks are read at a time, and the data of each block of a group to its place; then
+                 each byte of a sector is compared with its first one, sixteen at a time, as for its line in the report, and
+                 those of the last block are moved into the block that is kept in the same pass */
 #include <fcntl.h>
 #include <stdio.h>
 #include <stdlib.h>
@@ -70,23 +70,44 @@ static void least_write(char *data, long first) {
 
 typedef char Row __attribute__((vector_size(16), aligned(1), may_alias));
 
+enum { SECTOR_ROWS = SECTOR_BYTES / (int)sizeof(Row) };
+
+static int is_none(Row found) {
+    const Row none = {0};
+    return memcmp(&found, &none, sizeof none) == 0;
+}
+
 static int is_fill(const char *sector) {
     const Row *rows = (const Row *)sector;
     const Row none = {0}, byte = none + sector[0];
     Row found = none;
-    for (int k = 0; k < SECTOR_BYTES / (int)sizeof(Row); k += 4)
+    for (int k = 0; k < SECTOR_ROWS; k += 4)
         found |= (rows[k] ^ byte) | (rows[k + 1] ^ byte) | (rows[k + 2] ^ byte) | (rows[k + 3] ^ byte);
-    return memcmp(&found, &none, sizeof none) == 0;
+    return is_none(found);
+}
+
+static int is_fill_moved(char *into, const char *sector) {
+    Row *moved_rows = (Row *)into;
+    const Row *rows = (const Row *)sector;
+    const Row none = {0}, byte = none + sector[0];
+    Row found = none;
+    for (int k = 0; k < SECTOR_ROWS; k++) {
+        moved_rows[k] = rows[k];
+        found |= rows[k] ^ byte;
+    }
+    return is_none(found);
 }
 
 static void least_read(char *data, long first) {
+    const long last = (group - 1) * BLOCK_BYTES;
     if (first % STATES == 0)
         read_states(first);
     for (long k = 0; k < group; k++)
         read_data(first + k, data + k * BLOCK_BYTES);
-    memcpy(read_back, data + (group - 1) * BLOCK_BYTES, BLOCK_BYTES);
-    for (char *sector = data; sector < data + group * BLOCK_BYTES; sector += SECTOR_BYTES)
-        fills += is_fill(sector);
+    for (long at = 0; at < last; at += SECTOR_BYTES)
+        fills += is_fill(data + at);
+    for (long at = 0; at < BLOCK_BYTES; at += SECTOR_BYTES)
+        fills += is_fill_moved(read_back + at, data + last + at);
 }
 
 static void once(const char *what, char *data, long first) {
