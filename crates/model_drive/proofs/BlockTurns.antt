@@ -1,6 +1,6 @@
 -- What the write of one block does is a turn of the loop over a request. Where the block is covered in part, its rest was
 -- read before.
-use Rattle.std.proofs.Common.{◌≡◌, ◌≢◌, ℕ, ◌+◌, ◌*◌, ◌<◌, ◌⊎◌, true, Some, None, List, [], ◌∷◌, refl, sym, ap, ◌∙◌, subst, arith, length}
+use Rattle.std.proofs.Common.{◌≡◌, ◌≢◌, ℕ, ◌+◌, ◌*◌, ◌<◌, ◌⊎◌, true, Some, None, List, [], ◌∷◌, refl, sym, ap, inl, ◌∙◌, subst, arith, length}
 use Rattle.model_buffer.specs.Buffer.{touched_one}
 use Rattle.model_drive.specs.declared.TheConstants.{LAST_COUNTER}
 use Rattle.model_geometry.specs.Geometry.{Shape, sdl_block}
@@ -112,7 +112,7 @@ module _ (old mid new : Shown) (lba n : ℕ) (course : List Placing) (lists reac
     covered = covered;
     reached = reached;
     wrote = begun old mid new lba n course lists reached so_far valid covered (λ block home free sdl. others block home) (λ block was. dead_stopped mid.medium new.medium 1 stop so_far.ends.is_on stops block was);
-    given = λ known other is. (ToHome, settled_alone old.shape (cells_in mid) reached other (settled known) (given_dies old.shape (cells_in mid) (cells_in new) dies other is));
+    given = λ known other is. inl (settled_alone old.shape (cells_in mid) reached other (settled known) (given_dies old.shape (cells_in mid) (cells_in new) dies other is));
     stopped = record {
       stops = stops_then old.medium mid.medium new.medium (uses_so_far old lists lba n course) (most_next old reached lba n course) stop so_far.ends.reach so_far.ends.is_on
           (stops_more mid.medium new.medium 1 (most_next old reached lba n course) stop (omega (arith, one)) stops);

@@ -13,7 +13,7 @@ use Rattle.model_volume.specs.Given.{AreSettled, IsGiven}
 use Rattle.model_volume.specs.Covers.{FitsUnder, Cover}
 use Rattle.model_volume.specs.Moves.{DiffersAt, OnlyMoves}
 use Rattle.model_drive.specs.Repairs.{sdl_update_uses}
-use Rattle.model_drive.specs.Course.{Placing, free_at, lists_placed, WentTo, LeavesCopy, CanPlace, AreDead, placing_uses, most_placing_uses}
+use Rattle.model_drive.specs.Course.{Placing, free_at, lists_placed, WentTo, AreMoved, LeavesCopy, CanPlace, AreDead, placing_uses, most_placing_uses}
 
 module _ {M : Type 0} (world : M → World) (reaches : M → M → ℕ → Type 0) where
   module _ (shape : Shape) (old new : M) (lists : Lists) (i : ℕ) (bytes : List ℕ) where
@@ -59,12 +59,12 @@ module _ {M : Type 0} (world : M → World) (reaches : M → M → ℕ → Type 
       pub spare_has : (world old).known ≡ true
           → IsGood (cell_at (world new).cells (slice_index (free_at shape lists i) tried))
 
-    -- It was stopped: the cells give no lists but those that some place of the block makes, and the disc as it was or the
-    -- one as written fits under them.
+    -- It was stopped: the cells give no lists but those before and those of a move of the block, and the disc as it was or
+    -- the one as written fits under them.
     pub record StopsAtBlock (stop : Stop) : Type 0 where
       pub stops : Stops world reaches old new (most_placing_uses shape lists i) stop
       pub given : (world old).known ≡ true → (other : Lists) → IsGiven shape (world new).cells other
-          → (placing : Placing) × (other ≡ lists_placed shape lists i placing)
+          → (other ≡ lists) ⊎ AreMoved shape (world new).cells lists i other
       pub as_known : (world new).known ≡ (world old).known
       pub only : OnlyMoves shape (world old).cells (world new).cells lists i
       pub covers : (disc disc' : List ℕ) → DiffersAt i bytes disc disc'

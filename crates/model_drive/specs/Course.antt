@@ -59,6 +59,14 @@ WentTo shape cells lists i (ToSpare tried) = (cell_at cells (home_of shape lists
     × AreDead cells (free_at shape lists i) tried
     × IsGood (cell_at cells (slice_index (free_at shape lists i) tried))
 
+-- A move of a logical block made the second lists of the first: its home is dead, and it went to the first of its free
+-- spares that is not.
+pub record AreMoved (shape : Shape) (cells : List Cell) (lists : Lists) (i : ℕ) (moved : Lists) : Type 0 where
+  pub tried : ℕ
+  pub some_spare : tried < length (free_at shape lists i)
+  pub went : WentTo shape cells lists i (ToSpare tried)
+  pub lists_are : moved ≡ lists_placed shape lists i (ToSpare tried)
+
 -- they say so of each block of a course
 abbrev pub TookCourse : Shape → List Cell → Lists → ℕ → List Placing → Type 0
 TookCourse shape cells lists first [] = Unit {0}

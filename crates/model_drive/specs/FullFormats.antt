@@ -126,18 +126,23 @@ abbrev pub LosesList : Shown → Shown → Bool → ℕ → Type 0
 LosesList old new drop_sdl counter = LosesFirstDds old new drop_sdl counter
     ⊎ LosesSdl old new drop_sdl counter ⊎ LosesLastDds old new drop_sdl counter
 
--- lists that the cells give now they gave before, or they are new ones
-abbrev pub GivesOldOrFresh : Shown → Shown → Type 0
-GivesOldOrFresh old new = (lists : Lists) → IsGiven old.shape (cells_in new) lists
-    → IsGiven old.shape (cells_in old) lists
-    ⊎ ((entries : List PdlEntry) × (lists ≡ fresh_lists old.shape old.mark entries))
+-- these are the new lists: they name the blocks that the format keeps, and those that are dead now
+pub record AreFresh (old new : Shown) (drop_sdl : Bool) (lists : Lists) : Type 0 where
+  pub entries : List PdlEntry
+  pub found : AreFoundIn old new drop_sdl entries
+  pub lists_are : lists ≡ fresh_lists old.shape old.mark entries
+
+-- lists that the cells give now they gave before, or they are the new ones
+abbrev pub GivesOldOrFresh : Shown → Shown → Bool → Type 0
+GivesOldOrFresh old new drop_sdl = (lists : Lists) → IsGiven old.shape (cells_in new) lists
+    → IsGiven old.shape (cells_in old) lists ⊎ AreFresh old new drop_sdl lists
 
 -- it was stopped
 pub record StopsInFormat (old new : Shown) (drop_sdl : Bool) (stop : Stop) : Type 0 where
   pub was_on : IsOn old
   pub room : MarkHasRoom old
   pub only : OnlyFormatted old new drop_sdl
-  pub given : WhenKnown old (GivesOldOrFresh old new)
+  pub given : WhenKnown old (GivesOldOrFresh old new drop_sdl)
   pub covers : WhenKnown old (CoversStopped old.shape (cells_in old) (cells_in new))
   pub stopped : IsStopped old new (uses_of_format old drop_sdl) stop
 

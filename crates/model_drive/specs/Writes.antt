@@ -18,7 +18,7 @@ use Rattle.model_drive.specs.declared.WriteOut.TheVariants as outs
 use Rattle.model_drive.specs.Shown.{Shown, WhenKnown, HasLostSdl, cells_in, buffered, home, home_cell}
 use Rattle.model_drive.specs.Parts.{WasOff, IsUnformatted, IsInRange, IsOutOfRange, EndsBy, IsStopped, NoneCounted, AreGood}
 use Rattle.model_drive.specs.Repairs.{sdl_update_uses}
-use Rattle.model_drive.specs.Course.{Placing, free_at, IsUsable, lists_placed, lists_reached, TookCourse, CanTakeCourse, HasCopyOfMoves, AreDead, uses_of_rest, course_uses, most_placing_uses, OnlyWritten}
+use Rattle.model_drive.specs.Course.{Placing, free_at, IsUsable, lists_reached, AreMoved, TookCourse, CanTakeCourse, HasCopyOfMoves, AreDead, uses_of_rest, course_uses, most_placing_uses, OnlyWritten}
 
 -- the next block of a request after those of a course
 abbrev pub next_block : ℕ → List Placing → ℕ
@@ -128,10 +128,10 @@ pub record LacksUpdate (old new : Shown) (lba n counter : ℕ) : Type 0 where
   pub spare_has : WhenKnown old
       (IsGood (cell_at (cells_in new) (slice_index (free_at old.shape reached (next_block lba course)) tried)))
 
--- the cells give no lists but those that some place of this block makes of these
-abbrev pub GivesPlaced : Shown → Shown → Lists → ℕ → Type 0
-GivesPlaced old new reached i = (lists : Lists) → IsGiven old.shape (cells_in new) lists
-    → (placing : Placing) × (lists ≡ lists_placed old.shape reached i placing)
+-- the cells give no lists but these, and those that a move of this block makes of them
+abbrev pub GivesOldOrMoved : Shown → Shown → Lists → ℕ → Type 0
+GivesOldOrMoved old new reached i = (lists : Lists) → IsGiven old.shape (cells_in new) lists
+    → (lists ≡ reached) ⊎ AreMoved old.shape (cells_in new) reached i lists
 
 -- the most uses of the next block, with its rest
 abbrev pub most_next : Shown → Lists → (lba n : ℕ) → List Placing → ℕ
@@ -139,14 +139,14 @@ most_next old reached lba n course =
     uses_of_rest (buffered old) lba n (length course) + most_placing_uses old.shape reached (next_block lba course)
 
 -- The write was stopped in a block of the request. The cells give no lists but those that it had reached, and those that
--- this block makes of them, wherever it goes.
+-- a move of this block makes of them.
 pub record StopsInWrite (old new : Shown) (lba n : ℕ) (stop : Stop) : Type 0 where
   pub lists : Lists
   pub course : List Placing
   pub covered : length course < blocks_covered lba n
   pub reached : Lists
   pub wrote : WroteSoFar old new lists lba n course 1 reached
-  pub given : WhenKnown old (GivesPlaced old new reached (next_block lba course))
+  pub given : WhenKnown old (GivesOldOrMoved old new reached (next_block lba course))
   pub stopped : IsStopped old new (uses_so_far old lists lba n course + most_next old reached lba n course) stop
 
 -- The cause of each answer of a write of so many sectors from this one on, and what the drive shows then.

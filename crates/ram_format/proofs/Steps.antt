@@ -302,7 +302,11 @@ module _ {M : Type 0} (world : M → World) (block_count : M → ℕ) (reaches :
                   counts = counts_later old three four (8 + certify_uses world reaches shape kept one two + 8) stop (gone_three done.ended) stopped.counts;
                   as_known = stopped.alone.as_known ∙ (gone_three done.ended).as_known;
                   only = only_then old three four (gone_three done.ended).only (dds_only three four stopped.alone);
-                  given = λ known lists given. inr (entries, are_fresh lists given);
+                  given = λ known lists given. inr (record {
+                    entries = entries;
+                    defective = (still_defects four (data_stay stopped.alone)).defective known;
+                    lists_are = are_fresh lists given;
+                  });
                   covers = λ known. inr (inr (λ lists given. subst (λ (l : places.Lists). SomeFit shape (world four).cells l (zero_disc shape ∷ [])) (sym (are_fresh lists given)) (inl (zeros_cover stopped.alone known))));
                 }
                   where

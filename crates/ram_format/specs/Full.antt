@@ -121,7 +121,13 @@ module _ {M : Type 0} (world : M → World) (reaches : M → M → ℕ → Type 
     pub left_is : left ≡ mark
     pub nothing : new ≡ old
 
-  -- It was stopped, for a cause that its count shows. The lists that the cells give they gave before, or they are fresh
+  -- these are the new lists, which name the defective blocks
+  pub record AreNewLists (lists : places.Lists) : Type 0 where
+    pub entries : List PdlEntry
+    pub defective : AreDefective shape (Contains kept) kind (world new).cells entries
+    pub lists_are : lists ≡ fresh_lists shape mark entries
+
+  -- It was stopped, for a cause that its count shows. The lists that the cells give they gave before, or they are the new
   -- ones; and what the disc stands for is as it was, or none, or none and the disc of zeros.
   pub record FormatStopped (stop : Stop) : Type 0 where
     pub was_on : IsTrue (world old).power
@@ -131,7 +137,7 @@ module _ {M : Type 0} (world : M → World) (reaches : M → M → ℕ → Type 
     pub as_known : (world new).known ≡ (world old).known
     pub only : ChangesFormatted shape (Contains kept) (world old).cells (world new).cells
     pub given : (world old).known ≡ true → (lists : places.Lists) → IsGiven shape (world new).cells lists
-        → IsGiven shape (world old).cells lists ⊎ ((entries : List PdlEntry) × (lists ≡ fresh_lists shape mark entries))
+        → IsGiven shape (world old).cells lists ⊎ AreNewLists lists
     pub covers : (world old).known ≡ true → CoversStopped shape (world old).cells (world new).cells
 
   -- the power was off, and nothing was done

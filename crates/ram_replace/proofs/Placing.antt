@@ -107,7 +107,7 @@ module _ {M : Type 0} (world : M → World) (block_count : M → ℕ) (reaches :
           ⊎ (¬ IsGood (cell_at (world new).cells (home_of shape lists i))) → StopsAtBlock world reaches shape old new lists i bytes stop
       stopped_at most stop few stops as_known left = record {
         stops = stops_within world block_count reaches laws old new most (most_placing_uses shape lists i) stop few stops;
-        given = λ known other given. (ToHome, settled_alone shape (world new).cells lists other settled_new given);
+        given = λ known other given. inl (settled_alone shape (world new).cells lists other settled_new given);
         as_known = as_known;
         only = moves;
         covers = λ disc disc' differs fits. cover_settled shape lists valid i inside (world old).cells (world new).cells moves bytes disc disc' differs fits settled_new left;
@@ -276,8 +276,13 @@ module _ {M : Type 0} (world : M → World) (block_count : M → ℕ) (reaches :
             stops = stops_within world block_count reaches laws old new (2 + (2 * found.tried + 2) + 8) (most_placing_uses shape lists i) stop (let inside = has.stands.inside in omega (arith, inside))
                 (stops_later world block_count reaches laws old here new (2 + (2 * found.tried + 2)) 8 stop continues_here stops);
             given = λ known other given. elim (pair_between shape (world new).cells lists.dds lists.sdl moved_sdl other dds_still between given) [
-              | inl before ↦ (ToHome, before)
-              | inr after ↦ (ToSpare found.tried, after ∙ moved_is)
+              | inl before ↦ inl before
+              | inr after ↦ inr (record {
+                tried = found.tried;
+                some_spare = has.stands.inside;
+                went = (dead_still, tried_dead, spare_good_still known);
+                lists_are = after ∙ moved_is;
+              })
             ];
             as_known = as_known_all;
             only = all_only;

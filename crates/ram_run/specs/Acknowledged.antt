@@ -73,7 +73,8 @@ pub record WasDone (event : AnsweredLine) (asked : Command) : Type 0 where
 abbrev pub IsAmong : (lba n at : ℕ) → Type 0
 IsAmong lba n at = (lba ≤ at) × (at < lba + n)
 
--- a command does not write the sector: it formats nothing, and writes others if any
+-- A command does not ask for the sector to be written: it formats nothing, and writes others if any. (A rewriting format
+-- counts as a format, since of a disc that is not formatted it is a full one.)
 abbrev pub LeavesAsAsked : (at : ℕ) → Command → Type 0
 LeavesAsAsked at (commands.Write lba n fua) = (at < lba) ⊎ (lba + n ≤ at)
 LeavesAsAsked at (commands.Format kind) = ⊥

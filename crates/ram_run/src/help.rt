@@ -37,8 +37,9 @@ The commands, by the first byte of the command block:
   1b START STOP UNIT     2e WRITE AND VERIFY(10)    a8 READ(12)
   1e PREVENT ALLOW       2f VERIFY(10)              aa WRITE(12)
      MEDIUM REMOVAL                                 ad READ DVD STRUCTURE
-The first command after power is told of it (check 6/29/00) in place of being
-done. A new disc has to be formatted before it has sectors, like this:
+After power the first command is told of it (check 6/29/00) in place of being
+done, unless it is INQUIRY, REQUEST SENSE or GET CONFIGURATION. A new disc has
+to be formatted before it has sectors, like this:
   cdb 041100000000 hex 000000080000013000000800
 
 The exit status: 0 done, 2 other words than these, 3 a line is not in the script

@@ -111,7 +111,14 @@ module _ {M : Type 0} (world : M → World) (reaches : M → M → ℕ → Type 
     was_on = was.was_on;
     room = was.room;
     only = same_changes shape (Contains kept) (IsKept lists drop_sdl) all.each all.all (world old).cells (world new).cells was.only;
-    given = was.given;
+    given = λ known made is. elim (was.given known made is) [
+      | inl before ↦ inl before
+      | inr fresh ↦ inr (record {
+        entries = fresh.entries;
+        found = same_defective shape (Contains kept) (IsKept lists drop_sdl) all.each all.all kind (world new).cells fresh.entries fresh.defective;
+        lists_are = fresh.lists_are;
+      })
+    ];
     covers = was.covers;
     stopped = record {
       stops = machine_stops world reaches takes arms armed_cut laws old new _ _ all_are stop was.stops;
