@@ -75,10 +75,15 @@ fn formatted_image(alloc: Global) -> Result<Vec<u8>, AllocError> {
     Ok(image)
 }
 
+/// Puts a list into one copy: the beginning of its text, and its entries.
+fn put_list(image: &mut Vec<u8>, block: usize, head: &[u8], entries: &[u8]) {
+    put(image, place_of(block), head);
+    put(image, place_of(block).saturating_add(32), entries);
+}
+
 /// Puts the list with block 13 replaced into one copy.
 fn put_next_list(image: &mut Vec<u8>, block: usize) {
-    put(image, place_of(block), NEXT_LIST);
-    put(image, place_of(block).saturating_add(32), ENTRY);
+    put_list(image, block, NEXT_LIST, ENTRY);
 }
 
 /// Whether the script over an image of these bytes has this status and this report, and leaves those bytes.
@@ -154,6 +159,187 @@ fn a_replacement_stands_in_each_copy_of_the_list(rt: HostRuntime) -> Result<(), 
     Ok(())
 }
 
+/// The list after that one: block 12 is retired, and block 13 was replaced by block 11.
+const THIRD_LIST: &[u8] = b"\0\x02\x01\0\0\0\0\x03\0\0\0\x02\0\0\0\x02";
+
+const THIRD_ENTRIES: &[u8] = b"\x01\0\0\x0c\0\0\0\0\0\0\0\x0d\0\0\0\x0b";
+
+/// Puts that list into each copy, and these bytes into block 11.
+fn put_third_list(image: &mut Vec<u8>, byte: u8) {
+    fill(image, place_of(11), 32_768, byte);
+    for block in LISTS {
+        put_list(image, block, THIRD_LIST, THIRD_ENTRIES);
+    }
+}
+
+/// Block 13 dies and is written to a spare, which dies too.
+const REPLACED_TWICE: &str = "press 1 1 4
+power
+cdb 000000000000
+cdb 041100000000 hex 000000080000013000000800
+fail 13
+W 0 16 fill aa
+fail 12
+W 0 16 fill bb
+power
+";
+
+const REPLACED_TWICE_REPORT: &str = "1 pressed
+2 not formatted
+3 check 6/29/00
+4 good
+5 failed
+6 good
+7 failed
+8 good
+9 ready 304
+end 9
+";
+
+#[test]
+fn a_replacement_that_failed_is_retired_in_each_copy(rt: HostRuntime) -> Result<(), Fail> {
+    let mut left = replaced_image(rt.alloc(), 0xaa)?;
+    put(&mut left, 28, b"\x03");
+    put_third_list(&mut left, 0xbb);
+    let report = REPLACED_TWICE_REPORT.as_bytes();
+    assert!(rt; makes(rt.alloc(), b"", REPLACED_TWICE, Status::Done, report, &left)?);
+    Ok(())
+}
+
+/// The update of the list is cut at its first copy, which is new, and then the repair of each of two others.
+const CUT_THREE_TIMES: &str = "press 1 1 4
+power
+cdb 000000000000
+cdb 041100000000 hex 000000080000013000000800
+fail 13
+cut 5 new
+W 0 16 fill aa
+cut 15 torn
+power
+cut 18 old
+power
+power
+cdb 000000000000
+R 0 1
+";
+
+const CUT_THREE_TIMES_REPORT: &str = "1 pressed
+2 not formatted
+3 check 6/29/00
+4 good
+5 failed
+6 armed
+7 cut
+8 armed
+9 cut
+10 armed
+11 cut
+12 ready 304
+13 check 6/29/00
+14 good
+sector 0 fill aa
+end 14
+";
+
+#[test]
+fn cuts_in_an_update_and_in_mounts_leave_one_list(rt: HostRuntime) -> Result<(), Fail> {
+    let left = replaced_image(rt.alloc(), 0xaa)?;
+    let report = CUT_THREE_TIMES_REPORT.as_bytes();
+    assert!(rt;
+        makes(
+            rt.alloc(),
+            b"",
+            CUT_THREE_TIMES,
+            Status::Done,
+            report,
+            &left
+        )?
+    );
+    Ok(())
+}
+
+/// The entry of block 12 where it is retired.
+const ONE_RETIRED: &[u8] = b"\x01\0\0\x0c\0\0\0\0";
+
+/// The list of which each spare is retired.
+const ALL_RETIRED_LIST: &[u8] = b"\0\x02\x01\0\0\0\0\x02\0\0\0\x02\0\0\0\x04";
+
+const ALL_RETIRED: &[u8] =
+    b"\x01\0\0\x09\0\0\0\0\x01\0\0\x0a\0\0\0\0\x01\0\0\x0b\0\0\0\0\x01\0\0\x0c\0\0\0\0";
+
+/// The image of a formatted disc whose block 13 is dead, with this list. Block 12 is good, and has bytes of its own.
+fn retiring_image(alloc: Global, head: &[u8], entries: &[u8]) -> Result<Vec<u8>, AllocError> {
+    let mut image = formatted_image(alloc)?;
+    put(&mut image, 29, b"\x03");
+    fill(&mut image, place_of(12), 32_768, 0x77);
+    for block in LISTS {
+        put_list(&mut image, block, head, entries);
+    }
+    Ok(image)
+}
+
+/// Sectors 0 to 15, whose home is dead, are written. Before and after that it is asked how many spares are free.
+const WRITE_AND_COUNT: &str = "power
+cdb 000000000000
+cdb ad0000000000000a00100000
+W 0 16 fill aa
+R 0 1
+cdb ad0000000000000a00100000
+";
+
+const MOVED_REPORT: &str = "1 ready 304
+2 check 6/29/00
+3 good
+data 16 000e0000000000030000000000000000
+4 good
+5 good
+sector 0 fill aa
+6 good
+data 16 000e0000000000020000000000000000
+end 6
+";
+
+const NO_SPARE_REPORT: &str = "1 ready 304
+2 check 6/29/00
+3 good
+data 16 000e0000000000000000000000000000
+4 check 3/32/00 info 0
+5 check 3/11/00 info 0
+6 good
+data 16 000e0000000000000000000000000000
+end 6
+";
+
+#[test]
+fn a_retired_spare_that_is_good_is_not_used(rt: HostRuntime) -> Result<(), Fail> {
+    let one = retiring_image(rt.alloc(), NEXT_LIST, ONE_RETIRED)?;
+    let mut left = retiring_image(rt.alloc(), NEXT_LIST, ONE_RETIRED)?;
+    put_third_list(&mut left, 0xaa);
+    let all = retiring_image(rt.alloc(), ALL_RETIRED_LIST, ALL_RETIRED)?;
+    let script = WRITE_AND_COUNT;
+    assert!(rt;
+        makes(
+            rt.alloc(),
+            &one,
+            script,
+            Status::Done,
+            MOVED_REPORT.as_bytes(),
+            &left
+        )?
+    );
+    assert!(rt;
+        makes(
+            rt.alloc(),
+            &all,
+            script,
+            Status::Done,
+            NO_SPARE_REPORT.as_bytes(),
+            &all
+        )?
+    );
+    Ok(())
+}
+
 #[test]
 fn an_odd_state_is_that_of_a_torn_block(rt: HostRuntime) -> Result<(), Fail> {
     let mut image = formatted_image(rt.alloc())?;
@@ -215,6 +401,50 @@ fn the_copy_with_the_greatest_counter_is_chosen(rt: HostRuntime) -> Result<(), F
     let script = "power\ncdb 000000000000\nR 0 1\n";
     let report = b"1 ready 304\n2 check 6/29/00\n3 good\nsector 0 fill aa\nend 3\n";
     assert!(rt; makes(rt.alloc(), &image, script, Status::Done, report, &left)?);
+    Ok(())
+}
+
+/// The entry of block 13 where it was replaced by block 11.
+const OTHER_ENTRY: &[u8] = b"\0\0\0\x0d\0\0\0\x0b";
+
+/// The image of a formatted disc whose blocks 11 and 12 have other bytes than zeros.
+fn two_replacements(alloc: Global) -> Result<Vec<u8>, AllocError> {
+    let mut image = formatted_image(alloc)?;
+    fill(&mut image, place_of(11), 32_768, 0xbb);
+    fill(&mut image, place_of(12), 32_768, 0xaa);
+    Ok(image)
+}
+
+/// Whether the first of two lists of one counter is in use, where copies in these blocks have them, and the two other
+/// copies an older one: sector 0 is that of the first list's replacement, and each copy is the first list.
+fn first_is_in_use(
+    alloc: Global,
+    blocks: (usize, usize),
+    entries: (&[u8], &[u8]),
+    report: &[u8],
+) -> Result<bool, AllocError> {
+    let mut image = two_replacements(alloc)?;
+    put_list(&mut image, blocks.0, NEXT_LIST, entries.0);
+    put_list(&mut image, blocks.1, NEXT_LIST, entries.1);
+    let mut left = two_replacements(alloc)?;
+    for block in LISTS {
+        put_list(&mut left, block, NEXT_LIST, entries.0);
+    }
+    let script = "power\ncdb 000000000000\nR 0 1\n";
+    makes(alloc, &image, script, Status::Done, report, &left)
+}
+
+#[test]
+fn of_two_lists_of_one_counter_that_of_the_lower_area_is_in_use(
+    rt: HostRuntime,
+) -> Result<(), Fail> {
+    let of_12 = b"1 ready 304\n2 check 6/29/00\n3 good\nsector 0 fill aa\nend 3\n";
+    let of_11 = b"1 ready 304\n2 check 6/29/00\n3 good\nsector 0 fill bb\nend 3\n";
+    for blocks in [(1, 3), (1, 34), (1, 36), (3, 34), (3, 36), (34, 36)] {
+        let is_so = first_is_in_use(rt.alloc(), blocks, (ENTRY, OTHER_ENTRY), of_12)?
+            && first_is_in_use(rt.alloc(), blocks, (OTHER_ENTRY, ENTRY), of_11)?;
+        assert!(rt; is_so, "blocks {} and {}", blocks.0, blocks.1);
+    }
     Ok(())
 }
 
