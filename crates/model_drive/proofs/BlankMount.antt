@@ -8,9 +8,11 @@ use Rattle.model_sectors.specs.declared.PowerOut.TheVariants as powers
 use Rattle.model_lists.specs.Values.{Dds, Sdl}
 use Rattle.model_lists.specs.Texts.{IsDdsText, IsSdlText}
 use Rattle.model_geometry.specs.Geometry.{dds_block, sdl_block}
-use Rattle.model_copies.specs.Copies.{Holds, HasCopy, HasDdsCopy, HasSdlCopy}
+use Rattle.model_copies.specs.Copies.{Holds, HasCopy, HasDdsCopy}
+use Rattle.model_copies.specs.Parts.{HasSdlCopy}
 use Rattle.model_volume.specs.Samples.{small_shape}
 use Rattle.model_volume.specs.Given.{GivesNone}
+use Rattle.model_copies.specs.Parts.{Names}
 use Rattle.model_drive.specs.Shown.{StandsFor}
 use Rattle.model_drive.specs.Power.{PowerCause}
 use Rattle.model_drive.specs.Runs.{opened_drive}
@@ -29,11 +31,23 @@ no_copy text place v area copy = elim (blank_or_dead (place area)) [
   | inr dead ↦ subst (λ (c : Cell). Holds text c v) dead copy.holds
 ]
 
+no_cell : {V : Type 0} (text : V → List ℕ → Type 0) (block : ℕ) (v : V) → Holds text (cell_at (replicate 41 Blank) block) v → ⊥
+no_cell text block v holds = elim (blank_or_dead block) [
+  | inl blank ↦ subst (λ (c : Cell). Holds text c v) blank holds
+  | inr dead ↦ subst (λ (c : Cell). Holds text c v) dead holds
+]
+
+no_name : (block counter : ℕ) → Names (cell_at (replicate 41 Blank) block) counter → ⊥
+no_name block counter names = elim (blank_or_dead block) [
+  | inl blank ↦ subst (λ (c : Cell). Names c counter) blank names
+  | inr dead ↦ subst (λ (c : Cell). Names c counter) dead names
+]
+
 no_dds : (v : Dds) (area : ℕ) → ¬ HasDdsCopy small_shape (replicate 41 Blank) v area
 no_dds v area copy = no_copy IsDdsText (dds_block small_shape) v area copy
 
 no_sdl : (v : Sdl) (area : ℕ) → ¬ HasSdlCopy small_shape (replicate 41 Blank) v area
-no_sdl v area copy = no_copy IsSdlText (sdl_block small_shape) v area copy
+no_sdl v area copy = no_cell IsSdlText (sdl_block small_shape area) v copy.holds
 
 gives_none : GivesNone small_shape (replicate 41 Blank)
 gives_none lists given = no_dds lists.dds given.dds_area given.dds_copy
@@ -51,7 +65,7 @@ blank_mount = record {
   seen = replicate 41 Blank;
   sees = λ known block. inl refl;
   mark_is = λ known. record {
-    within = record { dds = λ v area copy. absurd (no_dds v area copy); sdl = λ v area copy. absurd (no_sdl v area copy) };
+    within = record { dds = λ v area copy. absurd (no_dds v area copy); sdl = λ counter area is names. absurd (no_name (sdl_block small_shape area) counter names) };
     reached = inl refl;
   };
   chosen = None;

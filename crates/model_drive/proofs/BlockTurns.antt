@@ -2,6 +2,8 @@
 -- read before.
 use Rattle.std.proofs.Common.{◌≡◌, ◌≢◌, ℕ, ◌+◌, ◌*◌, ◌<◌, ◌⊎◌, true, Some, None, List, [], ◌∷◌, refl, sym, ap, inl, ◌∙◌, subst, arith, length}
 use Rattle.model_buffer.specs.Buffer.{touched_one}
+use Rattle.model_copies.specs.Parts.{SdlIsLost}
+use Rattle.model_drive.proofs.Courses.{after_version, after_dds_version}
 use Rattle.model_drive.specs.declared.TheConstants.{LAST_COUNTER}
 use Rattle.model_geometry.specs.Geometry.{Shape, sdl_block}
 use Rattle.model_copies.specs.Copies.{AllLost}
@@ -11,7 +13,7 @@ use Rattle.model_medium.specs.Reach.{Reach}
 use Rattle.model_medium.proofs.Compose.{reach_then}
 use Rattle.model_stops.specs.Stops.{Continues, Stops}
 use Rattle.model_stops.specs.declared.Stop.{Stop}
-use Rattle.model_sectors.specs.Requests.{blocks_covered, NamesBlock}
+use Rattle.model_sectors.specs.Requests.{block_with, blocks_covered, NamesBlock}
 use Rattle.model_sectors.specs.Uses.{touched_refused}
 use Rattle.model_places.specs.Places.{Lists, home_of}
 use Rattle.model_places.specs.Valid.{AreValid}
@@ -75,7 +77,7 @@ module _ (old mid new : Shown) (lba n : ℕ) (course : List Placing) (lists reac
   no_copy_turn put lists' counter finds in_use mark shape touched =
       lacks_update old mid new lba n course lists reached so_far valid covered (moves_on finds.leaves.only) (dead_on (λ block was. finds.leaves.continues.reach.lasts.stays_dead block was))
       counter finds.tried finds.some_spare (ends_on _ finds.leaves.continues) in_use mark shape touched finds.counter_is
-      (subst (λ (s : Shape). AllLost (sdl_block s) (cells_in new) ⊎ (counter ≡ LAST_COUNTER)) (sym shape) finds.cause)
+      (subst (λ (s : Shape). SdlIsLost s (cells_in new) reached.sdl ⊎ (counter ≡ LAST_COUNTER)) (sym shape) finds.cause)
       finds.leaves.dead finds.tried_dead (λ known. finds.spare_has (as_known known))
 
   -- the write is stopped in the block, after its rest was read
@@ -100,6 +102,10 @@ module _ (old mid new : Shown) (lba n : ℕ) (course : List Placing) (lists reac
 module _ (old mid new : Shown) (lba n : ℕ) (course : List Placing) (lists reached : Lists)
     (so_far : WroteCourse old mid lists lba n course reached)
     (valid : AreValid old.shape lists) (covered : length course < blocks_covered lba n) where
+  reached_version : reached.sdl.version ≡ reached.dds.version
+  reached_version = ap (λ (l : Lists). l.sdl.version) so_far.wrote.reached_are ∙ after_version old.shape lists (block_with lba) valid course ∙ valid.together.same_version
+      ∙ sym (after_dds_version old.shape lists (block_with lba) valid course) ∙ ap (λ (l : Lists). l.dds.version) (sym so_far.wrote.reached_are)
+
   -- the write is stopped in the reading of the rest: at most the home dies
   pub rest_stop_turn : (stop : Stop) → Stops (λ (m : Machine). m.world) Reach mid.medium new.medium 1 stop → uses_of_rest (buffered old) lba n (length course) ≡ 1
       → AreSameOrDead (cells_in mid) (cells_in new)
@@ -112,7 +118,7 @@ module _ (old mid new : Shown) (lba n : ℕ) (course : List Placing) (lists reac
     covered = covered;
     reached = reached;
     wrote = begun old mid new lba n course lists reached so_far valid covered (λ block home free sdl. others block home) (λ block was. dead_stopped mid.medium new.medium 1 stop so_far.ends.is_on stops block was);
-    given = λ known other is. inl (settled_alone old.shape (cells_in mid) reached other (settled known) (given_dies old.shape (cells_in mid) (cells_in new) dies other is));
+    given = λ known other is. inl (settled_alone old.shape (cells_in mid) reached other (settled known) reached_version (given_dies old.shape (cells_in mid) (cells_in new) dies other is));
     stopped = record {
       stops = stops_then old.medium mid.medium new.medium (uses_so_far old lists lba n course) (most_next old reached lba n course) stop so_far.ends.reach so_far.ends.is_on
           (stops_more mid.medium new.medium 1 (most_next old reached lba n course) stop (omega (arith, one)) stops);

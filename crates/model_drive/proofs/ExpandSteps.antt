@@ -14,6 +14,7 @@ use Rattle.model_volume.specs.Covers.{FitsUnder, Cover}
 use Rattle.model_volume.specs.Expansions.{lists_expanded, disc_cut}
 use Rattle.model_volume.proofs.ListCells.{sdl_listed, fits_still}
 use Rattle.model_volume.proofs.Expanding.{cut_fits}
+use Rattle.model_lists.specs.Values.{most_of}
 use Rattle.model_drive.specs.declared.ExpandOut.{ExpandOut}
 use Rattle.model_drive.specs.declared.ExpandOut.TheVariants as outs
 use Rattle.model_drive.specs.Shown.{Shown, IsOn, cells_in, capacity, StandsFor, StandsBy}
@@ -30,9 +31,9 @@ only_lists old new only block away = only block (λ area is same. away (subst (�
 -- Some lists, and a number of sectors to which a disc under them may be cut.
 module _ (shape : Shape) (lists : Lists) (valid : AreValid shape lists) (sectors : ℕ)
     (some : 0 < sectors) (whole : sectors % 16 ≡ 0) (fewer : sectors ≤ logical_count shape lists * 16)
-    (most : shape.psa + ssa_for shape sectors ≤ MOST_SPARES) where
+    (most : shape.psa + ssa_for shape sectors ≤ most_of lists.sdl.version) where
   -- the new size of the area is lawful, no smaller than the old one, and leaves so many blocks
-  pub lawful_area : IsValidSsa shape (ssa_for shape sectors)
+  pub lawful_area : IsValidSsa shape lists.sdl.version (ssa_for shape sectors)
   lawful_area =
       let had = valid.together.secondary.area.some_logical in
       record { most = most; some_logical = omega (arith, some, whole, fewer, had) }
@@ -55,7 +56,7 @@ module _ (old new : Shown) (sectors : ℕ) (lists : Lists) (any : ExpandsAny old
   fewer_now : sectors ≤ logical_count old.shape lists * 16
   fewer_now = subst (λ (n : ℕ). sectors ≤ n) capacity_is any.lawful.fewer
 
-  area_valid : IsValidSsa old.shape (ssa_for old.shape sectors)
+  area_valid : IsValidSsa old.shape lists.sdl.version (ssa_for old.shape sectors)
   area_valid = lawful_area old.shape lists valid sectors any.lawful.some any.lawful.whole fewer_now any.lawful.most
 
   grows : lists.sdl.ssa ≤ ssa_for old.shape sectors
@@ -146,12 +147,12 @@ module _ (old new : Shown) (sectors : ℕ) where
   pub expand_completes : (out : ExpandOut) → ExpandCause old new sectors out → ExpandCompletes old new sectors out
   expand_completes outs.Good cause known can = refl
   expand_completes outs.NotFormatted cause known can = absurd (cause.unformatted can.formatted)
-  expand_completes (outs.Refused t) cause known can = absurd (cause.unlawful can.lawful)
+  expand_completes (outs.Refused t) cause known can = absurd (cause.unlawful (can.lawful cause.lists cause.in_use))
   expand_completes (outs.NoUpdate counter) cause known can = absurd (elim can.can [
     | inl present ↦ let s = cause.smaller in omega (arith, s, present)
     | inr room ↦ elim cause.cause [
-      | inl lost ↦ room.0 lost
-      | inr full ↦ let r = room.1 cause.lists cause.any.in_use in let c = cause.counter_is in omega (arith, full, r, c)
+      | inl lost ↦ (room cause.lists cause.any.in_use).0 lost
+      | inr full ↦ let r = (room cause.lists cause.any.in_use).1 in let c = cause.counter_is in omega (arith, full, r, c)
     ]
   ])
   expand_completes outs.Cut cause known can = absurd (none_stopped old new _ stops.Cut can.on can.none_counted cause.stopped)

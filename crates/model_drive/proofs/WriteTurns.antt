@@ -1,5 +1,5 @@
 -- One more block of a write, between what a drive shows.
-use Rattle.std.proofs.Common.{◌≡◌, ℕ, ◌+◌, ◌*◌, ◌<◌, ◌≤◌, ◌==◌, if◌then◌else◌, ◌⊎◌, IsTrue, Option, Some, List, [], ◌∷◌, refl, sym, ap, ◌∙◌, subst, arith, length, slice_index}
+use Rattle.std.proofs.Common.{◌≡◌, ℕ, ◌+◌, ◌*◌, ◌<◌, ◌≤◌, ◌==◌, if◌then◌else◌, ◌⊎◌, IsTrue, Option, Some, List, [], ◌∷◌, refl, sym, ap, ◌∙◌, subst, arith, length, slice_index, inl, inr}
 use Rattle.std.specs.Option.{option_map_or}
 use Rattle.std.specs.List.{Contains}
 use Rattle.std.proofs.lemmas.List.{get_or_default}
@@ -16,6 +16,10 @@ use Rattle.model_copies.specs.Copies.{AllLost}
 use Rattle.model_places.specs.Places.{Lists, logical_count, home_of, free_spares}
 use Rattle.model_places.specs.Valid.{AreValid}
 use Rattle.model_volume.specs.Moves.{OnlyMoves}
+use Rattle.model_geometry.specs.Geometry.{sdl_second_block}
+use Rattle.model_lists.specs.Values.{Sdl}
+use Rattle.model_copies.specs.Parts.{SdlIsLost}
+use Rattle.model_copies.proofs.SdlParts.{lost_alike}
 use Rattle.model_drive.specs.Shown.{Shown, IsKnown, WhenKnown, buffered, cells_in, home, HasLostSdl}
 use Rattle.model_drive.specs.Parts.{EndsBy, IsInRange}
 use Rattle.model_drive.specs.Repairs.{sdl_update_uses}
@@ -97,26 +101,30 @@ module _ (old mid new : Shown) (lba n : ℕ) (course : List Placing) (lists reac
 
 -- the whole request is written
 pub writes_all : (old new : Shown) (lba n : ℕ) (course : List Placing) (lists reached : Lists) → length course ≡ blocks_covered lba n
-    → WroteCourse old new lists lba n course reached → WhenKnown old (HasCopyOfMoves old.shape (cells_in new) course) → WritesAll old new lba n
+    → WroteCourse old new lists lba n course reached → WhenKnown old (HasCopyOfMoves old.shape (cells_in new) lists.sdl course) → WritesAll old new lba n
 writes_all old new lba n course lists reached all ends has_copy =
     record { lists = lists; course = course; all = all; reached = reached; ends = ends; has_copy = has_copy }
 
 -- lost copies were lost before, where none of them changed
-lost_before : (shape : Shape) (old new : List Cell) → ((area : ℕ) → cell_at new (sdl_block shape area) ≡ cell_at old (sdl_block shape area))
-    → AllLost (sdl_block shape) new → AllLost (sdl_block shape) old
-lost_before shape old new same lost area is_area = sym (same area) ∙ lost area is_area
+lost_before : (shape : Shape) (old new : List Cell) (sdl : Sdl) → ((area : ℕ) → cell_at new (sdl_block shape area) ≡ cell_at old (sdl_block shape area))
+    → ((area : ℕ) → cell_at new (sdl_second_block shape area) ≡ cell_at old (sdl_second_block shape area)) → SdlIsLost shape new sdl → SdlIsLost shape old sdl
+lost_before shape old new sdl same same' lost area is_area = elim (lost area is_area) [
+  | inl dead ↦ inl (sym (same area) ∙ dead)
+  | inr dead ↦ inr (dead.0, sym (same' area) ∙ dead.1)
+]
 
-still_copied : (shape : Shape) (old new : List Cell) → ((area : ℕ) → cell_at new (sdl_block shape area) ≡ cell_at old (sdl_block shape area))
-    → (course : List Placing) → HasCopyOfMoves shape old course → HasCopyOfMoves shape new course
-still_copied shape old new same [] has = tt
-still_copied shape old new same (ToHome ∷ earlier) has = still_copied shape old new same earlier has
-still_copied shape old new same (ToSpare tried ∷ earlier) has = λ lost. has (lost_before shape old new same lost)
+still_copied : (shape : Shape) (old new : List Cell) (sdl : Sdl) → ((area : ℕ) → cell_at new (sdl_block shape area) ≡ cell_at old (sdl_block shape area))
+    → ((area : ℕ) → cell_at new (sdl_second_block shape area) ≡ cell_at old (sdl_second_block shape area))
+    → (course : List Placing) → HasCopyOfMoves shape old sdl course → HasCopyOfMoves shape new sdl course
+still_copied shape old new sdl same same' [] has = tt
+still_copied shape old new sdl same same' (ToHome ∷ earlier) has = still_copied shape old new sdl same same' earlier has
+still_copied shape old new sdl same same' (ToSpare tried ∷ earlier) has = λ lost. has (lost_before shape old new sdl same same' lost)
 
 -- one more block leaves a copy of the list that says what was moved
-pub copied_then : (shape : Shape) (old new : List Cell) (course : List Placing) (placing : Placing) → LeavesCopy shape old new placing
-    → HasCopyOfMoves shape old course → HasCopyOfMoves shape new (placing ∷ course)
-copied_then shape old new course ToHome same has = still_copied shape old new same course has
-copied_then shape old new course (ToSpare tried) kept has = kept
+pub copied_then : (shape : Shape) (old new : List Cell) (sdl reached : Sdl) (course : List Placing) (placing : Placing) → sdl.version ≡ reached.version → LeavesCopy shape old new reached placing
+    → HasCopyOfMoves shape old sdl course → HasCopyOfMoves shape new sdl (placing ∷ course)
+copied_then shape old new sdl reached course ToHome version same has = still_copied shape old new sdl same.0 same.1 course has
+copied_then shape old new sdl reached course (ToSpare tried) version kept has = λ lost. kept (lost_alike shape new sdl reached version lost)
 
 module _ (old mid new : Shown) (lba n : ℕ) (course : List Placing) (lists reached : Lists)
     (so_far : WroteCourse old mid lists lba n course reached)
@@ -163,7 +171,7 @@ module _ (old mid new : Shown) (lba n : ℕ) (course : List Placing) (lists reac
   pub lacks_update : (counter tried : ℕ) → tried < length (free_spares old.shape reached)
       → EndsBy mid new (uses_of_rest (buffered old) lba n (length course) + (2 + (2 * tried + 2) + (if counter == LAST_COUNTER then 0 else sdl_update_uses lists.sdl)))
       → new.lists ≡ mid.lists → new.mark ≡ mid.mark → new.shape ≡ old.shape → buffered new ≡ touched_refused (buffered old) lba n (length course)
-      → counter ≡ reached.sdl.counter → HasLostSdl new ⊎ (counter ≡ LAST_COUNTER) → cell_at (cells_in new) (home_of old.shape reached (block_with lba + length course)) ≡ Dead
+      → counter ≡ reached.sdl.counter → HasLostSdl new reached.sdl ⊎ (counter ≡ LAST_COUNTER) → cell_at (cells_in new) (home_of old.shape reached (block_with lba + length course)) ≡ Dead
       → AreDead (cells_in new) (free_spares old.shape reached) tried → (IsKnown old → IsGood (cell_at (cells_in new) (slice_index (free_spares old.shape reached) tried))) → LacksUpdate old new lba n counter
   lacks_update counter tried some ends same mark shape are counter_is cause is_dead tried_dead has = record {
     lists = lists;

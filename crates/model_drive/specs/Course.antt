@@ -4,10 +4,11 @@ use Rattle.std.specs.Prelude.{◌≡◌, ◌≢◌, ℕ, ◌+◌, ◌*◌, ◌<�
 use Rattle.std.specs.Option.{option_map_or}
 use Rattle.std.specs.List.{Contains}
 use Rattle.model_drive.specs.declared.TheConstants.{LAST_COUNTER}
-use Rattle.model_geometry.specs.Geometry.{Shape, sdl_block}
+use Rattle.model_geometry.specs.Geometry.{Shape, sdl_block, sdl_second_block}
 use Rattle.model_medium.specs.Cells.{Cell, Dead, IsGood, cell_at}
 use Rattle.model_sectors.specs.Uses.{reads_rest}
-use Rattle.model_copies.specs.Copies.{AllLost}
+use Rattle.model_lists.specs.Values.{Sdl}
+use Rattle.model_copies.specs.Parts.{SdlIsLost}
 use Rattle.model_places.specs.Places.{Lists, home_of, free_spares}
 use Rattle.model_volume.specs.Moves.{lists_moved, tried_of}
 use Rattle.model_drive.specs.Shown.{Shown, cells_in}
@@ -76,16 +77,17 @@ TookCourse shape cells lists first (placing ∷ earlier) =
 
 -- A block that went to its home leaves the copies of the secondary list as they were. After a move one of them, which says
 -- so, can be read.
-abbrev pub LeavesCopy : Shape → List Cell → List Cell → Placing → Type 0
-LeavesCopy shape old new ToHome =
-    (area : ℕ) → cell_at new (sdl_block shape area) ≡ cell_at old (sdl_block shape area)
-LeavesCopy shape old new (ToSpare tried) = ¬ AllLost (sdl_block shape) new
+abbrev pub LeavesCopy : Shape → List Cell → List Cell → Sdl → Placing → Type 0
+LeavesCopy shape old new sdl ToHome =
+    ((area : ℕ) → cell_at new (sdl_block shape area) ≡ cell_at old (sdl_block shape area))
+    × ((area : ℕ) → cell_at new (sdl_second_block shape area) ≡ cell_at old (sdl_second_block shape area))
+LeavesCopy shape old new sdl (ToSpare tried) = ¬ SdlIsLost shape new sdl
 
 -- after a course with a move in it, a copy of the secondary list can be read
-abbrev pub HasCopyOfMoves : Shape → List Cell → List Placing → Type 0
-HasCopyOfMoves shape cells [] = Unit {0}
-HasCopyOfMoves shape cells (ToHome ∷ earlier) = HasCopyOfMoves shape cells earlier
-HasCopyOfMoves shape cells (ToSpare tried ∷ earlier) = ¬ AllLost (sdl_block shape) cells
+abbrev pub HasCopyOfMoves : Shape → List Cell → Sdl → List Placing → Type 0
+HasCopyOfMoves shape cells sdl [] = Unit {0}
+HasCopyOfMoves shape cells sdl (ToHome ∷ earlier) = HasCopyOfMoves shape cells sdl earlier
+HasCopyOfMoves shape cells sdl (ToSpare tried ∷ earlier) = ¬ SdlIsLost shape cells sdl
 
 -- a move goes to a free spare, and needs room for a greater counter
 abbrev pub CanPlace : Shape → Lists → ℕ → Placing → Type 0

@@ -1,7 +1,8 @@
 -- What an expansion of the supplementary spare area may do: why each answer comes, with the uses and the lists, and what it
 -- makes of the disc. (This project's own, as all here.)
 use Rattle.std.specs.Prelude.{◌≡◌, ◌≢◌, ℕ, ◌+◌, ◌-◌, ◌*◌, ◌/◌, ◌%◌, ◌<◌, ◌≤◌, ◌==◌, ◌⊎◌, if◌then◌else◌, Some, List, [], ◌∷◌, length, take}
-use Rattle.model_geometry.specs.declared.TheConstants.{MOST_SPARES}
+use Rattle.model_lists.specs.declared.versions.Version.{Version}
+use Rattle.model_lists.specs.Values.{most_of}
 use Rattle.model_drive.specs.declared.TheConstants.{LAST_COUNTER}
 use Rattle.model_geometry.specs.Geometry.{Shape, data_blocks, sdl_block}
 use Rattle.model_medium.specs.Cells.{cell_at}
@@ -24,11 +25,11 @@ ssa_for shape sectors = length (data_blocks shape) - shape.psa - sectors / 16
 
 -- A disc that has so many sectors at present may be cut to these: some whole blocks, no more than it has, and no more spares
 -- in all than a disc may have.
-pub record IsLawfulSize (shape : Shape) (present sectors : ℕ) : Type 0 where
+pub record IsLawfulSize (shape : Shape) (version : Version) (present sectors : ℕ) : Type 0 where
   pub some : 0 < sectors
   pub whole : sectors % 16 ≡ 0
   pub fewer : sectors ≤ present
-  pub most : shape.psa + ssa_for shape sectors ≤ MOST_SPARES
+  pub most : shape.psa + ssa_for shape sectors ≤ most_of version
 
 -- no cell changed but those of the secondary list
 abbrev pub OnlySdl : Shown → Shown → Type 0
@@ -39,7 +40,7 @@ OnlySdl old new = (block : ℕ) → ((area : ℕ) → IsArea area → block ≢ 
 pub record ExpandsAny (old new : Shown) (sectors : ℕ) (lists : Lists) : Type 0 where
   pub was_on : IsOn old
   pub in_use : old.lists ≡ Some lists
-  pub lawful : IsLawfulSize old.shape (capacity old) sectors
+  pub lawful : IsLawfulSize old.shape lists.sdl.version (capacity old) sectors
   pub only : OnlySdl old new
 
 -- the disc has so many sectors already, and the lists stay as they are
@@ -61,13 +62,15 @@ pub record Grows (old new : Shown) (sectors : ℕ) : Type 0 where
   pub now_in_use : new.lists ≡ Some (lists_expanded old.shape lists (ssa_for old.shape sectors))
   pub same_mark : new.mark ≡ old.mark
   pub unbuffered : new.buffer ≡ []
-  pub has_copy : WhenKnown old (¬ HasLostSdl new)
+  pub has_copy : WhenKnown old (¬ HasLostSdl new lists.sdl)
 
 -- the disc cannot have so many sectors, and its capacity is told
 pub record RefusesSize (old new : Shown) (sectors known : ℕ) : Type 0 where
   pub was_on : IsOn old
   pub formatted : IsFormatted old
-  pub unlawful : ¬ IsLawfulSize old.shape (capacity old) sectors
+  pub lists : Lists
+  pub in_use : old.lists ≡ Some lists
+  pub unlawful : ¬ IsLawfulSize old.shape lists.sdl.version (capacity old) sectors
   pub known_is : known ≡ capacity old
   pub nothing : new ≡ old
 
@@ -77,7 +80,7 @@ pub record GrowsInVain (old new : Shown) (sectors counter : ℕ) : Type 0 where
   pub any : ExpandsAny old new sectors lists
   pub smaller : sectors < capacity old
   pub counter_is : counter ≡ lists.sdl.counter
-  pub cause : HasLostSdl new ⊎ (counter ≡ LAST_COUNTER)
+  pub cause : HasLostSdl new lists.sdl ⊎ (counter ≡ LAST_COUNTER)
   pub ends : EndsBy old new (if counter == LAST_COUNTER then 0 else sdl_update_uses lists.sdl)
   pub keeps : KeepsLists old new
   pub unbuffered : new.buffer ≡ []
@@ -128,9 +131,9 @@ pub record CanExpand (old new : Shown) (sectors : ℕ) : Type 0 where
   pub on : IsOn old
   pub formatted : IsFormatted old
   pub none_counted : NoneCounted old new
-  pub lawful : IsLawfulSize old.shape (capacity old) sectors
+  pub lawful : (lists : Lists) → old.lists ≡ Some lists → IsLawfulSize old.shape lists.sdl.version (capacity old) sectors
   pub can : (sectors ≡ capacity old)
-      ⊎ (¬ HasLostSdl new × ((lists : Lists) → old.lists ≡ Some lists → lists.sdl.counter < LAST_COUNTER))
+      ⊎ ((lists : Lists) → old.lists ≡ Some lists → (¬ HasLostSdl new lists.sdl) × (lists.sdl.counter < LAST_COUNTER))
 
 -- An expansion that could end well does: one for which all of this holds.
 abbrev pub ExpandCompletes : Shown → Shown → ℕ → ExpandOut → Type 0

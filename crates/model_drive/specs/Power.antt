@@ -10,7 +10,8 @@ use Rattle.model_sectors.specs.declared.PowerOut.{PowerOut}
 use Rattle.model_sectors.specs.declared.PowerOut.TheVariants as outs
 use Rattle.model_stops.specs.declared.Stop.{Stop}
 use Rattle.model_stops.specs.declared.Stop.TheVariants as stops
-use Rattle.model_copies.specs.Copies.{Settled, Mark}
+use Rattle.model_copies.specs.Copies.{Settled}
+use Rattle.model_copies.specs.Parts.{Mark}
 use Rattle.model_places.specs.Places.{Lists}
 use Rattle.model_volume.specs.Given.{AreChosen, LacksLists, OnlyLists, AreSeen}
 use Rattle.model_drive.specs.Shown.{Shown, WhenKnown, IsOn, cells_in, capacity, IsFirstUnder}

@@ -28,13 +28,13 @@ pub record RepairsBoth (old new : Shown) (lists : Lists) : Type 0 where
 pub record RewritesLists (old new : Shown) (lists : Lists) : Type 0 where
   pub both : RepairsBoth old new lists
   pub has_dds : WhenKnown old (¬ HasLostDds new)
-  pub has_sdl : WhenKnown old (¬ HasLostSdl new)
+  pub has_sdl : WhenKnown old (¬ HasLostSdl new lists.sdl)
 
 -- a list has no copy left: the counter is the structure's, where it is that one
 pub record RewritesInVain (old new : Shown) (lists : Lists) (counter : ℕ) : Type 0 where
   pub both : RepairsBoth old new lists
   pub lost : (HasLostDds new × (counter ≡ lists.dds.counter))
-      ⊎ (WhenKnown old (¬ HasLostDds new) × HasLostSdl new × (counter ≡ lists.sdl.counter))
+      ⊎ (WhenKnown old (¬ HasLostDds new) × HasLostSdl new lists.sdl × (counter ≡ lists.sdl.counter))
 
 -- the repair of one list or the other was stopped
 pub record StopsInRewrite (old new : Shown) (stop : Stop) : Type 0 where

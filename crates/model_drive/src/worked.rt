@@ -6,6 +6,7 @@ ghost use Rattle.model_sectors.specs.Discs.{On, Off};
 ghost use Rattle.model_sectors.specs.declared.PowerOut.TheVariants as powers;
 ghost use Rattle.model_places.specs.Places.{Lists};
 ghost use Rattle.model_volume.specs.Samples.{small_shape, lists_before, lists_after};
+ghost use Rattle.model_lists.specs.declared.versions.Version.TheVariants.{One};
 ghost use Rattle.model_drive.specs.Shown.{StandsFor, block_count, capacity, home};
 ghost use Rattle.model_drive.specs.Repairs.{choice_uses, repair_uses, mount_most};
 ghost use Rattle.model_drive.specs.Course.{ToHome, ToSpare, course_uses};
@@ -56,10 +57,10 @@ pub fn worked_write()
 /// so is a part of a block.
 pub fn worked_expansion_sizes()
     ensures area { ssa_for small_shape 240 ≡ 4 }
-    ensures lawful { (cells : List Cell) → IsLawfulSize small_shape
+    ensures lawful { (cells : List Cell) → IsLawfulSize small_shape One
         (capacity (small_drive cells (Some lists_before) 2 0)) 240 }
-    ensures too_many { (cells : List Cell) → ¬ IsLawfulSize small_shape
+    ensures too_many { (cells : List Cell) → ¬ IsLawfulSize small_shape One
         (capacity (small_drive cells (Some lists_before) 2 0)) 320 }
-    ensures not_whole { (cells : List Cell) → ¬ IsLawfulSize small_shape
+    ensures not_whole { (cells : List Cell) → ¬ IsLawfulSize small_shape One
         (capacity (small_drive cells (Some lists_before) 2 0)) 241 }
 {}

@@ -1,6 +1,8 @@
 //! That a drive gives up dead blocks alone. A definition, and its laws.
 #![tactic(auto)]
 
+mod drives;
+
 ghost use Rattle.std.specs.Prelude.{◌≡◌, ℕ, List};
 ghost use Rattle.model_geometry.specs.Geometry.{Shape};
 ghost use Rattle.model_lists.specs.declared.dds.PdlEntry.{PdlEntry};
@@ -10,6 +12,11 @@ ghost use Rattle.model_volume.specs.Expansions.{lists_expanded};
 ghost use Rattle.model_formats.specs.Fresh.{fresh_lists};
 ghost use Rattle.model_drive.specs.Course.{Placing, WentTo, lists_placed};
 ghost use Rattle.model_fairness.specs.Fair.{IsFair};
+
+pub use drives::{
+    a_blank_disc_gives_up_none, a_drive_gives_up_dead_blocks_alone,
+    no_spare_means_that_none_is_left,
+};
 
 /// A disc that the drive formatted is fair, and stays fair: a block is listed only after its home, or the spare that was
 /// tried, is dead.

@@ -8,7 +8,9 @@ use Rattle.model_lists.specs.declared.dds.PdlKind.{PdlKind}
 use Rattle.model_lists.specs.declared.dds.PdlKind.TheVariants.{P, G1, G2}
 use Rattle.model_lists.specs.declared.dds.PdlEntry.{PdlEntry}
 use Rattle.model_lists.specs.declared.sdl.SdlEntry.{SdlEntry}
-use Rattle.model_lists.specs.Values.{Dds, Sdl, IsLawfulDds, IsLawfulSdl}
+use Rattle.model_lists.specs.declared.versions.Version.{Version}
+use Rattle.model_lists.specs.declared.versions.Version.TheVariants.{One, Two}
+use Rattle.model_lists.specs.Values.{Dds, Sdl, part_entries, IsLawfulDds, IsLawfulSdl}
 
 -- the n bytes from `at` on (this project's own)
 abbrev pub bytes_from : ℕ → ℕ → List ℕ → List ℕ
@@ -43,20 +45,30 @@ replaced_bytes defective None = 1 ∷ big_bytes 3 defective ++ 0 ∷ 0 ∷ 0 ∷
 abbrev pub sdl_entry_bytes : SdlEntry → List ℕ
 sdl_entry_bytes entry = replaced_bytes entry.defective entry.replacement
 
--- The bytes before the entries of a disc definition structure: 0Ah 0Ah, version 01h, state, counter and size of the
+-- the byte of a version (this project's own)
+abbrev pub version_byte : Version → ℕ
+version_byte One = 1
+version_byte Two = 2
+
+-- The bytes before the entries of a disc definition structure: 0Ah 0Ah, version, state, counter and size of the
 -- primary spare area, zeros, and from 2,048 on 00h 01h and the number of entries. (This project's own, after ECMA-330.)
-pub record IsDdsHeader (state : DdsState) (counter psa count : ℕ) (block : List ℕ) : Type 0 where
-  pub begins : bytes_from 0 4 block ≡ 10 ∷ 10 ∷ 1 ∷ state_byte state ∷ []
+pub record IsDdsHeader (version : Version) (state : DdsState) (counter psa count : ℕ) (block : List ℕ) : Type 0 where
+  pub begins : bytes_from 0 4 block ≡ 10 ∷ 10 ∷ version_byte version ∷ state_byte state ∷ []
   pub counted : bytes_from 4 4 block ≡ big_bytes 4 counter
   pub spares : bytes_from 8 2 block ≡ big_bytes 2 psa
   pub gap : bytes_from 10 2038 block ≡ zero_bytes 2038
   pub list_begins : bytes_from 2048 2 block ≡ 0 ∷ 1 ∷ []
   pub list_counted : bytes_from 2050 2 block ≡ big_bytes 2 count
 
--- The bytes before the entries of a secondary defect list: 00h 02h, version 01h, 00h, both counters, the size of the
--- supplementary spare area, the number of entries, and zeros. (This project's own, after ECMA-330.)
-pub record IsSdlHeader (counter dds_counter ssa count : ℕ) (block : List ℕ) : Type 0 where
-  pub begins : bytes_from 0 4 block ≡ 0 ∷ 2 ∷ 1 ∷ 0 ∷ []
+-- the byte of a part: a list of one block has none (this project's own)
+abbrev pub part_byte : Version → ℕ → ℕ
+part_byte One part = 0
+part_byte Two part = part
+
+-- The bytes before the entries of a part of a secondary defect list: 00h 02h, version, part, both counters, the size of
+-- the supplementary spare area, the number of the entries of both parts, and zeros. (This project's own, after ECMA-330.)
+pub record IsSdlHeader (version : Version) (part counter dds_counter ssa count : ℕ) (block : List ℕ) : Type 0 where
+  pub begins : bytes_from 0 4 block ≡ 0 ∷ 2 ∷ version_byte version ∷ part_byte version part ∷ []
   pub counted : bytes_from 4 4 block ≡ big_bytes 4 counter
   pub dds_counted : bytes_from 8 4 block ≡ big_bytes 4 dds_counter
   pub spares : bytes_from 12 2 block ≡ big_bytes 2 ssa
@@ -71,12 +83,40 @@ Spells bytes_of n entries bytes = bytes ≡ flat_map bytes_of entries ++ zero_by
 pub record IsDdsText (value : Dds) (block : List ℕ) : Type 0 where
   pub lawful : IsLawfulDds value
   pub whole : length block ≡ 32768
-  pub header : IsDdsHeader value.state value.counter value.psa (length value.entries) block
+  pub header : IsDdsHeader value.version value.state value.counter value.psa (length value.entries) block
   pub list : Spells pdl_entry_bytes 4 value.entries (drop 2052 block)
 
--- The block is the text of this secondary defect list. (This project's own, after ECMA-330.)
+-- the entries of the first part: all of a list of one block, and as many as fit of one of two (this project's own)
+abbrev pub first_entries : Version → List SdlEntry → List SdlEntry
+first_entries One entries = entries
+first_entries Two entries = take part_entries entries
+
+-- The block is the first part of the text of this secondary defect list: all of it, where it has one block. (This
+-- project's own, after ECMA-330.)
 pub record IsSdlText (value : Sdl) (block : List ℕ) : Type 0 where
   pub lawful : IsLawfulSdl value
   pub whole : length block ≡ 32768
-  pub header : IsSdlHeader value.counter value.dds_counter value.ssa (length value.entries) block
-  pub list : Spells sdl_entry_bytes 8 value.entries (drop 32 block)
+  pub header : IsSdlHeader value.version 1 value.counter value.dds_counter value.ssa (length value.entries) block
+  pub list : Spells sdl_entry_bytes 8 (first_entries value.version value.entries) (drop 32 block)
+
+-- the list has two blocks
+abbrev pub IsTwo : Sdl → Type 0
+IsTwo value = value.version ≡ Two
+
+-- The block is the second part of the text of this secondary defect list, which has two blocks: the entries that did not
+-- fit into the first. (This project's own.)
+pub record IsSdlSecond (value : Sdl) (block : List ℕ) : Type 0 where
+  pub two : IsTwo value
+  pub lawful : IsLawfulSdl value
+  pub whole : length block ≡ 32768
+  pub header : IsSdlHeader Two 2 value.counter value.dds_counter value.ssa (length value.entries) block
+  pub list : Spells sdl_entry_bytes 8 (drop part_entries value.entries) (drop 32 block)
+
+-- Both blocks are the text of this value, of which the second counts where the list has two. (This project's own.)
+pub record IsSdlTexts (value : Sdl) (first second : List ℕ) : Type 0 where
+  pub first_is : IsSdlText value first
+  pub second_is : IsTwo value → IsSdlSecond value second
+
+-- The first block of a list names this counter of a structure: it is the text of a list of one block. (This project's own.)
+abbrev pub NamesCounter : List ℕ → ℕ → Type 0
+NamesCounter block names = (value : Sdl) × (value.version ≡ One) × IsSdlText value block × (value.dds_counter ≡ names)

@@ -6,9 +6,12 @@ use Rattle.model_lists.specs.declared.dds.DdsState.{DdsState}
 use Rattle.model_lists.specs.declared.dds.DdsState.TheVariants.{Formatting, Formatted}
 use Rattle.model_lists.specs.declared.dds.PdlEntry.{PdlEntry}
 use Rattle.model_lists.specs.declared.sdl.SdlEntry.{SdlEntry}
+use Rattle.model_lists.specs.declared.versions.Version.{Version}
+use Rattle.model_lists.specs.declared.versions.Version.TheVariants.{One, Two}
 
 -- What a disc definition structure says, with its primary defect list. (After ECMA-330.)
 pub record Dds : Type 0 where
+  pub version : Version
   pub counter : ℕ
   pub state : DdsState
   pub psa : ℕ
@@ -16,6 +19,7 @@ pub record Dds : Type 0 where
 
 -- What a secondary defect list says. (After ECMA-330.)
 pub record Sdl : Type 0 where
+  pub version : Version
   pub counter : ℕ
   pub dds_counter : ℕ
   pub ssa : ℕ
@@ -60,22 +64,34 @@ pub record IsWithinDdsLimits (state : DdsState) (psa count : ℕ) : Type 0 where
   pub few : count ≤ psa
   pub fits : FitsState state count
 
+-- How many entries fit into one block of a secondary defect list. (This project's own.)
+unfoldable pub part_entries : ℕ
+part_entries = 4092
+
+-- How many spares in all, and how many entries of the secondary list, a disc of this version may have: as many as fit into
+-- one block, or into two. (This project's own.)
+abbrev pub most_of : Version → ℕ
+most_of One = 4092
+most_of Two = 8184
+
 -- the limits of a secondary defect list that has so many entries (this project's own)
-pub record IsWithinSdlLimits (ssa count : ℕ) : Type 0 where
-  pub most : ssa ≤ MOST_SPARES
-  pub few : count ≤ MOST_SPARES
+pub record IsWithinSdlLimits (version : Version) (ssa count : ℕ) : Type 0 where
+  pub most : ssa ≤ most_of version
+  pub few : count ≤ most_of version
 
 -- The value is one that a disc definition structure may have. (After ECMA-330; the limits are this project's own.)
 pub record IsLawfulDds (value : Dds) : Type 0 where
+  pub version_is : value.version ≡ One
   pub counted : value.counter < 2 ^ 32
   pub limits : IsWithinDdsLimits value.state value.psa (length value.entries)
   pub list : IsLawfulPdl value.entries
 
 -- The value is one that a secondary defect list may have. (After ECMA-330; the limits are this project's own.)
 pub record IsLawfulSdl (value : Sdl) : Type 0 where
+  pub version_is : value.version ≡ One
   pub counted : value.counter < 2 ^ 32
   pub dds_counted : value.dds_counter < 2 ^ 32
-  pub limits : IsWithinSdlLimits value.ssa (length value.entries)
+  pub limits : IsWithinSdlLimits value.version value.ssa (length value.entries)
   pub list : IsLawfulList value.entries
 
 -- What the list has for this defective block: no entry names it, or this one does. (This project's own.)

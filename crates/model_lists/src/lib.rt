@@ -5,7 +5,9 @@
 mod dds;
 pub mod laws;
 mod sdl;
+mod versions;
 
 pub use dds::{DdsState, PdlEntry, PdlKind};
-pub use model_geometry::MOST_SPARES;
+pub use model_geometry::{MOST_SPARES, SDL_LIMIT};
 pub use sdl::SdlEntry;
+pub use versions::Version;

@@ -1,5 +1,5 @@
 -- The mode pages of the drive, and what MODE SENSE(10) replies: for whoever gives pages, and whoever reads command blocks.
-use Rattle.std.specs.Prelude.{ℕ, ◌+◌, Bool, nat_lt, ◌==◌, if◌then◌else◌, List, [], ◌∷◌, ◌++◌, length, replicate}
+use Rattle.std.specs.Prelude.{ℕ, ◌+◌, Bool, nat_lt, ◌==◌, if◌then◌else◌, Option, Some, None, List, [], ◌∷◌, ◌++◌, length, replicate}
 use Rattle.std.specs.List.{filter, flat_map}
 use Rattle.byteorder.specs.Endian.{big_bytes}
 use Rattle.model_modes.specs.declared.Page.{Page}
@@ -21,6 +21,12 @@ all_pages = 0x3f
 -- the pages that this code asks for: the page that has it, or all of them; none where it is the code of neither
 abbrev pub pages_with : ℕ → List Page
 pages_with wanted = if wanted == all_pages then pages else filter (λ page. code page == wanted) pages
+
+-- the page with this code
+abbrev pub page_with : ℕ → Option Page
+page_with wanted =
+    if wanted == code ErrorRecovery then Some ErrorRecovery
+    else if wanted == code Caching then Some Caching else None
 
 -- whether this code asks for a page
 abbrev pub is_page_code : ℕ → Bool

@@ -1,5 +1,5 @@
 -- What MODE SELECT(10) takes: for whoever takes the list, and whoever says what the command does.
-use Rattle.std.specs.Prelude.{◌≡◌, ℕ, ◌+◌, ◌*◌, ◌%◌, ◌<◌, ◌⊎◌, List, [], ◌∷◌, length, take, drop, slice_index}
+use Rattle.std.specs.Prelude.{Bool, ◌==◌, ◌&&◌, not, ◌≡◌, ℕ, ◌+◌, ◌*◌, ◌%◌, ◌<◌, ◌⊎◌, List, [], ◌∷◌, length, take, drop, slice_index}
 use Rattle.model_modes.specs.declared.Page.{Page}
 use Rattle.model_modes.specs.Pages.{code, current_page}
 
@@ -17,6 +17,10 @@ pub record HasCurrentPages (bytes : List ℕ) : Type 0 where
   pub whole : length bytes ≡ 8 + 12 * count
   pub no_descriptors : take 2 (drop 6 bytes) ≡ 0 ∷ 0 ∷ []
   pub each : (k : ℕ) → k < count → IsCurrentPage (take 12 (drop (8 + 12 * k) bytes))
+
+-- so many bytes are no list of mode pages: none, or a header of 8 bytes and up to two pages of 12 (after INCITS SPC)
+abbrev pub is_no_list_length : ℕ → Bool
+is_no_list_length bytes = not (bytes == 0) && not (bytes == 8) && not (bytes == 20) && not (bytes == 32)
 
 -- A parameter list that is taken: none at all, or one that changes nothing. (This project's own.)
 abbrev pub IsTaken : List ℕ → Type 0

@@ -14,11 +14,11 @@ use Rattle.model_drive.specs.declared.ExpandOut.TheVariants as expands
 use Rattle.model_drive.specs.Shown.{Shown}
 use Rattle.model_drive.specs.Faults.{faults, ReadFaults, WriteFaults, ExpandFaults, FormatFaults}
 use Rattle.model_drive.proofs.Faults.{read_faults, verify_faults, write_faults, expand_faults, format_faults}
-use Rattle.ram_sense.specs.declared.sense.Sense.{Sense}
-use Rattle.ram_sense.specs.declared.answer.Answer.{Answer}
-use Rattle.ram_sense.specs.declared.answer.Answer.TheVariants as answers
-use Rattle.ram_cdb.specs.declared.commands.Command.{Command}
-use Rattle.ram_cdb.specs.declared.commands.Command.TheVariants as commands
+use Rattle.model_sense.specs.declared.sense.Sense.{Sense}
+use Rattle.model_sense.specs.declared.answer.Answer.{Answer}
+use Rattle.model_sense.specs.declared.answer.Answer.TheVariants as answers
+use Rattle.model_cdb.specs.declared.commands.Command.{Command}
+use Rattle.model_cdb.specs.declared.commands.Command.TheVariants as commands
 use Rattle.model_target.specs.declared.host.Host.{Host}
 use Rattle.model_target.specs.Steps.{read_answer, write_answer, format_answer, expand_answer, IsAnswered, TellsStructure, TellsSpares, IsDone, IsAnsweredBy, IsStep, AnswerFaults}
 

@@ -9,11 +9,11 @@ use Rattle.model_drive.specs.Writes.{WriteStep}
 use Rattle.model_drive.specs.Formats.{FormatStep}
 use Rattle.model_drive.specs.Expands.{ExpandStep}
 use Rattle.model_drive.proofs.Found.{read_found, verify_found, write_found, expand_found, format_found}
-use Rattle.ram_sense.specs.declared.sense.Sense.{Sense}
-use Rattle.ram_sense.specs.declared.answer.Answer.{Answer}
-use Rattle.ram_sense.specs.declared.answer.Answer.TheVariants as answers
-use Rattle.ram_cdb.specs.declared.commands.Command.{Command}
-use Rattle.ram_cdb.specs.declared.commands.Command.TheVariants as commands
+use Rattle.model_sense.specs.declared.sense.Sense.{Sense}
+use Rattle.model_sense.specs.declared.answer.Answer.{Answer}
+use Rattle.model_sense.specs.declared.answer.Answer.TheVariants as answers
+use Rattle.model_cdb.specs.declared.commands.Command.{Command}
+use Rattle.model_cdb.specs.declared.commands.Command.TheVariants as commands
 use Rattle.model_target.specs.declared.host.Host.{Host}
 use Rattle.model_target.specs.Steps.{IsAnswered, TellsStructure, TellsSpares, IsDone, IsAnsweredBy, IsStep}
 

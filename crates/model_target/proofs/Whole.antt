@@ -6,11 +6,11 @@ use Rattle.model_sectors.specs.Discs.{Standing}
 use Rattle.model_drive.specs.Shown.{Shown}
 use Rattle.model_commands.specs.declared.Operation.{Operation}
 use Rattle.model_commands.specs.Commands.{command, operation_of}
-use Rattle.ram_sense.specs.Sense.{sense}
-use Rattle.ram_sense.specs.declared.sense.Sense.{Sense}
-use Rattle.ram_sense.specs.declared.answer.Answer.TheVariants as answers
-use Rattle.ram_cdb.specs.declared.commands.Command.{Command}
-use Rattle.ram_cdb.specs.Decoding.{Refusal, refusal, refusals, unless, meaning, decoded_as, has_refused_field}
+use Rattle.model_sense.specs.Sense.{sense}
+use Rattle.model_sense.specs.declared.sense.Sense.{Sense}
+use Rattle.model_sense.specs.declared.answer.Answer.TheVariants as answers
+use Rattle.model_cdb.specs.declared.commands.Command.{Command}
+use Rattle.model_cdb.specs.Decoding.{Refusal, refusal, refusals, unless, meaning, decoded_as, has_refused_field}
 use Rattle.model_target.specs.declared.host.Host.{Host}
 use Rattle.model_target.specs.Host.{is_told}
 use Rattle.model_target.specs.Judging.{asked_in, asked_by, asked, IsJudgedBy, IsJudged}

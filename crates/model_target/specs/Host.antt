@@ -2,12 +2,12 @@
 use Rattle.std.specs.Prelude.{Bool, true, false, ◌&&◌, not, if◌then◌else◌, Option, Some, None}
 use Rattle.model_commands.specs.declared.Operation.{Operation}
 use Rattle.model_commands.specs.declared.Operation.TheVariants as operations
-use Rattle.ram_sense.specs.Sense.{sense}
-use Rattle.ram_sense.specs.declared.sense.Sense.{Sense}
-use Rattle.ram_sense.specs.declared.answer.Answer.{Answer}
-use Rattle.ram_sense.specs.declared.answer.Answer.TheVariants as answers
-use Rattle.ram_cdb.specs.declared.commands.Command.{Command}
-use Rattle.ram_cdb.specs.declared.commands.Command.TheVariants as commands
+use Rattle.model_sense.specs.Sense.{sense}
+use Rattle.model_sense.specs.declared.sense.Sense.{Sense}
+use Rattle.model_sense.specs.declared.answer.Answer.{Answer}
+use Rattle.model_sense.specs.declared.answer.Answer.TheVariants as answers
+use Rattle.model_cdb.specs.declared.commands.Command.{Command}
+use Rattle.model_cdb.specs.declared.commands.Command.TheVariants as commands
 use Rattle.model_target.specs.declared.host.Host.{Host}
 
 -- after the power was turned off and on again the disc is in, and removal allowed

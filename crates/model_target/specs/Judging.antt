@@ -5,11 +5,11 @@ use Rattle.std.specs.List.{find}
 use Rattle.model_commands.specs.declared.Operation.{Operation}
 use Rattle.model_commands.specs.Commands.{operation_of}
 use Rattle.model_modes.specs.ParameterLists.{IsTaken}
-use Rattle.ram_sense.specs.Sense.{sense}
-use Rattle.ram_sense.specs.declared.sense.Sense.{Sense}
-use Rattle.ram_cdb.specs.declared.commands.Command.{Command}
-use Rattle.ram_cdb.specs.declared.commands.Command.TheVariants as commands
-use Rattle.ram_cdb.specs.Decoding.{Refusal, refusal, unless, decoded_as}
+use Rattle.model_sense.specs.Sense.{sense}
+use Rattle.model_sense.specs.declared.sense.Sense.{Sense}
+use Rattle.model_cdb.specs.declared.commands.Command.{Command}
+use Rattle.model_cdb.specs.declared.commands.Command.TheVariants as commands
+use Rattle.model_cdb.specs.Decoding.{Refusal, refusal, unless, decoded_as}
 use Rattle.model_target.specs.declared.host.Host.{Host}
 use Rattle.model_target.specs.Host.{is_told}
 

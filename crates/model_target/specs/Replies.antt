@@ -1,7 +1,7 @@
 -- The bytes that a target replies, before they are cut to the allocation length.
 use Rattle.std.specs.Prelude.{ℕ, ◌+◌, ◌-◌, Bool, true, false, ◌==◌, if◌then◌else◌, List, [], ◌∷◌, ◌++◌, length, take, replicate, codes}
 use Rattle.byteorder.specs.Endian.{big_bytes}
-use Rattle.ram_sense.specs.Sense.{sense_data}
+use Rattle.model_sense.specs.Sense.{sense_data}
 use Rattle.model_target.specs.declared.host.Host.{Host}
 use Rattle.model_target.specs.Host.{sense_told}
 

@@ -2,8 +2,8 @@
 -- whoever counts answers by their sense.
 use Rattle.std.specs.Prelude.{None, List, [], ◌∷◌}
 use Rattle.std.specs.List.{Contains}
-use Rattle.ram_sense.specs.declared.sense.Sense.{Sense}
-use Rattle.ram_sense.specs.Sense.{sense}
+use Rattle.model_sense.specs.declared.sense.Sense.{Sense}
+use Rattle.model_sense.specs.Sense.{sense}
 
 -- they rise by key, code and qualifier (after INCITS MMC)
 abbrev pub senses : List Sense

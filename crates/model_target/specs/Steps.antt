@@ -28,12 +28,12 @@ use Rattle.model_drive.specs.Formats.{FormatCause, FormatStep}
 use Rattle.model_drive.specs.Expands.{ExpandCause, ExpandStep}
 use Rattle.model_drive.specs.Power.{PowerCause, PowerStep}
 use Rattle.model_drive.specs.Faults.{faults}
-use Rattle.ram_sense.specs.Sense.{sense, sense_at}
-use Rattle.ram_sense.specs.declared.sense.Sense.{Sense}
-use Rattle.ram_sense.specs.declared.answer.Answer.{Answer}
-use Rattle.ram_sense.specs.declared.answer.Answer.TheVariants as answers
-use Rattle.ram_cdb.specs.declared.commands.Command.{Command}
-use Rattle.ram_cdb.specs.declared.commands.Command.TheVariants as commands
+use Rattle.model_sense.specs.Sense.{sense, sense_at}
+use Rattle.model_sense.specs.declared.sense.Sense.{Sense}
+use Rattle.model_sense.specs.declared.answer.Answer.{Answer}
+use Rattle.model_sense.specs.declared.answer.Answer.TheVariants as answers
+use Rattle.model_cdb.specs.declared.commands.Command.{Command}
+use Rattle.model_cdb.specs.declared.commands.Command.TheVariants as commands
 use Rattle.model_target.specs.declared.host.Host.{Host}
 use Rattle.model_target.specs.Host.{powered_on, done_by, with_kept_sense, attention_after}
 use Rattle.model_target.specs.Judging.{IsJudged}

@@ -1,6 +1,6 @@
 //! What a target remembers for its host between two commands.
 
-use ram_sense::Sense;
+use model_sense::Sense;
 
 /// What a target remembers for its host between two commands. (This project's own.)
 #[derive(Clone, Copy, Debug, PartialEq, Eq)]

@@ -2,14 +2,15 @@
 #![tactic(auto)]
 
 ghost use Rattle.std.specs.Prelude.{◌≡◌, ◌≤◌, ℕ, Bool, List, ◌∷◌, [], true, false, None, Some, length};
-ghost use Rattle.ram_sense.specs.Sense.{sense};
-ghost use Rattle.ram_sense.specs.declared.sense.Sense.{Sense as AnySense};
+ghost use Rattle.model_sense.specs.Sense.{sense, sense_at};
+ghost use Rattle.model_sense.specs.declared.sense.Sense.{Sense as AnySense};
 ghost use Rattle.model_commands.specs.declared.Operation.TheVariants.{TestUnitReady, Inquiry};
 ghost use Rattle.model_target.specs.declared.host.Host.{Host};
 ghost use Rattle.model_target.specs.Host.{powered_on, sense_told, attention_after};
-ghost use Rattle.ram_sense.specs.declared.answer.Answer.{Answer as Answered};
-ghost use Rattle.ram_sense.specs.declared.answer.Answer.TheVariants as answers;
+ghost use Rattle.model_sense.specs.declared.answer.Answer.{Answer as Answered};
+ghost use Rattle.model_sense.specs.declared.answer.Answer.TheVariants as answers;
 ghost use Rattle.model_drive.specs.Shown.{Shown, IsOn, StandsFor};
+ghost use Rattle.model_drive.specs.Writes.{LacksSpare};
 ghost use Rattle.model_target.specs.Steps.{IsStep, AnswerFaults};
 ghost use Rattle.model_sectors.specs.Discs.{Standing};
 ghost use Rattle.model_commands.specs.declared.Operation.{Operation};
@@ -66,6 +67,13 @@ pub fn a_command_that_is_checked_has_a_known_sense()
     ensures { (old new : Shown) (host later : Host) (cdb payload data_in : List ℕ) (why : AnySense)
         → IsStep old new (StandsFor old) (StandsFor new) host later cdb payload (answers.Check why) data_in
         → IsKnownSense why }
+{}
+
+/// A command that is told that no spare is left (3/32/00) is a write that found none for a block.
+pub fn a_command_lacks_a_spare_where_a_write_does()
+    ensures { (old new : Shown) (host later : Host) (cdb payload data_in : List ℕ) (named : ℕ)
+        → IsStep old new (StandsFor old) (StandsFor new) host later cdb payload
+        (answers.Check (sense_at 0x3 0x32 0x00 named)) data_in → (lba n : ℕ) × LacksSpare old new lba n named }
 {}
 
 /// The replies of INQUIRY, of READ CAPACITY with 304 sectors, of GET CONFIGURATION with the disc in and out, of READ FORMAT

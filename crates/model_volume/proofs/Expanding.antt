@@ -6,12 +6,14 @@ use Rattle.std.specs.List.Sorted.{IsStrictlyIncreasing}
 use Rattle.std.proofs.lemmas.Bool.{cases_Bool, cases_eq, cond-true, cond-false, true≢false, eq-eqb}
 use Rattle.std.proofs.lemmas.List.{get_or-take, get_or-drop, take-take, drop-take}
 use Rattle.std.proofs.lemmas.List.Elements.{Contains-append_cases, Contains-append_left, Contains-append_right}
-use Rattle.model_geometry.specs.Geometry.{Shape, dds_block, sdl_block}
+use Rattle.model_geometry.specs.Geometry.{Shape, dds_block}
 use Rattle.model_lists.specs.declared.sdl.SdlEntry.{SdlEntry}
+use Rattle.model_lists.specs.declared.versions.Version.{Version}
 use Rattle.model_lists.specs.Values.{Dds, defectives, pair, retired}
-use Rattle.model_lists.specs.Texts.{IsDdsText, IsSdlText}
+use Rattle.model_lists.specs.Texts.{IsDdsText}
 use Rattle.model_medium.specs.Cells.{Cell, cell_at}
-use Rattle.model_copies.specs.Copies.{Settled, AreBetween}
+use Rattle.model_copies.specs.Copies.{Settled}
+use Rattle.model_copies.specs.Parts.{SdlIsBetween}
 use Rattle.model_places.specs.Places.{Lists, unreplaced, is_listed, unslipped, logical_block, logical_blocks, logical_count, primary_count, primary_spares, supplementary_spares, spares, home_of}
 use Rattle.model_places.specs.Valid.{IsValidPdl, IsValidSsa, AreValid}
 use Rattle.model_places.proofs.Homes.{Contains-first, Contains-later}
@@ -84,7 +86,7 @@ module _ (shape : Shape) (dds : Dds) (small big : ℕ) (primary : IsValidPdl sha
         | inr kept ↦ subst (Contains es) (sym kept.0 ∙ old.2) old.1
       ]
 
-  expands : (es : List SdlEntry) → IsValidSsa shape big → ByMembers shape dds small es → ByMembers shape dds big (map (entry_expanded shape dds big) es)
+  expands : {version : Version} (es : List SdlEntry) → IsValidSsa shape version big → ByMembers shape dds small es → ByMembers shape dds big (map (entry_expanded shape dds big) es)
   expands es area m = record {
     rising = subst IsStrictlyIncreasing (sym (same_blocks es)) m.rising;
     within = λ x has. let old = from_old es x has in subst (Contains (unslipped shape dds)) (sym (same_block old.0) ∙ ap (λ (y : SdlEntry). y.defective) old.2) (m.within old.0 old.1);
@@ -115,11 +117,12 @@ module _ (shape : Shape) (dds : Dds) (small big : ℕ) (primary : IsValidPdl sha
     | inr ne ↦ later (entry_expanded shape dds big e) (map (entry_expanded shape dds big) es) b (λ same. ne (sym (same_block e) ∙ same)) ∙ replaces_same es b not ∙ sym (later e es b ne)
   ]
 
-module _ (shape : Shape) (lists : Lists) (ssa : ℕ) (valid : AreValid shape lists) (area : IsValidSsa shape ssa) (grows : lists.sdl.ssa ≤ ssa) where
+module _ (shape : Shape) (lists : Lists) (ssa : ℕ) (valid : AreValid shape lists) (area : IsValidSsa shape lists.sdl.version ssa) (grows : lists.sdl.ssa ≤ ssa) where
   pub expanded_valid : AreValid shape (lists_expanded shape lists ssa)
   expanded_valid = record {
     primary = valid.primary;
     together = record {
+      same_version = valid.together.same_version;
       same_counter = valid.together.same_counter;
       secondary = from_members shape (lists_expanded shape lists ssa) area
           (expands shape lists.dds lists.sdl.ssa ssa valid.primary grows lists.sdl.entries area (by_members shape lists valid.together.secondary));
@@ -152,11 +155,11 @@ module _ (shape : Shape) (lists : Lists) (ssa : ℕ) (valid : AreValid shape lis
 
   -- while the secondary list is written, the disc or its first blocks fit
   pub expand_covers : (old new : List Cell) (disc : List ℕ) → OnlyLists shape old new
-      → Settled IsDdsText (dds_block shape) new lists.dds → AreBetween IsSdlText (sdl_block shape) new lists.sdl ((lists_expanded shape lists ssa).sdl)
+      → Settled IsDdsText (dds_block shape) new lists.dds → SdlIsBetween shape new lists.sdl ((lists_expanded shape lists ssa).sdl)
       → FitsUnder shape old lists disc → Cover shape new (disc ∷ disc_cut shape (lists_expanded shape lists ssa) disc ∷ [])
   expand_covers old new disc only settled between fits other given =
       let now = fits_still shape old new only lists disc valid fits in
-      elim (pair_between shape new lists.dds lists.sdl ((lists_expanded shape lists ssa).sdl) other settled between given) [
+      elim (pair_between shape new lists.dds lists.sdl ((lists_expanded shape lists ssa).sdl) other settled valid.together.same_version between given) [
         | inl is_old ↦ inl (subst (λ (l : Lists). FitsUnder shape new l disc) (sym is_old) now)
         | inr is_new ↦ inr (inl (subst (λ (l : Lists). FitsUnder shape new l (disc_cut shape (lists_expanded shape lists ssa) disc)) (sym is_new) (cut_fits new disc now)))
       ]

@@ -4,6 +4,8 @@ pub mod SdlDecided
 pub mod DdsDecided
 pub mod ValidDecided
 pub mod CopiesDecided
+pub mod Order
+pub mod PartsDecided
 pub mod Starting
 pub mod OneStart
 pub mod Choosing
@@ -12,12 +14,13 @@ pub mod LookUps
 pub mod Moved
 pub mod Updates
 pub mod ListCells
-pub mod Losses
-pub mod SampleFacts
 pub mod Different
 pub mod OneProof
-pub mod ChosenFirst
 pub mod Validity
 pub mod NewLists
 pub mod Shrinks
 pub mod Expanding
+pub mod SampleFacts
+pub mod Losses
+pub mod ChosenFirst
+pub mod WholeStarts

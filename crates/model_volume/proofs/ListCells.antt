@@ -2,8 +2,11 @@
 use Rattle.std.specs.Prelude.{◌≡◌, ℕ, zero, suc, ◌⊎◌, List, [], ◌∷◌}
 use Rattle.std.specs.List.{Contains}
 use Rattle.std.proofs.Common.{sym, ap, inl, inr, subst, arith}
-use Rattle.model_geometry.specs.Geometry.{Shape, data_blocks, dds_block, sdl_block}
+use Rattle.std.specs.Prelude.{◌+◌, ◌<◌, ◌≤◌, eqb, cond}
+use Rattle.std.proofs.lemmas.Bool.{cond_both}
+use Rattle.model_geometry.specs.Geometry.{Shape, lead_out, data_blocks, dds_block, sdl_block, sdl_second_block}
 use Rattle.model_geometry.proofs.ListBlocks.{no_data_block_dds, no_data_block_sdl}
+use Rattle.model_geometry.proofs.DataBlocks.{no_data_block_outside}
 use Rattle.model_medium.specs.Cells.{Cell, Dead, cell_at}
 use Rattle.model_copies.specs.Copies.{IsArea, IsSeen}
 use Rattle.model_copies.proofs.CopyFacts.{area_cases}
@@ -31,6 +34,15 @@ sdl_listed shape area is = elim (area_cases area is) [
   | inr (inr (inl e)) ↦ (6, omega arith, ap (sdl_block shape) (sym e))
   | inr (inr (inr e)) ↦ (7, omega arith, ap (sdl_block shape) (sym e))
 ]
+
+-- the second part's block of an area lies in the lead-in or the lead-out
+pub no_data_block_second : (shape : Shape) (area : ℕ) → ¬ Contains (data_blocks shape) (sdl_second_block shape area)
+no_data_block_second shape area =
+    let P : ℕ → Type 0 = λ x. (x < 8) ⊎ (lead_out shape ≤ x) in
+    no_data_block_outside shape (sdl_second_block shape area)
+    (cond_both (eqb area 1) 4 (cond (eqb area 2) 5 (cond (eqb area 3) (lead_out shape + 4) (lead_out shape + 5))) P (λ _. inl (omega arith))
+    (λ _. cond_both (eqb area 2) 5 (cond (eqb area 3) (lead_out shape + 4) (lead_out shape + 5)) P (λ _. inl (omega arith))
+    (λ _. cond_both (eqb area 3) (lead_out shape + 4) (lead_out shape + 5) P (λ _. inr (omega arith)) (λ _. inr (omega arith)))))
 
 -- a list block is the block of an area, of the one list or the other
 pub list_block_cases : (shape : Shape) (block : ℕ) → IsListBlock shape block
@@ -67,6 +79,9 @@ dds_seen shape old seen new sees area is = elim (sees (dds_block shape area)) [ 
 
 pub sdl_seen : (shape : Shape) (old seen new : List Cell) → AreSeen shape old seen new → IsSeen (sdl_block shape) old seen new
 sdl_seen shape old seen new sees area is = elim (sees (sdl_block shape area)) [ inl same ↦ inl same | inr dead ↦ inr (dead.0, dead.1) ]
+
+pub second_seen : (shape : Shape) (old seen new : List Cell) → AreSeen shape old seen new → IsSeen (sdl_second_block shape) old seen new
+second_seen shape old seen new sees area is = elim (sees (sdl_second_block shape area)) [ inl same ↦ inl same | inr dead ↦ inr (dead.0, dead.1) ]
 
 -- cells that are now as they were seen have lost copies at most
 pub loses_seen : (shape : Shape) (old new : List Cell) → AreSeen shape old new new → LosesListCells shape old new

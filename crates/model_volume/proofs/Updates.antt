@@ -4,11 +4,15 @@ use Rattle.std.specs.List.{Contains}
 use Rattle.std.proofs.lemmas.Bool.{cases_eq, cond_both}
 use Rattle.model_geometry.specs.Geometry.{Shape, lead_out, data_blocks, dds_block, sdl_block}
 use Rattle.model_geometry.proofs.ListBlocks.{no_data_block_dds, no_data_block_sdl, lead_out_late}
-use Rattle.model_lists.specs.Texts.{IsDdsText, IsSdlText}
+use Rattle.model_lists.specs.Texts.{IsDdsText}
 use Rattle.model_medium.specs.Cells.{Cell, Good, IsGood, cell_at}
 use Rattle.model_sectors.specs.Discs.{Agrees, block_of}
 use Rattle.model_sectors.proofs.Fitting.{agrees_not_good}
-use Rattle.model_copies.specs.Copies.{Settled, AreBetween, HoldsOrDead}
+use Rattle.model_copies.specs.Copies.{Settled, HoldsOrDead}
+use Rattle.model_geometry.specs.Geometry.{sdl_second_block}
+use Rattle.model_copies.specs.Parts.{SdlIsBetween}
+use Rattle.model_copies.proofs.SdlParts.{settled_same}
+use Rattle.model_volume.proofs.ListCells.{no_data_block_second}
 use Rattle.model_places.specs.Places.{Lists, logical_count, home_of}
 use Rattle.model_places.specs.Valid.{AreValid}
 use Rattle.model_volume.specs.Given.{AreSettled}
@@ -101,8 +105,8 @@ module _ (shape : Shape) (lists : Lists) (valid : AreValid shape lists) (i : ℕ
 
       -- In an update of the second list, one of the two discs fits under the lists that are given, whichever these are.
       pub cover_between : AreSettled shape old lists → ¬ IsGood (cell_at new (home_of shape lists i))
-          → AreBetween IsSdlText (sdl_block shape) new lists.sdl (sdl_moved shape lists i failed spare) → Cover shape new (disc ∷ disc' ∷ [])
-      cover_between settled dead between other given = elim (pair_between shape new lists.dds lists.sdl (sdl_moved shape lists i failed spare) other (dds_settled settled) between given) [
+          → SdlIsBetween shape new lists.sdl (sdl_moved shape lists i failed spare) → Cover shape new (disc ∷ disc' ∷ [])
+      cover_between settled dead between other given = elim (pair_between shape new lists.dds lists.sdl (sdl_moved shape lists i failed spare) other (dds_settled settled) valid.together.same_version between given) [
         | inl before ↦ inl (subst (λ (l : Lists). FitsUnder shape new l disc) (sym before) (fits_before disc (inr dead) fits))
         | inr after ↦ inr (inl (subst (λ (l : Lists). FitsUnder shape new l disc') (sym after) fits_moved))
       ]
@@ -111,7 +115,7 @@ module _ (shape : Shape) (lists : Lists) (valid : AreValid shape lists) (i : ℕ
     pub cover_settled : AreSettled shape new lists → (cell_at new (home_of shape lists i) ≡ cell_at old (home_of shape lists i)) ⊎ (cell_at new (home_of shape lists i) ≡ Good bytes) ⊎ ¬ IsGood (cell_at new (home_of shape lists i))
         → Cover shape new (disc ∷ disc' ∷ [])
     cover_settled settled left other given =
-        subst (λ (l : Lists). SomeFit shape new l (disc ∷ disc' ∷ [])) (sym (settled_alone shape new lists other settled given)) (here left)
+        subst (λ (l : Lists). SomeFit shape new l (disc ∷ disc' ∷ [])) (sym (settled_alone shape new lists other settled valid.together.same_version given)) (here left)
       where
         here : (cell_at new (home_of shape lists i) ≡ cell_at old (home_of shape lists i)) ⊎ (cell_at new (home_of shape lists i) ≡ Good bytes) ⊎ ¬ IsGood (cell_at new (home_of shape lists i)) → SomeFit shape new lists (disc ∷ disc' ∷ [])
         here (inl same) = inl (fits_before disc (inl same) fits)
@@ -131,5 +135,5 @@ module _ (shape : Shape) (lists : Lists) (valid : AreValid shape lists) (i : ℕ
   pub settled_kept : AreSettled shape old lists → AreSettled shape new lists
   settled_kept settled = record {
     dds = λ area is. subst (λ (c : Cell). HoldsOrDead IsDdsText c lists.dds) (sym (list_same (dds_block shape area) (no_data_block_dds shape area))) (settled.dds area is);
-    sdl = λ area is. subst (λ (c : Cell). HoldsOrDead IsSdlText c lists.sdl) (sym (list_same (sdl_block shape area) (no_data_block_sdl shape area))) (settled.sdl area is);
+    sdl = settled_same shape old new lists.sdl (λ area is. list_same (sdl_block shape area) (no_data_block_sdl shape area)) (λ area is. list_same (sdl_second_block shape area) (no_data_block_second shape area)) settled.sdl;
   }

@@ -7,10 +7,12 @@ ghost use Rattle.ram_bytes.specs.declared.cdb.TheConstants.{CDB_LIMIT};
 
 pub mod block;
 pub mod cdb;
+pub mod digits;
 pub mod number;
 
 pub use block::{BLOCK_BYTES, Block, SECTOR_BYTES, SECTORS_PER_BLOCK};
 pub use cdb::{CDB_LIMIT, Cdb};
+pub use digits::encode_hex;
 pub use number::{get_u16, get_u24, get_u32, is_zero, put_u16, put_u24, put_u32};
 
 /// The numbers that contracts share with the code.
@@ -20,6 +22,3 @@ pub fn limits_are_these()
     ensures block { BLOCK_BYTES ≡ 32768 }
     ensures command_block { CDB_LIMIT ≡ 16 }
 {}
-
-#[cfg(test)]
-mod tests;

@@ -4,10 +4,10 @@ use Rattle.std.specs.Bool.{IsFalse}
 use Rattle.std.specs.List.{find}
 use Rattle.model_commands.specs.declared.Operation.{Operation}
 use Rattle.model_commands.specs.Commands.{command}
-use Rattle.ram_sense.specs.Sense.{sense}
-use Rattle.ram_sense.specs.declared.sense.Sense.{Sense}
-use Rattle.ram_cdb.specs.declared.commands.Command.{Command}
-use Rattle.ram_cdb.specs.Decoding.{refusal, unless, decoded_by, has_refused_field, asks_for_saved_values, has_wrong_length, has_refused_parameters, meaning}
+use Rattle.model_sense.specs.Sense.{sense}
+use Rattle.model_sense.specs.declared.sense.Sense.{Sense}
+use Rattle.model_cdb.specs.declared.commands.Command.{Command}
+use Rattle.model_cdb.specs.Decoding.{refusal, unless, decoded_by, has_refused_field, asks_for_saved_values, has_wrong_length, has_refused_parameters, meaning}
 
 -- the answer by four tests
 abbrev pub answer : (field saved length list : Bool) → Command → Result Command Sense

@@ -10,8 +10,8 @@ use Rattle.model_commands.specs.Commands.{command, field}
 use Rattle.model_commands.specs.Fields.{bits}
 use Rattle.model_modes.specs.Pages.{is_page_code}
 use Rattle.model_drive.specs.declared.Kind.{Kind}
-use Rattle.ram_cdb.specs.declared.commands.Command.TheVariants as commands
-use Rattle.ram_cdb.specs.Decoding.{format_type, format_kind, has_refused_field, asks_for_saved_values, has_wrong_length, meaning, IsWithinLimits}
+use Rattle.model_cdb.specs.declared.commands.Command.TheVariants as commands
+use Rattle.model_cdb.specs.Decoding.{format_type, format_kind, has_refused_field, asks_for_saved_values, has_wrong_length, meaning, IsWithinLimits}
 
 -- a command block that is long enough
 pub not_short : (long found bytes : ℕ) → found ≡ bytes → found ≤ long → nat_lt long bytes ≡ false

@@ -2,7 +2,7 @@
 use Rattle.std.specs.Prelude.{ℕ, IsTrue, List, length}
 use Rattle.std.specs.Bool.{IsFalse}
 use Rattle.model_commands.specs.declared.Operation.{Operation}
-use Rattle.ram_cdb.specs.Decoding.{has_bad_field, asks_for_saved_values, has_wrong_length, has_refused_parameters}
+use Rattle.model_cdb.specs.Decoding.{has_bad_field, asks_for_saved_values, has_wrong_length, has_refused_parameters}
 
 -- the command block is too short, or a field has a value that is not taken (this project's own, as all here)
 abbrev pub HasBadField : Operation → (cdb : List ℕ) → Type 0

@@ -5,13 +5,13 @@ ghost use Rattle.model_commands.specs.Commands.{command, field};
 ghost use Rattle.model_commands.specs.Fields.{flag, bits};
 ghost use Rattle.model_modes.specs.Pages.{is_page_code};
 ghost use Rattle.model_commands.specs.declared.Operation.TheVariants.{FormatUnit};
-ghost use Rattle.ram_cdb.specs.declared.commands.Command.TheVariants as commands;
-ghost use Rattle.ram_cdb.specs.Decoding.{decoded, decoded_as, has_refused_field, asks_for_saved_values, has_wrong_length, has_refused_parameters, HasItsList, meaning, IsWithinLimits};
+ghost use Rattle.model_cdb.specs.declared.commands.Command.TheVariants as commands;
+ghost use Rattle.model_cdb.specs.Decoding.{decoded, decoded_as, has_refused_field, asks_for_saved_values, has_wrong_length, has_refused_parameters, HasItsList, meaning, IsWithinLimits};
 
-use crate::commands::{Command, Kind};
-use crate::{TRANSFER_LIMIT, command_bytes, data_bytes, operation};
+use crate::{Command, Kind, TRANSFER_LIMIT, command_bytes, data_bytes, operation};
 use model_commands::Operation;
 use ram_bytes::{Cdb, get_u16, get_u32};
+use ram_modes::{is_no_list_length, is_page_code};
 use ram_sense::Sense;
 use ram_sense::codes::{
     INVALID_FIELD_IN_COMMAND, INVALID_FIELD_IN_PARAMETERS, INVALID_OPERATION_CODE,
@@ -97,7 +97,7 @@ fn has_wrong_length(operation: Operation, cdb: &[u8], given: usize) -> bool
 {
     match operation {
         Operation::ModeSelect10 => {
-            given != data_bytes(operation, cdb) || !matches!(given, 0 | 8 | 20 | 32)
+            given != data_bytes(operation, cdb) || is_no_list_length(given)
         }
         _ => given != data_bytes(operation, cdb),
     }
@@ -244,13 +244,3 @@ fn bits(bytes: &[u8], at: usize, place: u32, width: u32) -> u8
 {
     (bytes[at] >> place) % (1 << width)
 }
-
-// Whether this code asks for a mode page.
-fn is_page_code(page: u8) -> bool
-    ensures { result ≡ is_page_code page }
-{
-    matches!(page, 0x01 | 0x08 | 0x3f)
-}
-
-#[cfg(test)]
-mod tests;

@@ -2,8 +2,8 @@
 ghost use Rattle.std.specs.Prelude.{◌≡◌, ℕ, ◌↔◌, None, Ok, Err, List};
 ghost use Rattle.model_commands.specs.declared.Operation.{Operation as Op};
 ghost use Rattle.model_commands.specs.Commands.{operation_of};
-ghost use Rattle.ram_sense.specs.Sense.{sense};
-ghost use Rattle.ram_cdb.specs.Decoding.{decoded, decoded_as, meaning};
+ghost use Rattle.model_sense.specs.Sense.{sense};
+ghost use Rattle.model_cdb.specs.Decoding.{decoded, decoded_as, meaning};
 ghost use Rattle.ram_cdb.specs.Refusals.{HasBadField, AsksForSaved, HasBadLength, HasBadList, IsAccepted};
 
 /// Each reason to refuse a command is the answer exactly where it applies and none before it does; and a command is asked

@@ -6,12 +6,11 @@ ghost use Rattle.model_commands.specs.declared.TheConstants.{DATA_LIMIT, TRANSFE
 ghost use Rattle.ram_cdb.specs.declared.TheConstants.{FORMAT_LIST_BYTES};
 ghost use Rattle.model_commands.specs.Commands.{command, operation_with, operation_of, out_length_of, data_length};
 
-pub mod commands;
 pub mod decoding;
 pub mod laws;
 
-pub use commands::{Command, Kind};
 pub use decoding::{decode, decode_as};
+pub use model_cdb::{Command, Kind};
 use model_commands::Operation;
 pub use model_commands::{DATA_LIMIT, TRANSFER_LIMIT};
 use ram_bytes::{Cdb, SECTOR_BYTES, get_u16, get_u32};
@@ -140,6 +139,3 @@ fn sectors_bytes(count: u32) -> usize
         0
     }
 }
-
-#[cfg(test)]
-mod tests;

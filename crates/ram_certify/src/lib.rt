@@ -6,6 +6,3 @@ mod blocks;
 mod certification;
 
 pub use certification::{Certified, certify, zero_block};
-
-#[cfg(test)]
-mod tests;

@@ -31,6 +31,7 @@ one_text kinds.Dds (DdsValue v) x y a b = dds_texts.one_text v x y a b
 one_text kinds.Dds (SdlValue v) x y a b = absurd a
 one_text kinds.Sdl (DdsValue v) x y a b = absurd a
 one_text kinds.Sdl (SdlValue v) x y a b = sdl_texts.one_text v x y a b
+one_text kinds.SdlTwo v x y a b = absurd a
 
 -- ---- one cell
 
@@ -154,11 +155,11 @@ module _ {M : Type 0} (world : M → World) (block_count : M → ℕ) (reaches :
       → PurposeRule world reaches kind shape old new value purpose (updated_of ended)
   purpose_rule purposes.Update (Ok zero) h = (update_ends 0 h, λ area is. h.lost refl area is.0 is.1)
   purpose_rule purposes.Update (Ok (suc n)) h = (update_ends (suc n) h, keeps_by n h.done h.counts)
-  purpose_rule purposes.Update (Err stops.Cut) h = (cut_by 8 h.stops (record { as_known = h.as_known; others = h.others }), update_leaves h.left)
+  purpose_rule purposes.Update (Err stops.Cut) h = (cut_by 8 h.stops (record { as_known = h.as_known; others = h.others }), update_leaves h.left, h.stays_dead)
   purpose_rule purposes.Update (Err stops.Off) h = h.stops
-  purpose_rule purposes.Update (Err stops.Fault) h = (fault_by 8 h.stops (record { as_known = h.as_known; others = h.others }), update_leaves h.left)
+  purpose_rule purposes.Update (Err stops.Fault) h = (fault_by 8 h.stops (record { as_known = h.as_known; others = h.others }), update_leaves h.left, h.stays_dead)
   purpose_rule purposes.Repair (Ok zero) h = (repair_ends 0 h, λ area is. h.lost refl area is.0 is.1)
   purpose_rule purposes.Repair (Ok (suc n)) h = (repair_ends (suc n) h, keeps_by n h.done h.counts)
-  purpose_rule purposes.Repair (Err stops.Cut) h = let both = repair_leaves h.left in (cut_by 12 h.stops (record { as_known = h.as_known; others = h.others }), both.0, both.1)
+  purpose_rule purposes.Repair (Err stops.Cut) h = let both = repair_leaves h.left in (cut_by 12 h.stops (record { as_known = h.as_known; others = h.others }), both.0, h.stays_dead, both.1)
   purpose_rule purposes.Repair (Err stops.Off) h = h.stops
-  purpose_rule purposes.Repair (Err stops.Fault) h = let both = repair_leaves h.left in (fault_by 12 h.stops (record { as_known = h.as_known; others = h.others }), both.0, both.1)
+  purpose_rule purposes.Repair (Err stops.Fault) h = let both = repair_leaves h.left in (fault_by 12 h.stops (record { as_known = h.as_known; others = h.others }), both.0, h.stays_dead, both.1)

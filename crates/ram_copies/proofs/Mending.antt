@@ -48,9 +48,9 @@ not_text false cells block read text none gives other exact = dead_not_good (cel
 module _ {M : Type 0} (world : M → World) (block_count : M → ℕ) (reaches : M → M → ℕ → Type 0) (laws : MediumLaws world block_count reaches) (old : M) (block : ℕ) (text : List ℕ) (on : IsTrue (world old).power) where
   -- the read was stopped
   pub stops_reading : (new : M) (into into' : List ℕ) (stop : Stop) → StoppedRead (world old) (world new) block into into' stop → Stops world reaches old new 1 stop → StopsMending world reaches old new block text stop
-  stops_reading new into into' stops.Cut h stopped = record { stops = stops_within world block_count reaches laws old new 1 3 stops.Cut (omega arith) stopped; as_known = h.one.as_known; others = h.one.others; left = same_may (cell_at (world old).cells block) (cell_at (world new).cells block) text h.left }
+  stops_reading new into into' stops.Cut h stopped = record { stops = stops_within world block_count reaches laws old new 1 3 stops.Cut (omega arith) stopped; as_known = h.one.as_known; others = h.one.others; left = same_may (cell_at (world old).cells block) (cell_at (world new).cells block) text h.left; stays_dead = h.one.stays_dead }
   stops_reading new into into' stops.Off h stopped = absurd (h.0.was_off on)
-  stops_reading new into into' stops.Fault h stopped = record { stops = stops_within world block_count reaches laws old new 1 3 stops.Fault (omega arith) stopped; as_known = h.one.as_known; others = h.one.others; left = same_may (cell_at (world old).cells block) (cell_at (world new).cells block) text h.left }
+  stops_reading new into into' stops.Fault h stopped = record { stops = stops_within world block_count reaches laws old new 1 3 stops.Fault (omega arith) stopped; as_known = h.one.as_known; others = h.one.others; left = same_may (cell_at (world old).cells block) (cell_at (world new).cells block) text h.left; stays_dead = h.one.stays_dead }
 
   -- the copy is exactly the text
   pub mended_as_was : (new : M) (read : List ℕ) → ReadsCell (world old) (world new) block read → Continues world reaches old new 1 → read ≡ text → HasMendedCopy world reaches old new block text true
@@ -100,6 +100,7 @@ module _ {M : Type 0} (world : M → World) (block_count : M → ℕ) (reaches :
       as_known = stopped.as_known ∙ one.as_known;
       others = both stopped.others;
       left = (may_then (cell_at (world old).cells block) (cell_at (world mid).cells block) (cell_at (world new).cells block) text same stopped.left, λ exact. inr (stopped.stays_dead (other exact)));
+      stays_dead = λ dead. stopped.stays_dead (one.stays_dead dead);
     }
 
     written_again : (result : Result Bool Stop) → MatchResult result (λ kept. PutsCopy world reaches mid new block text kept) (λ stop. StopsPutting world reaches mid new block text stop)

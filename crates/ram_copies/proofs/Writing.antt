@@ -53,10 +53,11 @@ module _ {M : Type 0} (world : M → World) (reaches : M → M → ℕ → Type 
     pub as_known : (world new).known ≡ (world old).known
     pub others : (other : ℕ) → other ≢ block → cell_at (world new).cells other ≡ cell_at (world old).cells other
     pub left : StopLeaves purpose (cell_at (world old).cells block) text (cell_at (world new).cells block)
+    pub stays_dead : cell_at (world old).cells block ≡ Dead → cell_at (world new).cells block ≡ Dead
 
   copy_left : (purpose : Purpose) (stop : Stop) → StopsAtCopy world reaches old new block text purpose stop → CopyIsLeft purpose
-  copy_left purposes.Update stop h = record { as_known = h.as_known; others = h.others; left = h.left }
-  copy_left purposes.Repair stop h = record { as_known = h.as_known; others = h.others; left = h.left }
+  copy_left purposes.Update stop h = record { as_known = h.as_known; others = h.others; left = h.left; stays_dead = h.stays_dead }
+  copy_left purposes.Repair stop h = record { as_known = h.as_known; others = h.others; left = h.left; stays_dead = h.stays_dead }
 
 -- a stopped call may leave a copy that it is done with
 done_leaves : (purpose : Purpose) (was cell : Cell) (text : List ℕ) → (cell ≡ Good text) ⊎ (cell ≡ Dead) → StopLeaves purpose was text cell
@@ -110,6 +111,11 @@ module _ {M : Type 0} (world : M → World) (block_count : M → ℕ) (reaches :
             (inr (λ was. how.1 (as_known ∙ known) (next_was ∙ was.0, was.1), refl));
       }
     ]
+
+    -- what was dead before is dead then
+    pub went_dead : (purpose : Purpose) → UsesUpTo world reaches old mid place text purpose k → (block : ℕ) → cell_at (world old).cells block ≡ Dead → cell_at (world mid).cells block ≡ Dead
+    went_dead purposes.Update so_far block was = (laws.follows old mid (2 * k) so_far.reach).lasts.stays_dead block was
+    went_dead purposes.Repair so_far block was = (laws.follows old mid (k + 2 * so_far.rewritten) so_far.continues.reach).lasts.stays_dead block was
 
     -- stopped at the next copy
     last_uses : (purpose : Purpose) → UsesUpTo world reaches old mid place text purpose k → (stop : Stop) → StopsAtCopy world reaches mid new (place (k + 1)) text purpose stop → Stops world reaches old new (most_uses purpose) stop
@@ -189,6 +195,7 @@ module _ {M : Type 0} (world : M → World) (block_count : M → ℕ) (reaches :
       as_known = is.as_known ∙ so_far.as_known;
       others = λ block apart. (is.others block (apart (k + 1) (omega arith, omega arith)) ∙ so_far.others block (λ area some most. apart area (some, omega arith)));
       left = each;
+      stays_dead = each_dead;
     }
       where
         is : CopyIsLeft world reaches mid new (list_block shape (k + 1) list) text purpose
@@ -210,3 +217,19 @@ module _ {M : Type 0} (world : M → World) (block_count : M → ℕ) (reaches :
                 ∙ so_far.others (list_block shape area list) (λ other some most same. (places_apart shape list other area some (omega arith) here.1 (sym same))))
           ]
         ]
+
+        each_dead : (area : ℕ) → IsArea area → cell_at (world old).cells (list_block shape area list) ≡ Dead → cell_at (world new).cells (list_block shape area list) ≡ Dead
+        each_dead area here was =
+            let at_mid = went_dead world block_count reaches laws old (λ (a : ℕ). list_block shape a list) text mid new k small purpose so_far.uses (list_block shape area list) was in
+            elim (cases_eq area (k + 1)) [
+              | inl e ↦ subst (λ (a : ℕ). cell_at (world new).cells (list_block shape a list) ≡ Dead) (sym e)
+                  (is.stays_dead (ap (λ (a : ℕ). cell_at (world mid).cells (list_block shape a list)) (sym e) ∙ at_mid))
+              | inr ne ↦ elim (cases_lt area (k + 1)) [
+                | inl less ↦
+                    let early : area ≤ k = omega arith in
+                    is.others (list_block shape area list) (earlier area here.0 early) ∙ at_mid
+                | inr more ↦
+                    let past : k + 1 < area = omega arith in
+                    is.others (list_block shape area list) (λ same. (places_apart shape list (k + 1) area (omega arith) past here.1 (sym same))) ∙ at_mid
+              ]
+            ]

@@ -1,7 +1,7 @@
 -- What an update and a repair of a list do, by their answers: for `update`, `repair` and `put_list`.
 use Rattle.std.specs.Prelude.{◌≡◌, ◌≢◌, ℕ, zero, suc, ◌+◌, ◌*◌, ◌≤◌, true, IsTrue, Result, Ok, Err}
 use Rattle.model_geometry.specs.Geometry.{Shape}
-use Rattle.model_medium.specs.Cells.{IsSameOrDead, cell_at}
+use Rattle.model_medium.specs.Cells.{Dead, IsSameOrDead, cell_at}
 use Rattle.model_medium.specs.World.{World, UseContinues, IsCut, HasFailed, IsOff}
 use Rattle.model_stops.specs.Stops.{Continues, Stops}
 use Rattle.model_stops.specs.declared.Stop.{Stop}
@@ -48,6 +48,11 @@ module _ {M : Type 0} (world : M → World) (reaches : M → M → ℕ → Type 
   abbrev pub LeavesNone : Type 0
   LeavesNone = AllLost (λ area. list_block shape area kind) (world new).cells
 
+  -- a dead copy stays dead
+  abbrev pub StaysDead : Type 0
+  StaysDead = (area : ℕ) → IsArea area → cell_at (world old).cells (list_block shape area kind) ≡ Dead
+      → cell_at (world new).cells (list_block shape area kind) ≡ Dead
+
   module _ (value : ListValue) where
     -- Each copy is exactly the text or dead now, and just so many, one at least, can be read.
     pub record Keeps (readable : ℕ) : Type 0 where
@@ -71,9 +76,9 @@ module _ {M : Type 0} (world : M → World) (reaches : M → M → ℕ → Type 
     abbrev pub UpdateRule : Updated → Type 0
     UpdateRule (updates.Kept readable) = CallEnds 8 × Keeps readable
     UpdateRule updates.NoCopy = CallEnds 8 × LeavesNone
-    UpdateRule updates.Cut = StoppedWithin 8 stops.Cut × MayLeaveCopies
+    UpdateRule updates.Cut = StoppedWithin 8 stops.Cut × MayLeaveCopies × StaysDead
     UpdateRule updates.Off = IsOff (world old) (world new)
-    UpdateRule updates.Fault = StoppedWithin 8 stops.Fault × MayLeaveCopies
+    UpdateRule updates.Fault = StoppedWithin 8 stops.Fault × MayLeaveCopies × StaysDead
 
     -- a repair went to its end: it read each copy, and wrote and read back those that were not exactly the text
     pub record Repairs : Type 0 where
@@ -88,9 +93,9 @@ module _ {M : Type 0} (world : M → World) (reaches : M → M → ℕ → Type 
     abbrev pub RepairRule : Updated → Type 0
     RepairRule (updates.Kept readable) = Repairs × Keeps readable
     RepairRule updates.NoCopy = Repairs × LeavesNone
-    RepairRule updates.Cut = StoppedWithin 12 stops.Cut × MayLeaveCopies × SparesExactCopies
+    RepairRule updates.Cut = StoppedWithin 12 stops.Cut × MayLeaveCopies × StaysDead × SparesExactCopies
     RepairRule updates.Off = IsOff (world old) (world new)
-    RepairRule updates.Fault = StoppedWithin 12 stops.Fault × MayLeaveCopies × SparesExactCopies
+    RepairRule updates.Fault = StoppedWithin 12 stops.Fault × MayLeaveCopies × StaysDead × SparesExactCopies
 
     -- what either does
     abbrev pub PurposeRule : Purpose → Updated → Type 0

@@ -30,3 +30,4 @@ module _ {M : Type 0} (world : M → World) (reaches : M → M → ℕ → Type 
     pub as_known : (world new).known ≡ (world old).known
     pub others : (other : ℕ) → other ≢ block → cell_at (world new).cells other ≡ cell_at (world old).cells other
     pub left : MendLeaves (cell_at (world old).cells block) text (cell_at (world new).cells block)
+    pub stays_dead : cell_at (world old).cells block ≡ Dead → cell_at (world new).cells block ≡ Dead

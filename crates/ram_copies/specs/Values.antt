@@ -10,12 +10,13 @@ pub data ListValue : Type 0 where
   DdsValue : Dds → ListValue
   SdlValue : Sdl → ListValue
 
--- the block is the text of a value of this kind
+-- the block is the text of a value of this kind; no list is of the kind that names second parts
 abbrev pub IsText : ListKind → ListValue → List ℕ → Type 0
 IsText kinds.Dds (DdsValue dds) block = IsDdsText dds block
 IsText kinds.Dds (SdlValue sdl) block = ⊥
 IsText kinds.Sdl (DdsValue dds) block = ⊥
 IsText kinds.Sdl (SdlValue sdl) block = IsSdlText sdl block
+IsText kinds.SdlTwo value block = ⊥
 
 -- the value is one of the grammar of this kind
 abbrev pub IsInGrammar : ListKind → ListValue → Type 0
@@ -23,6 +24,7 @@ IsInGrammar kinds.Dds (DdsValue dds) = IsLawfulDds dds
 IsInGrammar kinds.Dds (SdlValue sdl) = ⊥
 IsInGrammar kinds.Sdl (DdsValue dds) = ⊥
 IsInGrammar kinds.Sdl (SdlValue sdl) = IsLawfulSdl sdl
+IsInGrammar kinds.SdlTwo value = ⊥
 
 -- the counter of a list
 abbrev pub counter_of : ListValue → ℕ

@@ -65,3 +65,5 @@ module _ {M : Type 0} (world : M → World) (reaches : M → M → ℕ → Type 
         → cell_at (world new).cells block ≡ cell_at (world old).cells block
     pub left : (area : ℕ) → IsArea area
         → StopLeaves purpose (cell_at (world old).cells (place area)) text (cell_at (world new).cells (place area))
+    pub stays_dead : (area : ℕ) → IsArea area → cell_at (world old).cells (place area) ≡ Dead
+        → cell_at (world new).cells (place area) ≡ Dead

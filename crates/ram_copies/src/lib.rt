@@ -22,6 +22,3 @@ pub use laws::{
 pub use puts::put_block;
 pub use scratch::Scratch;
 pub use updates::{Updated, repair, update};
-
-#[cfg(test)]
-mod tests;

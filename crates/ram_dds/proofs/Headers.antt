@@ -3,6 +3,7 @@ use Rattle.std.proofs.Common.{◌≡◌, ℕ, ◌<◌, ◌≤◌, List, [], ◌�
 use Rattle.std.proofs.lemmas.List.{length-take-le}
 use Rattle.byteorder.specs.Endian.{big_number, big_bytes}
 use Rattle.model_lists.specs.declared.dds.DdsState.{DdsState}
+use Rattle.model_lists.specs.declared.versions.Version.TheVariants.{One}
 use Rattle.model_lists.specs.Values.{IsWithinDdsLimits}
 use Rattle.model_lists.specs.Texts.{bytes_from, state_byte, IsDdsHeader}
 use Rattle.model_lists.proofs.Spelled.{zero_bytes-is, zero_bytes-all}
@@ -19,7 +20,7 @@ pub record Reads (state : DdsState) (psa count : ℕ) (bytes : List ℕ) : Type 
   pub count_is : count ≡ big_number 2 (drop 2050 bytes)
 
 -- where the bytes say other fields, those that were read are within the same limits
-pub other_header : (state s : DdsState) (psa count c p n : ℕ) (bytes : List ℕ) → Reads state psa count bytes → IsWithinDdsLimits s p n → IsDdsHeader s c p n bytes → IsWithinDdsLimits state psa count
+pub other_header : (state s : DdsState) (psa count c p n : ℕ) (bytes : List ℕ) → Reads state psa count bytes → IsWithinDdsLimits s p n → IsDdsHeader One s c p n bytes → IsWithinDdsLimits state psa count
 other_header state s psa count c p n bytes reads limits header =
     let same_state : s ≡ state =
     state_byte-injective s state (ap (λ (l : List ℕ). get_or l 3 0) (sym header.begins ∙ reads.begins)) in
@@ -34,7 +35,7 @@ other_header state s psa count c p n bytes reads limits header =
     subst R same_count (subst Q same_psa (subst P same_state limits))
 
 -- the bytes say the fields that were read
-pub header_read : (state : DdsState) (counter psa count : ℕ) (bytes gap : List ℕ) → Reads state psa count bytes → counter ≡ big_number 4 (drop 4 bytes) → take 2 (drop 2048 bytes) ≡ 0 ∷ 1 ∷ [] → gap ≡ bytes_from 10 2038 bytes → gap ≡ replicate (length gap) 0 → IsDdsHeader state counter psa count bytes
+pub header_read : (state : DdsState) (counter psa count : ℕ) (bytes gap : List ℕ) → Reads state psa count bytes → counter ≡ big_number 4 (drop 4 bytes) → take 2 (drop 2048 bytes) ≡ 0 ∷ 1 ∷ [] → gap ≡ bytes_from 10 2038 bytes → gap ≡ replicate (length gap) 0 → IsDdsHeader One state counter psa count bytes
 header_read state counter psa count bytes gap reads counter_is list_begins gap_is zero =
     let long = reads.long in
     let gap_long : length gap ≡ 2038 =
@@ -49,6 +50,6 @@ header_read state counter psa count bytes gap reads counter_is list_begins gap_i
     }
 
 -- where the gap has another byte than zero, the bytes say nothing
-pub no_gap : (state : DdsState) (c p n : ℕ) (bytes gap : List ℕ) → gap ≡ bytes_from 10 2038 bytes → (gap ≡ replicate (length gap) 0 → ⊥) → IsDdsHeader state c p n bytes → ⊥
+pub no_gap : (state : DdsState) (c p n : ℕ) (bytes gap : List ℕ) → gap ≡ bytes_from 10 2038 bytes → (gap ≡ replicate (length gap) 0 → ⊥) → IsDdsHeader One state c p n bytes → ⊥
 no_gap state c p n bytes gap gap_is other header =
     other (zero_bytes-all 2038 gap (gap_is ∙ header.gap))

@@ -8,7 +8,7 @@ ghost use Rattle.ram_dds.specs.Dds.{dds_of, IsDecodedDds};
 use crate::entries::PdlEntries;
 use crate::header::{begin_bytes, header_of, list_begin_bytes};
 use crate::list::PdlLayout;
-use model_lists::DdsState;
+use model_lists::{DdsState, Version};
 use ram_bytes::Block;
 use ram_entries::{entries_of, put_entries};
 use std::alloc::{AllocError, Global};
@@ -16,6 +16,8 @@ use std::alloc::{AllocError, Global};
 /// A disc definition structure with its primary defect list.
 #[derive(Debug, Drop)]
 pub struct DdsPdl {
+    /// Which form the texts of the disc's lists have: the first alone is written and read.
+    pub version: Version,
     /// How often the structure was written.
     pub counter: u32,
     /// Whether a format has ended.
@@ -53,6 +55,7 @@ impl DdsPdl {
             return Ok(None);
         };
         Ok(Some(DdsPdl {
+            version: Version::One,
             counter: header.counter,
             state: header.state,
             psa: header.psa,

@@ -3,6 +3,7 @@
 ghost use Rattle.std.specs.Prelude.{◌≡◌, ℕ, ◌+◌, ◌<◌, ◌≤◌, ◌^◌, ◌↔◌, [], ◌∷◌, ◌++◌, length, take, IsTrue, MatchOption};
 ghost use Rattle.byteorder.specs.Endian.{big_bytes};
 ghost use Rattle.model_lists.specs.declared.dds.DdsState.{DdsState};
+ghost use Rattle.model_lists.specs.declared.versions.Version.TheVariants.{One};
 ghost use Rattle.model_lists.specs.Values.{IsWithinDdsLimits};
 ghost use Rattle.model_lists.specs.Texts.{IsDdsHeader, state_byte};
 
@@ -78,9 +79,9 @@ pub fn header_of(bytes: &[u8]) -> Option<Header>
     requires { 2052 ≤ length bytes.now }
     ensures { MatchOption result
         ((state : DdsState) (counter psa count : ℕ) → IsWithinDdsLimits state psa count
-        → IsDdsHeader state counter psa count bytes.now → ⊥)
+        → IsDdsHeader One state counter psa count bytes.now → ⊥)
         (λ header. (header.counter < 2 ^ 32) × IsWithinDdsLimits header.state header.psa header.count
-        × IsDdsHeader header.state header.counter header.psa header.count bytes.now) }
+        × IsDdsHeader One header.state header.counter header.psa header.count bytes.now) }
 {
     let state = state_of(bytes)?;
     if !begins_list(&bytes[2_048..2_050]) {

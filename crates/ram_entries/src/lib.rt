@@ -5,7 +5,4 @@ mod layout;
 mod list;
 
 pub use layout::EntryLayout;
-pub use list::{entries_of, put_entries};
-
-#[cfg(test)]
-mod tests;
+pub use list::{entries_of, more_entries, put_entries};

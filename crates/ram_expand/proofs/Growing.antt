@@ -1,14 +1,16 @@
 -- How an expansion goes, on the cells.
-use Rattle.std.specs.Prelude.{◌≡◌, ◌≢◌, ℕ, ◌*◌, ◌≤◌, ◌<◌, true, List, [], ◌∷◌}
+use Rattle.std.specs.Prelude.{◌≡◌, ◌≢◌, ℕ, ◌*◌, ◌≤◌, ◌<◌, true, false, List, [], ◌∷◌}
 use Rattle.std.proofs.Common.{refl, sym, ap, inl, subst, arith, eqb, take}
 use Rattle.std.proofs.lemmas.Bool.{cond-false, ne_eqb}
-use Rattle.model_geometry.specs.Geometry.{Shape, dds_block, sdl_block}
-use Rattle.model_lists.specs.Texts.{IsDdsText, IsSdlText}
+use Rattle.model_geometry.specs.Geometry.{Shape, dds_block}
+use Rattle.model_lists.specs.Values.{IsLawfulSdl}
+use Rattle.model_lists.specs.Texts.{IsDdsText}
 use Rattle.model_medium.specs.Cells.{cell_at}
 use Rattle.model_medium.specs.World.{World}
 use Rattle.model_stops.specs.declared.Stop.{Stop}
-use Rattle.model_copies.specs.Copies.{Settled, AreBetween}
-use Rattle.model_copies.proofs.CopyFacts.{between_left}
+use Rattle.model_copies.specs.Copies.{Settled}
+use Rattle.model_copies.specs.Parts.{SdlIsBetween}
+use Rattle.model_copies.proofs.SdlParts.{settled_stopped, lost_settled, lost_alike}
 use Rattle.model_places.specs.Places.{Lists, logical_count}
 use Rattle.model_places.specs.Valid.{IsValidSsa, AreValid}
 use Rattle.model_volume.specs.Given.{AreSettled, OnlyLists}
@@ -23,17 +25,17 @@ use Rattle.model_drive.proofs.ExpandSteps.{lawful_area, larger_area, left_blocks
 use Rattle.ram_medium.specs.Laws.{MediumLaws}
 use Rattle.ram_zones.specs.declared.list_kind.ListKind.TheVariants as kinds
 use Rattle.ram_copies.specs.Values.{SdlValue}
-use Rattle.ram_copies.specs.Calls.{ChangesCopiesAlone, CallEnds, StoppedWithin, Keeps, LeavesNone, MayLeaveCopies}
-use Rattle.ram_copies.proofs.EachList.{sdl_settled, sdl_may_hold}
+use Rattle.ram_copies.specs.Calls.{ChangesCopiesAlone, CallEnds, StoppedWithin, Keeps, LeavesNone, MayLeaveCopies, StaysDead}
 use Rattle.ram_lists.proofs.MountSteps.{settled_same, sdl_only, dds_stay}
-use Rattle.ram_replace.proofs.Placing.{settled_either, lost_settled}
+use Rattle.ram_replace.specs.Updates.{HasUpdated, LeavesListCopies}
+use Rattle.ram_replace.proofs.Updating.{updated_kept, updated_lost, left_stopped}
 use Rattle.ram_expand.specs.Sizes.{IsSmaller}
 use Rattle.ram_expand.specs.Expanding.{lists_grown, HasGrown, LacksUpdate, StopsGrowing}
 
 module _ {M : Type 0} (world : M → World) (block_count : M → ℕ) (reaches : M → M → ℕ → Type 0) (laws : MediumLaws world block_count reaches) where
   module _ (shape : Shape) (lists : Lists) (valid : AreValid shape lists) (capacity : ℕ) (size : IsSmaller shape lists capacity)
       (old : M) (settled : AreSettled shape (world old).cells lists) where
-    pub area : IsValidSsa shape (ssa_for shape capacity)
+    pub area : IsValidSsa shape lists.sdl.version (ssa_for shape capacity)
     area = lawful_area shape lists valid capacity size.lawful.some size.lawful.whole size.lawful.fewer size.lawful.most
 
     pub grows : lists.sdl.ssa ≤ ssa_for shape capacity
@@ -62,61 +64,62 @@ module _ {M : Type 0} (world : M → World) (block_count : M → ℕ) (reaches :
       fits_now disc fits = fits_still shape (world old).cells (world new).cells only_lists lists disc valid fits
 
       -- each copy was written
-      written : lists.sdl.counter < LAST_COUNTER → CallEnds world reaches kinds.Sdl shape old new 8 → Settled IsSdlText (sdl_block shape) (world new).cells (lists_grown shape lists capacity).sdl
-          → ((world old).known ≡ true → ¬ LeavesNone world reaches kinds.Sdl shape old new) → HasGrown world reaches shape old new lists capacity (lists_grown shape lists capacity)
-      written room ended settled_sdl not_lost = record {
+      written : lists.sdl.counter < LAST_COUNTER → HasUpdated world reaches shape old new (lists_grown shape lists capacity).sdl true
+          → HasGrown world reaches shape old new lists capacity (lists_grown shape lists capacity)
+      written room did = record {
         size = size;
         room = room;
-        ended = ended;
+        ended = did.ended;
         lists_are = refl;
-        settled = record { dds = dds_kept; sdl = settled_sdl };
-        has_copy = not_lost;
+        settled = record { dds = dds_kept; sdl = λ _. did.left.exact };
+        has_copy = λ known lost. did.left.not_lost known (lost_alike shape (world new).cells lists.sdl (lists_grown shape lists capacity).sdl refl lost);
         makes = λ disc fits. subst (FitsUnder shape (world new).cells (lists_grown shape lists capacity)) (shortened_is disc)
             (cut_fits shape lists (ssa_for shape capacity) valid area grows (world new).cells disc (fits_now disc fits));
       }
 
       -- none can be read
-      unwritten : lists.sdl.counter ≢ LAST_COUNTER → CallEnds world reaches kinds.Sdl shape old new 8 → LeavesNone world reaches kinds.Sdl shape old new
+      unwritten : lists.sdl.counter ≢ LAST_COUNTER → HasUpdated world reaches shape old new (lists_grown shape lists capacity).sdl false
           → LacksUpdate world reaches shape old new lists capacity lists lists.sdl.counter
-      unwritten room ended all_lost = record {
+      unwritten room did = record {
         size = size;
         counter_is = refl;
-        cause = inl all_lost;
-        ended = subst (CallEnds world reaches kinds.Sdl shape old new) (sym (cond-false (eqb lists.sdl.counter LAST_COUNTER) 0 8 (ne_eqb lists.sdl.counter LAST_COUNTER room))) ended;
+        cause = inl (lost_alike shape (world new).cells (lists_grown shape lists capacity).sdl lists.sdl refl did.left.lost);
+        ended = subst (CallEnds world reaches kinds.Sdl shape old new) (sym (cond-false (eqb lists.sdl.counter LAST_COUNTER) 0 8 (ne_eqb lists.sdl.counter LAST_COUNTER room))) did.ended;
         same = refl;
-        settled = record { dds = dds_kept; sdl = λ at is. lost_settled (cell_at (world new).cells (sdl_block shape at)) lists.sdl (all_lost at is) };
+        settled = record { dds = dds_kept; sdl = lost_settled shape (world new).cells lists.sdl (lists_grown shape lists capacity).sdl refl refl did.left.exact did.left.lost };
         keeps = fits_now;
       }
 
       -- the update was stopped
-      left_between : MayLeaveCopies world reaches kinds.Sdl shape old new (SdlValue (lists_grown shape lists capacity).sdl)
-          → AreBetween IsSdlText (sdl_block shape) (world new).cells lists.sdl (lists_grown shape lists capacity).sdl
-      left_between left = between_left IsSdlText (sdl_block shape) (world old).cells (world new).cells lists.sdl (lists_grown shape lists capacity).sdl
-          (λ at is. settled_either (cell_at (world old).cells (sdl_block shape at)) lists.sdl (settled.sdl at is))
-          (λ at is. sdl_may_hold (cell_at (world old).cells (sdl_block shape at)) (cell_at (world new).cells (sdl_block shape at)) (lists_grown shape lists capacity).sdl (left at is))
+      left_between : LeavesListCopies world reaches shape old new (lists_grown shape lists capacity).sdl → SdlIsBetween shape (world new).cells lists.sdl (lists_grown shape lists capacity).sdl
+      left_between left = settled_stopped shape (world old).cells (world new).cells lists.sdl (lists_grown shape lists capacity).sdl settled.sdl refl (inl (λ same. omega (arith, same))) left.parts left.dead
 
       halted : (stop : Stop) → lists.sdl.counter < LAST_COUNTER → StoppedWithin world reaches kinds.Sdl shape old new 8 stop
-          → AreBetween IsSdlText (sdl_block shape) (world new).cells lists.sdl (lists_grown shape lists capacity).sdl → StopsGrowing world reaches shape old new lists capacity lists stop
+          → SdlIsBetween shape (world new).cells lists.sdl (lists_grown shape lists capacity).sdl → StopsGrowing world reaches shape old new lists capacity lists stop
       halted stop room stopped between = record {
         size = size;
         room = room;
         stopped = stopped;
         same = refl;
-        given = λ other given. pair_between shape (world new).cells lists.dds lists.sdl (lists_grown shape lists capacity).sdl other dds_kept between given;
+        given = λ other given. pair_between shape (world new).cells lists.dds lists.sdl (lists_grown shape lists capacity).sdl other dds_kept valid.together.same_version between given;
         covers = λ disc fits. subst (λ (d : List ℕ). Cover shape (world new).cells (disc ∷ d ∷ [])) (shortened_is disc)
             (expand_covers shape lists (ssa_for shape capacity) valid area grows (world old).cells (world new).cells disc only_lists dds_kept between fits);
       }
 
-    pub has_grown : (new : M) (readable : ℕ) → lists.sdl.counter < LAST_COUNTER
-        → CallEnds world reaches kinds.Sdl shape old new 8 × Keeps world reaches kinds.Sdl shape old new (SdlValue (lists_grown shape lists capacity).sdl) readable
-        → HasGrown world reaches shape old new lists capacity (lists_grown shape lists capacity)
-    has_grown new readable room did = written new did.0.alone room did.0 (sdl_settled shape (world new).cells (lists_grown shape lists capacity).sdl did.1.settled) did.1.not_lost
+    -- ---- by what the update answered, of a list that is lawful
 
-    pub no_copy : (new : M) → lists.sdl.counter ≢ LAST_COUNTER → CallEnds world reaches kinds.Sdl shape old new 8 × LeavesNone world reaches kinds.Sdl shape old new
-        → LacksUpdate world reaches shape old new lists capacity lists lists.sdl.counter
-    no_copy new room did = unwritten new did.0.alone room did.0 did.1
+    module _ (lawful : IsLawfulSdl (lists_grown shape lists capacity).sdl) where
+      pub has_grown : (new : M) (readable : ℕ) → lists.sdl.counter < LAST_COUNTER
+          → CallEnds world reaches kinds.Sdl shape old new 8 × Keeps world reaches kinds.Sdl shape old new (SdlValue (lists_grown shape lists capacity).sdl) readable
+          → HasGrown world reaches shape old new lists capacity (lists_grown shape lists capacity)
+      has_grown new readable room did = written new did.0.alone room (updated_kept world reaches shape old new (lists_grown shape lists capacity).sdl lawful readable did.0 did.1)
 
-    pub growing_stopped : (new : M) (stop : Stop) → lists.sdl.counter < LAST_COUNTER
-        → StoppedWithin world reaches kinds.Sdl shape old new 8 stop × MayLeaveCopies world reaches kinds.Sdl shape old new (SdlValue (lists_grown shape lists capacity).sdl)
-        → StopsGrowing world reaches shape old new lists capacity lists stop
-    growing_stopped new stop room did = halted new did.0.alone stop room did.0 (left_between new did.0.alone did.1)
+      pub no_copy : (new : M) → lists.sdl.counter ≢ LAST_COUNTER → CallEnds world reaches kinds.Sdl shape old new 8 × LeavesNone world reaches kinds.Sdl shape old new
+          → LacksUpdate world reaches shape old new lists capacity lists lists.sdl.counter
+      no_copy new room did = unwritten new did.0.alone room (updated_lost world reaches shape old new (lists_grown shape lists capacity).sdl lawful did.0 did.1)
+
+      pub growing_stopped : (new : M) (stop : Stop) → lists.sdl.counter < LAST_COUNTER
+          → StoppedWithin world reaches kinds.Sdl shape old new 8 stop × MayLeaveCopies world reaches kinds.Sdl shape old new (SdlValue (lists_grown shape lists capacity).sdl) × StaysDead world reaches kinds.Sdl shape old new
+          → StopsGrowing world reaches shape old new lists capacity lists stop
+      growing_stopped new stop room did = halted new did.0.alone stop room did.0
+          (left_between new did.0.alone (left_stopped world reaches shape old new (lists_grown shape lists capacity).sdl lawful did.0.alone did.1 did.2))

@@ -1,10 +1,10 @@
 -- What an expansion does, by its answer: for `grow` and `expand_lists`.
 use Rattle.std.specs.Prelude.{◌≡◌, ℕ, ◌<◌, ◌==◌, ◌⊎◌, if◌then◌else◌, true, IsTrue, List, [], ◌∷◌}
-use Rattle.model_geometry.specs.Geometry.{Shape, sdl_block}
+use Rattle.model_geometry.specs.Geometry.{Shape}
 use Rattle.model_medium.specs.World.{World}
 use Rattle.model_stops.specs.declared.Stop.{Stop}
 use Rattle.model_stops.specs.declared.Stop.TheVariants as stops
-use Rattle.model_copies.specs.Copies.{AllLost}
+use Rattle.model_copies.specs.Parts.{SdlIsLost}
 use Rattle.model_places.specs.Places.{Lists, capacity_of}
 use Rattle.model_volume.specs.Given.{AreSettled, IsGiven}
 use Rattle.model_volume.specs.Covers.{FitsUnder, Cover}
@@ -38,7 +38,7 @@ module _ {M : Type 0} (world : M → World) (reaches : M → M → ℕ → Type 
   -- The power was on, and the disc cannot have the capacity.
   pub record RefusesCapacity : Type 0 where
     pub was_on : IsTrue (world old).power
-    pub unlawful : ¬ IsLawfulSize shape (capacity_of shape lists) capacity
+    pub unlawful : ¬ IsLawfulSize shape lists.sdl.version (capacity_of shape lists) capacity
     pub does : DoesNothing
 
   -- The area has grown: the lists are the new ones, each of their copies is exactly its text or dead, and one of the
@@ -49,16 +49,16 @@ module _ {M : Type 0} (world : M → World) (reaches : M → M → ℕ → Type 
     pub ended : CallEnds world reaches kinds.Sdl shape old new (sdl_update_uses lists.sdl)
     pub lists_are : lists' ≡ lists_grown shape lists capacity
     pub settled : AreSettled shape (world new).cells lists'
-    pub has_copy : (world old).known ≡ true → ¬ AllLost (sdl_block shape) (world new).cells
+    pub has_copy : (world old).known ≡ true → ¬ SdlIsLost shape (world new).cells lists.sdl
     pub makes : (disc : List ℕ) → FitsUnder shape (world old).cells lists disc
         → FitsUnder shape (world new).cells lists' (shortened capacity disc)
 
-  -- The copies of the secondary list are all dead, or its counter, which is told, stands at its end and none was written.
+  -- No copy of the secondary list is left, or its counter, which is told, stands at its end and none was written.
   -- The lists and the disc are as before.
   pub record LacksUpdate (counter : ℕ) : Type 0 where
     pub size : IsSmaller shape lists capacity
     pub counter_is : counter ≡ lists.sdl.counter
-    pub cause : AllLost (sdl_block shape) (world new).cells ⊎ (counter ≡ LAST_COUNTER)
+    pub cause : SdlIsLost shape (world new).cells lists.sdl ⊎ (counter ≡ LAST_COUNTER)
     pub ended :
         CallEnds world reaches kinds.Sdl shape old new (if counter == LAST_COUNTER then 0 else sdl_update_uses lists.sdl)
     pub same : lists' ≡ lists

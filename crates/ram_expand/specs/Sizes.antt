@@ -9,16 +9,16 @@ use Rattle.ram_expand.specs.declared.sizes.Size.TheVariants as sizes
 module _ (shape : Shape) (lists : Lists) (capacity : ℕ) where
   -- The disc may have this capacity in sectors, and its own is greater. (This project's own, as all here.)
   pub record IsSmaller : Type 0 where
-    pub lawful : IsLawfulSize shape (capacity_of shape lists) capacity
+    pub lawful : IsLawfulSize shape lists.sdl.version (capacity_of shape lists) capacity
     pub smaller : capacity < capacity_of shape lists
 
   -- it may, and this is its own
   pub record IsPresent : Type 0 where
-    pub lawful : IsLawfulSize shape (capacity_of shape lists) capacity
+    pub lawful : IsLawfulSize shape lists.sdl.version (capacity_of shape lists) capacity
     pub present : capacity ≡ capacity_of shape lists
 
   -- what a capacity is to a disc
   abbrev pub SizeRule : Size → Type 0
-  SizeRule sizes.Unlawful = ¬ IsLawfulSize shape (capacity_of shape lists) capacity
+  SizeRule sizes.Unlawful = ¬ IsLawfulSize shape lists.sdl.version (capacity_of shape lists) capacity
   SizeRule sizes.Present = IsPresent
   SizeRule sizes.Smaller = IsSmaller

@@ -1,11 +1,11 @@
 //! The secondary list of an expansion, made in a list of its own: the one in use is not changed.
 
 ghost use Rattle.std.specs.Prelude.{◌≡◌, ◌≤◌, ◌<◌};
-ghost use Rattle.model_geometry.specs.declared.TheConstants.{MOST_SPARES};
+ghost use Rattle.model_geometry.specs.declared.TheConstants.{SDL_LIMIT};
 ghost use Rattle.model_geometry.specs.Geometry.{IsLawful};
 ghost use Rattle.model_lists.specs.Values.{IsLawfulSdl};
 ghost use Rattle.model_places.specs.Places.{unreplaced, is_listed, spares};
-ghost use Rattle.model_places.specs.Valid.{IsValidPdl, IsValidSsa, AreValid};
+ghost use Rattle.model_places.specs.Valid.{IsValidPdl, IsValidSsa, IsValidOnSome, AreValid};
 ghost use Rattle.model_volume.specs.Expansions.{lists_expanded};
 ghost use Rattle.model_drive.specs.declared.TheConstants.{LAST_COUNTER};
 ghost use Rattle.ram_dds.specs.Dds.{dds_of};
@@ -22,7 +22,7 @@ use ram_zones::Geometry;
 /// Whether the block is a spare where the supplementary spare area has this size.
 fn is_spare(geometry: &Geometry, dds: &DdsPdl, ssa: u32, block: u32) -> bool
     requires valid { IsValidPdl geometry.now (dds_of dds.now) }
-    requires area { IsValidSsa geometry.now ssa }
+    requires area { IsValidOnSome geometry.now ssa }
     ensures { result ≡ is_listed (spares geometry.now (unreplaced (dds_of dds.now) ssa)) block }
 {
     match spare_number(geometry, dds, ssa, block) {
@@ -35,7 +35,7 @@ fn is_spare(geometry: &Geometry, dds: &DdsPdl, ssa: u32, block: u32) -> bool
 /// again.
 fn retire_spares(geometry: &Geometry, lists: &Lists, draft: &mut Sdl, ssa: u32)
     requires valid { AreValid geometry.now (lists_of lists.now) }
-    requires area { IsValidSsa geometry.now ssa }
+    requires area { IsValidSsa geometry.now lists.now.sdl.version ssa }
     requires same { draft.old.entries.list ≡ lists.now.sdl.entries.list }
     ensures value { sdl_of draft.new ≡ record (sdl_of draft.old) {
       entries = with_spares_retired geometry.now (dds_of lists.now.dds) ssa lists.now.sdl.entries.list;
@@ -58,13 +58,13 @@ pub fn draft_expanded(geometry: &Geometry, lists: &Lists, draft: &mut Sdl, ssa: 
     requires shape { IsLawful geometry.now }
     requires valid { AreValid geometry.now (lists_of lists.now) }
     requires lawful { IsLawfulSdl (sdl_of lists.now.sdl) }
-    requires area { IsValidSsa geometry.now ssa }
+    requires area { IsValidSsa geometry.now lists.now.sdl.version ssa }
     requires grows { lists.now.sdl.ssa ≤ ssa }
     requires counter { lists.now.sdl.counter < LAST_COUNTER }
-    requires room { MOST_SPARES ≤ draft.old.entries.room }
+    requires room { SDL_LIMIT ≤ draft.old.entries.room }
     ensures value { sdl_of draft.new ≡ (lists_expanded geometry.now (lists_of lists.now) ssa).sdl }
     ensures lawful { IsLawfulSdl (sdl_of draft.new) }
-    ensures room { MOST_SPARES ≤ draft.new.entries.room }
+    ensures room { SDL_LIMIT ≤ draft.new.entries.room }
 {
     draft.copy_from(&lists.sdl);
     draft.counter += 1;

@@ -1,7 +1,7 @@
 //! The expansion of the supplementary spare area.
 
 ghost use Rattle.std.specs.Prelude.{◌≡◌, ◌≤◌, IsTrue};
-ghost use Rattle.model_geometry.specs.declared.TheConstants.{MOST_SPARES};
+ghost use Rattle.model_geometry.specs.declared.TheConstants.{SDL_LIMIT};
 ghost use Rattle.model_geometry.specs.Geometry.{total};
 ghost use Rattle.model_lists.specs.Values.{IsLawfulSdl};
 ghost use Rattle.model_places.specs.Valid.{AreValid};
@@ -56,14 +56,14 @@ fn grow<M: Medium>(
     requires lawful { IsLawfulSdl (sdl_of lists.old.sdl) }
     requires settled { AreSettled geometry.now (M.world medium.old).cells (lists_of lists.old) }
     requires smaller { IsSmaller geometry.now (lists_of lists.old) capacity }
-    requires room { MOST_SPARES ≤ lists.old.sdl.entries.room }
-    requires draft { MOST_SPARES ≤ draft.old.entries.room }
+    requires room { SDL_LIMIT ≤ lists.old.sdl.entries.room }
+    requires draft { SDL_LIMIT ≤ draft.old.entries.room }
     ensures rule { GrowRule M.world M.reaches geometry.now medium.old medium.new (lists_of lists.old) capacity
         (lists_of lists.new) result }
     ensures valid { AreValid geometry.now (lists_of lists.new) }
     ensures lawful { IsLawfulSdl (sdl_of lists.new.sdl) }
-    ensures room { MOST_SPARES ≤ lists.new.sdl.entries.room }
-    ensures draft { MOST_SPARES ≤ draft.new.entries.room }
+    ensures room { SDL_LIMIT ≤ lists.new.sdl.entries.room }
+    ensures draft { SDL_LIMIT ≤ draft.new.entries.room }
     ensures as_many { M.block_count medium.new ≡ M.block_count medium.old }
 {
     let counter = lists.sdl.counter;
@@ -103,14 +103,14 @@ pub fn expand_lists<M: Medium>(
     requires valid { AreValid geometry.now (lists_of lists.old) }
     requires lawful { IsLawfulSdl (sdl_of lists.old.sdl) }
     requires settled { AreSettled geometry.now (M.world medium.old).cells (lists_of lists.old) }
-    requires room { MOST_SPARES ≤ lists.old.sdl.entries.room }
-    requires draft { MOST_SPARES ≤ draft.old.entries.room }
+    requires room { SDL_LIMIT ≤ lists.old.sdl.entries.room }
+    requires draft { SDL_LIMIT ≤ draft.old.entries.room }
     ensures rule { ExpandRule M.world M.reaches geometry.now medium.old medium.new (lists_of lists.old)
         capacity (lists_of lists.new) result }
     ensures valid { AreValid geometry.now (lists_of lists.new) }
     ensures lawful { IsLawfulSdl (sdl_of lists.new.sdl) }
-    ensures room { MOST_SPARES ≤ lists.new.sdl.entries.room }
-    ensures draft { MOST_SPARES ≤ draft.new.entries.room }
+    ensures room { SDL_LIMIT ≤ lists.new.sdl.entries.room }
+    ensures draft { SDL_LIMIT ≤ draft.new.entries.room }
     ensures as_many { M.block_count medium.new ≡ M.block_count medium.old }
 {
     if !medium.powered() {

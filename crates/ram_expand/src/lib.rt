@@ -7,6 +7,3 @@ mod expanding;
 mod sizes;
 
 pub use expanding::{ExpandEnd, expand_lists};
-
-#[cfg(test)]
-mod tests;

@@ -8,7 +8,7 @@ ghost use Rattle.ram_lists.specs.Lists.{lists_of};
 ghost use Rattle.ram_expand.specs.Sizes.{SizeRule};
 
 use ram_lists::Lists;
-use ram_zones::{Geometry, MOST_SPARES};
+use ram_zones::Geometry;
 
 /// What a capacity is to a disc.
 #[derive(Clone, Copy)]
@@ -42,7 +42,7 @@ pub fn size_of(geometry: &Geometry, lists: &Lists, capacity: u32) -> Size
     if capacity == 0 || capacity % 16 != 0 || present < capacity {
         return Size::Unlawful;
     }
-    if MOST_SPARES < geometry.psa() + area_for(geometry, capacity) {
+    if lists.sdl.version.most_spares() < geometry.psa() + area_for(geometry, capacity) {
         return Size::Unlawful;
     }
     Size::Smaller

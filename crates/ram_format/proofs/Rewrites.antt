@@ -3,9 +3,9 @@ use Rattle.std.specs.Prelude.{◌≡◌, ℕ, ◌+◌, ◌*◌, Bool, true, fals
 use Rattle.std.proofs.Common.{refl, sym, ap, ◌∙◌, inl, inr, subst, arith}
 use Rattle.std.proofs.lemmas.Bool.{cases_eq}
 use Rattle.model_counts.specs.Counts.{counted, Rose}
-use Rattle.model_geometry.specs.Geometry.{Shape, dds_block, sdl_block}
-use Rattle.model_lists.specs.Values.{Dds}
-use Rattle.model_lists.specs.Texts.{IsDdsText, IsSdlText}
+use Rattle.model_geometry.specs.Geometry.{Shape, dds_block, sdl_block, sdl_second_block}
+use Rattle.model_lists.specs.Values.{Dds, Sdl, IsLawfulSdl}
+use Rattle.model_lists.specs.Texts.{IsDdsText, IsTwo, IsSdlText, IsSdlSecond}
 use Rattle.model_lists.proofs.DdsTexts as dds_texts
 use Rattle.model_lists.proofs.SdlTexts as sdl_texts
 use Rattle.model_medium.specs.Cells.{Cell, Blank, Good, Torn, Dead, cell_at}
@@ -13,40 +13,83 @@ use Rattle.model_medium.specs.World.{World, IsUse}
 use Rattle.model_stops.specs.Stops.{Continues, Stops, FailsInUse}
 use Rattle.model_stops.specs.declared.Stop.{Stop}
 use Rattle.model_stops.specs.declared.Stop.TheVariants as stops
-use Rattle.model_copies.specs.Copies.{IsArea, Holds, HoldsOrDead, MayHold, HasCopy, Settled, AllLost}
-use Rattle.model_copies.proofs.CopyFacts.{OneValue, one_held}
+use Rattle.model_copies.specs.Copies.{IsArea, Holds, HoldsOrDead, MayHold, HasCopy, HasDdsCopy, Settled, AllLost}
+use Rattle.model_copies.specs.Parts.{HasSdlParts, SdlIsExact, MayLeaveParts}
+use Rattle.model_copies.proofs.SdlParts.{sdl_before, exact_same}
+use Rattle.model_copies.proofs.PartFacts.{held_there}
 use Rattle.model_copies.proofs.Rewriting.{rewrites_like}
 use Rattle.model_places.specs.Places.{Lists}
-use Rattle.model_volume.specs.Given.{AreSettled}
+use Rattle.model_volume.specs.Given.{IsGiven, AreSettled}
 use Rattle.ram_medium.specs.Laws.{MediumLaws}
 use Rattle.ram_medium.proofs.Parts.{continues_then, stops_later, stops_within}
 use Rattle.ram_zones.specs.declared.list_kind.ListKind.TheVariants as kinds
 use Rattle.ram_copies.specs.Values.{DdsValue, SdlValue}
-use Rattle.ram_copies.specs.Calls.{StoppedCounts, StoppedWithin, MayLeaveCopies}
-use Rattle.ram_copies.proofs.EachList.{dds_settled, dds_may_hold, dds_rewritten, sdl_settled, sdl_may_hold, sdl_rewritten}
+use Rattle.ram_copies.specs.Calls.{StoppedCounts, ChangesCopiesAlone, StoppedWithin, MayLeaveCopies}
+use Rattle.ram_copies.proofs.EachList.{dds_settled, dds_may_hold, dds_rewritten, sdl_settled, sdl_settled_exact, sdl_lost, sdl_all_lost, sdl_left, seconds_stay_by_dds, sdl_rewritten}
 use Rattle.ram_lists.proofs.MountSteps.{settled_may_hold, copy_back, settled_same, dds_only, sdl_only, sdl_stay, dds_stay}
 use Rattle.ram_format.specs.Rewriting.{HasRepairedList, StopsRepairingList, RepairsBothLists, RewritesBy, RewriteStopped, StopsRewriting, lost_of}
 
 module _ {V : Type 0} (text : V → List ℕ → Type 0) where
-  -- a copy that holds a value now held it before, where it was settled, and a dead cell stays dead
-  held_before : OneValue text → (old new : Cell) (v w : V) → HoldsOrDead text old v → (old ≡ Dead → new ≡ Dead) → MayHold text old v new → Holds text new w → Holds text old w
-  held_before one_value Blank new v w settled dies left holds = absurd settled
-  held_before one_value (Good bytes) new v w settled dies left holds = was left
+  -- a value has one text
+  abbrev OneText : Type 0
+  OneText = (v : V) (x y : List ℕ) → text v x → text v y → x ≡ y
+
+  -- a cell that holds a value now held it before, where it was exact or dead, and a dead cell stays dead
+  held_before : OneText → (old new : Cell) (v w : V) → HoldsOrDead text old v → (old ≡ Dead → new ≡ Dead) → MayHold text old v new → Holds text new w → Holds text old w
+  held_before one Blank new v w settled dies left holds = absurd settled
+  held_before one (Good bytes) new v w settled dies left holds = was left
     where
       was : MayHold text (Good bytes) v new → Holds text (Good bytes) w
       was (inl same) = subst (λ (c : Cell). Holds text c w) same holds
-      was (inr (inl held)) = subst (λ (u : V). text u bytes) (sym (one_held text one_value new w v holds held)) settled
+      was (inr (inl held)) = held_there text one new (Good bytes) v w held holds settled
       was (inr (inr (inl torn))) = absurd (subst (λ (c : Cell). Holds text c w) torn holds)
       was (inr (inr (inr dead))) = absurd (subst (λ (c : Cell). Holds text c w) dead holds)
-  held_before one_value Torn new v w settled dies left holds = absurd settled
-  held_before one_value Dead new v w settled dies left holds = absurd (subst (λ (c : Cell). Holds text c w) (dies refl) holds)
+  held_before one Torn new v w settled dies left holds = absurd settled
+  held_before one Dead new v w settled dies left holds = absurd (subst (λ (c : Cell). Holds text c w) (dies refl) holds)
 
-  copy_held : (place : ℕ → ℕ) → OneValue text → (old new : List Cell) (v : V) → Settled text place old v → ((block : ℕ) → cell_at old block ≡ Dead → cell_at new block ≡ Dead)
+  copy_held : (place : ℕ → ℕ) → OneText → (old new : List Cell) (v : V) → Settled text place old v → ((block : ℕ) → cell_at old block ≡ Dead → cell_at new block ≡ Dead)
       → ((area : ℕ) → IsArea area → MayHold text (cell_at old (place area)) v (cell_at new (place area))) → (w : V) (area : ℕ) → HasCopy text place new w area → HasCopy text place old w area
-  copy_held place one_value old new v settled dies left w area copy = record {
+  copy_held place one old new v settled dies left w area copy = record {
     is_area = copy.is_area;
-    holds = held_before one_value (cell_at old (place area)) (cell_at new (place area)) v w (settled area copy.is_area) (dies (place area)) (left area copy.is_area) copy.holds;
+    holds = held_before one (cell_at old (place area)) (cell_at new (place area)) v w (settled area copy.is_area) (dies (place area)) (left area copy.is_area) copy.holds;
   }
+
+-- the same of the parts of a secondary list
+parts_held : (shape : Shape) (old new : List Cell) (v : Sdl) → SdlIsExact shape old v → ((block : ℕ) → cell_at old block ≡ Dead → cell_at new block ≡ Dead)
+    → MayLeaveParts IsTwo IsSdlText IsSdlSecond (sdl_block shape) (sdl_second_block shape) old new v → (w : Sdl) (a b : ℕ) → HasSdlParts shape new w a b → HasSdlParts shape old w a b
+parts_held shape old new v exact dies left w a b parts = record {
+  is_area = parts.is_area;
+  is_area' = parts.is_area';
+  holds = held_before IsSdlText sdl_texts.one_text (cell_at old (sdl_block shape a)) (cell_at new (sdl_block shape a)) v w (exact.firsts a parts.is_area) (dies (sdl_block shape a)) (left.firsts a parts.is_area) parts.holds;
+  holds' = λ two. elim (left.seconds b parts.is_area') [
+    | inl same ↦ subst (λ (c : Cell). Holds IsSdlSecond c w) same (parts.holds' two)
+    | inr may ↦ held_before IsSdlSecond sdl_texts.one_second (cell_at old (sdl_second_block shape b)) (cell_at new (sdl_second_block shape b)) v w (exact.seconds may.0 b parts.is_area') (dies (sdl_second_block shape b)) may.1 (parts.holds' two)
+  ];
+}
+
+-- where each copy and each text was there before, what is given was given
+given_held : (shape : Shape) (old new : List Cell) → ((w : Dds) (area : ℕ) → HasDdsCopy shape new w area → HasDdsCopy shape old w area)
+    → ((w : Sdl) (a b : ℕ) → HasSdlParts shape new w a b → HasSdlParts shape old w a b) → (other : Lists) → IsGiven shape new other → IsGiven shape old other
+given_held shape old new dds sdl other given =
+    let whole = given.some_whole in
+    record {
+      dds_area = given.dds_area;
+      dds_copy = dds other.dds given.dds_area given.dds_copy;
+      first_area = given.first_area;
+      second_area = given.second_area;
+      sdl_parts = sdl other.sdl given.first_area given.second_area given.sdl_parts;
+      valid = given.valid;
+      some_whole = (
+        whole.0,
+        record {
+          dds_area = whole.1.dds_area;
+          dds_copy = dds whole.0.dds whole.1.dds_area whole.1.dds_copy;
+          sdl_area = whole.1.sdl_area;
+          sdl_copy = sdl whole.0.sdl whole.1.sdl_area whole.1.sdl_area whole.1.sdl_copy;
+          valid = whole.1.valid;
+        },
+      );
+    }
 
 -- a dead cell stays dead in the use that failed
 use_stays_dead : (old new : World) (block : ℕ) → IsUse old new block → (other : ℕ) → cell_at old.cells other ≡ Dead → cell_at new.cells other ≡ Dead
@@ -59,7 +102,7 @@ failed_stays_dead : (old new : World) (block : ℕ) → FailsInUse old new block
 failed_stays_dead old new block (inl read) = use_stays_dead old new block read.2.one
 failed_stays_dead old new block (inr write) = use_stays_dead old new block write.1.one
 
-module _ {M : Type 0} (world : M → World) (block_count : M → ℕ) (reaches : M → M → ℕ → Type 0) (laws : MediumLaws world block_count reaches) (shape : Shape) (lists : Lists) where
+module _ {M : Type 0} (world : M → World) (block_count : M → ℕ) (reaches : M → M → ℕ → Type 0) (laws : MediumLaws world block_count reaches) (shape : Shape) (lists : Lists) (lawful : IsLawfulSdl lists.sdl) where
   stays_dead : (a b : M) (k : ℕ) → Continues world reaches a b k → (block : ℕ) → cell_at (world a).cells block ≡ Dead → cell_at (world b).cells block ≡ Dead
   stays_dead a b k continues = (laws.follows a b k continues.reach).lasts.stays_dead
 
@@ -67,6 +110,10 @@ module _ {M : Type 0} (world : M → World) (block_count : M → ℕ) (reaches :
   stop_stays_dead a b most stops.Cut s block dead = (laws.follows a b s.uses s.reach).lasts.stays_dead block dead
   stop_stays_dead a b most stops.Off s block dead = ap (λ (w : World). cell_at w.cells block) s.nothing ∙ dead
   stop_stays_dead a b most stops.Fault s block dead = failed_stays_dead (world s.mid) (world b) s.block s.fails block ((laws.follows a s.mid s.before s.reach).lasts.stays_dead block dead)
+
+  -- a call of the structure's copies leaves the texts of the secondary list
+  parts_back : (a b : M) → ChangesCopiesAlone world reaches kinds.Dds shape a b → (w : Sdl) (x y : ℕ) → HasSdlParts shape (world b).cells w x y → HasSdlParts shape (world a).cells w x y
+  parts_back a b alone w x y parts = sdl_before shape (world a).cells (world b).cells w x y (inl (sdl_stay world reaches shape a b alone x)) (inl (seconds_stay_by_dds world reaches shape a b alone y)) parts
 
   module _ (old one : M) (settled : AreSettled shape (world old).cells lists) where
     first_stop : (stop : Stop) → StoppedWithin world reaches kinds.Dds shape old one 12 stop → MayLeaveCopies world reaches kinds.Dds shape old one (DdsValue lists.dds) → RewriteStopped world reaches shape old one lists stop
@@ -76,14 +123,10 @@ module _ {M : Type 0} (world : M → World) (block_count : M → ℕ) (reaches :
       counts = stopped.counts;
       as_known = stopped.alone.as_known;
       only = dds_only world reaches shape old one stopped.alone;
-      given = λ other given. record {
-        dds_area = given.dds_area;
-        dds_copy = copy_held IsDdsText (dds_block shape) dds_texts.one_value (world old).cells (world one).cells lists.dds settled.dds (stop_stays_dead old one 12 stop stopped.stops)
-            (λ area is. dds_may_hold (cell_at (world old).cells (dds_block shape area)) (cell_at (world one).cells (dds_block shape area)) lists.dds (left area is)) other.dds given.dds_area given.dds_copy;
-        sdl_area = given.sdl_area;
-        sdl_copy = copy_back IsSdlText (sdl_block shape) (world old).cells (world one).cells (sdl_stay world reaches shape old one stopped.alone) other.sdl given.sdl_area given.sdl_copy;
-        valid = given.valid;
-      };
+      given = given_held shape (world old).cells (world one).cells
+          (copy_held IsDdsText (dds_block shape) dds_texts.one_text (world old).cells (world one).cells lists.dds settled.dds (stop_stays_dead old one 12 stop stopped.stops)
+          (λ area is. dds_may_hold (cell_at (world old).cells (dds_block shape area)) (cell_at (world one).cells (dds_block shape area)) lists.dds (left area is)))
+          (parts_back old one stopped.alone);
     }
 
     pub first_ends : (stop : Stop) → StopsRepairingList world reaches shape old one kinds.Dds (DdsValue lists.dds) stop → StopsRewriting world reaches shape old one lists stop
@@ -95,14 +138,15 @@ module _ {M : Type 0} (world : M → World) (block_count : M → ℕ) (reaches :
       dds_settled_one : Settled IsDdsText (dds_block shape) (world one).cells lists.dds
       dds_settled_one = dds_settled shape (world one).cells lists.dds did.settled
 
-      sdl_settled_one : Settled IsSdlText (sdl_block shape) (world one).cells lists.sdl
-      sdl_settled_one = settled_same IsSdlText (sdl_block shape) (world old).cells (world one).cells (sdl_stay world reaches shape old one did.repairs.ends.alone) lists.sdl settled.sdl
+      sdl_exact_one : SdlIsExact shape (world one).cells lists.sdl
+      sdl_exact_one = exact_same shape (world old).cells (world one).cells lists.sdl (λ area is. sdl_stay world reaches shape old one did.repairs.ends.alone area) (λ area is. seconds_stay_by_dds world reaches shape old one did.repairs.ends.alone area)
+          (sdl_settled_exact shape (world old).cells lists.sdl lawful.version_is settled.sdl)
 
       module _ (two : M) where
         -- a copy of the structure that can be read now could be before
         dds_held : ((area : ℕ) → cell_at (world two).cells (dds_block shape area) ≡ cell_at (world one).cells (dds_block shape area)) → (w : Dds) (area : ℕ)
             → HasCopy IsDdsText (dds_block shape) (world two).cells w area → HasCopy IsDdsText (dds_block shape) (world old).cells w area
-        dds_held same w area copy = copy_held IsDdsText (dds_block shape) dds_texts.one_value (world old).cells (world one).cells lists.dds settled.dds (stays_dead old one (4 + 2 * did.repairs.rewritten) did.repairs.ends.continues)
+        dds_held same w area copy = copy_held IsDdsText (dds_block shape) dds_texts.one_text (world old).cells (world one).cells lists.dds settled.dds (stays_dead old one (4 + 2 * did.repairs.rewritten) did.repairs.ends.continues)
             (λ at is. settled_may_hold IsDdsText (cell_at (world old).cells (dds_block shape at)) (cell_at (world one).cells (dds_block shape at)) lists.dds (dds_settled_one at is)) w area
             (copy_back IsDdsText (dds_block shape) (world one).cells (world two).cells same w area copy)
 
@@ -118,15 +162,9 @@ module _ {M : Type 0} (world : M → World) (block_count : M → ℕ) (reaches :
           counts = later_counts stop stopped.counts;
           as_known = stopped.alone.as_known ∙ did.repairs.ends.alone.as_known;
           only = λ block away. sdl_only world reaches shape one two stopped.alone block away ∙ dds_only world reaches shape old one did.repairs.ends.alone block away;
-          given = λ other given. record {
-            dds_area = given.dds_area;
-            dds_copy = dds_held (dds_stay world reaches shape one two stopped.alone) other.dds given.dds_area given.dds_copy;
-            sdl_area = given.sdl_area;
-            sdl_copy = copy_back IsSdlText (sdl_block shape) (world old).cells (world one).cells (sdl_stay world reaches shape old one did.repairs.ends.alone) other.sdl given.sdl_area
-                (copy_held IsSdlText (sdl_block shape) sdl_texts.one_value (world one).cells (world two).cells lists.sdl sdl_settled_one (stop_stays_dead one two 12 stop stopped.stops)
-                (λ area is. sdl_may_hold (cell_at (world one).cells (sdl_block shape area)) (cell_at (world two).cells (sdl_block shape area)) lists.sdl (left area is)) other.sdl given.sdl_area given.sdl_copy);
-            valid = given.valid;
-          };
+          given = given_held shape (world old).cells (world two).cells (dds_held (dds_stay world reaches shape one two stopped.alone))
+              (λ w a b parts. parts_back old one did.repairs.ends.alone w a b
+              (parts_held shape (world one).cells (world two).cells lists.sdl sdl_exact_one (stop_stays_dead one two 12 stop stopped.stops) (sdl_left world reaches shape one two lists.sdl stopped.alone left) w a b parts));
         }
 
         pub second_ends : (stop : Stop) → StopsRepairingList world reaches shape one two kinds.Sdl (SdlValue lists.sdl) stop → StopsRewriting world reaches shape old two lists stop
@@ -166,7 +204,7 @@ module _ {M : Type 0} (world : M → World) (block_count : M → ℕ) (reaches :
             only = λ block away. sdl_only world reaches shape one two done.repairs.ends.alone block away ∙ dds_only world reaches shape old one did.repairs.ends.alone block away;
             settled = record {
               dds = settled_same IsDdsText (dds_block shape) (world one).cells (world two).cells (dds_stay world reaches shape one two done.repairs.ends.alone) lists.dds dds_settled_one;
-              sdl = sdl_settled shape (world two).cells lists.sdl done.settled;
+              sdl = λ _. sdl_settled shape (world two).cells lists.sdl lawful.version_is done.settled;
             };
           }
 
@@ -182,11 +220,11 @@ module _ {M : Type 0} (world : M → World) (block_count : M → ℕ) (reaches :
   rewritten_by old one two settled true true did done = record {
     both = both old one settled true did two true done;
     has_dds = λ known. dds_not_lost old one settled true did two true done (did.left known);
-    has_sdl = λ known. done.left (did.repairs.ends.alone.as_known ∙ known);
+    has_sdl = λ known lost. done.left (did.repairs.ends.alone.as_known ∙ known) (sdl_all_lost shape (world two).cells lists.sdl lawful.version_is lost);
   }
   rewritten_by old one two settled true false did done = record {
     both = both old one settled true did two false done;
-    lost = inr (λ known. dds_not_lost old one settled true did two false done (did.left known), done.left, refl);
+    lost = inr (λ known. dds_not_lost old one settled true did two false done (did.left known), sdl_lost shape (world two).cells lists.sdl done.left, refl);
   }
   rewritten_by old one two settled false true did done = record {
     both = both old one settled false did two true done;

@@ -10,10 +10,11 @@ use Rattle.model_geometry.proofs.DataBlocks.{data_blocks_bounds}
 use Rattle.model_geometry.proofs.Zones.{total_most}
 use Rattle.model_geometry.proofs.ListBlocks.{no_data_block_dds, no_data_block_sdl}
 use Rattle.model_lists.specs.declared.dds.DdsState.TheVariants.{Formatted}
+use Rattle.model_lists.specs.declared.versions.Version.TheVariants.{One}
 use Rattle.model_lists.specs.declared.dds.PdlEntry.{PdlEntry}
 use Rattle.model_lists.specs.declared.dds.PdlKind.{PdlKind}
 use Rattle.model_lists.specs.Values.{pdl_blocks, IsLawfulDds}
-use Rattle.model_lists.specs.Texts.{IsDdsText, IsSdlText}
+use Rattle.model_lists.specs.Texts.{IsDdsText}
 use Rattle.model_medium.specs.Cells.{Cell, Good, Dead, cell_at}
 use Rattle.model_counts.specs.Counts.{counted, Rose}
 use Rattle.model_medium.specs.World.{World, UseContinues}
@@ -21,7 +22,8 @@ use Rattle.model_stops.specs.Stops.{Continues, Stops}
 use Rattle.model_stops.specs.declared.Stop.{Stop}
 use Rattle.model_stops.specs.declared.Stop.TheVariants as stops
 use Rattle.model_sectors.specs.Discs.{zeros}
-use Rattle.model_copies.specs.Copies.{Settled, AreMarkedWithin}
+use Rattle.model_copies.specs.Copies.{Settled}
+use Rattle.model_copies.specs.Parts.{SdlIsExact, AreMarkedWithin}
 use Rattle.model_places.specs.Places as places
 use Rattle.model_places.specs.Valid.{AreValid}
 use Rattle.model_volume.specs.Given.{IsGiven, IsListBlock}
@@ -38,7 +40,8 @@ use Rattle.ram_medium.proofs.Parts.{continues_then, stops_later, stops_within}
 use Rattle.ram_zones.specs.declared.list_kind.ListKind.TheVariants as kinds
 use Rattle.ram_copies.specs.Values.{DdsValue, SdlValue}
 use Rattle.ram_copies.specs.Calls.{StoppedCounts, ChangesCopiesAlone, CallEnds, StoppedWithin, MayLeaveCopies}
-use Rattle.ram_copies.proofs.EachList.{dds_settled, dds_may_hold, sdl_settled}
+use Rattle.model_copies.proofs.SdlParts.{exact_same}
+use Rattle.ram_copies.proofs.EachList.{dds_settled, dds_may_hold, sdl_settled, sdl_lost, sdl_lost_exact, sdl_all_lost, seconds_stay_by_dds}
 use Rattle.ram_lists.proofs.MountSteps.{settled_same, sdl_stay, dds_stay}
 use Rattle.ram_certify.specs.Certifying.{certify_uses, ChangesCertifiedAlone, StopsCertifying}
 use Rattle.ram_format.specs.declared.ends.End.{End}
@@ -49,8 +52,9 @@ use Rattle.ram_format.specs.Full.{uses_of_all, FormatGoes, AreDefects, AreFewDef
 -- a structure with entries that rise, and are data blocks, is lawful
 pub lawful_dds : (shape : Shape) (mark psa : ℕ) (entries : List PdlEntry) → IsLawful shape → psa ≡ shape.psa → mark + 2 ≤ 4294967295 → length entries ≤ shape.psa
     → IsStrictlyIncreasing (pdl_blocks entries) → All (Contains (data_blocks shape)) (pdl_blocks entries)
-    → IsLawfulDds (record { counter = mark + 2; state = Formatted; psa = psa; entries = entries })
+    → IsLawfulDds (record { version = One; counter = mark + 2; state = Formatted; psa = psa; entries = entries })
 lawful_dds shape mark psa entries lawful same room few rise all = record {
+  version_is = refl;
   counted = omega (arith, room);
   limits = record { some = omega (arith, same, lawful.some_spares); most = omega (arith, same, lawful.most_spares); few = omega (arith, same, few); fits = tt };
   list = record {
@@ -132,7 +136,7 @@ module _ {M : Type 0} (world : M → World) (block_count : M → ℕ) (reaches :
         before : (lists : places.Lists) → IsGiven shape (world one).cells lists → IsGiven shape (world old).cells lists
         before = given_in_first shape (world old).cells (world one).cells mark
             (λ area is. dds_may_hold (cell_at (world old).cells (dds_block shape area)) (cell_at (world one).cells (dds_block shape area)) (formatting_dds shape mark) (left area is))
-            (sdl_stay world reaches shape old one stopped.alone)
+            (sdl_stay world reaches shape old one stopped.alone) (seconds_stay_by_dds world reaches shape old one stopped.alone)
 
     pub first_ends : (end : End) → EndsWritingList world reaches shape old one kinds.Dds (DdsValue (formatting_dds shape mark)) (mark + 1) mark end → EndsFormat world reaches shape kept kind mark old one end
     first_ends (ends.TooMany found left) h = absurd h
@@ -250,12 +254,12 @@ module _ {M : Type 0} (world : M → World) (block_count : M → ℕ) (reaches :
             third_ends (ends.NoCopy due left) h = inr (inl (record {
               goes = gone_three h.0;
               few = few_at three (data_stay_sdl two three h.0.alone);
-              lost = h.1;
+              lost = sdl_lost shape (world three).cells (fresh_sdl mark) h.1;
               counter_is = h.2;
               left_is = h.3;
               leaves = record {
                 gives_none = formatting_gives_none shape (world three).cells mark (stays_three h.0.alone);
-                marked = subst (AreMarkedWithin shape (world three).cells) (sym h.3) (marked_middle shape mark (world three).cells (stays_three h.0.alone) h.1);
+                marked = subst (AreMarkedWithin shape (world three).cells) (sym h.3) (marked_middle shape mark (world three).cells (stays_three h.0.alone) (sdl_lost_exact shape (world three).cells (fresh_sdl mark) refl h.1));
               };
             }))
             third_ends ends.Cut h = third_stop stops.Cut h.0
@@ -266,8 +270,8 @@ module _ {M : Type 0} (world : M → World) (block_count : M → ℕ) (reaches :
               formatting_three : Settled IsDdsText (dds_block shape) (world three).cells (formatting_dds shape mark)
               formatting_three = stays_three done.ended.alone
 
-              fresh_three : Settled IsSdlText (sdl_block shape) (world three).cells (fresh_sdl mark)
-              fresh_three = sdl_settled shape (world three).cells (fresh_sdl mark) done.settled
+              fresh_three : SdlIsExact shape (world three).cells (fresh_sdl mark)
+              fresh_three = sdl_settled shape (world three).cells (fresh_sdl mark) refl done.settled
 
               pub valid : AreValid shape (fresh_lists shape mark entries)
               valid = fresh_valid shape mark entries lawful few.defects.rise few.defects.data_only few.few
@@ -278,8 +282,8 @@ module _ {M : Type 0} (world : M → World) (block_count : M → ℕ) (reaches :
                 data_stay : ChangesCopiesAlone world reaches kinds.Dds shape three four → (block : ℕ) → Contains (data_blocks shape) block → cell_at (world four).cells block ≡ cell_at (world two).cells block
                 data_stay alone block is = data_stay_dds three four alone block is ∙ data_stay_sdl two three done.ended.alone block is
 
-                fresh_four : ChangesCopiesAlone world reaches kinds.Dds shape three four → Settled IsSdlText (sdl_block shape) (world four).cells (fresh_sdl mark)
-                fresh_four alone = settled_same IsSdlText (sdl_block shape) (world three).cells (world four).cells (sdl_stay world reaches shape three four alone) (fresh_sdl mark) fresh_three
+                fresh_four : ChangesCopiesAlone world reaches kinds.Dds shape three four → SdlIsExact shape (world four).cells (fresh_sdl mark)
+                fresh_four alone = exact_same shape (world three).cells (world four).cells (fresh_sdl mark) (λ area is. sdl_stay world reaches shape three four alone area) (λ area is. seconds_stay_by_dds world reaches shape three four alone area) fresh_three
 
                 gone_four : CallEnds world reaches kinds.Dds shape three four 8 → FormatGoes world reaches shape kept kind mark old four (uses_of_all world reaches shape kept kind mark old four)
                 gone_four ended = goes_then old three four (8 + certify_uses world reaches shape kept one two + 8) 8 (gone_three done.ended) ended.continues ended.counts ended.alone.as_known (dds_only three four ended.alone)
@@ -341,8 +345,8 @@ module _ {M : Type 0} (world : M → World) (block_count : M → ℕ) (reaches :
                   defects = still_defects four (data_stay last.ended.alone);
                   valid = valid;
                   lawful_dds = lawful_list;
-                  lawful_sdl = record { counted = omega arith; dds_counted = omega (arith, room); limits = record { most = omega arith; few = omega arith }; list = record { rise = λ k h. absurd (omega arith); numbers = λ k d h. absurd (omega arith) } };
-                  settled = record { dds = dds_settled shape (world four).cells (formatted_dds shape mark entries) last.settled; sdl = fresh_four last.ended.alone };
+                  lawful_sdl = record { version_is = refl; counted = omega arith; dds_counted = omega (arith, room); limits = record { most = omega arith; few = omega arith }; list = record { rise = λ k h. absurd (omega arith); numbers = λ k d h. absurd (omega arith) } };
+                  settled = record { dds = dds_settled shape (world four).cells (formatted_dds shape mark entries) last.settled; sdl = λ _. fresh_four last.ended.alone };
                   has_dds = λ known lost. last.not_lost (done.ended.alone.as_known ∙ few.defects.alone.as_known ∙ known_one known) lost;
-                  has_sdl = λ known lost. done.not_lost (few.defects.alone.as_known ∙ known_one known) (λ area is. sym (sdl_stay world reaches shape three four last.ended.alone area) ∙ lost area is);
+                  has_sdl = λ known lost. done.not_lost (few.defects.alone.as_known ∙ known_one known) (λ area is. sym (sdl_stay world reaches shape three four last.ended.alone area) ∙ sdl_all_lost shape (world four).cells (fresh_sdl mark) refl lost area is);
                 }

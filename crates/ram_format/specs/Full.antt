@@ -1,8 +1,8 @@
 -- What a full format does, by its answer: for `full_format`.
 use Rattle.std.specs.Prelude.{◌≡◌, ℕ, ◌+◌, ◌≤◌, ◌<◌, ◌⊎◌, true, IsTrue, List, length}
 use Rattle.std.specs.List.{Contains}
-use Rattle.model_geometry.specs.declared.TheConstants.{MOST_SPARES}
-use Rattle.model_geometry.specs.Geometry.{Shape, dds_block, sdl_block}
+use Rattle.model_geometry.specs.declared.TheConstants.{SDL_LIMIT}
+use Rattle.model_geometry.specs.Geometry.{Shape, dds_block}
 use Rattle.model_lists.specs.declared.dds.PdlEntry.{PdlEntry}
 use Rattle.model_lists.specs.declared.dds.PdlKind.{PdlKind}
 use Rattle.model_lists.specs.Values.{IsLawfulDds, IsLawfulSdl}
@@ -10,12 +10,13 @@ use Rattle.model_medium.specs.World.{World, UseContinues}
 use Rattle.model_stops.specs.Stops.{Continues, Stops}
 use Rattle.model_stops.specs.declared.Stop.{Stop}
 use Rattle.model_stops.specs.declared.Stop.TheVariants as stops
-use Rattle.model_copies.specs.Copies.{AllLost, AreMarkedWithin}
+use Rattle.model_copies.specs.Copies.{AllLost}
+use Rattle.model_copies.specs.Parts.{SdlIsLost, AreMarkedWithin}
 use Rattle.model_places.specs.Places as places
 use Rattle.model_places.specs.Valid.{AreValid}
 use Rattle.model_volume.specs.Given.{IsGiven, GivesNone, AreSettled}
 use Rattle.model_formats.specs.Defects.{AreCertified, AreDefective, ChangesFormatted}
-use Rattle.model_formats.specs.Fresh.{fresh_lists}
+use Rattle.model_formats.specs.Fresh.{fresh_sdl, fresh_lists}
 use Rattle.model_formats.specs.Stopped.{CoversStopped}
 use Rattle.ram_copies.specs.Calls.{StoppedCounts}
 use Rattle.ram_certify.specs.Certifying.{certify_uses}
@@ -76,7 +77,7 @@ module _ {M : Type 0} (world : M → World) (reaches : M → M → ℕ → Type 
     pub lawful_sdl : IsLawfulSdl lists.sdl
     pub settled : AreSettled shape (world new).cells lists
     pub has_dds : (world old).known ≡ true → ¬ AllLost (dds_block shape) (world new).cells
-    pub has_sdl : (world old).known ≡ true → ¬ AllLost (sdl_block shape) (world new).cells
+    pub has_sdl : (world old).known ≡ true → ¬ SdlIsLost shape (world new).cells (fresh_sdl mark)
 
   -- More blocks are defective than may be slipped, and so many.
   pub record MeetsTooMany (found left : ℕ) : Type 0 where
@@ -100,7 +101,7 @@ module _ {M : Type 0} (world : M → World) (reaches : M → M → ℕ → Type 
   pub record LosesSecond (counter left : ℕ) : Type 0 where
     pub goes : FormatGoes uses_of_three
     pub few : AreFewDefects
-    pub lost : AllLost (sdl_block shape) (world new).cells
+    pub lost : SdlIsLost shape (world new).cells (fresh_sdl mark)
     pub counter_is : counter ≡ 1
     pub left_is : left ≡ mark + 2
     pub leaves : LeavesNoLists left
@@ -172,5 +173,5 @@ module _ {M : Type 0} (world : M → World) (reaches : M → M → ℕ → Type 
 
 -- the secondary list of a disc that was formatted has room for all entries that it may come to have
 abbrev pub IsRoomyEnd : FullEnd → Type 0
-IsRoomyEnd (fulls.Good lists) = MOST_SPARES ≤ lists.sdl.entries.room
+IsRoomyEnd (fulls.Good lists) = SDL_LIMIT ≤ lists.sdl.entries.room
 IsRoomyEnd _ = Unit {0}

@@ -7,6 +7,7 @@ use Rattle.model_stops.specs.Stops.{Continues, Stops}
 use Rattle.model_stops.specs.declared.Stop.{Stop}
 use Rattle.model_stops.specs.declared.Stop.TheVariants as stops
 use Rattle.model_copies.specs.Copies.{Settled, AllLost}
+use Rattle.model_copies.specs.Parts.{SdlIsLost}
 use Rattle.model_places.specs.Places.{Lists}
 use Rattle.model_volume.specs.Given.{IsGiven, AreSettled, OnlyLists}
 use Rattle.ram_zones.specs.declared.list_kind.ListKind.{ListKind}
@@ -54,14 +55,14 @@ module _ {M : Type 0} (world : M → World) (reaches : M → M → ℕ → Type 
     pub record HaveCopies : Type 0 where
       pub both : RepairsBothLists
       pub has_dds : (world old).known ≡ true → ¬ AllLost (dds_block shape) (world new).cells
-      pub has_sdl : (world old).known ≡ true → ¬ AllLost (sdl_block shape) (world new).cells
+      pub has_sdl : (world old).known ≡ true → ¬ SdlIsLost shape (world new).cells lists.sdl
 
     -- One has none: the structure, or the secondary list alone. The counter is that list's.
     pub record LacksCopies (counter : ℕ) : Type 0 where
       pub both : RepairsBothLists
       pub lost : (AllLost (dds_block shape) (world new).cells × (counter ≡ lists.dds.counter))
           ⊎ (((world old).known ≡ true → ¬ AllLost (dds_block shape) (world new).cells)
-          × AllLost (sdl_block shape) (world new).cells × (counter ≡ lists.sdl.counter))
+          × SdlIsLost shape (world new).cells lists.sdl × (counter ≡ lists.sdl.counter))
 
     -- what was found of the copies: the counter of a list that has none, if one has
     abbrev pub RewritesBy : Option ℕ → Type 0

@@ -1,6 +1,6 @@
 -- What the memory of a full format is: for `Room`.
 use Rattle.std.specs.Prelude.{◌≡◌, ℕ, ◌-◌, ◌≤◌, [], vec_capacity}
-use Rattle.model_geometry.specs.declared.TheConstants.{MOST_SPARES}
+use Rattle.model_geometry.specs.declared.TheConstants.{SDL_LIMIT}
 use Rattle.model_geometry.specs.Geometry.{Shape}
 use Rattle.model_sectors.specs.Discs.{zeros}
 use Rattle.ram_format.specs.declared.full.Room.{Room}
@@ -14,4 +14,4 @@ pub record IsFormatRoom (shape : Shape) (kept : ℕ) (room : Room) : Type 0 wher
   pub no_entries : room.defects.entries.items ≡ []
   pub entries_room : shape.psa ≤ vec_capacity room.defects.entries
   pub none_replaced : room.entries.list ≡ []
-  pub replaced_room : MOST_SPARES ≤ room.entries.room
+  pub replaced_room : SDL_LIMIT ≤ room.entries.room

@@ -2,7 +2,7 @@
 
 ghost use Rattle.std.specs.Prelude.{◌≡◌, ◌≤◌, ◌+◌, IsTrue, IfOk, MatchResult, length};
 ghost use Rattle.model_geometry.specs.Geometry.{total};
-ghost use Rattle.model_copies.specs.Copies.{AreMarkedWithin};
+ghost use Rattle.model_copies.specs.Parts.{AreMarkedWithin};
 ghost use Rattle.model_formats.specs.Defects.{AreKept};
 ghost use Rattle.ram_format.specs.Phases.{kind_by};
 ghost use Rattle.ram_lists.specs.Lists.{lists_of};
@@ -16,7 +16,7 @@ use ram_copies::Scratch;
 use ram_dds::{DdsPdl, DdsState, PdlEntries, PdlEntry, PdlKind};
 use ram_lists::Lists;
 use ram_medium::Medium;
-use ram_sdl::{MOST_SPARES, Sdl, SdlEntries};
+use ram_sdl::{SDL_LIMIT, Sdl, SdlEntries, Version};
 use ram_zones::Geometry;
 use std::alloc::{AllocError, Global};
 
@@ -28,7 +28,7 @@ const GREATEST_MARK: u32 = 4_294_967_293;
 pub enum FullEnd {
     /// The disc is formatted.
     Good {
-        /// Its lists. The secondary one has room for [`MOST_SPARES`] entries.
+        /// Its lists. The secondary one has room for [`SDL_LIMIT`] entries.
         lists: Lists,
     },
     /// More blocks are defective than may be slipped. The disc is not formatted.
@@ -84,7 +84,7 @@ impl Room {
         let found = Vec::with_capacity(alloc, psa.saturating_sub(kept))?;
         let entries = Vec::with_capacity(alloc, psa)?;
         let mut replaced = SdlEntries::new(alloc);
-        replaced.reserve(MOST_SPARES as usize)?;
+        replaced.reserve(SDL_LIMIT as usize)?;
         Ok(Room {
             defects: DefectRoom {
                 zero,
@@ -117,12 +117,13 @@ fn format_disc<M: Medium>(
         (λ lists. MakesLists M.world M.reaches geometry.now kept.now (kind_by first) mark medium.old medium.new
         (lists_of lists))
         (EndsFormat M.world M.reaches geometry.now kept.now (kind_by first) mark medium.old medium.new) }
-    ensures roomy { IfOk result (λ lists. MOST_SPARES ≤ lists.sdl.entries.room) }
+    ensures roomy { IfOk result (λ lists. SDL_LIMIT ≤ lists.sdl.entries.room) }
     ensures as_many { M.block_count medium.new ≡ M.block_count medium.old }
 {
     let Room { defects, entries } = room;
     let psa = geometry.psa();
     let formatting = DdsPdl {
+        version: Version::One,
         counter: mark + 1,
         state: DdsState::Formatting,
         psa,
@@ -132,6 +133,7 @@ fn format_disc<M: Medium>(
     let kind = kind_of(first);
     let defective = find_defects(medium, geometry, kept, kind, mark + 1, defects, scratch)?;
     let sdl = Sdl {
+        version: Version::One,
         counter: 1,
         dds_counter: mark + 2,
         ssa: 0,
@@ -139,6 +141,7 @@ fn format_disc<M: Medium>(
     };
     write_list(medium, geometry, &sdl, 1, mark + 2, scratch)?;
     let dds = DdsPdl {
+        version: Version::One,
         counter: mark + 2,
         state: DdsState::Formatted,
         psa,

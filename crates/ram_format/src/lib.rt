@@ -12,6 +12,3 @@ mod rewriting;
 pub use full::{FullEnd, full_format};
 pub use keeping::kept_entries;
 pub use rewriting::{Rewritten, rewrite};
-
-#[cfg(test)]
-mod tests;

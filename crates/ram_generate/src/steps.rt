@@ -5,7 +5,8 @@ ghost use Rattle.ram_generate.specs.Lines.{fate_text};
 ghost use Rattle.ram_generate.specs.Script.{AddsStep, write_step, read_step, fail_step, wear_step, cut_step, power_step, one_step, steps_text};
 
 use crate::drawing::draw;
-use crate::texts::{add, add_number, add_transfer, encode};
+use crate::texts::{add, add_number, add_transfer};
+use ram_bytes::encode_hex;
 use rand_pcg::Pcg32;
 use std::alloc::AllocError;
 
@@ -41,7 +42,7 @@ fn add_write(script: &mut Vec<u8>, words: &mut Pcg32) -> Result<(), AllocError>
     let n = 1 + draw(words, 16);
     let first = draw(words, 256);
     let mut data = *b" count ..\n";
-    encode(&[first as u8], &mut data[7..9]);
+    encode_hex(&[first as u8], &mut data[7..9]);
     add_transfer(script, 0x2a, lba, n as u16, &data)
 }
 

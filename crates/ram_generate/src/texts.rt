@@ -1,10 +1,10 @@
 //! Texts of lines, added to a script or to another text.
 
-ghost use Rattle.std.specs.Prelude.{◌≡◌, ◌++◌, ◌*◌, length, decimal, OnOk};
-ghost use Rattle.hex.specs.Hex.{encode_lower};
+ghost use Rattle.std.specs.Prelude.{◌≡◌, ◌++◌, decimal, OnOk};
 ghost use Rattle.ram_generate.specs.Lines.{transfer_block, transfer_text};
 
 use itoa::Buffer;
+use ram_bytes::encode_hex;
 use std::alloc::AllocError;
 
 /// Adds a text.
@@ -34,7 +34,7 @@ pub fn add_transfer(
 {
     let block = transfer_block(code, lba, n);
     let mut digits = [0u8; 20];
-    encode(&block, &mut digits);
+    encode_hex(&block, &mut digits);
     add(script, b"cdb ")?;
     add(script, &digits)?;
     add(script, tail)
@@ -47,12 +47,4 @@ fn transfer_block(code: u8, lba: u32, n: u16) -> [u8; 10]
     let [a, b, c, d] = lba.to_be_bytes();
     let [e, f] = n.to_be_bytes();
     [code, 0, a, b, c, d, 0, e, f, 0]
-}
-
-/// Writes the bytes as lower-case hexadecimal digits.
-pub fn encode(bytes: &[u8], digits: &mut [u8])
-    requires { length digits.old ≡ 2 * length bytes.now }
-    ensures { digits.new ≡ encode_lower bytes.now }
-{
-    let _ = hex::encode_to_slice(bytes, digits);
 }

@@ -10,6 +10,3 @@ pub mod pressing;
 pub use medium::ImageMedium;
 pub use opening::{OpenFault, open};
 pub use pressing::{PressOut, press};
-
-#[cfg(test)]
-mod tests;

@@ -6,13 +6,13 @@ use Rattle.std.specs.List.Sorted.{IsStrictlyIncreasing}
 use Rattle.std.proofs.lemmas.Bool.{cases_eq, cases_lt}
 use Rattle.std.proofs.lemmas.Bool.Decides.{Decides-eqb}
 use Rattle.std.proofs.lemmas.List.{length-map, get_or-map, get_or_default}
-use Rattle.std.proofs.lemmas.List.Elements.{All-cons, All-map, All-contains}
+use Rattle.std.proofs.lemmas.List.Elements.{All-cons, All-map}
 use Rattle.std.proofs.lemmas.List.Kept.{AllPairs-cons}
 use Rattle.std.proofs.lemmas.Map.Made.{IsDistinct-from_AllPairs}
 use Rattle.std.proofs.lemmas.Option.{slice_get-get_or}
 use Rattle.model_geometry.specs.Geometry.{Shape}
 use Rattle.model_lists.specs.declared.sdl.SdlEntry.{SdlEntry}
-use Rattle.model_lists.specs.Values.{defectives, IsEntryOf}
+use Rattle.model_lists.specs.Values.{defectives}
 use Rattle.model_places.specs.Places.{Lists, unslipped, spares, replacements}
 use Rattle.model_places.specs.Valid.{IsValidSsa, IsValidSdl}
 use Rattle.model_places.proofs.Listed.{All-listed, listed-All}
@@ -44,19 +44,6 @@ rising_more entries n d some below before up k within =
           omega (arith, up, low, high, block_at entries (n - 1) d (omega (arith, below)), block_at entries n d below))
       | inr earlier ↦ before k (omega (arith, within, earlier))
     ]
-
--- ---- an entry of a block
-
-pub found_defective : (entries : List SdlEntry) (b : ℕ) (e : SdlEntry) → IsEntryOf entries b (Some e) → Contains (defectives entries) b
-found_defective [] b e (is, (k, below, at)) = absurd (omega (arith, below))
-found_defective (f ∷ fs) b e (is, (zero, below, at)) = (0, omega arith, ap (λ (x : SdlEntry). x.defective) at ∙ is)
-found_defective (f ∷ fs) b e (is, (suc k, below, at)) =
-    let later = found_defective fs b e (is, (k, omega (arith, below), at)) in
-    (suc later.0, omega (arith, later.1), later.2)
-
-pub none_defective : (entries : List SdlEntry) (b : ℕ) → IsEntryOf entries b None → ¬ Contains (defectives entries) b
-none_defective entries b none has =
-    All-contains (λ (x : ℕ). x ≡ b → ⊥) (defectives entries) b (All-map (λ (x : ℕ). x ≡ b → ⊥) (λ (e : SdlEntry). e.defective) entries none) has refl
 
 -- ---- entries that all pass a test
 
@@ -187,7 +174,7 @@ module _ (shape : Shape) (lists : Lists) where
   both_of None h g = tt
   both_of (Some x) h g = (h, g)
 
-  pub sdl_valid : IsValidSsa shape lists.sdl.ssa → IsStrictlyIncreasing (defectives lists.sdl.entries) → All (IsEntryValid shape lists) lists.sdl.entries → IsDistinct eqb (replacements lists.sdl.entries) → IsValidSdl shape lists
+  pub sdl_valid : IsValidSsa shape lists.sdl.version lists.sdl.ssa → IsStrictlyIncreasing (defectives lists.sdl.entries) → All (IsEntryValid shape lists) lists.sdl.entries → IsDistinct eqb (replacements lists.sdl.entries) → IsValidSdl shape lists
   sdl_valid area rising all different = record {
     area = area;
     within = listed-All (unslipped shape lists.dds) (defectives lists.sdl.entries) (All-map (Contains (unslipped shape lists.dds)) (λ (e : SdlEntry). e.defective) lists.sdl.entries (λ k d below. (all k d below).within));

@@ -4,9 +4,9 @@ use Rattle.std.proofs.Common.{refl, sym, ap, ◌∙◌, inl, inr, subst, arith}
 use Rattle.std.specs.Bool.{OnFalse}
 use Rattle.std.proofs.lemmas.Bool.{cases_Bool, true≢false}
 use Rattle.model_counts.specs.Counts.{counted, Rose}
-use Rattle.model_geometry.specs.Geometry.{Shape, dds_block, sdl_block}
+use Rattle.model_geometry.specs.Geometry.{Shape, dds_block, sdl_block, sdl_second_block}
 use Rattle.model_lists.specs.Values.{Dds, Sdl}
-use Rattle.model_lists.specs.Texts.{IsDdsText, IsSdlText}
+use Rattle.model_lists.specs.Texts.{IsDdsText, IsTwo, IsSdlText, IsSdlSecond}
 use Rattle.model_lists.specs.declared.dds.DdsState.{DdsState}
 use Rattle.model_lists.specs.declared.dds.DdsState.TheVariants.{Formatting, Formatted}
 use Rattle.model_medium.specs.Cells.{Cell, Blank, Good, Torn, Dead, IsSameOrDead, cell_at}
@@ -14,17 +14,19 @@ use Rattle.model_medium.specs.World.{World, UseContinues}
 use Rattle.model_stops.specs.Stops.{Continues}
 use Rattle.model_stops.specs.declared.Stop.{Stop}
 use Rattle.model_stops.specs.declared.Stop.TheVariants as stops
-use Rattle.model_copies.specs.Copies.{IsArea, Holds, HoldsOrDead, MayHold, HasCopy, HasDdsCopy, HasSdlCopy, Settled, IsChosen, NoneChosen, IsGreatestMark, AreMarkedWithin, Mark, IsSeen, HoldNothingNew}
+use Rattle.model_copies.specs.Copies.{IsArea, Holds, HoldsOrDead, MayHold, HasCopy, HasDdsCopy, Settled, IsChosen, NoneChosen, IsGreatestMark, IsSeen, HoldNothingNew}
+use Rattle.model_copies.specs.Parts.{HasSdlCopy, Names, AreMarkedWithin, Mark, PartsHoldNothingNew}
+use Rattle.model_copies.proofs.SdlParts.{sdl_before, sdl_repaired as parts_repaired}
 use Rattle.model_copies.proofs.CopyFacts.{copy_settled}
 use Rattle.model_copies.proofs.Marking.{greater_mark}
 use Rattle.model_copies.proofs.Rewriting.{rewrites_seen}
 use Rattle.model_copies.proofs.NothingNew.{nothing_new_from_dead, nothing_new_from_write, nothing_new_then}
+use Rattle.model_places.specs.Places.{Lists}
 use Rattle.model_places.specs.Valid.{IsValidPdl}
-use Rattle.model_volume.specs.Given.{GivesNone, FitsDds, IsChosenDds, IsChosenSdl, NoDdsChosen, NoSdlChosen, IsListBlock, OnlyLists, AreSeen}
+use Rattle.model_volume.specs.Given.{IsWholePair, IsGiven, GivesNone, FitsDds, IsChosenDds, IsChosenSdl, NoDdsChosen, NoSdlChosen, IsListBlock, OnlyLists, AreSeen}
 use Rattle.model_lists.proofs.DdsTexts as dds_texts
-use Rattle.model_lists.proofs.SdlTexts as sdl_texts
 use Rattle.model_volume.proofs.Updates.{dds_no_sdl}
-use Rattle.model_volume.proofs.GivenFacts.{none_lacking, given_others, bare_without_dds, bare_formatting, bare_without_sdl}
+use Rattle.model_volume.proofs.GivenFacts.{none_lacking, given_before, given_in_dds_repair, given_others, exact_settled, bare_without_dds, bare_formatting, bare_without_sdl}
 use Rattle.model_volume.proofs.ListCells.{dds_listed, sdl_listed, seen_by, dds_seen, sdl_seen, loses_seen}
 use Rattle.ram_medium.specs.Laws.{MediumLaws}
 use Rattle.ram_medium.proofs.Parts.{continues_then, stops_later, stops_within}
@@ -33,7 +35,7 @@ use Rattle.ram_zones.specs.declared.list_kind.ListKind.TheVariants as kinds
 use Rattle.ram_copies.specs.Values.{ListValue, DdsValue, SdlValue, IsText}
 use Rattle.ram_copies.specs.Calls.{StoppedCounts, ChangesCopiesAlone, CallEnds, StoppedWithin, MayLeaveCopies}
 use Rattle.ram_copies.specs.Chooses.{SawCopies, Finds, FindsNone}
-use Rattle.ram_copies.proofs.EachList.{dds_settled, dds_chosen, dds_none, dds_marked, dds_may_hold, dds_rewritten, sdl_settled, sdl_chosen, sdl_none, sdl_marked, sdl_may_hold, sdl_rewritten}
+use Rattle.ram_copies.proofs.EachList.{dds_settled, dds_chosen, dds_none, dds_marked, dds_may_hold, dds_rewritten, sdl_any, sdl_own, sdl_settled, sdl_none, sdl_marked, sdl_rewritten, sdl_left, seconds_stay, seconds_stay_by_dds}
 use Rattle.ram_lists.specs.Lists.{AcceptsDds, AcceptsSdl, AcceptsNothing}
 use Rattle.ram_lists.specs.Parts.{HasPicked, EndsPicking, PicksBest, IsMended, EndsMending}
 use Rattle.ram_lists.specs.Mounts.{KeepsGiven, RepairsCopies, WasStopped, EndsWithLists, EndsBare, EndRule}
@@ -58,11 +60,17 @@ none_held text place cells none v area copy = subst (λ (cs : List Cell). Holds 
 none_marked : (shape : Shape) (cells : List Cell) (mark : ℕ) → cells ≡ [] → AreMarkedWithin shape cells mark
 none_marked shape cells mark none = record {
   dds = λ v area copy. absurd (none_held IsDdsText (dds_block shape) cells none v area copy);
-  sdl = λ v area copy. absurd (none_held IsSdlText (sdl_block shape) cells none v area copy);
+  sdl = λ counter area is names. absurd (subst (λ (cs : List Cell). Names (cell_at cs (sdl_block shape area)) counter) none names);
 }
 
 none_left : {V : Type 0} (text : V → List ℕ → Type 0) (place : ℕ → ℕ) (old new : List Cell) → new ≡ [] → HoldNothingNew text place old new
 none_left text place old new none area is = inr (inr (inl (ap (λ (cells : List Cell). cell_at cells (place area)) none)))
+
+parts_none_left : (shape : Shape) (old new : List Cell) → new ≡ [] → PartsHoldNothingNew IsTwo IsSdlText IsSdlSecond (sdl_block shape) (sdl_second_block shape) old new
+parts_none_left shape old new none = record {
+  firsts = λ area is. inr (inr (inl (ap (λ (cells : List Cell). cell_at cells (sdl_block shape area)) none)));
+  seconds = λ area is. inr (inr (inl (ap (λ (cells : List Cell). cell_at cells (sdl_second_block shape area)) none)));
+}
 
 none_given : (shape : Shape) (cells : List Cell) → cells ≡ [] → GivesNone shape cells
 none_given shape cells none lists given = none_held IsDdsText (dds_block shape) cells none lists.dds given.dds_area given.dds_copy
@@ -98,19 +106,61 @@ marked_still shape old new mark d area within copy settled same = record {
       let counters = ap (λ (x : Dds). x.counter) is in
       let low = within.dds d area copy in
       omega (arith, counters, low);
-  sdl = λ v at c. within.sdl v at (copy_back IsSdlText (sdl_block shape) old new same v at c);
+  sdl = λ counter at is names. within.sdl counter at is (subst (λ (c : Cell). Names c counter) (same at) names);
 }
 
 -- ---- what each step keeps
 
-keeps_by : (shape : Shape) (old new : World) → new.known ≡ old.known → OnlyLists shape old.cells new.cells → HoldNothingNew IsDdsText (dds_block shape) old.cells new.cells
-    → HoldNothingNew IsSdlText (sdl_block shape) old.cells new.cells → KeepsGiven shape old new
-keeps_by shape old new as_known only dds sdl = record { as_known = as_known; only = only; dds = dds; sdl = sdl; given = given_others shape old.cells new.cells dds sdl }
+-- of the cells of the secondary list some may have died, and nothing else happened to them
+pub record SdlDies (shape : Shape) (old new : List Cell) : Type 0 where
+  pub firsts : (area : ℕ) → IsArea area → IsSameOrDead (cell_at old (sdl_block shape area)) (cell_at new (sdl_block shape area))
+  pub seconds : (area : ℕ) → IsArea area → IsSameOrDead (cell_at old (sdl_second_block shape area)) (cell_at new (sdl_second_block shape area))
 
-keeps_then : (shape : Shape) (a b c : World) → KeepsGiven shape a b → KeepsGiven shape b c → KeepsGiven shape a c
-keeps_then shape a b c one two = keeps_by shape a c (two.as_known ∙ one.as_known) (λ block away. two.only block away ∙ one.only block away)
-    (nothing_new_then IsDdsText (dds_block shape) a.cells b.cells c.cells dds_texts.one_value one.dds two.dds)
-    (nothing_new_then IsSdlText (sdl_block shape) a.cells b.cells c.cells sdl_texts.one_value one.sdl two.sdl)
+dies_then : (a b c : Cell) → IsSameOrDead a b → IsSameOrDead b c → IsSameOrDead a c
+dies_then a b c (inl same) (inl as_was) = inl (as_was ∙ same)
+dies_then a b c (inr dead) (inl as_was) = inr (as_was ∙ dead)
+dies_then a b c first (inr dead) = inr dead
+
+sdl_dies_then : (shape : Shape) (a b c : List Cell) → SdlDies shape a b → SdlDies shape b c → SdlDies shape a c
+sdl_dies_then shape a b c one two = record {
+  firsts = λ area is. dies_then (cell_at a (sdl_block shape area)) (cell_at b (sdl_block shape area)) (cell_at c (sdl_block shape area)) (one.firsts area is) (two.firsts area is);
+  seconds = λ area is. dies_then (cell_at a (sdl_second_block shape area)) (cell_at b (sdl_second_block shape area)) (cell_at c (sdl_second_block shape area)) (one.seconds area is) (two.seconds area is);
+}
+
+-- so they hold nothing new, also where more happens behind it
+parts_from_dying : (shape : Shape) (old new : List Cell) → SdlDies shape old new → PartsHoldNothingNew IsTwo IsSdlText IsSdlSecond (sdl_block shape) (sdl_second_block shape) old new
+parts_from_dying shape old new dies = record {
+  firsts = λ area is. elim (dies.firsts area is) [ inl same ↦ inl same | inr dead ↦ inr (inr (inl dead)) ];
+  seconds = λ area is. elim (dies.seconds area is) [ inl same ↦ inl same | inr dead ↦ inr (inr (inl dead)) ];
+}
+
+parts_then : (shape : Shape) (a b c : List Cell) → SdlDies shape a b → PartsHoldNothingNew IsTwo IsSdlText IsSdlSecond (sdl_block shape) (sdl_second_block shape) b c → PartsHoldNothingNew IsTwo IsSdlText IsSdlSecond (sdl_block shape) (sdl_second_block shape) a c
+parts_then shape a b c dies later = record {
+  firsts = λ area is. elim (later.firsts area is) [
+    | inl same ↦ elim (dies.firsts area is) [ inl as_was ↦ inl (same ∙ as_was) | inr dead ↦ inr (inr (inl (same ∙ dead))) ]
+    | inr (inl torn) ↦ inr (inl torn)
+    | inr (inr (inl dead)) ↦ inr (inr (inl dead))
+    | inr (inr (inr held)) ↦ inr (inr (inr (held.0, held.1, before held.0 held.1 held.2, held.3)))
+  ];
+  seconds = λ area is. elim (later.seconds area is) [
+    | inl same ↦ elim (dies.seconds area is) [ inl as_was ↦ inl (same ∙ as_was) | inr dead ↦ inr (inr (inl (same ∙ dead))) ]
+    | inr (inl torn) ↦ inr (inl torn)
+    | inr (inr (inl dead)) ↦ inr (inr (inl dead))
+    | inr (inr (inr held)) ↦ inr (inr (inr (held.0, held.1, held.2, before held.0 held.1 held.3, held.4)))
+  ];
+}
+  where
+    before : (v : Sdl) (at : ℕ) → HasSdlCopy shape b v at → HasSdlCopy shape a v at
+    before v at whole = sdl_before shape a b v at at (dies.firsts at whole.is_area) (dies.seconds at whole.is_area) whole
+
+keeps_then : (shape : Shape) (a b c : World) → KeepsGiven shape a b → SdlDies shape a.cells b.cells → KeepsGiven shape b c → KeepsGiven shape a c
+keeps_then shape a b c one dies two = record {
+  as_known = two.as_known ∙ one.as_known;
+  only = λ block away. two.only block away ∙ one.only block away;
+  dds = nothing_new_then IsDdsText (dds_block shape) a.cells b.cells c.cells dds_texts.one_value one.dds two.dds;
+  sdl = parts_then shape a.cells b.cells c.cells dies two.sdl;
+  given = λ lists given. one.given lists (two.given lists given);
+}
 
 -- an update of one list changes no cells but its own
 module _ {M : Type 0} (world : M → World) (reaches : M → M → ℕ → Type 0) (shape : Shape) where
@@ -137,33 +187,84 @@ module _ {M : Type 0} (world : M → World) (block_count : M → ℕ) (reaches :
   dds_others : (old new : M) → ChangesCopiesAlone world reaches kinds.Sdl shape old new → HoldNothingNew IsDdsText (dds_block shape) (world old).cells (world new).cells
   dds_others old new alone = nothing_new_from_dead IsDdsText (dds_block shape) (world old).cells (world new).cells (λ a is. inl (dds_stay world reaches shape old new alone a))
 
-  sdl_others : (old new : M) → ChangesCopiesAlone world reaches kinds.Dds shape old new → HoldNothingNew IsSdlText (sdl_block shape) (world old).cells (world new).cells
-  sdl_others old new alone = nothing_new_from_dead IsSdlText (sdl_block shape) (world old).cells (world new).cells (λ a is. inl (sdl_stay world reaches shape old new alone a))
+  -- what a call of either list does to the cells of the secondary one
+  sdl_others : (old new : M) → ChangesCopiesAlone world reaches kinds.Dds shape old new → SdlDies shape (world old).cells (world new).cells
+  sdl_others old new alone = record { firsts = λ a is. inl (sdl_stay world reaches shape old new alone a); seconds = λ a is. inl (seconds_stay_by_dds world reaches shape old new alone a) }
+
+  sdl_looked : (old new : M) → ChangesCopiesAlone world reaches kinds.Sdl shape old new → SawCopies world reaches kinds.Sdl shape old new → SdlDies shape (world old).cells (world new).cells
+  sdl_looked old new alone saw = record { firsts = seen_left (sdl_block shape) (world old).cells (world new).cells saw; seconds = λ a is. inl (seconds_stay world reaches shape old new alone a) }
 
   dds_look_keeps : (old new : M) → ChangesCopiesAlone world reaches kinds.Dds shape old new → SawCopies world reaches kinds.Dds shape old new → KeepsGiven shape (world old) (world new)
-  dds_look_keeps old new alone saw = keeps_by shape (world old) (world new) alone.as_known (dds_only world reaches shape old new alone)
-      (nothing_new_from_dead IsDdsText (dds_block shape) (world old).cells (world new).cells (seen_left (dds_block shape) (world old).cells (world new).cells saw)) (sdl_others old new alone)
+  dds_look_keeps old new alone saw =
+      let dies = sdl_others old new alone in
+      record {
+        as_known = alone.as_known;
+        only = dds_only world reaches shape old new alone;
+        dds = nothing_new_from_dead IsDdsText (dds_block shape) (world old).cells (world new).cells (seen_left (dds_block shape) (world old).cells (world new).cells saw);
+        sdl = parts_from_dying shape (world old).cells (world new).cells dies;
+        given = λ lists given. given_before shape (world old).cells (world new).cells lists (seen_left (dds_block shape) (world old).cells (world new).cells saw) dies.firsts dies.seconds given;
+      }
 
   sdl_look_keeps : (old new : M) → ChangesCopiesAlone world reaches kinds.Sdl shape old new → SawCopies world reaches kinds.Sdl shape old new → KeepsGiven shape (world old) (world new)
-  sdl_look_keeps old new alone saw = keeps_by shape (world old) (world new) alone.as_known (sdl_only world reaches shape old new alone) (dds_others old new alone)
-      (nothing_new_from_dead IsSdlText (sdl_block shape) (world old).cells (world new).cells (seen_left (sdl_block shape) (world old).cells (world new).cells saw))
+  sdl_look_keeps old new alone saw =
+      let dies = sdl_looked old new alone saw in
+      record {
+        as_known = alone.as_known;
+        only = sdl_only world reaches shape old new alone;
+        dds = dds_others old new alone;
+        sdl = parts_from_dying shape (world old).cells (world new).cells dies;
+        given = λ lists given. given_before shape (world old).cells (world new).cells lists (λ a is. inl (dds_stay world reaches shape old new alone a)) dies.firsts dies.seconds given;
+      }
 
   dds_mend_keeps : (old new : M) (d : Dds) (area : ℕ) → ((world old).known ≡ true → HasDdsCopy shape (world old).cells d area) → ChangesCopiesAlone world reaches kinds.Dds shape old new
       → MayLeaveCopies world reaches kinds.Dds shape old new (DdsValue d) → KeepsGiven shape (world old) (world new)
-  dds_mend_keeps old new d area copy alone left = keeps_by shape (world old) (world new) alone.as_known (dds_only world reaches shape old new alone)
-      (by_known new (HoldNothingNew IsDdsText (dds_block shape) (world old).cells (world new).cells)
-      (λ known. nothing_new_from_write IsDdsText (dds_block shape) (world old).cells (world new).cells d area (copy (sym alone.as_known ∙ known))
-      (λ a is. dds_may_hold (cell_at (world old).cells (dds_block shape a)) (cell_at (world new).cells (dds_block shape a)) d (left a is)))
-      (none_left IsDdsText (dds_block shape) (world old).cells (world new).cells))
-      (sdl_others old new alone)
+  dds_mend_keeps old new d area copy alone left = record {
+    as_known = alone.as_known;
+    only = dds_only world reaches shape old new alone;
+    dds = by_known new (HoldNothingNew IsDdsText (dds_block shape) (world old).cells (world new).cells)
+        (λ known. nothing_new_from_write IsDdsText (dds_block shape) (world old).cells (world new).cells d area (copy (sym alone.as_known ∙ known)) may)
+        (none_left IsDdsText (dds_block shape) (world old).cells (world new).cells);
+    sdl = parts_from_dying shape (world old).cells (world new).cells dies;
+    given = by_known new ((lists : Lists) → IsGiven shape (world new).cells lists → IsGiven shape (world old).cells lists)
+        (λ known. given_in_dds_repair shape (world old).cells (world new).cells d area (copy (sym alone.as_known ∙ known)) may dies.firsts dies.seconds)
+        (λ none lists given. absurd (none_given shape (world new).cells none lists given));
+  }
+    where
+      may : (a : ℕ) → IsArea a → MayHold IsDdsText (cell_at (world old).cells (dds_block shape a)) d (cell_at (world new).cells (dds_block shape a))
+      may a is = dds_may_hold (cell_at (world old).cells (dds_block shape a)) (cell_at (world new).cells (dds_block shape a)) d (left a is)
 
-  sdl_mend_keeps : (old new : M) (s : Sdl) (area : ℕ) → ((world old).known ≡ true → HasSdlCopy shape (world old).cells s area) → ChangesCopiesAlone world reaches kinds.Sdl shape old new
-      → MayLeaveCopies world reaches kinds.Sdl shape old new (SdlValue s) → KeepsGiven shape (world old) (world new)
-  sdl_mend_keeps old new s area copy alone left = keeps_by shape (world old) (world new) alone.as_known (sdl_only world reaches shape old new alone) (dds_others old new alone)
-      (by_known new (HoldNothingNew IsSdlText (sdl_block shape) (world old).cells (world new).cells)
-      (λ known. nothing_new_from_write IsSdlText (sdl_block shape) (world old).cells (world new).cells s area (copy (sym alone.as_known ∙ known))
-      (λ a is. sdl_may_hold (cell_at (world old).cells (sdl_block shape a)) (cell_at (world new).cells (sdl_block shape a)) s (left a is)))
-      (none_left IsSdlText (sdl_block shape) (world old).cells (world new).cells))
+      dies : SdlDies shape (world old).cells (world new).cells
+      dies = sdl_others old new alone
+
+  -- the secondary list is repaired after its structure was, and a whole pair was seen before both
+  sdl_mend_keeps : (old mid new : M) (lists : Lists) → ((world old).known ≡ true → IsWholePair shape (world old).cells lists) → KeepsGiven shape (world old) (world mid)
+      → ((a : ℕ) → cell_at (world mid).cells (sdl_block shape a) ≡ cell_at (world old).cells (sdl_block shape a)) → ((a : ℕ) → cell_at (world mid).cells (sdl_second_block shape a) ≡ cell_at (world old).cells (sdl_second_block shape a))
+      → ChangesCopiesAlone world reaches kinds.Sdl shape mid new → MayLeaveCopies world reaches kinds.Sdl shape mid new (SdlValue lists.sdl) → KeepsGiven shape (world old) (world new)
+  sdl_mend_keeps old mid new lists whole first same same' alone left = record {
+    as_known = alone.as_known ∙ first.as_known;
+    only = λ block away. sdl_only world reaches shape mid new alone block away ∙ first.only block away;
+    dds = dds_new;
+    sdl = by_known new (PartsHoldNothingNew IsTwo IsSdlText IsSdlSecond (sdl_block shape) (sdl_second_block shape) (world old).cells (world new).cells) sdl_new (parts_none_left shape (world old).cells (world new).cells);
+    given = by_known new ((other : Lists) → IsGiven shape (world new).cells other → IsGiven shape (world old).cells other)
+        (λ known. given_others shape (world old).cells (world new).cells (lists, whole (known_old known)) dds_new (sdl_new known))
+        (λ none other given. absurd (none_given shape (world new).cells none other given));
+  }
+    where
+      known_old : (world new).known ≡ true → (world old).known ≡ true
+      known_old known = sym (alone.as_known ∙ first.as_known) ∙ known
+
+      dds_new : HoldNothingNew IsDdsText (dds_block shape) (world old).cells (world new).cells
+      dds_new = nothing_new_then IsDdsText (dds_block shape) (world old).cells (world mid).cells (world new).cells dds_texts.one_value first.dds (dds_others mid new alone)
+
+      dies : SdlDies shape (world old).cells (world mid).cells
+      dies = record { firsts = λ a is. inl (same a); seconds = λ a is. inl (same' a) }
+
+      sdl_new : (world new).known ≡ true → PartsHoldNothingNew IsTwo IsSdlText IsSdlSecond (sdl_block shape) (sdl_second_block shape) (world old).cells (world new).cells
+      sdl_new known =
+          let pair = whole (known_old known) in
+          let there = sdl_before shape (world mid).cells (world old).cells lists.sdl pair.sdl_area pair.sdl_area (inl (sym (same pair.sdl_area))) (inl (sym (same' pair.sdl_area))) pair.sdl_copy in
+          parts_then shape (world old).cells (world mid).cells (world new).cells dies
+          (parts_repaired shape (world mid).cells (world new).cells lists.sdl pair.sdl_area there (sdl_left world reaches shape mid new lists.sdl alone left))
 
   -- ---- how far it went
 
@@ -176,12 +277,12 @@ module _ {M : Type 0} (world : M → World) (block_count : M → ℕ) (reaches :
   gone_first : (kind : ListKind) (old new : M) (k : ℕ) → CallEnds world reaches kind shape old new k → KeepsGiven shape (world old) (world new) → Gone old new k
   gone_first kind old new k ended keeps = record { was_on = ended.was_on; continues = ended.continues; counts = ended.counts; keeps = keeps }
 
-  gone_then : (kind : ListKind) (old mid new : M) (j k : ℕ) → Gone old mid j → CallEnds world reaches kind shape mid new k → KeepsGiven shape (world mid) (world new) → Gone old new (j + k)
+  gone_then : (kind : ListKind) (old mid new : M) (j k : ℕ) → Gone old mid j → CallEnds world reaches kind shape mid new k → KeepsGiven shape (world old) (world new) → Gone old new (j + k)
   gone_then kind old mid new j k gone ended keeps = record {
     was_on = gone.was_on;
     continues = continues_then world block_count reaches laws old mid new j k gone.continues ended.continues;
     counts = record { stays_on = ended.counts.stays_on; no_cut = ended.counts.no_cut ∙ gone.counts.no_cut; no_fault = ended.counts.no_fault ∙ gone.counts.no_fault };
-    keeps = keeps_then shape (world old) (world mid) (world new) gone.keeps keeps;
+    keeps = keeps;
   }
 
   counts_later : (old mid new : M) (stop : Stop) → UseContinues (world old) (world mid) → StoppedCounts (world mid) (world new) stop → StoppedCounts (world old) (world new) stop
@@ -189,12 +290,12 @@ module _ {M : Type 0} (world : M → World) (block_count : M → ℕ) (reaches :
   counts_later old mid new stops.Off first off = absurd (off.was_off first.stays_on)
   counts_later old mid new stops.Fault first fail = record { turns_off = fail.turns_off; no_cut = fail.no_cut ∙ first.no_cut; fault = subst (λ (n : ℕ). Rose n (world new).faults) first.no_fault fail.fault }
 
-  stopped_later : (kind : ListKind) (old mid new : M) (j most : ℕ) (stop : Stop) → j + most ≤ 32 → Gone old mid j → StoppedWithin world reaches kind shape mid new most stop → KeepsGiven shape (world mid) (world new) → WasStopped world reaches shape old new stop
+  stopped_later : (kind : ListKind) (old mid new : M) (j most : ℕ) (stop : Stop) → j + most ≤ 32 → Gone old mid j → StoppedWithin world reaches kind shape mid new most stop → KeepsGiven shape (world old) (world new) → WasStopped world reaches shape old new stop
   stopped_later kind old mid new j most stop few gone stopped keeps = record {
     was_on = gone.was_on;
     stops = stops_within world block_count reaches laws old new (j + most) 32 stop few (stops_later world block_count reaches laws old mid new j most stop gone.continues stopped.stops);
     counts = counts_later old mid new stop gone.counts stopped.counts;
-    keeps = keeps_then shape (world old) (world mid) (world new) gone.keeps keeps;
+    keeps = keeps;
   }
 
   -- the first choice ended before its end
@@ -207,6 +308,10 @@ module _ {M : Type 0} (world : M → World) (block_count : M → ℕ) (reaches :
   module _ (old one : M) (accepted : ListValue → Type 0) (best1 : Option (ListValue × ℕ)) (m : ℕ) (look1 : HasPicked world reaches kinds.Dds shape old one accepted best1 m) where
     gone_one : Gone old one 4
     gone_one = gone_first kinds.Dds old one 4 look1.ended (dds_look_keeps old one look1.ended.alone look1.saw)
+
+    -- what the second choice keeps of what the first did
+    one_looks : (new : M) → ChangesCopiesAlone world reaches kinds.Sdl shape one new → SawCopies world reaches kinds.Sdl shape one new → KeepsGiven shape (world old) (world new)
+    one_looks new alone saw = keeps_then shape (world old) (world one) (world new) gone_one.keeps (sdl_others old one look1.ended.alone) (sdl_look_keeps one new alone saw)
 
     -- what was seen in both choices, where dead cells stayed dead since
     both_seen : (two new : M) → ChangesCopiesAlone world reaches kinds.Sdl shape one two → SawCopies world reaches kinds.Sdl shape one two
@@ -224,22 +329,27 @@ module _ {M : Type 0} (world : M → World) (block_count : M → ℕ) (reaches :
 
     -- the second choice did
     pub second_ends : (new : M) (end : End) → EndsPicking world reaches kinds.Sdl shape one new end → EndRule world reaches shape old new end
-    second_ends new ends.Cut (stopped, saw) = stopped_later kinds.Sdl old one new 4 4 stops.Cut (omega arith) gone_one stopped (sdl_look_keeps one new stopped.alone saw)
+    second_ends new ends.Cut (stopped, saw) = stopped_later kinds.Sdl old one new 4 4 stops.Cut (omega arith) gone_one stopped (one_looks new stopped.alone saw)
     second_ends new ends.Off off = absurd (off.was_off gone_one.continues.is_on)
-    second_ends new ends.Fault (stopped, saw) = stopped_later kinds.Sdl old one new 4 4 stops.Fault (omega arith) gone_one stopped (sdl_look_keeps one new stopped.alone saw)
+    second_ends new ends.Fault (stopped, saw) = stopped_later kinds.Sdl old one new 4 4 stops.Fault (omega arith) gone_one stopped (one_looks new stopped.alone saw)
     second_ends new ends.NoMemory (out, saw) = record {
       was_on = gone_one.was_on;
       uses = 4 + out.uses;
       few = let f = out.few in omega (arith, f);
       continues = continues_then world block_count reaches laws old one new 4 out.uses gone_one.continues out.continues;
       counts = record { stays_on = out.counts.stays_on; no_cut = out.counts.no_cut ∙ gone_one.counts.no_cut; no_fault = out.counts.no_fault ∙ gone_one.counts.no_fault };
-      keeps = keeps_then shape (world old) (world one) (world new) gone_one.keeps (sdl_look_keeps one new out.alone saw);
+      keeps = one_looks new out.alone saw;
       loses = loses_seen shape (world old).cells (world new).cells (both_seen new new out.alone saw (λ block dead. dead));
     }
 
     module _ (two : M) (accepted2 : ListValue → Type 0) (best2 : Option (ListValue × ℕ)) (n : ℕ) (look2 : HasPicked world reaches kinds.Sdl shape one two accepted2 best2 n) where
       gone_two : Gone old two (4 + 4)
-      gone_two = gone_then kinds.Sdl old one two 4 4 gone_one look2.ended (sdl_look_keeps one two look2.ended.alone look2.saw)
+      gone_two = gone_then kinds.Sdl old one two 4 4 gone_one look2.ended (one_looks two look2.ended.alone look2.saw)
+
+      -- what is kept behind both choices
+      two_then : (new : M) → KeepsGiven shape (world two) (world new) → KeepsGiven shape (world old) (world new)
+      two_then new keeps = keeps_then shape (world old) (world two) (world new) gone_two.keeps
+          (sdl_dies_then shape (world old).cells (world one).cells (world two).cells (sdl_others old one look1.ended.alone) (sdl_looked one two look2.ended.alone look2.saw)) keeps
 
       same_dds : (a : ℕ) → cell_at (world two).cells (dds_block shape a) ≡ cell_at (world one).cells (dds_block shape a)
       same_dds = dds_stay world reaches shape one two look2.ended.alone
@@ -294,21 +404,26 @@ module _ {M : Type 0} (world : M → World) (block_count : M → ℕ) (reaches :
         first_keeps three alone left = dds_mend_keeps two three d d_area (λ known. (first_is (known_back known)).copy) alone left
 
         pub third_ends : (new : M) (end : End) → EndsMending world reaches kinds.Dds shape two new (DdsValue d) end → EndRule world reaches shape old new end
-        third_ends new ends.Cut (stopped, left) = stopped_later kinds.Dds old two new (4 + 4) 12 stops.Cut (omega arith) gone_two stopped (first_keeps new stopped.alone left)
+        third_ends new ends.Cut (stopped, left) = stopped_later kinds.Dds old two new (4 + 4) 12 stops.Cut (omega arith) gone_two stopped (two_then new (first_keeps new stopped.alone left))
         third_ends new ends.Off off = absurd (off.was_off gone_two.continues.is_on)
-        third_ends new ends.Fault (stopped, left) = stopped_later kinds.Dds old two new (4 + 4) 12 stops.Fault (omega arith) gone_two stopped (first_keeps new stopped.alone left)
+        third_ends new ends.Fault (stopped, left) = stopped_later kinds.Dds old two new (4 + 4) 12 stops.Fault (omega arith) gone_two stopped (two_then new (first_keeps new stopped.alone left))
         third_ends new ends.NoMemory never = absurd never
 
         module _ (three : M) (mended : IsMended world reaches kinds.Dds shape two three (DdsValue d)) where
+          keeps_three : KeepsGiven shape (world two) (world three)
+          keeps_three = first_keeps three mended.repairs.ends.alone (λ a is. settled_may_hold (IsText kinds.Dds) (cell_at (world two).cells (dds_block shape a)) (cell_at (world three).cells (dds_block shape a)) (DdsValue d) (mended.settled a is))
+
           gone_three : Gone old three (4 + 4 + (4 + 2 * mended.repairs.rewritten))
-          gone_three = gone_then kinds.Dds old two three (4 + 4) (4 + 2 * mended.repairs.rewritten) gone_two mended.repairs.ends
-              (first_keeps three mended.repairs.ends.alone (λ a is. settled_may_hold (IsText kinds.Dds) (cell_at (world two).cells (dds_block shape a)) (cell_at (world three).cells (dds_block shape a)) (DdsValue d) (mended.settled a is)))
+          gone_three = gone_then kinds.Dds old two three (4 + 4) (4 + 2 * mended.repairs.rewritten) gone_two mended.repairs.ends (two_then three keeps_three)
 
           d_settled : Settled IsDdsText (dds_block shape) (world three).cells d
           d_settled = dds_settled shape (world three).cells d mended.settled
 
           same_sdl : (a : ℕ) → cell_at (world three).cells (sdl_block shape a) ≡ cell_at (world two).cells (sdl_block shape a)
           same_sdl = sdl_stay world reaches shape two three mended.repairs.ends.alone
+
+          same_second : (a : ℕ) → cell_at (world three).cells (sdl_second_block shape a) ≡ cell_at (world two).cells (sdl_second_block shape a)
+          same_second = seconds_stay_by_dds world reaches shape two three mended.repairs.ends.alone
 
           known_three : (world old).known ≡ true → (world three).known ≡ true
           known_three known = mended.repairs.ends.alone.as_known ∙ known_two known
@@ -358,7 +473,7 @@ module _ {M : Type 0} (world : M → World) (block_count : M → ℕ) (reaches :
 
           pub lone_found : (mark : ℕ) → m ≤ mark → n ≤ mark → (mark ≡ m) ⊎ (mark ≡ n) → FindsNone world reaches kinds.Sdl shape one two (AcceptsSdl shape d) → EndsBare world reaches shape old three mark
           lone_found mark low low' is none = ends_bare mark low low' is
-              (λ known. bare_without_sdl shape (world three).cells d d_settled (none_same IsSdlText (sdl_block shape) (world two).cells (world three).cells same_sdl (FitsDds shape d) (no_sdl known)))
+              (λ known. bare_without_sdl shape (world three).cells d d_settled (λ v area copy fits. no_sdl known v area (sdl_before shape (world two).cells (world three).cells v area area (inl (same_sdl area)) (inl (same_second area)) copy) fits))
               (λ known. inr (no_sdl known))
             where
               no_sdl : (world old).known ≡ true → NoSdlChosen shape (world two).cells d
@@ -367,25 +482,39 @@ module _ {M : Type 0} (world : M → World) (block_count : M → ℕ) (reaches :
           -- a secondary list was chosen
           module _ (s : Sdl) (s_area : ℕ) (below : Finds world reaches kinds.Sdl shape one two (AcceptsSdl shape d) (SdlValue s) s_area) where
             second_is : (world old).known ≡ true → IsChosenSdl shape (world two).cells d s s_area
-            second_is known = sdl_chosen shape (world two).cells (AcceptsSdl shape d) s s_area (below.chosen (known_one known))
+            second_is known =
+                let chosen = below.chosen (known_one known) in
+                record {
+                  copy = sdl_own shape (world two).cells s s_area chosen.copy;
+                  fits = below.fits;
+                  no_better = λ other at copy fits. chosen.no_better (SdlValue other) at (sdl_any shape (world two).cells other at copy) fits;
+                }
 
-            second_keeps : (four : M) → ChangesCopiesAlone world reaches kinds.Sdl shape three four → MayLeaveCopies world reaches kinds.Sdl shape three four (SdlValue s) → KeepsGiven shape (world three) (world four)
-            second_keeps four alone left = sdl_mend_keeps three four s s_area
-                (λ known. copy_same IsSdlText (sdl_block shape) (world two).cells (world three).cells same_sdl s s_area (second_is (back_three known)).copy) alone left
+            -- a whole pair was seen, where the structure says that the disc is formatted
+            second_keeps : (four : M) → d.state ≡ Formatted → ChangesCopiesAlone world reaches kinds.Sdl shape three four → MayLeaveCopies world reaches kinds.Sdl shape three four (SdlValue s) → KeepsGiven shape (world old) (world four)
+            second_keeps four state alone left = two_then four (sdl_mend_keeps two three four (record { dds = d; sdl = s })
+                (λ known. record {
+                  dds_area = d_area;
+                  dds_copy = (first_is (known_back known)).copy;
+                  sdl_area = s_area;
+                  sdl_copy = (second_is (known_back known)).copy;
+                  valid = record { primary = found.fits; together = below.fits; formatted = state };
+                })
+                keeps_three same_sdl same_second alone left)
 
             fits_32 : (4 + 4 + (4 + 2 * mended.repairs.rewritten)) + 12 ≤ 32
             fits_32 = let f = mended.repairs.few in omega (arith, f)
 
-            pub fourth_ends : (new : M) (end : End) → EndsMending world reaches kinds.Sdl shape three new (SdlValue s) end → EndRule world reaches shape old new end
-            fourth_ends new ends.Cut (stopped, left) = stopped_later kinds.Sdl old three new (4 + 4 + (4 + 2 * mended.repairs.rewritten)) 12 stops.Cut fits_32 gone_three stopped (second_keeps new stopped.alone left)
-            fourth_ends new ends.Off off = absurd (off.was_off gone_three.continues.is_on)
-            fourth_ends new ends.Fault (stopped, left) = stopped_later kinds.Sdl old three new (4 + 4 + (4 + 2 * mended.repairs.rewritten)) 12 stops.Fault fits_32 gone_three stopped (second_keeps new stopped.alone left)
-            fourth_ends new ends.NoMemory never = absurd never
+            pub fourth_ends : (new : M) (end : End) → d.state ≡ Formatted → EndsMending world reaches kinds.Sdl shape three new (SdlValue s) end → EndRule world reaches shape old new end
+            fourth_ends new ends.Cut state (stopped, left) = stopped_later kinds.Sdl old three new (4 + 4 + (4 + 2 * mended.repairs.rewritten)) 12 stops.Cut fits_32 gone_three stopped (second_keeps new state stopped.alone left)
+            fourth_ends new ends.Off state off = absurd (off.was_off gone_three.continues.is_on)
+            fourth_ends new ends.Fault state (stopped, left) = stopped_later kinds.Sdl old three new (4 + 4 + (4 + 2 * mended.repairs.rewritten)) 12 stops.Fault fits_32 gone_three stopped (second_keeps new state stopped.alone left)
+            fourth_ends new ends.NoMemory state never = absurd never
 
-            module _ (four : M) (done : IsMended world reaches kinds.Sdl shape three four (SdlValue s)) where
+            module _ (four : M) (state : d.state ≡ Formatted) (done : IsMended world reaches kinds.Sdl shape three four (SdlValue s)) where
               gone_four : Gone old four (4 + 4 + (4 + 2 * mended.repairs.rewritten) + (4 + 2 * done.repairs.rewritten))
               gone_four = gone_then kinds.Sdl old three four (4 + 4 + (4 + 2 * mended.repairs.rewritten)) (4 + 2 * done.repairs.rewritten) gone_three done.repairs.ends
-                  (second_keeps four done.repairs.ends.alone (λ a is. settled_may_hold (IsText kinds.Sdl) (cell_at (world three).cells (sdl_block shape a)) (cell_at (world four).cells (sdl_block shape a)) (SdlValue s) (done.settled a is)))
+                  (second_keeps four state done.repairs.ends.alone (λ a is. settled_may_hold (IsText kinds.Sdl) (cell_at (world three).cells (sdl_block shape a)) (cell_at (world four).cells (sdl_block shape a)) (SdlValue s) (done.settled a is)))
 
               stays_four : (block : ℕ) → cell_at (world three).cells block ≡ Dead → cell_at (world four).cells block ≡ Dead
               stays_four block dead = (laws.follows three four (4 + 2 * done.repairs.rewritten) done.repairs.ends.continues.reach).lasts.stays_dead block dead
@@ -394,8 +523,8 @@ module _ {M : Type 0} (world : M → World) (block_count : M → ℕ) (reaches :
               stays_both block dead = stays_four block (stays_from three (4 + 2 * mended.repairs.rewritten) mended.repairs.ends.continues block dead)
 
               -- the copies of the secondary list were, before their repair, as they were seen
-              sdl_before : IsSeen (sdl_block shape) (world old).cells (world three).cells (world four).cells
-              sdl_before a is = elim (sdl_seen shape (world old).cells (world two).cells (world four).cells (are_seen four stays_both) a is) [
+              before_repair : IsSeen (sdl_block shape) (world old).cells (world three).cells (world four).cells
+              before_repair a is = elim (sdl_seen shape (world old).cells (world two).cells (world four).cells (are_seen four stays_both) a is) [
                 | inl same ↦ inl (same_sdl a ∙ same)
                 | inr dead ↦ inr (same_sdl a ∙ dead.0, dead.1)
               ]
@@ -406,12 +535,12 @@ module _ {M : Type 0} (world : M → World) (block_count : M → ℕ) (reaches :
                 few = done.repairs.few;
                 uses_are = refl;
                 rewrites = λ known. rewrites_seen IsSdlText (sdl_block shape) s (world old).cells (world three).cells (world four).cells (world four).cells
-                    sdl_before (λ a. refl) done.repairs.rewritten
+                    before_repair (λ a. refl) done.repairs.rewritten
                     (sdl_rewritten shape (world three).cells (world four).cells s done.repairs.rewritten (done.repairs.rewrites (known_three known)));
               }
 
-              pub both_found : d.state ≡ Formatted → EndsWithLists world reaches shape old four (record { dds = d; sdl = s })
-              both_found state = record {
+              pub both_found : EndsWithLists world reaches shape old four (record { dds = d; sdl = s })
+              both_found = record {
                 dds_uses = 4 + 2 * mended.repairs.rewritten;
                 dds = dds_repaired four stays_both (dds_stay world reaches shape three four done.repairs.ends.alone);
                 sdl_uses = 4 + 2 * done.repairs.rewritten;
@@ -426,10 +555,9 @@ module _ {M : Type 0} (world : M → World) (block_count : M → ℕ) (reaches :
                   valid = record { primary = found.fits; together = below.fits; formatted = state };
                   lawful_dds = found.in_grammar;
                   lawful_sdl = below.in_grammar;
-                  settled = record {
-                    dds = settled_same IsDdsText (dds_block shape) (world three).cells (world four).cells (dds_stay world reaches shape three four done.repairs.ends.alone) d d_settled;
-                    sdl = sdl_settled shape (world four).cells s done.settled;
-                  };
+                  settled = exact_settled shape (world four).cells (record { dds = d; sdl = s })
+                      (settled_same IsDdsText (dds_block shape) (world three).cells (world four).cells (dds_stay world reaches shape three four done.repairs.ends.alone) d d_settled)
+                      (sdl_settled shape (world four).cells s below.in_grammar.version_is done.settled);
                   seen = (world two).cells;
                   are_seen = are_seen four stays_both;
                   chosen = λ known. record { dds_area = d_area; dds_chosen = first_is known; sdl_area = s_area; sdl_chosen = second_is known; formatted = state };
@@ -463,11 +591,11 @@ module _ {M : Type 0} (world : M → World) (block_count : M → ℕ) (reaches :
         below_by : Finds world reaches kinds.Sdl shape one two (AcceptsSdl shape d) (SdlValue s) s_area
         below_by = subst (PicksBest world reaches kinds.Sdl shape one two (AcceptsSdl shape d)) e2 look2.best_is
 
-        pub fourth_by : (new : M) (end : End) → EndsMending world reaches kinds.Sdl shape three new (SdlValue s) end → EndRule world reaches shape old new end
-        fourth_by new end ended = fourth_ends old one (AcceptsDds shape) best1 m look1 two (AcceptsSdl shape d) best2 n look2 d d_area found_by three mended s s_area below_by new end ended
+        pub fourth_by : (new : M) (end : End) → d.state ≡ Formatted → EndsMending world reaches kinds.Sdl shape three new (SdlValue s) end → EndRule world reaches shape old new end
+        fourth_by new end state ended = fourth_ends old one (AcceptsDds shape) best1 m look1 two (AcceptsSdl shape d) best2 n look2 d d_area found_by three mended s s_area below_by new end state ended
 
         pub both_by : (four : M) → IsMended world reaches kinds.Sdl shape three four (SdlValue s) → d.state ≡ Formatted → EndsWithLists world reaches shape old four (record { dds = d; sdl = s })
-        both_by four done state = both_found old one (AcceptsDds shape) best1 m look1 two (AcceptsSdl shape d) best2 n look2 d d_area found_by three mended s s_area below_by four done state
+        both_by four done state = both_found old one (AcceptsDds shape) best1 m look1 two (AcceptsSdl shape d) best2 n look2 d d_area found_by three mended s s_area below_by four state done
 
 pub not_formatted : (s : DdsState) (b : Bool) → (s ≡ Formatted → IsTrue b) → b ≡ false → s ≡ Formatting
 not_formatted Formatting b h e = refl

@@ -4,7 +4,7 @@ use Rattle.std.specs.Prelude.{slice_index, replicate}
 use Rattle.std.proofs.Math.ListN.{set}
 use Rattle.std.proofs.lemmas.Bool.{cases_eq, true≢false}
 use Rattle.std.proofs.lemmas.List.{get_or-set_same, get_or-set_other, get_or-replicate, length-set, length-replicate}
-use Rattle.model_geometry.specs.declared.TheConstants.{MOST_SPARES}
+use Rattle.model_lists.proofs.SdlTexts.{most_is}
 use Rattle.model_geometry.specs.Geometry.{Shape}
 use Rattle.model_lists.specs.declared.sdl.SdlEntry.{SdlEntry}
 use Rattle.model_places.specs.Places.{Lists, spares}
@@ -14,12 +14,12 @@ use Rattle.ram_slip.proofs.Spares.{spare_differs}
 use Rattle.ram_lists.specs.Entries.{IsNamedWithin, TellsNamed}
 use Rattle.ram_lists.proofs.Listing.{some_is, named_here, not_here}
 
-module _ (shape : Shape) (lists : Lists) (valid : IsValidPdl shape lists.dds) (area : IsValidSsa shape lists.sdl.ssa) where
+module _ (shape : Shape) (lists : Lists) (valid : IsValidPdl shape lists.dds) (area : IsValidSsa shape lists.sdl.version lists.sdl.ssa) where
   -- before the first entry
-  pub tells_none : (many : ℕ) → many ≡ MOST_SPARES → TellsNamed shape lists (replicate many false) 0
+  pub tells_none : (many : ℕ) → many ≡ 8184 → TellsNamed shape lists (replicate many false) 0
   tells_none many is = record {
-    long = (let few = length-spares shape lists valid area in let long = length-replicate many false in omega (arith, few, long, is, area.most));
-    set = λ n below t. absurd (true≢false (sym t ∙ get_or-replicate many n false false (let few = length-spares shape lists valid area in omega (arith, few, is, area.most, below))));
+    long = (let few = length-spares shape lists valid area in let long = length-replicate many false in let most = most_is lists.sdl.version in omega (arith, few, long, is, area.most, most));
+    set = λ n below t. absurd (true≢false (sym t ∙ get_or-replicate many n false false (let few = length-spares shape lists valid area in let most = most_is lists.sdl.version in omega (arith, few, is, area.most, below, most))));
     clear = λ n below f named. (let e = named.early in omega (arith, e));
   }
 

@@ -4,6 +4,7 @@ use Rattle.std.specs.List.{Contains}
 use Rattle.std.proofs.lemmas.List.Elements.{Contains-append_left, Contains-append_right}
 use Rattle.model_geometry.specs.Geometry.{Shape}
 use Rattle.model_places.specs.Places.{Lists, unslipped, logical_blocks, primary_spares, supplementary_spares, spares}
+use Rattle.model_lists.specs.declared.versions.Version.{Version}
 use Rattle.model_places.specs.Valid.{IsValidPdl, IsValidSsa}
 use Rattle.model_places.proofs.Pools.{unslipped_are_data, Contains-logical_block, logical_is_no_spare, logical_is_unslipped, spare_is_unslipped}
 use Rattle.ram_slip.specs.declared.place.Place.{Place}
@@ -12,7 +13,7 @@ use Rattle.ram_slip.specs.Place.{IsAtPlace}
 use Rattle.ram_slip.proofs.OnePlace.{not_slipped}
 use Rattle.ram_lists.specs.Entries.{IsEntryValid, IsValidAt}
 
-module _ (shape : Shape) (lists : Lists) (valid : IsValidPdl shape lists.dds) (area : IsValidSsa shape lists.sdl.ssa) (block : ℕ) where
+module _ (shape : Shape) (lists : Lists) (valid : IsValidPdl shape lists.dds) {version : Version} (area : IsValidSsa shape version lists.sdl.ssa) (block : ℕ) where
   pub primary_spare : IsAtPlace shape lists.dds lists.sdl.ssa block places.Primary → Contains (spares shape lists) block
   primary_spare has = Contains-append_left (primary_spares shape lists.dds) (supplementary_spares shape lists) block has
 

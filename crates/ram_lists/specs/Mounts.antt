@@ -1,14 +1,15 @@
 -- What a mount does, by its answer: for `mount`.
 use Rattle.std.specs.Prelude.{◌≡◌, ℕ, ◌+◌, ◌*◌, ◌≤◌, true, IsTrue, Option, Some, None, List}
-use Rattle.model_geometry.specs.Geometry.{Shape, dds_block, sdl_block}
+use Rattle.model_geometry.specs.Geometry.{Shape, dds_block, sdl_block, sdl_second_block}
 use Rattle.model_lists.specs.Values.{Dds, IsLawfulDds, IsLawfulSdl}
-use Rattle.model_lists.specs.Texts.{IsDdsText, IsSdlText}
+use Rattle.model_lists.specs.Texts.{IsDdsText, IsTwo, IsSdlText, IsSdlSecond}
 use Rattle.model_medium.specs.Cells.{Cell}
 use Rattle.model_medium.specs.World.{World, UseContinues, IsOff}
 use Rattle.model_stops.specs.Stops.{Continues, Stops}
 use Rattle.model_stops.specs.declared.Stop.{Stop}
 use Rattle.model_stops.specs.declared.Stop.TheVariants as stops
-use Rattle.model_copies.specs.Copies.{Holds, Settled, HoldNothingNew, AreMarkedWithin, Mark, Rewrites}
+use Rattle.model_copies.specs.Copies.{Holds, Settled, HoldNothingNew, Rewrites}
+use Rattle.model_copies.specs.Parts.{PartsHoldNothingNew, AreMarkedWithin, Mark}
 use Rattle.model_places.specs.Places as places
 use Rattle.model_places.specs.Valid.{AreValid}
 use Rattle.model_volume.specs.Given.{IsGiven, GivesNone, AreChosen, ChoosesNone, LacksLists, AreSettled, OnlyLists, LosesListCells, AreSeen}
@@ -27,7 +28,8 @@ pub record KeepsGiven (shape : Shape) (old new : World) : Type 0 where
   pub as_known : new.known ≡ old.known
   pub only : OnlyLists shape old.cells new.cells
   pub dds : HoldNothingNew IsDdsText (dds_block shape) old.cells new.cells
-  pub sdl : HoldNothingNew IsSdlText (sdl_block shape) old.cells new.cells
+  pub sdl : PartsHoldNothingNew IsTwo IsSdlText IsSdlSecond (sdl_block shape) (sdl_second_block shape)
+      old.cells new.cells
   pub given : (lists : places.Lists) → IsGiven shape new.cells lists → IsGiven shape old.cells lists
 
 -- The copies of a list were repaired in so many uses: one for each, and two for each that was not exactly its text when

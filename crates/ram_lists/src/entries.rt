@@ -11,14 +11,14 @@ ghost use Rattle.ram_sdl.specs.Sdl.{sdl_of};
 ghost use Rattle.ram_slip.specs.Place.{IsSpareNumber};
 ghost use Rattle.ram_lists.specs.Entries.{MayReplace, IsEntryValid, IsValidAt, TellsNamed};
 
-use model_lists::{MOST_SPARES, SdlEntry};
+use model_lists::SdlEntry;
 use ram_dds::DdsPdl;
 use ram_sdl::Sdl;
 use ram_slip::{Place, is_valid_ssa, place_of, spare_number};
 use ram_zones::Geometry;
 
-/// How many spares a disc may have: their numbers are lower.
-const MOST_NUMBERS: usize = MOST_SPARES as usize;
+/// How many spares a disc of any version may have: their numbers are lower.
+const MOST_NUMBERS: usize = 8_184;
 
 /// Whether each entry names a later defective block than the one before.
 fn rise(entries: &[SdlEntry]) -> bool
@@ -35,7 +35,7 @@ fn rise(entries: &[SdlEntry]) -> bool
 /// Whether the block is a spare.
 fn is_spare(geometry: &Geometry, dds: &DdsPdl, sdl: &Sdl, block: u32) -> bool
     requires valid { IsValidPdl geometry.now (dds_of dds.now) }
-    requires area { IsValidSsa geometry.now sdl.now.ssa }
+    requires area { IsValidSsa geometry.now sdl.now.version sdl.now.ssa }
     ensures { IsTrue result
         ↔ Contains (spares geometry.now (record { dds = dds_of dds.now; sdl = sdl_of sdl.now })) block }
 {
@@ -45,26 +45,15 @@ fn is_spare(geometry: &Geometry, dds: &DdsPdl, sdl: &Sdl, block: u32) -> bool
     }
 }
 
-/// Whether an entry names the block as defective, by halving.
-pub fn is_defective(sdl: &Sdl, block: u32) -> bool
-    requires { IsStrictlyIncreasing (defectives sdl.now.entries.list) }
-    ensures { IsTrue result ↔ Contains (defectives sdl.now.entries.list) block }
-{
-    match sdl.find(block) {
-        Some(_) => true,
-        None => false,
-    }
-}
-
 /// Whether the block may replace another.
 fn may_replace(geometry: &Geometry, dds: &DdsPdl, sdl: &Sdl, block: u32) -> bool
     requires valid { IsValidPdl geometry.now (dds_of dds.now) }
-    requires area { IsValidSsa geometry.now sdl.now.ssa }
+    requires area { IsValidSsa geometry.now sdl.now.version sdl.now.ssa }
     requires rising { IsStrictlyIncreasing (defectives sdl.now.entries.list) }
     ensures { IsTrue result
         ↔ MayReplace geometry.now (record { dds = dds_of dds.now; sdl = sdl_of sdl.now }) block }
 {
-    is_spare(geometry, dds, sdl, block) && !is_defective(sdl, block)
+    is_spare(geometry, dds, sdl, block) && !sdl.is_defective(block)
 }
 
 /// Whether a block that is this to the disc may have this replacement, or none.
@@ -76,7 +65,7 @@ fn is_valid_at(
     replacement: Option<u32>,
 ) -> bool
     requires valid { IsValidPdl geometry.now (dds_of dds.now) }
-    requires area { IsValidSsa geometry.now sdl.now.ssa }
+    requires area { IsValidSsa geometry.now sdl.now.version sdl.now.ssa }
     requires rising { IsStrictlyIncreasing (defectives sdl.now.entries.list) }
     ensures { IsTrue result
         ↔ IsValidAt geometry.now (record { dds = dds_of dds.now; sdl = sdl_of sdl.now }) place replacement }
@@ -96,7 +85,7 @@ fn is_valid_at(
 /// Whether the entry is valid by itself.
 fn is_entry_valid(geometry: &Geometry, dds: &DdsPdl, sdl: &Sdl, entry: SdlEntry) -> bool
     requires valid { IsValidPdl geometry.now (dds_of dds.now) }
-    requires area { IsValidSsa geometry.now sdl.now.ssa }
+    requires area { IsValidSsa geometry.now sdl.now.version sdl.now.ssa }
     requires rising { IsStrictlyIncreasing (defectives sdl.now.entries.list) }
     ensures { IsTrue result
         ↔ IsEntryValid geometry.now (record { dds = dds_of dds.now; sdl = sdl_of sdl.now }) entry }
@@ -108,7 +97,7 @@ fn is_entry_valid(geometry: &Geometry, dds: &DdsPdl, sdl: &Sdl, entry: SdlEntry)
 /// Whether each entry is valid by itself.
 fn are_entries_valid(geometry: &Geometry, dds: &DdsPdl, sdl: &Sdl) -> bool
     requires valid { IsValidPdl geometry.now (dds_of dds.now) }
-    requires area { IsValidSsa geometry.now sdl.now.ssa }
+    requires area { IsValidSsa geometry.now sdl.now.version sdl.now.ssa }
     requires rising { IsStrictlyIncreasing (defectives sdl.now.entries.list) }
     ensures { IsTrue result
         ↔ All (IsEntryValid geometry.now (record { dds = dds_of dds.now; sdl = sdl_of sdl.now }))
@@ -126,7 +115,7 @@ fn are_entries_valid(geometry: &Geometry, dds: &DdsPdl, sdl: &Sdl) -> bool
 /// The number of a spare.
 fn number_of(geometry: &Geometry, dds: &DdsPdl, sdl: &Sdl, spare: u32) -> usize
     requires valid { IsValidPdl geometry.now (dds_of dds.now) }
-    requires area { IsValidSsa geometry.now sdl.now.ssa }
+    requires area { IsValidSsa geometry.now sdl.now.version sdl.now.ssa }
     requires spare { Contains (spares geometry.now (record { dds = dds_of dds.now; sdl = sdl_of sdl.now })) spare }
     ensures { IsSpareNumber geometry.now (dds_of dds.now) sdl.now.ssa spare (Some result) }
 {
@@ -140,7 +129,7 @@ fn number_of(geometry: &Geometry, dds: &DdsPdl, sdl: &Sdl, spare: u32) -> usize
 /// has it.
 fn are_different(geometry: &Geometry, dds: &DdsPdl, sdl: &Sdl, named: &mut [bool]) -> bool
     requires valid { IsValidPdl geometry.now (dds_of dds.now) }
-    requires area { IsValidSsa geometry.now sdl.now.ssa }
+    requires area { IsValidSsa geometry.now sdl.now.version sdl.now.ssa }
     requires entries { All (IsEntryValid geometry.now (record { dds = dds_of dds.now; sdl = sdl_of sdl.now }))
         sdl.now.entries.list }
     requires none { TellsNamed geometry.now (record { dds = dds_of dds.now; sdl = sdl_of sdl.now }) named.old 0 }
@@ -169,7 +158,7 @@ pub fn is_valid_sdl(geometry: &Geometry, dds: &DdsPdl, sdl: &Sdl) -> bool
         ↔ IsValidSdl geometry.now (record { dds = dds_of dds.now; sdl = sdl_of sdl.now }) }
 {
     let entries = sdl.entries.as_slice();
-    if !is_valid_ssa(geometry, sdl.ssa) {
+    if !is_valid_ssa(geometry, sdl.version, sdl.ssa) {
         return false;
     }
     if !rise(entries) {

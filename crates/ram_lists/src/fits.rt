@@ -45,7 +45,9 @@ impl<'a, 'b> Accept<Sdl> for SdlFits<'a, 'b> {
     ghost accepted = { λ s v. AcceptsSdl s.geometry.now (dds_of s.dds.now) v };
 
     fn accepts(&self, value: &Sdl) -> bool {
-        value.dds_counter == self.dds.counter && is_valid_sdl(self.geometry, self.dds, value)
+        value.version == self.dds.version
+            && value.dds_counter == self.dds.counter
+            && is_valid_sdl(self.geometry, self.dds, value)
     }
 }
 

@@ -8,10 +8,7 @@ mod lists;
 mod mounting;
 mod parts;
 
-pub use entries::{is_defective, is_valid_sdl};
+pub use entries::is_valid_sdl;
 pub use fits::{DdsFits, SdlFits};
 pub use lists::{Lists, home};
 pub use mounting::{Mounted, mount};
-
-#[cfg(test)]
-mod tests;

@@ -1,7 +1,7 @@
 //! Whether a command is done, or the first reason why not.
 
 ghost use Rattle.std.specs.Prelude.{◌≡◌, IfOk};
-ghost use Rattle.ram_cdb.specs.Decoding.{IsWithinLimits};
+ghost use Rattle.model_cdb.specs.Decoding.{IsWithinLimits};
 ghost use Rattle.model_target.specs.Host.{is_told, passes_attention};
 ghost use Rattle.model_target.specs.Judging.{ejects, needs_disc, needs_format, asked_by, IsAllowed, IsJudgedBy};
 ghost use Rattle.ram_mmc.specs.Looks.{HasItsFormat};

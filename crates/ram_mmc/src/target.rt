@@ -4,7 +4,7 @@ ghost use Rattle.std.specs.Prelude.{◌≡◌, ◌*◌, ◌≤◌, IfOk, is_some
 ghost use Rattle.model_commands.specs.declared.TheConstants.{TRANSFER_LIMIT};
 ghost use Rattle.model_commands.specs.Commands.{operation_of};
 ghost use Rattle.model_drive.specs.Shown.{IsOn, capacity};
-ghost use Rattle.ram_cdb.specs.Decoding.{IsWithinLimits};
+ghost use Rattle.model_cdb.specs.Decoding.{IsWithinLimits};
 ghost use Rattle.model_target.specs.Host.{powered_on, done_by, kept_after, attention_after};
 ghost use Rattle.model_target.specs.Steps.{IsDone, IsAnsweredBy, IsExecuted, IsStep, IsPoweredAgain, host_after};
 ghost use Rattle.ram_mmc.specs.Looks.{HasItsFormat, LookRule, IsFormattedAs};

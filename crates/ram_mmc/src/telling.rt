@@ -3,7 +3,7 @@
 ghost use Rattle.std.specs.Prelude.{◌≡◌, ◌*◌, ◌≤◌, ◌==◌, [], take, vec_capacity};
 ghost use Rattle.std.specs.Bool.{MatchBool};
 ghost use Rattle.model_commands.specs.declared.TheConstants.{TRANSFER_LIMIT};
-ghost use Rattle.ram_sense.specs.declared.answer.Answer.TheVariants as answers;
+ghost use Rattle.model_sense.specs.declared.answer.Answer.TheVariants as answers;
 ghost use Rattle.model_drive.specs.Shown.{IsOn};
 ghost use Rattle.model_drive.specs.Tells.{HasDisc};
 ghost use Rattle.model_target.specs.Steps.{TellsStructure, TellsSpares, capacities_told, spares_told};

@@ -5,6 +5,4 @@ pub mod modes;
 mod pages;
 
 pub use modes::Modes;
-
-#[cfg(test)]
-mod tests;
+pub use pages::{is_no_list_length, is_page_code};

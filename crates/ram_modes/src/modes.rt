@@ -4,7 +4,7 @@ ghost use Rattle.byteorder.specs.Endian.{big_bytes};
 ghost use Rattle.model_modes.specs.Pages.{page_by, is_page_code, mode_data};
 ghost use Rattle.ram_modes.specs.Selects.{Selects};
 
-use crate::pages::{has_current_pages, header, page_by};
+use crate::pages::{has_current_pages, header, page_by, page_with};
 use model_modes::Page;
 use ram_sense::Sense;
 use ram_sense::codes::INVALID_FIELD_IN_PARAMETERS;
@@ -28,10 +28,9 @@ impl Modes {
         ensures appended { out.new.items ≡ out.old.items ++ mode_data control page }
         ensures room { vec_capacity out.old ≤ vec_capacity out.new }
     {
-        match page {
-            0x01 => put_page(out, control, Page::ErrorRecovery),
-            0x08 => put_page(out, control, Page::Caching),
-            _ => {
+        match page_with(page) {
+            Some(page) => put_page(out, control, page),
+            None => {
                 put(out, &header(24));
                 put(out, &page_by(control, Page::ErrorRecovery));
                 put(out, &page_by(control, Page::Caching));

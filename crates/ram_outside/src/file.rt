@@ -15,9 +15,6 @@ use std::marker::Model;
 use std::os::unix::fs::FileExt;
 use std::rt::Files;
 
-#[cfg(test)]
-mod tests;
-
 /// The bytes of an open file, seen as its count of errors.
 #[derive(Drop)]
 pub struct FileImage<F: FileExt + Seek + OpenFile + Drop> {
@@ -31,6 +28,15 @@ impl<F: FileExt + Seek + OpenFile + Drop> Model for FileImage<F> {
     ghost Value = { ℕ };
 
     ghost view = { λ i. i.faults };
+}
+
+impl<F: FileExt + Seek + OpenFile + Drop> FileImage<F> {
+    /// The bytes of this file, with no error counted.
+    pub fn new(file: F) -> FileImage<F>
+        ensures { result ≡ 0 }
+    {
+        FileImage { file, faults: 0 }
+    }
 }
 
 impl<F: FileExt + Seek + OpenFile + Drop> Image for FileImage<F> {
@@ -132,7 +138,7 @@ where
         let mut options = OpenOptions::new();
         options.read(true).write(true).create(true);
         match count_error(options.open(&self.rt, name), &mut self.faults) {
-            Some(file) => Opened::Image(FileImage { file, faults: 0 }),
+            Some(file) => Opened::Image(FileImage::new(file)),
             None => Opened::Failed,
         }
     }

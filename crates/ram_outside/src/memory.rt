@@ -6,8 +6,6 @@ pub mod image;
 pub mod opener;
 pub mod sink;
 pub mod source;
-#[cfg(test)]
-mod tests;
 
 pub use image::MemImage;
 pub use opener::MemOpener;

@@ -2,3 +2,4 @@ pub mod FreeSpares
 pub mod Trying
 pub mod Placing
 pub mod Moving
+pub mod Updating

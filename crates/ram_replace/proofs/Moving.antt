@@ -4,12 +4,12 @@ use Rattle.std.proofs.Common.{refl, sym, ap, ◌∙◌, inl, inr, subst, arith, 
 use Rattle.std.specs.List.{Contains}
 use Rattle.std.proofs.lemmas.Bool.{cond-true, cond-false, lt-ltb, le-ltb, ne_eqb, cases_order}
 use Rattle.std.proofs.lemmas.List.Elements.{All-contains}
-use Rattle.model_geometry.specs.declared.TheConstants.{MOST_SPARES}
+use Rattle.model_lists.specs.declared.versions.Version.TheVariants.{One}
 use Rattle.model_geometry.specs.Geometry.{Shape, IsLawful, lead_out, data_blocks}
 use Rattle.model_geometry.proofs.DataBlocks.{data_blocks_bounds}
 use Rattle.model_geometry.proofs.Zones.{total_most}
 use Rattle.model_lists.specs.declared.sdl.SdlEntry.{SdlEntry}
-use Rattle.model_lists.specs.Values.{Sdl, IsBlockNumber, HasNumbers, IsLawfulSdl, defectives, with_entry, pair, retired}
+use Rattle.model_lists.specs.Values.{Sdl, IsBlockNumber, HasNumbers, IsLawfulSdl, most_of, defectives, with_entry, pair, retired}
 use Rattle.model_places.specs.Places.{Lists, logical_block, logical_count, home_of, free_spares, unslipped}
 use Rattle.model_places.specs.Valid.{AreValid}
 use Rattle.model_places.proofs.Entries.{length-entries_most}
@@ -62,21 +62,21 @@ one_more_entry a b c es e was is = is ∙ ap (λ (x : Sdl). record x { entries =
 
 -- ---- the entries at each step are few, and rise
 
-few_of : (shape : Shape) (lists : Lists) (es : List SdlEntry) → AreValid shape lists → ByMembers shape lists.dds lists.sdl.ssa es → length es ≤ MOST_SPARES
+few_of : (shape : Shape) (lists : Lists) (es : List SdlEntry) → AreValid shape lists → ByMembers shape lists.dds lists.sdl.ssa es → length es ≤ most_of lists.sdl.version
 few_of shape lists es valid members =
     let step : Lists = record lists { sdl = record lists.sdl { entries = es } } in
     length-entries_most shape step valid.primary (from_members shape step valid.together.secondary.area members)
 
 module _ (shape : Shape) (lists : Lists) (valid : AreValid shape lists) where
   module _ (k : ℕ) (few : k ≤ length (free_spares shape lists)) where
-    pub retired_few : length (with_retired (tried_of (free_spares shape lists) k) lists.sdl.entries) ≤ MOST_SPARES
+    pub retired_few : length (with_retired (tried_of (free_spares shape lists) k) lists.sdl.entries) ≤ most_of lists.sdl.version
     retired_few = few_of shape lists (with_retired (tried_of (free_spares shape lists) k) lists.sdl.entries) valid (retire_all shape lists valid (free_apart shape lists valid) k few).es_valid
 
   module _ (i : ℕ) (inside : i < logical_count shape lists) (found : Found) (at : StandsAt (free_spares shape lists) found) where
     next : IsNextSpare shape lists (tried_of (free_spares shape lists) found.tried) found.spare
     next = record { tried = found.tried; failed_are = refl; inside = at.inside; spare_is = at.spare_is }
 
-    pub pair_few : length (with_entry (pair (logical_block shape lists.dds i) found.spare) (with_retired (tried_of (free_spares shape lists) found.tried) lists.sdl.entries)) ≤ MOST_SPARES
+    pub pair_few : length (with_entry (pair (logical_block shape lists.dds i) found.spare) (with_retired (tried_of (free_spares shape lists) found.tried) lists.sdl.entries)) ≤ most_of lists.sdl.version
     unfolding next
     pair_few = few_of shape lists (with_entry (pair (logical_block shape lists.dds i) found.spare) (with_retired (tried_of (free_spares shape lists) found.tried) lists.sdl.entries)) valid
         (with_pair shape lists valid (free_apart shape lists valid) i inside (tried_of (free_spares shape lists) found.tried) found.spare next)
@@ -85,7 +85,7 @@ module _ (shape : Shape) (lists : Lists) (valid : AreValid shape lists) where
     pub lists_valid : AreValid shape (lists_moved shape lists i (tried_of (free_spares shape lists) found.tried) found.spare)
     lists_valid = moved_valid shape lists valid (free_apart shape lists valid) i inside (tried_of (free_spares shape lists) found.tried) found.spare next
 
-    pub moved_few : length (sdl_moved shape lists i (tried_of (free_spares shape lists) found.tried) found.spare).entries ≤ MOST_SPARES
+    pub moved_few : length (sdl_moved shape lists i (tried_of (free_spares shape lists) found.tried) found.spare).entries ≤ most_of lists.sdl.version
     moved_few = length-entries_most shape (lists_moved shape lists i (tried_of (free_spares shape lists) found.tried) found.spare) valid.primary lists_valid.together.secondary
 
 -- ---- room for each step
@@ -101,13 +101,13 @@ room_for_other own home held apart fits =
     let one : former own home ≡ home ∷ [] = cond-false (eqb home own) [] (home ∷ []) (ne_eqb home own apart) in
     room_for (retired home) held (subst (λ (ss : List ℕ). length (with_retired ss held.list) ≤ held.room) one fits)
 
-module _ (shape : Shape) (lists : Lists) (valid : AreValid shape lists) (held : EntriesAndRoom) (room : MOST_SPARES ≤ held.room) where
+module _ (shape : Shape) (lists : Lists) (valid : AreValid shape lists) (held : EntriesAndRoom) (room : most_of lists.sdl.version ≤ held.room) where
   pub room_for_spare : (found : Found) → StandsAt (free_spares shape lists) found → held.list ≡ with_retired (tried_of (free_spares shape lists) found.tried) lists.sdl.entries → HasRoomFor found.spare held
   room_for_spare found at list_is =
       let after : with_entry (retired found.spare) held.list ≡ with_retired (tried_of (free_spares shape lists) (found.tried + 1)) lists.sdl.entries =
       ap (with_entry (retired found.spare)) list_is ∙ retired_next (free_spares shape lists) lists.sdl.entries found.tried found.spare at.spare_is in
       let few = retired_few shape lists valid (found.tried + 1) (let inside = at.inside in omega (arith, inside)) in
-      let fits = subst (λ (es : List SdlEntry). length es ≤ MOST_SPARES) (sym after) few in
+      let fits = subst (λ (es : List SdlEntry). length es ≤ most_of lists.sdl.version) (sym after) few in
       room_for (retired found.spare) held (omega (arith, fits, room))
 
   module _ (i : ℕ) (inside : i < logical_count shape lists) (found : Found) (at : StandsAt (free_spares shape lists) found) (own : ℕ) (own_is : own ≡ logical_block shape lists.dds i) where
@@ -116,7 +116,7 @@ module _ (shape : Shape) (lists : Lists) (valid : AreValid shape lists) (held : 
         let after : with_entry (pair own found.spare) held.list ≡ with_entry (pair (logical_block shape lists.dds i) found.spare) (with_retired (tried_of (free_spares shape lists) found.tried) lists.sdl.entries) =
         ap (with_entry (pair own found.spare)) list_is
         ∙ ap (λ (o : ℕ). with_entry (pair o found.spare) (with_retired (tried_of (free_spares shape lists) found.tried) lists.sdl.entries)) own_is in
-        let fits = subst (λ (es : List SdlEntry). length es ≤ MOST_SPARES) (sym after) (pair_few shape lists valid i inside found at) in
+        let fits = subst (λ (es : List SdlEntry). length es ≤ most_of lists.sdl.version) (sym after) (pair_few shape lists valid i inside found at) in
         room_for (pair own found.spare) held (omega (arith, fits, room))
 
     pub room_for_former : (home : ℕ) → home ≡ home_of shape lists i → held.list ≡ with_entry (pair own found.spare) (with_retired (tried_of (free_spares shape lists) found.tried) lists.sdl.entries)
@@ -126,7 +126,7 @@ module _ (shape : Shape) (lists : Lists) (valid : AreValid shape lists) (held : 
         ap (with_retired (former own home)) list_is
         ∙ ap (λ (h : ℕ). with_retired (former own h) (with_entry (pair own found.spare) (with_retired (tried_of (free_spares shape lists) found.tried) lists.sdl.entries))) home_is
         ∙ ap (λ (o : ℕ). with_retired (former o (home_of shape lists i)) (with_entry (pair o found.spare) (with_retired (tried_of (free_spares shape lists) found.tried) lists.sdl.entries))) own_is in
-        let fits = subst (λ (es : List SdlEntry). length es ≤ MOST_SPARES) (sym after) (moved_few shape lists valid i inside found at) in
+        let fits = subst (λ (es : List SdlEntry). length es ≤ most_of lists.sdl.version) (sym after) (moved_few shape lists valid i inside found at) in
         omega (arith, fits, room)
 
 -- ---- the list of the move
@@ -162,8 +162,9 @@ module _ (shape : Shape) (lawful : IsLawful shape) (lists : Lists) (valid : AreV
     replacement_fits = data_number r (spare_is_unslipped shape lists r (members.from d r has));
   }
 
-  pub valid_lawful : lists.sdl.counter < 2 ^ 32 → lists.sdl.dds_counter < 2 ^ 32 → IsLawfulSdl lists.sdl
-  valid_lawful counted dds_counted = record {
+  pub valid_lawful : lists.sdl.version ≡ One → lists.sdl.counter < 2 ^ 32 → lists.sdl.dds_counter < 2 ^ 32 → IsLawfulSdl lists.sdl
+  valid_lawful one counted dds_counted = record {
+    version_is = one;
     counted = counted;
     dds_counted = dds_counted;
     limits = record {

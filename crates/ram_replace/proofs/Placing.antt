@@ -4,10 +4,10 @@ use Rattle.std.proofs.Common.{refl, sym, ap, ◌∙◌, inl, inr, subst, arith, 
 use Rattle.std.specs.List.{Contains}
 use Rattle.std.proofs.lemmas.Bool.{cond-true, cond-false, eq-eqb, ne_eqb}
 use Rattle.std.proofs.lemmas.List.Elements.{Contains-get_or}
-use Rattle.model_geometry.specs.Geometry.{Shape, data_blocks, dds_block, sdl_block}
+use Rattle.model_geometry.specs.Geometry.{Shape, data_blocks, dds_block, sdl_block, sdl_second_block}
 use Rattle.model_geometry.proofs.ListBlocks.{no_data_block_sdl}
 use Rattle.model_lists.specs.Values.{Sdl}
-use Rattle.model_lists.specs.Texts.{IsDdsText, IsSdlText}
+use Rattle.model_lists.specs.Texts.{IsDdsText}
 use Rattle.model_medium.specs.Cells.{Cell, Blank, Good, Torn, Dead, IsGood, MayLeave, cell_at}
 use Rattle.model_medium.specs.World.{World}
 use Rattle.model_sectors.specs.Discs.{Agrees}
@@ -15,12 +15,14 @@ use Rattle.model_sectors.proofs.Fitting.{agrees_not_good}
 use Rattle.model_stops.specs.Stops.{Continues, Stops}
 use Rattle.model_stops.specs.declared.Stop.{Stop}
 use Rattle.model_stops.specs.declared.Stop.TheVariants as stops
-use Rattle.model_copies.specs.Copies.{HoldsOrDead, HoldsEither, Settled, AreBetween, AllLost}
-use Rattle.model_copies.proofs.CopyFacts.{between_left}
+use Rattle.model_copies.specs.Copies.{Settled}
+use Rattle.model_copies.specs.Parts.{SdlIsBetween}
+use Rattle.model_copies.proofs.SdlParts.{settled_stopped, lost_settled, lost_alike}
 use Rattle.model_places.specs.Places.{Lists, logical_count, home_of, free_spares}
 use Rattle.model_places.specs.Valid.{AreValid}
 use Rattle.model_volume.specs.Given.{AreSettled}
 use Rattle.model_volume.specs.Moves.{lists_moved, sdl_moved, tried_of, IsNextSpare, OnlyData, OnlyMoves}
+use Rattle.model_volume.proofs.ListCells.{no_data_block_second}
 use Rattle.model_volume.proofs.GivenFacts.{settled_alone, pair_between}
 use Rattle.model_volume.proofs.Moved.{home_not_free, home_is_data_block, free_is_data}
 use Rattle.model_volume.proofs.Updates.{agrees_good, data_moves, settled_kept, dds_settled, fits_before, fits_written, fits_moved, cover_settled, cover_between}
@@ -31,14 +33,12 @@ use Rattle.model_drive.specs.Blocks.{LeavesBlock, StopsAtBlock}
 use Rattle.ram_medium.specs.Laws.{MediumLaws}
 use Rattle.ram_medium.proofs.Parts.{continues_then, continues_quiet, stops_later, stops_within}
 use Rattle.ram_zones.specs.declared.list_kind.ListKind.TheVariants as kinds
-use Rattle.ram_copies.specs.Values.{SdlValue}
 use Rattle.ram_copies.specs.Puts.{IsBlockPut, IsBlockLost, StopsPutting}
-use Rattle.ram_copies.specs.Calls.{StoppedCounts, ChangesCopiesAlone, MayLeaveCopies}
-use Rattle.ram_copies.proofs.EachList.{sdl_settled, sdl_may_hold}
+use Rattle.ram_copies.specs.Calls.{StoppedCounts, ChangesCopiesAlone}
 use Rattle.ram_copies.proofs.Lifting.{quiet_counts, fault_counts}
 use Rattle.ram_replace.specs.declared.spares.Found.{Found}
 use Rattle.ram_replace.specs.Spares.{ChangesSparesAlone, HaveFailed, IsFound, StopsTrying}
-use Rattle.ram_replace.specs.Updates.{HasUpdated, StopsUpdating}
+use Rattle.ram_replace.specs.Updates.{KeepsListCopies, LosesListCopies, HasUpdated, LeavesListCopies, StopsUpdating}
 use Rattle.ram_replace.specs.Placing.{HasEnded, PlacesBlock, MeetsNoSpare, MeetsNoCopy, PlacingStopped}
 use Rattle.ram_replace.proofs.Trying.{on_true}
 
@@ -59,16 +59,6 @@ left_three was cell bytes (inl same) = inl same
 left_three was cell bytes (inr (inl good)) = inr (inl good)
 left_three was cell bytes (inr (inr (inl torn))) = inr (inr (λ good. (subst IsGood torn good)))
 left_three was cell bytes (inr (inr (inr dead))) = inr (inr (dead_is_bad cell dead))
-
--- settled copies hold one of two values
-pub settled_either : (cell : Cell) (v : Sdl) → HoldsOrDead IsSdlText cell v → HoldsEither IsSdlText cell v v
-settled_either Blank v h = absurd h
-settled_either (Good bytes) v h = inl h
-settled_either Torn v h = absurd h
-settled_either Dead v h = tt
-
-pub lost_settled : (cell : Cell) (v : Sdl) → cell ≡ Dead → HoldsOrDead IsSdlText cell v
-lost_settled cell v dead = subst (λ (c : Cell). HoldsOrDead IsSdlText c v) (sym dead) tt
 
 module _ {M : Type 0} (world : M → World) (block_count : M → ℕ) (reaches : M → M → ℕ → Type 0) (laws : MediumLaws world block_count reaches) where
   -- the count of work that was stopped
@@ -107,7 +97,7 @@ module _ {M : Type 0} (world : M → World) (block_count : M → ℕ) (reaches :
           ⊎ (¬ IsGood (cell_at (world new).cells (home_of shape lists i))) → StopsAtBlock world reaches shape old new lists i bytes stop
       stopped_at most stop few stops as_known left = record {
         stops = stops_within world block_count reaches laws old new most (most_placing_uses shape lists i) stop few stops;
-        given = λ known other given. inl (settled_alone shape (world new).cells lists other settled_new given);
+        given = λ known other given. inl (settled_alone shape (world new).cells lists other settled_new valid.together.same_version given);
         as_known = as_known;
         only = moves;
         covers = λ disc disc' differs fits. cover_settled shape lists valid i inside (world old).cells (world new).cells moves bytes disc disc' differs fits settled_new left;
@@ -136,7 +126,10 @@ module _ {M : Type 0} (world : M → World) (block_count : M → ℕ) (reaches :
         settled = settled_new new (home_alone new put.others);
         only = moves new (home_alone new put.others);
         went = λ known. good_is_good (cell_at (world new).cells (home_of shape lists i)) bytes (on_true (world old).known (cell_at (world new).cells (home_of shape lists i) ≡ Good bytes) put.has known);
-        has_copy = λ known area. put.others (sdl_block shape area) (λ same. no_data_block_sdl shape area (subst (Contains (data_blocks shape)) (sym same) (home_is_data_block shape lists valid i inside)));
+        has_copy = λ known. (
+          λ area. put.others (sdl_block shape area) (λ same. no_data_block_sdl shape area (subst (Contains (data_blocks shape)) (sym same) (home_is_data_block shape lists valid i inside))),
+          λ area. put.others (sdl_second_block shape area) (λ same. no_data_block_second shape area (subst (Contains (data_blocks shape)) (sym same) (home_is_data_block shape lists valid i inside))),
+        );
         makes = λ disc disc' differs fits. fits_written shape lists valid i inside (world old).cells (world new).cells (moves new (home_alone new put.others)) bytes disc disc' differs fits
             (left_agrees (cell_at (world new).cells (home_of shape lists i)) bytes put.left);
       };
@@ -270,12 +263,12 @@ module _ {M : Type 0} (world : M → World) (block_count : M → ℕ) (reaches :
           dds_still = dds_settled shape lists valid i inside (world old).cells (world new).cells all_only settled
 
           -- it was stopped
-          update_stopped : (stop : Stop) → IsTrue (world old).power → Stops world reaches here new 8 stop → MayLeaveCopies world reaches kinds.Sdl shape here new (SdlValue moved_sdl)
+          update_stopped : (stop : Stop) → IsTrue (world old).power → Stops world reaches here new 8 stop → LeavesListCopies world reaches shape here new moved_sdl
               → PlacingStopped world reaches shape old new lists i bytes lists stop
           update_stopped stop on stops left = stopped_by new stop on (record {
             stops = stops_within world block_count reaches laws old new (2 + (2 * found.tried + 2) + 8) (most_placing_uses shape lists i) stop (let inside = has.stands.inside in omega (arith, inside))
                 (stops_later world block_count reaches laws old here new (2 + (2 * found.tried + 2)) 8 stop continues_here stops);
-            given = λ known other given. elim (pair_between shape (world new).cells lists.dds lists.sdl moved_sdl other dds_still between given) [
+            given = λ known other given. elim (pair_between shape (world new).cells lists.dds lists.sdl moved_sdl other dds_still valid.together.same_version between given) [
               | inl before ↦ inl before
               | inr after ↦ inr (record {
                 tried = found.tried;
@@ -290,15 +283,13 @@ module _ {M : Type 0} (world : M → World) (block_count : M → ℕ) (reaches :
                 (tried_of (free_spares shape lists) found.tried) found.spare next spare_agrees settled bad_still between;
           })
             where
-              between : AreBetween IsSdlText (sdl_block shape) (world new).cells lists.sdl moved_sdl
-              between = between_left IsSdlText (sdl_block shape) (world here).cells (world new).cells lists.sdl moved_sdl
-                  (λ area is. settled_either (cell_at (world here).cells (sdl_block shape area)) lists.sdl (settled_here.sdl area is))
-                  (λ area is. sdl_may_hold (cell_at (world here).cells (sdl_block shape area)) (cell_at (world new).cells (sdl_block shape area)) moved_sdl (left area is))
+              between : SdlIsBetween shape (world new).cells lists.sdl moved_sdl
+              between = settled_stopped shape (world here).cells (world new).cells lists.sdl moved_sdl settled_here.sdl refl (inl (λ same. omega (arith, same))) left.parts left.dead
 
           -- no copy can be read
-          no_copy_left : lists.sdl.counter ≢ LAST_COUNTER → Continues world reaches here new 8 → AllLost (sdl_block shape) (world new).cells
+          no_copy_left : lists.sdl.counter ≢ LAST_COUNTER → Continues world reaches here new 8 → LosesListCopies world reaches shape here new moved_sdl
               → MeetsNoCopy world reaches shape old new lists i bytes lists lists.sdl.counter
-          no_copy_left room continues all_lost = record {
+          no_copy_left room continues left = record {
             ended = ended_by new (2 + (2 * found.tried + 2) + 8) lists goes;
             finds = record {
               tried = found.tried;
@@ -307,13 +298,13 @@ module _ {M : Type 0} (world : M → World) (block_count : M → ℕ) (reaches :
                 same = refl;
                 continues = subst (Continues world reaches old new) uses goes;
                 as_known = as_known_all;
-                settled = record { dds = dds_still; sdl = λ area is. lost_settled (cell_at (world new).cells (sdl_block shape area)) lists.sdl (all_lost area is) };
+                settled = record { dds = dds_still; sdl = lost_settled shape (world new).cells lists.sdl moved_sdl refl refl left.exact left.lost };
                 only = all_only;
                 dead = dead_still;
                 keeps = λ disc fits. fits_before shape lists valid i inside (world old).cells (world new).cells all_only disc (inr bad_still) fits;
               };
               counter_is = refl;
-              cause = inl all_lost;
+              cause = inl (lost_alike shape (world new).cells moved_sdl lists.sdl refl left.lost);
               tried_dead = tried_dead;
               spare_has = spare_good_still;
             };
@@ -328,9 +319,9 @@ module _ {M : Type 0} (world : M → World) (block_count : M → ℕ) (reaches :
                   omega (arith, some)
 
           -- the list was written
-          list_written : lists.sdl.counter < LAST_COUNTER → Continues world reaches here new 8 → Settled IsSdlText (sdl_block shape) (world new).cells moved_sdl
-              → ((world here).known ≡ true → ¬ AllLost (sdl_block shape) (world new).cells) → PlacesBlock world reaches shape old new lists i bytes moved
-          list_written room continues settled_sdl not_lost = record {
+          list_written : lists.sdl.counter < LAST_COUNTER → Continues world reaches here new 8 → KeepsListCopies world reaches shape here new moved_sdl
+              → PlacesBlock world reaches shape old new lists i bytes moved
+          list_written room continues kept = record {
             ended = ended_by new (2 + (2 * found.tried + 2) + 8) moved goes;
             puts = record {
               placing = ToSpare found.tried;
@@ -338,10 +329,10 @@ module _ {M : Type 0} (world : M → World) (block_count : M → ℕ) (reaches :
               lists_are = moved_is;
               continues = goes;
               as_known = as_known_all;
-              settled = record { dds = dds_still; sdl = settled_sdl };
+              settled = record { dds = dds_still; sdl = λ _. kept.exact };
               only = all_only;
               went = λ known. (dead_still, tried_dead, spare_good_still known);
-              has_copy = λ known. not_lost (has.as_known ∙ lost.as_known ∙ known);
+              has_copy = λ known none. kept.not_lost (has.as_known ∙ lost.as_known ∙ known) (lost_alike shape (world new).cells lists.sdl moved_sdl refl none);
               makes = λ disc disc' differs fits. fits_moved shape lists valid i inside (world old).cells (world new).cells all_only bytes disc disc' differs fits
                   (tried_of (free_spares shape lists) found.tried) found.spare next spare_agrees;
             };
@@ -363,4 +354,4 @@ module _ {M : Type 0} (world : M → World) (block_count : M → ℕ) (reaches :
 
         pub spare_put : (new : M) → lists.sdl.counter < LAST_COUNTER → HasUpdated world reaches shape here new moved_sdl true
             → PlacesBlock world reaches shape old new lists i bytes moved
-        spare_put new room did = list_written new did.ended.alone room did.ended.continues (sdl_settled shape (world new).cells moved_sdl did.left.settled) did.left.not_lost
+        spare_put new room did = list_written new did.ended.alone room did.ended.continues did.left

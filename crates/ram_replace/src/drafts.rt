@@ -2,9 +2,9 @@
 
 ghost use Rattle.std.specs.Prelude.{◌≡◌, ◌<◌, ◌≤◌, length};
 ghost use Rattle.std.specs.List.Sorted.{IsStrictlyIncreasing};
-ghost use Rattle.model_geometry.specs.declared.TheConstants.{MOST_SPARES};
+ghost use Rattle.model_geometry.specs.declared.TheConstants.{SDL_LIMIT};
 ghost use Rattle.model_geometry.specs.Geometry.{IsLawful};
-ghost use Rattle.model_lists.specs.Values.{IsLawfulSdl, defectives, with_entry, retired};
+ghost use Rattle.model_lists.specs.Values.{IsLawfulSdl, most_of, defectives, with_entry, retired};
 ghost use Rattle.model_places.specs.Places.{free_spares, logical_count};
 ghost use Rattle.model_places.specs.Valid.{AreValid};
 ghost use Rattle.model_volume.specs.Moves.{with_retired, tried_of, former, sdl_moved};
@@ -42,7 +42,7 @@ fn retire_tried(geometry: &Geometry, lists: &Lists, draft: &mut Sdl, tried: u32)
     requires valid { AreValid geometry.now (lists_of lists.now) }
     requires few { tried ≤ length (free_spares geometry.now (lists_of lists.now)) }
     requires same { draft.old.entries.list ≡ lists.now.sdl.entries.list }
-    requires room { MOST_SPARES ≤ draft.old.entries.room }
+    requires room { most_of lists.now.sdl.version ≤ draft.old.entries.room }
     ensures value { sdl_of draft.new ≡ record (sdl_of draft.old) {
       entries = with_retired (tried_of (free_spares geometry.now (lists_of lists.now)) tried)
           lists.now.sdl.entries.list;
@@ -84,11 +84,11 @@ pub fn draft_moved(geometry: &Geometry, lists: &Lists, draft: &mut Sdl, i: u32, 
     requires inside { i < logical_count geometry.now (lists_of lists.now) }
     requires stands { StandsAt (free_spares geometry.now (lists_of lists.now)) found }
     requires counter { lists.now.sdl.counter < LAST_COUNTER }
-    requires room { MOST_SPARES ≤ draft.old.entries.room }
+    requires room { SDL_LIMIT ≤ draft.old.entries.room }
     ensures value { sdl_of draft.new ≡ sdl_moved geometry.now (lists_of lists.now) i
         (tried_of (free_spares geometry.now (lists_of lists.now)) found.tried) found.spare }
     ensures lawful { IsLawfulSdl (sdl_of draft.new) }
-    ensures room { MOST_SPARES ≤ draft.new.entries.room }
+    ensures room { SDL_LIMIT ≤ draft.new.entries.room }
 {
     let own = physical(geometry, &lists.dds, i);
     let before = home(geometry, lists, i);

@@ -8,6 +8,3 @@ mod updates;
 mod writing;
 
 pub use writing::{Placed, write_home};
-
-#[cfg(test)]
-mod tests;

@@ -1,7 +1,7 @@
 //! The write of one logical block, to its home or to a spare.
 
 ghost use Rattle.std.specs.Prelude.{◌≡◌, ◌<◌, ◌≤◌, IsTrue, IfOk, MatchResult, length};
-ghost use Rattle.model_geometry.specs.declared.TheConstants.{MOST_SPARES};
+ghost use Rattle.model_geometry.specs.declared.TheConstants.{SDL_LIMIT};
 ghost use Rattle.model_geometry.specs.Geometry.{total};
 ghost use Rattle.model_lists.specs.Values.{IsLawfulSdl};
 ghost use Rattle.model_places.specs.Places.{logical_count, home_of};
@@ -69,8 +69,8 @@ fn place<M: Medium>(
     requires settled { AreSettled geometry.now (M.world medium.old).cells (lists_of lists.old) }
     requires inside { i < logical_count geometry.now (lists_of lists.old) }
     requires home { home ≡ home_of geometry.now (lists_of lists.old) i }
-    requires room { MOST_SPARES ≤ lists.old.sdl.entries.room }
-    requires draft { MOST_SPARES ≤ draft.old.entries.room }
+    requires room { SDL_LIMIT ≤ lists.old.sdl.entries.room }
+    requires draft { SDL_LIMIT ≤ draft.old.entries.room }
     requires whole { length from.now ≡ BLOCK_BYTES }
     ensures rule { MatchResult result
         (EndsPlacing M.world M.reaches geometry.now medium.old medium.new (lists_of lists.old) i from.now
@@ -80,8 +80,8 @@ fn place<M: Medium>(
     ensures back { IfOk result (EndsWithReadBack (M.world medium.old).known from.now scratch.new.room) }
     ensures valid { AreValid geometry.now (lists_of lists.new) }
     ensures lawful { IsLawfulSdl (sdl_of lists.new.sdl) }
-    ensures room { MOST_SPARES ≤ lists.new.sdl.entries.room }
-    ensures draft { MOST_SPARES ≤ draft.new.entries.room }
+    ensures room { SDL_LIMIT ≤ lists.new.sdl.entries.room }
+    ensures draft { SDL_LIMIT ≤ draft.new.entries.room }
     ensures as_many { M.block_count medium.new ≡ M.block_count medium.old }
 {
     if put_block(medium, home, from, &mut scratch.room)? {
@@ -128,16 +128,16 @@ pub fn write_home<M: Medium>(
     requires settled { AreSettled geometry.now (M.world medium.old).cells (lists_of lists.old) }
     requires inside { i < logical_count geometry.now (lists_of lists.old) }
     requires home { home ≡ home_of geometry.now (lists_of lists.old) i }
-    requires room { MOST_SPARES ≤ lists.old.sdl.entries.room }
-    requires draft { MOST_SPARES ≤ draft.old.entries.room }
+    requires room { SDL_LIMIT ≤ lists.old.sdl.entries.room }
+    requires draft { SDL_LIMIT ≤ draft.old.entries.room }
     requires whole { length from.now ≡ BLOCK_BYTES }
     ensures rule { PlacedRule M.world M.reaches geometry.now medium.old medium.new (lists_of lists.old) i
         from.now (lists_of lists.new) result }
     ensures back { LeavesReadBack (M.world medium.old).known from.now scratch.new.room result }
     ensures valid { AreValid geometry.now (lists_of lists.new) }
     ensures lawful { IsLawfulSdl (sdl_of lists.new.sdl) }
-    ensures room { MOST_SPARES ≤ lists.new.sdl.entries.room }
-    ensures draft { MOST_SPARES ≤ draft.new.entries.room }
+    ensures room { SDL_LIMIT ≤ lists.new.sdl.entries.room }
+    ensures draft { SDL_LIMIT ≤ draft.new.entries.room }
     ensures as_many { M.block_count medium.new ≡ M.block_count medium.old }
 {
     if !medium.powered() {

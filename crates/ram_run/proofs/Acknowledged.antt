@@ -20,21 +20,19 @@ use Rattle.model_drive.specs.Shown.{Shown, StandsFor, IsFirstUnder, cells_in}
 use Rattle.model_drive.specs.Reads.{ReadStep, VerifyStep}
 use Rattle.model_drive.specs.Writes.{WriteCause, WriteStep}
 use Rattle.model_drive.specs.Power.{PowerStep}
-use Rattle.ram_sense.specs.declared.sense.Sense.{Sense}
-use Rattle.ram_sense.specs.declared.answer.Answer.{Answer}
-use Rattle.ram_cdb.specs.declared.commands.Command.{Command}
-use Rattle.ram_cdb.specs.declared.commands.Command.TheVariants as commands
-use Rattle.ram_cdb.specs.Decoding.{decoded}
+use Rattle.model_sense.specs.declared.sense.Sense.{Sense}
+use Rattle.model_sense.specs.declared.answer.Answer.{Answer}
+use Rattle.model_cdb.specs.declared.commands.Command.{Command}
+use Rattle.model_cdb.specs.declared.commands.Command.TheVariants as commands
+use Rattle.model_cdb.specs.Decoding.{decoded}
 use Rattle.model_target.specs.declared.host.Host.{Host}
 use Rattle.model_target.specs.Judging.{IsJudged}
 use Rattle.model_target.specs.Steps.{Untouched, TellsStructure, TellsSpares, IsDone, IsAnsweredBy, IsStep}
 use Rattle.ram_medium.specs.declared.control.FailEnd.{FailEnd}
 use Rattle.ram_medium.specs.declared.control.FailEnd.TheVariants as fails
 use Rattle.ram_text.specs.declared.printing.Event.TheVariants as events
-use Rattle.ram_run.specs.declared.line.DiscLine.{DiscLine}
-use Rattle.ram_run.specs.declared.line.DiscLine.TheVariants as discs
-use Rattle.ram_run.specs.declared.line.Work.{Work}
-use Rattle.ram_run.specs.declared.line.Work.TheVariants as works
+use Rattle.ram_text.specs.declared.script.Line.{Line}
+use Rattle.ram_text.specs.declared.script.Line.TheVariants as lines
 use Rattle.ram_run.specs.declared.reply.Reply.TheVariants as replies
 use Rattle.ram_run.specs.declared.stopped.Stopped.TheVariants as stopped
 use Rattle.ram_run.specs.Control.{stands_after_fail}
@@ -42,8 +40,7 @@ use Rattle.ram_run.specs.Replies.{Outcome}
 use Rattle.ram_run.specs.States.{State, Served, Unopened, Disc}
 use Rattle.ram_run.specs.LineSteps.{PressStep, DiscRule, OnDisc, Step}
 use Rattle.ram_run.specs.Run.{AnsweredLine, Run}
-use Rattle.ram_run.specs.Acknowledged.{KeepsSector, Acknowledged, LeavesAsAsked, LeavesAsDecoded, LeavesOnDisc, LeavesSector, LeaveSector}
-use Rattle.ram_run.specs.Work.{work_of}
+use Rattle.ram_run.specs.Acknowledged.{KeepsSector, Acknowledged, LeavesAsAsked, LeavesAsDecoded, LeavesSector, LeaveSector}
 use Rattle.ram_run.proofs.Decoded.{HasItsData, asks_for, its_data}
 use Rattle.ram_run.proofs.Shortened.{front_sector, front_long}
 use Rattle.ram_run.proofs.WrittenDiscs.{lies, write_on, write_off}
@@ -191,16 +188,17 @@ module _ (at : ℕ) (bytes : List ℕ) where
     command_keeps host later cdb payload answer data_in (inr on) leaves =
         by_keeps host (is_some old.lists) cdb payload on.1.judged answer data_in on.1.is_judged on.1.is_answered leaves
 
-    rule_keeps : (host later : Host) (line : DiscLine) (payload : List ℕ) (outcome : Outcome) (data_in : List ℕ) → DiscRule old new (λ x. x ≡ s) (λ x. x ≡ t) host later line payload outcome data_in
-        → LeavesOnDisc at line payload → AllKeep t
-    rule_keeps host later discs.Power payload outcome data_in p leaves = power_keeps new s t p.0.out (p.0.powered.step s refl) keeps
-    rule_keeps host later (discs.Fail block) payload outcome data_in p leaves = fail_keeps s t p.0.end (p.0.stands s refl) keeps
-    rule_keeps host later (discs.Wear block n) payload outcome data_in p leaves = subst AllKeep (p.0.keeps.stands s refl) keeps
-    rule_keeps host later (discs.Cut n fate) payload outcome data_in p leaves = subst AllKeep (p.0.keeps.stands s refl) keeps
-    rule_keeps host later (discs.Command cdb) payload outcome data_in p leaves = command_keeps host later cdb payload p.answer data_in p.step leaves
+    rule_keeps : (host later : Host) (line : Line) (payload : List ℕ) (outcome : Outcome) (data_in : List ℕ) → DiscRule old new (λ x. x ≡ s) (λ x. x ≡ t) host later line payload outcome data_in
+        → LeavesSector at line payload → AllKeep t
+    rule_keeps host later lines.Power payload outcome data_in p leaves = power_keeps new s t p.0.out (p.0.powered.step s refl) keeps
+    rule_keeps host later (lines.Fail block) payload outcome data_in p leaves = fail_keeps s t p.0.end (p.0.stands s refl) keeps
+    rule_keeps host later (lines.Wear block n) payload outcome data_in p leaves = subst AllKeep (p.0.keeps.stands s refl) keeps
+    rule_keeps host later (lines.Cut n fate) payload outcome data_in p leaves = subst AllKeep (p.0.keeps.stands s refl) keeps
+    rule_keeps host later (lines.Command cdb) payload outcome data_in p leaves = command_keeps host later cdb payload p.answer data_in p.step leaves
+    rule_keeps host later _ payload outcome data_in p leaves = absurd p
 
-  on_disc_keeps : (s : Served) (line : DiscLine) (payload : List ℕ) (outcome : Outcome) (data_in : List ℕ) (t : State) → OnDisc (Disc s) line payload outcome data_in t
-      → LeavesOnDisc at line payload → AllKeep s.disc.standing → Acknowledged t at bytes
+  on_disc_keeps : (s : Served) (line : Line) (payload : List ℕ) (outcome : Outcome) (data_in : List ℕ) (t : State) → OnDisc (Disc s) line payload outcome data_in t
+      → LeavesSector at line payload → AllKeep s.disc.standing → Acknowledged t at bytes
   on_disc_keeps s line payload outcome data_in (Unopened image) step leaves keeps = absurd step
   on_disc_keeps s line payload outcome data_in (Disc t) step leaves keeps =
       rule_keeps s.disc.shown t.disc.shown s.disc.standing t.disc.standing s.disc.stands keeps s.host t.host line payload outcome data_in step.rule leaves
@@ -214,16 +212,16 @@ module _ (at : ℕ) (bytes : List ℕ) where
   not_pressed s t shape _ step unlawful = absurd step
 
   -- one line
-  pub step_keeps : (s t : State) (work : Work) (payload data_in : List ℕ) (outcome : Outcome) → Step s work payload outcome data_in t → LeavesSector at work payload → Acknowledged s at bytes → Acknowledged t at bytes
-  step_keeps (Unopened image) t work payload data_in outcome step leaves keeps = absurd keeps
-  step_keeps (Disc s) t works.Nothing payload data_in outcome step leaves keeps = subst (λ x. Acknowledged x at bytes) (sym step.2) keeps
-  step_keeps (Disc s) t (works.Press zones scale psa) payload data_in outcome step leaves keeps =
+  pub step_keeps : (s t : State) (line : Line) (payload data_in : List ℕ) (outcome : Outcome) → Step s line payload outcome data_in t → LeavesSector at line payload → Acknowledged s at bytes → Acknowledged t at bytes
+  step_keeps (Unopened image) t line payload data_in outcome step leaves keeps = absurd keeps
+  step_keeps (Disc s) t lines.Empty payload data_in outcome step leaves keeps = subst (λ x. Acknowledged x at bytes) (sym step.2) keeps
+  step_keeps (Disc s) t (lines.Press zones scale psa) payload data_in outcome step leaves keeps =
       subst (λ x. Acknowledged x at bytes) (sym (not_pressed (Disc s) t (shape_of zones scale psa) outcome step.0 leaves)) keeps
-  step_keeps (Disc s) t (works.OnDisc line) payload data_in outcome step leaves keeps = on_disc_keeps s line payload outcome data_in t step leaves keeps
+  step_keeps (Disc s) t line payload data_in outcome step leaves keeps = on_disc_keeps s line payload outcome data_in t step leaves keeps
 
   -- and a run
   pub run_keeps : (s t : State) (answered : List AnsweredLine) → Run s answered t → LeaveSector at answered → Acknowledged s at bytes → Acknowledged t at bytes
   run_keeps s t [] run leaves keeps = subst (λ x. Acknowledged x at bytes) (sym run) keeps
   run_keeps s t (event ∷ answered) run leaves keeps =
-      step_keeps run.0 t (work_of event.line) event.payload event.data_in (Ok event.reply) run.2.step (All-head (λ (e : AnsweredLine). LeavesSector at (work_of e.line) e.payload) event answered leaves)
-      (run_keeps s run.0 answered run.1 (All-tail (λ (e : AnsweredLine). LeavesSector at (work_of e.line) e.payload) event answered leaves) keeps)
+      step_keeps run.0 t event.line event.payload event.data_in (Ok event.reply) run.2.step (All-head (λ (e : AnsweredLine). LeavesSector at e.line e.payload) event answered leaves)
+      (run_keeps s run.0 answered run.1 (All-tail (λ (e : AnsweredLine). LeavesSector at e.line e.payload) event answered leaves) keeps)

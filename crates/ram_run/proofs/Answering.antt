@@ -9,13 +9,11 @@ use Rattle.ram_medium.specs.declared.control.FailEnd.{FailEnd}
 use Rattle.ram_medium.specs.declared.control.FailEnd.TheVariants as fails
 use Rattle.ram_medium.specs.declared.control.Arm.{Arm}
 use Rattle.ram_medium.specs.declared.control.Arm.TheVariants as arming
-use Rattle.ram_sense.specs.declared.answer.Answer.{Answer}
-use Rattle.ram_sense.specs.declared.answer.Answer.TheVariants as answers
+use Rattle.model_sense.specs.declared.answer.Answer.{Answer}
+use Rattle.model_sense.specs.declared.answer.Answer.TheVariants as answers
 use Rattle.ram_text.specs.declared.printing.Event.TheVariants as events
-use Rattle.ram_run.specs.declared.line.DiscLine.{DiscLine}
-use Rattle.ram_run.specs.declared.line.DiscLine.TheVariants as lines
-use Rattle.ram_run.specs.declared.line.Work.{Work}
-use Rattle.ram_run.specs.declared.line.Work.TheVariants as works
+use Rattle.ram_text.specs.declared.script.Line.{Line}
+use Rattle.ram_text.specs.declared.script.Line.TheVariants as lines
 use Rattle.ram_run.specs.declared.reply.Reply.{Reply}
 use Rattle.ram_run.specs.declared.reply.Reply.TheVariants as replies
 use Rattle.ram_run.specs.declared.stopped.Stopped.TheVariants as stopped
@@ -56,26 +54,27 @@ command_answers cdb answers.NoMemory same = cc
 pub distinct : (reply : Reply) → lacks ≡ Ok reply → ⊥
 distinct reply same = cc
 
-rule_answers : (old new : Shown) (before after : Standing → Type 0) (host later : Host) (line : DiscLine) (payload data_in : List ℕ) → DiscRule old new before after host later line payload lacks data_in → ⊥
+rule_answers : (old new : Shown) (before after : Standing → Type 0) (host later : Host) (line : Line) (payload data_in : List ℕ) → DiscRule old new before after host later line payload lacks data_in → ⊥
 rule_answers old new before after host later lines.Power payload data_in rule = power_answers rule.0.out rule.0.outcome_is
 rule_answers old new before after host later (lines.Fail block) payload data_in rule = fail_answers rule.0.end rule.0.outcome_is
 rule_answers old new before after host later (lines.Wear block n) payload data_in rule = wear_answers rule.0.end rule.0.outcome_is
 rule_answers old new before after host later (lines.Cut n fate) payload data_in rule = distinct (replies.Event events.Armed) rule.0.outcome_is
 rule_answers old new before after host later (lines.Command cdb) payload data_in rule = command_answers cdb rule.answer rule.outcome_is
+rule_answers old new before after host later _ payload data_in rule = rule
 
-on_disc_answers : (s : Served) (line : DiscLine) (payload data_in : List ℕ) (t : State) → OnDisc (Disc s) line payload lacks data_in t → ⊥
+on_disc_answers : (s : Served) (line : Line) (payload data_in : List ℕ) (t : State) → OnDisc (Disc s) line payload lacks data_in t → ⊥
 on_disc_answers s line payload data_in (Unopened bytes) on = on
 on_disc_answers s line payload data_in (Disc t) on = rule_answers s.disc.shown t.disc.shown (λ x. x ≡ s.disc.standing) (λ x. x ≡ t.disc.standing) s.host t.host line payload data_in on.rule
 
 -- no line lacks a disc where there is one
-pub disc_answers : (s : Served) (work : Work) (payload data_in : List ℕ) (t : State) → Step (Disc s) work payload (Err stopped.NotADisc) data_in t → ⊥
-disc_answers s works.Nothing payload data_in t step = distinct replies.Nothing step.0
-disc_answers s (works.Press zones scale psa) payload data_in t step = step.0
-disc_answers s (works.OnDisc line) payload data_in t step = on_disc_answers s line payload data_in t step
+pub disc_answers : (s : Served) (line : Line) (payload data_in : List ℕ) (t : State) → Step (Disc s) line payload (Err stopped.NotADisc) data_in t → ⊥
+disc_answers s lines.Empty payload data_in t step = distinct replies.Nothing step.0
+disc_answers s (lines.Press zones scale psa) payload data_in t step = step.0
+disc_answers s line payload data_in t step = on_disc_answers s line payload data_in t step
 
 -- a line that lacks a disc leaves all as it is
-pub lacks_same : (s : State) (work : Work) (payload data_in : List ℕ) (t : State) → Step s work payload (Err stopped.NotADisc) data_in t → t ≡ s
-lacks_same (Disc s) work payload data_in t step = absurd (disc_answers s work payload data_in t step)
-lacks_same (Unopened bytes) works.Nothing payload data_in t step = absurd (distinct replies.Nothing step.0)
-lacks_same (Unopened bytes) (works.Press zones scale psa) payload data_in t step = absurd step.0
-lacks_same (Unopened bytes) (works.OnDisc line) payload data_in t step = step.2
+pub lacks_same : (s : State) (line : Line) (payload data_in : List ℕ) (t : State) → Step s line payload (Err stopped.NotADisc) data_in t → t ≡ s
+lacks_same (Disc s) line payload data_in t step = absurd (disc_answers s line payload data_in t step)
+lacks_same (Unopened bytes) lines.Empty payload data_in t step = absurd (distinct replies.Nothing step.0)
+lacks_same (Unopened bytes) (lines.Press zones scale psa) payload data_in t step = absurd step.0
+lacks_same (Unopened bytes) line payload data_in t step = step.2

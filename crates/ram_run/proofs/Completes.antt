@@ -11,16 +11,12 @@ use Rattle.ram_text.specs.declared.printing.LastLine.{LastLine}
 use Rattle.ram_text.specs.declared.printing.LastLine.TheVariants as lasts
 use Rattle.ram_text.specs.declared.script.Line.{Line}
 use Rattle.ram_text.specs.declared.script.Line.TheVariants as lines
-use Rattle.ram_run.specs.declared.line.DiscLine.{DiscLine}
-use Rattle.ram_run.specs.declared.line.Work.{Work}
-use Rattle.ram_run.specs.declared.line.Work.TheVariants as works
 use Rattle.ram_run.specs.declared.reply.Reply.{Reply}
 use Rattle.ram_run.specs.declared.reply.Reply.TheVariants as replies
 use Rattle.ram_run.specs.declared.stopped.Stopped.TheVariants as stopped
 use Rattle.ram_run.specs.declared.status.Status.{Status}
 use Rattle.ram_run.specs.declared.status.Status.TheVariants as statuses
 use Rattle.ram_run.specs.NextLines.{IsNextLine, ComesNext}
-use Rattle.ram_run.specs.Work.{work_of}
 use Rattle.ram_run.specs.Replies.{Outcome}
 use Rattle.ram_run.specs.States.{State, Served, Unopened, Disc, IsFirst, IsPressedDisc}
 use Rattle.ram_run.specs.LineSteps.{PressStep, OnDisc, Step}
@@ -86,26 +82,26 @@ press_leaves s t shape (replies.Event events.NotPressed) step = inr step
 press_leaves s t shape _ step = absurd step
 
 -- what is done on a disc leaves one
-on_disc_leaves : (s : Served) (line : DiscLine) (payload : List ℕ) (outcome : Outcome) (data_in : List ℕ) (t : State) → OnDisc (Disc s) line payload outcome data_in t → (disc : Served) × (t ≡ Disc disc)
+on_disc_leaves : (s : Served) (line : Line) (payload : List ℕ) (outcome : Outcome) (data_in : List ℕ) (t : State) → OnDisc (Disc s) line payload outcome data_in t → (disc : Served) × (t ≡ Disc disc)
 on_disc_leaves s line payload outcome data_in (Unopened bytes) on = absurd on
 on_disc_leaves s line payload outcome data_in (Disc disc) on = (disc, refl)
 
 -- a line that has a reply leaves a disc where there was one
-stays_disc : (s : Served) (work : Work) (payload : List ℕ) (reply : Reply) (data_in : List ℕ) (t : State) → Step (Disc s) work payload (Ok reply) data_in t → (disc : Served) × (t ≡ Disc disc)
-stays_disc s works.Nothing payload reply data_in t step = (s, step.2)
-stays_disc s (works.Press zones scale psa) payload reply data_in t step =
+stays_disc : (s : Served) (line : Line) (payload : List ℕ) (reply : Reply) (data_in : List ℕ) (t : State) → Step (Disc s) line payload (Ok reply) data_in t → (disc : Served) × (t ≡ Disc disc)
+stays_disc s lines.Empty payload reply data_in t step = (s, step.2)
+stays_disc s (lines.Press zones scale psa) payload reply data_in t step =
     elim (press_leaves (Disc s) t (shape_of zones scale psa) reply step.0) [
       | inl disc ↦ disc
       | inr kept ↦ (s, kept.1)
     ]
-stays_disc s (works.OnDisc line) payload reply data_in t step = on_disc_leaves s line payload (Ok reply) data_in t step
+stays_disc s line payload reply data_in t step = on_disc_leaves s line payload (Ok reply) data_in t step
 
 -- a run leaves a disc where there was one
 run_leaves : (s : Served) (events : List AnsweredLine) (now : State) → Run (Disc s) events now → (disc : Served) × (now ≡ Disc disc)
 run_leaves s [] now run = (s, run)
 run_leaves s (event ∷ events) now run =
     let before = run_leaves s events run.0 run.1 in
-    stays_disc before.0 (work_of event.line) event.payload event.reply event.data_in now (subst (λ x. Step x (work_of event.line) event.payload (Ok event.reply) event.data_in now) before.1 run.2.step)
+    stays_disc before.0 event.line event.payload event.reply event.data_in now (subst (λ x. Step x event.line event.payload (Ok event.reply) event.data_in now) before.1 run.2.step)
 
 -- a line that says nothing has no data
 empty_form : (words : List (List ℕ)) (payload : List ℕ) → IsForm words lines.Empty payload → payload ≡ []
@@ -129,16 +125,18 @@ same_text : (events : List AnsweredLine) → script_text events ≡ lines_text (
 same_text [] = refl
 same_text (event ∷ events) = ap (λ text. text ++ (event.raw ++ line_feed ∷ [])) (same_text events)
 
--- a line that needs a disc says something, and presses none
-needs_none : (line : Line) (on : DiscLine) → work_of line ≡ works.OnDisc on → (line ≡ lines.Empty) ⊎ IsLawfulPress line → ⊥
-needs_none line on needs (inl empty) = (let same : works.Nothing ≡ works.OnDisc on = subst (λ l. work_of l ≡ works.OnDisc on) empty needs in cc)
-needs_none lines.Empty on needs (inr press) = press
-needs_none (lines.Press zones scale psa) on needs (inr press) = cc
-needs_none lines.Power on needs (inr press) = press
-needs_none (lines.Fail block) on needs (inr press) = press
-needs_none (lines.Wear block n) on needs (inr press) = press
-needs_none (lines.Cut n fate) on needs (inr press) = press
-needs_none (lines.Command cdb) on needs (inr press) = press
+-- the line needs a disc
+abbrev NeedsDisc : Line → Type 0
+NeedsDisc lines.Empty = ⊥
+NeedsDisc (lines.Press zones scale psa) = ⊥
+NeedsDisc _ = Unit {0}
+
+-- such a line says something, and presses none
+needs_none : (line : Line) → NeedsDisc line → (line ≡ lines.Empty) ⊎ IsLawfulPress line → ⊥
+needs_none line needs (inl empty) = subst NeedsDisc empty needs
+needs_none lines.Empty needs (inr press) = needs
+needs_none (lines.Press zones scale psa) needs (inr press) = needs
+needs_none _ needs (inr press) = press
 
 -- a press says something
 press_speaks : (zones scale psa : ℕ) → lines.Press zones scale psa ≡ lines.Empty → ⊥
@@ -146,7 +144,7 @@ press_speaks zones scale psa same = cc
 
 module _ (bytes script : List ℕ) (press : BeginsWithPress script) where
   -- what a line that is the first to be answered, or says nothing, leaves of an image that is no disc's
-  first_leaves : (line : Line) (raw payload : List ℕ) (reply : Reply) (data_in : List ℕ) (now : State) → Step (Unopened bytes) (work_of line) payload (Ok reply) data_in now → Reads raw line payload
+  first_leaves : (line : Line) (raw payload : List ℕ) (reply : Reply) (data_in : List ℕ) (now : State) → Step (Unopened bytes) line payload (Ok reply) data_in now → Reads raw line payload
       → (line ≡ lines.Empty) ⊎ IsLawfulPress line → ((disc : Served) × (now ≡ Disc disc)) ⊎ ((now ≡ Unopened bytes) × Reads raw lines.Empty [])
   first_leaves lines.Empty raw payload reply data_in now step reads is = inr (step.2, subst (Reads raw lines.Empty) (empty_payload raw payload reads) reads)
   first_leaves (lines.Press zones scale psa) raw payload reply data_in now step reads (inl empty) = absurd (press_speaks zones scale psa empty)
@@ -155,11 +153,11 @@ module _ (bytes script : List ℕ) (press : BeginsWithPress script) where
         | inl disc ↦ inl disc
         | inr kept ↦ absurd (kept.0 lawful)
       ]
-  first_leaves lines.Power raw payload reply data_in now step reads is = absurd (needs_none lines.Power _ refl is)
-  first_leaves (lines.Fail block) raw payload reply data_in now step reads is = absurd (needs_none (lines.Fail block) _ refl is)
-  first_leaves (lines.Wear block n) raw payload reply data_in now step reads is = absurd (needs_none (lines.Wear block n) _ refl is)
-  first_leaves (lines.Cut n fate) raw payload reply data_in now step reads is = absurd (needs_none (lines.Cut n fate) _ refl is)
-  first_leaves (lines.Command cdb) raw payload reply data_in now step reads is = absurd (needs_none (lines.Command cdb) _ refl is)
+  first_leaves lines.Power raw payload reply data_in now step reads is = absurd (needs_none lines.Power tt is)
+  first_leaves (lines.Fail block) raw payload reply data_in now step reads is = absurd (needs_none (lines.Fail block) tt is)
+  first_leaves (lines.Wear block n) raw payload reply data_in now step reads is = absurd (needs_none (lines.Wear block n) tt is)
+  first_leaves (lines.Cut n fate) raw payload reply data_in now step reads is = absurd (needs_none (lines.Cut n fate) tt is)
+  first_leaves (lines.Command cdb) raw payload reply data_in now step reads is = absurd (needs_none (lines.Command cdb) tt is)
 
   -- a line after silent ones says nothing, or is that press
   after_silent : (events : List AnsweredLine) (rest raw : List ℕ) (line : Line) (payload : List ℕ) → AreSilent (raws_of events) → script ≡ script_text events ++ rest
@@ -172,11 +170,11 @@ module _ (bytes script : List ℕ) (press : BeginsWithPress script) where
       → ((disc : Served) × (before ≡ Disc disc)) ⊎ ((before ≡ Unopened bytes) × AreSilent (raws_of events))
       → ((disc : Served) × (now ≡ Disc disc)) ⊎ ((now ≡ Unopened bytes) × AreSilent (raws_of (event ∷ events)))
   continues_silent event events rest before now step whole (inl disc) =
-      inl (stays_disc disc.0 (work_of event.line) event.payload event.reply event.data_in now (subst (λ x. Step x (work_of event.line) event.payload (Ok event.reply) event.data_in now) disc.1 step.step))
+      inl (stays_disc disc.0 event.line event.payload event.reply event.data_in now (subst (λ x. Step x event.line event.payload (Ok event.reply) event.data_in now) disc.1 step.step))
   continues_silent event events rest before now step whole (inr silent) =
       elim (
       first_leaves event.line event.raw event.payload event.reply event.data_in now
-      (subst (λ x. Step x (work_of event.line) event.payload (Ok event.reply) event.data_in now) silent.0 step.step) step.reads
+      (subst (λ x. Step x event.line event.payload (Ok event.reply) event.data_in now) silent.0 step.step) step.reads
       (after_silent events ((event.raw ++ line_feed ∷ []) ++ rest) event.raw event.line event.payload silent.1 whole
       (record { line = step.line; after = rest; parts = inl (append_assoc event.raw (line_feed ∷ []) rest) }) step.reads)
       ) [
@@ -193,32 +191,32 @@ module _ (bytes script : List ℕ) (press : BeginsWithPress script) where
       continues_silent event events rest run.0 now run.2 parts (silent_so_far events ((event.raw ++ line_feed ∷ []) ++ rest) run.0 run.1 parts)
 
   -- a line that says nothing, or is that press, lacks no disc
-  first_answers : (line : Line) (payload data_in : List ℕ) (t : State) → Step (Unopened bytes) (work_of line) payload (Err stopped.NotADisc) data_in t → (line ≡ lines.Empty) ⊎ IsLawfulPress line → ⊥
+  first_answers : (line : Line) (payload data_in : List ℕ) (t : State) → Step (Unopened bytes) line payload (Err stopped.NotADisc) data_in t → (line ≡ lines.Empty) ⊎ IsLawfulPress line → ⊥
   first_answers lines.Empty payload data_in t step is = distinct replies.Nothing step.0
   first_answers (lines.Press zones scale psa) payload data_in t step is = step.0
-  first_answers lines.Power payload data_in t step is = needs_none lines.Power _ refl is
-  first_answers (lines.Fail block) payload data_in t step is = needs_none (lines.Fail block) _ refl is
-  first_answers (lines.Wear block n) payload data_in t step is = needs_none (lines.Wear block n) _ refl is
-  first_answers (lines.Cut n fate) payload data_in t step is = needs_none (lines.Cut n fate) _ refl is
-  first_answers (lines.Command cdb) payload data_in t step is = needs_none (lines.Command cdb) _ refl is
+  first_answers lines.Power payload data_in t step is = needs_none lines.Power tt is
+  first_answers (lines.Fail block) payload data_in t step is = needs_none (lines.Fail block) tt is
+  first_answers (lines.Wear block n) payload data_in t step is = needs_none (lines.Wear block n) tt is
+  first_answers (lines.Cut n fate) payload data_in t step is = needs_none (lines.Cut n fate) tt is
+  first_answers (lines.Command cdb) payload data_in t step is = needs_none (lines.Command cdb) tt is
 
   -- no line lacks a disc
   lacks_none : (events : List AnsweredLine) (rest : List ℕ) (now : State) (line : Line) (payload data_in : List ℕ) (t : State) → Run (Unopened bytes) events now → Reaches script events rest
-      → ComesNext script rest line payload → Step now (work_of line) payload (Err stopped.NotADisc) data_in t → ⊥
+      → ComesNext script rest line payload → Step now line payload (Err stopped.NotADisc) data_in t → ⊥
   lacks_none events rest now line payload data_in t run (inr ended) next step = nothing_follows rest next.raw ended.0 next.comes.next
   lacks_none events rest now line payload data_in t run (inl whole) next step =
       elim (silent_so_far events rest now run whole) [
-        | inl disc ↦ disc_answers disc.0 (work_of line) payload data_in t (subst (λ x. Step x (work_of line) payload (Err stopped.NotADisc) data_in t) disc.1 step)
+        | inl disc ↦ disc_answers disc.0 line payload data_in t (subst (λ x. Step x line payload (Err stopped.NotADisc) data_in t) disc.1 step)
         | inr silent ↦
-            first_answers line payload data_in t (subst (λ x. Step x (work_of line) payload (Err stopped.NotADisc) data_in t) silent.0 step)
+            first_answers line payload data_in t (subst (λ x. Step x line payload (Err stopped.NotADisc) data_in t) silent.0 step)
             (after_silent events rest next.raw line payload silent.1 whole next.comes.next next.reads)
       ]
 
 -- where the run begins with a disc, or with the press of one, no line lacks a disc
 has_disc : (first : Beginning) → BeginsWithDisc first → (start : State) → IsFirst first.image start → (events : List AnsweredLine) (rest : List ℕ) (now : State) (line : Line) (payload data_in : List ℕ) (t : State)
-    → Run start events now → Reaches first.script events rest → ComesNext first.script rest line payload → Step now (work_of line) payload (Err stopped.NotADisc) data_in t → ⊥
+    → Run start events now → Reaches first.script events rest → ComesNext first.script rest line payload → Step now line payload (Err stopped.NotADisc) data_in t → ⊥
 has_disc first begins (Disc s) starts events rest now line payload data_in t run lines next step =
-    let disc = run_leaves s events now run in disc_answers disc.0 (work_of line) payload data_in t (subst (λ x. Step x (work_of line) payload (Err stopped.NotADisc) data_in t) disc.1 step)
+    let disc = run_leaves s events now run in disc_answers disc.0 line payload data_in t (subst (λ x. Step x line payload (Err stopped.NotADisc) data_in t) disc.1 step)
 has_disc first (inl image) (Unopened bytes) starts events rest now line payload data_in t run lines next step = starts.1 image.0 image.1
 has_disc first (inr press) (Unopened bytes) starts events rest now line payload data_in t run lines next step =
     lacks_none bytes first.script press events rest now line payload data_in t run lines next step

@@ -2,8 +2,8 @@
 use Rattle.std.specs.Prelude.{◌≡◌, ℕ, zero, suc, ◌+◌, ◌-◌, ◌<◌, ◌≤◌, ◌^◌, Bool, true, false, if◌then◌else◌, List, [], ◌∷◌, length, map, get_or, All}
 use Rattle.std.proofs.Common.{arith, refl, sym, ap, ◌∙◌, subst, set}
 use Rattle.std.proofs.lemmas.List.{length-map, get_or-map}
-use Rattle.ram_sense.specs.declared.sense.Sense.{Sense}
-use Rattle.ram_sense.specs.declared.answer.Answer.TheVariants as answers
+use Rattle.model_sense.specs.declared.sense.Sense.{Sense}
+use Rattle.model_sense.specs.declared.answer.Answer.TheVariants as answers
 use Rattle.model_target.specs.Senses.{senses}
 use Rattle.ram_run.specs.declared.counts.AnswerCounts.{AnswerCounts}
 use Rattle.ram_run.specs.declared.counts.SenseCount.{SenseCount}

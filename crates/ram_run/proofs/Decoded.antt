@@ -8,12 +8,12 @@ use Rattle.model_commands.specs.declared.Operation.{Operation}
 use Rattle.model_commands.specs.declared.Operation.TheVariants as operations
 use Rattle.model_commands.specs.Commands.{command, operation_of, field}
 use Rattle.model_drive.specs.declared.Kind.{Kind}
-use Rattle.ram_sense.specs.Sense.{sense}
-use Rattle.ram_sense.specs.declared.sense.Sense.{Sense}
-use Rattle.ram_cdb.specs.declared.commands.Command.{Command}
-use Rattle.ram_cdb.specs.declared.commands.Command.TheVariants as commands
+use Rattle.model_sense.specs.Sense.{sense}
+use Rattle.model_sense.specs.declared.sense.Sense.{Sense}
+use Rattle.model_cdb.specs.declared.commands.Command.{Command}
+use Rattle.model_cdb.specs.declared.commands.Command.TheVariants as commands
 use Rattle.ram_cdb.proofs.Limits.{whole}
-use Rattle.ram_cdb.specs.Decoding.{refusal, unless, format_type, format_kind, has_refused_field, asks_for_saved_values, has_wrong_length, has_refused_parameters, meaning, decoded_by, decoded}
+use Rattle.model_cdb.specs.Decoding.{refusal, unless, format_type, format_kind, has_refused_field, asks_for_saved_values, has_wrong_length, has_refused_parameters, meaning, decoded_by, decoded}
 use Rattle.model_target.specs.declared.host.Host.{Host}
 use Rattle.model_target.specs.Host.{is_told}
 use Rattle.model_target.specs.Judging.{asked_in, asked_by, asked, IsJudgedBy, IsJudged}

@@ -13,17 +13,17 @@ use Rattle.model_drive.specs.declared.WriteOut.TheVariants as writes
 use Rattle.model_drive.specs.Shown.{Shown, StandsFor}
 use Rattle.model_drive.specs.Reads.{ReadsAll, ReadCause, ReadStep}
 use Rattle.model_drive.specs.Writes.{WritesAll, WriteCause, WriteStep}
-use Rattle.ram_sense.specs.declared.sense.Sense.{Sense}
-use Rattle.ram_sense.specs.declared.answer.Answer.{Answer}
-use Rattle.ram_sense.specs.declared.answer.Answer.TheVariants as answers
-use Rattle.ram_cdb.specs.declared.commands.Command.{Command}
-use Rattle.ram_cdb.specs.declared.commands.Command.TheVariants as commands
-use Rattle.ram_cdb.specs.Decoding.{decoded}
+use Rattle.model_sense.specs.declared.sense.Sense.{Sense}
+use Rattle.model_sense.specs.declared.answer.Answer.{Answer}
+use Rattle.model_sense.specs.declared.answer.Answer.TheVariants as answers
+use Rattle.model_cdb.specs.declared.commands.Command.{Command}
+use Rattle.model_cdb.specs.declared.commands.Command.TheVariants as commands
+use Rattle.model_cdb.specs.Decoding.{decoded}
 use Rattle.ram_text.specs.declared.script.Line.{Line}
 use Rattle.model_target.specs.declared.host.Host.{Host}
 use Rattle.model_target.specs.Judging.{IsJudged}
 use Rattle.model_target.specs.Steps.{IsRead, IsWritten, IsDone, IsAnsweredBy, IsStep as ExecutesTo, read_answer, write_answer, data_read}
-use Rattle.ram_run.specs.declared.line.DiscLine.TheVariants as discs
+use Rattle.ram_text.specs.declared.script.Line.TheVariants as lines
 use Rattle.ram_run.specs.declared.reply.Reply.{Reply}
 use Rattle.ram_run.specs.declared.reply.Reply.TheVariants as replies
 use Rattle.ram_run.specs.declared.stopped.Stopped.TheVariants as stopped
@@ -31,7 +31,6 @@ use Rattle.ram_run.specs.Replies.{command_outcome}
 use Rattle.ram_run.specs.States.{State, Served, Unopened, Disc}
 use Rattle.ram_run.specs.LineSteps.{OnDisc, Step}
 use Rattle.ram_run.specs.Run.{AnsweredLine, IsStep, Run}
-use Rattle.ram_run.specs.Work.{work_of}
 use Rattle.ram_run.specs.Acknowledged.{bytes_of_sector, KeepsSector, Acknowledged, StandsWithSector, HasNow, WasDone, IsAmong, LeaveSector}
 use Rattle.ram_run.proofs.Decoded.{asks_for, same_asked, its_data}
 use Rattle.ram_run.proofs.Acknowledged.{AllKeep, run_keeps}
@@ -92,7 +91,7 @@ module _ (old new : Shown) (before after : Standing → Type 0) (host later : Ho
 no_disc : (reply : Reply) → Ok reply ≡ Err stopped.NotADisc → ⊥
 no_disc reply is = cc
 
-by_line : (s t : State) (cdb payload data_in : List ℕ) (asked : Command) → decoded cdb payload ≡ Ok asked → OnDisc s (discs.Command cdb) payload (Ok (replies.Command cdb answers.Good)) data_in t → Done s t asked payload data_in
+by_line : (s t : State) (cdb payload data_in : List ℕ) (asked : Command) → decoded cdb payload ≡ Ok asked → OnDisc s (lines.Command cdb) payload (Ok (replies.Command cdb answers.Good)) data_in t → Done s t asked payload data_in
 by_line (Unopened image) t cdb payload data_in asked asks step = absurd (no_disc (replies.Command cdb answers.Good) step.0)
 by_line (Disc s) (Unopened image) cdb payload data_in asked asks step = absurd step
 by_line (Disc s) (Disc t) cdb payload data_in asked asks step = record {
@@ -108,8 +107,8 @@ by_line (Disc s) (Disc t) cdb payload data_in asked asks step = record {
 pub line_done : (s t : State) (event : AnsweredLine) (asked : Command) → IsStep s event t → WasDone event asked → Done s t asked event.payload event.data_in
 line_done s t event asked step done =
     by_line s t done.cdb event.payload event.data_in asked done.asks
-    (subst (λ (l : Line). Step s (work_of l) event.payload (Ok (replies.Command done.cdb answers.Good)) event.data_in t) done.line_is
-    (subst (λ (r : Reply). Step s (work_of event.line) event.payload (Ok r) event.data_in t) done.reply_is step.step))
+    (subst (λ (l : Line). Step s l event.payload (Ok (replies.Command done.cdb answers.Good)) event.data_in t) done.line_is
+    (subst (λ (r : Reply). Step s event.line event.payload (Ok r) event.data_in t) done.reply_is step.step))
 
 -- what a read that was answered Good did
 pub record GoodRead (old new : Shown) (s t : Standing) (lba n : ℕ) (data_in : List ℕ) : Type 0 where

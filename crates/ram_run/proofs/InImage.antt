@@ -16,7 +16,7 @@ use Rattle.model_drive.specs.Course.{lists_reached}
 use Rattle.model_drive.specs.Writes.{WritesAll}
 use Rattle.model_drive.proofs.Courses.{after_good}
 use Rattle.model_drive.proofs.WriteTurns.{inside_count}
-use Rattle.ram_cdb.specs.declared.commands.Command.TheVariants as commands
+use Rattle.model_cdb.specs.declared.commands.Command.TheVariants as commands
 use Rattle.ram_run.specs.States.{State, Unopened, Disc, IsLeft}
 use Rattle.ram_run.specs.Run.{AnsweredLine, IsStep}
 use Rattle.ram_run.specs.Acknowledged.{bytes_of_sector, HasSector, StandsWithSector, HasNow, WasDone, IsAmong, HasInCells, HasInImage}

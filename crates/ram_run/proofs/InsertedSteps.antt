@@ -6,18 +6,33 @@ use Rattle.model_target.specs.declared.host.Host.{Host}
 use Rattle.ram_outside.specs.declared.image.Image.{Ghosts as Images}
 use Rattle.ram_sectors.specs.Laws.{SectorsLaws}
 use Rattle.ram_sectors.specs.declared.Sectors.{Ghosts as Drives}
+use Rattle.ram_medium.specs.declared.control.FailEnd.{FailEnd}
+use Rattle.ram_medium.specs.declared.control.FailEnd.TheVariants as fails
 use Rattle.ram_mmc.specs.declared.target.Target.{Target}
 use Rattle.ram_run.specs.declared.inserted.Inserted.TheVariants as inserts
-use Rattle.ram_run.specs.declared.line.DiscLine.{DiscLine}
-use Rattle.ram_run.specs.declared.line.Work.TheVariants as works
+use Rattle.ram_text.specs.declared.script.Line.{Line}
+use Rattle.ram_volume.specs.Control.{FailOnDrive}
+use Rattle.ram_text.specs.declared.script.Line.TheVariants as lines
 use Rattle.ram_run.specs.Replies.{Outcome}
 use Rattle.ram_run.specs.States.{State, Served, Unopened, Disc, IsIn, IsLabelled}
-use Rattle.ram_run.specs.LineSteps.{DiscRule, DiscStep}
+use Rattle.ram_run.specs.LineSteps.{DiscRule, DiscStep, Step}
 use Rattle.ram_run.specs.Inserted.{Stands, IsAnswered}
 use Rattle.ram_run.proofs.StatesAfter.{rule_found}
 use Rattle.ram_run.proofs.Labels.{stays_labelled}
 
-module _ {D I : Type 0} (drives : Drives D) (images : Images I) (laws : SectorsLaws drives.shows drives.stands) (old new : Target D) (line : DiscLine) (payload : List ℕ) (outcome : Outcome) (data_in : List ℕ)
+-- the failure of a block leaves the geometry
+pub fail_shape : (old new : Shown) (block : ℕ) (end : FailEnd) → FailOnDrive old new block end → new.shape ≡ old.shape
+fail_shape old new block fails.Done p = p.1.same_shape
+fail_shape old new block (fails.NoBlock blocks) p = p.1.same_shape
+fail_shape old new block fails.Failed p = p.1.same_shape
+
+-- what a line does on a disc is its step
+disc_step : (s t : Served) (line : Line) (payload : List ℕ) (outcome : Outcome) (data_in : List ℕ) → DiscStep s t line payload outcome data_in → Step (Disc s) line payload outcome data_in (Disc t)
+disc_step s t lines.Empty payload outcome data_in step = absurd step.rule
+disc_step s t (lines.Press zones scale psa) payload outcome data_in step = absurd step.rule
+disc_step s t _ payload outcome data_in step = step
+
+module _ {D I : Type 0} (drives : Drives D) (images : Images I) (laws : SectorsLaws drives.shows drives.stands) (old new : Target D) (line : Line) (payload : List ℕ) (outcome : Outcome) (data_in : List ℕ)
     (rule : DiscRule (drives.shows old.disc) (drives.shows new.disc) (drives.stands old.disc) (drives.stands new.disc) old.host new.host line payload outcome data_in)
     (same_shape : (drives.shows new.disc).shape ≡ (drives.shows old.disc).shape) where
   -- the disc that a line leaves
@@ -43,6 +58,6 @@ module _ {D I : Type 0} (drives : Drives D) (images : Images I) (laws : SectorsL
       )
 
   -- the same of the inserted disc
-  pub inserted_left : (s : State) → Stands drives images (inserts.Disc old) s → IsAnswered s (works.OnDisc line) payload data_in (Stands drives images (inserts.Disc new)) outcome
+  pub inserted_left : (s : State) → Stands drives images (inserts.Disc old) s → IsAnswered s line payload data_in (Stands drives images (inserts.Disc new)) outcome
   inserted_left (Unopened bytes) stands = absurd stands
-  inserted_left (Disc s) stands = let left = disc_left s stands in record { state = Disc left.0; step = left.1; stands = left.2 }
+  inserted_left (Disc s) stands = let left = disc_left s stands in record { state = Disc left.0; step = disc_step s left.0 line payload outcome data_in left.1; stands = left.2 }

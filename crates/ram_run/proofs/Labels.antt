@@ -8,10 +8,10 @@ use Rattle.model_medium.specs.declared.WornBlock.{WornBlock}
 use Rattle.model_sectors.specs.Discs.{Standing}
 use Rattle.model_drive.specs.Shown.{Shown}
 use Rattle.model_drive.proofs.Kept.{read_kept, verify_kept, write_kept, power_kept, expand_kept, format_kept}
-use Rattle.ram_sense.specs.declared.sense.Sense.{Sense}
-use Rattle.ram_sense.specs.declared.answer.Answer.{Answer}
-use Rattle.ram_cdb.specs.declared.commands.Command.{Command}
-use Rattle.ram_cdb.specs.declared.commands.Command.TheVariants as commands
+use Rattle.model_sense.specs.declared.sense.Sense.{Sense}
+use Rattle.model_sense.specs.declared.answer.Answer.{Answer}
+use Rattle.model_cdb.specs.declared.commands.Command.{Command}
+use Rattle.model_cdb.specs.declared.commands.Command.TheVariants as commands
 use Rattle.model_target.specs.declared.host.Host.{Host}
 use Rattle.model_target.specs.Steps.{Untouched, TellsStructure, TellsSpares, IsDone, IsAnsweredBy, IsStep}
 use Rattle.ram_medium.specs.Control.{WearRule}
@@ -20,8 +20,8 @@ use Rattle.ram_medium.specs.declared.control.FailEnd.TheVariants as fails
 use Rattle.ram_medium.specs.declared.control.Arm.{Arm}
 use Rattle.ram_medium.specs.declared.control.Arm.TheVariants as arming
 use Rattle.ram_volume.specs.Control.{FailOnDrive}
-use Rattle.ram_run.specs.declared.line.DiscLine.{DiscLine}
-use Rattle.ram_run.specs.declared.line.DiscLine.TheVariants as lines
+use Rattle.ram_text.specs.declared.script.Line.{Line}
+use Rattle.ram_text.specs.declared.script.Line.TheVariants as lines
 use Rattle.ram_run.specs.Replies.{Outcome}
 use Rattle.ram_run.specs.States.{IsLabelled}
 use Rattle.ram_run.specs.LineSteps.{DiscRule}
@@ -76,15 +76,16 @@ module _ (old new : Shown) where
     step_label host later cdb payload answer data_in (inl off) = untouched_label off.1.is_answered.untouched
     step_label host later cdb payload answer data_in (inr on) = by_label host payload on.1.judged answer data_in on.1.is_answered
 
-    rule_label : (host later : Host) (line : DiscLine) (payload : List ℕ) (outcome : Outcome) (data_in : List ℕ) → DiscRule old new before after host later line payload outcome data_in → SameLabel
+    rule_label : (host later : Host) (line : Line) (payload : List ℕ) (outcome : Outcome) (data_in : List ℕ) → DiscRule old new before after host later line payload outcome data_in → SameLabel
     rule_label host later lines.Power payload outcome data_in p = (power_kept old new p.0.out p.0.powered.cause).same_label
     rule_label host later (lines.Fail block) payload outcome data_in p = fail_label block p.0.end p.0.rule
     rule_label host later (lines.Wear block n) payload outcome data_in p = wear_label _ (record { block = block; left = n }) p.0.end p.0.rule
     rule_label host later (lines.Cut n fate) payload outcome data_in p = ap (λ (m : Machine). m.world.label) p.0.armed
     rule_label host later (lines.Command cdb) payload outcome data_in p = step_label host later cdb payload p.answer data_in p.step
+    rule_label host later _ payload outcome data_in p = absurd p
 
     -- a drive whose label is that of its geometry still is so after a line
-    pub stays_labelled : (host later : Host) (line : DiscLine) (payload : List ℕ) (outcome : Outcome) (data_in : List ℕ) → DiscRule old new before after host later line payload outcome data_in
+    pub stays_labelled : (host later : Host) (line : Line) (payload : List ℕ) (outcome : Outcome) (data_in : List ℕ) → DiscRule old new before after host later line payload outcome data_in
         → new.shape ≡ old.shape → IsLabelled old → IsLabelled new
     stays_labelled host later line payload outcome data_in rule same_shape labelled =
         rule_label host later line payload outcome data_in rule ∙ labelled ∙ sym (ap label_of same_shape)

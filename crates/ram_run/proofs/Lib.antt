@@ -26,3 +26,5 @@ pub mod InImage
 pub mod OldOrNew
 pub mod VerifiedLines
 pub mod ExpandedLines
+mod FairRuns
+mod NoSpares

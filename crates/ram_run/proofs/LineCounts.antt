@@ -17,11 +17,11 @@ use Rattle.ram_medium.specs.declared.control.FailEnd.{FailEnd}
 use Rattle.ram_medium.specs.declared.control.FailEnd.TheVariants as fails
 use Rattle.ram_medium.specs.declared.control.Arm.{Arm}
 use Rattle.ram_medium.specs.declared.control.Arm.TheVariants as arming
-use Rattle.ram_sense.specs.declared.answer.Answer.{Answer}
-use Rattle.ram_sense.specs.declared.answer.Answer.TheVariants as answers
+use Rattle.model_sense.specs.declared.answer.Answer.{Answer}
+use Rattle.model_sense.specs.declared.answer.Answer.TheVariants as answers
 use Rattle.ram_volume.specs.Control.{FailOnDrive}
-use Rattle.ram_run.specs.declared.line.DiscLine.{DiscLine}
-use Rattle.ram_run.specs.declared.line.DiscLine.TheVariants.{Power, Fail, Wear, Cut, Command}
+use Rattle.ram_text.specs.declared.script.Line.{Line}
+use Rattle.ram_text.specs.declared.script.Line.TheVariants as lines
 use Rattle.ram_run.specs.Replies.{Outcome, power_outcome, fail_outcome, wear_outcome, command_outcome}
 use Rattle.ram_run.specs.LineSteps.{DiscRule}
 use Rattle.ram_run.specs.RunCounts.{LineCount}
@@ -60,14 +60,15 @@ module _ (old new : Shown) where
   answer_counts cdb answers.NoMemory p = p
 
   -- the count of a line
-  pub rule_counts : (before after : Standing → Type 0) (host later : Host) (line : DiscLine) (payload : List ℕ) (outcome : Outcome) (data_in : List ℕ) → DiscRule old new before after host later line payload outcome data_in → Counts outcome
-  rule_counts before after host later Power payload outcome data_in p =
+  pub rule_counts : (before after : Standing → Type 0) (host later : Host) (line : Line) (payload : List ℕ) (outcome : Outcome) (data_in : List ℕ) → DiscRule old new before after host later line payload outcome data_in → Counts outcome
+  rule_counts before after host later lines.Power payload outcome data_in p =
       told outcome (power_outcome p.0.out) p.0.outcome_is (power_counts p.0.out (power_faults old new p.0.out p.0.powered.cause))
-  rule_counts before after host later (Fail block) payload outcome data_in p =
+  rule_counts before after host later (lines.Fail block) payload outcome data_in p =
       told outcome (fail_outcome p.0.end) p.0.outcome_is (fail_counts block p.0.end p.0.rule)
-  rule_counts before after host later (Wear block n) payload outcome data_in p =
+  rule_counts before after host later (lines.Wear block n) payload outcome data_in p =
       told outcome (wear_outcome p.0.end) p.0.outcome_is (wear_counts _ (record { block = block; left = n }) p.0.end p.0.rule)
-  rule_counts before after host later (Cut n fate) payload outcome data_in p =
+  rule_counts before after host later (lines.Cut n fate) payload outcome data_in p =
       told outcome _ p.0.outcome_is (ap (λ (m : Machine). m.world.faults) p.0.armed)
-  rule_counts before after host later (Command cdb) payload outcome data_in p =
+  rule_counts before after host later (lines.Command cdb) payload outcome data_in p =
       told outcome (command_outcome cdb p.answer) p.outcome_is (answer_counts cdb p.answer (step_counted old new before after host later cdb payload p.answer data_in p.step))
+  rule_counts before after host later _ payload outcome data_in p = absurd p

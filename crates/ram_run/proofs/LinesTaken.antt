@@ -8,8 +8,7 @@ use Rattle.ram_text.specs.declared.script.Line.{Line}
 use Rattle.ram_text.specs.declared.script.Line.TheVariants as lines
 use Rattle.ram_run.specs.declared.state.Tally.{Tally}
 use Rattle.ram_run.specs.declared.stopped.Stopped.TheVariants as stopped
-use Rattle.ram_run.specs.Work.{work_of, WorkCountsUses}
-use Rattle.ram_run.specs.NextLines.{IsNextLine, IsNextWithin}
+use Rattle.ram_run.specs.NextLines.{CountsUses, IsNextLine, IsNextWithin}
 use Rattle.ram_run.specs.Progress.{Beginning, SoFar, View, IsReported, IsTallied, IsAt, Taken, IsStoppedAt, unread}
 
 -- what follows a line that was taken from what is left
@@ -52,13 +51,11 @@ module _ (first : Beginning) (far : SoFar first) (old new : View) (at : IsAt far
     abbrev comes : IsNextWithin first.script far.rest raw
     comes = record { next = on.next; within = omega (arith, on.taken_is, at.taken_is, gives.within) }
 
-    pub takes_line : (line : Line) (payload : List ℕ) → Reads raw line payload → Taken far new (work_of line) payload
+    pub takes_line : (line : Line) (payload : List ℕ) → Reads raw line payload → Taken far new line payload
     takes_line line payload reads = record {
       raw = raw;
-      line = line;
       comes = comes;
       reads = reads;
-      work_is = refl;
       left_is = on.left_is;
       taken_is = on.taken_is ∙ at.taken_is;
       tallied = still_tallied;
@@ -69,7 +66,7 @@ module _ (first : Beginning) (far : SoFar first) (old new : View) (at : IsAt far
     stops_unread nothing = record { due_is = still_due; last_is = (record { raw = raw; comes = comes; nothing = nothing }, ap (λ n. n + 1) still_tallied.lines); unended = tt; tallied = still_tallied }
 
 -- an arm or a cut in a line that was read falls at a use from the next one on
-form_uses : (words : List (List ℕ)) (line : Line) (payload : List ℕ) → IsForm words line payload → WorkCountsUses (work_of line)
+form_uses : (words : List (List ℕ)) (line : Line) (payload : List ℕ) → IsForm words line payload → CountsUses line
 form_uses words lines.Empty payload form = tt
 form_uses words (lines.Press zones scale psa) payload form = tt
 form_uses words lines.Power payload form = tt
@@ -88,6 +85,6 @@ form_uses (a ∷ b ∷ c ∷ []) (lines.Cut n fate) payload form = form.2
 form_uses (a ∷ b ∷ c ∷ e ∷ []) (lines.Cut n fate) payload form = absurd form
 form_uses (a ∷ b ∷ c ∷ e ∷ f ∷ words) (lines.Cut n fate) payload form = absurd form
 
-pub read_uses : (raw : List ℕ) (line : Line) (payload : List ℕ) → Reads raw line payload → WorkCountsUses (work_of line)
-read_uses raw line payload (inl comment) = subst (λ l. WorkCountsUses (work_of l)) (sym comment.nothing) tt
+pub read_uses : (raw : List ℕ) (line : Line) (payload : List ℕ) → Reads raw line payload → CountsUses line
+read_uses raw line payload (inl comment) = subst (λ l. CountsUses l) (sym comment.nothing) tt
 read_uses raw line payload (inr other) = form_uses (words_of (without_return raw)) line payload other.form

@@ -6,16 +6,15 @@ use Rattle.std.proofs.lemmas.List.Elements.{All-head, All-weaker}
 use Rattle.model_sectors.specs.Discs.{Standing, On, Off, candidates, replaced}
 use Rattle.model_sectors.proofs.Pieces.{length_replaced, sectors_replaced, other_sectors_replaced}
 use Rattle.model_drive.specs.Shown.{Shown, StandsFor}
-use Rattle.ram_sense.specs.declared.sense.Sense.{Sense}
-use Rattle.ram_sense.specs.declared.answer.Answer.{Answer}
-use Rattle.ram_cdb.specs.declared.commands.Command.{Command}
-use Rattle.ram_cdb.specs.declared.commands.Command.TheVariants as commands
-use Rattle.ram_cdb.specs.Decoding.{decoded}
+use Rattle.model_sense.specs.declared.sense.Sense.{Sense}
+use Rattle.model_sense.specs.declared.answer.Answer.{Answer}
+use Rattle.model_cdb.specs.declared.commands.Command.{Command}
+use Rattle.model_cdb.specs.declared.commands.Command.TheVariants as commands
+use Rattle.model_cdb.specs.Decoding.{decoded}
 use Rattle.model_target.specs.declared.host.Host.{Host}
 use Rattle.model_target.specs.Judging.{IsJudged}
 use Rattle.model_target.specs.Steps.{IsWritten, IsDone, IsAnsweredBy, IsStep as ExecutesTo}
-use Rattle.ram_run.specs.declared.line.DiscLine.TheVariants as discs
-use Rattle.ram_run.specs.declared.line.Work.TheVariants as works
+use Rattle.ram_text.specs.declared.script.Line.TheVariants as lines
 use Rattle.ram_run.specs.Replies.{Outcome}
 use Rattle.ram_run.specs.States.{State, Unopened, Disc}
 use Rattle.ram_run.specs.LineSteps.{Step}
@@ -67,7 +66,7 @@ module _ (at : ℕ) (bytes : List ℕ) (lba n : ℕ) (payload : List ℕ) (among
       executed_either (inr on) = judged_either (is_some old.lists) on.1.judged on.1.is_judged on.1.is_answered
 
   -- the same of a line
-  pub line_either : (s t : State) (cdb data_in : List ℕ) (outcome : Outcome) (fua : Bool) → Step s (works.OnDisc (discs.Command cdb)) payload outcome data_in t → decoded cdb payload ≡ Ok (commands.Write lba n fua)
+  pub line_either : (s t : State) (cdb data_in : List ℕ) (outcome : Outcome) (fua : Bool) → Step s (lines.Command cdb) payload outcome data_in t → decoded cdb payload ≡ Ok (commands.Write lba n fua)
       → Acknowledged s at bytes → HoldsOldOrNew t at bytes sent
   line_either (Unopened image) t cdb data_in outcome fua step asks keeps = absurd keeps
   line_either (Disc s) (Unopened image) cdb data_in outcome fua step asks keeps = absurd step

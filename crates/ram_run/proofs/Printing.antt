@@ -10,8 +10,8 @@ use Rattle.model_drive.specs.Shown.{Shown}
 use Rattle.model_target.specs.declared.host.Host.{Host}
 use Rattle.model_target.specs.Steps.{IsStep}
 use Rattle.model_target.proofs.Whole.{done_whole}
-use Rattle.ram_sense.specs.declared.answer.Answer.{Answer}
-use Rattle.ram_sense.specs.declared.answer.Answer.TheVariants as answers
+use Rattle.model_sense.specs.declared.answer.Answer.{Answer}
+use Rattle.model_sense.specs.declared.answer.Answer.TheVariants as answers
 use Rattle.ram_text.specs.ReportLines.{is_read}
 use Rattle.ram_run.specs.Replies.{PrintsWhere, command_outcome}
 

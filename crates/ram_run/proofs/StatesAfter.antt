@@ -7,8 +7,8 @@ use Rattle.model_drive.specs.Power.{PowerStep}
 use Rattle.model_drive.proofs.Found.{power_found}
 use Rattle.model_target.specs.declared.host.Host.{Host}
 use Rattle.model_target.proofs.Found.{step_found}
-use Rattle.ram_run.specs.declared.line.DiscLine.{DiscLine}
-use Rattle.ram_run.specs.declared.line.DiscLine.TheVariants.{Power, Fail, Wear, Cut, Command}
+use Rattle.ram_text.specs.declared.script.Line.{Line}
+use Rattle.ram_text.specs.declared.script.Line.TheVariants as lines
 use Rattle.ram_run.specs.Replies.{Outcome}
 use Rattle.ram_run.specs.LineSteps.{KeepsRest, DiscRule}
 use Rattle.ram_run.specs.Control.{stands_after_fail}
@@ -21,9 +21,9 @@ module _ (old new : Shown) (before after : Standing → Type 0) (host later : Ho
   keeps_found p = (s, p.stands s stood, record { memory = p.memory; stands = λ x e. e; same_host = p.same_host })
 
   -- what a line leaves
-  pub rule_found : (line : DiscLine) (payload : List ℕ) (outcome : Outcome) (data_in : List ℕ) → DiscRule old new before after host later line payload outcome data_in
+  pub rule_found : (line : Line) (payload : List ℕ) (outcome : Outcome) (data_in : List ℕ) → DiscRule old new before after host later line payload outcome data_in
       → Finds (λ was is. DiscRule old new was is host later line payload outcome data_in)
-  rule_found Power payload outcome data_in p =
+  rule_found lines.Power payload outcome data_in p =
       let found = power_found after new s p.0.out (p.0.powered.step s stood) in (
         found.0,
         found.1,
@@ -40,17 +40,18 @@ module _ (old new : Shown) (before after : Standing → Type 0) (host later : Ho
           p.1,
         ),
       )
-  rule_found (Fail block) payload outcome data_in p = (
+  rule_found (lines.Fail block) payload outcome data_in p = (
     stands_after_fail s p.0.end,
     p.0.stands s stood,
     (record { end = p.0.end; rule = p.0.rule; stands = λ x e. ap (λ y. stands_after_fail y p.0.end) e; same_host = p.0.same_host; outcome_is = p.0.outcome_is }, p.1),
   )
-  rule_found (Wear block n) payload outcome data_in p =
+  rule_found (lines.Wear block n) payload outcome data_in p =
       let found = keeps_found p.0.keeps in
       (found.0, found.1, (record { end = p.0.end; rule = p.0.rule; keeps = found.2; outcome_is = p.0.outcome_is }, p.1))
-  rule_found (Cut n fate) payload outcome data_in p =
+  rule_found (lines.Cut n fate) payload outcome data_in p =
       let found = keeps_found p.0.keeps in
       (found.0, found.1, (record { armed = p.0.armed; keeps = found.2; outcome_is = p.0.outcome_is }, p.1))
-  rule_found (Command cdb) payload outcome data_in p =
+  rule_found (lines.Command cdb) payload outcome data_in p =
       let found = step_found old new before after s stood host later cdb payload p.answer data_in p.step in
       (found.0, found.1, record { answer = p.answer; step = found.2; outcome_is = p.outcome_is })
+  rule_found _ payload outcome data_in p = absurd p

@@ -1,24 +1,20 @@
 -- How the lines so far go on by one line, and how they end.
 use Rattle.std.specs.Prelude.{◌≡◌, ℕ, ◌+◌, ◌<◌, ◌⊎◌, Option, Some, Ok, Err, List, [], ◌∷◌, ◌++◌, length, take, drop}
 use Rattle.std.specs.Io.KnownBytes.{append_known, prepend_known}
-use Rattle.std.proofs.Common.{arith, refl, sym, ap, ◌∙◌, inl, inr, subst, append_assoc, append-nil, length-append, take-append-drop}
+use Rattle.std.proofs.Common.{arith, sym, ap, ◌∙◌, inl, inr, subst, append_assoc, append-nil, length-append, take-append-drop}
 use Rattle.ram_text.specs.Lines.{line_feed}
 use Rattle.ram_run.specs.declared.counts.AnswerCounts.{AnswerCounts}
-use Rattle.ram_run.specs.declared.line.Work.{Work}
-use Rattle.ram_run.specs.declared.line.Work.TheVariants as works
+use Rattle.ram_text.specs.declared.script.Line.{Line}
 use Rattle.ram_run.specs.declared.reply.Reply.{Reply}
-use Rattle.ram_run.specs.declared.reply.Reply.TheVariants as replies
 use Rattle.ram_run.specs.declared.state.Tally.{Tally}
 use Rattle.ram_run.specs.declared.stopped.Stopped.{Stopped}
 use Rattle.ram_run.specs.declared.stopped.Stopped.TheVariants as stopped
 use Rattle.ram_run.proofs.Answering.{lacks_same}
 use Rattle.ram_run.proofs.Counted.{one_counted}
 use Rattle.ram_run.specs.NextLines.{ComesNext}
-use Rattle.ram_run.specs.Work.{work_of}
 use Rattle.ram_run.specs.Replies.{Outcome}
 use Rattle.ram_run.specs.Counting.{with_reply}
 use Rattle.ram_run.specs.States.{State}
-use Rattle.ram_run.specs.LineSteps.{Step}
 use Rattle.ram_run.specs.Inserted.{IsAnswered}
 use Rattle.ram_run.specs.Run.{AnsweredLine, EndsWithBytes, answers_of, script_text, report_text, line_text}
 use Rattle.ram_run.specs.RunCounts.{LineCount}
@@ -38,30 +34,26 @@ reaches_more ends script text rest raw after (inr ended) (inr last) = absurd (om
 due_more : (due due' : Option (List ℕ)) (report so_far text : List ℕ) → due ≡ Some (report ++ so_far) → due' ≡ append_known due text → due' ≡ Some (report ++ (so_far ++ text))
 due_more due due' report so_far text known grew = grew ∙ ap (λ o. append_known o text) known ∙ ap Some (append_assoc report so_far text)
 
-module _ (first : Beginning) (far : SoFar first) (view : View) (work : Work) (payload : List ℕ) (t : Taken far view work payload) (stands : State → Type 0) (data_in : List ℕ) where
-  -- the step of the line that was taken
-  step_of : (outcome : Outcome) (state : State) → Step far.now work payload outcome data_in state → Step far.now (work_of t.line) payload outcome data_in state
-  step_of outcome state step = subst (λ w. Step far.now w payload outcome data_in state) t.work_is step
-
+module _ (first : Beginning) (far : SoFar first) (view : View) (line : Line) (payload : List ℕ) (t : Taken far view line payload) (stands : State → Type 0) (data_in : List ℕ) where
   -- the line with what it is answered
   abbrev event : Reply → AnsweredLine
-  event reply = record { raw = t.raw; line = t.line; payload = payload; reply = reply; data_in = data_in }
+  event reply = record { raw = t.raw; line = line; payload = payload; reply = reply; data_in = data_in }
 
   -- the lines with this one
-  abbrev one_more : (reply : Reply) → IsAnswered far.now work payload data_in stands (Ok reply) → SoFar first
+  abbrev one_more : (reply : Reply) → IsAnswered far.now line payload data_in stands (Ok reply) → SoFar first
   one_more reply answered = record {
     start = far.start;
     events = event reply ∷ far.events;
     now = answered.state;
     rest = t.comes.next.after;
     starts = far.starts;
-    run = (far.now, far.run, record { line = t.comes.next.line; reads = t.reads; step = step_of (Ok reply) answered.state answered.step });
+    run = (far.now, far.run, record { line = t.comes.next.line; reads = t.reads; step = answered.step });
     lines = reaches_more (EndsWithBytes far.events) first.script (script_text far.events) far.rest t.raw t.comes.next.after far.lines t.comes.next.parts;
     within = t.comes.within;
   }
 
   -- the line was answered, and the answer is due
-  use_continues : (new : View) (reply : Reply) → IsAnswered far.now work payload data_in stands (Ok reply) → IsReplied view new reply data_in → Between first stands new
+  use_continues : (new : View) (reply : Reply) → IsAnswered far.now line payload data_in stands (Ok reply) → IsReplied view new reply data_in → Between first stands new
   use_continues new reply answered replied = record {
     far = one_more reply answered;
     stands_now = answered.stands;
@@ -79,7 +71,7 @@ module _ (first : Beginning) (far : SoFar first) (view : View) (work : Work) (pa
   }
 
   -- the line was answered, and the beginning of the answer is due
-  cut_off : (new : View) (reply : Reply) → IsAnswered far.now work payload data_in stands (Ok reply)
+  cut_off : (new : View) (reply : Reply) → IsAnswered far.now line payload data_in stands (Ok reply)
       → (n : ℕ) × (new.due ≡ append_known view.due (take n (line_text (view.tally.lines + 1) reply data_in))) → EndsCutOff first stands new
   cut_off new reply answered cut = record { far = one_more reply answered; stands_now = answered.stands; part = record { written = written; more = drop cut.0 text; due_is = grown; prefix = whole } }
     where
@@ -99,32 +91,32 @@ module _ (first : Beginning) (far : SoFar first) (view : View) (work : Work) (pa
           ∙ ap (λ n. report_text far.events ++ line_text (n + 1) reply data_in) t.tallied.lines)
 
   -- the line comes next
-  comes_next : ComesNext first.script far.rest t.line payload
+  comes_next : ComesNext first.script far.rest line payload
   comes_next = record { raw = t.raw; comes = t.comes; reads = t.reads }
 
   -- the line needs a disc, and there is none
-  ends_without_disc : IsAnswered far.now work payload data_in stands (Err stopped.NotADisc) → EndsBetween first stands view (Err stopped.NotADisc)
+  ends_without_disc : IsAnswered far.now line payload data_in stands (Err stopped.NotADisc) → EndsBetween first stands view (Err stopped.NotADisc)
   ends_without_disc answered = record {
     far = far;
-    stands_now = subst stands (lacks_same far.now work payload data_in answered.state answered.step) answered.stands;
+    stands_now = subst stands (lacks_same far.now line payload data_in answered.state answered.step) answered.stands;
     stopped_at = record {
       due_is = t.due_is;
-      last_is = ((t.line, payload, data_in, answered.state, comes_next, step_of (Err stopped.NotADisc) answered.state answered.step), ap (λ n. n + 1) t.tallied.lines);
+      last_is = ((line, payload, data_in, answered.state, comes_next, answered.step), ap (λ n. n + 1) t.tallied.lines);
       unended = tt;
       tallied = t.tallied;
     };
   }
 
   -- the line was not done whole
-  ends_in_line : (outcome : Outcome) → IsAnswered far.now work payload data_in stands outcome → EndsInLine first stands view outcome
+  ends_in_line : (outcome : Outcome) → IsAnswered far.now line payload data_in stands outcome → EndsInLine first stands view outcome
   ends_in_line outcome answered = record {
     far = far;
     due_is = t.due_is;
-    line = record { line = t.line; payload = payload; data_in = data_in; state = answered.state; next = comes_next; step = step_of outcome answered.state answered.step; stands_after = answered.stands };
+    line = record { line = line; payload = payload; data_in = data_in; state = answered.state; next = comes_next; step = answered.step; stands_after = answered.stands };
   }
 
   -- the outcome of the line was told
-  pub answered_line : (new : View) (f f' : ℕ) (outcome : Outcome) (result : Ending) → IsAnswered far.now work payload data_in stands outcome → LineCount f f' outcome → TellRule view new data_in outcome result → TurnsTo first stands new result
+  pub answered_line : (new : View) (f f' : ℕ) (outcome : Outcome) (result : Ending) → IsAnswered far.now line payload data_in stands outcome → LineCount f f' outcome → TellRule view new data_in outcome result → TurnsTo first stands new result
   answered_line new f f' (Ok reply) (Ok done) answered count rule = use_continues new reply answered rule
   answered_line new f f' (Ok reply) (Err stopped.SinkFault) answered count rule = cut_off new reply answered rule
   answered_line new f f' (Ok reply) (Err stopped.NotInLanguage) answered count rule = absurd rule
@@ -136,7 +128,7 @@ module _ (first : Beginning) (far : SoFar first) (view : View) (work : Work) (pa
   answered_line new f f' (Ok reply) (Err stopped.NoMemory) answered count rule = absurd rule
   answered_line new f f' (Err why) result answered count rule = subst (TurnsTo first stands new) (sym rule.0) (subst (λ v. Ends first stands v (Err why)) (sym rule.1) (by_why why count answered))
     where
-      by_why : (stop : Stopped) → LineCount f f' (Err stop) → IsAnswered far.now work payload data_in stands (Err stop) → Ends first stands view (Err stop)
+      by_why : (stop : Stopped) → LineCount f f' (Err stop) → IsAnswered far.now line payload data_in stands (Err stop) → Ends first stands view (Err stop)
       by_why stopped.NotADisc counts stops = ends_without_disc stops
       by_why stopped.ImageFault counts stops = ends_in_line (Err stopped.ImageFault) stops
       by_why stopped.NoMemory counts stops = ends_in_line (Err stopped.NoMemory) stops
@@ -160,9 +152,3 @@ ends_between first stands far view stopped.SinkFault now at is = record {
 ends_between first stands far view stopped.NotADisc now at is = absurd is
 ends_between first stands far view stopped.ImageFault now at is = absurd is
 ends_between first stands far view stopped.NoMemory now at is = absurd is
-
--- a line that is to do nothing was passed
-pub nothing_done : (first : Beginning) (stands : State → Type 0) (old new after : View) (b : Between first stands old) (payload : List ℕ) (result : Ending) → Taken b.far new works.Nothing payload
-    → TellRule new after [] (Ok replies.Nothing) result → TurnsTo first stands after result
-nothing_done first stands old new after b payload result t rule =
-    answered_line first b.far new works.Nothing payload t stands [] after 0 0 (Ok replies.Nothing) result (record { state = b.far.now; step = (refl, refl, refl); stands = b.stands_now }) refl rule

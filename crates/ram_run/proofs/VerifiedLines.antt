@@ -14,8 +14,8 @@ use Rattle.model_sectors.specs.declared.ReadOut.TheVariants as reads
 use Rattle.model_places.specs.Places.{Lists, home_of}
 use Rattle.model_drive.specs.Shown.{Shown, StandsFor, cells_in, home}
 use Rattle.model_drive.specs.Reads.{VerifiesAll, VerifyCause, VerifyStep}
-use Rattle.ram_sense.specs.declared.answer.Answer.TheVariants as answers
-use Rattle.ram_cdb.specs.declared.commands.Command.TheVariants as commands
+use Rattle.model_sense.specs.declared.answer.Answer.TheVariants as answers
+use Rattle.model_cdb.specs.declared.commands.Command.TheVariants as commands
 use Rattle.model_target.specs.Steps.{IsVerified}
 use Rattle.ram_run.specs.States.{State, Unopened, Disc, IsLeft}
 use Rattle.ram_run.specs.Run.{AnsweredLine, IsStep}

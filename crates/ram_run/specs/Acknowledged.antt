@@ -8,18 +8,14 @@ use Rattle.model_sectors.specs.Discs.{Standing, On, Off, candidates, sectors_of}
 use Rattle.model_sectors.specs.Requests.{block_with}
 use Rattle.model_places.specs.Places.{Lists, home_of}
 use Rattle.model_drive.specs.Shown.{Shown}
-use Rattle.ram_sense.specs.declared.sense.Sense.{Sense}
-use Rattle.ram_sense.specs.declared.answer.Answer.TheVariants as answers
-use Rattle.ram_cdb.specs.declared.commands.Command.{Command}
-use Rattle.ram_cdb.specs.declared.commands.Command.TheVariants as commands
-use Rattle.ram_cdb.specs.Decoding.{decoded}
+use Rattle.model_sense.specs.declared.sense.Sense.{Sense}
+use Rattle.model_sense.specs.declared.answer.Answer.TheVariants as answers
+use Rattle.model_cdb.specs.declared.commands.Command.{Command}
+use Rattle.model_cdb.specs.declared.commands.Command.TheVariants as commands
+use Rattle.model_cdb.specs.Decoding.{decoded}
 use Rattle.ram_text.specs.declared.script.Line.TheVariants as lines
-use Rattle.ram_run.specs.declared.line.DiscLine.{DiscLine}
-use Rattle.ram_run.specs.declared.line.DiscLine.TheVariants as discs
-use Rattle.ram_run.specs.declared.line.Work.{Work}
-use Rattle.ram_run.specs.declared.line.Work.TheVariants as works
+use Rattle.ram_text.specs.declared.script.Line.{Line}
 use Rattle.ram_run.specs.declared.reply.Reply.TheVariants as replies
-use Rattle.ram_run.specs.Work.{work_of}
 use Rattle.ram_run.specs.States.{State, Unopened, Disc}
 use Rattle.ram_run.specs.Run.{AnsweredLine}
 
@@ -85,21 +81,16 @@ abbrev pub LeavesAsDecoded : (at : ℕ) → Result Command Sense → Type 0
 LeavesAsDecoded at (Ok asked) = LeavesAsAsked at asked
 LeavesAsDecoded at (Err why) = Unit {0}
 
--- the same of a line that needs a disc, with its data
-abbrev pub LeavesOnDisc : (at : ℕ) → DiscLine → (payload : List ℕ) → Type 0
-LeavesOnDisc at (discs.Command cdb) payload = LeavesAsDecoded at (decoded cdb payload)
-LeavesOnDisc at _ payload = Unit {0}
-
--- The same of any line: it is no press of a lawful geometry, and no command that writes the sector.
-abbrev pub LeavesSector : (at : ℕ) → Work → (payload : List ℕ) → Type 0
-LeavesSector at works.Nothing payload = Unit {0}
-LeavesSector at (works.Press zones scale psa) payload = ¬ IsLawful (shape_of zones scale psa)
-LeavesSector at (works.OnDisc line) payload = LeavesOnDisc at line payload
+-- The same of a line, with its data: it is no press of a lawful geometry, and no command that writes the sector.
+abbrev pub LeavesSector : (at : ℕ) → Line → (payload : List ℕ) → Type 0
+LeavesSector at (lines.Press zones scale psa) payload = ¬ IsLawful (shape_of zones scale psa)
+LeavesSector at (lines.Command cdb) payload = LeavesAsDecoded at (decoded cdb payload)
+LeavesSector at _ payload = Unit {0}
 
 -- none of these lines writes the sector
 abbrev pub LeaveSector : (at : ℕ) → List AnsweredLine → Type 0
 LeaveSector at events =
-    All (λ (event : AnsweredLine). LeavesSector at (work_of event.line) event.payload) events
+    All (λ (event : AnsweredLine). LeavesSector at event.line event.payload) events
 
 -- With these cells the home of the sector's logical block, by the lists in use, has whole bytes, and these in
 -- the sector.

@@ -1,7 +1,7 @@
 -- The answers to commands, counted by what they are. For the tally of a run, and the summary of a script from a number.
 use Rattle.std.specs.Prelude.{ℕ, ◌+◌, ◌≤◌, ◌==◌, ◌&&◌, Bool, true, false, if◌then◌else◌, List, [], ◌∷◌, All, map}
-use Rattle.ram_sense.specs.declared.sense.Sense.{Sense}
-use Rattle.ram_sense.specs.declared.answer.Answer.TheVariants as answers
+use Rattle.model_sense.specs.declared.sense.Sense.{Sense}
+use Rattle.model_sense.specs.declared.answer.Answer.TheVariants as answers
 use Rattle.model_target.specs.Senses.{senses}
 use Rattle.ram_run.specs.declared.counts.AnswerCounts.{AnswerCounts}
 use Rattle.ram_run.specs.declared.counts.SenseCount.{SenseCount}

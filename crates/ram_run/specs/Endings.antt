@@ -16,7 +16,6 @@ use Rattle.ram_run.specs.declared.status.Status.{Status}
 use Rattle.ram_run.specs.declared.status.Status.TheVariants as statuses
 use Rattle.ram_run.specs.Words.{Surroundings}
 use Rattle.ram_run.specs.NextLines.{ComesNext}
-use Rattle.ram_run.specs.Work.{work_of}
 use Rattle.ram_run.specs.Replies.{Outcome}
 use Rattle.ram_run.specs.States.{State}
 use Rattle.ram_run.specs.LineSteps.{Step}
@@ -75,7 +74,7 @@ pub record ComesToThis {first : Beginning} (far : SoFar first) (image : Option (
   pub data_in : List ℕ
   pub state : State
   pub next : ComesNext first.script far.rest line payload
-  pub step : Step far.now (work_of line) payload outcome data_in state
+  pub step : Step far.now line payload outcome data_in state
   pub image_is : LeavesImage state image
 
 -- All answers were written, the next line came out so, and the image is as it leaves it.

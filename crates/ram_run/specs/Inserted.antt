@@ -5,7 +5,7 @@ use Rattle.ram_outside.specs.declared.image.Image.{Ghosts as Images}
 use Rattle.ram_sectors.specs.declared.Sectors.{Ghosts as Drives}
 use Rattle.ram_run.specs.declared.inserted.Inserted.{Inserted}
 use Rattle.ram_run.specs.declared.inserted.Inserted.TheVariants as inserts
-use Rattle.ram_run.specs.declared.line.Work.{Work}
+use Rattle.ram_text.specs.declared.script.Line.{Line}
 use Rattle.ram_run.specs.Replies.{Outcome}
 use Rattle.ram_run.specs.States.{State, Unopened, Disc, IsIn, IsLeft}
 use Rattle.ram_run.specs.LineSteps.{PressStep, Step}
@@ -29,10 +29,10 @@ LeavesImage s None = ⊥
 LeavesImage s (Some bytes) = IsLeft s bytes
 
 -- What became of a line, of which the state before it is s, where the inserted disc then stands for some states.
-pub record IsAnswered (s : State) (work : Work) (payload data_in : List ℕ) (after : State → Type 0)
+pub record IsAnswered (s : State) (line : Line) (payload data_in : List ℕ) (after : State → Type 0)
     (outcome : Outcome) : Type 0 where
   pub state : State
-  pub step : Step s work payload outcome data_in state
+  pub step : Step s line payload outcome data_in state
   pub stands : after state
 
 -- What became of a press of this geometry, of which the state before it is s.

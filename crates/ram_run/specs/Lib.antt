@@ -1,6 +1,5 @@
 pub mod Control
 pub mod Counting
-pub mod Work
 pub mod Replies
 pub mod States
 pub mod Kept
@@ -20,3 +19,4 @@ pub mod Starts
 pub mod Completes
 pub mod Statuses
 pub mod Acknowledged
+pub mod Fairness

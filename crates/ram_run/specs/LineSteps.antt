@@ -10,13 +10,11 @@ use Rattle.model_target.specs.Steps.{IsPoweredAgain, IsStep}
 use Rattle.ram_medium.specs.Control.{WearRule, with_armed_cut}
 use Rattle.ram_medium.specs.declared.control.FailEnd.{FailEnd}
 use Rattle.ram_medium.specs.declared.control.Arm.{Arm}
-use Rattle.ram_sense.specs.declared.answer.Answer.{Answer}
+use Rattle.model_sense.specs.declared.answer.Answer.{Answer}
 use Rattle.ram_text.specs.declared.printing.Event.TheVariants as events
 use Rattle.ram_volume.specs.Control.{KeepsMemory, FailOnDrive}
-use Rattle.ram_run.specs.declared.line.DiscLine.{DiscLine}
-use Rattle.ram_run.specs.declared.line.DiscLine.TheVariants.{Power, Fail, Wear, Cut, Command}
-use Rattle.ram_run.specs.declared.line.Work.{Work}
-use Rattle.ram_run.specs.declared.line.Work.TheVariants as works
+use Rattle.ram_text.specs.declared.script.Line.{Line}
+use Rattle.ram_text.specs.declared.script.Line.TheVariants as lines
 use Rattle.ram_run.specs.declared.reply.Reply.TheVariants as replies
 use Rattle.ram_run.specs.declared.stopped.Stopped.TheVariants as stopped
 use Rattle.ram_run.specs.Control.{stands_after_fail}
@@ -72,31 +70,32 @@ module _ (old new : Shown) (before after : Standing → Type 0) (host later : Ho
     pub step : IsStep old new before after host later cdb payload answer data_in
     pub outcome_is : outcome ≡ command_outcome cdb answer
 
-  -- What a line does that needs a disc, with its data and the data that it gives.
-  abbrev pub DiscRule : DiscLine → List ℕ → Outcome → List ℕ → Type 0
-  DiscRule Power payload outcome data_in = PowerLine outcome × (data_in ≡ [])
-  DiscRule (Fail block) payload outcome data_in = FailLine block outcome × (data_in ≡ [])
-  DiscRule (Wear block n) payload outcome data_in = WearLine block n outcome × (data_in ≡ [])
-  DiscRule (Cut n fate) payload outcome data_in = CutLine n fate outcome × (data_in ≡ [])
-  DiscRule (Command cdb) payload outcome data_in = CommandLine cdb payload outcome data_in
+  -- What a line does that needs a disc, with its data and the data that it gives; no other line does any of this.
+  abbrev pub DiscRule : Line → List ℕ → Outcome → List ℕ → Type 0
+  DiscRule lines.Power payload outcome data_in = PowerLine outcome × (data_in ≡ [])
+  DiscRule (lines.Fail block) payload outcome data_in = FailLine block outcome × (data_in ≡ [])
+  DiscRule (lines.Wear block n) payload outcome data_in = WearLine block n outcome × (data_in ≡ [])
+  DiscRule (lines.Cut n fate) payload outcome data_in = CutLine n fate outcome × (data_in ≡ [])
+  DiscRule (lines.Command cdb) payload outcome data_in = CommandLine cdb payload outcome data_in
+  DiscRule _ payload outcome data_in = ⊥
 
 -- the same between two discs of one geometry
-pub record DiscStep (s t : Served) (line : DiscLine) (payload : List ℕ) (outcome : Outcome)
+pub record DiscStep (s t : Served) (line : Line) (payload : List ℕ) (outcome : Outcome)
     (data_in : List ℕ) : Type 0 where
   pub same_shape : t.disc.shown.shape ≡ s.disc.shown.shape
   pub rule : DiscRule s.disc.shown t.disc.shown (λ x. x ≡ s.disc.standing) (λ x. x ≡ t.disc.standing) s.host t.host
       line payload outcome data_in
 
 -- the same in any state: without a disc the line cannot be answered
-abbrev pub OnDisc : State → DiscLine → List ℕ → Outcome → List ℕ → State → Type 0
+abbrev pub OnDisc : State → Line → List ℕ → Outcome → List ℕ → State → Type 0
 OnDisc (Unopened bytes) line payload outcome data_in t =
     (outcome ≡ Err stopped.NotADisc) × (data_in ≡ []) × (t ≡ Unopened bytes)
 OnDisc (Disc s) line payload outcome data_in (Unopened bytes) = ⊥
 OnDisc (Disc s) line payload outcome data_in (Disc t) = DiscStep s t line payload outcome data_in
 
--- From s a line with this work and these data may have this outcome, give these data, and leave t.
-abbrev pub Step : State → Work → List ℕ → Outcome → List ℕ → State → Type 0
-Step s works.Nothing payload outcome data_in t = (outcome ≡ Ok replies.Nothing) × (data_in ≡ []) × (t ≡ s)
-Step s (works.Press zones scale psa) payload outcome data_in t =
+-- From s a line with these data may have this outcome, give these data, and leave t.
+abbrev pub Step : State → Line → List ℕ → Outcome → List ℕ → State → Type 0
+Step s lines.Empty payload outcome data_in t = (outcome ≡ Ok replies.Nothing) × (data_in ≡ []) × (t ≡ s)
+Step s (lines.Press zones scale psa) payload outcome data_in t =
     PressStep s (shape_of zones scale psa) outcome t × (data_in ≡ [])
-Step s (works.OnDisc line) payload outcome data_in t = OnDisc s line payload outcome data_in t
+Step s line payload outcome data_in t = OnDisc s line payload outcome data_in t

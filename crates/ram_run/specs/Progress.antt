@@ -9,14 +9,12 @@ use Rattle.ram_text.specs.declared.lines.TheConstants.{SCRIPT_LIMIT}
 use Rattle.ram_text.specs.declared.printing.LastLine.{LastLine}
 use Rattle.ram_text.specs.declared.printing.LastLine.TheVariants as lasts
 use Rattle.ram_text.specs.declared.script.Line.{Line}
-use Rattle.ram_run.specs.declared.line.Work.{Work}
 use Rattle.ram_run.specs.declared.reply.Reply.{Reply}
 use Rattle.ram_run.specs.declared.state.RunState.{RunState}
 use Rattle.ram_run.specs.declared.state.Tally.{Tally}
 use Rattle.ram_run.specs.declared.stopped.Stopped.{Stopped}
 use Rattle.ram_run.specs.declared.stopped.Stopped.TheVariants as stopped
-use Rattle.ram_run.specs.NextLines.{IsWithinLimit, IsNextWithin, IsNextUnread, PassesLineLimit, PassesScriptLimit, ComesNext}
-use Rattle.ram_run.specs.Work.{work_of, WorkCountsUses}
+use Rattle.ram_run.specs.NextLines.{IsWithinLimit, IsNextWithin, IsNextUnread, PassesLineLimit, PassesScriptLimit, ComesNext, CountsUses}
 use Rattle.ram_run.specs.Replies.{Outcome}
 use Rattle.ram_run.specs.Counting.{counts_in, with_reply}
 use Rattle.ram_run.specs.States.{State, IsFirst}
@@ -89,12 +87,10 @@ pub record Between (first : Beginning) (stands : State → Type 0) (view : View)
   pub at : IsAt far view
 
 -- A line was taken: what is left follows it, and the rest is as before it.
-pub record Taken {first : Beginning} (far : SoFar first) (view : View) (work : Work) (payload : List ℕ) : Type 0 where
+pub record Taken {first : Beginning} (far : SoFar first) (view : View) (line : Line) (payload : List ℕ) : Type 0 where
   pub raw : List ℕ
-  pub line : Line
   pub comes : IsNextWithin first.script far.rest raw
   pub reads : Reads raw line payload
-  pub work_is : work ≡ work_of line
   pub left_is : unread view ≡ Some comes.next.after
   pub taken_is : view.taken + length comes.next.after ≡ length first.script
   pub tallied : IsTallied far view.tally
@@ -109,7 +105,7 @@ IsLast {first} far lasts.ScriptTooLong = PassesScriptLimit first.script far.rest
 IsLast {first} far (lasts.NotADisc line) =
     ((next : Line) × (payload : List ℕ) × (data_in : List ℕ) × (state : State)
     × ComesNext first.script far.rest next payload
-    × Step far.now (work_of next) payload (Err stopped.NotADisc) data_in state)
+    × Step far.now next payload (Err stopped.NotADisc) data_in state)
     × (line ≡ length far.events + 1)
 
 -- How the lines come to their end: the script's, or why the run stops.
@@ -153,19 +149,19 @@ IsStop stopped.NoMemory = ⊥
 IsStop _ = Unit {0}
 
 -- What the search for the next line makes of the lines so far.
-abbrev pub NextRule : {first : Beginning} → SoFar first → View → List ℕ → Result (Option Work) Stopped → Type 0
-NextRule far view payload (Ok (Some work)) = Taken far view work payload
+abbrev pub NextRule : {first : Beginning} → SoFar first → View → List ℕ → Result (Option Line) Stopped → Type 0
+NextRule far view payload (Ok (Some line)) = Taken far view line payload
 NextRule far view payload (Ok None) = IsStoppedAt far view (Ok tt)
 NextRule far view payload (Err why) = IsStoppedAt far view (Err why) × IsStop why
 
--- the work that was found, if any, falls at a use from the next one on
-abbrev pub FoundCountsUses : Result (Option Work) Stopped → Type 0
-FoundCountsUses (Ok (Some work)) = WorkCountsUses work
+-- an arm or a cut of the line that was found, if any, falls at a use from the next one on
+abbrev pub FoundCountsUses : Result (Option Line) Stopped → Type 0
+FoundCountsUses (Ok (Some line)) = CountsUses line
 FoundCountsUses _ = Unit {0}
 
 -- a line that was found took bytes of the script, within its limit
-abbrev pub TakesBytes : ℕ → ℕ → Result (Option Work) Stopped → Type 0
-TakesBytes taken taken' (Ok (Some work)) = (taken < taken') × (taken' ≤ SCRIPT_LIMIT)
+abbrev pub TakesBytes : ℕ → ℕ → Result (Option Line) Stopped → Type 0
+TakesBytes taken taken' (Ok (Some line)) = (taken < taken') × (taken' ≤ SCRIPT_LIMIT)
 TakesBytes taken taken' _ = Unit {0}
 
 -- the beginning of the text of the answers is due
@@ -182,7 +178,7 @@ pub record ComesOut {first : Beginning} (far : SoFar first) (stands : State → 
   pub data_in : List ℕ
   pub state : State
   pub next : ComesNext first.script far.rest line payload
-  pub step : Step far.now (work_of line) payload outcome data_in state
+  pub step : Step far.now line payload outcome data_in state
   pub stands_after : stands state
 
 -- the lines end between two of them, with the answers so far

@@ -8,8 +8,8 @@ use Rattle.ram_medium.specs.declared.control.FailEnd.{FailEnd}
 use Rattle.ram_medium.specs.declared.control.FailEnd.TheVariants as fails
 use Rattle.ram_medium.specs.declared.control.Arm.{Arm}
 use Rattle.ram_medium.specs.declared.control.Arm.TheVariants as arming
-use Rattle.ram_sense.specs.declared.answer.Answer.{Answer}
-use Rattle.ram_sense.specs.declared.answer.Answer.TheVariants as answers
+use Rattle.model_sense.specs.declared.answer.Answer.{Answer}
+use Rattle.model_sense.specs.declared.answer.Answer.TheVariants as answers
 use Rattle.ram_text.specs.ReportLines.{IsPrinted, IsAddressed}
 use Rattle.ram_text.specs.declared.gathered.Print.{Print}
 use Rattle.ram_text.specs.declared.gathered.Print.TheVariants as prints

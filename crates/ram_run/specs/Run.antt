@@ -7,7 +7,6 @@ use Rattle.ram_text.specs.declared.script.Line.{Line}
 use Rattle.ram_run.specs.declared.reply.Reply.{Reply}
 use Rattle.ram_run.specs.declared.reply.Reply.TheVariants as replies
 use Rattle.ram_run.specs.NextLines.{IsLine}
-use Rattle.ram_run.specs.Work.{work_of}
 use Rattle.ram_run.specs.States.{State}
 use Rattle.ram_run.specs.LineSteps.{Step}
 
@@ -24,7 +23,7 @@ pub record AnsweredLine : Type 0 where
 pub record IsStep (before : State) (event : AnsweredLine) (after : State) : Type 0 where
   pub line : IsLine event.raw
   pub reads : Reads event.raw event.line event.payload
-  pub step : Step before (work_of event.line) event.payload (Ok event.reply) event.data_in after
+  pub step : Step before event.line event.payload (Ok event.reply) event.data_in after
 
 -- The lines, the newest first, lead from the first state to the last.
 abbrev pub Run : State → List AnsweredLine → State → Type 0

@@ -1,7 +1,7 @@
 -- The summary of a script that was drawn from a number. For the program's form that runs such a script.
 use Rattle.std.specs.Prelude.{ℕ, ◌==◌, not, if◌then◌else◌, Bool, List, [], ◌++◌, length, filter, codes, decimal}
 use Rattle.std.specs.List.{flat_map}
-use Rattle.ram_sense.specs.declared.sense.Sense.{Sense}
+use Rattle.model_sense.specs.declared.sense.Sense.{Sense}
 use Rattle.model_target.specs.Senses.{senses}
 use Rattle.ram_text.specs.ReportLines.{sense_code}
 use Rattle.ram_run.specs.declared.counts.SenseCount.{SenseCount}

@@ -5,25 +5,23 @@ ghost use Rattle.model_geometry.specs.Geometry.{shape_of};
 ghost use Rattle.ram_text.specs.declared.payload.TheConstants.{PAYLOAD_ROOM};
 ghost use Rattle.ram_image.specs.Opening.{IsRefused};
 ghost use Rattle.ram_run.specs.Drive.{IsInsertedTarget};
-ghost use Rattle.ram_run.specs.declared.line.Work.TheVariants as works;
-ghost use Rattle.ram_run.specs.Work.{CountsUses};
+ghost use Rattle.ram_run.specs.NextLines.{CountsUses};
 ghost use Rattle.ram_run.specs.Replies.{PrintsWhere, power_outcome, fail_outcome, wear_outcome, command_outcome};
 ghost use Rattle.ram_run.specs.States.{State};
-ghost use Rattle.ram_run.specs.LineSteps.{DiscRule};
 ghost use Rattle.ram_run.specs.Inserted.{Stands, LeavesImage, faults_of, IsAnswered, IsPressAnswered};
 ghost use Rattle.ram_run.specs.RunCounts.{LineCount};
 
 use crate::drive::Drive;
-use crate::line::DiscLine;
 use crate::reply::Reply;
 use crate::stopped::Stopped;
+use core::mem::replace_with;
 use ram_bytes::{Block, Cdb};
 use ram_image::{OpenFault, PressOut, press};
 use ram_medium::{Arm, FailEnd};
 use ram_mmc::{Answer, Target};
 use ram_outside::Image;
 use ram_sectors::PowerOut;
-use ram_text::Event;
+use ram_text::{Event, Line};
 use ram_zones::Geometry;
 use std::alloc::Global;
 
@@ -48,68 +46,45 @@ impl<D: Drive> Inserted<D> {
         }
     }
 
-    /// What a line does that needs a disc, with its data in `payload`. The data that a command gives are then in
-    /// `data_in`, and what it held before does not matter.
+    /// What a line does, with its data in `payload`. The data that a command gives are then in `data_in`, and what it held
+    /// before does not matter.
     pub fn answer(
         &mut self,
         alloc: Global,
-        line: DiscLine,
+        line: Line,
         payload: &[u8],
         data_in: &mut Vec<u8>,
     ) -> Result<Reply, Stopped>
         requires uses { CountsUses line }
         requires room { PAYLOAD_ROOM ≤ vec_capacity data_in.old }
         ensures step { (s : State) → Stands D.Sectors D.Image.Image self.old s
-            → IsAnswered s (works.OnDisc line) payload.now data_in.new.items
+            → IsAnswered s line payload.now data_in.new.items
             (Stands D.Sectors D.Image.Image self.new) result }
         ensures printable { PrintsWhere result }
         ensures count { LineCount (faults_of D.Sectors D.Image.Image self.old)
             (faults_of D.Sectors D.Image.Image self.new) result }
         ensures room { vec_capacity data_in.old ≤ vec_capacity data_in.new }
     {
-        match self {
-            Inserted::Image(_) => {
-                data_in.clear();
-                Err(Stopped::NotADisc)
+        data_in.clear();
+        match (&mut *self, line) {
+            (_, Line::Empty) => Ok(Reply::Nothing),
+            (inserted, Line::Press { zones, scale, psa }) => {
+                replace_with(inserted, (alloc, zones, scale, psa), press_disc::<D>)
             }
-            Inserted::Disc(target) => {
-                let outcome = answer_on_disc(target, alloc, line, payload, data_in);
-                outcome
+            (Inserted::Disc(target), Line::Power) => power_outcome(target.power(alloc)),
+            (Inserted::Disc(target), Line::Fail { block }) => fail_outcome(target.disc.fail(block)),
+            (Inserted::Disc(target), Line::Wear { block, n }) => {
+                wear_outcome(target.disc.wear(block, n))
             }
-        }
-    }
-}
-
-/// What a line does on a disc. What a script does to the medium the host is not told.
-fn answer_on_disc<D: Drive>(
-    target: &mut Target<D>,
-    alloc: Global,
-    line: DiscLine,
-    payload: &[u8],
-    data_in: &mut Vec<u8>,
-) -> Result<Reply, Stopped>
-    requires uses { CountsUses line }
-    requires room { PAYLOAD_ROOM ≤ vec_capacity data_in.old }
-    ensures rule { DiscRule (D.shows target.old.disc) (D.shows target.new.disc)
-        (D.stands target.old.disc) (D.stands target.new.disc) target.old.host target.new.host
-        line payload.now result data_in.new.items }
-    ensures printable { PrintsWhere result }
-    ensures same_shape { (D.shows target.new.disc).shape ≡ (D.shows target.old.disc).shape }
-    ensures room { vec_capacity data_in.old ≤ vec_capacity data_in.new }
-{
-    if let DiscLine::Command { cdb } = line {
-        let answer = target.execute(alloc, &cdb, payload, data_in);
-        return command_outcome(cdb, answer);
-    }
-    data_in.clear();
-    match line {
-        DiscLine::Command { .. } => unreachable!(),
-        DiscLine::Power => power_outcome(target.power(alloc)),
-        DiscLine::Fail { block } => fail_outcome(target.disc.fail(block)),
-        DiscLine::Wear { block, n } => wear_outcome(target.disc.wear(block, n)),
-        DiscLine::Cut { n, fate } => {
-            target.disc.arm_cut(n, fate);
-            Ok(Reply::Event(Event::Armed))
+            (Inserted::Disc(target), Line::Cut { n, fate }) => {
+                target.disc.arm_cut(n, fate);
+                Ok(Reply::Event(Event::Armed))
+            }
+            (Inserted::Disc(target), Line::Command { cdb }) => {
+                let answer = target.execute(alloc, &cdb, payload, data_in);
+                command_outcome(cdb, answer)
+            }
+            (Inserted::Image(_), _) => Err(Stopped::NotADisc),
         }
     }
 }
@@ -180,21 +155,20 @@ pub fn insert<D: Drive>(alloc: Global, image: D::Image) -> Result<Target<D>, (D:
     }
 }
 
-/// Presses a disc of this geometry on the image that lies in the drive, where it is within its limits.
-pub fn press_disc<D: Drive>(
-    alloc: Global,
+/// Presses a disc of so many zones, this scale and so many primary spares, in this order, on the image that lies in the
+/// drive, where they are within their limits.
+fn press_disc<D: Drive>(
     inserted: Inserted<D>,
-    zones: u32,
-    scale: u32,
-    psa: u32,
+    wanted: (Global, u32, u32, u32),
 ) -> (Inserted<D>, Result<Reply, Stopped>)
     ensures step { (s : State) → Stands D.Sectors D.Image.Image inserted s
-        → IsPressAnswered s (shape_of zones scale psa)
+        → IsPressAnswered s (shape_of wanted.1 wanted.2 wanted.3)
         (Stands D.Sectors D.Image.Image result.0) result.1 }
     ensures printable { PrintsWhere result.1 }
     ensures count { LineCount (faults_of D.Sectors D.Image.Image inserted)
         (faults_of D.Sectors D.Image.Image result.0) result.1 }
 {
+    let (alloc, zones, scale, psa) = wanted;
     let Ok(geometry) = Geometry::new(zones, scale, psa) else {
         return (inserted, Ok(Reply::Event(Event::NotPressed)));
     };

@@ -1,22 +1,28 @@
 //! Laws of runs, for whoever relies on a drive: what it acknowledged stays, and is read back.
 ghost use Rattle.std.specs.Prelude.{◌≡◌, ◌<◌, ◌≤◌, ℕ, Bool, Ok, List};
-ghost use Rattle.ram_cdb.specs.declared.commands.Command.TheVariants as commands;
-ghost use Rattle.ram_cdb.specs.Decoding.{decoded};
-ghost use Rattle.ram_run.specs.declared.line.DiscLine.TheVariants as discs;
-ghost use Rattle.ram_run.specs.declared.line.Work.{Work as AnyWork};
-ghost use Rattle.ram_run.specs.declared.line.Work.TheVariants as works;
+ghost use Rattle.model_geometry.specs.Geometry.{Shape, total};
+ghost use Rattle.model_places.specs.Places.{Lists};
+ghost use Rattle.model_volume.specs.Given.{IsGiven};
+ghost use Rattle.model_fairness.specs.Fair.{IsFair};
+ghost use Rattle.model_image.specs.Image.{IsDiscImage};
+ghost use Rattle.model_image.specs.Cells.{cells_of};
+ghost use Rattle.model_cdb.specs.declared.commands.Command.TheVariants as commands;
+ghost use Rattle.model_cdb.specs.Decoding.{decoded};
+ghost use Rattle.ram_text.specs.declared.script.Line.{Line};
+ghost use Rattle.ram_text.specs.declared.script.Line.TheVariants as lines;
 ghost use Rattle.ram_run.specs.Replies.{Outcome};
-ghost use Rattle.ram_run.specs.States.{State, IsLeft};
+ghost use Rattle.ram_run.specs.States.{State, IsFirst, IsLeft, IsPressedDisc};
 ghost use Rattle.ram_run.specs.LineSteps.{Step};
 ghost use Rattle.ram_run.specs.Run.{AnsweredLine, IsStep, Run};
 ghost use Rattle.ram_run.specs.Acknowledged.{bytes_of_sector, Acknowledged, HasNow, WasDone, IsAmong, LeavesSector, LeaveSector, HoldsOldOrNew, HasInImage};
+ghost use Rattle.ram_run.specs.Fairness.{FairNow, WasToldNoSpare, HasNoSpareLeft};
 
 /// What was acknowledged of a sector stays so while no line writes it, through every failure of a block and
 /// every cut of the power, and whenever the power goes off and on again: over one line, however it ends, and
 /// over a run.
 pub fn acknowledged_bytes_stay()
-    ensures step { (s t : State) (work : AnyWork) (payload data_in : List ℕ) (outcome : Outcome)
-        (at : ℕ) (bytes : List ℕ) → Step s work payload outcome data_in t → LeavesSector at work payload
+    ensures step { (s t : State) (line : Line) (payload data_in : List ℕ) (outcome : Outcome)
+        (at : ℕ) (bytes : List ℕ) → Step s line payload outcome data_in t → LeavesSector at line payload
         → Acknowledged s at bytes → Acknowledged t at bytes }
     ensures run { (s t : State) (events : List AnsweredLine) (at : ℕ) (bytes : List ℕ)
         → Run s events t → LeaveSector at events → Acknowledged s at bytes → Acknowledged t at bytes }
@@ -46,7 +52,7 @@ pub fn a_read_that_is_done_shows_what_was_acknowledged()
 /// however the write ends.
 pub fn a_sector_that_is_written_is_old_or_new()
     ensures { (s t : State) (cdb payload data_in : List ℕ) (outcome : Outcome) (lba n at : ℕ) (fua : Bool)
-        (bytes : List ℕ) → Step s (works.OnDisc (discs.Command cdb)) payload outcome data_in t
+        (bytes : List ℕ) → Step s (lines.Command cdb) payload outcome data_in t
         → decoded cdb payload ≡ Ok (commands.Write lba n fua) → IsAmong lba n at
         → Acknowledged s at bytes → HoldsOldOrNew t at bytes (bytes_of_sector lba payload at) }
 {}
@@ -97,4 +103,25 @@ pub fn an_expansion_keeps_what_it_leaves()
     ensures gone { (s t : State) (event : AnsweredLine) (sectors at : ℕ) (bytes : List ℕ)
         → IsStep s event t → WasDone event (commands.Expand sectors) → sectors ≤ at
         → ¬ HasNow t at bytes }
+{}
+
+/// A run gives up dead blocks alone: so where a write finds no spare, each spare that replaces no block is dead. It begins so
+/// with a disc that was just pressed, and with an image of which each pair of lists that it may give names dead blocks alone;
+/// no line changes it.
+pub fn dead_blocks_alone_are_given_up()
+    ensures step { (s t : State) (line : Line) (payload data_in : List ℕ) (outcome : Outcome)
+        → Step s line payload outcome data_in t → FairNow s → FairNow t }
+    ensures run { (s t : State) (events : List AnsweredLine) → Run s events t → FairNow s → FairNow t }
+    ensures pressed { (shape : Shape) (s : State) → IsPressedDisc shape s → FairNow s }
+    ensures image { (bytes : List ℕ) (s : State) → IsFirst bytes s
+        → ((shape : Shape) → IsDiscImage shape bytes → (lists : Lists)
+        → IsGiven shape (cells_of (total shape) bytes) lists → IsFair (cells_of (total shape) bytes) lists)
+        → FairNow s }
+{}
+
+/// A run that gives up dead blocks alone says that no spare is left only where none is: each spare that replaces no block is
+/// dead then.
+pub fn no_spare_is_told_where_none_is_left()
+    ensures { (s t : State) (event : AnsweredLine) → FairNow s → IsStep s event t → WasToldNoSpare event
+        → HasNoSpareLeft t }
 {}

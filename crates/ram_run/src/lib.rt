@@ -9,7 +9,6 @@ pub mod help;
 mod inserted;
 mod kept;
 pub mod laws;
-mod line;
 mod reply;
 pub mod run;
 mod seed;

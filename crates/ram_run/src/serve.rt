@@ -1,7 +1,6 @@
 //! The lines of a script, answered one after another.
-ghost use Rattle.std.specs.Prelude.{◌≡◌, ◌^◌, ◌<◌, ℕ, List, Option};
-ghost use Rattle.ram_run.specs.declared.line.Work.TheVariants as works;
-ghost use Rattle.ram_run.specs.Work.{CountsUses};
+ghost use Rattle.std.specs.Prelude.{◌≡◌, ◌^◌, ◌<◌, ℕ, List, Option, []};
+ghost use Rattle.ram_run.specs.NextLines.{CountsUses};
 ghost use Rattle.ram_run.specs.Counting.{AreAtMost};
 ghost use Rattle.ram_run.specs.Inserted.{Stands, faults_of};
 ghost use Rattle.ram_run.specs.RunCounts.{StopCounts, counts_of};
@@ -13,21 +12,20 @@ ghost use Rattle.ram_run.specs.Endings.{Begins, IsNoUsage, StandsWith, StatusCou
 
 use crate::drive::Drive;
 use crate::ending::{finish, status_of};
-use crate::inserted::{Inserted, insert, press_disc};
-use crate::line::{DiscLine, Work};
-use crate::reply::Reply;
-use crate::state::{RunState, next_work, tell, tell_without_data};
+use crate::inserted::{Inserted, insert};
+use crate::state::{RunState, take_line, tell};
 use crate::status::Status;
 use crate::stopped::Stopped;
 use ram_image::OpenFault;
 use ram_outside::{Image, Sink, Source};
+use ram_text::Line;
 use std::alloc::Global;
 
-/// Answers a line that needs a disc, and prints the answer.
+/// Answers a line, and prints the answer.
 fn answer_line<D: Drive, K: Sink>(
     alloc: Global,
     inserted: &mut Inserted<D>,
-    line: DiscLine,
+    line: Line,
     state: &mut RunState,
     report: &mut K,
 ) -> Result<(), Stopped>
@@ -38,7 +36,7 @@ fn answer_line<D: Drive, K: Sink>(
     requires room { HasRoom state.old }
     ensures turn { (first : Beginning) (far : SoFar first) (left : Option (List ℕ))
         → Stands D.Sectors D.Image.Image inserted.old far.now
-        → Taken far (run_view left (K.written report.old) state.old) (works.OnDisc line) state.old.payload.items
+        → Taken far (run_view left (K.written report.old) state.old) line state.old.payload.items
         → TurnsTo first (Stands D.Sectors D.Image.Image inserted.new)
         (run_view left (K.written report.new) state.new) result }
     ensures counts { (source : ℕ)
@@ -52,40 +50,6 @@ fn answer_line<D: Drive, K: Sink>(
 {
     let outcome = inserted.answer(alloc, line, &state.payload, &mut state.data_in);
     tell(state, report, outcome)
-}
-
-/// Presses a disc of this geometry, and prints the answer.
-fn press_line<D: Drive, K: Sink>(
-    alloc: Global,
-    inserted: Inserted<D>,
-    zones: u32,
-    scale: u32,
-    psa: u32,
-    state: &mut RunState,
-    report: &mut K,
-) -> (Inserted<D>, Result<(), Stopped>)
-    requires lines { state.old.tally.lines < 2 ^ 63 }
-    requires answered { state.old.tally.answered < 2 ^ 63 }
-    requires few { AreAtMost state.old.tally.counts state.old.tally.lines }
-    requires room { HasRoom state.old }
-    ensures turn { (first : Beginning) (far : SoFar first) (left : Option (List ℕ))
-        → Stands D.Sectors D.Image.Image inserted far.now
-        → Taken far (run_view left (K.written report.old) state.old) (works.Press zones scale psa)
-        state.old.payload.items
-        → TurnsTo first (Stands D.Sectors D.Image.Image result.0)
-        (run_view left (K.written report.new) state.new) result.1 }
-    ensures counts { (source : ℕ)
-        → StopCounts (counts_of source (K.faults report.old)
-        (faults_of D.Sectors D.Image.Image inserted))
-        (counts_of source (K.faults report.new)
-        (faults_of D.Sectors D.Image.Image result.0)) result.1 }
-    ensures tally { TallyRule state.old.tally state.new.tally result.1 }
-    ensures same_reader { state.new.reader ≡ state.old.reader }
-    ensures room { HasRoom state.new }
-{
-    let (inserted, outcome) = press_disc(alloc, inserted, zones, scale, psa);
-    let reported = tell_without_data(state, report, outcome);
-    (inserted, reported)
 }
 
 /// Answers the lines of a script one after another, and tells why they end.
@@ -112,29 +76,13 @@ pub fn serve_lines<D: Drive, S: Source, K: Sink>(
 {
     let mut inserted = inserted;
     loop {
-        match next_work(state, script, report) {
+        match take_line(state, script, report) {
             Err(stopped) => return (inserted, Err(stopped)),
             Ok(None) => return (inserted, Ok(())),
-            Ok(Some(Work::Nothing)) => match tell_without_data(state, report, Ok(Reply::Nothing)) {
+            Ok(Some(line)) => match answer_line(alloc, &mut inserted, line, state, report) {
                 Ok(()) => {}
                 Err(stopped) => return (inserted, Err(stopped)),
             },
-            Ok(Some(Work::OnDisc(line))) => {
-                match answer_line(alloc, &mut inserted, line, state, report) {
-                    Ok(()) => {}
-                    Err(stopped) => return (inserted, Err(stopped)),
-                }
-            }
-            Ok(Some(Work::Press { zones, scale, psa })) => {
-                let (next, reported) = press_line(
-                    alloc, inserted, zones, scale, psa, state, report,
-                );
-                inserted = next;
-                match reported {
-                    Ok(()) => {}
-                    Err(stopped) => return (inserted, Err(stopped)),
-                }
-            }
         }
     }
 }

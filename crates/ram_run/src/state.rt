@@ -9,11 +9,10 @@ ghost use Rattle.ram_run.specs.RunState.{IsFresh, HasRoom, TallyRule};
 ghost use Rattle.ram_run.specs.Progress.{Beginning, SoFar, IsAt, NextRule, FoundCountsUses, TakesBytes, TellRule, ShownRule, run_view, tally_with};
 
 use crate::counts::AnswerCounts;
-use crate::line::{Work, work_of};
 use crate::reply::{Reply, print_reply};
 use crate::stopped::{Stopped, printed};
 use ram_outside::{Sink, Source};
-use ram_text::{LineReader, NextLine, PAYLOAD_ROOM, ReportWriter, parse_line};
+use ram_text::{Line, LineReader, NextLine, PAYLOAD_ROOM, ReportWriter, parse_line};
 use std::alloc::{AllocError, Global};
 
 /// How many lines came so far.
@@ -87,6 +86,7 @@ fn hand_over<K: Sink>(state: &mut RunState, report: &mut K) -> Result<(), Stoppe
     ensures due { due (K.written report.new) state.new.writer ≡ due (K.written report.old) state.old.writer }
     ensures same_reader { state.new.reader ≡ state.old.reader }
     ensures same_tally { state.new.tally ≡ state.old.tally }
+    ensures same_data { state.new.data_in.items ≡ state.old.data_in.items }
     ensures count { SinkCount (K.faults report.old) (K.faults report.new) result }
     ensures room { HasRoom state.old → HasRoom state.new }
 {
@@ -96,13 +96,13 @@ fn hand_over<K: Sink>(state: &mut RunState, report: &mut K) -> Result<(), Stoppe
     printed(state.writer.flush(report))
 }
 
-/// Takes the next line of the script, with its data, and tells what it is to do; None where the script has ended. The
-/// answers so far are handed over before more is asked of the source.
-pub fn next_work<S: Source, K: Sink>(
+/// Takes the next line of the script, with its data; None where the script has ended. The data that
+/// the line before gave are let go. The answers so far are handed over before more is asked of the source.
+pub fn take_line<S: Source, K: Sink>(
     state: &mut RunState,
     script: &mut S,
     report: &mut K,
-) -> Result<Option<Work>, Stopped>
+) -> Result<Option<Line>, Stopped>
     requires room { HasRoom state.old }
     ensures next { (first : Beginning) (far : SoFar first) → IsAt far
         (run_view (S.left script.old) (K.written report.old) state.old)
@@ -113,8 +113,10 @@ pub fn next_work<S: Source, K: Sink>(
     ensures takes { TakesBytes state.old.reader.taken state.new.reader.taken result }
     ensures uses { FoundCountsUses result }
     ensures same_tally { state.new.tally ≡ state.old.tally }
+    ensures empty { state.new.data_in.items ≡ [] }
     ensures room { HasRoom state.new }
 {
+    state.data_in.clear();
     hand_over(state, report)?;
     match state.reader.next_line(script, &state.writer) {
         NextLine::Line => {}
@@ -125,7 +127,7 @@ pub fn next_work<S: Source, K: Sink>(
     }
     state.payload.clear();
     match parse_line(state.reader.line(), &mut state.payload) {
-        Ok(line) => Ok(Some(work_of(line))),
+        Ok(line) => Ok(Some(line)),
         Err(_) => Err(Stopped::NotInLanguage),
     }
 }
@@ -152,25 +154,4 @@ pub fn tell<K: Sink>(
     printed(print_reply(&mut state.writer, report, number, &reply, &state.data_in))?;
     state.tally.add(&reply);
     Ok(())
-}
-
-/// The same of a line that gave no data, whatever the command before it gave.
-pub fn tell_without_data<K: Sink>(
-    state: &mut RunState,
-    report: &mut K,
-    outcome: Result<Reply, Stopped>,
-) -> Result<(), Stopped>
-    requires printable { PrintsWhere outcome }
-    requires lines { state.old.tally.lines < 2 ^ 63 }
-    requires answered { state.old.tally.answered < 2 ^ 63 }
-    requires counts { AreAtMost state.old.tally.counts state.old.tally.lines }
-    ensures tells { (left : Option (List ℕ)) → TellRule (run_view left (K.written report.old) state.old)
-        (run_view left (K.written report.new) state.new) [] outcome result }
-    ensures count { TellCount (K.faults report.old) (K.faults report.new) outcome result }
-    ensures tally { TallyRule state.old.tally state.new.tally result }
-    ensures same_reader { state.new.reader ≡ state.old.reader }
-    ensures room { HasRoom state.old → HasRoom state.new }
-{
-    state.data_in.clear();
-    tell(state, report, outcome)
 }

@@ -1,58 +1,59 @@
 //! Runs whole scripts over images in memory, where no proof reaches: which bytes the answers are. The rows stand in
-//! `stdin`, and what they must be answered in `stdout`. What no row can tell is in `tests`.
+//! `stdin`, and what they must be answered in `stdout`.
 //!
 //! A row begins with `== TITLE`. Its script runs over an empty image, or, where the title begins with `then`, over the
-//! image that the row before left. Where the title begins with `each`, each line is a script of its own. Rows have the
-//! short forms of `shorthand`.
+//! image that the row before left. Where the title begins with `each`, each line is a row of its own. A line that begins
+//! with `@ ` is an order: it changes the image, the script or the run, or asks for more to be told. The README lists
+//! them. Other lines have the short forms of `shorthand`.
 #![tactic(auto)]
 
+mod discs;
+mod dumps;
+mod failing;
+mod generated;
+mod lengths;
+mod made;
+mod orders;
+mod rows;
 mod runs;
 mod shorthand;
-#[cfg(test)]
-mod tests;
+mod telling;
 
-use crate::runs::{PIECE, Ran, run_script};
-use crate::shorthand::add_line;
+use crate::rows::{Row, answer_row};
 use std::io;
 
 fn main(rt: HostRuntime) -> io::Result<()> {
-    let mut script = String::new(rt.alloc());
-    let mut image = Vec::new(rt.alloc());
+    let mut row = Row::new(rt.alloc());
     let mut alone = true;
     for line in rt.lines(rt.alloc()) {
         let line = line?;
         let title = line.strip_prefix("== ");
         if title.is_none() {
-            add_line(&mut script, line.as_str())?;
+            row.add(rt.alloc(), line.as_str())?;
         }
-        if !script.is_empty() && (alone || title.is_some()) {
-            image = end_row(&rt, script.as_bytes(), &image)?;
-            script.clear();
+        if row.is_begun && (alone || title.is_some()) {
+            row = end_row(&rt, &row)?;
         }
         if let Some(title) = title {
             alone = title.starts_with("each");
             if !title.starts_with("then") {
-                image.clear();
+                row = Row::new(rt.alloc());
             }
             println!(rt; "== {title}")?;
         }
     }
-    if !script.is_empty() {
-        end_row(&rt, script.as_bytes(), &image)?;
+    if row.is_begun {
+        end_row(&rt, &row)?;
     }
     Ok(())
 }
 
-/// Runs the script of a row, prints its report and its exit status, and gives the image that it leaves.
-fn end_row<R: Print + AllocGlobal>(rt: &R, script: &[u8], image: &[u8]) -> io::Result<Vec<u8>> {
-    let ran = run_script(rt.alloc(), script, image, PIECE, None)?;
-    print_report(rt, &ran)?;
-    Ok(ran.image)
-}
-
-/// Prints the report of a run, and its exit status.
-fn print_report<R: Print>(rt: &R, ran: &Ran) -> io::Result<()> {
-    let report = str::from_utf8(&ran.report).unwrap_or("no text\n");
-    print!(rt; "{report}")?;
-    println!(rt; "exit status {}", ran.status.exit_number())
+/// Prints what a row is answered, and gives the next one, over the image that this one leaves.
+fn end_row<R: Print + AllocGlobal>(rt: &R, row: &Row) -> io::Result<Row> {
+    let mut answer = String::new(rt.alloc());
+    let mut next = Row::new(rt.alloc());
+    next.image = answer_row(rt.alloc(), row, &mut answer)?;
+    let answer = answer.as_str();
+    print!(rt; "{answer}")?;
+    Ok(next)
 }

@@ -1,19 +1,18 @@
 //! One run over objects in memory, and what it leaves.
-ghost use Rattle.std.specs.Prelude.{◌<◌};
-
-use ram_outside::{MemImage, MemOpener, MemSink, MemSource};
+use crate::made::Comments;
+use ram_outside::{MemImage, MemOpener, MemSink, MemSource, Opener, Sink, Source};
 use ram_run::run::run;
 use ram_run::status::Status;
 use std::alloc::{AllocError, Global};
 
 /// The words of the program in each run.
-pub const WORDS: [&str; 2] = ["run", "disc"];
+const WORDS: [&str; 2] = ["run", "disc"];
 
 /// How many bytes the image of a disc of one zone, scale 1 and four primary spares has.
 pub const IMAGE_BYTES: usize = 1_343_545;
 
 /// Room for the longest report.
-pub const REPORT_BYTES: usize = 1_000_000;
+const REPORT_BYTES: usize = 1_000_000;
 
 /// How many bytes source and sink move at once, where nothing else is said.
 pub const PIECE: usize = 65_536;
@@ -59,49 +58,47 @@ impl Ran {
     }
 }
 
-/// Runs a script over an image of these bytes. Source and sink move at most `piece` bytes at once.
+/// Runs a script over an image of these bytes. The source gives and the sink takes at most so many bytes at once.
 pub fn run_script(
     alloc: Global,
     script: &[u8],
     image: &[u8],
-    piece: usize,
+    (given, taken): (usize, usize),
     failure: Option<Failure>,
-) -> Result<Ran, AllocError>
-    requires { 0 < piece }
-{
-    let script = source(alloc, script, piece, failure)?;
-    let report = sink(alloc, piece, failure)?;
+) -> Result<Ran, AllocError> {
+    let script = source(alloc, script, given, failure)?;
+    let report = sink(alloc, taken, failure)?;
     let opener = opener(alloc, image, failure)?;
     run_over(alloc, &WORDS, script, report, opener)
 }
 
-/// Runs a script over an empty image, and nothing fails. The source gives at most `given` bytes at once, and the sink
-/// takes at most `taken`.
-pub fn run_in_pieces(
-    alloc: Global,
-    script: &[u8],
-    given: usize,
-    taken: usize,
-) -> Result<Ran, AllocError>
-    requires given { 0 < given }
-    requires taken { 0 < taken }
-{
-    let script = source(alloc, script, given, None)?;
-    let report = sink(alloc, taken, None)?;
-    let opener = opener(alloc, b"", None)?;
-    run_over(alloc, &WORDS, script, report, opener)
-}
-
-/// Runs the words of the program over an empty script and an empty image.
-pub fn run_words(
-    alloc: Global,
-    words: &[&str],
-    failure: Option<Failure>,
-) -> Result<Ran, AllocError> {
+/// Runs the words of the program, with a bar between them, over an empty script and an empty image.
+pub fn run_words(alloc: Global, words: &str, failure: Option<Failure>) -> Result<Ran, AllocError> {
+    let words: Vec<&str> = words.split('|').collect(alloc)?;
     let script = source(alloc, b"", PIECE, failure)?;
     let report = sink(alloc, PIECE, failure)?;
     let opener = opener(alloc, b"", failure)?;
-    run_over(alloc, words, script, report, opener)
+    run_over(alloc, &words, script, report, opener)
+}
+
+/// Runs a script of comments of so many bytes over an empty image. How often its source was called is not counted.
+pub fn run_made(alloc: Global, bytes: usize) -> Result<Ran, AllocError> {
+    let mut script = Comments::new(alloc, bytes)?;
+    let mut report = sink(alloc, PIECE, None)?;
+    let mut opener = opener(alloc, b"", None)?;
+    let status = run_program(alloc, &WORDS, &mut script, &mut report, &mut opener);
+    what_is_left(alloc, status, 0, &report, &opener)
+}
+
+/// Runs the words of the program. It stands between `run` and its callers, so that these see nothing of its contract.
+fn run_program<S: Source, K: Sink, O: Opener>(
+    alloc: Global,
+    words: &[&str],
+    script: &mut S,
+    report: &mut K,
+    opener: &mut O,
+) -> Status {
+    run(alloc, words, script, report, opener)
 }
 
 /// Runs the words of the program over a script and the image that the opener gives.
@@ -113,14 +110,14 @@ fn run_over(
     opener: MemOpener,
 ) -> Result<Ran, AllocError> {
     let (mut script, mut report, mut opener) = (script, report, opener);
-    let status = run(alloc, words, &mut script, &mut report, &mut opener);
-    what_is_left(alloc, status, &script, &report, &opener)
+    let status = run_program(alloc, words, &mut script, &mut report, &mut opener);
+    what_is_left(alloc, status, script.calls(), &report, &opener)
 }
 
 fn what_is_left(
     alloc: Global,
     status: Status,
-    script: &MemSource,
+    takes: u64,
     report: &MemSink,
     opener: &MemOpener,
 ) -> Result<Ran, AllocError> {
@@ -129,7 +126,7 @@ fn what_is_left(
         None => (b"".as_slice(), 0),
     };
     let calls = CallCounts {
-        source: script.calls(),
+        source: takes,
         sink: report.calls(),
         image: calls,
     };
@@ -149,28 +146,20 @@ fn source(
     script: &[u8],
     piece: usize,
     failure: Option<Failure>,
-) -> Result<MemSource, AllocError>
-    requires { 0 < piece }
-{
+) -> Result<MemSource, AllocError> {
     let calls = failing(alloc, failure, Outside::Source)?;
-    Ok(MemSource::new(script.to_vec(alloc)?, piece, calls))
+    Ok(MemSource::new(script.to_vec(alloc)?, piece.max(1), calls))
 }
 
 /// A sink with room for the longest report.
-pub fn sink(alloc: Global, piece: usize, failure: Option<Failure>) -> Result<MemSink, AllocError>
-    requires { 0 < piece }
-{
-    let mut report = MemSink::new(alloc, piece, failing(alloc, failure, Outside::Sink)?);
+fn sink(alloc: Global, piece: usize, failure: Option<Failure>) -> Result<MemSink, AllocError> {
+    let mut report = MemSink::new(alloc, piece.max(1), failing(alloc, failure, Outside::Sink)?);
     report.reserve(REPORT_BYTES)?;
     Ok(report)
 }
 
 /// An opener of an image of these bytes, with room for those of a disc.
-pub fn opener(
-    alloc: Global,
-    image: &[u8],
-    failure: Option<Failure>,
-) -> Result<MemOpener, AllocError> {
+fn opener(alloc: Global, image: &[u8], failure: Option<Failure>) -> Result<MemOpener, AllocError> {
     let mut bytes = Vec::with_capacity(alloc, IMAGE_BYTES)?;
     bytes.extend_from_slice(image)?;
     let image = MemImage::new(bytes, failing(alloc, failure, Outside::Image)?);

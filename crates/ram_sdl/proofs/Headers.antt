@@ -2,6 +2,7 @@
 use Rattle.std.proofs.Common.{◌≡◌, ℕ, ◌<◌, ◌≤◌, List, [], ◌∷◌, length, get_or, take, drop, replicate, sym, ◌∙◌, ap, subst, arith, length-drop}
 use Rattle.std.proofs.lemmas.List.{length-take-le}
 use Rattle.byteorder.specs.Endian.{big_number, big_bytes}
+use Rattle.model_lists.specs.declared.versions.Version.TheVariants.{One}
 use Rattle.model_lists.specs.Values.{IsWithinSdlLimits}
 use Rattle.model_lists.specs.Texts.{bytes_from, IsSdlHeader}
 use Rattle.model_lists.proofs.Spelled.{zero_bytes-is, zero_bytes-all}
@@ -17,19 +18,19 @@ pub record Reads (ssa count : ℕ) (bytes : List ℕ) : Type 0 where
   pub count_is : count ≡ big_number 2 (drop 14 bytes)
 
 -- where the bytes say other fields, those that were read are within the same limits
-pub other_header : (ssa count c d s n : ℕ) (bytes : List ℕ) → Reads ssa count bytes → IsWithinSdlLimits s n → IsSdlHeader c d s n bytes → IsWithinSdlLimits ssa count
+pub other_header : (ssa count c d s n : ℕ) (bytes : List ℕ) → Reads ssa count bytes → IsWithinSdlLimits One s n → IsSdlHeader One 1 c d s n bytes → IsWithinSdlLimits One ssa count
 other_header ssa count c d s n bytes reads limits header =
     let long = reads.long in
     let same_ssa : s ≡ ssa =
     big_bytes-injective 2 s ssa (omega arith) (omega arith) (sym header.spares ∙ number_bytes 12 ssa bytes (omega arith) reads.small reads.ssa_is) in
     let same_count : n ≡ count =
     big_bytes-injective 2 n count (omega arith) (omega arith) (sym header.list_counted ∙ number_bytes 14 count bytes (omega arith) reads.small reads.count_is) in
-    let Q : ℕ → Type 0 = λ x. IsWithinSdlLimits x n in
-    let R : ℕ → Type 0 = λ x. IsWithinSdlLimits ssa x in
+    let Q : ℕ → Type 0 = λ x. IsWithinSdlLimits One x n in
+    let R : ℕ → Type 0 = λ x. IsWithinSdlLimits One ssa x in
     subst R same_count (subst Q same_ssa limits)
 
 -- the bytes say the fields that were read
-pub header_read : (counter dds_counter ssa count : ℕ) (bytes gap : List ℕ) → Reads ssa count bytes → take 4 bytes ≡ 0 ∷ 2 ∷ 1 ∷ 0 ∷ [] → counter ≡ big_number 4 (drop 4 bytes) → dds_counter ≡ big_number 4 (drop 8 bytes) → gap ≡ bytes_from 16 16 bytes → gap ≡ replicate (length gap) 0 → IsSdlHeader counter dds_counter ssa count bytes
+pub header_read : (counter dds_counter ssa count : ℕ) (bytes gap : List ℕ) → Reads ssa count bytes → take 4 bytes ≡ 0 ∷ 2 ∷ 1 ∷ 0 ∷ [] → counter ≡ big_number 4 (drop 4 bytes) → dds_counter ≡ big_number 4 (drop 8 bytes) → gap ≡ bytes_from 16 16 bytes → gap ≡ replicate (length gap) 0 → IsSdlHeader One 1 counter dds_counter ssa count bytes
 header_read counter dds_counter ssa count bytes gap reads begins counter_is dds_counter_is gap_is zero =
     let long = reads.long in
     let gap_long : length gap ≡ 16 =
@@ -44,6 +45,6 @@ header_read counter dds_counter ssa count bytes gap reads begins counter_is dds_
     }
 
 -- where the gap has another byte than zero, the bytes say nothing
-pub no_gap : (c d s n : ℕ) (bytes gap : List ℕ) → gap ≡ bytes_from 16 16 bytes → (gap ≡ replicate (length gap) 0 → ⊥) → IsSdlHeader c d s n bytes → ⊥
+pub no_gap : (c d s n : ℕ) (bytes gap : List ℕ) → gap ≡ bytes_from 16 16 bytes → (gap ≡ replicate (length gap) 0 → ⊥) → IsSdlHeader One 1 c d s n bytes → ⊥
 no_gap c d s n bytes gap gap_is other header =
     other (zero_bytes-all 16 gap (gap_is ∙ header.gap))

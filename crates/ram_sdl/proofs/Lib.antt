@@ -1,3 +1,4 @@
 pub mod Headers
 pub mod Gaps
 pub mod Cells
+pub mod OnePart

@@ -6,7 +6,7 @@ use Rattle.ram_sdl.specs.declared.sdl.Sdl.{Sdl}
 
 -- the value, as the definitions of the texts have it: without the room (this project's own)
 abbrev pub sdl_of : Sdl → values.Sdl
-sdl_of held = record { counter = held.counter; dds_counter = held.dds_counter; ssa = held.ssa; entries = held.entries.list }
+sdl_of held = record { version = held.version; counter = held.counter; dds_counter = held.dds_counter; ssa = held.ssa; entries = held.entries.list }
 
 -- What the block decodes to: the value whose text it is, or nothing where it is the text of none.
 -- (This project's own.)

@@ -2,6 +2,7 @@
 
 ghost use Rattle.std.specs.Prelude.{◌≡◌, ℕ, ◌+◌, ◌<◌, ◌≤◌, ◌^◌, ◌↔◌, [], ◌∷◌, ◌++◌, length, IsTrue, MatchOption};
 ghost use Rattle.byteorder.specs.Endian.{big_bytes};
+ghost use Rattle.model_lists.specs.declared.versions.Version.TheVariants.{One};
 ghost use Rattle.model_lists.specs.Values.{IsWithinSdlLimits};
 ghost use Rattle.model_lists.specs.Texts.{IsSdlHeader};
 
@@ -41,7 +42,7 @@ fn begins_list(bytes: &[u8]) -> bool
 
 /// Whether a list of so many entries is within its limits.
 fn is_within_limits(ssa: u32, count: usize) -> bool
-    ensures { IsTrue result ↔ IsWithinSdlLimits ssa count }
+    ensures { IsTrue result ↔ IsWithinSdlLimits One ssa count }
 {
     ssa <= MOST_SPARES && count <= MOST_SPARES as usize
 }
@@ -50,11 +51,11 @@ fn is_within_limits(ssa: u32, count: usize) -> bool
 pub fn header_of(bytes: &[u8]) -> Option<Header>
     requires { 32 ≤ length bytes.now }
     ensures { MatchOption result
-        ((counter dds_counter ssa count : ℕ) → IsWithinSdlLimits ssa count
-        → IsSdlHeader counter dds_counter ssa count bytes.now → ⊥)
+        ((counter dds_counter ssa count : ℕ) → IsWithinSdlLimits One ssa count
+        → IsSdlHeader One 1 counter dds_counter ssa count bytes.now → ⊥)
         (λ header. (header.counter < 2 ^ 32) × (header.dds_counter < 2 ^ 32)
-        × IsWithinSdlLimits header.ssa header.count
-        × IsSdlHeader header.counter header.dds_counter header.ssa header.count bytes.now) }
+        × IsWithinSdlLimits One header.ssa header.count
+        × IsSdlHeader One 1 header.counter header.dds_counter header.ssa header.count bytes.now) }
 {
     if !begins_list(&bytes[..4]) {
         return None;

@@ -1,6 +1,7 @@
 //! The list and its block, both ways; finding and setting an entry.
 
-ghost use Rattle.std.specs.Prelude.{◌≡◌, ◌≤◌, length, IfOk, OnOk, OnErr};
+ghost use Rattle.std.specs.Prelude.{◌≡◌, ◌↔◌, ◌≤◌, length, IfOk, IsTrue, OnOk, OnErr};
+ghost use Rattle.std.specs.List.{Contains};
 ghost use Rattle.std.specs.List.Sorted.{IsStrictlyIncreasing};
 ghost use Rattle.model_lists.specs.Values.{IsLawfulSdl, IsEntryOf, defectives, with_entry};
 ghost use Rattle.model_lists.specs.Texts.{IsSdlText};
@@ -11,7 +12,7 @@ use crate::entries::SdlEntries;
 use crate::header::{Header, begin_bytes, header_of};
 use crate::list::SdlLayout;
 use crate::places::entry_of;
-use model_lists::SdlEntry;
+use model_lists::{SdlEntry, Version};
 use ram_bytes::Block;
 use ram_entries::{entries_of, put_entries};
 use std::alloc::{AllocError, Global};
@@ -19,13 +20,15 @@ use std::alloc::{AllocError, Global};
 /// A secondary defect list. Its entries rise by their defective blocks.
 #[derive(Debug, Drop)]
 pub struct Sdl {
+    /// Which form the texts of the disc's lists have: the first alone is written and read.
+    pub version: Version,
     /// How often the list was written.
     pub counter: u32,
     /// The counter of the disc definition structure that the list belongs to.
     pub dds_counter: u32,
     /// The size of the supplementary spare area in blocks, at most 4,092.
     pub ssa: u32,
-    /// The defective blocks with what took their place, at most [`MOST_SPARES`](crate::MOST_SPARES).
+    /// The defective blocks with what took their place, at most [`SDL_LIMIT`](crate::SDL_LIMIT).
     pub entries: SdlEntries,
 }
 
@@ -60,6 +63,7 @@ impl Sdl {
             return Ok(None);
         };
         Ok(Some(Sdl {
+            version: Version::One,
             counter: header.counter,
             dds_counter: header.dds_counter,
             ssa: header.ssa,
@@ -85,6 +89,17 @@ impl Sdl {
         entry_of(self.entries.as_slice(), defective)
     }
 
+    /// Whether an entry names the block as defective, by halving.
+    pub fn is_defective(&self, block: u32) -> bool
+        requires { IsStrictlyIncreasing (defectives self.now.entries.list) }
+        ensures { IsTrue result ↔ Contains (defectives self.now.entries.list) block }
+    {
+        match self.find(block) {
+            Some(_) => true,
+            None => false,
+        }
+    }
+
     /// Puts the entry in the place of its defective block, or changes the one that is there.
     pub fn set(&mut self, entry: SdlEntry)
         requires rise { IsStrictlyIncreasing (defectives self.old.entries.list) }
@@ -97,12 +112,13 @@ impl Sdl {
         self.entries.set(entry);
     }
 
-    /// Takes over all four fields of the other list.
+    /// Takes over all five fields of the other list.
     pub fn copy_from(&mut self, other: &Sdl)
         requires { length other.now.entries.list ≤ self.old.entries.room }
         ensures value { sdl_of self.new ≡ sdl_of other.now }
         ensures room { self.old.entries.room ≤ self.new.entries.room }
     {
+        self.version = other.version;
         self.counter = other.counter;
         self.dds_counter = other.dds_counter;
         self.ssa = other.ssa;

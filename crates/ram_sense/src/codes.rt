@@ -1,6 +1,6 @@
 //! The sense that the drive gives, under the names that INCITS MMC has for it.
 ghost use Rattle.std.specs.Prelude.{◌≡◌};
-ghost use Rattle.ram_sense.specs.Sense.{sense, sense_at};
+ghost use Rattle.model_sense.specs.Sense.{sense, sense_at};
 ghost use Rattle.ram_sense.specs.declared.codes.TheConstants.{NO_SENSE, MEDIUM_NOT_PRESENT, MEDIUM_FORMAT_CORRUPTED, FORMAT_COMMAND_FAILED, DEFECT_LIST_UPDATE_FAILURE, PARAMETER_LIST_LENGTH_ERROR, INVALID_OPERATION_CODE, ADDRESS_OUT_OF_RANGE, INVALID_FIELD_IN_COMMAND, INVALID_FIELD_IN_PARAMETERS, SAVING_NOT_SUPPORTED, REMOVAL_PREVENTED, POWER_ON_OCCURRED};
 
 use crate::Sense;

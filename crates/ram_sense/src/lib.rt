@@ -1,12 +1,9 @@
-//! Sense data, which say why a command was not done, and how a command is answered.
+//! The senses that the drive gives. What sense data and answers are is in `model_sense`.
 #![tactic(auto)]
 
-pub mod answer;
 pub mod codes;
-pub mod sense;
 
-pub use answer::Answer;
-pub use sense::{SENSE_BYTES, Sense};
+pub use model_sense::{Answer, SENSE_BYTES, Sense};
 
 #[cfg(test)]
 mod tests;

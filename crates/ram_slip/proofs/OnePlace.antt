@@ -6,6 +6,7 @@ use Rattle.std.proofs.lemmas.List.Elements.{Contains-append_left, Contains-appen
 use Rattle.model_geometry.specs.Geometry.{Shape, data_blocks}
 use Rattle.model_lists.specs.Values.{Dds}
 use Rattle.model_places.specs.Places.{unreplaced, is_listed, slipped, unslipped, primary_count, logical_blocks, primary_spares, supplementary_spares, spares}
+use Rattle.model_lists.specs.declared.versions.Version.{Version}
 use Rattle.model_places.specs.Valid.{IsValidPdl, IsValidSsa}
 use Rattle.model_places.proofs.Listed.{Decides-is_listed, one_listed, Contains-from_filter, StandsWithin-take, StandsWithin-drop, parts_apart}
 use Rattle.model_places.proofs.Pools.{unslipped_rise, unslipped_are_data, pools_are_all, Contains-logical_block, logical_block_differs, logical_is_no_spare, logical_is_unslipped, spare_is_unslipped}
@@ -20,7 +21,7 @@ not_slipped shape dds b has listed =
     let passes = (Contains-from_filter (λ block. not (is_listed (slipped dds) block)) (data_blocks shape) b has).0 in
     true≢false (sym ((Decides-is_listed (slipped dds) b).1 listed) ∙ not-true (is_listed (slipped dds) b) passes)
 
-module _ (shape : Shape) (dds : Dds) (ssa block : ℕ) (valid : IsValidPdl shape dds) (area : IsValidSsa shape ssa) where
+module _ (shape : Shape) (dds : Dds) (ssa block : ℕ) (valid : IsValidPdl shape dds) {version : Version} (area : IsValidSsa shape version ssa) where
   from_primary : Contains (primary_spares shape dds) block → Contains (spares shape (unreplaced dds ssa)) block
   from_primary has = Contains-append_left (primary_spares shape dds) (supplementary_spares shape (unreplaced dds ssa)) block has
 

@@ -13,6 +13,7 @@ use Rattle.model_geometry.proofs.Zones.{total_most}
 use Rattle.model_lists.specs.declared.dds.PdlEntry.{PdlEntry}
 use Rattle.model_lists.specs.Values.{Dds, pdl_blocks}
 use Rattle.model_places.specs.Places.{slipped, unslipped, unreplaced, primary_count, primary_spares, supplementary_spares, logical_count, logical_block}
+use Rattle.model_lists.specs.declared.versions.Version.{Version}
 use Rattle.model_places.specs.Valid.{IsValidPdl, IsValidSsa}
 use Rattle.model_places.proofs.Pools.{length-slipped, length-unslipped}
 use Rattle.model_places.proofs.Slipping.{length-below, slice_get-unslipped}
@@ -140,7 +141,7 @@ logical_by_place shape dds place block i at from is =
     let there : primary_count shape dds + i ≡ place = omega (arith, from, is) in
     ap (slice_index (unslipped shape dds)) there ∙ get_or_from_slice_get (unslipped shape dds) place block 0 at
 
-pub supplementary_by_place : (shape : Shape) (dds : Dds) (ssa : ℕ) → IsValidPdl shape dds → IsValidSsa shape ssa → (place block : ℕ) → slice_get (unslipped shape dds) place ≡ Some block
+pub supplementary_by_place : {version : Version} (shape : Shape) (dds : Dds) (ssa : ℕ) → IsValidPdl shape dds → IsValidSsa shape version ssa → (place block : ℕ) → slice_get (unslipped shape dds) place ≡ Some block
     → primary_count shape dds + logical_count shape (unreplaced dds ssa) ≤ place → Contains (supplementary_spares shape (unreplaced dds ssa)) block
 supplementary_by_place shape dds ssa valid area place block at from =
     let u = unslipped shape dds in

@@ -7,13 +7,14 @@ use Rattle.std.proofs.lemmas.List.{get_or-take, get_or-drop, get_or_append_left,
 use Rattle.std.proofs.lemmas.Option.{slice_get_within, get_or_from_slice_get}
 use Rattle.model_geometry.specs.Geometry.{Shape, data_blocks}
 use Rattle.model_places.specs.Places.{Lists, slipped, unslipped, primary_count, logical_count, primary_spares, supplementary_spares, logical_blocks, spares}
+use Rattle.model_lists.specs.declared.versions.Version.{Version}
 use Rattle.model_places.specs.Valid.{IsValidPdl, IsValidSsa}
 use Rattle.model_places.proofs.Listed.{same_index}
 use Rattle.model_places.proofs.Pools.{unslipped_rise, unslipped_are_data, pools_are_all, length-spares, Contains-logical_block, logical_is_no_spare, spare_is_unslipped}
 use Rattle.ram_slip.proofs.OnePlace.{not_slipped}
 use Rattle.ram_slip.proofs.Slips.{logical_by_place}
 
-module _ (shape : Shape) (lists : Lists) (valid : IsValidPdl shape lists.dds) (area : IsValidSsa shape lists.sdl.ssa) where
+module _ (shape : Shape) (lists : Lists) (valid : IsValidPdl shape lists.dds) {version : Version} (area : IsValidSsa shape version lists.sdl.ssa) where
   -- how many primary spares there are
   pub first_many : length (primary_spares shape lists.dds) ≡ primary_count shape lists.dds
   first_many = let all = pools_are_all shape lists valid area in omega (arith, length-take (primary_count shape lists.dds) (unslipped shape lists.dds), all)

@@ -10,6 +10,3 @@ mod valid;
 pub use place::{Place, a_block_has_one_place};
 pub use slip::{data_block, physical, place_of, primary_left, spare_number, spare_of};
 pub use valid::{is_valid_pdl, is_valid_ssa};
-
-#[cfg(test)]
-mod tests;

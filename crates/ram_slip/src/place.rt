@@ -3,7 +3,7 @@
 ghost use Rattle.std.specs.Prelude.{◌≡◌, ℕ};
 ghost use Rattle.model_geometry.specs.Geometry.{Shape};
 ghost use Rattle.model_lists.specs.Values.{Dds};
-ghost use Rattle.model_places.specs.Valid.{IsValidPdl, IsValidSsa};
+ghost use Rattle.model_places.specs.Valid.{IsValidPdl, IsValidOnSome};
 ghost use Rattle.ram_slip.specs.declared.place.Place.{Place};
 ghost use Rattle.ram_slip.specs.Place.{IsAtPlace};
 
@@ -29,6 +29,6 @@ pub enum Place {
 /// where it says what the block is.
 pub fn a_block_has_one_place()
     ensures { (shape : Shape) (dds : Dds) (ssa block : ℕ) (a b : Place)
-        → IsValidPdl shape dds → IsValidSsa shape ssa
+        → IsValidPdl shape dds → IsValidOnSome shape ssa
         → IsAtPlace shape dds ssa block a → IsAtPlace shape dds ssa block b → a ≡ b }
 {}

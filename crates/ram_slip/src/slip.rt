@@ -6,7 +6,7 @@ ghost use Rattle.std.specs.List.Sorted.{IsStrictlyIncreasing};
 ghost use Rattle.model_geometry.specs.Geometry.{IsLawful, data_blocks};
 ghost use Rattle.model_lists.specs.Values.{pdl_blocks};
 ghost use Rattle.model_places.specs.Places.{unreplaced, unslipped, primary_count, logical_block, spares};
-ghost use Rattle.model_places.specs.Valid.{IsValidPdl, IsValidSsa};
+ghost use Rattle.model_places.specs.Valid.{IsValidPdl, IsValidOnSome};
 ghost use Rattle.ram_dds.specs.Dds.{dds_of};
 ghost use Rattle.ram_slip.specs.Counts.{IsCountPassed};
 ghost use Rattle.ram_slip.specs.Place.{HasRank, IsAtPlace, IsSpareNumber};
@@ -110,7 +110,7 @@ fn rank_of(geometry: &Geometry, dds: &DdsPdl, block: u32) -> Rank
 /// What a block is to a disc with so many supplementary spares.
 pub fn place_of(geometry: &Geometry, dds: &DdsPdl, ssa: u32, block: u32) -> Place
     requires valid { IsValidPdl geometry.now (dds_of dds.now) }
-    requires area { IsValidSsa geometry.now ssa }
+    requires area { IsValidOnSome geometry.now ssa }
     ensures { IsAtPlace geometry.now (dds_of dds.now) ssa block result }
 {
     let place = match rank_of(geometry, dds, block) {
@@ -132,7 +132,7 @@ pub fn place_of(geometry: &Geometry, dds: &DdsPdl, ssa: u32, block: u32) -> Plac
 /// The number of a spare among all spares, in rising order and counted from 0, or none where the block is no spare.
 pub fn spare_number(geometry: &Geometry, dds: &DdsPdl, ssa: u32, block: u32) -> Option<u32>
     requires valid { IsValidPdl geometry.now (dds_of dds.now) }
-    requires area { IsValidSsa geometry.now ssa }
+    requires area { IsValidOnSome geometry.now ssa }
     ensures { IsSpareNumber geometry.now (dds_of dds.now) ssa block result }
 {
     let place = match rank_of(geometry, dds, block) {
@@ -154,7 +154,7 @@ pub fn spare_number(geometry: &Geometry, dds: &DdsPdl, ssa: u32, block: u32) -> 
 /// The spare of this number, in rising order and counted from 0. It undoes [`spare_number`].
 pub fn spare_of(geometry: &Geometry, dds: &DdsPdl, ssa: u32, number: u32) -> u32
     requires valid { IsValidPdl geometry.now (dds_of dds.now) }
-    requires area { IsValidSsa geometry.now ssa }
+    requires area { IsValidOnSome geometry.now ssa }
     requires inside { number < length (spares geometry.now (unreplaced (dds_of dds.now) ssa)) }
     ensures { result ≡ slice_index (spares geometry.now (unreplaced (dds_of dds.now) ssa)) number }
 {

@@ -8,7 +8,7 @@ ghost use Rattle.model_lists.specs.Values.{pdl_blocks};
 ghost use Rattle.model_places.specs.Valid.{IsValidPdl, IsValidSsa};
 ghost use Rattle.ram_dds.specs.Dds.{dds_of};
 
-use ram_dds::{DdsPdl, MOST_SPARES, PdlEntry};
+use ram_dds::{DdsPdl, PdlEntry, Version};
 use ram_zones::Geometry;
 
 /// Whether each entry names a data block.
@@ -54,11 +54,11 @@ pub fn is_valid_pdl(geometry: &Geometry, dds: &DdsPdl) -> bool
     are_data(geometry, entries)
 }
 
-/// Whether so many supplementary spares are valid: the spares are no more than a disc may have, and a logical block is
-/// left.
-pub fn is_valid_ssa(geometry: &Geometry, ssa: u32) -> bool
-    ensures { IsTrue result ↔ IsValidSsa geometry.now ssa }
+/// Whether so many supplementary spares are valid: the spares are no more than a disc of this version may have, and a
+/// logical block is left.
+pub fn is_valid_ssa(geometry: &Geometry, version: Version, ssa: u32) -> bool
+    ensures { IsTrue result ↔ IsValidSsa geometry.now version ssa }
 {
     let psa = geometry.psa();
-    ssa <= MOST_SPARES - psa && ssa < geometry.data_blocks() - psa
+    ssa <= version.most_spares() - psa && ssa < geometry.data_blocks() - psa
 }

@@ -9,6 +9,7 @@ use Rattle.std.proofs.lemmas.Option.{slice_get-get_or}
 use Rattle.model_geometry.specs.Geometry.{Shape}
 use Rattle.model_geometry.proofs.DataBlocks.{Contains-slice_get}
 use Rattle.model_places.specs.Places.{Lists, unslipped, is_free, primary_count, primary_spares, supplementary_spares, spares, spares_down, free_spares, free_spare_after}
+use Rattle.model_lists.specs.declared.versions.Version.{Version}
 use Rattle.model_places.specs.Valid.{IsValidPdl, IsValidSsa, AreValid}
 use Rattle.model_places.proofs.Listed.{Contains-from_filter}
 use Rattle.model_places.proofs.Homes.{first_is_alone}
@@ -78,7 +79,7 @@ past_end xs k none =
 
 -- ---- the number of each turn
 
-module _ (shape : Shape) (lists : Lists) (valid : IsValidPdl shape lists.dds) (area : IsValidSsa shape lists.sdl.ssa) where
+module _ (shape : Shape) (lists : Lists) (valid : IsValidPdl shape lists.dds) {version : Version} (area : IsValidSsa shape version lists.sdl.ssa) where
   pub last_many : length (supplementary_spares shape lists) ≡ lists.sdl.ssa
   last_many = let all = pools_are_all shape lists valid area in omega (arith, length-drop (length (unslipped shape lists.dds) - lists.sdl.ssa) (unslipped shape lists.dds), all)
 

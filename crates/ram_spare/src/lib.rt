@@ -10,6 +10,3 @@ mod turns;
 pub use count::{SpareCounts, counts};
 pub use laws::next_free_walks_through_the_free_spares;
 pub use spare::next_free;
-
-#[cfg(test)]
-mod tests;

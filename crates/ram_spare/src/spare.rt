@@ -11,7 +11,6 @@ ghost use Rattle.ram_spare.specs.Spares.{both_lists, next_spare};
 use crate::turns::{spare_at, spare_count, turn_of};
 use model_lists::SdlEntry;
 use ram_dds::DdsPdl;
-use ram_lists::is_defective;
 use ram_sdl::Sdl;
 use ram_zones::Geometry;
 
@@ -44,7 +43,7 @@ fn is_unnamed(sdl: &Sdl, block: u32) -> bool
         ≡ not (is_listed (defectives sdl.now.entries.list) block
         || is_listed (replacements sdl.now.entries.list) block) }
 {
-    !(is_defective(sdl, block) || is_replacement(sdl.entries.as_slice(), block))
+    !(sdl.is_defective(block) || is_replacement(sdl.entries.as_slice(), block))
 }
 
 /// The first free spare from this turn on.

@@ -15,7 +15,7 @@ use ram_zones::Geometry;
 /// How many spares there are.
 pub fn spare_count(geometry: &Geometry, dds: &DdsPdl, sdl: &Sdl) -> u32
     requires valid { IsValidPdl geometry.now (dds_of dds.now) }
-    requires area { IsValidSsa geometry.now sdl.now.ssa }
+    requires area { IsValidSsa geometry.now sdl.now.version sdl.now.ssa }
     ensures { result ≡ length (spares_down geometry.now (both_lists dds.now sdl.now)) }
 {
     primary_left(geometry, dds) + sdl.ssa
@@ -24,7 +24,7 @@ pub fn spare_count(geometry: &Geometry, dds: &DdsPdl, sdl: &Sdl) -> u32
 /// The spare whose turn it is. In each area the spare of the greatest number has the first turn.
 pub fn spare_at(geometry: &Geometry, dds: &DdsPdl, sdl: &Sdl, turn: u32) -> u32
     requires valid { IsValidPdl geometry.now (dds_of dds.now) }
-    requires area { IsValidSsa geometry.now sdl.now.ssa }
+    requires area { IsValidSsa geometry.now sdl.now.version sdl.now.ssa }
     requires inside { turn < length (spares_down geometry.now (both_lists dds.now sdl.now)) }
     ensures { result ≡ slice_index (spares_down geometry.now (both_lists dds.now sdl.now)) turn }
 {
@@ -43,7 +43,7 @@ pub fn spare_at(geometry: &Geometry, dds: &DdsPdl, sdl: &Sdl, turn: u32) -> u32
 /// The turn of a spare.
 pub fn turn_of(geometry: &Geometry, dds: &DdsPdl, sdl: &Sdl, spare: u32) -> u32
     requires valid { IsValidPdl geometry.now (dds_of dds.now) }
-    requires area { IsValidSsa geometry.now sdl.now.ssa }
+    requires area { IsValidSsa geometry.now sdl.now.version sdl.now.ssa }
     requires spare { Contains (spares_down geometry.now (both_lists dds.now sdl.now)) spare }
     ensures inside { result < length (spares_down geometry.now (both_lists dds.now sdl.now)) }
     ensures has { slice_index (spares_down geometry.now (both_lists dds.now sdl.now)) result ≡ spare }

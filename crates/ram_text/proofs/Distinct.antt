@@ -5,9 +5,9 @@ use Rattle.std.proofs.lemmas.Fmt.{decimal_injective}
 use Rattle.std.proofs.lemmas.List.{append_cancel_left, take_at, drop_at}
 use Rattle.hex.specs.Hex.{encode_with, lower_digits, hex_digit_value}
 use Rattle.hex.proofs.HexLemmas.{IsDigits-lower_digits}
-use Rattle.ram_sense.specs.declared.sense.Sense.{Sense}
-use Rattle.ram_sense.specs.declared.answer.Answer.{Answer}
-use Rattle.ram_sense.specs.declared.answer.Answer.TheVariants.{Good, Check, Cut, Off, Fault, NoMemory}
+use Rattle.model_sense.specs.declared.sense.Sense.{Sense}
+use Rattle.model_sense.specs.declared.answer.Answer.{Answer}
+use Rattle.model_sense.specs.declared.answer.Answer.TheVariants.{Good, Check, Cut, Off, Fault, NoMemory}
 use Rattle.ram_text.specs.ReportLines.{answer_words, sense_code, info_words, SenseFits, HasWords}
 
 digit_same : (a b : ℕ) → a < 16 → b < 16 → get_or lower_digits a 0 ≡ get_or lower_digits b 0 → a ≡ b

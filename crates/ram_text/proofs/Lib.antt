@@ -6,6 +6,7 @@ pub mod Puts
 pub mod OneByte
 pub mod Prints
 pub mod WordSteps
+pub mod HexPairs
 pub mod HexSteps
 pub mod ScriptReadings
 pub mod Forms

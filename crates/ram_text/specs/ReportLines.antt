@@ -5,9 +5,9 @@ use Rattle.hex.specs.Hex.{encode_lower, lower_digits}
 use Rattle.model_commands.specs.Commands.{operation_of, field}
 use Rattle.model_commands.specs.declared.Operation.{Operation}
 use Rattle.model_commands.specs.declared.Operation.TheVariants.{Read10, Read12}
-use Rattle.ram_sense.specs.declared.sense.Sense.{Sense}
-use Rattle.ram_sense.specs.declared.answer.Answer.{Answer}
-use Rattle.ram_sense.specs.declared.answer.Answer.TheVariants as answers
+use Rattle.model_sense.specs.declared.sense.Sense.{Sense}
+use Rattle.model_sense.specs.declared.answer.Answer.{Answer}
+use Rattle.model_sense.specs.declared.answer.Answer.TheVariants as answers
 use Rattle.ram_text.specs.declared.printing.Event.{Event}
 use Rattle.ram_text.specs.declared.printing.Event.TheVariants as events
 use Rattle.ram_text.specs.declared.printing.LastLine.{LastLine}

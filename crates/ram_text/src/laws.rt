@@ -7,7 +7,7 @@ ghost use Rattle.ram_text.specs.ReportLines.{answer_words, HasWords};
 ghost use Rattle.ram_text.specs.declared.lines.TheConstants.{LINE_LIMIT, SCRIPT_LIMIT};
 ghost use Rattle.ram_text.specs.declared.payload.TheConstants.{PAYLOAD_ROOM};
 ghost use Rattle.ram_text.specs.declared.script.Line.{Line as Read};
-ghost use Rattle.ram_sense.specs.declared.answer.Answer.{Answer as Reported};
+ghost use Rattle.model_sense.specs.declared.answer.Answer.{Answer as Reported};
 
 /// How many bytes a line has at most, a script, and the data of a command.
 pub fn limits_are_these()

@@ -248,6 +248,3 @@ fn make_room(bytes: &mut Vec<u8>, start: usize, end: usize) -> usize
     bytes.copy_within(start..end, 0);
     0
 }
-
-#[cfg(test)]
-mod tests;

@@ -1,5 +1,6 @@
 //! The data that go with a command, as a line of the script names them.
-ghost use Rattle.std.specs.Prelude.{◌≡◌, ◌≤◌, ◌-◌, ◌/◌, None, Some, MatchBool, [], ◌++◌, length, replicate, vec_len, vec_capacity};
+ghost use Rattle.std.specs.Prelude.{◌≡◌, ◌≤◌, ◌-◌, ◌/◌, None, Some, MatchBool, [], ◌++◌, unwrap_or, length, replicate, vec_len, vec_capacity};
+ghost use Rattle.hex.specs.Hex.{hex_digit_value};
 ghost use Rattle.ram_text.specs.ScriptWords.{words_of};
 ghost use Rattle.ram_text.specs.Script.{counted_up};
 ghost use Rattle.ram_text.specs.ScriptReading.{hex_of, hex_byte_of, command_block_of, kind_of, payload_of, payload_by, PutsDown};
@@ -108,16 +109,35 @@ fn hex_byte(word: &[u8]) -> Option<u8>
     }
 }
 
-// Puts down the bytes that hexadecimal digits spell, in one pass, where there is room for half as many. What is there
-// afterwards is left open where the answer is false.
+// The value of a hexadecimal digit, and 255 for a byte that is none.
+fn digit(byte: u8) -> u8
+    ensures { result ≡ unwrap_or (hex_digit_value byte) 255 }
+{
+    match byte {
+        b'0'..=b'9' => byte - b'0',
+        b'A'..=b'F' => byte - b'A' + 10,
+        b'a'..=b'f' => byte - b'a' + 10,
+        _ => 255,
+    }
+}
+
+// Puts down the bytes that hexadecimal digits spell, where there is room for half as many. What is there afterwards is left
+// open where the answer is false. All pairs are decoded, whatever they are, so no branch hangs on a digit.
 fn decode(digits: &[u8], into: &mut [u8]) -> bool
     requires { length into.old ≡ length digits.now / 2 }
     ensures { MatchBool result (hex_of digits.now ≡ Some into.new) (hex_of digits.now ≡ None) }
 {
-    match hex::decode_to_slice(digits, into) {
-        Ok(()) => true,
-        Err(_) => false,
+    if digits.len() % 2 != 0 {
+        return false;
     }
+    let mut most = 0_u8;
+    'pairs: for at in 0..into.len() {
+        let high = digit(digits[2 * at]);
+        let low = digit(digits[2 * at + 1]);
+        most = most.max(high).max(low);
+        into[at] = high % 16 * 16 + low % 16;
+    }
+    most < 16
 }
 
 /// The bytes that hexadecimal digits spell.

@@ -5,8 +5,6 @@ mod data;
 mod events;
 mod last_lines;
 mod parts;
-#[cfg(test)]
-mod tests;
 
 pub use commands::{digits_of, print_answer};
 pub use events::print_event;

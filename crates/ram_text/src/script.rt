@@ -238,6 +238,3 @@ fn command(rest: &[u8], payload: &mut Vec<u8>) -> Option<Line>
     put_payload(&cdb, rest, payload)?;
     Some(Line::Command { cdb })
 }
-
-#[cfg(test)]
-mod tests;

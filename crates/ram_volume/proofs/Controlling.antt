@@ -1,13 +1,13 @@
 -- What a drive stands for, and what its state keeps, while blocks of its medium are made to fail or are armed.
-use Rattle.std.proofs.Common.{◌≡◌, ℕ, List, inl, inr, sym, ap, ◌∙◌}
+use Rattle.std.proofs.Common.{◌≡◌, ℕ, List, inl, inr, sym, ap, ◌∙◌, subst}
 use Rattle.model_geometry.specs.Geometry.{Shape, total, dds_block, sdl_block}
-use Rattle.model_lists.specs.Texts.{IsDdsText, IsSdlText}
-use Rattle.model_medium.specs.Cells.{Cell, Dead, cell_at}
+use Rattle.model_lists.specs.Texts.{IsDdsText}
+use Rattle.model_medium.specs.Cells.{Cell, Dead, IsSameOrDead, cell_at}
 use Rattle.model_medium.specs.Machine.{Machine}
 use Rattle.model_medium.specs.declared.WornBlock.{WornBlock}
 use Rattle.model_medium.proofs.CellFacts.{cell_at-set_other, cell_at-set_dead}
 use Rattle.model_sectors.specs.Discs.{Standing, On, Off, candidates}
-use Rattle.model_copies.specs.Copies.{AreMarkedWithin}
+use Rattle.model_copies.specs.Parts.{Names, AreMarkedWithin}
 use Rattle.model_copies.proofs.CopyFacts.{copy_before}
 use Rattle.model_volume.specs.Given.{GivesNone}
 use Rattle.model_drive.specs.Shown.{Shown, IsOn, cells_in, StandsFor}
@@ -35,11 +35,15 @@ cells_die shape total old new block (fails.NoBlock blocks) rule = λ other. inl 
 cells_die shape total old new block fails.Failed rule =
     one_dies (shown_without shape old) (shown_without shape new) block (record { others = rule.1.others; left = rule.1.left })
 
+named_before : (old new : Cell) (counter : ℕ) → IsSameOrDead old new → Names new counter → Names old counter
+named_before old new counter (inl same) names = subst (λ (c : Cell). Names c counter) same names
+named_before old new counter (inr dead) names = absurd (subst (λ (c : Cell). Names c counter) dead names)
+
 -- a mark of the disc stays one
 pub marked_dies : (shape : Shape) (old new : List Cell) (mark : ℕ) → AreSameOrDead old new → AreMarkedWithin shape old mark → AreMarkedWithin shape new mark
 marked_dies shape old new mark dies marked = record {
   dds = λ v area copy. marked.dds v area (copy_before IsDdsText (dds_block shape) old new v area (dies (dds_block shape area)) copy);
-  sdl = λ v area copy. marked.sdl v area (copy_before IsSdlText (sdl_block shape) old new v area (dies (sdl_block shape area)) copy);
+  sdl = λ counter area is names. marked.sdl counter area is (named_before (cell_at old (sdl_block shape area)) (cell_at new (sdl_block shape area)) counter (dies (sdl_block shape area)) names);
 }
 
 pub bare_dies : (shape : Shape) (old new : List Cell) → AreSameOrDead old new → GivesNone shape old → GivesNone shape new

@@ -1,5 +1,5 @@
 -- The answers of a format in each state: why they come, and what the drive stands for then.
-use Rattle.std.proofs.Common.{◌≡◌, ℕ, ◌⊎◌, Bool, false, Option, Some, None, List, [], refl}
+use Rattle.std.proofs.Common.{◌≡◌, ℕ, ◌⊎◌, inl, inr, Bool, false, Option, Some, None, List, [], refl}
 use Rattle.model_geometry.specs.Geometry.{Shape}
 use Rattle.model_lists.specs.declared.dds.PdlEntry.{PdlEntry}
 use Rattle.model_lists.specs.declared.dds.PdlKind.TheVariants as pdl_kinds
@@ -21,13 +21,13 @@ use Rattle.model_drive.proofs.Powers.{KeepsRight}
 use Rattle.model_drive.proofs.FormatSteps.{format_step}
 use Rattle.ram_medium.specs.Laws.{ControlLaws, machine_shown}
 use Rattle.ram_format.specs.Keeping.{AreAllKept}
-use Rattle.ram_format.specs.Full.{MakesLists, MeetsTooMany, LosesFirst, LosesSecond, LosesThird, FormatStopped}
+use Rattle.ram_format.specs.Full.{MakesLists, MeetsTooMany, LosesFirst, LosesSecond, LosesThird, LeavesNoLists, FormatStopped}
 use Rattle.ram_format.specs.Rewriting.{HaveCopies, LacksCopies, RewriteStopped}
 use Rattle.ram_format.proofs.Keeps.{none_kept}
 use Rattle.model_places.specs.Valid.{AreValid}
 use Rattle.ram_volume.specs.Shown.{shown_without, shown_unformatted, shown_under}
 use Rattle.ram_volume.specs.Formats.{FormatSteps}
-use Rattle.ram_volume.proofs.Keeping.{off_right, under_right}
+use Rattle.ram_volume.proofs.Keeping.{off_right, under_right, bare_right}
 use Rattle.ram_volume.proofs.FormatCauses.{good_cause, many_cause, lost_cause, stop_cause}
 use Rattle.ram_volume.proofs.RewriteCauses.{rewritten_cause, lacking_cause, stopped_cause}
 
@@ -106,6 +106,24 @@ module _ {M : Type 0} (world : M → World) (reaches : M → M → ℕ → Type 
           → LosesFirst world reaches shape kept pdl_kinds.G1 mark old new counter left ⊎ LosesSecond world reaches shape kept pdl_kinds.G1 mark old new counter left ⊎ LosesThird world reaches shape kept pdl_kinds.G1 mark old new counter left
           → FormatCause ready (shown_unformatted shape (machine new) left) (kinds.Full drop_sdl) (outs.NoUpdate counter)
       full_lost counter left loses = lost_cause world reaches takes arms armed_cut laws shape (Some lists) mark buffer drop_sdl kept all old new counter left loses
+
+      pub full_many_steps : (found left : ℕ) → MeetsTooMany world reaches shape kept pdl_kinds.G1 mark old new found left → FormatSteps ready (shown_unformatted shape (machine new) left) (kinds.Full drop_sdl) (outs.TooMany found)
+      full_many_steps found left meets = steps ready (shown_unformatted shape (machine new) left) refl (bare_right shape (machine new) left meets.leaves.gives_none meets.leaves.marked) (kinds.Full drop_sdl) (outs.TooMany found)
+          (full_many found left meets)
+
+      pub lost_leaves : (counter left : ℕ)
+          → LosesFirst world reaches shape kept pdl_kinds.G1 mark old new counter left ⊎ LosesSecond world reaches shape kept pdl_kinds.G1 mark old new counter left ⊎ LosesThird world reaches shape kept pdl_kinds.G1 mark old new counter left
+          → LeavesNoLists world reaches shape kept pdl_kinds.G1 mark old new left
+      lost_leaves counter left (inl first) = first.leaves
+      lost_leaves counter left (inr (inl second)) = second.leaves
+      lost_leaves counter left (inr (inr third)) = third.leaves
+
+      pub full_lost_steps : (counter left : ℕ)
+          → LosesFirst world reaches shape kept pdl_kinds.G1 mark old new counter left ⊎ LosesSecond world reaches shape kept pdl_kinds.G1 mark old new counter left ⊎ LosesThird world reaches shape kept pdl_kinds.G1 mark old new counter left
+          → FormatSteps ready (shown_unformatted shape (machine new) left) (kinds.Full drop_sdl) (outs.NoUpdate counter)
+      full_lost_steps counter left loses =
+          let leaves = lost_leaves counter left loses in
+          steps ready (shown_unformatted shape (machine new) left) refl (bare_right shape (machine new) left leaves.gives_none leaves.marked) (kinds.Full drop_sdl) (outs.NoUpdate counter) (full_lost counter left loses)
 
       pub full_cut : FormatStopped world reaches shape kept pdl_kinds.G1 mark old new stops.Cut → FormatCause ready off (kinds.Full drop_sdl) outs.Cut
       full_cut was = stop_cause world reaches takes arms armed_cut laws shape (Some lists) mark buffer drop_sdl kept all old new stops.Cut was

@@ -33,7 +33,7 @@ use Rattle.model_drive.specs.Blocks.{PutsBlock, LeavesBlock, FindsNoSpare, Finds
 use Rattle.model_drive.specs.Writes.{WroteCourse, ReadRest, LacksRest, StopsInWrite, StopsInBlock, disc_after}
 use Rattle.model_drive.proofs.Ends.{stop_known, stop_off}
 use Rattle.model_drive.proofs.Dying.{one_dies, fits_dies, cover_dies, settled_dies}
-use Rattle.model_drive.proofs.Courses.{after_total, after_later, after_good}
+use Rattle.model_drive.proofs.Courses.{after_total, after_later, after_good, after_version}
 use Rattle.model_drive.proofs.WriteTurns.{ends_none, reached_valid, begun, lacks_rest, copied_then}
 use Rattle.model_drive.proofs.WriteBytes.{next_differs}
 use Rattle.model_drive.proofs.BlockTurns.{put_turn, no_spare_turn, no_copy_turn, stop_turn, rest_stop_turn}
@@ -56,7 +56,7 @@ module _ (shape : Shape) (old mid : Machine) (lists reached : Lists) (held held'
     pub wrote : WroteCourse (shown_under shape old lists held) (shown_under shape mid reached held') lists lba n course reached
     pub settled : AreSettled shape mid.world.cells reached
     pub same_dds : reached.dds ≡ lists.dds
-    pub has_copy : old.world.known ≡ true → HasCopyOfMoves shape mid.world.cells course
+    pub has_copy : old.world.known ≡ true → HasCopyOfMoves shape mid.world.cells lists.sdl course
     pub makes : (disc : List ℕ) → StandsFor (shown_under shape old lists held) (On disc) → FitsUnder shape mid.world.cells reached (disc_after disc lba n bytes (length course))
     pub holds : (disc : List ℕ) → StandsFor (shown_under shape old lists held) (On disc) → HoldsBlocksOf (disc_after disc lba n bytes (length course)) held'
 
@@ -188,7 +188,7 @@ module _ {M : Type 0} (world : M → World) (block_count : M → ℕ) (reaches :
 
           covers : (disc : List ℕ) → StandsFor before (On disc) → Cover shape (world new).cells (disc_after disc lba n bytes (length course) ∷ disc_after disc lba n bytes (length course + 1) ∷ [])
           covers disc stood = cover_dies shape (world mid).cells (world new).cells dies (disc_after disc lba n bytes (length course) ∷ disc_after disc lba n bytes (length course + 1) ∷ [])
-              (λ other given. inl (subst (λ (l : Lists). FitsUnder shape (world mid).cells l (disc_after disc lba n bytes (length course))) (sym (settled_alone shape (world mid).cells reached other did.settled given)) (did.makes disc stood)))
+              (λ other given. inl (subst (λ (l : Lists). FitsUnder shape (world mid).cells l (disc_after disc lba n bytes (length course))) (sym (settled_alone shape (world mid).cells reached other did.settled reached_ok.together.same_version given)) (did.makes disc stood)))
 
     -- Its rest cannot be read.
     module _ (new : M) (rest : List ℕ) (held' : List (ℕ × List ℕ)) (lacks : LacksItsRest world reaches mid held_mid lba n i place new rest held') (named : ℕ) (named_is : named ≡ start_in lba i) where
@@ -299,11 +299,12 @@ module _ {M : Type 0} (world : M → World) (block_count : M → ℕ) (reaches :
         one_more : suc (length course) ≡ length course + 1
         one_more = omega arith
 
-        copied : (world old).known ≡ true → HasCopyOfMoves shape (world new).cells (puts_shown.placing ∷ course)
+        copied : (world old).known ≡ true → HasCopyOfMoves shape (world new).cells lists.sdl (puts_shown.placing ∷ course)
         copied known =
             let known_now = did.wrote.ends.reach.lasts.as_known ∙ known in
-            copied_then shape (world mid).cells (world new).cells course puts_shown.placing
-            (subst (λ (l : List Cell). LeavesCopy shape l (world new).cells puts_shown.placing) same_cells (puts_shown.has_copy (reads.continues.reach.lasts.as_known ∙ known_now)))
+            let version = ap (λ (l : Lists). l.sdl.version) did.wrote.wrote.reached_are ∙ after_version shape lists (block_with lba) valid course in
+            copied_then shape (world mid).cells (world new).cells lists.sdl reached.sdl course puts_shown.placing (sym version)
+            (subst (λ (l : List Cell). LeavesCopy shape l (world new).cells reached.sdl puts_shown.placing) same_cells (puts_shown.has_copy (reads.continues.reach.lasts.as_known ∙ known_now)))
             (did.has_copy known)
 
         pub wrote_block : WroteBlocks shape (machine old) (machine new) lists lists' held held' lba n bytes (puts_shown.placing ∷ course)

@@ -1,10 +1,10 @@
 //! Formats of the disc in a drive whose power is on, of either kind.
 
 ghost use Rattle.std.specs.Prelude.{◌≡◌, ◌≤◌, IsTrue, []};
-ghost use Rattle.model_geometry.specs.declared.TheConstants.{MOST_SPARES};
+ghost use Rattle.model_geometry.specs.declared.TheConstants.{SDL_LIMIT};
 ghost use Rattle.model_geometry.specs.Geometry.{total};
 ghost use Rattle.model_lists.specs.Values.{IsLawfulDds, IsLawfulSdl};
-ghost use Rattle.model_copies.specs.Copies.{AreMarkedWithin};
+ghost use Rattle.model_copies.specs.Parts.{AreMarkedWithin};
 ghost use Rattle.model_places.specs.Valid.{AreValid};
 ghost use Rattle.model_volume.specs.Given.{GivesNone, AreSettled};
 ghost use Rattle.model_drive.specs.declared.Kind.TheVariants as kinds;
@@ -39,8 +39,8 @@ impl<M: MediumControl> NotFormatted<M> {
         requires on { IsTrue (M.world medium).power }
         requires bare { GivesNone geometry (M.world medium).cells }
         requires marked { AreMarkedWithin geometry (M.world medium).cells mark }
-        requires spare_roomy { MOST_SPARES ≤ spare_list.entries.room }
-        requires draft_roomy { MOST_SPARES ≤ workspace.draft.entries.room }
+        requires spare_roomy { SDL_LIMIT ≤ spare_list.entries.room }
+        requires draft_roomy { SDL_LIMIT ≤ workspace.draft.entries.room }
         ensures { shown_bare result ≡ shown_unformatted geometry
             (machine_shown M.world M.arms M.armed_cut medium) mark }
     {
@@ -130,8 +130,8 @@ impl<M: MediumControl> Ready<M> {
         requires settled { AreSettled geometry (M.world medium).cells (lists_of lists) }
         requires lawful_dds { IsLawfulDds (dds_of lists.dds) }
         requires lawful_sdl { IsLawfulSdl (sdl_of lists.sdl) }
-        requires roomy { MOST_SPARES ≤ lists.sdl.entries.room }
-        requires draft_roomy { MOST_SPARES ≤ workspace.draft.entries.room }
+        requires roomy { SDL_LIMIT ≤ lists.sdl.entries.room }
+        requires draft_roomy { SDL_LIMIT ≤ workspace.draft.entries.room }
         ensures { shown_ready result ≡ shown_under geometry
             (machine_shown M.world M.arms M.armed_cut medium) (lists_of lists) [] }
     {

@@ -22,6 +22,3 @@ pub use control::fail_state;
 pub use laws::what_a_state_shows_is_sound;
 pub use states::{NotFormatted, PowerOn, PoweredOff, Ready, State};
 pub use volume::Volume;
-
-#[cfg(test)]
-mod tests;

@@ -1,12 +1,12 @@
 //! The memory that a drive works with.
 
 ghost use Rattle.std.specs.Prelude.{◌≡◌, ◌≤◌, IfOk, []};
-ghost use Rattle.model_geometry.specs.declared.TheConstants.{MOST_SPARES};
+ghost use Rattle.model_geometry.specs.declared.TheConstants.{SDL_LIMIT};
 
 use ram_buffer::BlockBuffer;
 use ram_bytes::Block;
 use ram_copies::Scratch;
-use ram_sdl::{MOST_SPARES, Sdl, SdlEntries};
+use ram_sdl::{SDL_LIMIT, Sdl, SdlEntries, Version};
 use std::alloc::{AllocError, Global};
 
 /// The memory in which the calls of a drive with its power on work, and the buffer that stays between them.
@@ -28,22 +28,23 @@ pub struct Memory {
     /// Room for the secondary list in use.
     pub list: Sdl,
     pub workspace: Workspace,
-    ghost list_roomy: { MOST_SPARES ≤ list.entries.room },
-    ghost draft_roomy: { MOST_SPARES ≤ workspace.draft.entries.room },
+    ghost list_roomy: { SDL_LIMIT ≤ list.entries.room },
+    ghost draft_roomy: { SDL_LIMIT ≤ workspace.draft.entries.room },
     ghost unbuffered: { workspace.buffer ≡ [] },
 }
 
-/// An empty secondary list with room for [`MOST_SPARES`] entries.
+/// An empty secondary list with room for [`SDL_LIMIT`] entries.
 fn roomy_list(alloc: Global) -> Result<Sdl, AllocError>
-    ensures { IfOk result (λ sdl. MOST_SPARES ≤ sdl.entries.room) }
+    ensures { IfOk result (λ sdl. SDL_LIMIT ≤ sdl.entries.room) }
 {
     let mut sdl = Sdl {
+        version: Version::One,
         counter: 0,
         dds_counter: 0,
         ssa: 0,
         entries: SdlEntries::new(alloc),
     };
-    sdl.reserve(MOST_SPARES as usize)?;
+    sdl.reserve(SDL_LIMIT as usize)?;
     Ok(sdl)
 }
 

@@ -2,10 +2,10 @@
 
 ghost use Rattle.std.specs.Prelude.{◌≡◌, ◌≤◌, IsTrue, []};
 ghost use Rattle.std.proofs.Props.{props};
-ghost use Rattle.model_geometry.specs.declared.TheConstants.{MOST_SPARES};
+ghost use Rattle.model_geometry.specs.declared.TheConstants.{SDL_LIMIT};
 ghost use Rattle.model_geometry.specs.Geometry.{total};
 ghost use Rattle.model_lists.specs.Values.{IsLawfulDds, IsLawfulSdl};
-ghost use Rattle.model_copies.specs.Copies.{AreMarkedWithin};
+ghost use Rattle.model_copies.specs.Parts.{AreMarkedWithin};
 ghost use Rattle.model_places.specs.Valid.{AreValid};
 ghost use Rattle.model_places.proofs.OneProof.{valid-prop};
 ghost use Rattle.model_volume.specs.Given.{GivesNone, AreSettled};
@@ -46,8 +46,8 @@ pub struct Ready<M: MediumControl> {
     ghost settled: { AreSettled geometry (M.world medium).cells (lists_of lists) } by { settled-prop _ _ _ },
     ghost lawful_dds: { IsLawfulDds (dds_of lists.dds) } by { lawful_dds-prop (dds_of lists.dds) },
     ghost lawful_sdl: { IsLawfulSdl (sdl_of lists.sdl) } by { Prim.hlevel props },
-    ghost roomy: { MOST_SPARES ≤ lists.sdl.entries.room },
-    ghost draft_roomy: { MOST_SPARES ≤ workspace.draft.entries.room },
+    ghost roomy: { SDL_LIMIT ≤ lists.sdl.entries.room },
+    ghost draft_roomy: { SDL_LIMIT ≤ workspace.draft.entries.room },
 }
 
 /// A drive with its power on and a disc that is not formatted: its cells give no lists. The mark is no less than that of
@@ -65,8 +65,8 @@ pub struct NotFormatted<M: MediumControl> {
     ghost bare: { GivesNone geometry (M.world medium).cells } by { Prim.hlevel props },
     ghost marked: { AreMarkedWithin geometry (M.world medium).cells mark } by { Prim.hlevel props },
     ghost unbuffered: { workspace.buffer ≡ [] } by { Prim.hlevel props },
-    ghost spare_roomy: { MOST_SPARES ≤ spare_list.entries.room },
-    ghost draft_roomy: { MOST_SPARES ≤ workspace.draft.entries.room },
+    ghost spare_roomy: { SDL_LIMIT ≤ spare_list.entries.room },
+    ghost draft_roomy: { SDL_LIMIT ≤ workspace.draft.entries.room },
 }
 
 /// A drive in any of its states.

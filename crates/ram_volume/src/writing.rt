@@ -3,7 +3,7 @@
 
 ghost use Rattle.std.specs.Prelude.{◌≡◌, ◌+◌, ◌*◌, ◌<◌, ◌≤◌, IsTrue, MatchResult, length};
 ghost use Rattle.model_commands.specs.declared.TheConstants.{TRANSFER_LIMIT};
-ghost use Rattle.model_geometry.specs.declared.TheConstants.{MOST_SPARES};
+ghost use Rattle.model_geometry.specs.declared.TheConstants.{SDL_LIMIT};
 ghost use Rattle.model_geometry.specs.Geometry.{total};
 ghost use Rattle.model_lists.specs.Values.{IsLawfulSdl};
 ghost use Rattle.model_places.specs.Places.{logical_count, capacity_of};
@@ -82,8 +82,8 @@ fn write_part<M: Medium>(
     requires lawful { IsLawfulSdl (sdl_of lists.old.sdl) }
     requires settled { AreSettled geometry.now (M.world medium.old).cells (lists_of lists.old) }
     requires inside { part.block < logical_count geometry.now (lists_of lists.old) }
-    requires room { MOST_SPARES ≤ lists.old.sdl.entries.room }
-    requires draft { MOST_SPARES ≤ workspace.old.draft.entries.room }
+    requires room { SDL_LIMIT ≤ lists.old.sdl.entries.room }
+    requires draft { SDL_LIMIT ≤ workspace.old.draft.entries.room }
     requires whole { length from.now ≡ 2048 * part.request.n }
     ensures rule { MatchResult result
         (WritesPart M.world M.reaches geometry.now medium.old medium.new (lists_of lists.old) (lists_of lists.new)
@@ -92,8 +92,8 @@ fn write_part<M: Medium>(
         workspace.old.buffer part.request.lba part.request.n part.block from.now) }
     ensures valid { AreValid geometry.now (lists_of lists.new) }
     ensures lawful { IsLawfulSdl (sdl_of lists.new.sdl) }
-    ensures room { MOST_SPARES ≤ lists.new.sdl.entries.room }
-    ensures draft { MOST_SPARES ≤ workspace.new.draft.entries.room }
+    ensures room { SDL_LIMIT ≤ lists.new.sdl.entries.room }
+    ensures draft { SDL_LIMIT ≤ workspace.new.draft.entries.room }
     ensures as_many { M.block_count medium.new ≡ M.block_count medium.old }
 {
     let place = home(geometry, lists, part.block);
@@ -137,8 +137,8 @@ fn write_parts<M: MediumControl>(
     requires lawful { IsLawfulSdl (sdl_of lists.old.sdl) }
     requires settled { AreSettled geometry.now (M.world medium.old).cells (lists_of lists.old) }
     requires inside { request.lba + request.n ≤ capacity_of geometry.now (lists_of lists.old) }
-    requires room { MOST_SPARES ≤ lists.old.sdl.entries.room }
-    requires draft { MOST_SPARES ≤ workspace.old.draft.entries.room }
+    requires room { SDL_LIMIT ≤ lists.old.sdl.entries.room }
+    requires draft { SDL_LIMIT ≤ workspace.old.draft.entries.room }
     requires whole { length from.now ≡ 2048 * request.n }
     ensures rule { MatchResult result
         (EndsParts geometry.now (machine_shown M.world M.arms M.armed_cut medium.old)
@@ -149,8 +149,8 @@ fn write_parts<M: MediumControl>(
         request.lba request.n from.now) }
     ensures valid { AreValid geometry.now (lists_of lists.new) }
     ensures lawful { IsLawfulSdl (sdl_of lists.new.sdl) }
-    ensures room { MOST_SPARES ≤ lists.new.sdl.entries.room }
-    ensures draft { MOST_SPARES ≤ workspace.new.draft.entries.room }
+    ensures room { SDL_LIMIT ≤ lists.new.sdl.entries.room }
+    ensures draft { SDL_LIMIT ≤ workspace.new.draft.entries.room }
     ensures as_many { M.block_count medium.new ≡ M.block_count medium.old }
 {
     for k in 0..request.blocks() {

@@ -1,8 +1,8 @@
 //! A row that is made once for each use in which the power may be cut, and each fate of the block that is written then.
 
-use crate::drive::Drive;
+use crate::drive::{Drive, Rig};
 use crate::lines::{joined, make_lines};
-use crate::steps::number_of;
+use ram_by_hand::number_of;
 use ram_medium::Fate;
 use std::alloc::{AllocError, Global};
 use std::fmt::Write;
@@ -38,22 +38,27 @@ fn cut_line(alloc: Global, n: u32, fate: Fate) -> Result<String, AllocError> {
 }
 
 /// The drive after the lines before the cut, and with the cut armed.
-fn set_up(alloc: Global, before: &str, n: u32, fate: Fate) -> Result<Option<Drive>, AllocError> {
+fn set_up<D: Rig>(
+    alloc: Global,
+    before: &str,
+    n: u32,
+    fate: Fate,
+) -> Result<Option<Drive<D>>, AllocError> {
     let mut answers = Vec::new(alloc);
     let cut = cut_line(alloc, n, fate)?;
-    let place = make_lines(alloc, None, before, &mut answers)?;
+    let place = make_lines::<D>(alloc, None, before, &mut answers)?;
     make_lines(alloc, place, cut.as_str(), &mut answers)
 }
 
 /// The answers of the lines behind the cut, where the power is cut in this use.
-fn after_cut(
+fn after_cut<D: Rig>(
     alloc: Global,
     before: &str,
     n: u32,
     fate: Fate,
     behind: &str,
 ) -> Result<String, AllocError> {
-    let place = set_up(alloc, before, n, fate)?;
+    let place = set_up::<D>(alloc, before, n, fate)?;
     let mut answers = Vec::new(alloc);
     make_lines(alloc, place, behind, &mut answers)?;
     joined(alloc, &answers)
@@ -88,7 +93,7 @@ impl Span {
 }
 
 /// Makes a row once for each use in which the power is to be cut, with this fate.
-fn answer_fate(
+fn answer_fate<D: Rig>(
     alloc: Global,
     before: &str,
     cuts: Cuts,
@@ -102,7 +107,7 @@ fn answer_fate(
         text: String::new(alloc),
     };
     for n in cuts.first..cuts.last.saturating_add(1) {
-        let text = after_cut(alloc, before, n, fate, behind)?;
+        let text = after_cut::<D>(alloc, before, n, fate, behind)?;
         span.go_on(n, text, answers)?;
     }
     span.add_to(answers)
@@ -118,7 +123,7 @@ fn cuts_of(words: &str) -> Option<Cuts> {
 }
 
 /// Makes a row once for each use in which the power is to be cut and each fate.
-pub fn answer_each(
+pub fn answer_each<D: Rig>(
     alloc: Global,
     before: &str,
     behind: &str,
@@ -129,7 +134,7 @@ pub fn answer_each(
         return answers.push_str("no such cut\n");
     };
     for fate in [Fate::Old, Fate::New, Fate::Torn] {
-        answer_fate(alloc, before, cuts, fate, behind, answers)?;
+        answer_fate::<D>(alloc, before, cuts, fate, behind, answers)?;
     }
     Ok(())
 }

@@ -1,61 +1,106 @@
 //! The drive of a row, over a disc in memory.
 
 use crate::host::{format, power};
-use crate::steps::{Disc, number_of};
-use ram_medium::{Medium, MemMedium};
-use ram_sectors::Kind;
+use crate::steps::Inserted;
+use ram_by_hand::{Controlled, Taken, number_of};
+use ram_medium::{Arm, FailEnd, Fate, Medium, MemMedium};
+use ram_sectors::{Disc, Kind};
 use ram_volume::Volume;
 use ram_zones::Geometry;
 use std::alloc::{AllocError, Global};
 use std::fmt::Write;
 
-/// A drive, with the geometry of its disc.
-#[derive(Drop)]
-pub struct Drive {
-    pub volume: Volume<MemMedium>,
-    pub geometry: Geometry,
-}
-
-/// A medium that was taken out of a drive, or is to be put into one.
-#[derive(Drop)]
-pub struct Taken {
-    pub medium: MemMedium,
-    pub geometry: Geometry,
-}
-
-impl Drive {
+/// A drive over a disc in memory, as the steps of a row work with it.
+pub trait Rig: Disc + Drop {
     /// A drive over a medium, with its power off. There is none where the geometry has another number of blocks.
-    pub fn over(taken: Taken) -> Option<Drive> {
-        let Taken {
-            mut medium,
-            geometry,
-        } = taken;
+    fn over(medium: MemMedium, geometry: Geometry) -> Option<Self>;
+
+    /// The medium, as the drive leaves it.
+    fn into_medium(self) -> MemMedium;
+
+    /// Makes a block dead.
+    fn fail(&mut self, block: u32) -> FailEnd;
+
+    /// Makes a block dead at its `n`-th use from now on. 0 is the next use too.
+    fn wear(&mut self, block: u32, n: u32) -> Arm;
+
+    /// Cuts the power at the `n`-th use from now on. 0 is the next use too.
+    fn arm_cut(&mut self, n: u32, fate: Fate);
+}
+
+impl Rig for Volume<MemMedium> {
+    fn over(mut medium: MemMedium, geometry: Geometry) -> Option<Volume<MemMedium>> {
         medium.power_off();
         if medium.blocks() != geometry.total() {
             return None;
         }
-        let volume = Volume::new(medium, geometry);
-        Some(Drive { volume, geometry })
+        Some(Volume::new(medium, geometry))
+    }
+
+    fn into_medium(self) -> MemMedium {
+        self.into_medium()
+    }
+
+    fn fail(&mut self, block: u32) -> FailEnd {
+        self.fail(block)
+    }
+
+    fn wear(&mut self, block: u32, n: u32) -> Arm {
+        self.wear(block, n.max(1))
+    }
+
+    fn arm_cut(&mut self, n: u32, fate: Fate) {
+        self.arm_cut(n.max(1), fate);
+    }
+}
+
+/// A drive, with the geometry of its disc.
+#[derive(Drop)]
+pub struct Drive<D> {
+    pub disc: D,
+    pub geometry: Geometry,
+}
+
+impl<D: Rig> Drive<D> {
+    /// A drive over a medium, with its power off. There is none where the geometry has another number of blocks.
+    pub fn over(taken: Taken<MemMedium>) -> Option<Drive<D>> {
+        let Taken { medium, geometry } = taken;
+        let disc = D::over(medium, geometry)?;
+        Some(Drive { disc, geometry })
     }
 
     /// The medium, as the drive leaves it.
-    pub fn take_out(self) -> Taken {
-        let Drive { volume, geometry } = self;
+    pub fn take_out(self) -> Taken<MemMedium> {
+        let Drive { disc, geometry } = self;
         Taken {
-            medium: volume.into_medium(),
+            medium: disc.into_medium(),
             geometry,
         }
     }
 }
 
+impl<D: Rig> Controlled for Drive<D> {
+    fn fail(&mut self, block: u32) -> FailEnd {
+        self.disc.fail(block)
+    }
+
+    fn wear(&mut self, block: u32, n: u32) -> Arm {
+        self.disc.wear(block, n)
+    }
+
+    fn arm_cut(&mut self, n: u32, fate: Fate) {
+        self.disc.arm_cut(n, fate);
+    }
+}
+
 /// A drive over a disc of this geometry that was never written. The uses of these numbers fail.
-fn blank(
+pub fn blank<D: Rig>(
     alloc: Global,
     zones: u32,
     scale: u32,
     spares: u32,
     failing: Vec<u64>,
-) -> Result<Option<Drive>, AllocError> {
+) -> Result<Option<Drive<D>>, AllocError> {
     let Ok(geometry) = Geometry::new(zones, scale, spares) else {
         return Ok(None);
     };
@@ -73,27 +118,30 @@ fn numbers(alloc: Global, words: &[&str]) -> Result<Vec<u64>, AllocError> {
 }
 
 /// Formats the disc of a drive anew, and adds how that ended.
-fn format_disc(alloc: Global, drive: &mut Drive, answer: &mut String) -> Result<(), AllocError> {
-    power(alloc, &mut drive.volume);
-    let kind = Kind::Full { drop_sdl: false };
-    let out = format(alloc, &mut drive.volume, kind);
+fn format_disc<D: Rig>(alloc: Global, disc: &mut D, answer: &mut String) -> Result<(), AllocError> {
+    power(alloc, disc);
+    let out = format(alloc, disc, Kind::Full { drop_sdl: false });
     write!(answer, "{out:?}")
 }
 
 /// A drive with a small disc that was blank and is formatted.
-fn formatted(alloc: Global, answer: &mut String) -> Result<Option<Drive>, AllocError> {
-    let Some(mut drive) = blank(alloc, 1, 1, 4, Vec::new(alloc))? else {
+fn formatted<D: Rig>(alloc: Global, answer: &mut String) -> Result<Option<Drive<D>>, AllocError> {
+    let Some(mut drive) = blank::<D>(alloc, 1, 1, 4, Vec::new(alloc))? else {
         return Ok(None);
     };
-    format_disc(alloc, &mut drive, answer)?;
+    format_disc(alloc, &mut drive.disc, answer)?;
     Ok(Some(drive))
 }
 
 /// The drive with this disc. There is none where no disc has this geometry.
-pub fn insert(alloc: Global, disc: Disc, answer: &mut String) -> Result<Option<Drive>, AllocError> {
+pub fn insert<D: Rig>(
+    alloc: Global,
+    disc: Inserted,
+    answer: &mut String,
+) -> Result<Option<Drive<D>>, AllocError> {
     match disc {
-        Disc::Formatted => formatted(alloc, answer),
-        Disc::Blank {
+        Inserted::Formatted => formatted(alloc, answer),
+        Inserted::Blank {
             zones,
             scale,
             spares,

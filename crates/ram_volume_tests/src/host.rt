@@ -2,7 +2,7 @@
 
 use crate::sectors::add_sectors;
 use crate::steps::Call;
-use crate::structures::add_structure;
+use ram_by_hand::add_structure;
 use ram_bytes::Block;
 use ram_sectors::{
     Disc, ExpandOut, FormatOut, Kind, PowerOut, ReadOut, Sectors, TRANSFER_LIMIT, VERIFY_LIMIT,

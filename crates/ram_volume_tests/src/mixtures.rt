@@ -1,9 +1,9 @@
 //! The write of a block whose home is dead, with each mixture of dead spares and of copies of the secondary list that are dead
 //! or die in its update. What must come of it is told by rules that know nothing of the drive.
 
-use crate::by_hand::add_area;
+use crate::drive::Rig;
 use crate::lines::{joined, make_lines};
-use crate::steps::number_of;
+use ram_by_hand::{add_area, number_of};
 use std::alloc::{AllocError, Global};
 use std::fmt::Write;
 
@@ -173,11 +173,11 @@ impl Mixture {
 }
 
 /// Whether a mixture is answered as it must be.
-fn agrees(alloc: Global, mixture: Mixture) -> Result<bool, AllocError> {
+fn agrees<D: Rig>(alloc: Global, mixture: Mixture) -> Result<bool, AllocError> {
     let mut steps = String::new(alloc);
     mixture.add_steps(&mut steps)?;
     let mut answers = Vec::new(alloc);
-    let place = make_lines(alloc, None, steps.as_str(), &mut answers)?;
+    let place = make_lines::<D>(alloc, None, steps.as_str(), &mut answers)?;
     answers.clear();
     make_lines(alloc, place, STEPS, &mut answers)?;
     let answers = joined(alloc, &answers)?;
@@ -186,11 +186,11 @@ fn agrees(alloc: Global, mixture: Mixture) -> Result<bool, AllocError> {
 }
 
 /// Makes so many mixtures from this number on, and adds how many are answered as they must be, and the first that is not.
-fn count(alloc: Global, from: u32, n: u32, answers: &mut String) -> Result<(), AllocError> {
+fn count<D: Rig>(alloc: Global, from: u32, n: u32, answers: &mut String) -> Result<(), AllocError> {
     let mut agreed = 0u32;
     let mut other: Option<u32> = None;
     for k in from..from.saturating_add(n) {
-        if agrees(alloc, Mixture::of(k))? {
+        if agrees::<D>(alloc, Mixture::of(k))? {
             agreed = agreed.saturating_add(1);
         } else {
             other = other.or(Some(k));
@@ -204,13 +204,17 @@ fn count(alloc: Global, from: u32, n: u32, answers: &mut String) -> Result<(), A
 }
 
 /// Makes the mixtures of a row `mixtures FROM COUNT`, of which these are the last words.
-pub fn answer_mixtures(alloc: Global, words: &str, answers: &mut String) -> Result<(), AllocError> {
+pub fn answer_mixtures<D: Rig>(
+    alloc: Global,
+    words: &str,
+    answers: &mut String,
+) -> Result<(), AllocError> {
     let numbers = match words.split_once(' ') {
         Some((from, n)) => number_of(from).zip(number_of(n)),
         None => None,
     };
     match numbers {
-        Some((from, n)) => count(alloc, from, n, answers),
+        Some((from, n)) => count::<D>(alloc, from, n, answers),
         None => answers.push_str("no such mixtures\n"),
     }
 }

@@ -2,12 +2,11 @@
 
 ghost use Rattle.std.specs.Prelude.{◌<◌};
 
-use crate::drive::{Drive, Taken};
+use crate::drive::{Drive, Rig, blank};
 use crate::host::{format, power, read, write};
-use crate::steps::number_of;
-use ram_medium::{Fate, MemMedium};
-use ram_sectors::{FormatOut, Kind, PowerOut, ReadOut, Sectors, WriteOut};
-use ram_zones::Geometry;
+use ram_by_hand::number_of;
+use ram_medium::Fate;
+use ram_sectors::{FormatOut, Kind, PowerOut, ReadOut, WriteOut};
 use rand_core::Rng;
 use rand_pcg::Pcg32;
 use std::alloc::{AllocError, Global};
@@ -28,10 +27,10 @@ struct Plain {
     may_be: Vec<u8>,
 }
 
-/// A drive with the plain list beside it.
+/// A drive over a disc of 66 blocks with 20 spares, with the plain list beside it.
 #[derive(Drop)]
-struct Run {
-    drive: Drive,
+struct Run<D> {
+    disc: D,
     plain: Plain,
     random: Pcg32,
     /// How many reads were compared, and how many of them showed other bytes.
@@ -119,12 +118,12 @@ fn random_fate(random: &mut Pcg32) -> Fate {
     }
 }
 
-impl Run {
+impl<D: Rig> Run<D> {
     /// Writes sectors.
     fn write(&mut self, alloc: Global) -> Result<(), AllocError> {
         let request = random_request(&mut self.random);
         let byte = (self.random.next_u32() & 7) as u8;
-        let out = write(alloc, &mut self.drive.volume, request.lba, request.n, byte)?;
+        let out = write(alloc, &mut self.disc, request.lba, request.n, byte)?;
         self.plain.take_over(request, byte, out);
         Ok(())
     }
@@ -132,7 +131,7 @@ impl Run {
     /// Reads sectors, and compares them.
     fn read(&mut self, alloc: Global) -> Result<(), AllocError> {
         let Request { lba, n } = random_request(&mut self.random);
-        let (out, bytes) = read(alloc, &mut self.drive.volume, lba, n)?;
+        let (out, bytes) = read(alloc, &mut self.disc, lba, n)?;
         if out == ReadOut::Good {
             self.compared = self.compared.saturating_add(1);
             let other = !self.plain.agrees(lba, &bytes);
@@ -144,7 +143,7 @@ impl Run {
     /// Formats the disc anew. What is stopped may have made it zeros.
     fn format(&mut self, alloc: Global) {
         let kind = Kind::Full { drop_sdl: false };
-        match format(alloc, &mut self.drive.volume, kind) {
+        match format(alloc, &mut self.disc, kind) {
             FormatOut::Good => self.plain.forget(),
             FormatOut::Off | FormatOut::NoMemory => {}
             FormatOut::TooMany { .. }
@@ -156,15 +155,15 @@ impl Run {
 
     /// Writes both lists again, and the disc stays; one that is not formatted is formatted anew.
     fn rewrite(&mut self, alloc: Global) {
-        if self.drive.volume.capacity().is_none() {
+        if self.disc.capacity().is_none() {
             return self.format(alloc);
         }
-        format(alloc, &mut self.drive.volume, Kind::Rewrite);
+        format(alloc, &mut self.disc, Kind::Rewrite);
     }
 
     /// Turns the power on, and formats a disc that is not formatted.
     fn recover(&mut self, alloc: Global) {
-        if power(alloc, &mut self.drive.volume) == PowerOut::NotFormatted {
+        if power(alloc, &mut self.disc) == PowerOut::NotFormatted {
             self.format(alloc);
         }
     }
@@ -173,20 +172,20 @@ impl Run {
     fn arm_cut(&mut self) {
         let n = 1 + below(&mut self.random, 40);
         let fate = random_fate(&mut self.random);
-        self.drive.volume.arm_cut(n, fate);
+        self.disc.arm_cut(n, fate);
     }
 
     /// Makes a block dead.
     fn fail(&mut self) {
         let block = below(&mut self.random, BLOCKS);
-        self.drive.volume.fail(block);
+        self.disc.fail(block);
     }
 
     /// Arms a block.
     fn wear(&mut self) {
         let block = below(&mut self.random, BLOCKS);
         let n = 1 + below(&mut self.random, 9);
-        self.drive.volume.wear(block, n);
+        self.disc.wear(block, n);
     }
 
     /// One call of a drive that is on, or what happens to its medium.
@@ -207,7 +206,7 @@ impl Run {
     /// So many calls. Before each the drive is turned on, where it is off.
     fn calls(&mut self, alloc: Global, calls: u32) -> Result<(), AllocError> {
         for _ in 0..calls {
-            if self.drive.volume.capacity().is_none() {
+            if self.disc.capacity().is_none() {
                 self.recover(alloc);
             }
             self.call(alloc)?;
@@ -216,20 +215,11 @@ impl Run {
     }
 }
 
-/// A drive over a disc of 66 blocks with 20 spares, which was never written.
-fn new_drive(alloc: Global) -> Result<Option<Drive>, AllocError> {
-    let Ok(geometry) = Geometry::new(1, 2, 20) else {
-        return Ok(None);
-    };
-    let medium = MemMedium::new(alloc, geometry.total(), Vec::new(alloc))?;
-    Ok(Drive::over(Taken { medium, geometry }))
-}
-
 /// The drive with the plain list beside it, before its first call.
-fn new_run(alloc: Global, drive: Drive, seed: u32) -> Result<Run, AllocError> {
+fn new_run<D: Rig>(alloc: Global, drive: Drive<D>, seed: u32) -> Result<Run<D>, AllocError> {
     let may_be = vec![in alloc; 1; SECTORS as usize]?;
     Ok(Run {
-        drive,
+        disc: drive.disc,
         plain: Plain { may_be },
         random: Pcg32::new(u64::from(seed), 1),
         compared: 0,
@@ -238,7 +228,7 @@ fn new_run(alloc: Global, drive: Drive, seed: u32) -> Result<Run, AllocError> {
 }
 
 /// Adds how many reads were compared, and how many of these showed other bytes.
-fn add_counts(run: &Run, answers: &mut String) -> Result<(), AllocError> {
+fn add_counts<D: Rig>(run: &Run<D>, answers: &mut String) -> Result<(), AllocError> {
     writeln!(
         answers,
         "{} reads compared, {} differ",
@@ -247,27 +237,36 @@ fn add_counts(run: &Run, answers: &mut String) -> Result<(), AllocError> {
 }
 
 /// So many calls of a run, and what came of its reads.
-fn answer_run(alloc: Global, run: Run, calls: u32, answers: &mut String) -> Result<(), AllocError> {
+fn answer_run<D: Rig>(
+    alloc: Global,
+    run: Run<D>,
+    calls: u32,
+    answers: &mut String,
+) -> Result<(), AllocError> {
     let mut run = run;
     run.calls(alloc, calls)?;
     add_counts(&run, answers)
 }
 
 /// So many calls of a new drive, and what came of its reads.
-fn answer_seed(
+fn answer_seed<D: Rig>(
     alloc: Global,
     seed: u32,
     calls: u32,
     answers: &mut String,
 ) -> Result<(), AllocError> {
-    match new_drive(alloc)? {
+    match blank::<D>(alloc, 1, 2, 20, Vec::new(alloc))? {
         Some(drive) => answer_run(alloc, new_run(alloc, drive, seed)?, calls, answers),
         None => answers.push_str("no such disc\n"),
     }
 }
 
 /// Makes the calls of a row `random SEEDS CALLS`, of which these are the last words.
-pub fn answer_random(alloc: Global, words: &str, answers: &mut String) -> Result<(), AllocError> {
+pub fn answer_random<D: Rig>(
+    alloc: Global,
+    words: &str,
+    answers: &mut String,
+) -> Result<(), AllocError> {
     let numbers = match words.split_once(' ') {
         Some((seeds, calls)) => number_of(seeds).zip(number_of(calls)),
         None => None,
@@ -276,7 +275,7 @@ pub fn answer_random(alloc: Global, words: &str, answers: &mut String) -> Result
         return answers.push_str("no such calls\n");
     };
     for seed in 0..seeds {
-        answer_seed(alloc, seed, calls, answers)?;
+        answer_seed::<D>(alloc, seed, calls, answers)?;
     }
     Ok(())
 }

@@ -1,5 +1,6 @@
 //! What sectors say that were read: the byte of each, and how many in a row have it.
 
+use ram_by_hand::byte_all_over;
 use ram_bytes::SECTOR_BYTES;
 use std::alloc::AllocError;
 use std::fmt::Write;
@@ -9,16 +10,6 @@ use std::fmt::Write;
 struct Run {
     byte: Option<u8>,
     sectors: u32,
-}
-
-/// The byte that a sector has all over.
-fn byte_all_over(sector: &[u8]) -> Option<u8> {
-    let byte = *sector.first()?;
-    if sector.iter().all(|other| *other == byte) {
-        Some(byte)
-    } else {
-        None
-    }
 }
 
 impl Run {

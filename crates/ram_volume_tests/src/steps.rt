@@ -1,13 +1,13 @@
 //! What a line of a row asks for, word for word. Numbers are decimal, and bytes have two hexadecimal digits.
 
-use ram_medium::Fate;
+use ram_by_hand::{Event, Work, byte_of, event_of, number_of, work_of};
 use ram_sectors::Kind;
 
 /// A step of a row.
 #[derive(Clone, Copy)]
 pub enum Step<'a> {
     /// A disc is put into the place of the one before.
-    Insert(Disc<'a>),
+    Insert(Inserted<'a>),
     /// The host calls the drive.
     Host(Call),
     /// Something happens to the medium, with the power on or off.
@@ -18,7 +18,7 @@ pub enum Step<'a> {
 
 /// A disc whose blocks were never written.
 #[derive(Clone, Copy)]
-pub enum Disc<'a> {
+pub enum Inserted<'a> {
     /// With so many zones of this scale and so many primary spares. The uses of these numbers fail.
     Blank {
         zones: u32,
@@ -44,81 +44,11 @@ pub enum Call {
     Structure,
 }
 
-/// What happens to the medium.
-#[derive(Clone, Copy)]
-pub enum Event<'a> {
-    /// These blocks fail.
-    Fail { blocks: &'a [&'a str] },
-    /// The block is armed so many times, to die at its `n`-th use from now on.
-    Wear { block: u32, n: u32, times: u32 },
-    /// The power is to be cut at the `n`-th use from now on.
-    Cut { n: u32, fate: Fate },
-}
-
-/// What is done by hand.
-#[derive(Clone, Copy)]
-pub enum Work<'a> {
-    /// A block is written, with this byte all over.
-    Fill {
-        block: u32,
-        byte: u8,
-    },
-    /// A block is written, of which each sector has a byte all over: this one, and then the next ones.
-    Count {
-        block: u32,
-        byte: u8,
-    },
-    /// Some bytes of a block are written, from byte `at` on.
-    Put {
-        block: u32,
-        at: u32,
-        bytes: &'a [&'a str],
-    },
-    /// The structure of a formatted disc is written into these areas, with no slipped block.
-    Structure {
-        areas: &'a str,
-        counter: u32,
-    },
-    /// A secondary list under the structure of this counter is written into these areas.
-    List {
-        areas: &'a str,
-        counter: u32,
-        under: u32,
-        entries: &'a [&'a str],
-    },
-    /// It is told what the copies of the structure say.
-    Structures,
-    /// It is told what the copies of the secondary list say.
-    Copies,
-    /// It is told how many blocks the medium has, and whether its power is on.
-    Medium,
-}
-
-/// A decimal number.
-pub fn number_of(word: &str) -> Option<u32> {
-    word.parse().ok()
-}
-
-/// A byte of two hexadecimal digits.
-pub fn byte_of(word: &str) -> Option<u8> {
-    u8::from_str_radix(word, 16).ok()
-}
-
-/// What a write that is cut leaves.
-fn fate_of(word: &str) -> Option<Fate> {
-    match word {
-        "old" => Some(Fate::Old),
-        "new" => Some(Fate::New),
-        "torn" => Some(Fate::Torn),
-        _ => None,
-    }
-}
-
 /// The disc that these words ask for.
-fn disc_of<'a>(words: &'a [&'a str]) -> Option<Disc<'a>> {
+fn disc_of<'a>(words: &'a [&'a str]) -> Option<Inserted<'a>> {
     match words {
-        ["formatted"] => Some(Disc::Formatted),
-        ["blank", zones, scale, spares, faults @ ..] => Some(Disc::Blank {
+        ["formatted"] => Some(Inserted::Formatted),
+        ["blank", zones, scale, spares, faults @ ..] => Some(Inserted::Blank {
             zones: number_of(zones)?,
             scale: number_of(scale)?,
             spares: number_of(spares)?,
@@ -163,68 +93,6 @@ fn call_of(words: &[&str]) -> Option<Call> {
         ["counts"] => Some(Call::Counts),
         ["structure"] => Some(Call::Structure),
         _ => None,
-    }
-}
-
-/// What these words say happens to the medium.
-fn event_of<'a>(words: &'a [&'a str]) -> Option<Event<'a>> {
-    match words {
-        ["fail", blocks @ ..] => Some(Event::Fail { blocks }),
-        ["wear", block, n] => Some(Event::Wear {
-            block: number_of(block)?,
-            n: number_of(n)?,
-            times: 1,
-        }),
-        ["wear", block, n, times] => Some(Event::Wear {
-            block: number_of(block)?,
-            n: number_of(n)?,
-            times: number_of(times)?,
-        }),
-        ["cut", n, fate] => Some(Event::Cut {
-            n: number_of(n)?,
-            fate: fate_of(fate)?,
-        }),
-        _ => None,
-    }
-}
-
-/// What these words say is written by hand.
-fn writing_of<'a>(words: &'a [&'a str]) -> Option<Work<'a>> {
-    match words {
-        ["fill", block, byte] => Some(Work::Fill {
-            block: number_of(block)?,
-            byte: byte_of(byte)?,
-        }),
-        ["count", block, byte] => Some(Work::Count {
-            block: number_of(block)?,
-            byte: byte_of(byte)?,
-        }),
-        ["put", block, at, bytes @ ..] => Some(Work::Put {
-            block: number_of(block)?,
-            at: number_of(at)?,
-            bytes,
-        }),
-        ["structure", areas, counter] => Some(Work::Structure {
-            areas,
-            counter: number_of(counter)?,
-        }),
-        ["list", areas, counter, "under", under, entries @ ..] => Some(Work::List {
-            areas,
-            counter: number_of(counter)?,
-            under: number_of(under)?,
-            entries,
-        }),
-        _ => None,
-    }
-}
-
-/// What these words say is done by hand.
-fn work_of<'a>(words: &'a [&'a str]) -> Option<Work<'a>> {
-    match words {
-        ["structures"] => Some(Work::Structures),
-        ["copies"] => Some(Work::Copies),
-        ["medium"] => Some(Work::Medium),
-        _ => writing_of(words),
     }
 }
 

@@ -6,12 +6,11 @@ ghost use Rattle.ram_text.specs.Writer.{PutsText};
 ghost use Rattle.ram_text.specs.ReportLines.{reply_text, IsAddressed, is_read, is_one_byte, sector_text, sectors_text, data_text};
 
 use crate::gathered::SinkFailed;
-use crate::hexadecimal::encode;
 use crate::printing::parts::print_labelled;
 use crate::report::ReportWriter;
 use itoa::write_digits;
 use model_commands::Operation;
-use ram_bytes::{Cdb, SECTOR_BYTES, get_u32};
+use ram_bytes::{Cdb, SECTOR_BYTES, encode_hex, get_u32};
 use ram_cdb::operation;
 use ram_outside::Sink;
 use ram_sense::Answer;
@@ -98,7 +97,7 @@ fn fill_line(lba: u64, byte: u8, line: &mut [u8; 40]) -> usize
         ++ encode_lower (byte ∷ []) ++ codes "\n" }
 {
     *line = *b"                                fill 00\n";
-    encode(&[byte], &mut line[37..39]);
+    encode_hex(&[byte], &mut line[37..39]);
     let digits = write_digits(lba, line, 31);
     let start = digits - LABEL.len();
     line[start..digits].copy_from_slice(LABEL);

@@ -1,7 +1,7 @@
 -- By the lemmas on four reasons.
 use Rattle.std.proofs.Common.{◌||◌, nat_lt, length}
 use Rattle.model_commands.specs.Commands.{command, operation_of}
-use Rattle.ram_cdb.specs.Decoding.{has_refused_field, asks_for_saved_values, has_wrong_length, has_refused_parameters, meaning}
+use Rattle.model_cdb.specs.Decoding.{has_refused_field, asks_for_saved_values, has_wrong_length, has_refused_parameters, meaning}
 use Rattle.ram_cdb.proofs.Causes.{field_cause, list_cause, unknown_cause}
 use Rattle.ram_cdb.proofs.laws.refusals_have_their_causes.Goals as goal
 

@@ -28,3 +28,6 @@ loop-entry-preserved c =
         room = c.loop-entry.invariant.room;
       })
     ]
+
+pub is_spare-requires-clause-area : goal.is_spare-requires-clause-area
+is_spare-requires-clause-area c = (c.args.lists.now.sdl.version, c.requires.area)

@@ -24,5 +24,5 @@ are_different-requires c = record {
   valid = c.requires.valid;
   area = c.is_valid_ssa.ensures.0 c.if-not-is_valid_ssa.false;
   entries = c.are_entries_valid.ensures.0 c.if-not-are_entries_valid.false;
-  none = tells_none c.args.geometry.now (record { dds = dds_of c.args.dds.now; sdl = sdl_of c.args.sdl.now }) c.requires.valid (c.is_valid_ssa.ensures.0 c.if-not-is_valid_ssa.false) 4092 refl;
+  none = tells_none c.args.geometry.now (record { dds = dds_of c.args.dds.now; sdl = sdl_of c.args.sdl.now }) c.requires.valid (c.is_valid_ssa.ensures.0 c.if-not-is_valid_ssa.false) 8184 refl;
 }

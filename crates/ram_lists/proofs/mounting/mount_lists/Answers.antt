@@ -63,7 +63,7 @@ returns-in_err-mend-2-clause-rule g c =
     rw (p.1, p.2) (fourth_by g.M.Medium.world g.M.Medium.block_count g.M.Medium.reaches g.met.M.Medium.laws c.args.geometry.now c.args.medium.now c.pick_dds.new.medium c.pick_sdl.new.medium
     (picked_of (λ d. DdsValue (dds_of d)) c.in_ok-best.field-0.best) (picked_of (λ s. SdlValue (sdl_of s)) c.in_ok-below.field-0.best) c.in_ok-best.field-0.mark c.in_ok-below.field-0.mark
     (dds_of c.in-Some.dds.value) c.in-Some.dds.area c.in_ok-best.ensures.rule (ap (picked_of (λ d. DdsValue (dds_of d))) c.in-Some.is) c.in_ok-below.ensures.rule c.mend.new.medium c.in_ok-mend.ensures.rule
-    (sdl_of c.in-Some-below.sdl.value) c.in-Some-below.sdl.area (ap (picked_of (λ s. SdlValue (sdl_of s))) c.in-Some-below.is) c.mend-2.new.medium _ c.in_err-mend-2.ensures.rule)
+    (sdl_of c.in-Some-below.sdl.value) c.in-Some-below.sdl.area (ap (picked_of (λ s. SdlValue (sdl_of s))) c.in-Some-below.is) c.mend-2.new.medium _ (c.is_formatted.ensures.0 c.if-not-is_formatted.false) c.in_err-mend-2.ensures.rule)
 
 pub returns-clause-rule : goal.returns-clause-rule
 returns-clause-rule g c =

@@ -1,4 +1,4 @@
-use Rattle.ram_cdb.specs.Decoding.{IsWithinLimits}
+use Rattle.model_cdb.specs.Decoding.{IsWithinLimits}
 use Rattle.ram_mmc.proofs.Judged.{allowed_holds, allowed_formatted}
 use Rattle.ram_mmc.proofs.judging.judge.Goals as goal
 

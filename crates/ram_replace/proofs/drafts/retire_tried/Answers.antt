@@ -1,6 +1,6 @@
 use Rattle.std.proofs.Common.{arith, ◌≡◌, ◌≤◌, ℕ, ◌∙◌, sym, ap, refl, subst, List}
 use Rattle.std.specs.List.Sorted.{IsStrictlyIncreasing}
-use Rattle.model_geometry.specs.declared.TheConstants.{MOST_SPARES}
+use Rattle.model_lists.specs.Values.{most_of}
 use Rattle.model_lists.specs.declared.sdl.SdlEntry.{SdlEntry}
 use Rattle.model_lists.specs.Values.{Sdl, defectives, retired}
 use Rattle.model_places.specs.Places.{free_spares}
@@ -33,7 +33,7 @@ retire-requires-clause-rise c = c.loop.invariant.rise
 pub retire-requires-clause-room : goal.retire-requires-clause-room
 retire-requires-clause-room c =
     let at = next_stands c.args.geometry.now (lists_of c.args.lists.now) c.requires.valid c.loop.counter c.loop.last c.loop.invariant.last (omega (arith, c.loop-test.true, c.requires.few)) c.in-Some.spare c.in-Some.ensures in
-    let room : MOST_SPARES ≤ c.loop.draft.entries.room = omega (arith, c.requires.room, c.loop.invariant.room) in
+    let room : most_of c.args.lists.now.sdl.version ≤ c.loop.draft.entries.room = omega (arith, c.requires.room, c.loop.invariant.room) in
     room_for_spare c.args.geometry.now (lists_of c.args.lists.now) c.requires.valid c.loop.draft.entries room (record { tried = c.loop.counter; spare = c.in-Some.spare }) at (ap (λ (s : Sdl). s.entries) c.loop.invariant.value)
 
 pub loop-preserved : goal.loop-preserved

@@ -1,4 +1,3 @@
-use Rattle.ram_run.specs.declared.line.Work.TheVariants as works
 use Rattle.ram_run.specs.Inserted.{Stands, faults_of}
 use Rattle.ram_run.specs.Progress.{run_view}
 use Rattle.std.specs.Prelude.{None}
@@ -8,7 +7,7 @@ use Rattle.ram_run.proofs.serve.answer_line.Goals as goal
 
 pub returns-clause-turn : goal.returns-clause-turn
 returns-clause-turn g c first far left stands t =
-    answered_line first far (run_view left (g.K.Sink.written c.args.report.now) c.args.state.now) (works.OnDisc c.args.line) c.args.state.now.payload.items t
+    answered_line first far (run_view left (g.K.Sink.written c.args.report.now) c.args.state.now) c.args.line c.args.state.now.payload.items t
     (Stands g.D.Sectors g.D.Image.Image c.answer-outcome.new.self) c.answer-outcome.new.data_in.items
     (run_view left (g.K.Sink.written c.tell.new.report) c.tell.new.state)
     (faults_of g.D.Sectors g.D.Image.Image c.args.inserted.now) (faults_of g.D.Sectors g.D.Image.Image c.answer-outcome.new.self) c.answer-outcome.result c.tell.result

@@ -21,5 +21,5 @@ returns-then-i-data_blocks c =
 pub returns : goal.returns
 returns c =
     let left = c.primary_left-primary.ensures.left in
-    supplementary_by_place _ _ _ c.requires.valid c.requires.area _ _ c.in-At.ensures
+    supplementary_by_place _ _ _ c.requires.valid c.requires.area.1 _ _ c.in-At.ensures
     (omega (arith, left, c.if-place-primary.false, c.data_blocks.ensures.count, c.psa.ensures.spares, c.if-i-data_blocks.false))

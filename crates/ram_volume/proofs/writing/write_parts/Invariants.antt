@@ -1,5 +1,5 @@
 use Rattle.std.specs.Prelude.{◌≡◌, ◌≤◌}
-use Rattle.model_geometry.specs.declared.TheConstants.{MOST_SPARES}
+use Rattle.model_geometry.specs.declared.TheConstants.{SDL_LIMIT}
 use Rattle.model_lists.specs.Values.{IsLawfulSdl}
 use Rattle.model_places.specs.Valid.{AreValid}
 use Rattle.ram_medium.specs.Laws.{machine_shown}
@@ -14,7 +14,7 @@ invariant-loop-k g l = record {
       (lists_of l.fn.lists) (lists_of l.lists) l.fn.workspace.buffer l.workspace.buffer l.request.lba l.request.n l.from l.k;
   valid : AreValid l.geometry (lists_of l.lists);
   lawful : IsLawfulSdl (sdl_of l.lists.sdl);
-  room : MOST_SPARES ≤ l.lists.sdl.entries.room;
-  draft : MOST_SPARES ≤ l.workspace.draft.entries.room;
+  room : SDL_LIMIT ≤ l.lists.sdl.entries.room;
+  draft : SDL_LIMIT ≤ l.workspace.draft.entries.room;
   as_many : g.M.Medium.block_count l.medium ≡ g.M.Medium.block_count l.fn.medium;
 }

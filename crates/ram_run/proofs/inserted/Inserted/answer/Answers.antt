@@ -1,14 +1,35 @@
-use Rattle.ram_run.proofs.InsertedSteps.{inserted_left}
-use Rattle.ram_run.proofs.LineCounts.{rule_counts}
+use Rattle.std.proofs.Common.{refl}
+use Rattle.ram_text.specs.declared.script.Line.TheVariants as lines
+use Rattle.ram_run.proofs.InsertedSteps.{fail_shape, inserted_left}
+use Rattle.ram_run.proofs.Printing.{prints}
 use Rattle.ram_run.proofs.inserted.Inserted.answer.Goals as goal
 
-pub returns-in-Disc-clause-step : goal.returns-in-Disc-clause-step
-returns-in-Disc-clause-step g c = rw c.in-Disc.is
-    (inserted_left g.D.Sectors g.D.Image.Image g.met.D.Sectors.laws c.in-Disc.target c.answer_on_disc-outcome.new.target c.args.line c.args.payload.now c.answer_on_disc-outcome.result c.answer_on_disc-outcome.new.data_in.items
-    c.answer_on_disc-outcome.ensures.rule c.answer_on_disc-outcome.ensures.same_shape)
+pub returns-in-Disc-Power-clause-step : goal.returns-in-Disc-Power-clause-step
+returns-in-Disc-Power-clause-step g c = rw (c.in-Disc-Power.is-0, c.in-Disc-Power.is-1)
+    (inserted_left g.D.Sectors g.D.Image.Image g.met.D.Sectors.laws c.in-Disc-Power.target c.power.new.self lines.Power c.args.payload.now c.power_outcome.result c.clear.new.self.items
+    (record { out = c.power.result; powered = c.power.ensures.rule; outcome_is = c.power_outcome.ensures }, c.clear.ensures.items) c.power.ensures.same_shape)
 
-pub returns-in-Disc-clause-count : goal.returns-in-Disc-clause-count
-returns-in-Disc-clause-count g c = rw c.in-Disc.is
-    (rule_counts (g.D.Sectors.shows c.in-Disc.target.disc) (g.D.Sectors.shows c.answer_on_disc-outcome.new.target.disc) (g.D.Sectors.stands c.in-Disc.target.disc) (g.D.Sectors.stands c.answer_on_disc-outcome.new.target.disc)
-    c.in-Disc.target.host c.answer_on_disc-outcome.new.target.host
-    c.args.line c.args.payload.now c.answer_on_disc-outcome.result c.answer_on_disc-outcome.new.data_in.items c.answer_on_disc-outcome.ensures.rule)
+pub returns-in-Disc-Fail-clause-step : goal.returns-in-Disc-Fail-clause-step
+returns-in-Disc-Fail-clause-step g c = rw (c.in-Disc-Fail.is-0, c.in-Disc-Fail.is-1)
+    (inserted_left g.D.Sectors g.D.Image.Image g.met.D.Sectors.laws c.in-Disc-Fail.target (record { disc = c.fail.new.self; host = c.in-Disc-Fail.target.host; block = c.in-Disc-Fail.target.block }) (lines.Fail c.in-Disc-Fail.block) c.args.payload.now c.fail_outcome.result c.clear.new.self.items
+    (record { end = c.fail.result; rule = c.fail.ensures.rule; stands = c.fail.ensures.stands; same_host = refl; outcome_is = c.fail_outcome.ensures }, c.clear.ensures.items) (fail_shape _ _ c.in-Disc-Fail.block c.fail.result c.fail.ensures.rule))
+
+pub returns-in-Disc-Wear-clause-step : goal.returns-in-Disc-Wear-clause-step
+returns-in-Disc-Wear-clause-step g c = rw (c.in-Disc-Wear.is-0, c.in-Disc-Wear.is-1)
+    (inserted_left g.D.Sectors g.D.Image.Image g.met.D.Sectors.laws c.in-Disc-Wear.target (record { disc = c.wear.new.self; host = c.in-Disc-Wear.target.host; block = c.in-Disc-Wear.target.block }) (lines.Wear c.in-Disc-Wear.block c.in-Disc-Wear.n) c.args.payload.now c.wear_outcome.result c.clear.new.self.items
+    (record { end = c.wear.result; rule = c.wear.ensures.rule; keeps = record { memory = c.wear.ensures.keeps; stands = c.wear.ensures.stands; same_host = refl }; outcome_is = c.wear_outcome.ensures }, c.clear.ensures.items) c.wear.ensures.keeps.same_shape)
+
+pub returns-in-Disc-Cut-clause-step : goal.returns-in-Disc-Cut-clause-step
+returns-in-Disc-Cut-clause-step g c = rw (c.in-Disc-Cut.is-0, c.in-Disc-Cut.is-1)
+    (inserted_left g.D.Sectors g.D.Image.Image g.met.D.Sectors.laws c.in-Disc-Cut.target (record { disc = c.arm_cut.new.self; host = c.in-Disc-Cut.target.host; block = c.in-Disc-Cut.target.block }) (lines.Cut c.in-Disc-Cut.n c.in-Disc-Cut.fate) c.args.payload.now _ c.clear.new.self.items
+    (record { armed = c.arm_cut.ensures.rule; keeps = record { memory = c.arm_cut.ensures.keeps; stands = c.arm_cut.ensures.stands; same_host = refl }; outcome_is = refl }, c.clear.ensures.items) c.arm_cut.ensures.keeps.same_shape)
+
+pub returns-in-Disc-Command-clause-step : goal.returns-in-Disc-Command-clause-step
+returns-in-Disc-Command-clause-step g c = rw (c.in-Disc-Command.is-0, c.in-Disc-Command.is-1)
+    (inserted_left g.D.Sectors g.D.Image.Image g.met.D.Sectors.laws c.in-Disc-Command.target c.execute-answer.new.self (lines.Command c.in-Disc-Command.cdb) c.args.payload.now c.command_outcome.result c.execute-answer.new.data_in.items
+    (record { answer = c.execute-answer.result; step = c.execute-answer.ensures.step; outcome_is = c.command_outcome.ensures }) c.execute-answer.ensures.same_shape)
+
+pub returns-in-Disc-Command-clause-printable : goal.returns-in-Disc-Command-clause-printable
+returns-in-Disc-Command-clause-printable g c = rw c.command_outcome.ensures
+    (prints (g.D.Sectors.shows c.in-Disc-Command.target.disc) (g.D.Sectors.shows c.execute-answer.new.self.disc) (g.D.Sectors.stands c.in-Disc-Command.target.disc) (g.D.Sectors.stands c.execute-answer.new.self.disc)
+    c.in-Disc-Command.target.host c.execute-answer.new.self.host c.in-Disc-Command.cdb c.args.payload.now c.execute-answer.new.data_in.items c.execute-answer.result c.execute-answer.ensures.step)

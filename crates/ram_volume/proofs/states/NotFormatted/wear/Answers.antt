@@ -1,5 +1,5 @@
 use Rattle.std.proofs.Common.{sym, ap, ◌∙◌, subst}
-use Rattle.model_copies.specs.Copies.{AreMarkedWithin}
+use Rattle.model_copies.specs.Parts.{AreMarkedWithin}
 use Rattle.model_medium.specs.World.{World}
 use Rattle.model_volume.specs.Given.{GivesNone}
 use Rattle.ram_medium.specs.Laws.{machine_shown}

@@ -29,6 +29,11 @@ returns-in-Cut-clause-step g c =
     cut_steps g.M.Medium.world g.M.Medium.reaches g.M.Medium.takes g.M.MediumControl.arms g.M.MediumControl.armed_cut g.met.M.MediumControl.control_laws c.args.self.geometry c.args.self.medium c.power_on.new.self c.power_on.ensures.event c.power_on.ensures.power
     c.mount.new.medium c.in-Cut.ensures.rule
 
+pub returns-in-Fault-clause-cause : goal.returns-in-Fault-clause-cause
+returns-in-Fault-clause-cause g c =
+    stopped g.M.Medium.world g.M.Medium.reaches g.M.Medium.takes g.M.MediumControl.arms g.M.MediumControl.armed_cut g.met.M.MediumControl.control_laws c.args.self.geometry c.args.self.medium c.power_on.new.self c.power_on.ensures.event c.power_on.ensures.power
+    c.mount.new.medium stops.Fault c.in-Fault.ensures.rule
+
 pub returns-in-Fault-clause-step : goal.returns-in-Fault-clause-step
 returns-in-Fault-clause-step g c =
     fault_steps g.M.Medium.world g.M.Medium.reaches g.M.Medium.takes g.M.MediumControl.arms g.M.MediumControl.armed_cut g.met.M.MediumControl.control_laws c.args.self.geometry c.args.self.medium c.power_on.new.self c.power_on.ensures.event c.power_on.ensures.power

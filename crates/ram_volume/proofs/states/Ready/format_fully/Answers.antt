@@ -8,7 +8,7 @@ use Rattle.ram_lists.specs.Lists.{lists_of}
 use Rattle.ram_format.proofs.Keeps.{are_apart, are_kept}
 use Rattle.ram_volume.specs.Shown.{shown_ready}
 use Rattle.ram_volume.specs.Formats.{FormatSteps}
-use Rattle.ram_volume.proofs.FormatAnswers.{full_good, full_good_steps, full_many, full_lost, full_cut, full_fault, full_cut_steps, full_fault_steps}
+use Rattle.ram_volume.proofs.FormatAnswers.{full_good, full_good_steps, full_many, full_many_steps, full_lost, full_lost_steps, lost_leaves, full_cut, full_fault, full_cut_steps, full_fault_steps}
 use Rattle.ram_volume.proofs.states.Ready.format_fully.Goals as goal
 
 pub kept_entries-requires : goal.kept_entries-requires
@@ -58,3 +58,17 @@ returns-in-Fault-clause-cause g c =
 pub returns-in-Fault-clause-step : goal.returns-in-Fault-clause-step
 returns-in-Fault-clause-step g c =
     full_fault_steps g.M.Medium.world g.M.Medium.reaches g.M.Medium.takes g.M.MediumControl.arms g.M.MediumControl.armed_cut g.met.M.MediumControl.control_laws c.args.self.geometry c.args.self.medium c.full_format.new.medium (lists_of c.args.self.lists) c.args.self.workspace.buffer c.args.drop_sdl c.deref.result.now (rw c.deref.ensures.value c.in-Ok.ensures) c.in-Fault.ensures.rule
+
+pub returns-in-TooMany-clause-step : goal.returns-in-TooMany-clause-step
+returns-in-TooMany-clause-step g c =
+    subst (λ (x : Shown). FormatSteps (shown_ready c.args.self) x (kinds.Full c.args.drop_sdl) (outs.TooMany c.in-TooMany.found)) (sym c.over-bare.ensures)
+    (full_many_steps g.M.Medium.world g.M.Medium.reaches g.M.Medium.takes g.M.MediumControl.arms g.M.MediumControl.armed_cut g.met.M.MediumControl.control_laws c.args.self.geometry c.args.self.medium c.full_format.new.medium (lists_of c.args.self.lists) c.args.self.workspace.buffer c.args.drop_sdl c.deref.result.now (rw c.deref.ensures.value c.in-Ok.ensures) c.in-TooMany.found c.in-TooMany.mark c.in-TooMany.ensures.rule)
+
+pub over-bare-requires-in-NoCopy-clause-bare : goal.over-bare-requires-in-NoCopy-clause-bare
+over-bare-requires-in-NoCopy-clause-bare g c =
+    (lost_leaves g.M.Medium.world g.M.Medium.reaches g.M.Medium.takes g.M.MediumControl.arms g.M.MediumControl.armed_cut g.met.M.MediumControl.control_laws c.args.self.geometry c.args.self.medium c.full_format.new.medium (lists_of c.args.self.lists) c.args.self.workspace.buffer c.args.drop_sdl c.deref.result.now (rw c.deref.ensures.value c.in-Ok.ensures) c.in-NoCopy.counter c.in-NoCopy.mark c.in-NoCopy.ensures.rule).gives_none
+
+pub returns-in-NoCopy-clause-step : goal.returns-in-NoCopy-clause-step
+returns-in-NoCopy-clause-step g c =
+    subst (λ (x : Shown). FormatSteps (shown_ready c.args.self) x (kinds.Full c.args.drop_sdl) (outs.NoUpdate c.in-NoCopy.counter)) (sym c.over-bare-in-NoCopy.ensures)
+    (full_lost_steps g.M.Medium.world g.M.Medium.reaches g.M.Medium.takes g.M.MediumControl.arms g.M.MediumControl.armed_cut g.met.M.MediumControl.control_laws c.args.self.geometry c.args.self.medium c.full_format.new.medium (lists_of c.args.self.lists) c.args.self.workspace.buffer c.args.drop_sdl c.deref.result.now (rw c.deref.ensures.value c.in-Ok.ensures) c.in-NoCopy.counter c.in-NoCopy.mark c.in-NoCopy.ensures.rule)

@@ -1,0 +1,246 @@
+"""What is done to a disc: the mount, reads, writes, verifications, formats and expansions."""
+from __future__ import annotations
+
+from dataclasses import dataclass, replace
+from typing import Dict, Iterator, List, NamedTuple, Optional, Tuple
+
+from .lists import LAST_COUNTER, SECTORS_IN_BLOCK, Kind, Lists, Secondary, Slipped, Structure, structure_fits
+from .medium import BLOCK, MOST_SPARES, SECTOR, Medium
+
+
+class Sense(NamedTuple):
+    """Why a command was not done: a key and two codes, and the sector that is concerned."""
+    key: int
+    code: int
+    qualifier: int
+    sector: Optional[int] = None
+
+    def __str__(self) -> str:
+        told = f"{self.key:x}/{self.code:02x}/{self.qualifier:02x}"
+        return told if self.sector is None else f"{told} info {self.sector}"
+
+
+class Check(Exception):
+    """A command was not done, or not all of it."""
+
+    def __init__(self, *sense: int) -> None:
+        super().__init__()
+        self.sense = Sense(*sense)
+
+
+FORMAT_FAILED = (3, 0x31, 0x01)
+UNREADABLE = (3, 0x11, 0x00)
+NO_SPARE = (3, 0x32, 0x00)
+NO_UPDATE = (3, 0x32, 0x01)
+
+
+@dataclass(frozen=True)
+class Part:
+    """What a request has of one logical block: its sectors, counted from the beginning of the request and of the block."""
+    logical: int
+    first: int
+    in_request: int
+    in_block: int
+    sectors: int
+
+    @property
+    def is_whole(self) -> bool:
+        return self.sectors == SECTORS_IN_BLOCK
+
+
+def parts(first: int, count: int) -> Iterator[Part]:
+    sector, end = first, first + count
+    while sector < end:
+        logical, in_block = divmod(sector, SECTORS_IN_BLOCK)
+        sectors = min(end - sector, SECTORS_IN_BLOCK - in_block)
+        yield Part(logical, sector, sector - first, in_block, sectors)
+        sector += sectors
+
+
+class Drive:
+    """A disc in a drive. Each call may raise PowerCut; the power is then off."""
+
+    def __init__(self, medium: Medium) -> None:
+        self.medium = medium
+        self.on = False
+        self.lists: Optional[Lists] = None
+        self.mark = 0
+        """The greatest counter of a structure that a copy has or names."""
+        self.buffered: Optional[Tuple[int, bytes]] = None
+
+    def cut(self) -> None:
+        """What a power cut leaves in memory: nothing."""
+        self.on, self.lists, self.buffered = False, None, None
+
+    # The copies of lists.
+
+    def put(self, block: int, data: bytes) -> bool:
+        """Writes a block and reads it back: whether it has the bytes."""
+        self.medium.write(block, data)
+        return self.medium.read(block) == data
+
+    def update(self, blocks: List[int], text: bytes) -> bool:
+        """Writes a list to all its copies: whether a copy is left."""
+        return any([self.put(block, text) for block in blocks])
+
+    def repair(self, blocks: List[int], text: bytes) -> bool:
+        """Writes those copies of a list that are not its text: whether a copy is left."""
+        return any([self.medium.read(block) == text or self.put(block, text) for block in blocks])
+
+    def update_secondary(self, secondary: Secondary) -> None:
+        """Takes the next secondary list into use, if its counter has room and a copy of it can be read."""
+        assert self.lists is not None
+        if self.lists.secondary.counter == LAST_COUNTER:
+            raise Check(*NO_UPDATE)
+        new = replace(secondary, counter=self.lists.secondary.counter + 1)
+        if not self.update(self.medium.geometry.secondary_blocks, new.text):
+            raise Check(*NO_UPDATE)
+        self.lists = replace(self.lists, secondary=new)
+
+    # The mount.
+
+    def power(self) -> None:
+        self.cut()
+        self.on = True
+        geometry = self.medium.geometry
+        structures = [Structure.of(self.medium.read(block)) for block in geometry.structure_blocks]
+        secondaries = [Secondary.of(self.medium.read(block)) for block in geometry.secondary_blocks]
+        self.mark = max([one.counter for one in structures if one] + [one.structure for one in secondaries if one] + [0])
+        fitting = [one for one in structures if one and structure_fits(one, geometry)]
+        if not fitting:
+            return
+        structure = max(fitting, key=lambda one: one.counter)
+        found = [Lists(geometry, structure, one) for one in secondaries if one and one.structure == structure.counter]
+        found = [lists for lists in found if structure.formatted and lists.is_valid]
+        self.repair(geometry.structure_blocks, structure.text)
+        if found:
+            self.lists, self.mark = max(found, key=lambda lists: lists.secondary.counter), structure.counter
+            self.repair(geometry.secondary_blocks, self.lists.secondary.text)
+
+    # Sectors.
+
+    def fetch(self, logical: int) -> Optional[bytes]:
+        """A logical block, out of the buffer or off the medium; it is buffered then."""
+        assert self.lists is not None
+        if self.buffered is not None and self.buffered[0] == logical:
+            return self.buffered[1]
+        data = self.medium.read(self.lists.home(logical))
+        if data is not None:
+            self.buffered = (logical, data)
+        return data
+
+    def read(self, first: int, count: int) -> bytes:
+        read = b""
+        for part in parts(first, count):
+            block = self.fetch(part.logical)
+            if block is None:
+                raise Check(*UNREADABLE, part.first)
+            read += block[SECTOR * part.in_block:SECTOR * (part.in_block + part.sectors)]
+        return read
+
+    def verify(self, first: int, count: int) -> None:
+        assert self.lists is not None
+        for part in parts(first, count):
+            if self.medium.read(self.lists.home(part.logical)) is None:
+                raise Check(*UNREADABLE, part.first)
+
+    def write(self, first: int, data: bytes) -> None:
+        for part in parts(first, len(data) // SECTOR):
+            old = bytes(BLOCK) if part.is_whole else self.fetch(part.logical)
+            if old is None:
+                raise Check(*UNREADABLE, part.first)
+            new = data[SECTOR * part.in_request:SECTOR * (part.in_request + part.sectors)]
+            block = old[:SECTOR * part.in_block] + new + old[SECTOR * (part.in_block + part.sectors):]
+            self.write_block(part, block)
+            self.buffered = (part.logical, block)
+
+    def write_block(self, part: Part, block: bytes) -> None:
+        """Writes a logical block to its home, or to the first free spare that is not dead."""
+        assert self.lists is not None
+        home = self.lists.home(part.logical)
+        if self.put(home, block):
+            return
+        entries = dict(self.lists.secondary.entries)
+        for spare in self.lists.free_spares:
+            if self.put(spare, block):
+                entries[home] = None
+                entries[self.lists.logical[part.logical]] = spare
+                self.update_secondary(replace(self.lists.secondary, entries=tuple(sorted(entries.items()))))
+                return
+            entries[spare] = None
+        raise Check(*NO_SPARE, part.first)
+
+    # Formats and the expansion.
+
+    def format(self, rewriting: bool, forgets: bool) -> None:
+        if rewriting and self.lists is not None:
+            self.rewrite(self.lists)
+        elif LAST_COUNTER - self.mark < 2:
+            raise Check(*FORMAT_FAILED)
+        else:
+            kept: Dict[int, int] = {} if self.lists is None else self.kept(self.lists, forgets)
+            kind = Kind.FIRST_FORMAT if self.lists is None else Kind.LATER_FORMAT
+            self.lists, self.buffered = None, None
+            self.format_fully(kept, kind)
+
+    def rewrite(self, lists: Lists) -> None:
+        self.buffered = None
+        geometry = self.medium.geometry
+        repaired = [self.repair(geometry.structure_blocks, lists.structure.text),
+                    self.repair(geometry.secondary_blocks, lists.secondary.text)]
+        if not all(repaired):
+            raise Check(*FORMAT_FAILED)
+
+    @staticmethod
+    def kept(lists: Lists, forgets: bool) -> Dict[int, int]:
+        """The blocks that a full format keeps as defective, with their kinds."""
+        found: Dict[int, int] = {} if forgets else {block: Kind.SECONDARY_LIST for block, _ in lists.secondary.entries}
+        return {**found, **{entry.block: entry.kind for entry in lists.structure.entries}}
+
+    def format_fully(self, defects: Dict[int, int], kind: Kind) -> None:
+        geometry = self.medium.geometry
+        self.mark += 1
+        begun = Structure(False, self.mark, geometry.spares)
+        if not self.update(geometry.structure_blocks, begun.text):
+            raise Check(*FORMAT_FAILED)
+        for block in geometry.data_blocks:
+            if block not in defects and not self.put(block, bytes(BLOCK)):
+                defects[block] = kind
+        if len(defects) > geometry.spares:
+            raise Check(*FORMAT_FAILED)
+        self.mark += 1
+        entries = tuple(Slipped(defects[block], block) for block in sorted(defects))
+        ended = Structure(True, self.mark, geometry.spares, entries)
+        secondary = Secondary(1, ended.counter)
+        if not self.update(geometry.secondary_blocks, secondary.text):
+            raise Check(*FORMAT_FAILED)
+        if not self.update(geometry.structure_blocks, ended.text):
+            raise Check(*FORMAT_FAILED)
+        self.lists = Lists(geometry, ended, secondary)
+
+    @property
+    def sectors(self) -> int:
+        return 0 if self.lists is None else self.lists.sectors
+
+    @property
+    def sectors_after_format(self) -> int:
+        geometry = self.medium.geometry
+        return SECTORS_IN_BLOCK * (len(geometry.data_blocks) - geometry.spares)
+
+    def may_expand_to(self, sectors: int) -> bool:
+        """Whether the disc can have this capacity after an expansion."""
+        blocks, left = divmod(sectors, SECTORS_IN_BLOCK)
+        spares = len(self.medium.geometry.data_blocks) - blocks
+        return left == 0 and 0 < sectors <= self.sectors and spares <= MOST_SPARES
+
+    def expand(self, sectors: int) -> None:
+        """Makes the last logical blocks supplementary spares, so that this many sectors are left."""
+        assert self.lists is not None
+        self.buffered = None
+        if sectors == self.sectors:
+            return
+        old, blocks = self.lists, sectors // SECTORS_IN_BLOCK
+        spares = old.secondary.spares + len(old.logical) - blocks
+        given_up = set(old.logical[blocks:])
+        entries = tuple((block, None if block in given_up else spare) for block, spare in old.secondary.entries)
+        self.update_secondary(replace(old.secondary, spares=spares, entries=entries))

@@ -1,0 +1,182 @@
+"""The two defect lists of a disc: their texts, and what they say of its blocks."""
+from __future__ import annotations
+
+from dataclasses import dataclass
+from enum import IntEnum
+from functools import cached_property
+from typing import Dict, List, NamedTuple, Optional, Tuple
+
+from .medium import BLOCK, MOST_SPARES, SECTOR, Geometry
+
+SECTORS_IN_BLOCK = BLOCK // SECTOR
+LAST_COUNTER = 2 ** 32 - 1
+
+
+def number(block: bytes, at: int, length: int) -> int:
+    return int.from_bytes(block[at:at + length], "big")
+
+
+def rises(blocks: List[int]) -> bool:
+    return all(one < next_one for one, next_one in zip(blocks, blocks[1:]))
+
+
+class Kind(IntEnum):
+    """By what a block came into the primary list."""
+    FIRST_FORMAT = 0
+    LATER_FORMAT = 1
+    SECONDARY_LIST = 2
+
+
+class Slipped(NamedTuple):
+    """An entry of the primary list."""
+    kind: int
+    block: int
+
+    @property
+    def text(self) -> bytes:
+        return bytes([self.kind]) + self.block.to_bytes(3, "big")
+
+
+@dataclass(frozen=True)
+class Structure:
+    """The disc definition structure, which has the primary list."""
+    formatted: bool
+    counter: int
+    spares: int
+    entries: Tuple[Slipped, ...] = ()
+
+    @property
+    def text(self) -> bytes:
+        head = bytes([0x0a, 0x0a, 1, 0x80 if self.formatted else 0x00])
+        head += self.counter.to_bytes(4, "big") + self.spares.to_bytes(2, "big")
+        entries = b"".join(entry.text for entry in self.entries)
+        tail = bytes([0x00, 0x01]) + len(self.entries).to_bytes(2, "big") + entries
+        return (head.ljust(SECTOR, b"\0") + tail).ljust(BLOCK, b"\0")
+
+    @classmethod
+    def of(cls, block: Optional[bytes]) -> Optional[Structure]:
+        """The structure whose text these bytes are, if there is one."""
+        if block is None:
+            return None
+        count = number(block, 2_050, 2)
+        entries = tuple(Slipped(block[at], number(block, at + 1, 3)) for at in range(2_052, 2_052 + 4 * count, 4)
+                        if at < BLOCK)
+        found = cls(block[3] == 0x80, number(block, 4, 4), number(block, 8, 2), entries)
+        return found if found.is_text and found.text == block else None
+
+    @property
+    def is_text(self) -> bool:
+        return (1 <= self.spares <= MOST_SPARES and len(self.entries) <= (self.spares if self.formatted else 0)
+                and all(entry.kind in tuple(Kind) for entry in self.entries) and rises(self.blocks))
+
+    @cached_property
+    def blocks(self) -> List[int]:
+        return [entry.block for entry in self.entries]
+
+
+@dataclass(frozen=True)
+class Secondary:
+    """The secondary list: each defective block with its replacement, or with none if it is a spare that is retired."""
+    counter: int
+    structure: int
+    spares: int = 0
+    entries: Tuple[Tuple[int, Optional[int]], ...] = ()
+
+    @property
+    def text(self) -> bytes:
+        head = bytes([0x00, 0x02, 1, 0]) + self.counter.to_bytes(4, "big") + self.structure.to_bytes(4, "big")
+        head += self.spares.to_bytes(2, "big") + len(self.entries).to_bytes(2, "big")
+        entries = b"".join(bytes([spare is None]) + block.to_bytes(3, "big") + (spare or 0).to_bytes(4, "big")
+                           for block, spare in self.entries)
+        return (head.ljust(32, b"\0") + entries).ljust(BLOCK, b"\0")
+
+    @classmethod
+    def of(cls, block: Optional[bytes]) -> Optional[Secondary]:
+        """The secondary list whose text these bytes are, if there is one."""
+        if block is None:
+            return None
+        entries = tuple((number(block, at + 1, 3), None if block[at] else number(block, at + 4, 4))
+                        for at in range(32, 32 + 8 * min(number(block, 14, 2), MOST_SPARES), 8))
+        found = cls(number(block, 4, 4), number(block, 8, 4), number(block, 12, 2), entries)
+        return found if found.is_text and found.text == block else None
+
+    @property
+    def is_text(self) -> bool:
+        return (self.spares <= MOST_SPARES and rises([block for block, _ in self.entries])
+                and all((spare or 0) < 2 ** 24 for _, spare in self.entries))
+
+    @cached_property
+    def replacements(self) -> Dict[int, Optional[int]]:
+        return dict(self.entries)
+
+
+@dataclass(frozen=True)
+class Lists:
+    """Both lists of a disc."""
+    geometry: Geometry
+    structure: Structure
+    secondary: Secondary
+
+    @cached_property
+    def unslipped(self) -> List[int]:
+        """The data blocks that the primary list does not name."""
+        slipped = set(self.structure.blocks)
+        return [block for block in self.geometry.data_blocks if block not in slipped]
+
+    @property
+    def primary_left(self) -> int:
+        """How many primary spares the slipped blocks have left."""
+        return self.structure.spares - len(self.structure.entries)
+
+    @cached_property
+    def primary(self) -> List[int]:
+        return self.unslipped[:self.primary_left]
+
+    @cached_property
+    def supplementary(self) -> List[int]:
+        return self.unslipped[len(self.unslipped) - self.secondary.spares:]
+
+    @cached_property
+    def logical(self) -> List[int]:
+        """The block of each logical block, before replacement."""
+        return self.unslipped[self.primary_left:len(self.unslipped) - self.secondary.spares]
+
+    @property
+    def sectors(self) -> int:
+        return SECTORS_IN_BLOCK * len(self.logical)
+
+    def home(self, logical: int) -> int:
+        block = self.logical[logical]
+        replacement = self.secondary.replacements.get(block)
+        return block if replacement is None else replacement
+
+    @property
+    def named(self) -> List[int]:
+        """All blocks that the entries of the secondary list name."""
+        replacements = [spare for _, spare in self.secondary.entries if spare is not None]
+        return replacements + [block for block, _ in self.secondary.entries]
+
+    def free(self, spares: List[int]) -> List[int]:
+        """Those of some spares that are free, from the greatest number down."""
+        named = set(self.named)
+        return [spare for spare in reversed(spares) if spare not in named]
+
+    @property
+    def free_spares(self) -> List[int]:
+        """The free spares in the order in which they are tried."""
+        return self.free(self.primary) + self.free(self.supplementary)
+
+    @property
+    def is_valid(self) -> bool:
+        """Whether the secondary list is valid under the structure."""
+        spares, data = self.structure.spares + self.secondary.spares, len(self.geometry.data_blocks)
+        if spares > MOST_SPARES or spares >= data or len(set(self.named)) < len(self.named):
+            return False
+        logical, free = set(self.logical), set(self.primary) | set(self.supplementary)
+        return all(block in free if spare is None else block in logical and spare in free
+                   for block, spare in self.secondary.entries)
+
+
+def structure_fits(structure: Structure, geometry: Geometry) -> bool:
+    """Whether a structure may be the one in use on a disc."""
+    return structure.spares == geometry.spares and set(structure.blocks) <= set(geometry.data_blocks)

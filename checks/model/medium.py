@@ -1,0 +1,169 @@
+"""The medium: the bytes of an image as blocks, which fail and in whose uses the power is cut."""
+from __future__ import annotations
+
+from dataclasses import dataclass
+from enum import Enum, IntEnum
+from functools import cached_property
+from typing import List, Optional
+
+SECTOR = 2_048
+BLOCK = 32_768
+HEADER = 16
+SIGNATURE = b"DVDRAM01"
+EDGE = 8
+"""How many blocks the lead-in has, and the lead-out."""
+MOST_SPARES = 4_092
+MOST_WEARS = 64
+
+
+class State(IntEnum):
+    """A block's state byte. Each byte that is none of these is a torn block too."""
+    BLANK = 0
+    GOOD = 1
+    TORN = 2
+    DEAD = 3
+
+
+class Fate(Enum):
+    """What becomes of a block in whose write the power is cut."""
+    OLD = "old"
+    NEW = "new"
+    TORN = "torn"
+
+
+class PowerCut(Exception):
+    """The power was cut in a use."""
+
+
+@dataclass(frozen=True)
+class Geometry:
+    """The numbers of a disc, and where its blocks are."""
+    zones: int
+    scale: int
+    spares: int
+
+    @classmethod
+    def of(cls, image: bytes) -> Optional[Geometry]:
+        """The geometry of an image, where it is a disc's."""
+        zones, scale, spares = (int.from_bytes(image[at:at + 2], "big") for at in (8, 10, 12))
+        found = cls(zones, scale, spares)
+        is_disc = found.is_lawful and len(image) == found.image_length and image[:HEADER] == found.header
+        return found if is_disc else None
+
+    @property
+    def is_lawful(self) -> bool:
+        return (1 <= self.zones <= 35 and 1 <= self.scale <= 100
+                and 1 <= self.spares <= MOST_SPARES and self.spares < len(self.data_blocks))
+
+    @property
+    def header(self) -> bytes:
+        return SIGNATURE + b"".join(number.to_bytes(2, "big") for number in (self.zones, self.scale, self.spares, 0))
+
+    @cached_property
+    def data_blocks(self) -> List[int]:
+        """All blocks of the zones but the first and the last of each, which are guards."""
+        found: List[int] = []
+        begin = EDGE
+        for zone in range(self.zones):
+            end = begin + self.scale * (25 + zone)
+            found += range(begin + 1, end - 1)
+            begin = end
+        return found
+
+    @property
+    def lead_out(self) -> int:
+        return self.data_blocks[-1] + 2
+
+    @property
+    def blocks(self) -> int:
+        return self.lead_out + EDGE
+
+    @property
+    def image_length(self) -> int:
+        return HEADER + self.blocks * (1 + BLOCK)
+
+    @property
+    def structure_blocks(self) -> List[int]:
+        """The blocks of the structure, in the order of the areas; the secondary list has the one after each."""
+        return [0, 2, self.lead_out, self.lead_out + 2]
+
+    @property
+    def secondary_blocks(self) -> List[int]:
+        return [block + 1 for block in self.structure_blocks]
+
+    def blank(self) -> bytearray:
+        """The image of a new disc."""
+        return bytearray(self.header + bytes(self.image_length - HEADER))
+
+
+@dataclass
+class Wear:
+    """A block that dies when this many uses of it have come."""
+    block: int
+    left: int
+
+
+@dataclass
+class Cut:
+    """A cut of the power that comes after this many uses of any block."""
+    left: int
+    fate: Fate
+
+
+class Medium:
+    """The blocks of a disc's image, with what is armed on them."""
+
+    def __init__(self, image: bytearray, geometry: Geometry) -> None:
+        self.image = image
+        self.geometry = geometry
+        self.wears: List[Wear] = []
+        self.cut: Optional[Cut] = None
+
+    def state(self, block: int) -> int:
+        return self.image[HEADER + block]
+
+    def set_state(self, block: int, state: State) -> None:
+        self.image[HEADER + block] = state
+
+    def bytes_at(self, block: int) -> slice:
+        begin = HEADER + self.geometry.blocks + BLOCK * block
+        return slice(begin, begin + BLOCK)
+
+    def read(self, block: int) -> Optional[bytes]:
+        """One use: the bytes of the block, where it is good."""
+        if self._is_cut_in_use_of(block) is not None:
+            raise PowerCut
+        return bytes(self.image[self.bytes_at(block)]) if self.state(block) == State.GOOD else None
+
+    def write(self, block: int, data: bytes) -> None:
+        """One use: the block is good and has these bytes, where it is not dead."""
+        fate = self._is_cut_in_use_of(block)
+        if self.state(block) != State.DEAD:
+            self._leave(block, data, fate or Fate.NEW)
+        if fate is not None:
+            raise PowerCut
+
+    def _leave(self, block: int, data: bytes, fate: Fate) -> None:
+        if fate == Fate.TORN:
+            self.set_state(block, State.TORN)
+        elif fate == Fate.NEW:
+            self.image[self.bytes_at(block)] = data
+            self.set_state(block, State.GOOD)
+
+    def _is_cut_in_use_of(self, block: int) -> Optional[Fate]:
+        """Counts a use, first for the wears of the block and then for the cut: the fate, where the power is cut in it."""
+        for wear in self.wears:
+            wear.left -= wear.block == block
+        if any(wear.left == 0 for wear in self.wears):
+            self.set_state(block, State.DEAD)
+            self.wears = [wear for wear in self.wears if wear.left]
+        if self.cut is None:
+            return None
+        self.cut.left -= 1
+        if self.cut.left:
+            return None
+        fate, self.cut = self.cut.fate, None
+        return fate
+
+    def has(self, block: int) -> bool:
+        return block < self.geometry.blocks

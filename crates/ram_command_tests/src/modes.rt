@@ -1,0 +1,59 @@
+//! Rows on mode pages: replies of MODE SENSE, and lists of MODE SELECT.
+ghost use Rattle.std.specs.Prelude.{◌+◌, ◌<◌, ◌≤◌, vec_len, vec_capacity, IsTrue};
+ghost use Rattle.model_modes.specs.Pages.{is_page_code};
+
+use crate::words::{add_bytes, add_sense, bytes_of, number_of};
+use ram_modes::Modes;
+use std::alloc::{AllocError, Global};
+use std::fmt::Write;
+
+/// Adds the reply of a page behind the bytes that are there.
+fn put_page(control: u8, page: u8, length: u32, out: &mut Vec<u8>)
+    requires page { IsTrue (is_page_code page) }
+    requires room { vec_len out.old + 32 ≤ vec_capacity out.old }
+{
+    if control < 3 {
+        Modes::new().sense_within(control, page, length, out);
+    }
+}
+
+/// Adds the reply of the page with this code, if there is one, behind the bytes that are there.
+fn put_reply(control: u8, page: u8, length: u32, out: &mut Vec<u8>)
+    requires room { vec_len out.old + 32 ≤ vec_capacity out.old }
+{
+    match page {
+        0x01 => put_page(control, 0x01, length, out),
+        0x08 => put_page(control, 0x08, length, out),
+        0x3f => put_page(control, 0x3f, length, out),
+        _ => {}
+    }
+}
+
+/// `BYTES CONTROL PAGE LENGTH`: the bytes, and behind them the reply of this page, cut to the allocation length.
+pub fn answer_sense(alloc: Global, words: &[&str], answer: &mut String) -> Result<(), AllocError> {
+    let [before, control, page, length] = words else {
+        return Ok(());
+    };
+    let before = bytes_of(alloc, before);
+    let mut out = Vec::with_capacity(alloc, before.len().saturating_add(32))?;
+    out.extend_from_slice(&before)?;
+    let control: u8 = control.parse().unwrap_or(0);
+    let page = u8::from_str_radix(page, 16).unwrap_or(0);
+    if out.capacity() - out.len() >= 32 {
+        put_reply(control, page, number_of(length), &mut out);
+    }
+    add_bytes(answer, &out)
+}
+
+/// `LIST`: whether this list is taken, and whether writes are cached then.
+pub fn answer_select(alloc: Global, words: &[&str], answer: &mut String) -> Result<(), AllocError> {
+    let [list] = words else {
+        return Ok(());
+    };
+    let mut modes = Modes::new();
+    match modes.select(&bytes_of(alloc, list)) {
+        Ok(()) => answer.push_str("taken")?,
+        Err(sense) => add_sense(answer, &sense)?,
+    }
+    write!(answer, ", write cache {}", modes.write_cache())
+}

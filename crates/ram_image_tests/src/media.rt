@@ -1,0 +1,92 @@
+//! The media of a row, each taken through its steps.
+use crate::steps::{Step, straight};
+use crate::uses::{Answer, take};
+use ram_bytes::Block;
+use ram_image::header::image_len;
+use ram_image::{ImageMedium, PressOut, open, press};
+use ram_medium::{MediumControl, MemMedium};
+use ram_outside::MemImage;
+use ram_zones::Geometry;
+use std::alloc::{AllocError, Global};
+
+/// How many blocks the disc has that is pressed: one of one zone, scale 1 and one primary spare.
+const BLOCKS: u32 = 41;
+
+/// Takes a medium through steps, straight or not, and gives the answers.
+fn take_all<M: MediumControl>(
+    alloc: Global,
+    medium: &mut M,
+    steps: &[Step],
+    is_straight: bool,
+) -> Result<Vec<Answer>, AllocError> {
+    let mut block = Block::zeros(alloc)?;
+    let mut answers = Vec::new(alloc);
+    for step in steps {
+        let step = if is_straight { straight(*step) } else { *step };
+        answers.push(take(medium, step, &mut block))?;
+    }
+    Ok(answers)
+}
+
+/// Takes a new medium in memory of so many blocks through steps. Its uses of these numbers fail.
+pub fn in_memory(
+    alloc: Global,
+    blocks: u32,
+    failing: Vec<u64>,
+    steps: &[Step],
+    is_straight: bool,
+) -> Result<Vec<Answer>, AllocError> {
+    let mut medium = MemMedium::new(alloc, blocks, failing)?;
+    take_all(alloc, &mut medium, steps, is_straight)
+}
+
+/// The bytes of a disc of 41 blocks that was just pressed, where it was.
+fn pressed(alloc: Global) -> Result<Vec<u8>, AllocError> {
+    let mut image = MemImage::new(Vec::new(alloc), Vec::new(alloc));
+    if let Ok(geometry) = Geometry::new(1, 1, 1) {
+        image.reserve(image_len(&geometry) as usize)?;
+        match press(&mut image, &geometry) {
+            PressOut::Done => {}
+            PressOut::Failed => return Ok(Vec::new(alloc)),
+        }
+    }
+    image.bytes().to_vec(alloc)
+}
+
+/// Takes a medium over an image through steps, and lets it go.
+fn take_image(
+    alloc: Global,
+    medium: ImageMedium<MemImage>,
+    steps: &[Step],
+    is_straight: bool,
+) -> Result<Vec<Answer>, AllocError> {
+    let mut medium = medium;
+    let answers = take_all(alloc, &mut medium, steps, is_straight);
+    let _ = medium.into_image();
+    answers
+}
+
+/// Takes a new medium over an image through steps. The image fails at these calls, of which opening takes two. No answers
+/// where it is not opened.
+pub fn over_image(
+    alloc: Global,
+    failing: Vec<u64>,
+    steps: &[Step],
+    is_straight: bool,
+) -> Result<Vec<Answer>, AllocError> {
+    let image = MemImage::new(pressed(alloc)?, failing);
+    match open(alloc, image) {
+        Ok((medium, _)) => take_image(alloc, medium, steps, is_straight),
+        Err(_) => Ok(Vec::new(alloc)),
+    }
+}
+
+/// The answers of four media, each to the same steps: in memory and over an image, and both once more straight.
+pub fn take_both(alloc: Global, steps: &[Step]) -> Result<[Vec<Answer>; 4], AllocError> {
+    Ok([
+        in_memory(alloc, BLOCKS, Vec::new(alloc), steps, false)?,
+        over_image(alloc, Vec::new(alloc), steps, false)?,
+        in_memory(alloc, BLOCKS, Vec::new(alloc), steps, true)?,
+        over_image(alloc, Vec::new(alloc), steps, true)?,
+    ])
+}

@@ -1,0 +1,158 @@
+//! The calls on the lists of a small disc, each with what it answered.
+
+use crate::bench::{Bench, text_of};
+use crate::copies_reference::{Answer, Call};
+use ram_bytes::Block;
+use ram_copies::{Accept, Chosen, ListBlock, Updated, choose, repair, update};
+use ram_dds::DdsPdl;
+use ram_lists::{Mounted, mount};
+use ram_medium::MediumControl;
+use ram_sdl::Sdl;
+use ram_zones::ListKind;
+use std::alloc::{AllocError, Global};
+
+/// Accepts the lists with a lower counter.
+#[derive(Clone, Copy)]
+struct Below {
+    most: u32,
+}
+
+impl<T: ListBlock> Accept<T> for Below {
+    ghost use Rattle.std.specs.Prelude.{◌<◌};
+    ghost use Rattle.ram_copies.specs.Values.{counter_of};
+
+    ghost accepted = { λ below v. counter_of v < below.most };
+
+    fn accepts(&self, value: &T) -> bool {
+        value.counter() < self.most
+    }
+}
+
+/// What a mount found: the counters of both lists, or the mark.
+#[derive(Clone, Copy, Debug, PartialEq, Eq)]
+pub enum Found {
+    Lists(u32, u32),
+    Bare(u32),
+    Cut,
+    Off,
+    Fault,
+    NoMemory,
+}
+
+impl From<Updated> for Answer {
+    fn from(updated: Updated) -> Answer {
+        match updated {
+            Updated::Kept { readable } => Answer::Kept { readable },
+            Updated::NoCopy => Answer::NoCopy,
+            Updated::Cut => Answer::Cut,
+            Updated::Off => Answer::Off,
+            Updated::Fault => Answer::Fault,
+        }
+    }
+}
+
+/// The answer of a choice.
+fn picked<T: ListBlock>(chosen: Chosen<T>) -> Answer {
+    match chosen {
+        Chosen::Found { value, area, mark } => Answer::Found {
+            counter: value.counter(),
+            area,
+            mark,
+        },
+        Chosen::Nothing { mark } => Answer::Nothing { mark },
+        Chosen::Cut => Answer::Cut,
+        Chosen::Off => Answer::Off,
+        Chosen::Fault => Answer::Fault,
+        Chosen::NoMemory => Answer::NoMemory,
+    }
+}
+
+/// What was mounted.
+fn found_of(mounted: Mounted) -> Found {
+    match mounted {
+        Mounted::Lists { lists } => Found::Lists(lists.dds.counter, lists.sdl.counter),
+        Mounted::Bare { mark } => Found::Bare(mark),
+        Mounted::Cut => Found::Cut,
+        Mounted::Off => Found::Off,
+        Mounted::Fault => Found::Fault,
+        Mounted::NoMemory => Found::NoMemory,
+    }
+}
+
+impl<M: MediumControl> Bench<M> {
+    /// Chooses among the copies with a lower counter.
+    pub fn choose<T: ListBlock>(&mut self, alloc: Global, most: u32) -> Answer {
+        let taken = &mut self.taken;
+        if taken.medium.blocks() != taken.geometry.total() {
+            return Answer::NoDisc;
+        }
+        let below = Below { most };
+        picked(choose::<T, M, Below>(
+            alloc,
+            &mut taken.medium,
+            &taken.geometry,
+            &below,
+            &mut self.scratch,
+        ))
+    }
+
+    /// Updates a list to the one with this text, or repairs its copies to it.
+    pub fn write<T: ListBlock>(
+        &mut self,
+        alloc: Global,
+        text: &Block,
+        repairs: bool,
+    ) -> Result<Answer, AllocError> {
+        let taken = &mut self.taken;
+        if taken.medium.blocks() != taken.geometry.total() {
+            return Ok(Answer::NoDisc);
+        }
+        let Some(value) = T::decode(alloc, text)? else {
+            return Ok(Answer::NoText);
+        };
+        let (medium, geometry) = (&mut taken.medium, &taken.geometry);
+        let updated = if repairs {
+            repair::<T, M>(medium, geometry, &value, &mut self.scratch)
+        } else {
+            update::<T, M>(medium, geometry, &value, &mut self.scratch)
+        };
+        Ok(Answer::from(updated))
+    }
+
+    /// What a call answers on this list.
+    fn answer_on<T: ListBlock>(&mut self, alloc: Global, call: Call) -> Result<Answer, AllocError> {
+        match call {
+            Call::Choose { most } => Ok(self.choose::<T>(alloc, most)),
+            Call::Update { counter } => {
+                let text = text_of(alloc, T::LIST, counter, counter)?;
+                self.write::<T>(alloc, &text, false)
+            }
+            Call::Repair { counter } => {
+                let text = text_of(alloc, T::LIST, counter, counter)?;
+                self.write::<T>(alloc, &text, true)
+            }
+        }
+    }
+
+    /// What a call answers on a list.
+    pub fn answer(
+        &mut self,
+        alloc: Global,
+        list: ListKind,
+        call: Call,
+    ) -> Result<Answer, AllocError> {
+        match list {
+            ListKind::Dds => self.answer_on::<DdsPdl>(alloc, call),
+            ListKind::Sdl | ListKind::SdlTwo => self.answer_on::<Sdl>(alloc, call),
+        }
+    }
+
+    /// Mounts the disc.
+    pub fn mount(&mut self, alloc: Global) -> Found {
+        let taken = &mut self.taken;
+        if taken.medium.blocks() != taken.geometry.total() {
+            return Found::Off;
+        }
+        found_of(mount(alloc, &mut taken.medium, &taken.geometry, &mut self.scratch))
+    }
+}

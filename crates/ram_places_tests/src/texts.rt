@@ -1,0 +1,57 @@
+//! The texts of both lists: what a block says, and what is written of that again.
+
+use ram_bytes::Block;
+use ram_dds::DdsPdl;
+use ram_sdl::Sdl;
+use std::alloc::{AllocError, Global};
+use std::fmt::Write;
+
+/// A block with other bytes than those of any text.
+fn spoiled(alloc: Global) -> Result<Block, AllocError> {
+    let mut block = Block::zeros(alloc)?;
+    block.fill(0xff);
+    Ok(block)
+}
+
+/// Adds whether the text was written again as it was.
+fn add_again(same: bool, answer: &mut String) -> Result<(), AllocError> {
+    answer.push_str(if same {
+        "; the same again"
+    } else {
+        "; another again"
+    })
+}
+
+/// Adds the structure whose text a block is, and whether it is written again so.
+pub fn add_dds(alloc: Global, text: &Block, answer: &mut String) -> Result<(), AllocError> {
+    let Some(value) = DdsPdl::decode(alloc, text)? else {
+        return answer.push_str("no text");
+    };
+    let mut again = spoiled(alloc)?;
+    value.encode(&mut again);
+    write!(answer, "{} {:?} {}", value.counter, value.state, value.psa)?;
+    for entry in value.entries.as_slice() {
+        write!(answer, ", {} {:?}", entry.block, entry.kind)?;
+    }
+    add_again(again.same(text), answer)
+}
+
+/// Adds the secondary list whose text a block is, and whether it is written again so: up to three of its entries, and how many
+/// it has.
+pub fn add_sdl(alloc: Global, text: &Block, answer: &mut String) -> Result<(), AllocError> {
+    let Some(value) = Sdl::decode(alloc, text)? else {
+        return answer.push_str("no text");
+    };
+    let mut again = spoiled(alloc)?;
+    value.encode(&mut again);
+    write!(
+        answer,
+        "{} {} {}",
+        value.counter, value.dds_counter, value.ssa
+    )?;
+    write!(answer, ", {} entries", value.entries.len())?;
+    for entry in value.entries.as_slice().iter().take(3) {
+        write!(answer, ", {} {:?}", entry.defective, entry.replacement)?;
+    }
+    add_again(again.same(text), answer)
+}

@@ -1,0 +1,48 @@
+-- Where a line is told that no spare is left, none is.
+use Rattle.std.specs.Prelude.{◌≡◌, ℕ, Ok, Err, List}
+use Rattle.std.proofs.Common.{subst}
+use Rattle.model_fairness.proofs.Calls.{none_left}
+use Rattle.model_target.proofs.Sensed.{step_lacks}
+use Rattle.model_sense.specs.Sense.{sense_at}
+use Rattle.model_sense.specs.declared.sense.Sense.{Sense}
+use Rattle.model_sense.specs.declared.answer.Answer.{Answer}
+use Rattle.model_sense.specs.declared.answer.Answer.TheVariants as answers
+use Rattle.model_target.specs.Steps.{IsStep as ExecutesTo}
+use Rattle.ram_text.specs.declared.script.Line.{Line}
+use Rattle.ram_text.specs.declared.script.Line.TheVariants as lines
+use Rattle.ram_run.specs.declared.reply.Reply.{Reply}
+use Rattle.ram_run.specs.declared.reply.Reply.TheVariants as replies
+use Rattle.ram_run.specs.declared.stopped.Stopped.TheVariants as stopped
+use Rattle.ram_run.specs.Replies.{command_outcome}
+use Rattle.ram_run.specs.States.{State, Unopened, Disc}
+use Rattle.ram_run.specs.LineSteps.{OnDisc, Step}
+use Rattle.ram_run.specs.Run.{AnsweredLine, IsStep}
+use Rattle.ram_run.specs.Fairness.{FairNow, WasToldNoSpare, HasNoSpareLeft}
+use Rattle.ram_run.proofs.FairRuns.{step_fair}
+
+-- the answer that tells it
+checked_outcome : (cdb : List ℕ) (why : Sense) (answer : Answer) → Ok (replies.Command cdb (answers.Check why)) ≡ command_outcome cdb answer → answer ≡ answers.Check why
+checked_outcome cdb why answers.Good is = absurd cc
+checked_outcome cdb why (answers.Check other) is = cc
+checked_outcome cdb why answers.Cut is = absurd cc
+checked_outcome cdb why answers.Off is = absurd cc
+checked_outcome cdb why answers.Fault is = absurd cc
+checked_outcome cdb why answers.NoMemory is = absurd cc
+
+no_disc : (reply : Reply) → Ok reply ≡ Err stopped.NotADisc → ⊥
+no_disc reply is = cc
+
+on_disc : (s t : State) (cdb payload data_in : List ℕ) (named : ℕ) → FairNow t → OnDisc s (lines.Command cdb) payload (Ok (replies.Command cdb (answers.Check (sense_at 0x3 0x32 0x00 named)))) data_in t → HasNoSpareLeft t
+on_disc (Unopened image) t cdb payload data_in named fair step = absurd (no_disc (replies.Command cdb (answers.Check (sense_at 0x3 0x32 0x00 named))) step.0)
+on_disc (Disc s) (Unopened image) cdb payload data_in named fair step = absurd step
+on_disc (Disc s) (Disc t) cdb payload data_in named fair step =
+    let lacks = step_lacks s.disc.shown t.disc.shown (λ x. x ≡ s.disc.standing) (λ x. x ≡ t.disc.standing) s.host t.host cdb payload data_in named
+    (subst (λ (a : Answer). ExecutesTo s.disc.shown t.disc.shown (λ x. x ≡ s.disc.standing) (λ x. x ≡ t.disc.standing) s.host t.host cdb payload a data_in)
+    (checked_outcome cdb (sense_at 0x3 0x32 0x00 named) step.rule.answer step.rule.outcome_is) step.rule.step) in
+    λ lists is spare has replaces. none_left s.disc.shown t.disc.shown lacks.lba lacks.n named lists fair lacks.lacks is spare has replaces
+
+pub none_left_now : (s t : State) (event : AnsweredLine) → FairNow s → IsStep s event t → WasToldNoSpare event → HasNoSpareLeft t
+none_left_now s t event fair step told =
+    on_disc s t told.cdb event.payload event.data_in told.named (step_fair s t event.line event.payload event.data_in (Ok event.reply) step.step fair)
+    (subst (λ (l : Line). Step s l event.payload (Ok (replies.Command told.cdb (answers.Check (sense_at 0x3 0x32 0x00 told.named)))) event.data_in t) told.line_is
+    (subst (λ (r : Reply). Step s event.line event.payload (Ok r) event.data_in t) told.reply_is step.step))

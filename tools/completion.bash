@@ -1,0 +1,39 @@
+# Completes the words of ram_drive, ram-map, ram-ctl and nbdkit-dvdram-plugin in bash.
+
+_ram_drive() {
+    case $COMP_CWORD in
+        1) mapfile -t COMPREPLY < <(compgen -W 'run generate --help --version' -- "$2") ;;
+        2) [[ ${COMP_WORDS[1]} != run && ${COMP_WORDS[1]} != generate ]] || mapfile -t COMPREPLY < <(compgen -f -- "$2") ;;
+    esac
+}
+
+_ram_map() {
+    case $3$2 in
+        --output* | =*) mapfile -t COMPREPLY < <(compgen -W 'human json ddrescue term svg' -- "${2#=}") ;;
+        *) mapfile -t COMPREPLY < <(compgen -f -- "$2"; compgen -W '--output' -- "$2") ;;
+    esac
+}
+
+_ram_ctl() {
+    case $COMP_CWORD in
+        1) mapfile -t COMPREPLY < <(compgen -f -- "$2") ;;
+        *) mapfile -t COMPREPLY < <(compgen -W 'fail wear cut power cdb stats list disarm' -- "$2") ;;
+    esac
+}
+
+_nbdkit_dvdram_plugin() {
+    local name=$3
+    [[ $2 != '=' ]] || name=${COMP_WORDS[COMP_CWORD - 1]}
+    [[ $name != '=' ]] || name=${COMP_WORDS[COMP_CWORD - 2]}
+    case $name in
+        format | force) mapfile -t COMPREPLY < <(compgen -W 'yes no' -- "${2#=}") ;;
+        poweroff) mapfile -t COMPREPLY < <(compgen -W 'stay again exit' -- "${2#=}") ;;
+        image | program | control) mapfile -t COMPREPLY < <(compgen -f -- "${2#=}") ;;
+        *) mapfile -t COMPREPLY < <(compgen -S= -W 'image press format force program control poweroff' -- "$2"); compopt -o nospace ;;
+    esac
+}
+
+complete -F _ram_drive ram_drive
+complete -F _ram_map ram-map
+complete -F _ram_ctl ram-ctl
+complete -F _nbdkit_dvdram_plugin nbdkit-dvdram-plugin

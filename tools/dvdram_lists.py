@@ -1,0 +1,202 @@
+"""The two defect lists of a disc: their texts, which of them are valid, and which a mount chooses.
+
+A copy is one only where all its bytes are the text of a list, so a block is decoded, spelled again and compared.
+"""
+from __future__ import annotations
+
+from dataclasses import dataclass
+from functools import cached_property
+from itertools import accumulate
+from typing import Callable, Protocol, TypeVar
+
+BLOCK = 32_768
+MOST_SPARES = 4_092
+
+
+@dataclass(frozen=True)
+class Geometry:
+    """The zones of a disc, their scale, and its primary spares."""
+
+    zones: int
+    scale: int
+    spares: int
+
+    @property
+    def sizes(self) -> list[int]:
+        return [self.scale * (25 + zone) for zone in range(self.zones)]
+
+    @cached_property
+    def data(self) -> list[int]:
+        """The data blocks: all of each zone but its first and its last."""
+        starts = accumulate(self.sizes, initial=8)
+        return [block for start, size in zip(starts, self.sizes) for block in range(start + 1, start + size - 1)]
+
+    @property
+    def lead_out(self) -> int:
+        return 8 + sum(self.sizes)
+
+    @property
+    def total(self) -> int:
+        return self.lead_out + 8
+
+    @property
+    def guards(self) -> set[int]:
+        return set(range(8, self.lead_out)) - set(self.data)
+
+    @property
+    def structure_blocks(self) -> list[int]:
+        """The blocks of the four copies of the structure; each copy of the secondary list lies in the next one."""
+        return [0, 2, self.lead_out, self.lead_out + 2]
+
+    def is_lawful(self) -> bool:
+        return (1 <= self.zones <= 35 and 1 <= self.scale <= 100
+                and 1 <= self.spares <= MOST_SPARES and self.spares < len(self.data))
+
+
+def big(number: int, size: int) -> bytes:
+    return number.to_bytes(size, "big")
+
+
+def number(text: bytes, first: int, size: int) -> int:
+    return int.from_bytes(text[first:first + size], "big")
+
+
+def rises(blocks: list[int]) -> bool:
+    return all(a < b for a, b in zip(blocks, blocks[1:]))
+
+
+@dataclass(frozen=True)
+class Structure:
+    """The disc definition structure with the primary list: pairs of a kind and a block that is slipped over."""
+
+    counter: int
+    is_formatted: bool
+    spares: int
+    entries: tuple[tuple[int, int], ...]
+
+    @classmethod
+    def decode(cls, text: bytes) -> Structure | None:
+        """The structure whose text this block is, if it is one."""
+        count = number(text, 2050, 2)
+        starts = range(2052, 2052 + 4 * min(count, MOST_SPARES), 4)
+        entries = tuple((text[at], number(text, at + 1, 3)) for at in starts)
+        value = cls(number(text, 4, 4), text[3] == 128, number(text, 8, 2), entries)
+        return value if value.is_lawful() and value.encode() == text else None
+
+    def encode(self) -> bytes:
+        head = bytes((10, 10, 1, 128 if self.is_formatted else 0)) + big(self.counter, 4) + big(self.spares, 2)
+        entries = b"".join(bytes((kind,)) + big(block, 3) for kind, block in self.entries)
+        return (head.ljust(2048, b"\0") + bytes((0, 1)) + big(len(self.entries), 2) + entries).ljust(BLOCK, b"\0")
+
+    @property
+    def slipped(self) -> list[int]:
+        return [block for _, block in self.entries]
+
+    def is_lawful(self) -> bool:
+        return (1 <= self.spares <= MOST_SPARES and len(self.entries) <= self.spares
+                and (self.is_formatted or not self.entries) and rises(self.slipped)
+                and all(kind <= 2 for kind, _ in self.entries))
+
+    def is_valid(self, geometry: Geometry) -> bool:
+        return self.spares == geometry.spares and set(self.slipped) <= set(geometry.data)
+
+
+@dataclass(frozen=True)
+class Secondary:
+    """The secondary list: pairs of a dead block and what replaces it, which is none for a spare that is retired."""
+
+    counter: int
+    structure_counter: int
+    spares: int
+    entries: tuple[tuple[int, int | None], ...]
+
+    @classmethod
+    def decode(cls, text: bytes) -> Secondary | None:
+        """The secondary list whose text this block is, if it is one."""
+        starts = range(32, 32 + 8 * min(number(text, 14, 2), MOST_SPARES), 8)
+        entries = tuple((number(text, at + 1, 3), None if text[at] else number(text, at + 5, 3)) for at in starts)
+        value = cls(number(text, 4, 4), number(text, 8, 4), number(text, 12, 2), entries)
+        return value if value.is_lawful() and value.encode() == text else None
+
+    def encode(self) -> bytes:
+        head = bytes((0, 2, 1, 0)) + big(self.counter, 4) + big(self.structure_counter, 4)
+        head += big(self.spares, 2) + big(len(self.entries), 2)
+        entries = b"".join(bytes((other is None,)) + big(block, 3) + big(other or 0, 4) for block, other in self.entries)
+        return (head.ljust(32, b"\0") + entries).ljust(BLOCK, b"\0")
+
+    def is_lawful(self) -> bool:
+        return self.spares <= MOST_SPARES and rises([block for block, _ in self.entries])
+
+
+@dataclass(frozen=True)
+class Lists:
+    """Both lists of a disc, and where its blocks lie by them."""
+
+    geometry: Geometry
+    structure: Structure
+    secondary: Secondary
+
+    @property
+    def unslipped(self) -> list[int]:
+        slipped = set(self.structure.slipped)
+        return [block for block in self.geometry.data if block not in slipped]
+
+    @property
+    def primary_spares(self) -> list[int]:
+        return self.unslipped[:self.structure.spares - len(self.structure.entries)]
+
+    @property
+    def logical(self) -> list[int]:
+        """The block of each logical block, before any is replaced."""
+        unslipped, first = self.unslipped, len(self.primary_spares)
+        return unslipped[first:len(unslipped) - self.secondary.spares]
+
+    @property
+    def supplementary_spares(self) -> list[int]:
+        unslipped = self.unslipped
+        return unslipped[len(unslipped) - self.secondary.spares:]
+
+    @property
+    def homes(self) -> list[int]:
+        """The block in which each logical block lies."""
+        replaced = {block: other for block, other in self.secondary.entries if other is not None}
+        return [replaced.get(block, block) for block in self.logical]
+
+    def are_valid(self) -> bool:
+        """The secondary list names the structure's counter, and is valid under it."""
+        most = self.geometry.spares + self.secondary.spares
+        if (self.secondary.structure_counter != self.structure.counter or most > MOST_SPARES
+                or most >= len(self.geometry.data)):
+            return False
+        spares = {*self.primary_spares, *self.supplementary_spares}
+        logical = set(self.logical)
+        dead = {block for block, _ in self.secondary.entries}
+        used = [other for _, other in self.secondary.entries if other is not None]
+        return (dead <= spares | logical and set(used) <= spares - dead and len(set(used)) == len(used)
+                and all((block in spares) == (other is None) for block, other in self.secondary.entries))
+
+
+class Counted(Protocol):
+    @property
+    def counter(self) -> int:
+        """The counter of a list."""
+
+
+Copy = TypeVar("Copy", bound=Counted)
+
+
+def newest(copies: list[Copy]) -> Copy | None:
+    """The list of the greatest counter; of equal ones that of the lowest area."""
+    return max(copies, key=lambda copy: copy.counter) if copies else None
+
+
+def choose(geometry: Geometry, readable: Callable[[int], bytes | None]) -> tuple[Structure | None, Lists | None]:
+    """The structure that a mount chooses, and both lists where the disc is formatted, over its readable blocks."""
+    texts = [(readable(block), readable(block + 1)) for block in geometry.structure_blocks]
+    structures = [Structure.decode(text) for text, _ in texts if text]
+    structure = newest([copy for copy in structures if copy and copy.is_valid(geometry)])
+    if not structure or not structure.is_formatted:
+        return structure, None
+    secondaries = [Secondary.decode(text) for _, text in texts if text]
+    secondary = newest([copy for copy in secondaries if copy and Lists(geometry, structure, copy).are_valid()])
+    return structure, Lists(geometry, structure, secondary) if secondary else None

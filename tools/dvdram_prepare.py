@@ -1,0 +1,133 @@
+"""What is done before a disc is served: its image is opened and locked, and a disc is pressed and formatted where that is due."""
+from __future__ import annotations
+
+import fcntl
+import os
+import re
+import shutil
+import subprocess
+from dataclasses import dataclass, fields
+from pathlib import Path
+
+from dvdram import Ended, Refused
+from dvdram_disc import Disc, NoDisc, State
+from dvdram_drive import FORMAT, IS_READY, Drive
+
+HERE = Path(__file__).resolve().parent
+CHOICES = {"format": ("yes", "no"), "force": ("yes", "no"), "poweroff": ("stay", "again", "exit")}
+
+
+class Wrong(Exception):
+    """A parameter, an image or a request that cannot be taken; its text says why."""
+
+
+@dataclass
+class Parameters:
+    """What the command line says."""
+
+    image: str = ""
+    press: str = ""
+    format: str = "no"
+    force: str = "no"
+    program: str = ""
+    control: str = ""
+    poweroff: str = "stay"
+
+    def take(self, key: str, value: str) -> None:
+        """Takes a parameter."""
+        names = [item.name for item in fields(self)]
+        if key not in names:
+            raise Wrong(f"{key} is no parameter: there are {', '.join(names)}")
+        if value not in CHOICES.get(key, (value,)):
+            raise Wrong(f"{key}={value}: it is one of {', '.join(CHOICES[key])}")
+        setattr(self, key, value)
+
+    def complete(self) -> None:
+        """Sees that all is there, and makes paths whole: a server goes to another folder."""
+        if not self.image:
+            raise Wrong("image=FILE is missing")
+        if self.press and not re.fullmatch(r"\d{1,10},\d{1,10},\d{1,10}", self.press, re.ASCII):
+            raise Wrong(f"press={self.press}: it has three numbers, ZONES,SCALE,SPARES")
+        self.image = os.path.abspath(self.image)
+        self.control = self.control and os.path.abspath(self.control)
+
+
+def find_program(words: Parameters) -> list[str]:
+    """The program: the one named, that of this checkout, the one installed beside these tools, or one on the path."""
+    places = (HERE.parent / "drive", HERE.parent.parent / "bin" / "ram_drive")
+    found = words.program or next((str(place) for place in places if place.is_file()), "ram_drive")
+    program = shutil.which(found)
+    if not program:
+        raise Wrong(f"program={found}: there is no such program")
+    version = subprocess.run([program, "--version"], stdin=subprocess.DEVNULL, stdout=subprocess.PIPE, check=False)
+    if not version.stdout.startswith(b"ram_drive "):
+        raise Wrong(f"program={found}: it is no drive")
+    return [os.path.abspath(program)]
+
+
+def open_image(words: Parameters) -> int:
+    """Opens the image and locks it. It is made, empty, where a disc is to be pressed into it."""
+    try:
+        image = os.open(words.image, os.O_RDWR | os.O_CLOEXEC | (os.O_CREAT if words.press else 0), 0o666)
+        fcntl.flock(image, fcntl.LOCK_EX | fcntl.LOCK_NB)
+    except FileNotFoundError:
+        raise Wrong(f"image={words.image} is not there: press=ZONES,SCALE,SPARES makes it") from None
+    except BlockingIOError:
+        raise Wrong(f"image={words.image} is in use by another drive") from None
+    except OSError as error:
+        raise Wrong(f"image={words.image}: {error.strerror}") from None
+    return image
+
+
+def prepare(words: Parameters, program: list[str]) -> None:
+    """Presses and formats the disc where that is asked for and due, and sees that it has sectors."""
+    if must_press(words):
+        press(words, program)
+    drive = Drive(program, words.image, is_on=False)
+    answer = drive.say("power")[0]
+    if answer == "not formatted" and words.format == "yes":
+        format_disc(words, drive)
+    elif answer == "not formatted" and not words.control:
+        raise Wrong(f"image={words.image} is not formatted: format=yes formats it")
+    end(drive)
+
+
+def must_press(words: Parameters) -> bool:
+    """Whether a disc is to be pressed: where there is none, or by force."""
+    if words.press and words.force == "yes":
+        return True
+    try:
+        Disc(words.image).close()
+    except NoDisc:
+        if not words.press:
+            raise Wrong(f"image={words.image} holds no disc: press=ZONES,SCALE,SPARES makes one") from None
+        return True
+    return False
+
+
+def press(words: Parameters, program: list[str]) -> None:
+    """Presses a disc into the image."""
+    drive = Drive(program, words.image, is_on=False)
+    answer = drive.command(f"press {words.press.replace(',', ' ')}")[0]
+    end(drive)
+    if answer != "pressed":
+        raise Wrong(f"press={words.press}: no disc has these numbers")
+
+
+def format_disc(words: Parameters, drive: Drive) -> None:
+    """Formats the disc. One that was written before is formatted by force alone: it may have lost its lists."""
+    with Disc(words.image) as disc:
+        was_written = any(state in (State.GOOD, State.TORN) for state in disc.states)
+    if was_written and words.force == "no":
+        raise Wrong(f"image={words.image} was written, and is not formatted any more: force=yes formats it anew")
+    drive.command(IS_READY)
+    answer = drive.command(FORMAT)[0]
+    if answer != "good":
+        raise Refused(answer)
+
+
+def end(drive: Drive) -> None:
+    """Ends the drive's session, and sees that all of it was done."""
+    status = drive.end()
+    if status:
+        raise Ended(f"the program ended with status {status}")

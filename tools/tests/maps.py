@@ -1,0 +1,153 @@
+"""The map of a disc, tried against the program on images that were made to mislead it."""
+from __future__ import annotations
+
+import json
+import random
+import shutil
+from dataclasses import replace
+from pathlib import Path
+from typing import cast
+
+from dvdram_disc import HEADER, Disc, State
+from dvdram_lists import BLOCK, Geometry, Secondary, Structure
+from support import TOOLS, Wrongs, done, run_script, unlike
+
+GEOMETRY = Geometry(1, 1, 4)
+IMAGES = 160
+MADE = """press 1 1 4
+fail 20
+power
+cdb 000000000000
+cdb 041100000000 hex 000000080000013000000800
+cdb 041100000000 hex 000000080000011004000000
+fail 15
+fail 12
+cdb 2a000000004000001000 fill aa
+cdb 2a000000003000001000 fill aa
+power
+"""
+
+
+class Image:
+    """A disc whose blocks are all told apart by their bytes, and whose lists can be set."""
+
+    def __init__(self, path: Path) -> None:
+        self.path, self.bytes = path, bytearray(path.read_bytes())
+
+    def place(self, block: int) -> int:
+        return HEADER + GEOMETRY.total + BLOCK * block
+
+    def text(self, block: int) -> bytes:
+        return bytes(self.bytes[self.place(block):self.place(block) + BLOCK])
+
+    def put(self, block: int, text: bytes, state: int = 1) -> None:
+        self.bytes[self.place(block):self.place(block) + BLOCK] = text
+        self.bytes[HEADER + block] = state
+
+    def save(self, path: Path) -> None:
+        path.write_bytes(self.bytes)
+
+
+def mislead(image: Image, chance: random.Random) -> None:
+    """Changes some copies of one list to the same text, and makes some of the others unreadable."""
+    which = chance.randrange(2)
+    areas = [block + which for block in GEOMETRY.structure_blocks]
+    text = changed(image.text(chance.choice(areas)), chance)
+    for block in areas:
+        if chance.randrange(3):
+            image.put(block, text)
+        elif chance.randrange(2):
+            image.bytes[HEADER + block] = chance.choice((0, 2, 3, 4, 255))
+
+
+def changed(text: bytes, chance: random.Random) -> bytes:
+    """The text of a list with one bit flipped, or that of a list that differs in one thing."""
+    structure, secondary = Structure.decode(text), Secondary.decode(text)
+    if structure and chance.randrange(2):
+        return changed_structure(structure, chance).encode()
+    if secondary and chance.randrange(2):
+        return changed_secondary(secondary, chance).encode()
+    flipped = bytearray(text)
+    flipped[chance.choice((*range(0, 64, 3), 2047, 2048, 2051, 2055, 2060, BLOCK - 1))] ^= 1 << chance.randrange(8)
+    return bytes(flipped)
+
+
+def changed_structure(old: Structure, chance: random.Random) -> Structure:
+    """A structure that differs in one thing, which may be one that no disc has."""
+    slipped = tuple((chance.randrange(3), block) for block in sorted(chance.sample(range(7, 34), chance.randrange(4))))
+    return chance.choice((replace(old, counter=old.counter + 1), replace(old, is_formatted=not old.is_formatted),
+                          replace(old, spares=chance.randrange(6)), replace(old, entries=slipped)))
+
+
+def changed_secondary(old: Secondary, chance: random.Random) -> Secondary:
+    """A secondary list that differs in one thing, which may be one that no disc has."""
+    pairs = tuple((block, chance.choice((None, chance.randrange(8, 33))))
+                  for block in sorted(chance.sample(range(8, 33), chance.randrange(4))))
+    spares = tuple((block, other if other is None or chance.randrange(2) else chance.choice((9, 10, 11, 31)))
+                   for block, other in old.entries)
+    moved = tuple(zip(sorted(chance.sample(range(12, 30), 3)), chance.sample((9, 10, 11, 30, 31), 3)))
+    return chance.choice((replace(old, counter=old.counter + chance.randrange(1, 3)), replace(old, entries=pairs),
+                          replace(old, entries=moved), replace(old, counter=old.counter + 1, entries=moved),
+                          replace(old, entries=spares), replace(old, spares=chance.randrange(25)),
+                          replace(old, structure_counter=old.structure_counter + chance.choice((-1, 1)))))
+
+
+def by_program(path: Path) -> tuple[int, list[int | None]]:
+    """How many sectors the program finds, and the block in which it finds each logical block, where it can be read."""
+    reads = "".join(f"cdb 28{0:02x}{16 * block:08x}00000100\n" for block in range(len(GEOMETRY.data)))
+    first, _, *rows = run_script(path, f"power\ncdb 000000000000\n{reads}")
+    sectors = int(first.split()[2]) if "ready" in first else 0
+    answers, homes = iter(rows), cast("list[int | None]", [])
+    for row in answers:
+        if len(homes) < sectors // 16:
+            homes.append(int(next(answers).split()[3], 16) if row.endswith("good") else None)
+    return sectors, homes
+
+
+def hostile() -> Wrongs:
+    """The map names the same sectors and homes as the program finds, whatever the lists are."""
+    made, tried = Path("made.img"), Path("tried.img")
+    run_script(made, MADE)
+    plain = Image(made)
+    for block in GEOMETRY.data:
+        plain.put(block, bytes((block,)) * BLOCK, plain.bytes[HEADER + block])
+    plain.save(made)
+    seen: set[tuple[int, tuple[int | None, ...]]] = set()
+    for number in range(IMAGES):
+        chance, image = random.Random(number), Image(made)
+        for _ in range(1 + chance.randrange(3)):
+            mislead(image, chance)
+        image.save(tried)
+        with Disc(str(tried)) as disc:
+            homes = disc.lists.homes if disc.lists else []
+            mapped = disc.sectors, [home if disc.states[home] is State.GOOD else None for home in homes]
+        found = by_program(tried)
+        seen.add((found[0], tuple(found[1])))
+        yield from unlike(f"hostile image {number}", mapped, found)
+    if len(seen) < 12:
+        yield f"the hostile images give {len(seen)} discs alone"
+
+
+def shown(form: str) -> str:
+    return done(TOOLS / "ram-map", "disc.img", f"--output={form}").stdout
+
+
+def outputs() -> Wrongs:
+    """Each output says what became of the blocks of a disc."""
+    run_script("disc.img", MADE)
+    runs = json.loads(shown("json"))
+    yield from unlike("the runs cover the disc", sum(run["length"] for run in runs), GEOMETRY.total)
+    named = {run["start"]: (run["role"], run["state"], run.get("sector"), run.get("with")) for run in runs}
+    for block, due in {15: ("replaced", "dead", 48, 11), 11: ("replacement", "good", 48, 15), 20: ("slipped", "dead", None, None),
+                       9: ("spare", "good", None, None), 12: ("data", "dead", 0, None)}.items():
+        yield from unlike(f"block {block} of the map", named.get(block), due)
+    yield from unlike("the map file", shown("ddrescue").splitlines()[4:],
+                      ["0x00000000  0x00008000  -", "0x00008000  0x00080000  +"])
+    Path("disc.map").write_text(shown("ddrescue"), encoding="utf-8")
+    if shutil.which("ddrescuelog"):
+        yield from unlike("bad blocks by ddrescuelog", done("ddrescuelog", "-b2048", "-l-", "disc.map").stdout.split(),
+                          [str(sector) for sector in range(16)])
+    yield from unlike("squares of the picture", shown("svg").count("<title>block "), GEOMETRY.total)
+    yield from unlike("signs of the characters", shown("term").splitlines()[2][:8], "DSDS----")
+    told = done(TOOLS / "ram-map", "disc.map").stdout
+    yield from unlike("a file that holds no disc", told, "ram-map: disc.map holds no disc\n")

@@ -1,0 +1,161 @@
+"""The drive as a network block device: there and back, failures in use, and what can go wrong."""
+from __future__ import annotations
+
+import os
+import random
+import signal
+import subprocess
+from pathlib import Path
+
+from dvdram_disc import HEADER
+from support import PLUGIN, PROGRAM, TOOLS, Server, Wrongs, done, random_bytes, run_script, unlike
+
+SIZE = 304 * 2048
+NEW = "press=1,1,4", "format=yes"
+CUT = "Input/output error"
+
+
+class Client:
+    """A client that stays connected: qemu-io, which is told one command after another."""
+
+    def __init__(self, server: Server) -> None:
+        self.process = subprocess.Popen(["qemu-io", "-f", "raw", server.uri], stdin=subprocess.PIPE,
+                                        stdout=subprocess.PIPE, stderr=subprocess.STDOUT, bufsize=0)
+        assert self.process.stdin and self.process.stdout
+        self.commands, self.shown = self.process.stdin, self.process.stdout
+        self.until_prompt()
+
+    def until_prompt(self) -> str:
+        text = b""
+        while not text.endswith(b"qemu-io> ") and (more := os.read(self.shown.fileno(), 65536)):
+            text += more
+        return text.decode()
+
+    def do(self, command: str) -> str:
+        """The first line that is told of this command."""
+        self.commands.write(command.encode() + b"\n")
+        return self.until_prompt().splitlines()[0]
+
+    def kill(self) -> None:
+        self.process.kill()
+        self.process.wait()
+
+
+def there_and_back() -> Wrongs:
+    """What nbdcopy writes is read back, after the server was started anew too, and qemu-img sees the same."""
+    Path("raw").write_bytes(random_bytes(random.Random(1), SIZE - 65536) + bytes(32768) + b"\xaa" * 32768)
+    with Server("image=disc.img", *NEW) as server:
+        yield from unlike("the size", done("nbdinfo", "--size", server.uri).stdout, f"{SIZE}\n")
+        yield from unlike("nbdcopy there", done("nbdcopy", "--flush", "raw", server.uri).stdout, "")
+    with Server("image=disc.img", *NEW) as server:
+        yield from unlike("nbdcopy back", done("nbdcopy", server.uri, "back").stdout, "")
+        yield from unlike("the bytes that came back", Path("back").read_bytes() == Path("raw").read_bytes(), True)
+
+
+def seen_by_qemu() -> Wrongs:
+    """qemu-img compares and converts the disc, and qemu-io writes parts, zeros and by FUA."""
+    Path("raw").write_bytes(random_bytes(random.Random(2), SIZE))
+    with Server("image=disc.img", *NEW) as server:
+        for words, due in (("convert -n -f raw -O raw raw", ""), ("compare -f raw -F raw raw", "Images are identical.\n")):
+            yield from unlike(f"qemu-img {words}", done("qemu-img", *words.split(), server.uri).stdout, due)
+        yield from unlike("qemu-io", server.io("write -P 7 6k 40k", "write -z 32k 64k", "write -f -P 9 100k 2k", "flush",
+                                               "read -P 7 6k 26k", "read -P 0 32k 64k", "read -P 9 100k 2k"),
+                          [f"{verb} {size}/{size} bytes at offset {at}" for verb, size, at in (
+                              ("wrote", 40960, 6144), ("wrote", 65536, 32768), ("wrote", 2048, 102400),
+                              ("read", 26624, 6144), ("read", 65536, 32768), ("read", 2048, 102400))])
+        lines = server.tell("stats")
+        yield from unlike("stats", [line.split()[0] for line in lines], ["lines", "sent", "received", "renewals", "restarts"])
+
+
+def failures() -> Wrongs:
+    """Blocks die and the power is cut under a client, which is told the errors of docs/BLOCK_DEVICE.md."""
+    wrote, read = "wrote 32768/32768 bytes at offset {}".format, "read 32768/32768 bytes at offset {}".format
+    with Server("image=disc.img", *NEW) as server:
+        client = Client(server)
+        steps = (  # those with @ are the client's
+            ("fail 14", "failed"), ("@read 32k 2k", f"read failed: {CUT}"),
+            ("@write -P 1 32k 2k", f"write failed: {CUT}"),
+            ("@write -P 1 32k 32k", wrote(32768)), ("@read -P 1 32k 32k", read(32768)),
+            ("list", "dead 14"), ("fail 9", "failed"), ("fail 10", "failed"), ("fail 11", "failed"), ("fail 12", "failed"),
+            ("@write -P 2 64k 32k", wrote(65536)), ("@write -P 2 32k 32k", "write failed: No space left on device"),
+            ("cut 1 torn", "armed"), ("list", "dead 9|dead 10|dead 11|dead 12|dead 14|armed cut 1 torn"),
+            ("@write -P 3 64k 32k", f"write failed: {CUT}"), ("@read 64k 32k", f"read failed: {CUT}"),
+            ("list", "dead 9|dead 10|dead 11|dead 12|dead 14|torn 15"),
+            ("power", "ready 304"), ("@read 64k 2k", f"read failed: {CUT}"), ("@write -P 4 64k 32k", wrote(65536)),
+            ("@read -P 4 64k 32k", read(65536)), ("cdb 041100000000 hex 000000080000011004000000", "good"),
+            ("@read 544k 2k", "read failed: Invalid argument"),
+            ("cut now", "cut"), ("cut now", "off"), ("@read 0 2k", f"read failed: {CUT}"),
+        )
+        for line, due in steps:
+            found = client.do(line[1:]) if line.startswith("@") else "|".join(server.tell(line))
+            yield from unlike(line, found, due)
+        yield from unlike("a new client while the power is off", done("nbdinfo", server.uri).returncode, 1)
+        yield from unlike("power", server.tell("power"), ["ready 272"])
+        yield from unlike("a new client", done("nbdinfo", "--size", server.uri).stdout, f"{272 * 2048}\n")
+        client.kill()
+        yield from unlike("traces", "Traceback" in server.told(), False)
+    with Server("image=disc.img", "poweroff=again") as server:
+        yield from unlike("poweroff=again", [*server.tell("cut 1 new"), *server.io("write -P 5 0 32k", "read -P 5 0 32k")],
+                          ["armed", f"write failed: {CUT}", read(0)])
+    with Server("image=disc.img", "poweroff=exit") as server:
+        server.tell("cut now")
+        yield from unlike("poweroff=exit", server.process.wait(10), 0)
+
+
+def accidents() -> Wrongs:
+    """A client goes away, and the program is killed: nothing hangs, and what was acknowledged stays."""
+    with Server("image=disc.img", *NEW) as server:
+        yield from unlike("a write", server.io("write -P 6 0 32k"), ["wrote 32768/32768 bytes at offset 0"])
+        children = Path(f"/proc/{server.process.pid}/task/{server.process.pid}/children")
+        os.kill(int(children.read_text(encoding="ascii").split()[0]), signal.SIGKILL)
+        yield from unlike("a request to a program that was killed", server.tell("cdb 000000000000"),
+                          ["the program ended with status -9"])
+        yield from unlike("a read after that", server.io("read -P 6 0 32k"), ["read 32768/32768 bytes at offset 0"])
+        yield from unlike("restarts", server.tell("stats")[-1:], ["restarts 1"])
+        client = Client(server)
+        client.commands.write(b"read 0 512k\n")
+        client.kill()
+        yield from unlike("a read after a client went away", server.io("read -P 6 0 32k"), ["read 32768/32768 bytes at offset 0"])
+        told = server.tell("press 1 1 4", "wear 3 0", "cdb 0", "fail 4294967296", "# no", "walk", "fail 99")
+        yield from unlike("bad lines", told, ["not in the script language"] * 5 + ["no such block"])
+        yield from unlike("a line that is too long", server.tell("cdb 00 hex " + "00" * 35000), ["too long"])
+        yield from unlike("wear", server.tell("wear 13 9", "cut 5 old", "list", "disarm", "list"),
+                          ["armed", "armed", "armed wear 13 9", "armed cut 5 old", "disarmed"])
+        yield from unlike("another drive over the image", refusal("image=disc.img"), "disc.img is in use by another drive")
+
+
+def refusal(*words: str, program: Path | str = PROGRAM) -> str:
+    """The end of the one line that a plugin tells that does not serve."""
+    told = done(PLUGIN, "-f", "-U", "other.sock", f"program={program}", *words).stdout.splitlines()
+    return told[0].rpartition("/")[2] if len(told) == 1 else "\n".join(told)
+
+
+def bad_parameters() -> Wrongs:
+    """Each is told in one line."""
+    Path("raw").write_bytes(b"no disc")
+    Path("left.ctl").write_text("a file", encoding="ascii")
+    done(PLUGIN, "-U", "-", f"program={PROGRAM}", "image=bare.img", "press=1,1,4", "control=bare.ctl", "--run", "true")
+    for words, due in (
+            (("image=none.img",), "none.img is not there: press=ZONES,SCALE,SPARES makes it"),
+            (("image=raw",), "raw holds no disc: press=ZONES,SCALE,SPARES makes one"),
+            (("image=bare.img",), "bare.img is not formatted: format=yes formats it"),
+            (("image=bare.img", "format=yes", "control=left.ctl"), "left.ctl: there is a file of that name"),
+            (("image=new.img", "press=1,1,400"), "error: press=1,1,400: no disc has these numbers"),
+            (("image=new.img", "press=1,1"), "error: press=1,1: it has three numbers, ZONES,SCALE,SPARES"),
+            (("image=new.img", "format=maybe"), "error: format=maybe: it is one of yes, no"),
+            (("image=new.img", "size=1"),
+             "error: size is no parameter: there are image, press, format, force, program, control, poweroff"),
+            ((), "error: image=FILE is missing")):
+        found = refusal(*words)
+        yield from unlike(" ".join(words), found[-len(due):], due)
+    for program, due in (("no-program", "no-program: there is no such program"), ("/bin/true", "true: it is no drive")):
+        yield from unlike(f"program={program}", refusal("image=bare.img", program=program)[-len(due):], due)
+    run_script("lost.img", "press 1 1 4\n")
+    lost = bytearray(Path("lost.img").read_bytes())
+    lost[HEADER + 12] = 1  # block 12 was written
+    Path("lost.img").write_bytes(lost)
+    yield from unlike("a disc that lost its lists", refusal("image=lost.img", *NEW),
+                      "lost.img was written, and is not formatted any more: force=yes formats it anew")
+    done(PLUGIN, "-U", "-", f"program={PROGRAM}", "image=lost.img", *NEW, "force=yes", "--run", "true")
+    yield from unlike("by force", done(TOOLS / "ram-map", "lost.img").stdout.splitlines()[1],
+                      "structure: counter 2, 0 blocks slipped")
