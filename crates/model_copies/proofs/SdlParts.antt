@@ -29,13 +29,6 @@ sdl_tells = record {
   two_decided = sdl_two_decided;
 }
 
--- what a first cell holds is of version 1
-pub held_version : (cell : Cell) (v : Sdl) → Holds IsSdlText cell v → v.version ≡ One
-held_version Blank v h = absurd h
-held_version (Good bytes) v h = h.lawful.version_is
-held_version Torn v h = absurd h
-held_version Dead v h = absurd h
-
 -- the counters that both parts say
 abbrev pub make_head : ℕ → ℕ → ℕ × ℕ
 make_head c d = (c, d)

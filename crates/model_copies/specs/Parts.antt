@@ -4,7 +4,7 @@ use Rattle.std.specs.Prelude.{◌≡◌, ℕ, zero, suc, ◌+◌, ◌≤◌, ◌
 use Rattle.model_geometry.specs.Geometry.{Shape, dds_block, sdl_block, sdl_second_block}
 use Rattle.model_medium.specs.Cells.{Cell, Blank, Good, Torn, Dead, cell_at}
 use Rattle.model_lists.specs.Values.{Dds, Sdl}
-use Rattle.model_lists.specs.Texts.{IsDdsText, IsTwo, IsSdlText, IsSdlSecond, NamesCounter}
+use Rattle.model_lists.specs.Texts.{IsDdsText, IsTwo, IsSdlText, IsSdlSecond, IsMore, NamesCounter}
 use Rattle.model_copies.specs.Copies.{IsArea, Holds, MayHold, Settled, IsMarked, IsMarkedWithin, Rewrites}
 
 -- A list is given by the texts of its parts: that of the first, that of the second, and which values have two. The first
@@ -145,11 +145,3 @@ pub record Mark (shape : Shape) (cells : List Cell) (mark : ℕ) : Type 0 where
 -- when they were read.
 abbrev pub RewritesSdl : Shape → List Cell → List Cell → Sdl → ℕ → Type 0
 RewritesSdl shape old new value count = Rewrites (λ cell. Holds IsSdlText cell value) (sdl_block shape) old new 4 count
-
--- how many copies of the first so many areas can be read whole, where a test says which cells are exactly their parts
-module _ {V : Type 0} (two : V → Type 0) (first second : V → List ℕ → Type 0) (place place' : ℕ → ℕ) (cells : List Cell) (value : V) where
-  -- just so many of the copies of the first so many areas are exactly the text
-  abbrev pub HaveCopies : ℕ → ℕ → Type 0
-  HaveCopies zero count = count ≡ 0
-  HaveCopies (suc k) count = (HasWhole two first second place place' cells value (suc k) × ((before : ℕ) × (count ≡ before + 1) × HaveCopies k before))
-      ⊎ (¬ HasWhole two first second place place' cells value (suc k) × HaveCopies k count)
