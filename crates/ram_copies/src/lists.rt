@@ -1,4 +1,4 @@
-//! The two lists of a disc, as lists that lie on it in four copies.
+//! The two lists of a disc, as lists that lie on it in four copies of one block or two.
 
 use crate::blocks::ListBlock;
 use ram_bytes::Block;
@@ -26,12 +26,31 @@ impl ListBlock for DdsPdl {
         self.counter
     }
 
-    fn encode(&self, into: &mut Block) {
+    fn parts(&self) -> u32 {
+        1
+    }
+
+    fn encode(&self, _part: u32, into: &mut Block) {
         self.encode(into);
     }
 
-    fn decode(alloc: Global, from: &Block) -> Result<Option<DdsPdl>, AllocError> {
-        DdsPdl::decode(alloc, from)
+    fn more(_first: &Block) -> bool {
+        false
+    }
+
+    fn more_mark(_first: &Block) -> u32 {
+        0
+    }
+
+    fn decode(
+        alloc: Global,
+        first: &Block,
+        second: Option<&Block>,
+    ) -> Result<Option<DdsPdl>, AllocError> {
+        match second {
+            None => DdsPdl::decode(alloc, first),
+            Some(_) => Ok(None),
+        }
     }
 }
 
@@ -54,11 +73,27 @@ impl ListBlock for Sdl {
         self.dds_counter
     }
 
-    fn encode(&self, into: &mut Block) {
-        self.encode(into);
+    fn parts(&self) -> u32 {
+        self.parts()
     }
 
-    fn decode(alloc: Global, from: &Block) -> Result<Option<Sdl>, AllocError> {
-        Sdl::decode(alloc, from)
+    fn encode(&self, part: u32, into: &mut Block) {
+        self.encode(part, into);
+    }
+
+    fn more(first: &Block) -> bool {
+        Sdl::more(first)
+    }
+
+    fn more_mark(first: &Block) -> u32 {
+        Sdl::more_mark(first)
+    }
+
+    fn decode(
+        alloc: Global,
+        first: &Block,
+        second: Option<&Block>,
+    ) -> Result<Option<Sdl>, AllocError> {
+        Sdl::decode(alloc, first, second)
     }
 }
