@@ -3,10 +3,10 @@ pub mod Areas
 pub mod Counting
 pub mod Mending
 pub mod Rewriting
+pub mod PartsOf
+pub mod OneCell
 pub mod Writing
+pub mod Stopping
+pub mod AreaByArea
 pub mod Lifting
-pub mod Best
-pub mod Halting
-pub mod Choosing
-pub mod Answering
-pub mod EachList
+pub mod ListTexts

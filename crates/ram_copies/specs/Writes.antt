@@ -27,9 +27,9 @@ module _ {M : Type 0} (world : M → World) (reaches : M → M → ℕ → Type 
   StopsAtCopy purposes.Repair stop = StopsMending world reaches old new block text stop
 
 -- the blocks are the parts of the text: the first, and the second where there are two
-pub record AreTexts (kind : ListKind) (value : ListValue) (first second : List ℕ) : Type 0 where
-  pub first : IsText kind value first
-  pub second : HasTwo value → IsSecond value second
+pub record AreTexts (kind : ListKind) (value : ListValue) (x y : List ℕ) : Type 0 where
+  pub first : IsText kind value x
+  pub second : HasTwo value → IsSecond value y
 
 -- how many uses it takes at most to put a text into all copies
 abbrev pub most_uses : Purpose → ListValue → ℕ

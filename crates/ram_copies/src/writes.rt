@@ -1,7 +1,7 @@
 //! The text of a list put into its copies, by an update into all of them, by a repair into those cells that are not exactly
 //! their parts of the text. It touches these alone.
 
-ghost use Rattle.std.specs.Prelude.{◌≡◌, ◌<◌, ◌+◌, ℕ, IsTrue, MatchResult};
+ghost use Rattle.std.specs.Prelude.{◌≡◌, ◌<◌, ◌≤◌, ◌+◌, ℕ, IsTrue, MatchResult};
 ghost use Rattle.model_geometry.specs.Geometry.{total};
 ghost use Rattle.ram_copies.specs.Writes.{HasPutCopy, StopsAtCopy, AreTexts, HasPutCopies, StopsPuttingCopies, one_more};
 
@@ -54,6 +54,8 @@ fn put_area<T: ListBlock, M: Medium>(
 ) -> Result<bool, Stop>
     requires size { M.block_count medium.old ≡ total geometry.now }
     requires on { IsTrue (M.world medium.old).power }
+    requires some { 1 ≤ area }
+    requires most { area ≤ 4 }
     requires texts { AreTexts T.LIST (T.value value.now) scratch.old.text scratch.old.second }
     ensures rule { (start : M) (k readable : ℕ) → area ≡ k + 1 → k < 4
         → HasPutCopies M.world M.reaches T.LIST geometry.now (T.value value.now) start medium.old purpose k readable
