@@ -1,5 +1,5 @@
 -- What the front of a first part says of the values that have it, and the value that a front and entries make.
-use Rattle.std.proofs.Common.{◌≡◌, ℕ, min, ◌-◌, ◌<◌, ◌^◌, inl, inr, List, ◌++◌, length, take, drop, All, refl, sym, ◌∙◌, ap, subst, arith, length-append, length-drop, length-take}
+use Rattle.std.proofs.Common.{◌≡◌, ℕ, min, ◌-◌, ◌<◌, ◌^◌, inl, inr, List, ◌++◌, length, take, drop, All, sym, ◌∙◌, ap, subst, arith, length-append, length-drop, length-take}
 use Rattle.std.specs.List.Sorted.{IsStrictlyIncreasing}
 use Rattle.std.proofs.lemmas.Bool.{cases_lt}
 use Rattle.std.proofs.lemmas.List.{take_at, drop_at, take_all, drop_all, append-nil, nil_from_length}
@@ -8,7 +8,7 @@ use Rattle.model_lists.specs.declared.sdl.SdlEntry.{SdlEntry}
 use Rattle.model_lists.specs.declared.versions.Version.{Version}
 use Rattle.model_lists.specs.declared.versions.Version.TheVariants.{One, Two}
 use Rattle.model_lists.specs.Values.{Sdl, IsLawfulSdl, IsWithinSdlLimits, HasNumbers, defectives, part_entries}
-use Rattle.model_lists.specs.Texts.{sdl_entry_bytes, Spells, IsSdlHeader, first_entries, IsSdlText, IsTwo, IsSdlSecond}
+use Rattle.model_lists.specs.Texts.{sdl_entry_bytes, Spells, IsSdlHeader, first_entries, IsSdlText, IsSdlSecond}
 use Rattle.model_lists.proofs.SdlTexts.{most_is, header_version, header_counter, header_dds, header_ssa, header_count, same_part}
 
 -- What the front of a first part says, within the limits.
