@@ -1,5 +1,6 @@
 pub mod Putting
 pub mod Areas
+pub mod ListTexts
 pub mod Counting
 pub mod Mending
 pub mod Rewriting
@@ -7,6 +8,7 @@ pub mod Writing
 pub mod Lifting
 pub mod Best
 pub mod Halting
+pub mod Looking
 pub mod Choosing
 pub mod Answering
 pub mod EachList
