@@ -1,6 +1,7 @@
 pub mod Putting
 pub mod Areas
 pub mod ListTexts
+pub mod Decoding
 pub mod Counting
 pub mod Mending
 pub mod Rewriting
