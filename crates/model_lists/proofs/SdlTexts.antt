@@ -3,14 +3,13 @@ use Rattle.std.proofs.Common.{◌≡◌, ◌⊎◌, inl, inr, ℕ, min, ◌-◌,
 use Rattle.std.specs.List.{flat_map}
 use Rattle.std.proofs.lemmas.List.{take-append-drop, take_at, drop_at, drop-drop, take_all}
 use Rattle.std.proofs.lemmas.List.Elements.{All-take, All-drop}
-use Rattle.model_bytes.proofs.Laws.{written_whole}
 use Rattle.byteorder.specs.Endian.{big_bytes}
 use Rattle.model_lists.specs.declared.sdl.SdlEntry.{SdlEntry}
 use Rattle.model_lists.specs.declared.versions.Version.{Version}
 use Rattle.model_lists.specs.declared.versions.Version.TheVariants.{One, Two}
-use Rattle.model_lists.specs.Values.{Sdl, IsLawfulSdl, IsLawfulList, IsWithinSdlLimits, HasNumbers, part_entries, most_of}
-use Rattle.model_lists.specs.Texts.{zero_bytes, version_byte, part_byte, sdl_entry_bytes, Spells, IsSdlHeader, first_entries, IsSdlText, IsTwo, IsSdlSecond, IsSdlTexts, IsMore, NamesCounter}
-use Rattle.model_lists.proofs.Spelled.{agree_more, replicated_zeros, length-zero_bytes, length-spelled, same_entries}
+use Rattle.model_lists.specs.Values.{Sdl, IsLawfulSdl, IsWithinSdlLimits, HasNumbers, part_entries, most_of}
+use Rattle.model_lists.specs.Texts.{zero_bytes, version_byte, part_byte, sdl_entry_bytes, Spells, IsSdlHeader, first_entries, IsSdlText, IsTwo, IsSdlSecond, IsSdlTexts, NamesCounter}
+use Rattle.model_lists.proofs.Spelled.{agree_more, length-zero_bytes, length-spelled, same_entries}
 use Rattle.model_lists.proofs.Numbers.{big_bytes-injective, version_byte-injective, sdl_entry_bytes-injective, length-sdl_entry_bytes}
 
 -- ---- sizes
@@ -87,7 +86,7 @@ ssa_few : (v : Sdl) → IsLawfulSdl v → v.ssa ≤ 8184
 ssa_few v lawful = omega (arith, lawful.limits.most, most_is v.version)
 
 -- as many entries of one part, with the same bytes, are the same
-same_part : (xs ys : List SdlEntry) (bytes : List ℕ) → length xs ≡ length ys → All HasNumbers xs → All HasNumbers ys → Spells sdl_entry_bytes 8 xs bytes → Spells sdl_entry_bytes 8 ys bytes → xs ≡ ys
+pub same_part : (xs ys : List SdlEntry) (bytes : List ℕ) → length xs ≡ length ys → All HasNumbers xs → All HasNumbers ys → Spells sdl_entry_bytes 8 xs bytes → Spells sdl_entry_bytes 8 ys bytes → xs ≡ ys
 same_part xs ys bytes long all all' of_xs of_ys =
     same_entries sdl_entry_bytes 8 length-sdl_entry_bytes HasNumbers sdl_entry_bytes-injective xs ys (zero_bytes (length bytes - 8 * length xs)) (zero_bytes (length bytes - 8 * length ys)) long all all' (sym of_xs ∙ of_ys)
 
