@@ -6,7 +6,13 @@ pub mod Rewriting
 pub mod PartsOf
 pub mod OneCell
 pub mod Writing
-pub mod Stopping
 pub mod AreaByArea
+pub mod Stopping
 pub mod Lifting
+pub mod Best
+pub mod Halting
+pub mod Choosing
+pub mod Answering
 pub mod ListTexts
+pub mod EachChoice
+pub mod EachList
