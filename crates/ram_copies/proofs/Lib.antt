@@ -1,5 +1,7 @@
 pub mod Putting
 pub mod Areas
+pub mod ListTexts
+pub mod Decoding
 pub mod Counting
 pub mod Mending
 pub mod Rewriting
@@ -11,8 +13,7 @@ pub mod Stopping
 pub mod Lifting
 pub mod Best
 pub mod Halting
+pub mod Looking
 pub mod Choosing
 pub mod Answering
-pub mod ListTexts
-pub mod EachChoice
 pub mod EachList
