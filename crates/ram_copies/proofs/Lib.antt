@@ -16,4 +16,5 @@ pub mod Halting
 pub mod Looking
 pub mod Choosing
 pub mod Answering
+pub mod EachChoice
 pub mod EachList
