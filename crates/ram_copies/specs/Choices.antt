@@ -66,7 +66,7 @@ module _ (kind : ListKind) (shape : Shape) (cells : List Cell) where
   abbrev pub CountFollowing : (k count : ℕ) → Type 0
   CountFollowing zero count = count ≡ 0
   CountFollowing (suc k) count = (HoldsMore kind (cell_at cells (first_block kind shape (suc k)))
-          × ((before : ℕ) × (count ≡ before + 1) × CountFollowing k before))
+      × ((before : ℕ) × (count ≡ before + 1) × CountFollowing k before))
       ⊎ (¬ HoldsMore kind (cell_at cells (first_block kind shape (suc k))) × CountFollowing k count)
 
   -- one of the first cells of the first so many areas names this mark
