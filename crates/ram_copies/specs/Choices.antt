@@ -51,7 +51,7 @@ module _ (kind : ListKind) (shape : Shape) (cells : List Cell) where
   NamedAt area None = (mark : ℕ) → ¬ CellNames kind (cell_at cells (first_block kind shape area)) mark
   NamedAt area (Some mark) = CellNames kind (cell_at cells (first_block kind shape area)) mark
 
-  -- whether another part follows after the first part of an area: of one first cell so many, 1 or 0
+  -- how many parts follow after the first part of an area: 1 where it says that another does, else 0
   abbrev pub FollowsAt : (area more : ℕ) → Type 0
   FollowsAt area more = (HoldsMore kind (cell_at cells (first_block kind shape area)) × (more ≡ 1))
       ⊎ (¬ HoldsMore kind (cell_at cells (first_block kind shape area)) × (more ≡ 0))
