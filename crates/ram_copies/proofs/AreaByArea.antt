@@ -1,11 +1,11 @@
 -- The copy of one more area: it is put, in one part or in two.
-use Rattle.std.specs.Prelude.{◌≡◌, ◌≢◌, ℕ, ◌+◌, ◌*◌, ◌≤◌, ◌<◌, ◌⊎◌, ◌&&◌, Bool, true, false, IsTrue, List}
+use Rattle.std.specs.Prelude.{◌≡◌, ◌≢◌, ℕ, ◌+◌, ◌*◌, ◌≤◌, ◌<◌, ◌&&◌, Bool, true, false, IsTrue}
 use Rattle.std.proofs.Common.{refl, sym, ap, ◌∙◌, inl, inr, subst, arith}
 use Rattle.std.proofs.lemmas.Bool.{cases_eq}
 use Rattle.model_geometry.specs.Geometry.{Shape}
 use Rattle.model_medium.specs.Cells.{Cell, Dead, cell_at}
 use Rattle.model_medium.specs.World.{World}
-use Rattle.model_copies.specs.Copies.{IsArea, Holds, HoldsOrDead}
+use Rattle.model_copies.specs.Copies.{Holds}
 use Rattle.model_stops.specs.Stops.{Continues}
 use Rattle.ram_medium.specs.Laws.{MediumLaws}
 use Rattle.ram_medium.proofs.Parts.{continues_none}

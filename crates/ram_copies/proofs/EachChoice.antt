@@ -6,7 +6,7 @@ use Rattle.model_lists.specs.Values.{Dds, Sdl}
 use Rattle.model_lists.specs.Texts.{IsDdsText, IsSdlText, IsSdlSecond}
 use Rattle.model_medium.specs.Cells.{Cell, Blank, Good, Torn, Dead, cell_at}
 use Rattle.model_medium.specs.World.{World}
-use Rattle.model_copies.specs.Copies.{IsArea, Holds, HasCopy, HasDdsCopy, IsChosen, NoneChosen, IsGreatestMark, IsSeen}
+use Rattle.model_copies.specs.Copies.{IsArea, Holds, HasDdsCopy, IsChosen, NoneChosen, IsGreatestMark, IsSeen}
 use Rattle.model_copies.specs.Parts.{HasSdlCopy, Names, IsGreatestName, GoesOn, CountMores}
 use Rattle.ram_zones.specs.declared.list_kind.ListKind.TheVariants as kinds
 use Rattle.ram_copies.specs.Values.{ListValue, DdsValue, SdlValue, IsText, IsSecond}

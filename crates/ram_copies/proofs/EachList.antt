@@ -1,18 +1,18 @@
 -- What is said of the copies of either kind of list, as it is said of its own list.
-use Rattle.std.specs.Prelude.{◌≡◌, ◌≢◌, ℕ, ◌≤◌, ◌⊎◌, List}
-use Rattle.std.proofs.Common.{refl, sym, ap, ◌∙◌, inl, inr, subst}
+use Rattle.std.specs.Prelude.{◌≡◌, ℕ, List}
+use Rattle.std.proofs.Common.{inl, inr}
 use Rattle.model_geometry.specs.Geometry.{Shape, dds_block, sdl_block, sdl_second_block}
 use Rattle.model_lists.specs.Values.{Dds, Sdl}
 use Rattle.model_lists.specs.Texts.{IsDdsText, IsTwo, IsSdlText, IsSdlSecond}
-use Rattle.model_medium.specs.Cells.{Cell, Blank, Good, Torn, Dead, IsSameOrDead, cell_at}
+use Rattle.model_medium.specs.Cells.{Cell, Blank, Good, Torn, Dead, cell_at}
 use Rattle.model_medium.specs.World.{World}
-use Rattle.model_copies.specs.Copies.{IsArea, Holds, HoldsOrDead, MayHold, Settled, AllLost, WasExact, Rewrites, RewritesDds}
+use Rattle.model_copies.specs.Copies.{IsArea, Holds, HoldsOrDead, MayHold, Settled, AllLost, Rewrites, RewritesDds}
 use Rattle.model_copies.specs.Parts.{SdlIsExact, SdlIsLost, MayLeaveParts, StayDead, RewritesSdl}
 use Rattle.model_copies.specs.Stops.{StopsAt, StopsInArea, SparesExact, SpareExactParts}
 use Rattle.model_copies.proofs.Rewriting.{rewrites_like}
 use Rattle.ram_zones.specs.declared.list_kind.ListKind.TheVariants as kinds
-use Rattle.ram_copies.specs.Values.{ListValue, DdsValue, SdlValue, IsText, HasTwo, IsSecond}
-use Rattle.ram_copies.specs.Calls.{first_block, second_block, IsExact, IsLost, LeavesCopies, SparesExactCells, RewritesCells, ChangesCopiesAlone}
+use Rattle.ram_copies.specs.Values.{DdsValue, SdlValue, IsText, IsSecond}
+use Rattle.ram_copies.specs.Calls.{IsExact, IsLost, LeavesCopies, SparesExactCells, RewritesCells, ChangesCopiesAlone}
 use Rattle.ram_copies.proofs.Areas.{second_no_dds}
 
 -- ---- one cell, where two texts say the same of it

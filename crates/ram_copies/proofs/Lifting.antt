@@ -1,5 +1,5 @@
 -- What an update and a repair do, by what was put into the copies.
-use Rattle.std.specs.Prelude.{◌≡◌, ℕ, zero, suc, ◌+◌, ◌*◌, ◌≤◌, ◌⊎◌, true, IsTrue, MatchResult, List}
+use Rattle.std.specs.Prelude.{◌≡◌, ℕ, zero, suc, ◌+◌, ◌*◌, ◌≤◌, IsTrue, MatchResult, List}
 use Rattle.std.proofs.Common.{Result, Ok, Err, refl, ◌∙◌, inl, inr, subst, arith}
 use Rattle.model_geometry.specs.Geometry.{Shape}
 use Rattle.model_medium.specs.World.{World, UseContinues, HasFailed}
@@ -7,7 +7,6 @@ use Rattle.model_stops.specs.Stops.{FailsInUse, Continues, Stops}
 use Rattle.model_counts.specs.Counts.{Rose}
 use Rattle.model_stops.specs.declared.Stop.{Stop}
 use Rattle.model_stops.specs.declared.Stop.TheVariants as stops
-use Rattle.model_copies.specs.Copies.{IsArea}
 use Rattle.ram_medium.specs.Laws.{MediumLaws}
 use Rattle.ram_medium.proofs.Parts.{continues_quiet, use_failed}
 use Rattle.ram_zones.specs.declared.list_kind.ListKind.{ListKind}

@@ -1,5 +1,5 @@
 -- How the copy of one area is looked at.
-use Rattle.std.specs.Prelude.{◌≡◌, ◌≢◌, ℕ, ◌+◌, ◌≤◌, ◌⊎◌, true, false, IsTrue, MatchResult, Option, Some, None, option_map, List}
+use Rattle.std.specs.Prelude.{◌≡◌, ◌≢◌, ℕ, ◌+◌, ◌≤◌, true, IsTrue, MatchResult, Option, Some, None, option_map, List}
 use Rattle.std.specs.Bool.{OnTrue}
 use Rattle.std.proofs.Common.{Bool, Result, Ok, Err, refl, sym, ap, ◌∙◌, inl, inr, subst, arith}
 use Rattle.std.proofs.lemmas.Bool.{cases_eq}

@@ -1,7 +1,7 @@
 -- What is known of one cell of a copy into which its part of the text was put, or at which that was stopped.
 use Rattle.std.specs.Prelude.{◌≡◌, ◌≢◌, ℕ, ◌⊎◌, Bool, true, false, List}
 use Rattle.std.specs.Bool.{OnTrue}
-use Rattle.std.proofs.Common.{sym, ap, ◌∙◌, inl, inr, subst}
+use Rattle.std.proofs.Common.{sym, ap, inl, inr, subst}
 use Rattle.model_medium.specs.Cells.{Cell, Blank, Good, Torn, Dead, MayLeave, IsSameOrDead, cell_at}
 use Rattle.model_medium.specs.World.{World}
 use Rattle.model_stops.specs.Stops.{Continues}

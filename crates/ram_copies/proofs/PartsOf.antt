@@ -1,8 +1,6 @@
 -- How many parts the text of a list has.
-use Rattle.std.specs.Prelude.{◌≡◌, ℕ, ◌⊎◌}
+use Rattle.std.specs.Prelude.{◌≡◌, ◌⊎◌}
 use Rattle.std.proofs.Common.{refl, ap, inl, inr, arith}
-use Rattle.model_lists.specs.declared.versions.Version.{Version}
-use Rattle.model_lists.specs.declared.versions.Version.TheVariants.{One, Two}
 use Rattle.model_lists.specs.Values.{parts_by}
 use Rattle.model_lists.proofs.SdlTexts.{version_cases, one_no_two}
 use Rattle.ram_copies.specs.Values.{ListValue, DdsValue, SdlValue, HasTwo, parts_of}

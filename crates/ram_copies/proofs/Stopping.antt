@@ -1,9 +1,9 @@
 -- A call that is stopped in one area: what it leaves of the cells before it, there and after it.
 use Rattle.std.specs.Prelude.{◌≡◌, ◌≢◌, ℕ, ◌+◌, ◌*◌, ◌≤◌, ◌<◌, ◌⊎◌, Bool, List}
-use Rattle.std.proofs.Common.{refl, sym, ap, ◌∙◌, inl, inr, subst, arith}
+use Rattle.std.proofs.Common.{sym, ap, ◌∙◌, inl, inr, subst, arith}
 use Rattle.std.proofs.lemmas.Bool.{cases_eq, cases_lt}
 use Rattle.model_geometry.specs.Geometry.{Shape}
-use Rattle.model_medium.specs.Cells.{Cell, Torn, Dead, IsSameOrDead, cell_at}
+use Rattle.model_medium.specs.Cells.{Cell, Dead, IsSameOrDead, cell_at}
 use Rattle.model_medium.specs.World.{World}
 use Rattle.model_stops.specs.Stops.{Stops}
 use Rattle.model_stops.specs.declared.Stop.{Stop}
@@ -14,7 +14,7 @@ use Rattle.ram_zones.specs.declared.list_kind.ListKind.{ListKind}
 use Rattle.ram_zones.specs.declared.list_kind.ListKind.TheVariants as kinds
 use Rattle.ram_copies.specs.Values.{ListValue, IsText, IsSecond, HasTwo, parts_of}
 use Rattle.ram_copies.specs.Calls.{first_block, second_block, LeavesCopies, SparesExactCells}
-use Rattle.ram_copies.specs.Writes.{HasPutCells, UsesUpTo, HasPutCopies, StopsPuttingCopies, StopsAtCopy, most_uses}
+use Rattle.ram_copies.specs.Writes.{HasPutCells, HasPutCopies, StopsPuttingCopies, StopsAtCopy, most_uses}
 use Rattle.ram_copies.specs.declared.writes.Purpose.{Purpose}
 use Rattle.ram_copies.specs.declared.writes.Purpose.TheVariants as purposes
 use Rattle.ram_copies.proofs.Areas.{places_apart}
@@ -79,10 +79,13 @@ module _ {M : Type 0} (world : M → World) (kind : ListKind) (shape : Shape) (v
             (λ area here past. inl (first_later area here past));
         seconds = λ area here. elim (two_cases value) [
           | inr one ↦ inl (second_stays one area)
-          | inl two ↦ inr (two, each (λ (a : ℕ). MayHold IsSecond (cell_at (world old).cells (second_block shape a)) value (cell_at (world new).cells (second_block shape a)))
-              (λ a some most. done_leaves IsSecond value (cell_at (world old).cells (second_block shape a)) (cell_at (world new).cells (second_block shape a)) (is.done' two a some most))
-              (is.here' two)
-              (λ a there past. inl (second_later a there past)) area here)
+          | inl two ↦ inr (
+            two,
+            each (λ (a : ℕ). MayHold IsSecond (cell_at (world old).cells (second_block shape a)) value (cell_at (world new).cells (second_block shape a)))
+                (λ a some most. done_leaves IsSecond value (cell_at (world old).cells (second_block shape a)) (cell_at (world new).cells (second_block shape a)) (is.done' two a some most))
+                (is.here' two)
+                (λ a there past. inl (second_later a there past)) area here,
+          )
         ];
       };
       stays_dead = record { firsts = λ area here. is.stays_dead (first_block kind shape area); seconds = λ area here. is.stays_dead (second_block shape area) };

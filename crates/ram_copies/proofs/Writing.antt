@@ -1,26 +1,23 @@
 -- How the text of a list is put into its copies, area after area, in each the first part before the second.
-use Rattle.std.specs.Prelude.{◌≡◌, ◌≢◌, ℕ, ◌+◌, ◌*◌, ◌≤◌, ◌<◌, ◌⊎◌, Bool, true, false, List}
+use Rattle.std.specs.Prelude.{◌≡◌, ◌≢◌, ℕ, ◌+◌, ◌*◌, ◌≤◌, ◌<◌, true, List}
 use Rattle.std.proofs.Common.{refl, sym, ap, ◌∙◌, inl, inr, subst, arith}
-use Rattle.std.proofs.lemmas.Bool.{cases_eq, cases_lt}
+use Rattle.std.proofs.lemmas.Bool.{cases_eq}
 use Rattle.model_geometry.specs.Geometry.{Shape}
 use Rattle.model_medium.specs.Cells.{Cell, Blank, Good, Torn, Dead, IsSameOrDead, cell_at}
 use Rattle.model_medium.specs.World.{World}
-use Rattle.model_stops.specs.Stops.{Continues, Stops}
-use Rattle.model_stops.specs.declared.Stop.{Stop}
-use Rattle.model_copies.specs.Copies.{IsArea, Holds, HoldsOrDead, MayHold, WasExact, Rewrites}
+use Rattle.model_stops.specs.Stops.{Continues}
+use Rattle.model_copies.specs.Copies.{Holds, HoldsOrDead, MayHold, Rewrites}
 use Rattle.ram_medium.specs.Laws.{MediumLaws}
-use Rattle.ram_medium.proofs.Parts.{continues_then, stops_later, stops_within}
+use Rattle.ram_medium.proofs.Parts.{continues_then}
 use Rattle.ram_zones.specs.declared.list_kind.ListKind.{ListKind}
 use Rattle.ram_zones.specs.declared.list_kind.ListKind.TheVariants as kinds
 use Rattle.ram_copies.specs.Values.{ListValue, IsText, IsSecond, HasTwo, parts_of}
-use Rattle.ram_copies.specs.Calls.{first_block, second_block, IsWhole, IsDeadThere, LeavesCopies, SparesExactCells}
-use Rattle.ram_copies.specs.Writes.{HasPutCells, UsesUpTo, HasPutCopies, StopsPuttingCopies, most_uses, one_more}
+use Rattle.ram_copies.specs.Calls.{first_block, second_block}
+use Rattle.ram_copies.specs.Writes.{HasPutCells, UsesUpTo}
 use Rattle.ram_copies.specs.declared.writes.Purpose.{Purpose}
 use Rattle.ram_copies.specs.declared.writes.Purpose.TheVariants as purposes
 use Rattle.ram_copies.proofs.Areas.{places_apart}
-use Rattle.ram_copies.proofs.Counting.{dead_same, dead_not_whole, copies_next}
-use Rattle.ram_copies.proofs.ListTexts.{one_first, one_second}
-use Rattle.ram_copies.proofs.OneCell.{CellUses, CellIsPut, CellIsLeft}
+use Rattle.ram_copies.proofs.OneCell.{CellUses}
 use Rattle.ram_copies.proofs.Rewriting.{rewrites_next, rewrites_same}
 
 -- ---- cells that are done

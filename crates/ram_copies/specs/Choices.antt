@@ -51,7 +51,7 @@ module _ (kind : ListKind) (shape : Shape) (cells : List Cell) where
   NamedAt area None = (mark : ℕ) → ¬ CellNames kind (cell_at cells (first_block kind shape area)) mark
   NamedAt area (Some mark) = CellNames kind (cell_at cells (first_block kind shape area)) mark
 
-  -- whether another part follows after the first part of an area: of one first cell so many, 1 or 0
+  -- how many parts follow after the first part of an area: 1 where it says that another does, else 0
   abbrev pub FollowsAt : (area more : ℕ) → Type 0
   FollowsAt area more = (HoldsMore kind (cell_at cells (first_block kind shape area)) × (more ≡ 1))
       ⊎ (¬ HoldsMore kind (cell_at cells (first_block kind shape area)) × (more ≡ 0))
@@ -66,7 +66,7 @@ module _ (kind : ListKind) (shape : Shape) (cells : List Cell) where
   abbrev pub CountFollowing : (k count : ℕ) → Type 0
   CountFollowing zero count = count ≡ 0
   CountFollowing (suc k) count = (HoldsMore kind (cell_at cells (first_block kind shape (suc k)))
-          × ((before : ℕ) × (count ≡ before + 1) × CountFollowing k before))
+      × ((before : ℕ) × (count ≡ before + 1) × CountFollowing k before))
       ⊎ (¬ HoldsMore kind (cell_at cells (first_block kind shape (suc k))) × CountFollowing k count)
 
   -- one of the first cells of the first so many areas names this mark

@@ -1,12 +1,12 @@
 -- What putting the text of a list into its copies does, area after area, by an update and by a repair: for `put_copy`, `put_area` and
 -- `put_copies`.
-use Rattle.std.specs.Prelude.{◌≡◌, ◌≢◌, ℕ, ◌+◌, ◌*◌, ◌≤◌, ◌⊎◌, Bool, true, false, List}
+use Rattle.std.specs.Prelude.{◌≡◌, ◌≢◌, ℕ, ◌+◌, ◌*◌, ◌≤◌, Bool, true, false, List}
 use Rattle.model_geometry.specs.Geometry.{Shape}
 use Rattle.model_medium.specs.Cells.{cell_at}
 use Rattle.model_medium.specs.World.{World}
 use Rattle.model_stops.specs.Stops.{Continues, Stops}
 use Rattle.model_stops.specs.declared.Stop.{Stop}
-use Rattle.model_copies.specs.Copies.{IsArea, HoldsOrDead}
+use Rattle.model_copies.specs.Copies.{HoldsOrDead}
 use Rattle.ram_zones.specs.declared.list_kind.ListKind.{ListKind}
 use Rattle.ram_copies.specs.Values.{ListValue, IsText, HasTwo, IsSecond, parts_of}
 use Rattle.ram_copies.specs.Calls.{first_block, second_block, IsDeadThere, CountCopies, LeavesCopies, SparesExactCells, RewritesCells, ChangesCopiesAlone, update_uses, most_repair_uses}

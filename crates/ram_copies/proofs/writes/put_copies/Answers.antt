@@ -1,6 +1,5 @@
 use Rattle.std.specs.Prelude.{ℕ, ◌≡◌}
 use Rattle.std.proofs.Common.{arith, subst, ◌∙◌, refl}
-use Rattle.std.proofs.lemmas.Result.{err_from_is_err_and}
 use Rattle.ram_copies.specs.Writes.{HasPutCopies}
 use Rattle.ram_copies.proofs.AreaByArea.{put_none}
 use Rattle.ram_copies.proofs.writes.put_copies.Goals as goal
