@@ -4,7 +4,7 @@ from __future__ import annotations
 from dataclasses import dataclass, replace
 from typing import Callable, Dict, Iterator, List, NamedTuple, Optional, Tuple
 
-from .lists import (LAST_COUNTER, NEWEST, SECTORS_IN_BLOCK, Kind, Lists, Secondary, Slipped, Structure, goes_on, named_structure,
+from .lists import (LAST_COUNTER, MADE, SECTORS_IN_BLOCK, Kind, Lists, Secondary, Slipped, Structure, goes_on, named_structure,
                     structure_fits)
 from .medium import BLOCK, SECTOR, Medium
 
@@ -220,7 +220,7 @@ class Drive:
     def format_fully(self, defects: Dict[int, int], kind: Kind) -> None:
         geometry = self.medium.geometry
         self.mark += 1
-        begun = Structure(NEWEST, False, self.mark, geometry.spares)
+        begun = Structure(MADE, False, self.mark, geometry.spares)
         if not self.on_copies(self.put, self.structure_copies(begun)):
             raise Check(*FORMAT_FAILED)
         for block in geometry.data_blocks:
@@ -230,8 +230,8 @@ class Drive:
             raise Check(*FORMAT_FAILED)
         self.mark += 1
         entries = tuple(Slipped(defects[block], block) for block in sorted(defects))
-        ended = Structure(NEWEST, True, self.mark, geometry.spares, entries)
-        secondary = Secondary(NEWEST, 1, ended.counter)
+        ended = Structure(MADE, True, self.mark, geometry.spares, entries)
+        secondary = Secondary(MADE, 1, ended.counter)
         if not self.on_copies(self.put, self.secondary_copies(secondary)):
             raise Check(*FORMAT_FAILED)
         if not self.on_copies(self.put, self.structure_copies(ended)):

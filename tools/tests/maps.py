@@ -47,13 +47,14 @@ class Image:
     def save(self, path: Path) -> None:
         path.write_bytes(self.bytes)
 
-    def take_version_1(self) -> None:
-        """Gives the lists the first version. What is left in the second blocks belongs to no list then."""
+    def take_version_2(self) -> None:
+        """Gives the lists the second version, with a second part in each area."""
         for structure, blocks in zip(GEOMETRY.structure_blocks, GEOMETRY.secondary_blocks):
             whole, parts = Structure.decode(self.text(structure)), Secondary.decode([self.text(block) for block in blocks])
             if whole and parts:
-                self.put(structure, replace(whole, version=1).encode())
-                self.put(blocks[0], replace(parts, version=1).encode()[0])
+                self.put(structure, replace(whole, version=2).encode())
+                for block, text in zip(blocks, replace(parts, version=2).encode()):
+                    self.put(block, text)
 
 
 def mislead(image: Image, chance: random.Random) -> None:
@@ -127,7 +128,7 @@ def hostile() -> Wrongs:
     for number in range(IMAGES):
         chance, image = random.Random(number), Image(made)
         if number % 3 == 2:
-            image.take_version_1()
+            image.take_version_2()
         for _ in range(1 + chance.randrange(3)):
             mislead(image, chance)
         image.save(tried)
