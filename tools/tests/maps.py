@@ -9,11 +9,11 @@ from pathlib import Path
 from typing import cast
 
 from dvdram_disc import HEADER, Disc, State
-from dvdram_lists import BLOCK, Geometry, Secondary, Structure
+from dvdram_lists import BLOCK, MOST_SPARES, VERSIONS, Geometry, Secondary, Structure
 from support import TOOLS, Wrongs, done, run_script, unlike
 
 GEOMETRY = Geometry(1, 1, 4)
-IMAGES = 180
+IMAGES = 200
 MADE = """press 1 1 4
 fail 20
 power
@@ -47,13 +47,13 @@ class Image:
     def save(self, path: Path) -> None:
         path.write_bytes(self.bytes)
 
-    def take_version_2(self) -> None:
-        """Gives the lists the second version, with a second part in each area."""
+    def take_version(self, version: int) -> None:
+        """Gives the lists this version. What is in the second blocks belongs to no list of the first one."""
         for structure, blocks in zip(GEOMETRY.structure_blocks, GEOMETRY.secondary_blocks):
             whole, parts = Structure.decode(self.text(structure)), Secondary.decode([self.text(block) for block in blocks])
             if whole and parts:
-                self.put(structure, replace(whole, version=2).encode())
-                for block, text in zip(blocks, replace(parts, version=2).encode()):
+                self.put(structure, replace(whole, version=version).encode())
+                for block, text in zip(blocks, replace(parts, version=version).encode()):
                     self.put(block, text)
 
 
@@ -127,8 +127,7 @@ def hostile() -> Wrongs:
     seen: set[tuple[int, tuple[int | None, ...]]] = set()
     for number in range(IMAGES):
         chance, image = random.Random(number), Image(made)
-        if number % 3 == 2:
-            image.take_version_2()
+        image.take_version(1 if number % 3 == 2 else 2)
         for _ in range(1 + chance.randrange(3)):
             mislead(image, chance)
         image.save(tried)
@@ -140,6 +139,24 @@ def hostile() -> Wrongs:
         yield from unlike(f"hostile image {number}", mapped, found)
     if len(seen) < 12:
         yield f"the hostile images give {len(seen)} discs alone"
+
+
+def texts() -> Wrongs:
+    """A secondary list is the text of its blocks, with its entries in the parts where they belong, and no other blocks are."""
+    for version, count in ((1, 0), (1, MOST_SPARES), (2, 0), (2, MOST_SPARES), (2, MOST_SPARES + 1), (2, 2 * MOST_SPARES)):
+        what = f"a list of version {version} with {count} retired spares"
+        value = Secondary(version, 7, 2, 0, tuple((block, None) for block in range(count)))
+        parts, other = value.encode(), replace(value, counter=8).encode()
+        yield from unlike(f"entries in each part of {what}", [sum(text[32::8]) for text in parts],
+                          [min(count, MOST_SPARES), max(count - MOST_SPARES, 0)][:version])
+        yield from unlike(what, Secondary.decode([*parts, None]), value)
+        for blocks in ([None, parts[-1]], [parts[0], None], [parts[0], other[-1]], [other[0], parts[-1]], [parts[-1], parts[0]]):
+            due = None if version == 2 or not blocks[0] else value if blocks[0] == parts[0] else replace(value, counter=8)
+            yield from unlike(f"other blocks than those of {what}", Secondary.decode([*blocks]), due)
+    for version in VERSIONS:
+        full = tuple((block, None) for block in range(MOST_SPARES * version + 1))
+        yield from unlike("a list with too many entries", Secondary(version, 7, 2, 0, full).is_lawful(), False)
+        yield from unlike("a list with too many spares", Secondary(version, 7, 2, len(full), ()).is_lawful(), False)
 
 
 def shown(form: str) -> str:
@@ -162,6 +179,8 @@ def outputs() -> Wrongs:
         yield from unlike("bad blocks by ddrescuelog", done("ddrescuelog", "-b2048", "-l-", "disc.map").stdout.split(),
                           [str(sector) for sector in range(16)])
     yield from unlike("squares of the picture", shown("svg").count("<title>block "), GEOMETRY.total)
-    yield from unlike("signs of the characters", shown("term").splitlines()[2][:8], "DSDSSS--")
+    with Disc("disc.img") as disc:
+        version = disc.lists and disc.lists.secondary.version
+    yield from unlike("signs of the characters", shown("term").splitlines()[2][:8], "DSDSSS--" if version == 2 else "DSDS----")
     told = done(TOOLS / "ram-map", "disc.map").stdout
     yield from unlike("a file that holds no disc", told, "ram-map: disc.map holds no disc\n")
