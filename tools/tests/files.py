@@ -4,41 +4,16 @@ from __future__ import annotations
 import json
 import os
 import random
-import shutil
-import subprocess
-import time
+from dataclasses import dataclass, field
 from pathlib import Path
+from typing import Any
 
-from support import TOOLS, Server, Wrongs, done, random_bytes, unlike
+from support import TOOLS, Mount, Server, Wrongs, done, random_bytes, unlike
 
 NEW = "press=1,2,24", "format=yes", "minblock=2048", "poweroff=again"
 DISK = Path("mnt/disk")
 FILES = 20
 DEAD = 35, 36, 38, 40, 41, 43, 45, 46, 32, 31  # blocks that have no file yet, and two spares
-
-
-class Mounted:
-    """The disc as a file, by nbdfuse. What the system keeps in memory of it is gone after `again`."""
-
-    def __init__(self, server: Server) -> None:
-        self.server = server
-        DISK.parent.mkdir(exist_ok=True)
-
-    def __enter__(self) -> Mounted:
-        self.process = subprocess.Popen(["nbdfuse", DISK, self.server.uri], stdin=subprocess.DEVNULL, stderr=subprocess.DEVNULL)
-        end = time.monotonic() + 10
-        while not DISK.exists() and self.process.poll() is None and time.monotonic() < end:
-            time.sleep(0.01)
-        return self
-
-    def __exit__(self, *_: object) -> None:
-        unmount = next((tool for tool in ("fusermount3", "fusermount") if shutil.which(tool)), None)
-        done(*((unmount, "-u") if unmount else ("umount",)), DISK.parent)
-        self.process.wait(10)
-
-    def again(self) -> None:
-        self.__exit__()
-        self.__enter__()
 
 
 def is_copied(*words: str) -> bool:
@@ -50,36 +25,59 @@ def is_copied(*words: str) -> bool:
     return copied.returncode == 0 and not copied.stdout
 
 
+def runs_of(role: str, state: str) -> list[dict[str, Any]]:
+    """The runs of blocks that the map of the disc names so."""
+    runs = json.loads(done(TOOLS / "ram-map", "disc.img", "--output=json").stdout)
+    return [run for run in runs if (run["role"], run["state"]) == (role, state)]
+
+
 def heal(server: Server) -> None:
     """Writes each dead block of data whole, as docs/BLOCK_DEVICE.md has it, and has the file system repaired."""
-    for run in json.loads(done(TOOLS / "ram-map", "disc.img", "--output=json").stdout):
-        if (run["role"], run["state"]) == ("data", "dead"):
-            for block in range(run["length"]):
-                server.io(f"write -z {(run['sector'] + 16 * block) * 2048} 32k")
+    for run in runs_of("data", "dead"):
+        for block in range(run["length"]):
+            server.io(f"write -z {(run['sector'] + 16 * block) * 2048} 32k")
     done("fsck.fat", "-a", DISK)
 
 
+@dataclass
+class Tally:
+    """What happened to the copies: how many files were kept, how many copies failed at first, and how many cuts fell in one."""
+
+    kept: dict[str, bytes] = field(default_factory=dict)
+    failed: int = 0
+    cuts: int = 0
+
+    def copy(self, server: Server, mount: Mount, name: str, arm: str | None) -> Wrongs:
+        """Copies a file to the disc with a cut armed, if one is named. What failed is healed and done again."""
+        server.tell(*([arm] if arm else []))
+        is_done = is_copied(name, f"d:{name}")
+        self.cuts += bool(arm) and f"armed {arm}" not in server.tell("list")
+        server.tell("disarm")
+        if not is_done:
+            self.failed += 1
+            mount.again()
+            heal(server)
+            yield from unlike(f"{name} after it failed and was healed", is_copied(name, f"d:{name}"), True)
+        self.kept[name] = Path(name).read_bytes()
+
+
 def through_failures() -> Wrongs:
-    """Files are copied while free blocks die and the power is cut; what failed is healed and done again."""
-    chance, kept, failed = random.Random(5), {}, 0
-    with Server("image=disc.img", *NEW, options=("--filter=blocksize",)) as server, Mounted(server) as mount:
+    """Files are copied while free blocks die and the power is cut; what failed is healed and done again. How often a copy uses
+    the medium, and for what, depends on how the system reads ahead and puts writes together. But each uses it at least once, so
+    that the first cut falls; and no file fills a block, so that the first copy into a dead one fails."""
+    chance, tally = random.Random(5), Tally()
+    DISK.parent.mkdir()
+    with Server("image=disc.img", *NEW, options=("--filter=blocksize",)) as server, Mount(DISK, server.uri) as mount:
         yield from unlike("mkfs.fat", done("mkfs.fat", "-S", "2048", "-s", "1", DISK).returncode, 0)
         server.tell(*(f"fail {block}" for block in DEAD))
         for number in range(FILES):
-            name = f"FILE{number}.BIN"
-            Path(name).write_bytes(random_bytes(chance, chance.randrange(1, 32_000)))
-            if number % 2:
-                server.tell(f"cut {chance.randrange(1, 40)} {chance.choice(('old', 'new'))}")
-            if not is_copied(name, f"d:{name}"):
-                failed += 1
-                server.tell("disarm")
-                mount.again()
-                heal(server)
-                yield from unlike(f"{name} after it failed and was healed", is_copied(name, f"d:{name}"), True)
-            kept[name] = Path(name).read_bytes()
-        server.tell("disarm", "power")
+            Path(f"FILE{number}.BIN").write_bytes(random_bytes(chance, chance.randrange(1, 30_000)))
+            arm = f"cut {number} {chance.choice(('old', 'new'))}" if number % 2 else None
+            yield from tally.copy(server, mount, f"FILE{number}.BIN", arm)
+        server.tell("power")
         mount.again()
         yield from unlike("fsck.fat", done("fsck.fat", "-n", DISK).returncode, 0)
-        for name, data in kept.items():
+        for name, data in tally.kept.items():
             yield from unlike(f"{name} after all", is_copied(f"d:{name}", "read") and Path("read").read_bytes() == data, True)
-    yield from unlike("copies that failed at first", failed > 2, True)
+        happened = tally.failed > 0, tally.cuts > 0, len(runs_of("replaced", "dead")) > 0
+    yield from unlike("copies that failed at first, cuts that fell, blocks that were replaced", happened, (True, True, True))

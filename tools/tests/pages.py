@@ -46,7 +46,7 @@ def session() -> Wrongs:
     script = "".join(f"{command}\necho '{MARK}'\n" for command, _ in steps)
     with open("printed", "w+", encoding="utf-8") as printed:
         subprocess.run(["bash", "-c", script], stdin=subprocess.DEVNULL, stdout=printed, stderr=subprocess.STDOUT,
-                       timeout=SECONDS, check=False)
+                       timeout=4 * SECONDS, check=False)
         printed.seek(0)
         shown = printed.read().split(f"{MARK}\n")
     yield from unlike("commands of the session", (len(steps) > 20, len(shown)), (True, len(steps) + 1))

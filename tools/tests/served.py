@@ -8,7 +8,8 @@ import subprocess
 from pathlib import Path
 
 from dvdram_disc import HEADER
-from support import PLUGIN, PROGRAM, TOOLS, Server, Wrongs, done, random_bytes, run_script, unlike
+from support import (PLUGIN, PROGRAM, SECONDS, TOOLS, Server, Wrongs, children_of, done, is_free, random_bytes, run_script,
+                     unlike, wait_until)
 
 SIZE = 304 * 2048
 NEW = "press=1,1,4", "format=yes"
@@ -99,28 +100,28 @@ def failures() -> Wrongs:
                           ["armed", f"write failed: {CUT}", read(0)])
     with Server("image=disc.img", "poweroff=exit") as server:
         server.tell("cut now")
-        yield from unlike("poweroff=exit", server.process.wait(10), 0)
+        yield from unlike("poweroff=exit", server.process.wait(SECONDS), 0)
 
 
 def accidents() -> Wrongs:
     """A client goes away, and the program is killed: nothing hangs, and what was acknowledged stays."""
     with Server("image=disc.img", *NEW) as server:
         yield from unlike("a write", server.io("write -P 6 0 32k"), ["wrote 32768/32768 bytes at offset 0"])
-        children = Path(f"/proc/{server.process.pid}/task/{server.process.pid}/children")
-        os.kill(int(children.read_text(encoding="ascii").split()[0]), signal.SIGKILL)
+        for program in children_of(server.process.pid):
+            os.kill(program, signal.SIGKILL)
         yield from unlike("a request to a program that was killed", server.tell("cdb 000000000000"),
                           ["the program ended with status -9"])
         yield from unlike("a read after that", server.io("read -P 6 0 32k"), ["read 32768/32768 bytes at offset 0"])
         yield from unlike("restarts", server.tell("stats")[-1:], ["restarts 1"])
-        client = Client(server)
-        client.commands.write(b"read 0 512k\n")
-        client.kill()
-        yield from unlike("a read after a client went away", server.io("read -P 6 0 32k"), ["read 32768/32768 bytes at offset 0"])
         told = server.tell("press 1 1 4", "wear 3 0", "cdb 0", "fail 4294967296", "# no", "walk", "fail 99")
         yield from unlike("bad lines", told, ["not in the script language"] * 5 + ["no such block"])
         yield from unlike("a line that is too long", server.tell("cdb 00 hex " + "00" * 35000), ["too long"])
         yield from unlike("wear", server.tell("wear 13 9", "cut 5 old", "list", "disarm", "list"),
                           ["armed", "armed", "armed wear 13 9", "armed cut 5 old", "disarmed"])
+        client = Client(server)
+        client.commands.write(b"read 0 512k\n")
+        client.kill()
+        yield from unlike("a read after a client went away", server.io("read -P 6 0 32k"), ["read 32768/32768 bytes at offset 0"])
         yield from unlike("another drive over the image", refusal("image=disc.img"), "disc.img is in use by another drive")
 
 
@@ -135,6 +136,7 @@ def bad_parameters() -> Wrongs:
     Path("raw").write_bytes(b"no disc")
     Path("left.ctl").write_text("a file", encoding="ascii")
     done(PLUGIN, "-U", "-", f"program={PROGRAM}", "image=bare.img", "press=1,1,4", "control=bare.ctl", "--run", "true")
+    wait_until(lambda: is_free("bare.img"), "the server of a single command ends")
     for words, due in (
             (("image=none.img",), "none.img is not there: press=ZONES,SCALE,SPARES makes it"),
             (("image=raw",), "raw holds no disc: press=ZONES,SCALE,SPARES makes one"),
@@ -158,4 +160,4 @@ def bad_parameters() -> Wrongs:
                       "lost.img was written, and is not formatted any more: force=yes formats it anew")
     done(PLUGIN, "-U", "-", f"program={PROGRAM}", "image=lost.img", *NEW, "force=yes", "--run", "true")
     yield from unlike("by force", done(TOOLS / "ram-map", "lost.img").stdout.splitlines()[1],
-                      "structure: counter 2, 0 blocks slipped")
+                      "structure: version 2, counter 2, 0 blocks slipped")

@@ -1,13 +1,18 @@
 """What the parts of checks/ecosystem share: the program, its tools, a served drive, and what is told of a part."""
 from __future__ import annotations
 
+import fcntl
 import os
 import random
 import shutil
+import signal
 import socket
 import subprocess
+import tempfile
 import time
+from contextlib import suppress
 from dataclasses import dataclass
+from functools import lru_cache
 from pathlib import Path
 from typing import Callable, Iterator
 
@@ -17,7 +22,7 @@ TOOLS = Path(__file__).resolve().parent.parent
 ROOT = TOOLS.parent
 PROGRAM = ROOT / "crates" / "ram_drive" / "out" / "ram_drive"
 PLUGIN = TOOLS / "nbdkit-dvdram-plugin"
-SECONDS = 30
+SECONDS = 120  # within which one thing comes or ends, on a machine that is busy with others too: what takes longer hangs
 
 Wrongs = Iterator[str]
 
@@ -34,13 +39,26 @@ class Part:
         return [tool for tool in self.needs if not is_there(tool)]
 
 
+@lru_cache(maxsize=None)
 def is_there(tool: str) -> bool:
     """Whether this command can be used, or what this word stands for."""
     if tool == "fuse":
-        return os.access("/dev/fuse", os.R_OK | os.W_OK)
+        return is_there("nbdfuse") and is_there("nbdkit") and can_mount()
     if tool == "nbdkit-plugin-python":
         return is_there("nbdkit") and done("nbdkit", "--dump-plugin", "python").returncode == 0
     return shutil.which(tool, path=os.environ["PATH"] + ":/usr/sbin:/sbin") is not None
+
+
+def can_mount() -> bool:
+    """Whether a disk is mounted here, for a trial: that needs /dev/fuse, and the right to mount."""
+    folder = Path(tempfile.mkdtemp())
+    try:
+        with Mount(folder / "disk", "--command", "nbdkit", "-s", "memory", "64k"):
+            return True
+    except (OSError, RuntimeError):
+        return False
+    finally:
+        clear(folder)
 
 
 def random_bytes(chance: random.Random, count: int) -> bytes:
@@ -65,25 +83,113 @@ def unlike(what: str, found: object, due: object) -> Wrongs:
         yield f"{what}: {found!r} in place of {due!r}"
 
 
+def wait_until(holds: Callable[[], bool], what: str) -> None:
+    """Waits until this holds."""
+    end = time.monotonic() + SECONDS
+    while not holds():
+        if time.monotonic() > end:
+            raise TimeoutError(f"{what}: not after {SECONDS} seconds")
+        time.sleep(0.01)
+
+
+def is_free(image: str | Path) -> bool:
+    """Whether no drive has locked this image. One that serves a single command may live on for a while after it."""
+    with open(image, "rb") as file:
+        try:
+            fcntl.flock(file, fcntl.LOCK_SH | fcntl.LOCK_NB)
+        except BlockingIOError:
+            return False
+    return True
+
+
+def children_of(process: int) -> list[int]:
+    """The processes that this one has started, by any of its threads."""
+    children = []
+    for folder in Path("/proc").glob("[0-9]*"):
+        with suppress(OSError):  # it may have ended
+            status = (folder / "status").read_text(encoding="utf-8", errors="replace")
+            if f"\nPPid:\t{process}\n" in status:
+                children.append(int(folder.name))
+    return children
+
+
+def mounts_in(folder: Path) -> list[str]:
+    """What is mounted in this folder, or on it."""
+    lines = Path("/proc/self/mountinfo").read_text(encoding="utf-8").splitlines()
+    mounts = [line.split()[4].replace("\\040", " ") for line in lines]
+    return [mount for mount in mounts if f"{mount}/".startswith(f"{folder.resolve()}/")]
+
+
+def unmount(folder: str | Path, *options: str) -> bool:
+    """Unmounts this folder, and says whether that was done."""
+    helper = next((tool for tool in ("fusermount3", "fusermount") if shutil.which(tool)), None)
+    return done(*((helper, "-u") if helper else ("umount",)), *options, folder).returncode == 0
+
+
+def clear(folder: Path) -> None:
+    """Removes a folder, and before it what is mounted in it, and a server that serves an image of it still."""
+    for mount in mounts_in(folder):
+        if not unmount(mount, "-z"):
+            done("umount", "-l", mount)
+    is_served = not all(is_free(image) for image in folder.glob("*.img"))
+    for number in folder.glob("*.pid") if is_served else ():
+        with suppress(OSError, ValueError):
+            os.kill(int(number.read_text(encoding="ascii")), signal.SIGTERM)
+    shutil.rmtree(folder, ignore_errors=True)
+
+
+class Mount:
+    """A disk as a file, by nbdfuse, from this source. Its folder has to be there."""
+
+    def __init__(self, disk: Path, *source: str) -> None:
+        self.disk, self.source = disk, source
+
+    def __enter__(self) -> Mount:
+        self.process = subprocess.Popen(["nbdfuse", self.disk, *self.source], stdin=subprocess.DEVNULL,
+                                        stdout=subprocess.DEVNULL, stderr=subprocess.DEVNULL)
+        try:
+            wait_until(lambda: self.disk.exists() or self.process.poll() is not None, "nbdfuse mounts")
+            if not self.disk.exists():
+                raise RuntimeError(f"nbdfuse ends with status {self.process.returncode}, and nothing is mounted")
+        except Exception:
+            self.process.kill()
+            raise
+        return self
+
+    def __exit__(self, *_: object) -> None:
+        folder = self.disk.parent
+        wait_until(lambda: unmount(folder) or not mounts_in(folder), f"{folder} is unmounted")
+        self.process.wait(SECONDS)
+
+    def again(self) -> None:
+        """Mounts the disk anew, so that what the system kept of it in memory is gone."""
+        self.__exit__()
+        self.__enter__()
+
+
 class Server:
     """A drive that nbdkit serves on a socket in the present folder, with a control socket."""
 
     def __init__(self, *words: str, options: tuple[str, ...] = ()) -> None:
         self.log = open("server.log", "w+", encoding="utf-8")
-        self.socket, self.control = Path("disk.sock"), Path("disk.ctl")
+        self.socket, self.control, self.number = Path("disk.sock"), Path("disk.ctl"), Path("disk.pid")
         self.socket.unlink(missing_ok=True)
+        self.number.unlink(missing_ok=True)
         self.uri = f"nbd+unix:///?socket={self.socket.absolute()}"
         self.process = subprocess.Popen(
-            [PLUGIN, "-f", "-U", self.socket, *options, f"program={PROGRAM}", f"control={self.control}", *words],
+            [PLUGIN, "-f", "-U", self.socket, "-P", self.number, *options,
+             f"program={PROGRAM}", f"control={self.control}", *words],
             stdin=subprocess.DEVNULL, stdout=self.log, stderr=self.log)
 
     def __enter__(self) -> Server:
-        end = time.monotonic() + SECONDS
-        while not self.socket.exists() and self.process.poll() is None and time.monotonic() < end:
-            time.sleep(0.01)
-        if not self.socket.exists():
+        wait_until(lambda: self.serves() or self.process.poll() is not None, "nbdkit serves")
+        if not self.serves():
             raise RuntimeError(f"nothing is served: {self.told()}")
         return self
+
+    def serves(self) -> bool:
+        """Whether clients are served: nbdkit writes its number when that is so."""
+        return self.number.exists() and self.number.read_text(encoding="ascii").endswith("\n")
 
     def __exit__(self, *_: object) -> None:
         self.process.terminate()

@@ -25,6 +25,12 @@ use Rattle.ram_copies.proofs.Areas.{second_no_sdl}
 use Rattle.ram_copies.proofs.Halting.{halts_within, halts_later}
 use Rattle.ram_copies.proofs.ListTexts.{first_says, says_two, says_kind, more_marks, text_marks, mark_of_text}
 
+-- where a mark is named, another part follows
+pub names_more : (kind : ListKind) (block : List ℕ) (mark : ℕ) → NamesMore kind block mark → HasMore kind block
+names_more kinds.Dds block mark names = names
+names_more kinds.Sdl block mark names = (mark, names)
+names_more kinds.SdlTwo block mark names = names
+
 pub same_then : (a b c : Cell) → IsSameOrDead a b → IsSameOrDead b c → IsSameOrDead a c
 same_then a b c (inl one) (inl two) = inl (two ∙ one)
 same_then a b c (inr dead) (inl two) = inr (two ∙ dead)

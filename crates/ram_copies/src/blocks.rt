@@ -1,6 +1,6 @@
 //! What a list is that lies on a disc in four copies, and what a choice asks of one.
 
-ghost use Rattle.std.specs.Prelude.{◌≡◌, ◌≤◌, ◌↔◌, IsTrue, IfOk, IfSome, Option, option_map};
+ghost use Rattle.std.specs.Prelude.{◌≡◌, ◌≤◌, ◌↔◌, IsTrue, IfOk, IfSome, MatchOption, Option, option_map};
 ghost use Rattle.ram_zones.specs.declared.list_kind.ListKind.{ListKind};
 ghost use Rattle.ram_copies.specs.Values.{ListValue, IsPart, IsInGrammar, HasMore, NamesMore, Decodes, counter_of, mark_of, parts_of};
 
@@ -38,14 +38,10 @@ pub trait ListBlock: Sized + Drop {
         requires most { part ≤ parts_of (value self.now) }
         ensures { IsPart LIST part (value self.now) into.new };
 
-    /// Whether the block is a first part after which another follows, by its first 32 bytes.
-    fn more(first: &Block) -> bool
-        ensures { IsTrue result ↔ HasMore LIST first.now };
-
-    /// The counter of a disc definition structure that such a first part names.
-    fn more_mark(first: &Block) -> u32
-        requires { HasMore LIST first.now }
-        ensures { NamesMore LIST first.now result };
+    /// The counter of a disc definition structure that the block names, where it is a first part after which another follows, by
+    /// its first 32 bytes.
+    fn more(first: &Block) -> Option<u32>
+        ensures { MatchOption result (¬ HasMore LIST first.now) (NamesMore LIST first.now) };
 
     /// The value whose text the block is, or the two blocks are; or none where they are the text of no value.
     fn decode(

@@ -34,12 +34,8 @@ impl ListBlock for DdsPdl {
         self.encode(into);
     }
 
-    fn more(_first: &Block) -> bool {
-        false
-    }
-
-    fn more_mark(_first: &Block) -> u32 {
-        0
+    fn more(_first: &Block) -> Option<u32> {
+        None
     }
 
     fn decode(
@@ -81,12 +77,12 @@ impl ListBlock for Sdl {
         self.encode(part, into);
     }
 
-    fn more(first: &Block) -> bool {
-        Sdl::more(first)
-    }
-
-    fn more_mark(first: &Block) -> u32 {
-        Sdl::more_mark(first)
+    fn more(first: &Block) -> Option<u32> {
+        if Sdl::more(first) {
+            Some(Sdl::more_mark(first))
+        } else {
+            None
+        }
     }
 
     fn decode(

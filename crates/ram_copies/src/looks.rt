@@ -132,10 +132,9 @@ fn look_at<T: ListBlock, M: Medium>(
         }
         Err(stop) => return Err(Halt::Stopped { stop }),
     }
-    if !T::more(&scratch.text) {
+    let Some(mark) = T::more(&scratch.text) else {
         return alone(alloc, &scratch.text);
-    }
-    let mark = T::more_mark(&scratch.text);
+    };
     let block = geometry.list_block(area, ListKind::SdlTwo);
     let found = look_on::<T, M>(alloc, medium, block, &scratch.text, &mut scratch.second)?;
     Ok(Seen {

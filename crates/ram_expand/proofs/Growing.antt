@@ -3,7 +3,6 @@ use Rattle.std.specs.Prelude.{◌≡◌, ◌≢◌, ℕ, ◌*◌, ◌≤◌, ◌
 use Rattle.std.proofs.Common.{refl, sym, ap, inl, subst, arith, eqb, take}
 use Rattle.std.proofs.lemmas.Bool.{cond-false, ne_eqb}
 use Rattle.model_geometry.specs.Geometry.{Shape, dds_block}
-use Rattle.model_lists.specs.Values.{Sdl}
 use Rattle.model_lists.specs.Texts.{IsDdsText, IsTwo}
 use Rattle.model_medium.specs.Cells.{cell_at}
 use Rattle.model_medium.specs.World.{World}
@@ -28,7 +27,7 @@ use Rattle.ram_zones.specs.declared.list_kind.ListKind.TheVariants as kinds
 use Rattle.ram_copies.specs.Values.{SdlValue}
 use Rattle.ram_copies.specs.Calls.{LeavesCopies, ChangesCopiesAlone, CallEnds, StoppedWithin, Keeps, KeepsNone}
 use Rattle.ram_lists.proofs.MountSteps.{settled_same, sdl_only, dds_stay}
-use Rattle.ram_replace.specs.Updates.{HasUpdated, HaltsUpdating}
+use Rattle.ram_replace.specs.Updates.{LeavesSdl, HasUpdated, HaltsUpdating}
 use Rattle.ram_replace.proofs.Updating.{updated_kept, updated_lost, update_halted}
 use Rattle.ram_expand.specs.Sizes.{IsSmaller}
 use Rattle.ram_expand.specs.Expanding.{lists_grown, HasGrown, LacksUpdate, StopsGrowing}
@@ -109,26 +108,19 @@ module _ {M : Type 0} (world : M → World) (block_count : M → ℕ) (reaches :
           between = settled_stopped shape (world old).cells (world new).cells lists.sdl (lists_grown shape lists capacity).sdl settled.sdl refl (inl (λ same. omega (arith, same)))
               did.left.may did.left.stays_dead
 
-    -- ---- by what the update answered, of the list that was written
+    -- ---- by what the update answered
 
-    module _ (sdl : Sdl) (is : sdl ≡ (lists_grown shape lists capacity).sdl) where
-      pub has_grown : (new : M) (readable : ℕ) → lists.sdl.counter < LAST_COUNTER
-          → CallEnds world reaches kinds.Sdl shape old new (IsTwo sdl) (sdl_update_uses sdl) × Keeps world reaches kinds.Sdl shape old new (SdlValue sdl) readable
-          → HasGrown world reaches shape old new lists capacity (lists_grown shape lists capacity)
-      has_grown new readable room did =
-          let of_new = subst (λ (s : Sdl). HasUpdated world reaches shape old new s true) is (updated_kept world reaches shape old new sdl readable did.0 did.1) in
-          written new of_new.ended.alone room of_new
+    pub has_grown : (new : M) (readable : ℕ) → lists.sdl.counter < LAST_COUNTER
+        → CallEnds world reaches kinds.Sdl shape old new (IsTwo lists.sdl) (sdl_update_uses lists.sdl) × Keeps world reaches kinds.Sdl shape old new (SdlValue (lists_grown shape lists capacity).sdl) readable
+        → HasGrown world reaches shape old new lists capacity (lists_grown shape lists capacity)
+    has_grown new readable room did = written new did.0.alone room (updated_kept world reaches shape old new (lists_grown shape lists capacity).sdl readable did.0 did.1)
 
-      pub no_copy : (new : M) → lists.sdl.counter ≢ LAST_COUNTER
-          → CallEnds world reaches kinds.Sdl shape old new (IsTwo sdl) (sdl_update_uses sdl) × KeepsNone world reaches kinds.Sdl shape old new (SdlValue sdl)
-          → LacksUpdate world reaches shape old new lists capacity lists lists.sdl.counter
-      no_copy new room did =
-          let of_new = subst (λ (s : Sdl). HasUpdated world reaches shape old new s false) is (updated_lost world reaches shape old new sdl did.0 did.1) in
-          unwritten new of_new.ended.alone room of_new
+    pub no_copy : (new : M) → lists.sdl.counter ≢ LAST_COUNTER
+        → CallEnds world reaches kinds.Sdl shape old new (IsTwo lists.sdl) (sdl_update_uses lists.sdl) × KeepsNone world reaches kinds.Sdl shape old new (SdlValue (lists_grown shape lists capacity).sdl)
+        → LacksUpdate world reaches shape old new lists capacity lists lists.sdl.counter
+    no_copy new room did = unwritten new did.0.alone room (updated_lost world reaches shape old new (lists_grown shape lists capacity).sdl did.0 did.1)
 
-      pub growing_stopped : (new : M) (stop : Stop) → lists.sdl.counter < LAST_COUNTER
-          → StoppedWithin world reaches kinds.Sdl shape old new (IsTwo sdl) (sdl_update_uses sdl) stop × LeavesCopies kinds.Sdl shape (world old).cells (world new).cells (SdlValue sdl)
-          → StopsGrowing world reaches shape old new lists capacity lists stop
-      growing_stopped new stop room did =
-          let of_new = subst (λ (s : Sdl). HaltsUpdating world reaches shape old new s stop) is (update_halted world reaches shape old new sdl stop did.0 did.1) in
-          halted new of_new.stopped.alone stop room of_new
+    pub growing_stopped : (new : M) (stop : Stop) → lists.sdl.counter < LAST_COUNTER
+        → StoppedWithin world reaches kinds.Sdl shape old new (IsTwo lists.sdl) (sdl_update_uses lists.sdl) stop × LeavesCopies kinds.Sdl shape (world old).cells (world new).cells (SdlValue (lists_grown shape lists capacity).sdl)
+        → StopsGrowing world reaches shape old new lists capacity lists stop
+    growing_stopped new stop room did = halted new did.0.alone stop room (update_halted world reaches shape old new (lists_grown shape lists capacity).sdl stop did.0 did.1)

@@ -1,9 +1,9 @@
 -- What a repair within a mount leaves of the copies of its list, as it is said of a stopped mount.
-use Rattle.std.specs.Prelude.{◌≡◌, ℕ, ◌≤◌, ◌⊎◌, List}
+use Rattle.std.specs.Prelude.{◌≡◌, ℕ, List}
 use Rattle.std.proofs.Common.{refl, sym, ◌∙◌, inl, inr, subst, arith}
 use Rattle.model_geometry.specs.Geometry.{Shape, dds_block, sdl_block, sdl_second_block}
 use Rattle.model_lists.specs.Values.{Dds, Sdl}
-use Rattle.model_lists.specs.Texts.{IsDdsText, IsTwo, IsSdlText, IsSdlSecond}
+use Rattle.model_lists.specs.Texts.{IsDdsText, IsSdlText, IsSdlSecond}
 use Rattle.model_medium.specs.Cells.{Cell, Blank, Good, Torn, Dead, IsSameOrDead, cell_at}
 use Rattle.model_copies.specs.Copies.{IsArea, Holds, HoldsOrDead, MayHold, Settled}
 use Rattle.model_copies.specs.Stops.{StopsAt, SparesExact}

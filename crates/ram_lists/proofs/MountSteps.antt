@@ -11,13 +11,12 @@ use Rattle.model_lists.specs.declared.versions.Version.TheVariants.{One, Two}
 use Rattle.model_lists.specs.Texts.{IsDdsText, IsTwo, IsSdlText, IsSdlSecond}
 use Rattle.model_lists.specs.declared.dds.DdsState.{DdsState}
 use Rattle.model_lists.specs.declared.dds.DdsState.TheVariants.{Formatting, Formatted}
-use Rattle.model_medium.specs.Cells.{Cell, Blank, Good, Torn, Dead, IsSameOrDead, cell_at}
+use Rattle.model_medium.specs.Cells.{Cell, Dead, IsSameOrDead, cell_at}
 use Rattle.model_medium.specs.World.{World, UseContinues}
 use Rattle.model_stops.specs.Stops.{Continues}
 use Rattle.model_stops.specs.declared.Stop.{Stop}
 use Rattle.model_stops.specs.declared.Stop.TheVariants as stops
 use Rattle.model_copies.specs.Copies.{IsArea, Holds, HoldsOrDead, MayHold, HasCopy, HasDdsCopy, Settled, IsChosen, NoneChosen, IsGreatestMark, IsSeen, HoldNothingNew}
-use Rattle.model_copies.specs.Stops.{SparesExact}
 use Rattle.model_copies.specs.Parts.{HasSdlCopy, SdlIsExact, Names, AreMarkedWithin, Mark, MayLeaveParts, PartsHoldNothingNew, CountMores}
 use Rattle.model_copies.proofs.SdlParts.{sdl_before, sdl_two_decided, sdl_repaired as parts_repaired}
 use Rattle.model_copies.proofs.CopyFacts.{copy_settled}
@@ -26,7 +25,7 @@ use Rattle.model_copies.proofs.Rewriting.{rewrites_seen}
 use Rattle.model_copies.proofs.NothingNew.{nothing_new_from_dead, nothing_new_from_write, nothing_new_then}
 use Rattle.model_places.specs.Places.{Lists}
 use Rattle.model_places.specs.Valid.{IsValidPdl}
-use Rattle.model_volume.specs.Given.{IsWholePair, IsGiven, GivesNone, FitsDds, IsChosenDds, IsChosenSdl, NoDdsChosen, NoSdlChosen, AreChosen, IsListBlock, OnlyLists, AreSeen}
+use Rattle.model_volume.specs.Given.{IsWholePair, IsGiven, GivesNone, IsChosenDds, IsChosenSdl, NoDdsChosen, NoSdlChosen, AreChosen, IsListBlock, OnlyLists, AreSeen}
 use Rattle.model_lists.proofs.DdsTexts as dds_texts
 use Rattle.model_volume.proofs.Updates.{dds_no_sdl}
 use Rattle.model_volume.proofs.GivenFacts.{chosen_whole, none_lacking, given_before, given_in_dds_repair, given_others, exact_settled, bare_without_dds, bare_formatting, bare_without_sdl}
@@ -37,7 +36,7 @@ use Rattle.ram_zones.specs.declared.list_kind.ListKind.{ListKind}
 use Rattle.ram_zones.specs.declared.list_kind.ListKind.TheVariants as kinds
 use Rattle.ram_copies.specs.Values.{ListValue, DdsValue, SdlValue, parts_by}
 use Rattle.ram_copies.specs.Choices.{MayHaveTwo}
-use Rattle.ram_copies.specs.Calls.{StoppedCounts, ChangesCopiesAlone, CallEnds, StoppedWithin, Repairs, StopsRepairing, repair_uses, most_repair_uses}
+use Rattle.ram_copies.specs.Calls.{StoppedCounts, ChangesCopiesAlone, CallEnds, StoppedWithin, StopsRepairing, repair_uses, most_repair_uses}
 use Rattle.ram_copies.specs.Chooses.{SawCopies, StopsChoosing, Finds, FindsNone}
 use Rattle.ram_copies.proofs.Areas.{second_no_dds, second_no_sdl}
 use Rattle.ram_copies.proofs.EachList.{dds_exact, dds_may, dds_spares, dds_rewritten, sdl_exact, sdl_may, sdl_rewritten, seconds_rewritten, seconds_stay_by_dds}
@@ -531,11 +530,15 @@ module _ {M : Type 0} (world : M → World) (block_count : M → ℕ) (reaches :
             (λ known. record {
               seen = (world two).cells;
               are_seen = are_seen new (dead_in_dds two new d stop stopped);
-              mends = inr (inl (d, d_area, record {
-                chosen = first_is known;
-                mends = dds_in_part shape (world two).cells (world new).cells d stopped.leaves stopped.spares;
-                dies = sdl_others two new stopped.within.alone;
-              }));
+              mends = inr (inl (
+                d,
+                d_area,
+                record {
+                  chosen = first_is known;
+                  mends = dds_in_part shape (world two).cells (world new).cells d stopped.leaves stopped.spares;
+                  dies = sdl_others two new stopped.within.alone;
+                },
+              ));
             })
 
         pub third_ends : (new : M) (end : End) → EndsMending world reaches kinds.Dds shape two new (DdsValue d) end → EndRule world reaches shape old new end
@@ -660,12 +663,15 @@ module _ {M : Type 0} (world : M → World) (block_count : M → ℕ) (reaches :
                 (λ known. record {
                   seen = (world two).cells;
                   are_seen = are_seen new stays;
-                  mends = inr (inr (record { dds = d; sdl = s }, record {
-                    chosen = both_chosen state known;
-                    dds = dds_mended new stays (dds_stay world reaches shape three new stopped.within.alone);
-                    sdl = sdl_from shape (world three).cells (world two).cells (world new).cells (λ a. sym (same_sdl a)) (λ a. sym (same_second a)) s
-                        (sdl_in_part shape (world three).cells (world new).cells s stopped.leaves stopped.spares);
-                  }));
+                  mends = inr (inr (
+                    record { dds = d; sdl = s },
+                    record {
+                      chosen = both_chosen state known;
+                      dds = dds_mended new stays (dds_stay world reaches shape three new stopped.within.alone);
+                      sdl = sdl_from shape (world three).cells (world two).cells (world new).cells (λ a. sym (same_sdl a)) (λ a. sym (same_second a)) s
+                          (sdl_in_part shape (world three).cells (world new).cells s stopped.leaves stopped.spares);
+                    },
+                  ));
                 })
               where
                 stays : ListsStayDead two new

@@ -38,7 +38,7 @@ fn roomy_list(alloc: Global) -> Result<Sdl, AllocError>
     ensures { IfOk result (λ sdl. SDL_LIMIT ≤ sdl.entries.room) }
 {
     let mut sdl = Sdl {
-        version: Version::Two,
+        version: Version::One,
         counter: 0,
         dds_counter: 0,
         ssa: 0,
