@@ -4,7 +4,6 @@ use Rattle.std.proofs.Common.{refl, sym, ap, inl, subst, arith, eqb, take}
 use Rattle.std.proofs.lemmas.Bool.{cond-false, ne_eqb}
 use Rattle.model_geometry.specs.Geometry.{Shape, dds_block}
 use Rattle.model_lists.specs.Texts.{IsDdsText, IsTwo}
-use Rattle.model_medium.specs.Cells.{cell_at}
 use Rattle.model_medium.specs.World.{World}
 use Rattle.model_stops.specs.declared.Stop.{Stop}
 use Rattle.model_copies.specs.Copies.{Settled}
@@ -27,7 +26,7 @@ use Rattle.ram_zones.specs.declared.list_kind.ListKind.TheVariants as kinds
 use Rattle.ram_copies.specs.Values.{SdlValue}
 use Rattle.ram_copies.specs.Calls.{LeavesCopies, ChangesCopiesAlone, CallEnds, StoppedWithin, Keeps, KeepsNone}
 use Rattle.ram_lists.proofs.MountSteps.{settled_same, sdl_only, dds_stay}
-use Rattle.ram_replace.specs.Updates.{LeavesSdl, HasUpdated, HaltsUpdating}
+use Rattle.ram_replace.specs.Updates.{HasUpdated, HaltsUpdating}
 use Rattle.ram_replace.proofs.Updating.{updated_kept, updated_lost, update_halted}
 use Rattle.ram_expand.specs.Sizes.{IsSmaller}
 use Rattle.ram_expand.specs.Expanding.{lists_grown, HasGrown, LacksUpdate, StopsGrowing}

@@ -8,7 +8,7 @@ use Rattle.model_geometry.specs.Geometry.{Shape, data_blocks, dds_block, sdl_blo
 use Rattle.model_geometry.proofs.ListBlocks.{no_data_block_sdl}
 use Rattle.model_lists.specs.Values.{Sdl}
 use Rattle.model_lists.specs.Texts.{IsDdsText, IsTwo}
-use Rattle.model_medium.specs.Cells.{Cell, Blank, Good, Torn, Dead, IsGood, MayLeave, cell_at}
+use Rattle.model_medium.specs.Cells.{Cell, Good, Dead, IsGood, MayLeave, cell_at}
 use Rattle.model_medium.specs.World.{World}
 use Rattle.model_sectors.specs.Discs.{Agrees}
 use Rattle.model_sectors.proofs.Fitting.{agrees_not_good}

@@ -10,7 +10,7 @@ use Rattle.ram_zones.specs.declared.list_kind.ListKind.TheVariants as kinds
 use Rattle.ram_copies.specs.Values.{SdlValue}
 use Rattle.ram_copies.specs.Calls.{LeavesCopies, CallEnds, StoppedWithin, Keeps, KeepsNone}
 use Rattle.ram_copies.proofs.EachList.{sdl_exact, sdl_lost, sdl_all_lost, sdl_may, sdl_stays_dead, sdl_stops}
-use Rattle.ram_replace.specs.Updates.{LeavesSdl, HasUpdated, HaltsUpdating}
+use Rattle.ram_replace.specs.Updates.{HasUpdated, HaltsUpdating}
 
 module _ {M : Type 0} (world : M → World) (reaches : M → M → ℕ → Type 0) (shape : Shape) (old new : M) (value : Sdl) where
   pub updated_kept : (readable : ℕ) → CallEnds world reaches kinds.Sdl shape old new (IsTwo value) (sdl_update_uses value) → Keeps world reaches kinds.Sdl shape old new (SdlValue value) readable → HasUpdated world reaches shape old new value true
