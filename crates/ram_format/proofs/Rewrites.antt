@@ -4,7 +4,6 @@ use Rattle.std.proofs.Common.{refl, sym, ap, ◌∙◌, inl, inr, subst, arith}
 use Rattle.std.proofs.lemmas.Bool.{cases_eq}
 use Rattle.model_counts.specs.Counts.{counted, Rose}
 use Rattle.model_geometry.specs.Geometry.{Shape, dds_block, sdl_block, sdl_second_block}
-use Rattle.model_lists.specs.declared.versions.Version.{Version}
 use Rattle.model_lists.specs.declared.versions.Version.TheVariants.{One, Two}
 use Rattle.model_lists.specs.Values.{Dds, Sdl, parts_by}
 use Rattle.model_lists.specs.Texts.{IsDdsText, IsTwo, IsSdlText, IsSdlSecond}
@@ -28,6 +27,7 @@ use Rattle.ram_medium.proofs.Parts.{continues_then, stops_later, stops_within}
 use Rattle.ram_zones.specs.declared.list_kind.ListKind.TheVariants as kinds
 use Rattle.ram_copies.specs.Values.{DdsValue, SdlValue}
 use Rattle.ram_copies.specs.Calls.{StoppedCounts, ChangesCopiesAlone, StopsRepairing}
+use Rattle.ram_copies.proofs.PartsOf.{parts_few}
 use Rattle.ram_copies.proofs.EachList.{dds_exact, dds_lost, dds_all_lost, dds_spares, dds_rewritten, sdl_exact, sdl_lost, sdl_all_lost, sdl_rewritten, seconds_rewritten, seconds_stay_by_dds}
 use Rattle.ram_lists.specs.Mends.{MendsDds, MendsSdl}
 use Rattle.ram_lists.proofs.Mending.{settled_may_hold, dds_in_part, sdl_in_part, dds_to_end, sdl_from}
@@ -171,11 +171,6 @@ use_stays_dead old new block one other dead = elim (cases_eq other block) [
 failed_stays_dead : (old new : World) (block : ℕ) → FailsInUse old new block → (other : ℕ) → cell_at old.cells other ≡ Dead → cell_at new.cells other ≡ Dead
 failed_stays_dead old new block (inl read) = use_stays_dead old new block read.2.one
 failed_stays_dead old new block (inr write) = use_stays_dead old new block write.1.one
-
--- a list has two parts at most
-parts_few : (e : Version) → parts_by e ≤ 2
-parts_few One = omega arith
-parts_few Two = omega arith
 
 module _ {M : Type 0} (world : M → World) (block_count : M → ℕ) (reaches : M → M → ℕ → Type 0) (laws : MediumLaws world block_count reaches) (shape : Shape) (lists : Lists) where
   stays_dead : (a b : M) (k : ℕ) → Continues world reaches a b k → (block : ℕ) → cell_at (world a).cells block ≡ Dead → cell_at (world b).cells block ≡ Dead

@@ -5,7 +5,7 @@ use Rattle.std.specs.Bool.{OnFalse}
 use Rattle.std.proofs.lemmas.Bool.{cases_Bool, true≢false}
 use Rattle.model_counts.specs.Counts.{counted, Rose}
 use Rattle.model_geometry.specs.Geometry.{Shape, dds_block, sdl_block, sdl_second_block}
-use Rattle.model_lists.specs.Values.{Dds, Sdl, parts_by as parts_in}
+use Rattle.model_lists.specs.Values.{Dds, Sdl}
 use Rattle.model_lists.specs.declared.versions.Version.{Version}
 use Rattle.model_lists.specs.declared.versions.Version.TheVariants.{One, Two}
 use Rattle.model_lists.specs.Texts.{IsDdsText, IsTwo, IsSdlText, IsSdlSecond}
@@ -34,7 +34,8 @@ use Rattle.ram_medium.specs.Laws.{MediumLaws}
 use Rattle.ram_medium.proofs.Parts.{continues_then, stops_later, stops_within}
 use Rattle.ram_zones.specs.declared.list_kind.ListKind.{ListKind}
 use Rattle.ram_zones.specs.declared.list_kind.ListKind.TheVariants as kinds
-use Rattle.ram_copies.specs.Values.{ListValue, DdsValue, SdlValue, parts_by}
+use Rattle.ram_copies.specs.Values.{ListValue, DdsValue, SdlValue}
+use Rattle.ram_copies.proofs.PartsOf.{parts_few}
 use Rattle.ram_copies.specs.Choices.{MayHaveTwo}
 use Rattle.ram_copies.specs.Calls.{StoppedCounts, ChangesCopiesAlone, CallEnds, StoppedWithin, StopsRepairing, repair_uses, most_repair_uses}
 use Rattle.ram_copies.specs.Chooses.{SawCopies, StopsChoosing, Finds, FindsNone}
@@ -189,15 +190,6 @@ module _ {M : Type 0} (world : M → World) (reaches : M → M → ℕ → Type 
       | inr one ↦ inl (seconds_stay old new one alone a)
     ];
   }
-
--- how many parts a secondary list has
-parts_few : (v : Version) → parts_by v ≤ 2
-parts_few One = omega arith
-parts_few Two = omega arith
-
-parts_same : (v : Version) → parts_by v ≡ parts_in v
-parts_same One = refl
-parts_same Two = refl
 
 module _ {M : Type 0} (world : M → World) (block_count : M → ℕ) (reaches : M → M → ℕ → Type 0) (laws : MediumLaws world block_count reaches) (shape : Shape) where
   by_known : (m : M) (P : Type 0) → ((world m).known ≡ true → P) → ((world m).cells ≡ [] → P) → P
@@ -715,7 +707,7 @@ module _ {M : Type 0} (world : M → World) (block_count : M → ℕ) (reaches :
                 few = done.repairs.few;
                 few' = done.repairs.few';
                 none = done.repairs.none;
-                uses_are = ap (λ (p : ℕ). 4 * p + 2 * (firsts + seconds)) (parts_same s.version);
+                uses_are = refl;
                 of_firsts = λ known. rewrites_seen IsSdlText (sdl_block shape) s (world old).cells (world three).cells (world four).cells (world four).cells
                     (before_repair (sdl_block shape) same_sdl (sdl_seen shape (world old).cells (world two).cells (world four).cells (are_seen four stays_both))) (λ a. refl) firsts
                     (sdl_rewritten shape s (world three).cells (world four).cells firsts seconds (done.repairs.rewrites (known_three known)));

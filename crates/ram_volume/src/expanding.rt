@@ -20,7 +20,8 @@ impl<M: MediumControl> Ready<M> {
     /// it has, or one that leaves more spares in all than 4,092, or 8,184 where its lists have version 2. Nothing was done, and
     /// the buffer stays. NoUpdate, with the counter of the secondary list in use, where the new one could not be written: its
     /// copies are all dead, or that counter is the last one. The disc stays, and no block is buffered then. With a cut or a
-    /// fault the power is off, and the disc and its first sectors are the candidates. (Spare areas after ECMA-330; how one grows is this project's own.)
+    /// fault the power is off, and the disc and its first sectors are the candidates. (Spare areas after ECMA-330; how one
+    /// grows is this project's own.)
     pub fn expand(self, capacity: u32) -> (State<M>, ExpandOut)
         ensures cause { ExpandCause (shown_ready self) (shown_state result.0) capacity result.1 }
         ensures step { ExpandSteps (shown_ready self) (shown_state result.0) capacity result.1 }
