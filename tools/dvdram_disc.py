@@ -112,13 +112,16 @@ class Disc:
         return blocks
 
     def fixed_roles(self) -> list[Role]:
-        """What the blocks are by the geometry alone."""
+        """What the blocks are by the geometry, and by the version of the lists: in version 1 the secondary one has one part."""
         geometry = self.geometry
         roles = [Role.LEAD_IN] * 8 + [Role.UNFORMATTED] * (geometry.lead_out - 8) + [Role.LEAD_OUT] * 8
         for block in geometry.guards:
             roles[block] = Role.GUARD
-        for block in geometry.structure_blocks:
-            roles[block:block + 2] = Role.STRUCTURE, Role.SECONDARY
+        parts = self.lists.secondary.version if self.lists else 2
+        for structure, copy in zip(geometry.structure_blocks, geometry.secondary_blocks):
+            roles[structure] = Role.STRUCTURE
+            for block in copy[:parts]:
+                roles[block] = Role.SECONDARY
         return roles
 
     @property

@@ -10,7 +10,8 @@ from itertools import accumulate
 from typing import Callable, Protocol, TypeVar
 
 BLOCK = 32_768
-MOST_SPARES = 4_092
+MOST_SPARES = 4_092  # primary ones; as many entries fit into a part of a secondary list
+VERSIONS = 1, 2  # of the lists; a secondary list has as many parts
 
 
 @dataclass(frozen=True)
@@ -45,8 +46,13 @@ class Geometry:
 
     @property
     def structure_blocks(self) -> list[int]:
-        """The blocks of the four copies of the structure; each copy of the secondary list lies in the next one."""
+        """The blocks of the four copies of the structure."""
         return [0, 2, self.lead_out, self.lead_out + 2]
+
+    @property
+    def secondary_blocks(self) -> list[tuple[int, int]]:
+        """The blocks of the four copies of the secondary list: of the first part, and of the second where it has two."""
+        return [(1, 4), (3, 5), (self.lead_out + 1, self.lead_out + 4), (self.lead_out + 3, self.lead_out + 5)]
 
     def is_lawful(self) -> bool:
         return (1 <= self.zones <= 35 and 1 <= self.scale <= 100
@@ -69,6 +75,7 @@ def rises(blocks: list[int]) -> bool:
 class Structure:
     """The disc definition structure with the primary list: pairs of a kind and a block that is slipped over."""
 
+    version: int
     counter: int
     is_formatted: bool
     spares: int
@@ -80,11 +87,11 @@ class Structure:
         count = number(text, 2050, 2)
         starts = range(2052, 2052 + 4 * min(count, MOST_SPARES), 4)
         entries = tuple((text[at], number(text, at + 1, 3)) for at in starts)
-        value = cls(number(text, 4, 4), text[3] == 128, number(text, 8, 2), entries)
+        value = cls(text[2], number(text, 4, 4), text[3] == 128, number(text, 8, 2), entries)
         return value if value.is_lawful() and value.encode() == text else None
 
     def encode(self) -> bytes:
-        head = bytes((10, 10, 1, 128 if self.is_formatted else 0)) + big(self.counter, 4) + big(self.spares, 2)
+        head = bytes((10, 10, self.version, 128 if self.is_formatted else 0)) + big(self.counter, 4) + big(self.spares, 2)
         entries = b"".join(bytes((kind,)) + big(block, 3) for kind, block in self.entries)
         return (head.ljust(2048, b"\0") + bytes((0, 1)) + big(len(self.entries), 2) + entries).ljust(BLOCK, b"\0")
 
@@ -93,7 +100,7 @@ class Structure:
         return [block for _, block in self.entries]
 
     def is_lawful(self) -> bool:
-        return (1 <= self.spares <= MOST_SPARES and len(self.entries) <= self.spares
+        return (self.version in VERSIONS and 1 <= self.spares <= MOST_SPARES and len(self.entries) <= self.spares
                 and (self.is_formatted or not self.entries) and rises(self.slipped)
                 and all(kind <= 2 for kind, _ in self.entries))
 
@@ -105,27 +112,51 @@ class Structure:
 class Secondary:
     """The secondary list: pairs of a dead block and what replaces it, which is none for a spare that is retired."""
 
+    version: int
     counter: int
     structure_counter: int
     spares: int
     entries: tuple[tuple[int, int | None], ...]
 
     @classmethod
-    def decode(cls, text: bytes) -> Secondary | None:
-        """The secondary list whose text this block is, if it is one."""
-        starts = range(32, 32 + 8 * min(number(text, 14, 2), MOST_SPARES), 8)
-        entries = tuple((number(text, at + 1, 3), None if text[at] else number(text, at + 5, 3)) for at in starts)
-        value = cls(number(text, 4, 4), number(text, 8, 4), number(text, 12, 2), entries)
-        return value if value.is_lawful() and value.encode() == text else None
+    def decode(cls, texts: list[bytes | None]) -> Secondary | None:
+        """The secondary list whose text these two blocks are, or the first alone, if they are one."""
+        first = texts[0]
+        if not first or first[2] not in VERSIONS:
+            return None
+        parts, left = texts[:first[2]], number(first, 14, 2)
+        entries: list[tuple[int, int | None]] = []
+        for part in parts:
+            some = min(left, MOST_SPARES)
+            entries += entries_of(part, some) if part else []
+            left -= some
+        value = cls(first[2], number(first, 4, 4), number(first, 8, 4), number(first, 12, 2), tuple(entries))
+        return value if value.is_lawful() and value.encode() == parts else None
 
-    def encode(self) -> bytes:
-        head = bytes((0, 2, 1, 0)) + big(self.counter, 4) + big(self.structure_counter, 4)
-        head += big(self.spares, 2) + big(len(self.entries), 2)
-        entries = b"".join(bytes((other is None,)) + big(block, 3) + big(other or 0, 4) for block, other in self.entries)
-        return (head.ljust(32, b"\0") + entries).ljust(BLOCK, b"\0")
+    def encode(self) -> list[bytes]:
+        """The text of each part."""
+        head = big(self.counter, 4) + big(self.structure_counter, 4) + big(self.spares, 2) + big(len(self.entries), 2)
+        texts = []
+        for part in range(self.version):
+            some = self.entries[MOST_SPARES * part:MOST_SPARES * (part + 1)]
+            front = bytes((0, 2, self.version, part + 1 if self.version > 1 else 0)) + head
+            entries = b"".join(bytes((other is None,)) + big(block, 3) + big(other or 0, 4) for block, other in some)
+            texts.append((front.ljust(32, b"\0") + entries).ljust(BLOCK, b"\0"))
+        return texts
+
+    @property
+    def most_spares(self) -> int:
+        """How many supplementary spares there may be, and how many entries; as many spares of both kinds together."""
+        return MOST_SPARES * self.version
 
     def is_lawful(self) -> bool:
-        return self.spares <= MOST_SPARES and rises([block for block, _ in self.entries])
+        return (self.spares <= self.most_spares and len(self.entries) <= self.most_spares
+                and rises([block for block, _ in self.entries]))
+
+
+def entries_of(part: bytes, count: int) -> list[tuple[int, int | None]]:
+    """The first entries in a part of a secondary list."""
+    return [(number(part, at + 1, 3), None if part[at] else number(part, at + 5, 3)) for at in range(32, 32 + 8 * count, 8)]
 
 
 @dataclass(frozen=True)
@@ -163,10 +194,10 @@ class Lists:
         return [replaced.get(block, block) for block in self.logical]
 
     def are_valid(self) -> bool:
-        """The secondary list names the structure's counter, and is valid under it."""
-        most = self.geometry.spares + self.secondary.spares
-        if (self.secondary.structure_counter != self.structure.counter or most > MOST_SPARES
-                or most >= len(self.geometry.data)):
+        """The secondary list has the structure's version, names its counter, and is valid under it."""
+        structure, secondary, all_spares = self.structure, self.secondary, self.geometry.spares + self.secondary.spares
+        if ((secondary.version, secondary.structure_counter) != (structure.version, structure.counter)
+                or all_spares > secondary.most_spares or all_spares >= len(self.geometry.data)):
             return False
         spares = {*self.primary_spares, *self.supplementary_spares}
         logical = set(self.logical)
@@ -192,11 +223,10 @@ def newest(copies: list[Copy]) -> Copy | None:
 
 def choose(geometry: Geometry, readable: Callable[[int], bytes | None]) -> tuple[Structure | None, Lists | None]:
     """The structure that a mount chooses, and both lists where the disc is formatted, over its readable blocks."""
-    texts = [(readable(block), readable(block + 1)) for block in geometry.structure_blocks]
-    structures = [Structure.decode(text) for text, _ in texts if text]
+    structures = [Structure.decode(text) for text in map(readable, geometry.structure_blocks) if text]
     structure = newest([copy for copy in structures if copy and copy.is_valid(geometry)])
     if not structure or not structure.is_formatted:
         return structure, None
-    secondaries = [Secondary.decode(text) for _, text in texts if text]
+    secondaries = [Secondary.decode([readable(block) for block in blocks]) for blocks in geometry.secondary_blocks]
     secondary = newest([copy for copy in secondaries if copy and Lists(geometry, structure, copy).are_valid()])
     return structure, Lists(geometry, structure, secondary) if secondary else None

@@ -39,7 +39,7 @@ def lists_in_words(disc: Disc) -> Iterator[str]:
         yield "not formatted"
         return
     structure, secondary = disc.lists.structure, disc.lists.secondary
-    yield f"structure: counter {structure.counter}, {len(structure.entries)} blocks slipped"
+    yield f"structure: version {structure.version}, counter {structure.counter}, {len(structure.entries)} blocks slipped"
     yield (f"secondary list: counter {secondary.counter}, {len(secondary.entries)} entries, "
            f"{secondary.spares} supplementary spares")
 

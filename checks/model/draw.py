@@ -23,6 +23,7 @@ class Script(Lines):
     def draw(self, pressed: bool) -> bytes:
         """A script over a disc that is pressed already, or that is to be."""
         lines = [] if pressed and self.random.random() < 0.95 else self.new_disc()
+        lines += [self.cut()] if pressed and self.random.random() < 0.1 else []
         lines += [self.on()] if self.random.random() < 0.95 else []
         lines += [self.full_format()] if pressed and self.random.random() < 0.6 else []
         for _ in range(self.random.randrange(1, 5 if pressed else 10)):
@@ -70,14 +71,15 @@ class Script(Lines):
 
     def lost_copies(self) -> List[str]:
         """Most copies of a list die or are going to, or all of them; then the list is used."""
-        blocks = self.random.choice([self.geometry.structure_blocks, self.geometry.secondary_blocks])
+        of_secondary = [self.random.choice(blocks) for blocks in self.geometry.secondary_blocks]
+        blocks = self.random.choice([self.geometry.structure_blocks, of_secondary])
         lost = self.random.sample(blocks, self.random.choice([2, 3, 4, 4, 4]))
         uses = [self.full_format, self.rewriting_format, self.expansion, self.on]
         lines = [f"fail {block}" for block in lost]
         if self.random.random() < 0.4:
             lines = [f"wear {block} {self.random.randint(1, 4)}" for block in lost]
         lines += self.lost_home() if self.random.random() < 0.3 else []
-        lines += [f"cut {self.random.randint(9, 20)} {self.random.choice(FATES)}"] if self.random.random() < 0.4 else []
+        lines += [f"cut {self.random.randint(9, 40)} {self.random.choice(FATES)}"] if self.random.random() < 0.4 else []
         return [*lines, self.random.choice(uses)(),
                 *self.several(self.transfer, 0, 2), *(self.new_disc() if self.random.random() < 0.7 else [])]
 

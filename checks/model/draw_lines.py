@@ -58,7 +58,7 @@ class Lines:
         """A block of the medium: of a list, one of the first or last data blocks, or any."""
         geometry, data = self.geometry, self.geometry.data_blocks
         return self.random.choices(
-            [self.random.choice(geometry.structure_blocks), self.random.choice(geometry.secondary_blocks),
+            [self.random.choice(geometry.structure_blocks), self.random.choice(self.random.choice(geometry.secondary_blocks)),
              self.random.choice(data[:geometry.spares + 3]), self.random.choice(data[-4:]), self.random.choice(data),
              self.random.randrange(geometry.blocks + 2)], [2, 2, 8, 2, 2, 1])[0]
 

@@ -2,10 +2,14 @@
 from __future__ import annotations
 
 from dataclasses import dataclass, replace
-from typing import Dict, Iterator, List, NamedTuple, Optional, Tuple
+from typing import Callable, Dict, Iterator, List, NamedTuple, Optional, Tuple
 
-from .lists import LAST_COUNTER, SECTORS_IN_BLOCK, Kind, Lists, Secondary, Slipped, Structure, structure_fits
-from .medium import BLOCK, MOST_SPARES, SECTOR, Medium
+from .lists import (LAST_COUNTER, MADE, SECTORS_IN_BLOCK, Kind, Lists, Secondary, Slipped, Structure, goes_on, named_structure,
+                    structure_fits)
+from .medium import BLOCK, SECTOR, Medium
+
+Copies = List[List[Tuple[int, bytes]]]
+"""The blocks of a list in each area, with the text that belongs there."""
 
 
 class Sense(NamedTuple):
@@ -79,13 +83,20 @@ class Drive:
         self.medium.write(block, data)
         return self.medium.read(block) == data
 
-    def update(self, blocks: List[int], text: bytes) -> bool:
-        """Writes a list to all its copies: whether a copy is left."""
-        return any([self.put(block, text) for block in blocks])
+    def mend(self, block: int, data: bytes) -> bool:
+        """Reads a block, and writes it where it does not have these bytes: whether it has them then."""
+        return self.medium.read(block) == data or self.put(block, data)
 
-    def repair(self, blocks: List[int], text: bytes) -> bool:
-        """Writes those copies of a list that are not its text: whether a copy is left."""
-        return any([self.medium.read(block) == text or self.put(block, text) for block in blocks])
+    @staticmethod
+    def on_copies(call: Callable[[int, bytes], bool], copies: Copies) -> bool:
+        """Calls this for each block of each copy of a list, with its text: whether a whole copy is left."""
+        return any([all([call(block, text) for block, text in copy]) for copy in copies])
+
+    def structure_copies(self, structure: Structure) -> Copies:
+        return [[(block, structure.text)] for block in self.medium.geometry.structure_blocks]
+
+    def secondary_copies(self, secondary: Secondary) -> Copies:
+        return [list(zip(blocks, secondary.texts)) for blocks in self.medium.geometry.secondary_blocks]
 
     def update_secondary(self, secondary: Secondary) -> None:
         """Takes the next secondary list into use, if its counter has room and a copy of it can be read."""
@@ -93,7 +104,7 @@ class Drive:
         if self.lists.secondary.counter == LAST_COUNTER:
             raise Check(*NO_UPDATE)
         new = replace(secondary, counter=self.lists.secondary.counter + 1)
-        if not self.update(self.medium.geometry.secondary_blocks, new.text):
+        if not self.on_copies(self.put, self.secondary_copies(new)):
             raise Check(*NO_UPDATE)
         self.lists = replace(self.lists, secondary=new)
 
@@ -104,18 +115,28 @@ class Drive:
         self.on = True
         geometry = self.medium.geometry
         structures = [Structure.of(self.medium.read(block)) for block in geometry.structure_blocks]
-        secondaries = [Secondary.of(self.medium.read(block)) for block in geometry.secondary_blocks]
-        self.mark = max([one.counter for one in structures if one] + [one.structure for one in secondaries if one] + [0])
+        secondaries = self.read_secondaries()
+        self.mark = max([self.mark] + [one.counter for one in structures if one])
         fitting = [one for one in structures if one and structure_fits(one, geometry)]
         if not fitting:
             return
         structure = max(fitting, key=lambda one: one.counter)
-        found = [Lists(geometry, structure, one) for one in secondaries if one and one.structure == structure.counter]
-        found = [lists for lists in found if structure.formatted and lists.is_valid]
-        self.repair(geometry.structure_blocks, structure.text)
+        found = [Lists(geometry, structure, one) for one in secondaries if structure.formatted]
+        found = [lists for lists in found if lists.is_valid]
+        self.on_copies(self.mend, self.structure_copies(structure))
         if found:
             self.lists, self.mark = max(found, key=lambda lists: lists.secondary.counter), structure.counter
-            self.repair(geometry.secondary_blocks, self.lists.secondary.text)
+            self.on_copies(self.mend, self.secondary_copies(self.lists.secondary))
+
+    def read_secondaries(self) -> List[Secondary]:
+        """The secondary lists of the areas. The mark is the greatest counter of a structure that one of them names."""
+        found, self.mark = [], 0
+        for first_block, second_block in self.medium.geometry.secondary_blocks:
+            first = self.medium.read(first_block)
+            second = self.medium.read(second_block) if goes_on(first) else None
+            found.append(Secondary.of(first, second))
+            self.mark = max(self.mark, named_structure(first) or 0)
+        return [one for one in found if one]
 
     # Sectors.
 
@@ -185,9 +206,8 @@ class Drive:
 
     def rewrite(self, lists: Lists) -> None:
         self.buffered = None
-        geometry = self.medium.geometry
-        repaired = [self.repair(geometry.structure_blocks, lists.structure.text),
-                    self.repair(geometry.secondary_blocks, lists.secondary.text)]
+        repaired = [self.on_copies(self.mend, copies)
+                    for copies in (self.structure_copies(lists.structure), self.secondary_copies(lists.secondary))]
         if not all(repaired):
             raise Check(*FORMAT_FAILED)
 
@@ -200,8 +220,8 @@ class Drive:
     def format_fully(self, defects: Dict[int, int], kind: Kind) -> None:
         geometry = self.medium.geometry
         self.mark += 1
-        begun = Structure(False, self.mark, geometry.spares)
-        if not self.update(geometry.structure_blocks, begun.text):
+        begun = Structure(MADE, False, self.mark, geometry.spares)
+        if not self.on_copies(self.put, self.structure_copies(begun)):
             raise Check(*FORMAT_FAILED)
         for block in geometry.data_blocks:
             if block not in defects and not self.put(block, bytes(BLOCK)):
@@ -210,11 +230,11 @@ class Drive:
             raise Check(*FORMAT_FAILED)
         self.mark += 1
         entries = tuple(Slipped(defects[block], block) for block in sorted(defects))
-        ended = Structure(True, self.mark, geometry.spares, entries)
-        secondary = Secondary(1, ended.counter)
-        if not self.update(geometry.secondary_blocks, secondary.text):
+        ended = Structure(MADE, True, self.mark, geometry.spares, entries)
+        secondary = Secondary(MADE, 1, ended.counter)
+        if not self.on_copies(self.put, self.secondary_copies(secondary)):
             raise Check(*FORMAT_FAILED)
-        if not self.update(geometry.structure_blocks, ended.text):
+        if not self.on_copies(self.put, self.structure_copies(ended)):
             raise Check(*FORMAT_FAILED)
         self.lists = Lists(geometry, ended, secondary)
 
@@ -229,9 +249,10 @@ class Drive:
 
     def may_expand_to(self, sectors: int) -> bool:
         """Whether the disc can have this capacity after an expansion."""
+        assert self.lists is not None
         blocks, left = divmod(sectors, SECTORS_IN_BLOCK)
         spares = len(self.medium.geometry.data_blocks) - blocks
-        return left == 0 and 0 < sectors <= self.sectors and spares <= MOST_SPARES
+        return left == 0 and 0 < sectors <= self.sectors and spares <= self.lists.most_spares
 
     def expand(self, sectors: int) -> None:
         """Makes the last logical blocks supplementary spares, so that this many sectors are left."""

@@ -15,7 +15,7 @@ class Hand:
         self.random = random
         self.geometry = geometry
         self.medium = Medium(bytearray(image), geometry)
-        self.lists = geometry.structure_blocks + geometry.secondary_blocks
+        self.lists = geometry.list_blocks
 
     def change(self) -> bytes:
         """The image after some changes."""
@@ -71,7 +71,7 @@ class Hand:
         counter, moves = self.random.choice([0, 1, LAST_COUNTER - 2, LAST_COUNTER - 1, LAST_COUNTER]), self.random.random() < 0.5
         for block in self.lists:
             data = bytes(self.medium.image[self.medium.bytes_at(block)])
-            if block in self.geometry.secondary_blocks:
+            if block not in self.geometry.structure_blocks:
                 at = 8 if moves else 4
             elif moves:
                 at = 4

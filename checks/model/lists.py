@@ -10,6 +10,12 @@ from .medium import BLOCK, MOST_SPARES, SECTOR, Geometry
 
 SECTORS_IN_BLOCK = BLOCK // SECTOR
 LAST_COUNTER = 2 ** 32 - 1
+VERSIONS = (1, 2)
+"""The versions of the lists. That of the secondary list is the number of its parts, too."""
+MADE = 1
+"""The version that a full format makes."""
+MOST_IN_PART = 4_092
+"""How many entries a part of the secondary list has at most, and how many supplementary spares there are for each part."""
 
 
 def number(block: bytes, at: int, length: int) -> int:
@@ -40,6 +46,7 @@ class Slipped(NamedTuple):
 @dataclass(frozen=True)
 class Structure:
     """The disc definition structure, which has the primary list."""
+    version: int
     formatted: bool
     counter: int
     spares: int
@@ -47,7 +54,7 @@ class Structure:
 
     @property
     def text(self) -> bytes:
-        head = bytes([0x0a, 0x0a, 1, 0x80 if self.formatted else 0x00])
+        head = bytes([0x0a, 0x0a, self.version, 0x80 if self.formatted else 0x00])
         head += self.counter.to_bytes(4, "big") + self.spares.to_bytes(2, "big")
         entries = b"".join(entry.text for entry in self.entries)
         tail = bytes([0x00, 0x01]) + len(self.entries).to_bytes(2, "big") + entries
@@ -61,12 +68,13 @@ class Structure:
         count = number(block, 2_050, 2)
         entries = tuple(Slipped(block[at], number(block, at + 1, 3)) for at in range(2_052, 2_052 + 4 * count, 4)
                         if at < BLOCK)
-        found = cls(block[3] == 0x80, number(block, 4, 4), number(block, 8, 2), entries)
+        found = cls(block[2], block[3] == 0x80, number(block, 4, 4), number(block, 8, 2), entries)
         return found if found.is_text and found.text == block else None
 
     @property
     def is_text(self) -> bool:
-        return (1 <= self.spares <= MOST_SPARES and len(self.entries) <= (self.spares if self.formatted else 0)
+        return (self.version in VERSIONS
+                and 1 <= self.spares <= MOST_SPARES and len(self.entries) <= (self.spares if self.formatted else 0)
                 and all(entry.kind in tuple(Kind) for entry in self.entries) and rises(self.blocks))
 
     @cached_property
@@ -77,37 +85,69 @@ class Structure:
 @dataclass(frozen=True)
 class Secondary:
     """The secondary list: each defective block with its replacement, or with none if it is a spare that is retired."""
+    version: int
     counter: int
     structure: int
     spares: int = 0
     entries: Tuple[Tuple[int, Optional[int]], ...] = ()
 
     @property
-    def text(self) -> bytes:
-        head = bytes([0x00, 0x02, 1, 0]) + self.counter.to_bytes(4, "big") + self.structure.to_bytes(4, "big")
+    def texts(self) -> List[bytes]:
+        """The text of each part."""
+        if self.version == 1:
+            return [self.part(0, self.entries)]
+        return [self.part(1, self.entries[:MOST_IN_PART]), self.part(2, self.entries[MOST_IN_PART:])]
+
+    def part(self, which: int, entries: Tuple[Tuple[int, Optional[int]], ...]) -> bytes:
+        """The text of the part with this number, which has these entries."""
+        head = bytes([0x00, 0x02, self.version, which])
+        head += self.counter.to_bytes(4, "big") + self.structure.to_bytes(4, "big")
         head += self.spares.to_bytes(2, "big") + len(self.entries).to_bytes(2, "big")
-        entries = b"".join(bytes([spare is None]) + block.to_bytes(3, "big") + (spare or 0).to_bytes(4, "big")
-                           for block, spare in self.entries)
-        return (head.ljust(32, b"\0") + entries).ljust(BLOCK, b"\0")
+        text = b"".join(bytes([spare is None]) + block.to_bytes(3, "big") + (spare or 0).to_bytes(4, "big")
+                        for block, spare in entries)
+        return (head.ljust(32, b"\0") + text).ljust(BLOCK, b"\0")
 
     @classmethod
-    def of(cls, block: Optional[bytes]) -> Optional[Secondary]:
-        """The secondary list whose text these bytes are, if there is one."""
-        if block is None:
+    def of(cls, first: Optional[bytes], second: Optional[bytes]) -> Optional[Secondary]:
+        """The secondary list whose text these bytes are, if there is one. The second block counts for a list of two parts."""
+        if first is None or first[2] not in VERSIONS:
             return None
-        entries = tuple((number(block, at + 1, 3), None if block[at] else number(block, at + 4, 4))
-                        for at in range(32, 32 + 8 * min(number(block, 14, 2), MOST_SPARES), 8))
-        found = cls(number(block, 4, 4), number(block, 8, 4), number(block, 12, 2), entries)
-        return found if found.is_text and found.text == block else None
+        parts = [first, second][:first[2]]
+        left, entries = number(first, 14, 2), []
+        for part in parts:
+            entries += [] if part is None else entries_at(part, min(left, MOST_IN_PART))
+            left -= min(left, MOST_IN_PART)
+        found = cls(first[2], number(first, 4, 4), number(first, 8, 4), number(first, 12, 2), tuple(entries))
+        return found if found.is_text and found.texts == parts else None
 
     @property
     def is_text(self) -> bool:
-        return (self.spares <= MOST_SPARES and rises([block for block, _ in self.entries])
+        most = MOST_IN_PART * self.version
+        return (self.spares <= most and len(self.entries) <= most and rises([block for block, _ in self.entries])
                 and all((spare or 0) < 2 ** 24 for _, spare in self.entries))
 
     @cached_property
     def replacements(self) -> Dict[int, Optional[int]]:
         return dict(self.entries)
+
+
+def entries_at(part: bytes, count: int) -> List[Tuple[int, Optional[int]]]:
+    """The first entries in a part of the secondary list."""
+    return [(number(part, at + 1, 3), None if part[at] else number(part, at + 4, 4)) for at in range(32, 32 + 8 * count, 8)]
+
+
+def goes_on(first: Optional[bytes]) -> bool:
+    """Whether a block says in its first 32 bytes that it is the first of two parts."""
+    most = 2 * MOST_IN_PART
+    return (first is not None and first[:4] == bytes([0x00, 0x02, 2, 1])
+            and number(first, 12, 2) <= most and number(first, 14, 2) <= most and not any(first[16:32]))
+
+
+def named_structure(first: Optional[bytes]) -> Optional[int]:
+    """The counter of the structure that the first block of a secondary list names, whatever its second one is."""
+    if first is not None and (goes_on(first) or Secondary.of(first, None)):
+        return number(first, 8, 4)
+    return None
 
 
 @dataclass(frozen=True)
@@ -116,6 +156,11 @@ class Lists:
     geometry: Geometry
     structure: Structure
     secondary: Secondary
+
+    @property
+    def most_spares(self) -> int:
+        """How many spares there may be, primary and supplementary ones together."""
+        return MOST_IN_PART * self.secondary.version
 
     @cached_property
     def unslipped(self) -> List[int]:
@@ -169,8 +214,10 @@ class Lists:
     @property
     def is_valid(self) -> bool:
         """Whether the secondary list is valid under the structure."""
+        if (self.secondary.version, self.secondary.structure) != (self.structure.version, self.structure.counter):
+            return False
         spares, data = self.structure.spares + self.secondary.spares, len(self.geometry.data_blocks)
-        if spares > MOST_SPARES or spares >= data or len(set(self.named)) < len(self.named):
+        if spares > self.most_spares or spares >= data or len(set(self.named)) < len(self.named):
             return False
         logical, free = set(self.logical), set(self.primary) | set(self.supplementary)
         return all(block in free if spare is None else block in logical and spare in free

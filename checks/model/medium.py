@@ -4,7 +4,7 @@ from __future__ import annotations
 from dataclasses import dataclass
 from enum import Enum, IntEnum
 from functools import cached_property
-from typing import List, Optional
+from typing import List, Optional, Tuple
 
 SECTOR = 2_048
 BLOCK = 32_768
@@ -84,12 +84,17 @@ class Geometry:
 
     @property
     def structure_blocks(self) -> List[int]:
-        """The blocks of the structure, in the order of the areas; the secondary list has the one after each."""
+        """The block of the structure in each area."""
         return [0, 2, self.lead_out, self.lead_out + 2]
 
     @property
-    def secondary_blocks(self) -> List[int]:
-        return [block + 1 for block in self.structure_blocks]
+    def secondary_blocks(self) -> List[Tuple[int, int]]:
+        """The two blocks of the secondary list in each area. The second is in use where the list has two parts."""
+        return [(1, 4), (3, 5), (self.lead_out + 1, self.lead_out + 4), (self.lead_out + 3, self.lead_out + 5)]
+
+    @property
+    def list_blocks(self) -> List[int]:
+        return self.structure_blocks + [block for area in self.secondary_blocks for block in area]
 
     def blank(self) -> bytearray:
         """The image of a new disc."""

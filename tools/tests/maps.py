@@ -9,11 +9,11 @@ from pathlib import Path
 from typing import cast
 
 from dvdram_disc import HEADER, Disc, State
-from dvdram_lists import BLOCK, Geometry, Secondary, Structure
+from dvdram_lists import BLOCK, MOST_SPARES, VERSIONS, Geometry, Secondary, Structure
 from support import TOOLS, Wrongs, done, run_script, unlike
 
 GEOMETRY = Geometry(1, 1, 4)
-IMAGES = 160
+IMAGES = 200
 MADE = """press 1 1 4
 fail 20
 power
@@ -47,35 +47,46 @@ class Image:
     def save(self, path: Path) -> None:
         path.write_bytes(self.bytes)
 
+    def take_version(self, version: int) -> None:
+        """Gives the lists this version. What is in the second blocks belongs to no list of the first one."""
+        for structure, blocks in zip(GEOMETRY.structure_blocks, GEOMETRY.secondary_blocks):
+            whole, parts = Structure.decode(self.text(structure)), Secondary.decode([self.text(block) for block in blocks])
+            if whole and parts:
+                self.put(structure, replace(whole, version=version).encode())
+                for block, text in zip(blocks, replace(parts, version=version).encode()):
+                    self.put(block, text)
+
 
 def mislead(image: Image, chance: random.Random) -> None:
-    """Changes some copies of one list to the same text, and makes some of the others unreadable."""
-    which = chance.randrange(2)
-    areas = [block + which for block in GEOMETRY.structure_blocks]
-    text = changed(image.text(chance.choice(areas)), chance)
-    for block in areas:
+    """Changes some blocks of the copies of one list to the same text, and makes some of the others unreadable."""
+    copies: list[tuple[int, ...]] = [(block,) for block in GEOMETRY.structure_blocks]
+    copies = chance.choice((copies, [*GEOMETRY.secondary_blocks]))
+    texts = changed([image.text(block) for block in chance.choice(copies)], chance)
+    for block, text in (pair for blocks in copies for pair in zip(blocks, texts)):
         if chance.randrange(3):
             image.put(block, text)
         elif chance.randrange(2):
             image.bytes[HEADER + block] = chance.choice((0, 2, 3, 4, 255))
 
 
-def changed(text: bytes, chance: random.Random) -> bytes:
-    """The text of a list with one bit flipped, or that of a list that differs in one thing."""
-    structure, secondary = Structure.decode(text), Secondary.decode(text)
+def changed(texts: list[bytes], chance: random.Random) -> list[bytes]:
+    """The texts of a list with one bit of one of them flipped, or those of a list that differs in one thing."""
+    structure, secondary = Structure.decode(texts[0]), Secondary.decode([*texts])
     if structure and chance.randrange(2):
-        return changed_structure(structure, chance).encode()
+        return [changed_structure(structure, chance).encode()]
     if secondary and chance.randrange(2):
         return changed_secondary(secondary, chance).encode()
-    flipped = bytearray(text)
+    which = chance.randrange(len(texts))
+    flipped = bytearray(texts[which])
     flipped[chance.choice((*range(0, 64, 3), 2047, 2048, 2051, 2055, 2060, BLOCK - 1))] ^= 1 << chance.randrange(8)
-    return bytes(flipped)
+    return [*texts[:which], bytes(flipped), *texts[which + 1:]]
 
 
 def changed_structure(old: Structure, chance: random.Random) -> Structure:
     """A structure that differs in one thing, which may be one that no disc has."""
     slipped = tuple((chance.randrange(3), block) for block in sorted(chance.sample(range(7, 34), chance.randrange(4))))
-    return chance.choice((replace(old, counter=old.counter + 1), replace(old, is_formatted=not old.is_formatted),
+    return chance.choice((replace(old, counter=old.counter + 1), replace(old, version=3 - old.version),
+                          replace(old, is_formatted=not old.is_formatted),
                           replace(old, spares=chance.randrange(6)), replace(old, entries=slipped)))
 
 
@@ -87,6 +98,7 @@ def changed_secondary(old: Secondary, chance: random.Random) -> Secondary:
                    for block, other in old.entries)
     moved = tuple(zip(sorted(chance.sample(range(12, 30), 3)), chance.sample((9, 10, 11, 30, 31), 3)))
     return chance.choice((replace(old, counter=old.counter + chance.randrange(1, 3)), replace(old, entries=pairs),
+                          replace(old, version=3 - old.version), replace(old, version=3 - old.version, entries=moved),
                           replace(old, entries=moved), replace(old, counter=old.counter + 1, entries=moved),
                           replace(old, entries=spares), replace(old, spares=chance.randrange(25)),
                           replace(old, structure_counter=old.structure_counter + chance.choice((-1, 1)))))
@@ -115,6 +127,7 @@ def hostile() -> Wrongs:
     seen: set[tuple[int, tuple[int | None, ...]]] = set()
     for number in range(IMAGES):
         chance, image = random.Random(number), Image(made)
+        image.take_version(1 if number % 3 == 2 else 2)
         for _ in range(1 + chance.randrange(3)):
             mislead(image, chance)
         image.save(tried)
@@ -126,6 +139,24 @@ def hostile() -> Wrongs:
         yield from unlike(f"hostile image {number}", mapped, found)
     if len(seen) < 12:
         yield f"the hostile images give {len(seen)} discs alone"
+
+
+def texts() -> Wrongs:
+    """A secondary list is the text of its blocks, with its entries in the parts where they belong, and no other blocks are."""
+    for version, count in ((1, 0), (1, MOST_SPARES), (2, 0), (2, MOST_SPARES), (2, MOST_SPARES + 1), (2, 2 * MOST_SPARES)):
+        what = f"a list of version {version} with {count} retired spares"
+        value = Secondary(version, 7, 2, 0, tuple((block, None) for block in range(count)))
+        parts, other = value.encode(), replace(value, counter=8).encode()
+        yield from unlike(f"entries in each part of {what}", [sum(text[32::8]) for text in parts],
+                          [min(count, MOST_SPARES), max(count - MOST_SPARES, 0)][:version])
+        yield from unlike(what, Secondary.decode([*parts, None]), value)
+        for blocks in ([None, parts[-1]], [parts[0], None], [parts[0], other[-1]], [other[0], parts[-1]], [parts[-1], parts[0]]):
+            due = None if version == 2 or not blocks[0] else value if blocks[0] == parts[0] else replace(value, counter=8)
+            yield from unlike(f"other blocks than those of {what}", Secondary.decode([*blocks]), due)
+    for version in VERSIONS:
+        full = tuple((block, None) for block in range(MOST_SPARES * version + 1))
+        yield from unlike("a list with too many entries", Secondary(version, 7, 2, 0, full).is_lawful(), False)
+        yield from unlike("a list with too many spares", Secondary(version, 7, 2, len(full), ()).is_lawful(), False)
 
 
 def shown(form: str) -> str:
@@ -148,6 +179,8 @@ def outputs() -> Wrongs:
         yield from unlike("bad blocks by ddrescuelog", done("ddrescuelog", "-b2048", "-l-", "disc.map").stdout.split(),
                           [str(sector) for sector in range(16)])
     yield from unlike("squares of the picture", shown("svg").count("<title>block "), GEOMETRY.total)
-    yield from unlike("signs of the characters", shown("term").splitlines()[2][:8], "DSDS----")
+    with Disc("disc.img") as disc:
+        version = disc.lists and disc.lists.secondary.version
+    yield from unlike("signs of the characters", shown("term").splitlines()[2][:8], "DSDSSS--" if version == 2 else "DSDS----")
     told = done(TOOLS / "ram-map", "disc.map").stdout
     yield from unlike("a file that holds no disc", told, "ram-map: disc.map holds no disc\n")

@@ -159,5 +159,5 @@ def bad_parameters() -> Wrongs:
     yield from unlike("a disc that lost its lists", refusal("image=lost.img", *NEW),
                       "lost.img was written, and is not formatted any more: force=yes formats it anew")
     done(PLUGIN, "-U", "-", f"program={PROGRAM}", "image=lost.img", *NEW, "force=yes", "--run", "true")
-    yield from unlike("by force", done(TOOLS / "ram-map", "lost.img").stdout.splitlines()[1],
-                      "structure: counter 2, 0 blocks slipped")
+    yield from unlike("by force", done(TOOLS / "ram-map", "lost.img").stdout.splitlines()[1].partition(", ")[2],
+                      "counter 2, 0 blocks slipped")

@@ -3,12 +3,11 @@ use Rattle.std.specs.Prelude.{◌≡◌, ◌≢◌, ℕ, ◌≤◌, ◌⊎◌, L
 use Rattle.std.proofs.Common.{refl, sym, ap, ap₂, ◌∙◌, inl, inr, subst, arith}
 use Rattle.std.proofs.lemmas.Bool.{cases_lt}
 use Rattle.model_geometry.specs.Geometry.{Shape, sdl_block}
-use Rattle.model_lists.specs.declared.versions.Version.TheVariants.{One}
 use Rattle.model_lists.specs.Values.{Sdl, part_entries}
 use Rattle.model_lists.specs.Texts.{IsTwo, IsSdlText, IsSdlSecond}
 use Rattle.model_lists.proofs.SdlTexts.{one_value, one_text, one_second, first_version, first_counter, first_dds, first_tells, second_counters, version_cases, one_no_two, names_one}
 use Rattle.model_medium.specs.Cells.{Cell, Blank, Good, Torn, Dead, IsSameOrDead, cell_at}
-use Rattle.model_copies.specs.Copies.{IsArea, Holds, HoldsOrDead}
+use Rattle.model_copies.specs.Copies.{IsArea, HoldsOrDead}
 use Rattle.model_geometry.specs.Geometry.{sdl_second_block}
 use Rattle.model_copies.specs.Parts.{AreAlike, AreHeldBy, MayLeaveParts, StayDead, PartsHoldNothingNew, HasSdlParts, HasSdlCopy, SdlIsExact, SdlIsLost, SdlIsBetween, Names, NamesWithin, SdlIsSettled}
 use Rattle.model_copies.proofs.CopyFacts.{area_cases}
@@ -28,13 +27,6 @@ sdl_tells = record {
   one_second = one_second;
   two_decided = sdl_two_decided;
 }
-
--- what a first cell holds is of version 1
-pub held_version : (cell : Cell) (v : Sdl) → Holds IsSdlText cell v → v.version ≡ One
-held_version Blank v h = absurd h
-held_version (Good bytes) v h = h.lawful.version_is
-held_version Torn v h = absurd h
-held_version Dead v h = absurd h
 
 -- the counters that both parts say
 abbrev pub make_head : ℕ → ℕ → ℕ × ℕ

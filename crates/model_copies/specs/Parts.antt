@@ -4,7 +4,7 @@ use Rattle.std.specs.Prelude.{◌≡◌, ℕ, zero, suc, ◌+◌, ◌≤◌, ◌
 use Rattle.model_geometry.specs.Geometry.{Shape, dds_block, sdl_block, sdl_second_block}
 use Rattle.model_medium.specs.Cells.{Cell, Blank, Good, Torn, Dead, cell_at}
 use Rattle.model_lists.specs.Values.{Dds, Sdl}
-use Rattle.model_lists.specs.Texts.{IsDdsText, IsTwo, IsSdlText, IsSdlSecond, NamesCounter}
+use Rattle.model_lists.specs.Texts.{IsDdsText, IsTwo, IsSdlText, IsSdlSecond, IsMore, NamesCounter}
 use Rattle.model_copies.specs.Copies.{IsArea, Holds, MayHold, Settled, IsMarked, IsMarkedWithin, Rewrites}
 
 -- A list is given by the texts of its parts: that of the first, that of the second, and which values have two. The first
@@ -145,6 +145,19 @@ pub record Mark (shape : Shape) (cells : List Cell) (mark : ℕ) : Type 0 where
 -- when they were read.
 abbrev pub RewritesSdl : Shape → List Cell → List Cell → Sdl → ℕ → Type 0
 RewritesSdl shape old new value count = Rewrites (λ cell. Holds IsSdlText cell value) (sdl_block shape) old new 4 count
+
+-- the first cell of a copy is that of a list of two parts, by its front
+abbrev pub GoesOn : Cell → Type 0
+GoesOn Blank = ⊥
+GoesOn (Good bytes) = (names : ℕ) × IsMore bytes names
+GoesOn Torn = ⊥
+GoesOn Dead = ⊥
+
+-- of the first cells of the first so many areas just so many go on
+abbrev pub CountMores : Shape → List Cell → ℕ → ℕ → Type 0
+CountMores shape cells zero count = count ≡ 0
+CountMores shape cells (suc k) count = (GoesOn (cell_at cells (sdl_block shape (suc k))) × ((before : ℕ) × (count ≡ before + 1) × CountMores shape cells k before))
+    ⊎ (¬ GoesOn (cell_at cells (sdl_block shape (suc k))) × CountMores shape cells k count)
 
 -- how many copies of the first so many areas can be read whole, where a test says which cells are exactly their parts
 module _ {V : Type 0} (two : V → Type 0) (first second : V → List ℕ → Type 0) (place place' : ℕ → ℕ) (cells : List Cell) (value : V) where

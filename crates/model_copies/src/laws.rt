@@ -5,8 +5,8 @@ ghost use Rattle.model_geometry.specs.Geometry.{Shape, dds_block, sdl_block, sdl
 ghost use Rattle.model_medium.specs.Cells.{Cell, IsSameOrDead, cell_at};
 ghost use Rattle.model_lists.specs.Values.{Dds, Sdl, part_entries};
 ghost use Rattle.model_lists.specs.Texts.{IsDdsText, IsTwo, IsSdlText, IsSdlSecond};
-ghost use Rattle.model_copies.specs.Copies.{IsArea, MayHold, HasDdsCopy, Settled, AreBetween, IsGreatestMark, AllLost, IsSeen, good_count, RewritesDds};
-ghost use Rattle.model_copies.specs.Parts.{HasSdlParts, HasSdlCopy, SdlIsExact, SdlIsLost, SdlIsBetween, SdlIsSettled, AreHeldBy, MayLeaveParts, StayDead, PartsHoldNothingNew, NamesWithin, IsGreatestName, Mark, RewritesSdl};
+ghost use Rattle.model_copies.specs.Copies.{IsArea, MayHold, HasDdsCopy, Settled, AreBetween, IsGreatestMark, AllLost, IsSeen, good_count, Holds, Rewrites, RewritesDds};
+ghost use Rattle.model_copies.specs.Parts.{HasSdlParts, HasSdlCopy, SdlIsExact, SdlIsLost, SdlIsBetween, SdlIsSettled, AreHeldBy, MayLeaveParts, StayDead, PartsHoldNothingNew, NamesWithin, IsGreatestName, Mark, CountMores, RewritesSdl};
 
 /// Two copies with one text tell one list, and two cells, also of two areas, tell one secondary list.
 pub fn one_text_tells_one_list()
@@ -122,11 +122,16 @@ pub fn the_greater_mark_is_the_discs()
         → a ≤ mark → b ≤ mark → (mark ≡ a) ⊎ (mark ≡ b) → Mark shape cells mark }
 {}
 
-/// The number of copies that a repair wrote again is one number, by the cells before and after. So the number of its
-/// uses is exact.
+/// The number of copies that a repair wrote again is one number, by the cells before and after, and so is that of the second
+/// cells. How many first cells go on is one number too. So the numbers of uses of a repair and of a choice are exact.
 pub fn rewritten_copies_are_one_number()
     ensures dds { (shape : Shape) (old new : List Cell) (v : Dds) (m n : ℕ)
         → RewritesDds shape old new v m → RewritesDds shape old new v n → m ≡ n }
     ensures sdl { (shape : Shape) (old new : List Cell) (v : Sdl) (m n : ℕ)
         → RewritesSdl shape old new v m → RewritesSdl shape old new v n → m ≡ n }
+    ensures seconds { (shape : Shape) (old new : List Cell) (v : Sdl) (m n : ℕ)
+        → Rewrites (λ cell. Holds IsSdlSecond cell v) (sdl_second_block shape) old new 4 m
+        → Rewrites (λ cell. Holds IsSdlSecond cell v) (sdl_second_block shape) old new 4 n → m ≡ n }
+    ensures mores { (shape : Shape) (cells : List Cell) (m n : ℕ)
+        → CountMores shape cells 4 m → CountMores shape cells 4 n → m ≡ n }
 {}

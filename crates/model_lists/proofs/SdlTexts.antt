@@ -7,7 +7,7 @@ use Rattle.byteorder.specs.Endian.{big_bytes}
 use Rattle.model_lists.specs.declared.sdl.SdlEntry.{SdlEntry}
 use Rattle.model_lists.specs.declared.versions.Version.{Version}
 use Rattle.model_lists.specs.declared.versions.Version.TheVariants.{One, Two}
-use Rattle.model_lists.specs.Values.{Sdl, IsLawfulSdl, HasNumbers, part_entries, most_of}
+use Rattle.model_lists.specs.Values.{Sdl, IsLawfulSdl, IsWithinSdlLimits, HasNumbers, part_entries, most_of}
 use Rattle.model_lists.specs.Texts.{zero_bytes, version_byte, part_byte, sdl_entry_bytes, Spells, IsSdlHeader, first_entries, IsSdlText, IsTwo, IsSdlSecond, IsSdlTexts, NamesCounter}
 use Rattle.model_lists.proofs.Spelled.{agree_more, length-zero_bytes, length-spelled, same_entries}
 use Rattle.model_lists.proofs.Numbers.{big_bytes-injective, version_byte-injective, sdl_entry_bytes-injective, length-sdl_entry_bytes}
@@ -86,7 +86,7 @@ ssa_few : (v : Sdl) → IsLawfulSdl v → v.ssa ≤ 8184
 ssa_few v lawful = omega (arith, lawful.limits.most, most_is v.version)
 
 -- as many entries of one part, with the same bytes, are the same
-same_part : (xs ys : List SdlEntry) (bytes : List ℕ) → length xs ≡ length ys → All HasNumbers xs → All HasNumbers ys → Spells sdl_entry_bytes 8 xs bytes → Spells sdl_entry_bytes 8 ys bytes → xs ≡ ys
+pub same_part : (xs ys : List SdlEntry) (bytes : List ℕ) → length xs ≡ length ys → All HasNumbers xs → All HasNumbers ys → Spells sdl_entry_bytes 8 xs bytes → Spells sdl_entry_bytes 8 ys bytes → xs ≡ ys
 same_part xs ys bytes long all all' of_xs of_ys =
     same_entries sdl_entry_bytes 8 length-sdl_entry_bytes HasNumbers sdl_entry_bytes-injective xs ys (zero_bytes (length bytes - 8 * length xs)) (zero_bytes (length bytes - 8 * length ys)) long all all' (sym of_xs ∙ of_ys)
 
@@ -263,8 +263,16 @@ has_texts value lawful = elim (version_cases value.version) [
 
 -- the first part of any value names the value's
 pub text_names : (value : Sdl) (block : List ℕ) → IsSdlText value block → NamesCounter block value.dds_counter
-text_names value block text = (value, text.lawful.version_is, text, refl)
+text_names value block text = elim (version_cases value.version) [
+  | inl one ↦ inl (value, one, text, refl)
+  | inr two ↦
+      let L : Version → Type 0 = λ (e : Version). IsWithinSdlLimits e value.ssa (length value.entries) in
+      let H : Version → Type 0 = λ (e : Version). IsSdlHeader e 1 value.counter value.dds_counter value.ssa (length value.entries) block in
+      inr (record { names_fit = text.lawful.dds_counted; counter = value.counter; counter_fits = text.lawful.counted; ssa = value.ssa; count = length value.entries; within = subst L two text.lawful.limits; header = subst H two text.header })
+]
 
 -- and no other counter
 pub names_one : (value : Sdl) (block : List ℕ) (names : ℕ) → IsSdlText value block → NamesCounter block names → names ≡ value.dds_counter
-names_one value block names text (other, one, is_text, is) = sym is ∙ first_dds other value block is_text text
+names_one value block names text (inl (other, one, is_text, is)) = sym is ∙ first_dds other value block is_text text
+names_one value block names text (inr more) =
+    header_dds Two value.version 1 1 more.counter value.counter names value.dds_counter more.ssa value.ssa more.count (length value.entries) block more.header text.header more.names_fit text.lawful.dds_counted

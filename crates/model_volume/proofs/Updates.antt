@@ -40,6 +40,27 @@ dds_no_sdl shape area at same =
     let b = one_of_four shape at in
     grind (arith, late, a, b, same)
 
+second_of_four : (shape : Shape) (area : ℕ) → (sdl_second_block shape area ≡ 4) ⊎ (sdl_second_block shape area ≡ 5) ⊎ (sdl_second_block shape area ≡ lead_out shape + 4) ⊎ (sdl_second_block shape area ≡ lead_out shape + 5)
+second_of_four shape area =
+    let P : ℕ → Type 0 = λ x. (x ≡ 4) ⊎ (x ≡ 5) ⊎ (x ≡ lead_out shape + 4) ⊎ (x ≡ lead_out shape + 5) in
+    cond_both (eqb area 1) 4 (cond (eqb area 2) 5 (cond (eqb area 3) (lead_out shape + 4) (lead_out shape + 5))) P (λ _. inl refl)
+    (λ _. cond_both (eqb area 2) 5 (cond (eqb area 3) (lead_out shape + 4) (lead_out shape + 5)) P (λ _. inr (inl refl))
+    (λ _. cond_both (eqb area 3) (lead_out shape + 4) (lead_out shape + 5) P (λ _. inr (inr (inl refl))) (λ _. inr (inr (inr refl)))))
+
+pub dds_no_second : (shape : Shape) (area at : ℕ) → dds_block shape area ≡ sdl_second_block shape at → ⊥
+dds_no_second shape area at same =
+    let late = lead_out_late shape in
+    let a = one_of_four shape area in
+    let b = second_of_four shape at in
+    grind (arith, late, a, b, same)
+
+pub sdl_no_second : (shape : Shape) (area at : ℕ) → sdl_block shape area ≡ sdl_second_block shape at → ⊥
+sdl_no_second shape area at same =
+    let late = lead_out_late shape in
+    let a = one_of_four shape area in
+    let b = second_of_four shape at in
+    grind (arith, late, a, b, same)
+
 module _ (shape : Shape) (lists : Lists) (valid : AreValid shape lists) (i : ℕ) (inside : i < logical_count shape lists) (old new : List Cell) (only : OnlyMoves shape old new lists i) where
   -- the home of another logical block is as it was
   pub other_home : (j : ℕ) → j < logical_count shape lists → j ≢ i → cell_at new (home_of shape lists j) ≡ cell_at old (home_of shape lists j)
@@ -47,6 +68,7 @@ module _ (shape : Shape) (lists : Lists) (valid : AreValid shape lists) (i : ℕ
       (λ same. ne (homes_apart shape lists valid j i h inside same))
       (home_not_free shape lists valid j h)
       (λ area same. no_data_block_sdl shape area (subst (Contains (data_blocks shape)) same (home_is_data_block shape lists valid j h)))
+      (λ area same. no_data_block_second shape area (subst (Contains (data_blocks shape)) same (home_is_data_block shape lists valid j h)))
 
   -- the first list's copies are as they were
   pub dds_same : (area : ℕ) → cell_at new (dds_block shape area) ≡ cell_at old (dds_block shape area)
@@ -54,6 +76,7 @@ module _ (shape : Shape) (lists : Lists) (valid : AreValid shape lists) (i : ℕ
       (λ same. no_data_block_dds shape area (subst (Contains (data_blocks shape)) (sym same) (home_is_data_block shape lists valid i inside)))
       (λ free. no_data_block_dds shape area (free_is_data shape lists valid (dds_block shape area) free))
       (λ at same. dds_no_sdl shape area at same)
+      (λ at same. dds_no_second shape area at same)
 
   pub dds_settled : AreSettled shape old lists → Settled IsDdsText (dds_block shape) new lists.dds
   dds_settled settled area is = subst (λ (c : Cell). HoldsOrDead IsDdsText c lists.dds) (sym (dds_same area)) (settled.dds area is)
@@ -125,7 +148,7 @@ module _ (shape : Shape) (lists : Lists) (valid : AreValid shape lists) (i : ℕ
 -- While the lists' cells are as they were, the lists stay settled.
 module _ (shape : Shape) (lists : Lists) (valid : AreValid shape lists) (i : ℕ) (inside : i < logical_count shape lists) (old new : List Cell) (only : OnlyData shape old new lists i) where
   pub data_moves : OnlyMoves shape old new lists i
-  data_moves block home free none = only block home free
+  data_moves block home free none none' = only block home free
 
   pub list_same : (block : ℕ) → ¬ Contains (data_blocks shape) block → cell_at new block ≡ cell_at old block
   list_same block outside = only block

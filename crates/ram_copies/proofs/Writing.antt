@@ -1,235 +1,218 @@
--- How a text is put into the copies of a list, area after area.
-use Rattle.std.specs.Prelude.{◌≡◌, ◌≢◌, ℕ, ◌+◌, ◌*◌, ◌≤◌, ◌<◌, ◌⊎◌, Bool, true, false, List}
-use Rattle.std.specs.Bool.{OnTrue}
+-- How the text of a list is put into its copies, area after area, in each the first part before the second.
+use Rattle.std.specs.Prelude.{◌≡◌, ◌≢◌, ℕ, ◌+◌, ◌*◌, ◌≤◌, ◌<◌, true, List}
 use Rattle.std.proofs.Common.{refl, sym, ap, ◌∙◌, inl, inr, subst, arith}
-use Rattle.std.proofs.lemmas.Bool.{cases_eq, cases_lt}
+use Rattle.std.proofs.lemmas.Bool.{cases_eq}
 use Rattle.model_geometry.specs.Geometry.{Shape}
-use Rattle.model_medium.specs.Cells.{Cell, Good, Dead, cell_at}
+use Rattle.model_medium.specs.Cells.{Cell, Blank, Good, Torn, Dead, IsSameOrDead, cell_at}
 use Rattle.model_medium.specs.World.{World}
-use Rattle.model_stops.specs.Stops.{Continues, Stops}
-use Rattle.model_stops.specs.declared.Stop.{Stop}
-use Rattle.model_copies.specs.Copies.{IsArea, good_count}
+use Rattle.model_stops.specs.Stops.{Continues}
+use Rattle.model_copies.specs.Copies.{Holds, HoldsOrDead, MayHold, Rewrites}
 use Rattle.ram_medium.specs.Laws.{MediumLaws}
-use Rattle.ram_medium.proofs.Parts.{continues_then, stops_later, stops_within}
+use Rattle.ram_medium.proofs.Parts.{continues_then}
 use Rattle.ram_zones.specs.declared.list_kind.ListKind.{ListKind}
-use Rattle.ram_zones.specs.ListKind.{list_block}
-use Rattle.ram_copies.specs.Writes.{HasPutCopy, StopsAtCopy, StopLeaves, most_uses, UsesUpTo, HasPutCopies, StopsPuttingCopies}
+use Rattle.ram_zones.specs.declared.list_kind.ListKind.TheVariants as kinds
+use Rattle.ram_copies.specs.Values.{ListValue, IsText, IsSecond, HasTwo, parts_of}
+use Rattle.ram_copies.specs.Calls.{first_block, second_block}
+use Rattle.ram_copies.specs.Writes.{HasPutCells, UsesUpTo}
 use Rattle.ram_copies.specs.declared.writes.Purpose.{Purpose}
 use Rattle.ram_copies.specs.declared.writes.Purpose.TheVariants as purposes
 use Rattle.ram_copies.proofs.Areas.{places_apart}
-use Rattle.ram_copies.proofs.Counting.{count_kept, count_lost}
-use Rattle.ram_copies.proofs.Rewriting.{rewrites_next}
+use Rattle.ram_copies.proofs.OneCell.{CellUses}
+use Rattle.ram_copies.proofs.Rewriting.{rewrites_next, rewrites_same}
 
--- ---- one copy
+-- ---- cells that are done
 
-module _ {M : Type 0} (world : M → World) (reaches : M → M → ℕ → Type 0) (old new : M) (block : ℕ) (text : List ℕ) where
-  -- what is known of a copy that was put, whatever for
-  record CopyIsPut (kept : Bool) : Type 0 where
-    pub as_known : (world new).known ≡ (world old).known
-    pub others : (other : ℕ) → other ≢ block → cell_at (world new).cells other ≡ cell_at (world old).cells other
-    pub left : (cell_at (world new).cells block ≡ Good text) ⊎ (cell_at (world new).cells block ≡ Dead)
-    pub dead : kept ≡ false → cell_at (world new).cells block ≡ Dead
-    pub good : kept ≡ true → (world old).known ≡ true → cell_at (world new).cells block ≡ Good text
+-- a cell that is done was not written where it was exact
+pub spared : (text : ListValue → List ℕ → Type 0) (value : ListValue) → ((x y : List ℕ) → text value x → text value y → x ≡ y) → (was cell : Cell) → HoldsOrDead text cell value → Holds text was value → IsSameOrDead was cell
+spared text value one Blank cell done held = absurd held
+spared text value one (Good x) Blank done held = absurd done
+spared text value one (Good x) (Good y) done held = inl (ap Good (one y x done held))
+spared text value one (Good x) Torn done held = absurd done
+spared text value one (Good x) Dead done held = inr refl
+spared text value one Torn cell done held = absurd held
+spared text value one Dead cell done held = absurd held
 
-  copy_put : (purpose : Purpose) (kept : Bool) → HasPutCopy world reaches old new block text purpose kept → CopyIsPut kept
-  copy_put purposes.Update true put = record {
-    as_known = put.as_known;
-    others = put.others;
-    left = put.left;
-    dead = λ lost. absurd (cc);
-    good = λ kept known. subst (λ (b : Bool). OnTrue b (cell_at (world new).cells block ≡ Good text)) known put.has;
-  }
-  copy_put purposes.Update false lost = record {
-    as_known = lost.as_known;
-    others = lost.others;
-    left = inr lost.dead;
-    dead = λ is. lost.dead;
-    good = λ kept known. absurd (cc);
-  }
-  copy_put purposes.Repair kept one = record { as_known = one.as_known; others = one.others; left = one.left; dead = one.dead; good = one.good }
-
-  -- and of one at which it was stopped
-  record CopyIsLeft (purpose : Purpose) : Type 0 where
-    pub as_known : (world new).known ≡ (world old).known
-    pub others : (other : ℕ) → other ≢ block → cell_at (world new).cells other ≡ cell_at (world old).cells other
-    pub left : StopLeaves purpose (cell_at (world old).cells block) text (cell_at (world new).cells block)
-    pub stays_dead : cell_at (world old).cells block ≡ Dead → cell_at (world new).cells block ≡ Dead
-
-  copy_left : (purpose : Purpose) (stop : Stop) → StopsAtCopy world reaches old new block text purpose stop → CopyIsLeft purpose
-  copy_left purposes.Update stop h = record { as_known = h.as_known; others = h.others; left = h.left; stays_dead = h.stays_dead }
-  copy_left purposes.Repair stop h = record { as_known = h.as_known; others = h.others; left = h.left; stays_dead = h.stays_dead }
-
--- a stopped call may leave a copy that it is done with
-done_leaves : (purpose : Purpose) (was cell : Cell) (text : List ℕ) → (cell ≡ Good text) ⊎ (cell ≡ Dead) → StopLeaves purpose was text cell
-done_leaves purposes.Update was cell text (inl good) = inr (inl good)
-done_leaves purposes.Update was cell text (inr dead) = inr (inr (inr dead))
-done_leaves purposes.Repair was cell text (inl good) = (inr (inl good), λ exact. inl (good ∙ sym exact))
-done_leaves purposes.Repair was cell text (inr dead) = (inr (inr (inr dead)), λ exact. inr dead)
-
--- and one that it has not come to
-same_leaves : (purpose : Purpose) (was cell : Cell) (text : List ℕ) → cell ≡ was → StopLeaves purpose was text cell
-same_leaves purposes.Update was cell text same = inl same
-same_leaves purposes.Repair was cell text same = (inl same, λ exact. inl same)
-
--- ---- the uses
+-- and is one that a stopped call may leave
+pub done_leaves : (text : ListValue → List ℕ → Type 0) (value : ListValue) (was cell : Cell) → HoldsOrDead text cell value → MayHold text was value cell
+done_leaves text value was Blank done = absurd done
+done_leaves text value was (Good x) done = inr (inl done)
+done_leaves text value was Torn done = absurd done
+done_leaves text value was Dead done = inr (inr (inr refl))
 
 module _ {M : Type 0} (world : M → World) (block_count : M → ℕ) (reaches : M → M → ℕ → Type 0) (laws : MediumLaws world block_count reaches)
-    (old : M) (place : ℕ → ℕ) (text : List ℕ) where
-  module _ (mid new : M) (k : ℕ) (small : k < 4) where
-    two_more : (k : ℕ) → 2 * k + 2 ≡ 2 * (k + 1)
-    two_more k = omega arith
+    (kind : ListKind) (shape : Shape) (value : ListValue) (apart : (area at : ℕ) → second_block shape area ≢ first_block kind shape at) (old mid new : M) where
+  -- ---- one more cell: which are done
 
-    one_more : (k m : ℕ) → k + 2 * m + 1 ≡ k + 1 + 2 * m
-    one_more k m = omega arith
+  module _ (k : ℕ) (small : k < 4) where
+    pub first_cells : (seconds : ℕ) → HasPutCells world reaches kind shape value old mid k seconds
+        → (world new).known ≡ (world mid).known → ((other : ℕ) → other ≢ first_block kind shape (k + 1) → cell_at (world new).cells other ≡ cell_at (world mid).cells other)
+        → HoldsOrDead (IsText kind) (cell_at (world new).cells (first_block kind shape (k + 1))) value → HasPutCells world reaches kind shape value old new (k + 1) seconds
+    first_cells seconds so_far known others here = record {
+      as_known = known ∙ so_far.as_known;
+      others = λ block first second. others block (first (k + 1) (omega arith) (omega arith)) ∙ so_far.others block (λ area some most. first area some (omega arith)) second;
+      done = λ area some most. elim (cases_eq area (k + 1)) [
+        | inl e ↦ subst (λ (a : ℕ). HoldsOrDead (IsText kind) (cell_at (world new).cells (first_block kind shape a)) value) (sym e) here
+        | inr ne ↦
+            let less : area ≤ k = omega arith in
+            subst (λ (c : Cell). HoldsOrDead (IsText kind) c value) (sym (others (first_block kind shape area) (places_apart shape kind area (k + 1) some (omega arith) (omega arith)))) (so_far.done area some less)
+      ];
+      done' = λ two area some most. subst (λ (c : Cell). HoldsOrDead IsSecond c value) (sym (others (second_block shape area) (apart area (k + 1)))) (so_far.done' two area some most);
+    }
 
-    three_more : (k m : ℕ) → k + 2 * m + 3 ≡ k + 1 + 2 * (m + 1)
-    three_more k m = omega arith
+    pub second_cells : HasPutCells world reaches kind shape value old mid (k + 1) k
+        → (world new).known ≡ (world mid).known → ((other : ℕ) → other ≢ second_block shape (k + 1) → cell_at (world new).cells other ≡ cell_at (world mid).cells other)
+        → HasTwo value → HoldsOrDead IsSecond (cell_at (world new).cells (second_block shape (k + 1))) value → HasPutCells world reaches kind shape value old new (k + 1) (k + 1)
+    second_cells so_far known others has here = record {
+      as_known = known ∙ so_far.as_known;
+      others = λ block first second. others block (second has (k + 1) (omega arith) (omega arith)) ∙ so_far.others block first (λ two area some most. second two area some (omega arith));
+      done = λ area some most. subst (λ (c : Cell). HoldsOrDead (IsText kind) c value) (sym (others (first_block kind shape area) (λ same. apart (k + 1) area (sym same)))) (so_far.done area some most);
+      done' = λ two area some most. elim (cases_eq area (k + 1)) [
+        | inl e ↦ subst (λ (a : ℕ). HoldsOrDead IsSecond (cell_at (world new).cells (second_block shape a)) value) (sym e) here
+        | inr ne ↦
+            let less : area ≤ k = omega arith in
+            subst (λ (c : Cell). HoldsOrDead IsSecond c value) (sym (others (second_block shape area) (places_apart shape kinds.SdlTwo area (k + 1) some (omega arith) (omega arith)))) (so_far.done' two area some less)
+      ];
+    }
 
-    -- one more copy
-    more_uses : (purpose : Purpose) → (world mid).known ≡ (world old).known
-        → ((area : ℕ) → 1 ≤ area → area ≤ k → cell_at (world new).cells (place area) ≡ cell_at (world mid).cells (place area))
-        → cell_at (world mid).cells (place (k + 1)) ≡ cell_at (world old).cells (place (k + 1))
-        → UsesUpTo world reaches old mid place text purpose k → (kept : Bool) → HasPutCopy world reaches mid new (place (k + 1)) text purpose kept
-        → UsesUpTo world reaches old new place text purpose (k + 1)
-    more_uses purposes.Update as_known same next_was so_far true put =
-        subst (λ (n : ℕ). Continues world reaches old new n) (two_more k) (continues_then world block_count reaches laws old mid new (2 * k) 2 so_far put.continues)
-    more_uses purposes.Update as_known same next_was so_far false lost =
-        subst (λ (n : ℕ). Continues world reaches old new n) (two_more k) (continues_then world block_count reaches laws old mid new (2 * k) 2 so_far lost.continues)
-    more_uses purposes.Repair as_known same next_was so_far kept one = elim one.how [
-      | inl how ↦ record {
-        rewritten = so_far.rewritten;
-        few = omega (arith, so_far.few);
-        continues = subst (λ (n : ℕ). Continues world reaches old new n) (one_more k so_far.rewritten) (continues_then world block_count reaches laws old mid new (k + 2 * so_far.rewritten) 1 so_far.continues how.0);
-        rewrites = λ known. rewrites_next (λ (c : Cell). c ≡ Good text) place (world old).cells (world mid).cells (world new).cells k so_far.rewritten so_far.rewritten same (so_far.rewrites known)
-            (inl ((sym next_was ∙ (how.1 (as_known ∙ known)).0, (how.1 (as_known ∙ known)).1), refl));
-      }
-      | inr how ↦ record {
-        rewritten = so_far.rewritten + 1;
-        few = omega (arith, so_far.few);
-        continues = subst (λ (n : ℕ). Continues world reaches old new n) (three_more k so_far.rewritten) (continues_then world block_count reaches laws old mid new (k + 2 * so_far.rewritten) 3 so_far.continues how.0);
-        rewrites = λ known. rewrites_next (λ (c : Cell). c ≡ Good text) place (world old).cells (world mid).cells (world new).cells k so_far.rewritten (so_far.rewritten + 1) same (so_far.rewrites known)
-            (inr (λ was. how.1 (as_known ∙ known) (next_was ∙ was.0, was.1), refl));
-      }
-    ]
+-- a list of one part has no second cells
+pub one_part_cells : {M : Type 0} (world : M → World) (reaches : M → M → ℕ → Type 0) (kind : ListKind) (shape : Shape) (value : ListValue) (old new : M) (k : ℕ) → ¬ HasTwo value
+    → HasPutCells world reaches kind shape value old new (k + 1) k → HasPutCells world reaches kind shape value old new (k + 1) (k + 1)
+one_part_cells world reaches kind shape value old new k one so_far = record {
+  as_known = so_far.as_known;
+  others = λ block first second. so_far.others block first (λ two. absurd (one two));
+  done = so_far.done;
+  done' = λ two. absurd (one two);
+}
 
-    -- what was dead before is dead then
-    pub went_dead : (purpose : Purpose) → UsesUpTo world reaches old mid place text purpose k → (block : ℕ) → cell_at (world old).cells block ≡ Dead → cell_at (world mid).cells block ≡ Dead
-    went_dead purposes.Update so_far block was = (laws.follows old mid (2 * k) so_far.reach).lasts.stays_dead block was
-    went_dead purposes.Repair so_far block was = (laws.follows old mid (k + 2 * so_far.rewritten) so_far.continues.reach).lasts.stays_dead block was
-
-    -- stopped at the next copy
-    last_uses : (purpose : Purpose) → UsesUpTo world reaches old mid place text purpose k → (stop : Stop) → StopsAtCopy world reaches mid new (place (k + 1)) text purpose stop → Stops world reaches old new (most_uses purpose) stop
-    last_uses purposes.Update so_far stop one =
-        stops_within world block_count reaches laws old new (2 * k + 2) 8 stop (omega arith) (stops_later world block_count reaches laws old mid new (2 * k) 2 stop so_far one.stops)
-    last_uses purposes.Repair so_far stop one =
-        stops_within world block_count reaches laws old new (k + 2 * so_far.rewritten + 3) 12 stop (omega (arith, small, so_far.few)) (stops_later world block_count reaches laws old mid new (k + 2 * so_far.rewritten) 3 stop so_far.continues one.stops)
-
--- ---- all copies
+-- ---- one more cell: the uses
 
 module _ {M : Type 0} (world : M → World) (block_count : M → ℕ) (reaches : M → M → ℕ → Type 0) (laws : MediumLaws world block_count reaches)
-    (old : M) (shape : Shape) (list : ListKind) (text : List ℕ) (purpose : Purpose) where
-  module _ (mid new : M) (k readable : ℕ) (so_far : HasPutCopies world reaches old mid (λ (area : ℕ). list_block shape area list) text purpose k readable) (small : k < 4) where
-    -- an earlier copy is not that of the next area
-    earlier : (area : ℕ) → 1 ≤ area → area ≤ k → list_block shape area list ≢ list_block shape (k + 1) list
-    earlier area some most = places_apart shape list area (k + 1) some (omega arith) (omega arith)
+    (kind : ListKind) (shape : Shape) (value : ListValue) (old : M) where
+  -- a repair of so many cells, of the first ones of so many areas and of the second ones of so many
+  pub record HasMended (new : M) (cells f s : ℕ) : Type 0 where
+    pub firsts : ℕ
+    pub seconds : ℕ
+    pub few : firsts ≤ f
+    pub few' : seconds ≤ s
+    pub none : ¬ HasTwo value → seconds ≡ 0
+    pub continues : Continues world reaches old new (cells + 2 * (firsts + seconds))
+    pub of_firsts : (world old).known ≡ true → Rewrites (λ cell. Holds (IsText kind) cell value) (first_block kind shape) (world old).cells (world new).cells f firsts
+    pub of_seconds : (world old).known ≡ true → HasTwo value → Rewrites (λ cell. Holds IsSecond cell value) (second_block shape) (world old).cells (world new).cells s seconds
 
-    next_was : cell_at (world mid).cells (list_block shape (k + 1) list) ≡ cell_at (world old).cells (list_block shape (k + 1) list)
-    next_was = so_far.others (list_block shape (k + 1) list) (λ other some most same. (earlier other some most (sym same)))
+  abbrev pub CellsTake : Purpose → M → (cells f s : ℕ) → Type 0
+  CellsTake purposes.Update new cells f s = Continues world reaches old new (2 * cells)
+  CellsTake purposes.Repair new cells f s = HasMended new cells f s
 
-    module _ (others : (other : ℕ) → other ≢ list_block shape (k + 1) list → cell_at (world new).cells other ≡ cell_at (world mid).cells other) where
-      same_before : (area : ℕ) → 1 ≤ area → area ≤ k → cell_at (world new).cells (list_block shape area list) ≡ cell_at (world mid).cells (list_block shape area list)
-      same_before area some most = others (list_block shape area list) (earlier area some most)
+  pub take_from : (purpose : Purpose) (new : M) (k : ℕ) → UsesUpTo world reaches kind shape value old new purpose k → CellsTake purpose new (k * parts_of value) k k
+  take_from purposes.Update new k uses = uses
+  take_from purposes.Repair new k uses = record {
+    firsts = uses.firsts;
+    seconds = uses.seconds;
+    few = uses.few;
+    few' = uses.few';
+    none = uses.none;
+    continues = uses.continues;
+    of_firsts = λ known. (uses.rewrites known).of_firsts;
+    of_seconds = λ known. (uses.rewrites known).of_seconds;
+  }
 
-      all_others : (block : ℕ) → ((area : ℕ) → 1 ≤ area → area ≤ k + 1 → block ≢ list_block shape area list) → cell_at (world new).cells block ≡ cell_at (world old).cells block
-      all_others block apart = others block (apart (k + 1) (omega arith) (omega arith)) ∙ so_far.others block (λ area some most. apart area some (omega arith))
+  pub take_to : (purpose : Purpose) (new : M) (cells k : ℕ) → cells ≡ k * parts_of value → CellsTake purpose new cells k k → UsesUpTo world reaches kind shape value old new purpose k
+  take_to purposes.Update new cells k same uses = subst (λ (n : ℕ). Continues world reaches old new (2 * n)) same uses
+  take_to purposes.Repair new cells k same uses = record {
+    firsts = uses.firsts;
+    seconds = uses.seconds;
+    few = uses.few;
+    few' = uses.few';
+    none = uses.none;
+    continues = subst (λ (n : ℕ). Continues world reaches old new (n + 2 * (uses.firsts + uses.seconds))) same uses.continues;
+    rewrites = λ known. record { of_firsts = uses.of_firsts known; of_seconds = uses.of_seconds known };
+  }
 
-      all_done : (cell_at (world new).cells (list_block shape (k + 1) list) ≡ Good text) ⊎ (cell_at (world new).cells (list_block shape (k + 1) list) ≡ Dead)
-          → (area : ℕ) → 1 ≤ area → area ≤ k + 1 → (cell_at (world new).cells (list_block shape area list) ≡ Good text) ⊎ (cell_at (world new).cells (list_block shape area list) ≡ Dead)
-      all_done here area some most = elim (cases_eq area (k + 1)) [
-        | inl e ↦ subst (λ (a : ℕ). (cell_at (world new).cells (list_block shape a list) ≡ Good text) ⊎ (cell_at (world new).cells (list_block shape a list) ≡ Dead)) (sym e) here
-        | inr ne ↦
-            let less : area ≤ k = omega arith in
-            subst (λ (c : Cell). (c ≡ Good text) ⊎ (c ≡ Dead)) (sym (same_before area some less)) (so_far.done area some less)
-      ]
+  pub one_part_take : (purpose : Purpose) (new : M) (cells k : ℕ) → ¬ HasTwo value → CellsTake purpose new cells (k + 1) k → CellsTake purpose new cells (k + 1) (k + 1)
+  one_part_take purposes.Update new cells k one uses = uses
+  one_part_take purposes.Repair new cells k one uses = record {
+    firsts = uses.firsts;
+    seconds = uses.seconds;
+    few = uses.few;
+    few' = omega (arith, uses.few');
+    none = uses.none;
+    continues = uses.continues;
+    of_firsts = uses.of_firsts;
+    of_seconds = λ known two. absurd (one two);
+  }
 
-      all_dead : cell_at (world new).cells (list_block shape (k + 1) list) ≡ Dead → readable ≡ 0 → (area : ℕ) → 1 ≤ area → area ≤ k + 1 → cell_at (world new).cells (list_block shape area list) ≡ Dead
-      all_dead here empty area some most = elim (cases_eq area (k + 1)) [
-        | inl e ↦ ap (λ (a : ℕ). cell_at (world new).cells (list_block shape a list)) e ∙ here
-        | inr ne ↦
-            let less : area ≤ k = omega arith in
-            same_before area some less ∙ so_far.lost empty area some less
-      ]
+  module _ (mid new : M) (as_known : (world mid).known ≡ (world old).known) (cells k : ℕ) where
+    two_more : (n : ℕ) → 2 * n + 2 ≡ 2 * (n + 1)
+    two_more n = omega arith
 
-    -- one more, with what is known of it
-    put_by : (kept : Bool) (readable' : ℕ) (one : HasPutCopy world reaches mid new (list_block shape (k + 1) list) text purpose kept) (is : CopyIsPut world reaches mid new (list_block shape (k + 1) list) text kept)
-        → (readable' ≡ 0 → (area : ℕ) → 1 ≤ area → area ≤ k + 1 → cell_at (world new).cells (list_block shape area list) ≡ Dead)
-        → ((world old).known ≡ true → readable' ≡ good_count (λ (area : ℕ). list_block shape area list) (world new).cells (k + 1))
-        → HasPutCopies world reaches old new (λ (area : ℕ). list_block shape area list) text purpose (k + 1) readable'
-    put_by kept readable' one is lost counts = record {
-      uses = more_uses world block_count reaches laws old (λ (area : ℕ). list_block shape area list) text mid new k small purpose so_far.as_known (same_before is.others) next_was so_far.uses kept one;
-      as_known = is.as_known ∙ so_far.as_known;
-      others = all_others is.others;
-      done = all_done is.others is.left;
-      lost = lost;
-      counts = counts;
+    read_more : (n m l : ℕ) → n + 2 * (m + l) + 1 ≡ n + 1 + 2 * (m + l)
+    read_more n m l = omega arith
+
+    first_more : (n m l : ℕ) → n + 2 * (m + l) + 3 ≡ n + 1 + 2 * (m + 1 + l)
+    first_more n m l = omega arith
+
+    second_more : (n m l : ℕ) → n + 2 * (m + l) + 3 ≡ n + 1 + 2 * (m + (l + 1))
+    second_more n m l = omega arith
+
+    pub first_take : (purpose : Purpose) → CellsTake purpose mid cells k k → cell_at (world mid).cells (first_block kind shape (k + 1)) ≡ cell_at (world old).cells (first_block kind shape (k + 1))
+        → ((area : ℕ) → 1 ≤ area → area ≤ k → cell_at (world new).cells (first_block kind shape area) ≡ cell_at (world mid).cells (first_block kind shape area))
+        → ((area : ℕ) → 1 ≤ area → area ≤ k → cell_at (world new).cells (second_block shape area) ≡ cell_at (world mid).cells (second_block shape area))
+        → CellUses world reaches (IsText kind) value mid new (first_block kind shape (k + 1)) purpose → CellsTake purpose new (cells + 1) (k + 1) k
+    first_take purposes.Update so_far was same same' one =
+        subst (λ (n : ℕ). Continues world reaches old new n) (two_more cells) (continues_then world block_count reaches laws old mid new (2 * cells) 2 so_far one)
+    first_take purposes.Repair so_far was same same' (inl one) = record {
+      firsts = so_far.firsts;
+      seconds = so_far.seconds;
+      few = omega (arith, so_far.few);
+      few' = so_far.few';
+      none = so_far.none;
+      continues = subst (λ (n : ℕ). Continues world reaches old new n) (read_more cells so_far.firsts so_far.seconds) (continues_then world block_count reaches laws old mid new (cells + 2 * (so_far.firsts + so_far.seconds)) 1 so_far.continues one.0);
+      of_firsts = λ known. rewrites_next (λ (c : Cell). Holds (IsText kind) c value) (first_block kind shape) (world old).cells (world mid).cells (world new).cells k so_far.firsts so_far.firsts same (so_far.of_firsts known)
+          (inl ((subst (λ (c : Cell). Holds (IsText kind) c value) was (one.1 (as_known ∙ known)).0, (one.1 (as_known ∙ known)).1), refl));
+      of_seconds = λ known two. rewrites_same (λ (c : Cell). Holds IsSecond c value) (second_block shape) (world old).cells (world mid).cells (world new).cells k so_far.seconds same' (so_far.of_seconds known two);
+    }
+    first_take purposes.Repair so_far was same same' (inr one) = record {
+      firsts = so_far.firsts + 1;
+      seconds = so_far.seconds;
+      few = omega (arith, so_far.few);
+      few' = so_far.few';
+      none = so_far.none;
+      continues = subst (λ (n : ℕ). Continues world reaches old new n) (first_more cells so_far.firsts so_far.seconds) (continues_then world block_count reaches laws old mid new (cells + 2 * (so_far.firsts + so_far.seconds)) 3 so_far.continues one.0);
+      of_firsts = λ known. rewrites_next (λ (c : Cell). Holds (IsText kind) c value) (first_block kind shape) (world old).cells (world mid).cells (world new).cells k so_far.firsts (so_far.firsts + 1) same (so_far.of_firsts known)
+          (inr (λ exact. one.1 (as_known ∙ known) (subst (λ (c : Cell). Holds (IsText kind) c value) (sym was) exact.0, exact.1), refl));
+      of_seconds = λ known two. rewrites_same (λ (c : Cell). Holds IsSecond c value) (second_block shape) (world old).cells (world mid).cells (world new).cells k so_far.seconds same' (so_far.of_seconds known two);
     }
 
-    -- the next copy can be read
-    pub put_kept : HasPutCopy world reaches mid new (list_block shape (k + 1) list) text purpose true → HasPutCopies world reaches old new (λ (area : ℕ). list_block shape area list) text purpose (k + 1) (readable + 1)
-    put_kept one =
-        let is : CopyIsPut world reaches mid new (list_block shape (k + 1) list) text true = copy_put world reaches mid new (list_block shape (k + 1) list) text purpose true one in
-        put_by true (readable + 1) one is (λ empty. absurd (omega (arith, empty)))
-        (count_kept world reaches old shape list text mid new k readable small is.others so_far.counts (λ known. is.good refl (so_far.as_known ∙ known)))
-
-    -- the next copy is dead
-    pub put_lost : HasPutCopy world reaches mid new (list_block shape (k + 1) list) text purpose false → HasPutCopies world reaches old new (λ (area : ℕ). list_block shape area list) text purpose (k + 1) readable
-    put_lost one =
-        let is : CopyIsPut world reaches mid new (list_block shape (k + 1) list) text false = copy_put world reaches mid new (list_block shape (k + 1) list) text purpose false one in
-        put_by false readable one is (all_dead is.others (is.dead refl))
-        (count_lost world reaches old shape list text mid new k readable small is.others so_far.counts (λ known. is.dead refl))
-
-    -- it was stopped at the next copy
-    pub put_stops : (stop : Stop) → StopsAtCopy world reaches mid new (list_block shape (k + 1) list) text purpose stop → StopsPuttingCopies world reaches old new (λ (area : ℕ). list_block shape area list) text purpose stop
-    put_stops stop one = record {
-      stops = last_uses world block_count reaches laws old (λ (area : ℕ). list_block shape area list) text mid new k small purpose so_far.uses stop one;
-      as_known = is.as_known ∙ so_far.as_known;
-      others = λ block apart. (is.others block (apart (k + 1) (omega arith, omega arith)) ∙ so_far.others block (λ area some most. apart area (some, omega arith)));
-      left = each;
-      stays_dead = each_dead;
+    pub second_take : (purpose : Purpose) → HasTwo value → CellsTake purpose mid cells (k + 1) k → cell_at (world mid).cells (second_block shape (k + 1)) ≡ cell_at (world old).cells (second_block shape (k + 1))
+        → ((area : ℕ) → 1 ≤ area → area ≤ k + 1 → cell_at (world new).cells (first_block kind shape area) ≡ cell_at (world mid).cells (first_block kind shape area))
+        → ((area : ℕ) → 1 ≤ area → area ≤ k → cell_at (world new).cells (second_block shape area) ≡ cell_at (world mid).cells (second_block shape area))
+        → CellUses world reaches IsSecond value mid new (second_block shape (k + 1)) purpose → CellsTake purpose new (cells + 1) (k + 1) (k + 1)
+    second_take purposes.Update two so_far was same same' one =
+        subst (λ (n : ℕ). Continues world reaches old new n) (two_more cells) (continues_then world block_count reaches laws old mid new (2 * cells) 2 so_far one)
+    second_take purposes.Repair two so_far was same same' (inl one) = record {
+      firsts = so_far.firsts;
+      seconds = so_far.seconds;
+      few = so_far.few;
+      few' = omega (arith, so_far.few');
+      none = so_far.none;
+      continues = subst (λ (n : ℕ). Continues world reaches old new n) (read_more cells so_far.firsts so_far.seconds) (continues_then world block_count reaches laws old mid new (cells + 2 * (so_far.firsts + so_far.seconds)) 1 so_far.continues one.0);
+      of_firsts = λ known. rewrites_same (λ (c : Cell). Holds (IsText kind) c value) (first_block kind shape) (world old).cells (world mid).cells (world new).cells (k + 1) so_far.firsts same (so_far.of_firsts known);
+      of_seconds = λ known two. rewrites_next (λ (c : Cell). Holds IsSecond c value) (second_block shape) (world old).cells (world mid).cells (world new).cells k so_far.seconds so_far.seconds same' (so_far.of_seconds known two)
+          (inl ((subst (λ (c : Cell). Holds IsSecond c value) was (one.1 (as_known ∙ known)).0, (one.1 (as_known ∙ known)).1), refl));
     }
-      where
-        is : CopyIsLeft world reaches mid new (list_block shape (k + 1) list) text purpose
-        is = copy_left world reaches mid new (list_block shape (k + 1) list) text purpose stop one
+    second_take purposes.Repair two so_far was same same' (inr one) = record {
+      firsts = so_far.firsts;
+      seconds = so_far.seconds + 1;
+      few = so_far.few;
+      few' = omega (arith, so_far.few');
+      none = λ not. absurd (not two);
+      continues = subst (λ (n : ℕ). Continues world reaches old new n) (second_more cells so_far.firsts so_far.seconds) (continues_then world block_count reaches laws old mid new (cells + 2 * (so_far.firsts + so_far.seconds)) 3 so_far.continues one.0);
+      of_firsts = λ known. rewrites_same (λ (c : Cell). Holds (IsText kind) c value) (first_block kind shape) (world old).cells (world mid).cells (world new).cells (k + 1) so_far.firsts same (so_far.of_firsts known);
+      of_seconds = λ known two. rewrites_next (λ (c : Cell). Holds IsSecond c value) (second_block shape) (world old).cells (world mid).cells (world new).cells k so_far.seconds (so_far.seconds + 1) same' (so_far.of_seconds known two)
+          (inr (λ exact. one.1 (as_known ∙ known) (subst (λ (c : Cell). Holds IsSecond c value) (sym was) exact.0, exact.1), refl));
+    }
 
-        each : (area : ℕ) → IsArea area → StopLeaves purpose (cell_at (world old).cells (list_block shape area list)) text (cell_at (world new).cells (list_block shape area list))
-        each area here = elim (cases_eq area (k + 1)) [
-          | inl e ↦ subst (λ (a : ℕ). StopLeaves purpose (cell_at (world old).cells (list_block shape a list)) text (cell_at (world new).cells (list_block shape a list))) (sym e)
-              (subst (λ (c : Cell). StopLeaves purpose c text (cell_at (world new).cells (list_block shape (k + 1) list))) next_was is.left)
-          | inr ne ↦ elim (cases_lt area (k + 1)) [
-            | inl less ↦
-                let early : area ≤ k = omega arith in
-                done_leaves purpose (cell_at (world old).cells (list_block shape area list)) (cell_at (world new).cells (list_block shape area list)) text
-                (subst (λ (c : Cell). (c ≡ Good text) ⊎ (c ≡ Dead)) (sym (is.others (list_block shape area list) (earlier area here.0 early))) (so_far.done area here.0 early))
-            | inr more ↦
-                let past : k + 1 < area = omega arith in
-                same_leaves purpose (cell_at (world old).cells (list_block shape area list)) (cell_at (world new).cells (list_block shape area list)) text
-                (is.others (list_block shape area list) (λ same. (places_apart shape list (k + 1) area (omega arith) past here.1 (sym same)))
-                ∙ so_far.others (list_block shape area list) (λ other some most same. (places_apart shape list other area some (omega arith) here.1 (sym same))))
-          ]
-        ]
-
-        each_dead : (area : ℕ) → IsArea area → cell_at (world old).cells (list_block shape area list) ≡ Dead → cell_at (world new).cells (list_block shape area list) ≡ Dead
-        each_dead area here was =
-            let at_mid = went_dead world block_count reaches laws old (λ (a : ℕ). list_block shape a list) text mid new k small purpose so_far.uses (list_block shape area list) was in
-            elim (cases_eq area (k + 1)) [
-              | inl e ↦ subst (λ (a : ℕ). cell_at (world new).cells (list_block shape a list) ≡ Dead) (sym e)
-                  (is.stays_dead (ap (λ (a : ℕ). cell_at (world mid).cells (list_block shape a list)) (sym e) ∙ at_mid))
-              | inr ne ↦ elim (cases_lt area (k + 1)) [
-                | inl less ↦
-                    let early : area ≤ k = omega arith in
-                    is.others (list_block shape area list) (earlier area here.0 early) ∙ at_mid
-                | inr more ↦
-                    let past : k + 1 < area = omega arith in
-                    is.others (list_block shape area list) (λ same. (places_apart shape list (k + 1) area (omega arith) past here.1 (sym same))) ∙ at_mid
-              ]
-            ]
+  -- what was dead before is dead then
+  pub went_dead : (purpose : Purpose) (mid : M) (cells f s : ℕ) → CellsTake purpose mid cells f s → (block : ℕ) → cell_at (world old).cells block ≡ Dead → cell_at (world mid).cells block ≡ Dead
+  went_dead purposes.Update mid cells f s so_far block was = (laws.follows old mid (2 * cells) so_far.reach).lasts.stays_dead block was
+  went_dead purposes.Repair mid cells f s so_far block was = (laws.follows old mid (cells + 2 * (so_far.firsts + so_far.seconds)) so_far.continues.reach).lasts.stays_dead block was

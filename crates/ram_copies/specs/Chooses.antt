@@ -1,14 +1,16 @@
 -- What the choice of a list does, by its answer: for `choose`.
-use Rattle.std.specs.Prelude.{◌≡◌, ℕ, ◌≤◌, true, IsTrue, Option, Some, None, Result, Ok, Err}
+use Rattle.std.specs.Prelude.{◌≡◌, ℕ, ◌+◌, ◌<◌, ◌≤◌, ◌⊎◌, true, IsTrue, Option, Some, None, List, Result, Ok, Err}
 use Rattle.model_geometry.specs.Geometry.{Shape}
+use Rattle.model_medium.specs.Cells.{Cell}
 use Rattle.model_medium.specs.World.{World, UseContinues, IsOff}
 use Rattle.model_stops.specs.Stops.{Continues}
+use Rattle.model_stops.specs.declared.Stop.{Stop}
 use Rattle.model_stops.specs.declared.Stop.TheVariants as stops
-use Rattle.model_copies.specs.Copies.{IsChosen, NoneChosen, IsGreatestMark, IsSeen}
+use Rattle.model_copies.specs.Copies.{IsSeen}
 use Rattle.ram_zones.specs.declared.list_kind.ListKind.{ListKind}
-use Rattle.ram_zones.specs.ListKind.{list_block}
-use Rattle.ram_copies.specs.Values.{ListValue, IsText, IsInGrammar, counter_of, mark_of}
-use Rattle.ram_copies.specs.Calls.{ChangesCopiesAlone, CallEnds, StoppedWithin}
+use Rattle.ram_copies.specs.Values.{ListValue, IsInGrammar, counter_of}
+use Rattle.ram_copies.specs.Calls.{first_block, second_block, IsWhole, ChangesCopiesAlone, CallEnds, StoppedWithin}
+use Rattle.ram_copies.specs.Choices.{MayHaveTwo, most_mores, CountFollowing, IsGreatestMarkUpTo}
 use Rattle.ram_copies.specs.declared.choice.Chosen.{Chosen}
 use Rattle.ram_copies.specs.declared.choice.Chosen.TheVariants as chosens
 use Rattle.ram_copies.specs.declared.looks.Held.{Held}
@@ -16,50 +18,70 @@ use Rattle.ram_copies.specs.declared.looks.Choice.{Choice}
 use Rattle.ram_copies.specs.declared.looks.Halt.{Halt}
 use Rattle.ram_copies.specs.declared.looks.Halt.TheVariants as halts
 
+-- The copy of this area is the one that is chosen: no whole copy that is accepted has a greater counter, and none of an
+-- equal counter lies in a lower area. (This project's own, as all here.)
+pub record IsChosenCopy (kind : ListKind) (shape : Shape) (cells : List Cell) (accepted : ListValue → Type 0)
+    (value : ListValue) (area : ℕ) : Type 0 where
+  pub copy : IsWhole kind shape cells value area
+  pub fits : accepted value
+  pub no_better : (other : ListValue) (at : ℕ) → IsWhole kind shape cells other at → accepted other
+      → (counter_of other < counter_of value) ⊎ ((counter_of other ≡ counter_of value) × (area ≤ at))
+
 module _ {M : Type 0} (world : M → World) (reaches : M → M → ℕ → Type 0)
     (kind : ListKind) (shape : Shape) (old new : M) where
-  -- The copies as the choice saw them are those of now: each was then as at entry, or dead. (This project's own, as all
-  -- here.)
-  abbrev pub SawCopies : Type 0
-  SawCopies = IsSeen (λ area. list_block shape area kind) (world old).cells (world new).cells (world new).cells
+  -- the copies as the choice saw them are those of now: each cell was then as at entry, or dead
+  pub record SawCopies : Type 0 where
+    pub firsts : IsSeen (first_block kind shape) (world old).cells (world new).cells (world new).cells
+    pub seconds : IsSeen (second_block shape) (world old).cells (world new).cells (world new).cells
 
-  -- out of memory within 4 uses: the power was on and is on, and neither a cut nor a fault is counted
+  -- The choice went to its end: it read the first part of each copy, and the second of each after whose first another
+  -- follows.
+  pub record ChoosesOut : Type 0 where
+    pub mores : ℕ
+    pub few : mores ≤ most_mores kind 4
+    pub counted : (world old).known ≡ true → CountFollowing kind shape (world new).cells 4 mores
+    pub ends : CallEnds world reaches kind shape old new (MayHaveTwo kind) (4 + mores)
+    pub saw : SawCopies
+
+  -- the choice was stopped
+  pub record StopsChoosing (stop : Stop) : Type 0 where
+    pub within : StoppedWithin world reaches kind shape old new (MayHaveTwo kind) (4 + most_mores kind 4) stop
+    pub saw : SawCopies
+
+  -- out of memory: the power was on and is on, and neither a cut nor a fault is counted
   pub record ChoosesOutOfMemory : Type 0 where
     pub was_on : IsTrue (world old).power
     pub uses : ℕ
-    pub few : uses ≤ 4
+    pub few : uses ≤ 4 + most_mores kind 4
     pub continues : Continues world reaches old new uses
     pub counts : UseContinues (world old) (world new)
-    pub alone : ChangesCopiesAlone world reaches kind shape old new
+    pub alone : ChangesCopiesAlone world reaches kind shape old new (MayHaveTwo kind)
+    pub saw : SawCopies
 
-  -- the mark is the greatest of all copies that were seen
+  -- the mark is the greatest that the first cells name, as they were seen, and 0 where none names one
   abbrev pub IsMarkSeen : ℕ → Type 0
-  IsMarkSeen mark = (world old).known ≡ true
-      → IsGreatestMark (IsText kind) (λ area. list_block shape area kind) (world new).cells mark_of mark
+  IsMarkSeen mark = (world old).known ≡ true → IsGreatestMarkUpTo kind shape (world new).cells 4 mark
 
   module _ (accepted : ListValue → Type 0) where
     -- The value is one of its grammar and is accepted, and of the copies that were seen this one is chosen.
     pub record Finds (value : ListValue) (area : ℕ) : Type 0 where
       pub in_grammar : IsInGrammar kind value
       pub fits : accepted value
-      pub chosen : (world old).known ≡ true
-          → IsChosen (IsText kind) (λ area. list_block shape area kind) (world new).cells counter_of accepted value area
+      pub chosen : (world old).known ≡ true → IsChosenCopy kind shape (world new).cells accepted value area
 
     -- of the copies that were seen none is accepted
     abbrev pub FindsNone : Type 0
-    FindsNone = (world old).known ≡ true
-        → NoneChosen (IsText kind) (λ area. list_block shape area kind) (world new).cells accepted
+    FindsNone = (world old).known ≡ true → (value : ListValue) (area : ℕ)
+        → IsWhole kind shape (world new).cells value area → ¬ accepted value
 
-    -- What a choice does, by its answer: it reads each copy once, in 4 uses.
+    -- What a choice does, by its answer: 4 uses, and one more for each first part after which another follows.
     abbrev pub ChooseRule : {T : Type 0} → (T → ListValue) → Chosen T → Type 0
-    ChooseRule value_of (chosens.Found value area mark) = CallEnds world reaches kind shape old new 4 × SawCopies
-        × Finds (value_of value) area × IsMarkSeen mark
-    ChooseRule value_of (chosens.Nothing mark) = CallEnds world reaches kind shape old new 4 × SawCopies × FindsNone
-        × IsMarkSeen mark
-    ChooseRule value_of chosens.Cut = StoppedWithin world reaches kind shape old new 4 stops.Cut × SawCopies
+    ChooseRule value_of (chosens.Found value area mark) = ChoosesOut × Finds (value_of value) area × IsMarkSeen mark
+    ChooseRule value_of (chosens.Nothing mark) = ChoosesOut × FindsNone × IsMarkSeen mark
+    ChooseRule value_of chosens.Cut = StopsChoosing stops.Cut
     ChooseRule value_of chosens.Off = IsOff (world old) (world new)
-    ChooseRule value_of chosens.Fault = StoppedWithin world reaches kind shape old new 4 stops.Fault × SawCopies
-    ChooseRule value_of chosens.NoMemory = ChoosesOutOfMemory × SawCopies
+    ChooseRule value_of chosens.Fault = StopsChoosing stops.Fault
+    ChooseRule value_of chosens.NoMemory = ChoosesOutOfMemory
 
 -- the answer for what was found
 abbrev pub found_of : {T : Type 0} → Option (Held T) → ℕ → Chosen T

@@ -1,14 +1,14 @@
 //! What a list is that lies on a disc in four copies, and what a choice asks of one.
 
-ghost use Rattle.std.specs.Prelude.{◌≡◌, ◌↔◌, IsTrue, IfOk, IfSome, Option};
+ghost use Rattle.std.specs.Prelude.{◌≡◌, ◌≤◌, ◌↔◌, IsTrue, IfOk, IfSome, MatchOption, Option, option_map};
 ghost use Rattle.ram_zones.specs.declared.list_kind.ListKind.{ListKind};
-ghost use Rattle.ram_copies.specs.Values.{ListValue, IsText, IsInGrammar, Decodes, counter_of, mark_of};
+ghost use Rattle.ram_copies.specs.Values.{ListValue, IsPart, IsInGrammar, HasMore, NamesMore, Decodes, counter_of, mark_of, parts_of};
 
 use ram_bytes::Block;
 use ram_zones::ListKind;
 use std::alloc::{AllocError, Global};
 
-/// A list that lies on a disc in four copies, each the text of its value.
+/// A list that lies on a disc in four copies, each the text of its value in one block or two.
 pub trait ListBlock: Sized + Drop {
     /// What it says, without its room.
     ghost value: { Self → ListValue };
@@ -27,14 +27,30 @@ pub trait ListBlock: Sized + Drop {
     fn mark(&self) -> u32
         ensures { result ≡ mark_of (value self.now) };
 
-    /// Writes the text of this value, all bytes of the block.
-    fn encode(&self, into: &mut Block)
-        requires { IsInGrammar LIST (value self.now) }
-        ensures { IsText LIST (value self.now) into.new };
+    /// Of how many blocks a copy is: one or two.
+    fn parts(&self) -> u32
+        ensures { result ≡ parts_of (value self.now) };
 
-    /// The value whose text this block is, or none where it is the text of no value.
-    fn decode(alloc: Global, from: &Block) -> Result<Option<Self>, AllocError>
-        ensures says { IfOk result (λ (found : Option Self). Decodes value LIST found from.now) }
+    /// Writes one part of the text of this value, all bytes of the block.
+    fn encode(&self, part: u32, into: &mut Block)
+        requires in_grammar { IsInGrammar LIST (value self.now) }
+        requires some { 1 ≤ part }
+        requires most { part ≤ parts_of (value self.now) }
+        ensures { IsPart LIST part (value self.now) into.new };
+
+    /// The counter of a disc definition structure that the block names, where it is a first part after which another follows, by
+    /// its first 32 bytes.
+    fn more(first: &Block) -> Option<u32>
+        ensures { MatchOption result (¬ HasMore LIST first.now) (NamesMore LIST first.now) };
+
+    /// The value whose text the block is, or the two blocks are; or none where they are the text of no value.
+    fn decode(
+        alloc: Global,
+        first: &Block,
+        second: Option<&Block>,
+    ) -> Result<Option<Self>, AllocError>
+        ensures says { IfOk result (λ (found : Option Self).
+            Decodes value LIST found first.now (option_map (λ b. b.now) second.entry)) }
         ensures in_grammar { IfOk result (λ (found : Option Self).
             IfSome found (λ list. IsInGrammar LIST (value list))) };
 }

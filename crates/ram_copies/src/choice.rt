@@ -14,19 +14,19 @@ use std::alloc::Global;
 /// How the choice of a list ended.
 #[derive(Drop)]
 pub enum Chosen<T> {
-    /// Of the copies that can be read, are in the grammar and are accepted, this one has the greatest counter, and of
-    /// equal ones the lowest area.
+    /// Of the copies of which all can be read and that are in the grammar and are accepted, this one has the greatest
+    /// counter, and of equal ones the lowest area.
     Found {
         /// The list.
         value: T,
         /// The area of its copy, from 1 to 4.
         area: u32,
-        /// The greatest mark of all copies in the grammar.
+        /// The greatest mark that a first part names.
         mark: u32,
     },
-    /// No copy that can be read and is in the grammar is accepted.
+    /// No copy of which all can be read and that is in the grammar is accepted.
     Nothing {
-        /// The greatest mark of all copies in the grammar, and 0 where there is none.
+        /// The greatest mark that a first part names, and 0 where none names one.
         mark: u32,
     },
     /// The power was cut.
@@ -66,7 +66,7 @@ fn answer_of<T>(ended: Result<Choice<T>, Halt>) -> Chosen<T>
     }
 }
 
-/// Reads the four copies of a list, and chooses one: 4 uses.
+/// Reads the four copies of a list, and chooses one: 4 uses, and one more for each first part after which another follows.
 pub fn choose<T: ListBlock, M: Medium, A: Accept<T>>(
     alloc: Global,
     medium: &mut M,
@@ -82,6 +82,6 @@ pub fn choose<T: ListBlock, M: Medium, A: Accept<T>>(
     if !medium.powered() {
         return Chosen::Off;
     }
-    let ended = look_at_copies::<T, M, A>(alloc, medium, geometry, accept, &mut scratch.room);
+    let ended = look_at_copies::<T, M, A>(alloc, medium, geometry, accept, scratch);
     answer_of(ended)
 }

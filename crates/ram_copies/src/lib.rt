@@ -1,5 +1,5 @@
-//! The four copies of a list on a disc: one is chosen, all are updated, or repaired. Generic in the list, the medium
-//! and what is accepted; it touches the copies of that list alone.
+//! The four copies of a list on a disc, each of one block or two: one is chosen, all are updated, or repaired. Generic in the
+//! list, the medium and what is accepted; it touches the copies of that list alone.
 #![tactic(auto)]
 
 mod blocks;
@@ -15,10 +15,7 @@ mod writes;
 
 pub use blocks::{Accept, ListBlock};
 pub use choice::{Chosen, choose};
-pub use laws::{
-    a_stopped_update_leaves_one_or_the_other, decoding_gives_what_was_encoded,
-    texts_of_lists_are_exact,
-};
+pub use laws::{decoding_gives_what_was_encoded, texts_of_lists_are_exact};
 pub use puts::put_block;
 pub use scratch::Scratch;
 pub use updates::{Updated, repair, update};

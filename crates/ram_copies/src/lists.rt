@@ -1,4 +1,4 @@
-//! The two lists of a disc, as lists that lie on it in four copies.
+//! The two lists of a disc, as lists that lie on it in four copies of one block or two.
 
 use crate::blocks::ListBlock;
 use ram_bytes::Block;
@@ -26,12 +26,27 @@ impl ListBlock for DdsPdl {
         self.counter
     }
 
-    fn encode(&self, into: &mut Block) {
+    fn parts(&self) -> u32 {
+        1
+    }
+
+    fn encode(&self, _part: u32, into: &mut Block) {
         self.encode(into);
     }
 
-    fn decode(alloc: Global, from: &Block) -> Result<Option<DdsPdl>, AllocError> {
-        DdsPdl::decode(alloc, from)
+    fn more(_first: &Block) -> Option<u32> {
+        None
+    }
+
+    fn decode(
+        alloc: Global,
+        first: &Block,
+        second: Option<&Block>,
+    ) -> Result<Option<DdsPdl>, AllocError> {
+        match second {
+            None => DdsPdl::decode(alloc, first),
+            Some(_) => Ok(None),
+        }
     }
 }
 
@@ -54,11 +69,27 @@ impl ListBlock for Sdl {
         self.dds_counter
     }
 
-    fn encode(&self, into: &mut Block) {
-        self.encode(into);
+    fn parts(&self) -> u32 {
+        self.parts()
     }
 
-    fn decode(alloc: Global, from: &Block) -> Result<Option<Sdl>, AllocError> {
-        Sdl::decode(alloc, from)
+    fn encode(&self, part: u32, into: &mut Block) {
+        self.encode(part, into);
+    }
+
+    fn more(first: &Block) -> Option<u32> {
+        if Sdl::more(first) {
+            Some(Sdl::more_mark(first))
+        } else {
+            None
+        }
+    }
+
+    fn decode(
+        alloc: Global,
+        first: &Block,
+        second: Option<&Block>,
+    ) -> Result<Option<Sdl>, AllocError> {
+        Sdl::decode(alloc, first, second)
     }
 }

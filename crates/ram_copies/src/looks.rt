@@ -1,15 +1,17 @@
 //! The copies of a list looked at one after another, with the best of them so far. It reads, and writes nothing.
 
-ghost use Rattle.std.specs.Prelude.{◌≡◌, ℕ, ◌<◌, ◌+◌, IsTrue, List, MatchResult, IfOk, IfSome, Option, option_map};
+ghost use Rattle.std.specs.Prelude.{◌≡◌, ℕ, ◌<◌, ◌≤◌, ◌+◌, IsTrue, List, MatchResult, IfOk, IfSome, Option, None, option_map};
 ghost use Rattle.model_medium.specs.Cells.{Cell};
-ghost use Rattle.model_geometry.specs.Geometry.{total};
-ghost use Rattle.ram_zones.specs.ListKind.{list_block};
+ghost use Rattle.model_geometry.specs.Geometry.{Shape, total};
 ghost use Rattle.ram_copies.specs.declared.looks.Held.{Held};
+ghost use Rattle.ram_copies.specs.declared.looks.Seen.{Seen};
 ghost use Rattle.ram_copies.specs.declared.looks.Choice.{Choice};
-ghost use Rattle.ram_copies.specs.Values.{IsInGrammar};
-ghost use Rattle.ram_copies.specs.Choices.{BestUpTo, SeenAt, IsGreatestMarkUpTo, held_of, LooksAt, HaltsLooking, HasLooked, HaltsLookingAt};
+ghost use Rattle.ram_copies.specs.declared.looks.Halt.TheVariants.{NoMemory};
+ghost use Rattle.ram_copies.specs.Values.{IsInGrammar, Decodes, mark_of};
+ghost use Rattle.ram_copies.specs.Choices.{BestUpTo, SeenAt, held_of, higher_of, LooksOn, HaltsLookingOn, LooksAt, HaltsLooking, HasLooked, HaltsLookingAt};
 
 use crate::blocks::{Accept, ListBlock};
+use crate::scratch::Scratch;
 use ram_bytes::Block;
 use ram_medium::{Medium, Stop, read_whole};
 use ram_zones::{Geometry, ListKind};
@@ -22,7 +24,16 @@ pub struct Held<T> {
     pub area: u32,
 }
 
-/// The best copy, if one is accepted, and the greatest mark of all copies.
+/// What the copy of one area says.
+#[derive(Drop)]
+struct Seen<T> {
+    /// The list, if all of the copy can be read and is in the grammar.
+    found: Option<T>,
+    /// The mark, if the first part names one.
+    mark: Option<u32>,
+}
+
+/// The best copy, if one is accepted, and the greatest mark that a first part names.
 #[derive(Drop)]
 pub struct Choice<T> {
     pub best: Option<Held<T>>,
@@ -38,24 +49,50 @@ pub enum Halt {
     NoMemory,
 }
 
-/// Reads one copy. What it says, if it can be read and is in the grammar.
-fn look_at<T: ListBlock, M: Medium>(
+/// What a copy of one part says, which was read.
+fn alone<T: ListBlock>(alloc: Global, first: &Block) -> Result<Seen<T>, Halt>
+    ensures says { MatchResult result
+        (λ (seen : Seen T). Decodes T.value T.LIST seen.found first.now None
+        × (seen.mark ≡ option_map mark_of (option_map T.value seen.found)))
+        (λ halt. halt ≡ NoMemory) }
+    ensures in_grammar { IfOk result
+        (λ (seen : Seen T). IfSome seen.found (λ list. IsInGrammar T.LIST (T.value list))) }
+{
+    match T::decode(alloc, first, None) {
+        Ok(None) => Ok(Seen {
+            found: None,
+            mark: None,
+        }),
+        Ok(Some(list)) => {
+            let mark = list.mark();
+            Ok(Seen {
+                found: Some(list),
+                mark: Some(mark),
+            })
+        }
+        Err(_) => Err(Halt::NoMemory),
+    }
+}
+
+/// Reads the second part, after a first one that was read. The list, if it can be read and is in the grammar.
+fn look_on<T: ListBlock, M: Medium>(
     alloc: Global,
     medium: &mut M,
     block: u32,
-    room: &mut Block,
+    first: &Block,
+    second: &mut Block,
 ) -> Result<Option<T>, Halt>
     requires inside { block < M.block_count medium.old }
     requires on { IsTrue (M.world medium.old).power }
     ensures rule { MatchResult result
-        (λ found. LooksAt M.world M.reaches T.LIST medium.old medium.new block (option_map T.value found))
-        (λ halt. HaltsLooking M.world M.reaches T.LIST medium.old medium.new block halt) }
+        (λ found. LooksOn M.world M.reaches T.LIST medium.old medium.new block first.now (option_map T.value found))
+        (λ halt. HaltsLookingOn M.world M.reaches T.LIST medium.old medium.new block halt) }
     ensures in_grammar { IfOk result
         (λ (found : Option T). IfSome found (λ list. IsInGrammar T.LIST (T.value list))) }
     ensures as_many { M.block_count medium.new ≡ M.block_count medium.old }
 {
-    match read_whole(medium, block, room) {
-        Ok(true) => match T::decode(alloc, room) {
+    match read_whole(medium, block, second) {
+        Ok(true) => match T::decode(alloc, first, Some(second)) {
             Ok(found) => Ok(found),
             Err(_) => Err(Halt::NoMemory),
         },
@@ -64,15 +101,55 @@ fn look_at<T: ListBlock, M: Medium>(
     }
 }
 
-/// The greater one of the mark and that of the copy, if there is one.
-fn higher<T: ListBlock>(mark: u32, found: &Option<T>) -> u32
-    ensures { (place : ℕ → ℕ) (cells : List Cell) (k : ℕ) → IsGreatestMarkUpTo T.LIST place cells k mark
-        → SeenAt T.LIST place cells (k + 1) (option_map T.value found.now)
-        → IsGreatestMarkUpTo T.LIST place cells (k + 1) result }
+/// Reads the copy of one area: its first part, and the second where one follows.
+fn look_at<T: ListBlock, M: Medium>(
+    alloc: Global,
+    medium: &mut M,
+    geometry: &Geometry,
+    area: u32,
+    scratch: &mut Scratch,
+) -> Result<Seen<T>, Halt>
+    requires size { M.block_count medium.old ≡ total geometry.now }
+    requires on { IsTrue (M.world medium.old).power }
+    requires some { 1 ≤ area }
+    requires most { area ≤ 4 }
+    ensures rule { MatchResult result
+        (λ (seen : Seen T). LooksAt M.world M.reaches T.LIST medium.old medium.new geometry.now area
+        (option_map T.value seen.found) seen.mark)
+        (λ halt. HaltsLooking M.world M.reaches T.LIST medium.old medium.new geometry.now area halt) }
+    ensures in_grammar { IfOk result
+        (λ (seen : Seen T). IfSome seen.found (λ list. IsInGrammar T.LIST (T.value list))) }
+    ensures as_many { M.block_count medium.new ≡ M.block_count medium.old }
 {
-    match found {
+    let block = geometry.list_block(area, T::LIST);
+    match read_whole(medium, block, &mut scratch.text) {
+        Ok(true) => {}
+        Ok(false) => {
+            return Ok(Seen {
+                found: None,
+                mark: None,
+            });
+        }
+        Err(stop) => return Err(Halt::Stopped { stop }),
+    }
+    let Some(mark) = T::more(&scratch.text) else {
+        return alone(alloc, &scratch.text);
+    };
+    let block = geometry.list_block(area, ListKind::SdlTwo);
+    let found = look_on::<T, M>(alloc, medium, block, &scratch.text, &mut scratch.second)?;
+    Ok(Seen {
+        found,
+        mark: Some(mark),
+    })
+}
+
+/// The greater one of the mark and that of a copy, if it names one.
+fn higher(mark: u32, named: Option<u32>) -> u32
+    ensures { result ≡ higher_of mark named }
+{
+    match named {
         None => mark,
-        Some(value) => mark.max(value.mark()),
+        Some(named) => mark.max(named),
     }
 }
 
@@ -88,10 +165,10 @@ fn consider<T: ListBlock, A: Accept<T>>(
         → IfSome result (λ h. IsInGrammar T.LIST (T.value h.value)) }
     ensures accepted { IfSome best (λ h. A.accepted accept.now (T.value h.value))
         → IfSome result (λ h. A.accepted accept.now (T.value h.value)) }
-    ensures better { (place : ℕ → ℕ) (cells : List Cell) (k : ℕ) → area ≡ k + 1
-        → BestUpTo T.LIST place (A.accepted accept.now) cells k (held_of T.value best)
-        → SeenAt T.LIST place cells (k + 1) (option_map T.value found)
-        → BestUpTo T.LIST place (A.accepted accept.now) cells (k + 1) (held_of T.value result) }
+    ensures better { (shape : Shape) (cells : List Cell) (k : ℕ) → area ≡ k + 1
+        → BestUpTo T.LIST shape cells (A.accepted accept.now) k (held_of T.value best)
+        → SeenAt T.LIST shape cells (k + 1) (option_map T.value found)
+        → BestUpTo T.LIST shape cells (A.accepted accept.now) (k + 1) (held_of T.value result) }
 {
     let Some(value) = found else {
         return best;
@@ -117,16 +194,14 @@ pub fn look_at_copies<T: ListBlock, M: Medium, A: Accept<T>>(
     medium: &mut M,
     geometry: &Geometry,
     accept: &A,
-    room: &mut Block,
+    scratch: &mut Scratch,
 ) -> Result<Choice<T>, Halt>
     requires size { M.block_count medium.old ≡ total geometry.now }
     requires on { IsTrue (M.world medium.old).power }
     ensures rule { MatchResult result
-        (λ found. HasLooked M.world M.reaches T.LIST medium.old medium.new
-        (λ area. list_block geometry.now area T.LIST)
+        (λ found. HasLooked M.world M.reaches T.LIST medium.old medium.new geometry.now
         (A.accepted accept.now) 4 (held_of T.value found.best) found.mark)
-        (λ halt. HaltsLookingAt M.world M.reaches T.LIST medium.old medium.new
-        (λ area. list_block geometry.now area T.LIST) halt) }
+        (λ halt. HaltsLookingAt M.world M.reaches T.LIST medium.old medium.new geometry.now halt) }
     ensures in_grammar { IfOk result
         (λ (found : Choice T). IfSome found.best (λ h. IsInGrammar T.LIST (T.value h.value))) }
     ensures accepted { IfOk result
@@ -136,10 +211,9 @@ pub fn look_at_copies<T: ListBlock, M: Medium, A: Accept<T>>(
     let mut best = None;
     let mut mark = 0;
     for k in 0..4 {
-        let block = geometry.list_block(k + 1, T::LIST);
-        let found = look_at::<T, M>(alloc, medium, block, room)?;
-        mark = higher(mark, &found);
-        best = consider(accept, best, found, k + 1);
+        let seen = look_at::<T, M>(alloc, medium, geometry, k + 1, scratch)?;
+        mark = higher(mark, seen.mark);
+        best = consider(accept, best, seen.found, k + 1);
     }
     Ok(Choice { best, mark })
 }

@@ -4,6 +4,7 @@ ghost use Rattle.std.specs.Prelude.{◌≡◌, ◌≢◌};
 ghost use Rattle.model_geometry.specs.Geometry.{total};
 ghost use Rattle.ram_copies.specs.Values.{IsInGrammar};
 ghost use Rattle.ram_copies.specs.Calls.{UpdateRule, RepairRule, PurposeRule, updated_of};
+ghost use Rattle.ram_copies.specs.Writes.{AreTexts};
 
 use crate::blocks::ListBlock;
 use crate::scratch::Scratch;
@@ -14,12 +15,12 @@ use ram_zones::Geometry;
 /// How an update or a repair of a list ended.
 #[derive(Clone, Copy, Debug, PartialEq, Eq)]
 pub enum Updated {
-    /// Each copy is exactly the text of the list, or dead.
+    /// Each cell of the copies is exactly its part of the text of the list, or dead.
     Kept {
-        /// How many copies can be read, one at least.
+        /// How many copies can be read in all their cells, one at least.
         readable: u32,
     },
-    /// All four copies are dead.
+    /// Each of the four copies has a dead cell.
     NoCopy,
     /// The power was cut.
     Cut,
@@ -42,6 +43,17 @@ fn answer_of(ended: Result<u32, Stop>) -> Updated
     }
 }
 
+/// Writes the parts of the list's text into the room for them.
+fn spell<T: ListBlock>(value: &T, scratch: &mut Scratch)
+    requires { IsInGrammar T.LIST (T.value value.now) }
+    ensures { AreTexts T.LIST (T.value value.now) scratch.new.text scratch.new.second }
+{
+    value.encode(1, &mut scratch.text);
+    if value.parts() == 2 {
+        value.encode(2, &mut scratch.second);
+    }
+}
+
 /// Puts the text of the list into its four copies in turn.
 fn put_list<T: ListBlock, M: Medium>(
     medium: &mut M,
@@ -59,19 +71,12 @@ fn put_list<T: ListBlock, M: Medium>(
     if !medium.powered() {
         return Updated::Off;
     }
-    value.encode(&mut scratch.text);
-    let ended = put_copies(
-        medium,
-        geometry,
-        T::LIST,
-        purpose,
-        &scratch.text,
-        &mut scratch.room,
-    );
+    spell(value, scratch);
+    let ended = put_copies(medium, geometry, value, purpose, scratch);
     answer_of(ended)
 }
 
-/// Writes the list to each of its four copies in turn, and reads each back: 8 uses.
+/// Writes the list to each of its four copies in turn, and reads each cell back: 8 uses, or 16 where it has two parts.
 pub fn update<T: ListBlock, M: Medium>(
     medium: &mut M,
     geometry: &Geometry,
@@ -87,8 +92,8 @@ pub fn update<T: ListBlock, M: Medium>(
     put_list(medium, geometry, value, Purpose::Update, scratch)
 }
 
-/// Reads each of the list's four copies in turn, and writes each that is not exactly its text again, with a read back:
-/// 4 uses, and 2 for each that is written.
+/// Reads each cell of the list's four copies in turn, and writes each that is not exactly its part of the text again, with a
+/// read back: 4 uses, or 8 where the list has two parts, and 2 for each cell that is written.
 pub fn repair<T: ListBlock, M: Medium>(
     medium: &mut M,
     geometry: &Geometry,

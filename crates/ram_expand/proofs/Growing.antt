@@ -3,9 +3,7 @@ use Rattle.std.specs.Prelude.{◌≡◌, ◌≢◌, ℕ, ◌*◌, ◌≤◌, ◌
 use Rattle.std.proofs.Common.{refl, sym, ap, inl, subst, arith, eqb, take}
 use Rattle.std.proofs.lemmas.Bool.{cond-false, ne_eqb}
 use Rattle.model_geometry.specs.Geometry.{Shape, dds_block}
-use Rattle.model_lists.specs.Values.{IsLawfulSdl}
-use Rattle.model_lists.specs.Texts.{IsDdsText}
-use Rattle.model_medium.specs.Cells.{cell_at}
+use Rattle.model_lists.specs.Texts.{IsDdsText, IsTwo}
 use Rattle.model_medium.specs.World.{World}
 use Rattle.model_stops.specs.declared.Stop.{Stop}
 use Rattle.model_copies.specs.Copies.{Settled}
@@ -20,15 +18,16 @@ use Rattle.model_volume.proofs.GivenFacts.{pair_between}
 use Rattle.model_volume.proofs.ListCells.{fits_still}
 use Rattle.model_volume.proofs.Expanding.{expanded_valid, cut_fits, expand_covers}
 use Rattle.model_drive.specs.declared.TheConstants.{LAST_COUNTER}
+use Rattle.model_drive.specs.Repairs.{sdl_update_uses}
 use Rattle.model_drive.specs.Expands.{ssa_for, shortened}
 use Rattle.model_drive.proofs.ExpandSteps.{lawful_area, larger_area, left_blocks}
 use Rattle.ram_medium.specs.Laws.{MediumLaws}
 use Rattle.ram_zones.specs.declared.list_kind.ListKind.TheVariants as kinds
 use Rattle.ram_copies.specs.Values.{SdlValue}
-use Rattle.ram_copies.specs.Calls.{ChangesCopiesAlone, CallEnds, StoppedWithin, Keeps, LeavesNone, MayLeaveCopies, StaysDead}
+use Rattle.ram_copies.specs.Calls.{LeavesCopies, ChangesCopiesAlone, CallEnds, StoppedWithin, Keeps, KeepsNone}
 use Rattle.ram_lists.proofs.MountSteps.{settled_same, sdl_only, dds_stay}
-use Rattle.ram_replace.specs.Updates.{HasUpdated, LeavesListCopies}
-use Rattle.ram_replace.proofs.Updating.{updated_kept, updated_lost, left_stopped}
+use Rattle.ram_replace.specs.Updates.{HasUpdated, HaltsUpdating}
+use Rattle.ram_replace.proofs.Updating.{updated_kept, updated_lost, update_halted}
 use Rattle.ram_expand.specs.Sizes.{IsSmaller}
 use Rattle.ram_expand.specs.Expanding.{lists_grown, HasGrown, LacksUpdate, StopsGrowing}
 
@@ -53,7 +52,7 @@ module _ {M : Type 0} (world : M → World) (block_count : M → ℕ) (reaches :
 
     -- ---- the update of the secondary list
 
-    module _ (new : M) (alone : ChangesCopiesAlone world reaches kinds.Sdl shape old new) where
+    module _ (new : M) (alone : ChangesCopiesAlone world reaches kinds.Sdl shape old new (IsTwo lists.sdl)) where
       only_lists : OnlyLists shape (world old).cells (world new).cells
       only_lists = sdl_only world reaches shape old new alone
 
@@ -84,42 +83,43 @@ module _ {M : Type 0} (world : M → World) (block_count : M → ℕ) (reaches :
         size = size;
         counter_is = refl;
         cause = inl (lost_alike shape (world new).cells (lists_grown shape lists capacity).sdl lists.sdl refl did.left.lost);
-        ended = subst (CallEnds world reaches kinds.Sdl shape old new) (sym (cond-false (eqb lists.sdl.counter LAST_COUNTER) 0 8 (ne_eqb lists.sdl.counter LAST_COUNTER room))) did.ended;
+        ended = subst (CallEnds world reaches kinds.Sdl shape old new (IsTwo lists.sdl)) (sym (cond-false (eqb lists.sdl.counter LAST_COUNTER) 0 (sdl_update_uses lists.sdl) (ne_eqb lists.sdl.counter LAST_COUNTER room))) did.ended;
         same = refl;
         settled = record { dds = dds_kept; sdl = lost_settled shape (world new).cells lists.sdl (lists_grown shape lists capacity).sdl refl refl did.left.exact did.left.lost };
         keeps = fits_now;
       }
 
       -- the update was stopped
-      left_between : LeavesListCopies world reaches shape old new (lists_grown shape lists capacity).sdl → SdlIsBetween shape (world new).cells lists.sdl (lists_grown shape lists capacity).sdl
-      left_between left = settled_stopped shape (world old).cells (world new).cells lists.sdl (lists_grown shape lists capacity).sdl settled.sdl refl (inl (λ same. omega (arith, same))) left.parts left.dead
-
-      halted : (stop : Stop) → lists.sdl.counter < LAST_COUNTER → StoppedWithin world reaches kinds.Sdl shape old new 8 stop
-          → SdlIsBetween shape (world new).cells lists.sdl (lists_grown shape lists capacity).sdl → StopsGrowing world reaches shape old new lists capacity lists stop
-      halted stop room stopped between = record {
+      halted : (stop : Stop) → lists.sdl.counter < LAST_COUNTER → HaltsUpdating world reaches shape old new (lists_grown shape lists capacity).sdl stop
+          → StopsGrowing world reaches shape old new lists capacity lists stop
+      halted stop room did = record {
         size = size;
         room = room;
-        stopped = stopped;
+        stopped = did.stopped;
         same = refl;
+        left = did.left;
         given = λ other given. pair_between shape (world new).cells lists.dds lists.sdl (lists_grown shape lists capacity).sdl other dds_kept valid.together.same_version between given;
         covers = λ disc fits. subst (λ (d : List ℕ). Cover shape (world new).cells (disc ∷ d ∷ [])) (shortened_is disc)
             (expand_covers shape lists (ssa_for shape capacity) valid area grows (world old).cells (world new).cells disc only_lists dds_kept between fits);
       }
+        where
+          between : SdlIsBetween shape (world new).cells lists.sdl (lists_grown shape lists capacity).sdl
+          between = settled_stopped shape (world old).cells (world new).cells lists.sdl (lists_grown shape lists capacity).sdl settled.sdl refl (inl (λ same. omega (arith, same)))
+              did.left.may did.left.stays_dead
 
-    -- ---- by what the update answered, of a list that is lawful
+    -- ---- by what the update answered
 
-    module _ (lawful : IsLawfulSdl (lists_grown shape lists capacity).sdl) where
-      pub has_grown : (new : M) (readable : ℕ) → lists.sdl.counter < LAST_COUNTER
-          → CallEnds world reaches kinds.Sdl shape old new 8 × Keeps world reaches kinds.Sdl shape old new (SdlValue (lists_grown shape lists capacity).sdl) readable
-          → HasGrown world reaches shape old new lists capacity (lists_grown shape lists capacity)
-      has_grown new readable room did = written new did.0.alone room (updated_kept world reaches shape old new (lists_grown shape lists capacity).sdl lawful readable did.0 did.1)
+    pub has_grown : (new : M) (readable : ℕ) → lists.sdl.counter < LAST_COUNTER
+        → CallEnds world reaches kinds.Sdl shape old new (IsTwo lists.sdl) (sdl_update_uses lists.sdl) × Keeps world reaches kinds.Sdl shape old new (SdlValue (lists_grown shape lists capacity).sdl) readable
+        → HasGrown world reaches shape old new lists capacity (lists_grown shape lists capacity)
+    has_grown new readable room did = written new did.0.alone room (updated_kept world reaches shape old new (lists_grown shape lists capacity).sdl readable did.0 did.1)
 
-      pub no_copy : (new : M) → lists.sdl.counter ≢ LAST_COUNTER → CallEnds world reaches kinds.Sdl shape old new 8 × LeavesNone world reaches kinds.Sdl shape old new
-          → LacksUpdate world reaches shape old new lists capacity lists lists.sdl.counter
-      no_copy new room did = unwritten new did.0.alone room (updated_lost world reaches shape old new (lists_grown shape lists capacity).sdl lawful did.0 did.1)
+    pub no_copy : (new : M) → lists.sdl.counter ≢ LAST_COUNTER
+        → CallEnds world reaches kinds.Sdl shape old new (IsTwo lists.sdl) (sdl_update_uses lists.sdl) × KeepsNone world reaches kinds.Sdl shape old new (SdlValue (lists_grown shape lists capacity).sdl)
+        → LacksUpdate world reaches shape old new lists capacity lists lists.sdl.counter
+    no_copy new room did = unwritten new did.0.alone room (updated_lost world reaches shape old new (lists_grown shape lists capacity).sdl did.0 did.1)
 
-      pub growing_stopped : (new : M) (stop : Stop) → lists.sdl.counter < LAST_COUNTER
-          → StoppedWithin world reaches kinds.Sdl shape old new 8 stop × MayLeaveCopies world reaches kinds.Sdl shape old new (SdlValue (lists_grown shape lists capacity).sdl) × StaysDead world reaches kinds.Sdl shape old new
-          → StopsGrowing world reaches shape old new lists capacity lists stop
-      growing_stopped new stop room did = halted new did.0.alone stop room did.0
-          (left_between new did.0.alone (left_stopped world reaches shape old new (lists_grown shape lists capacity).sdl lawful did.0.alone did.1 did.2))
+    pub growing_stopped : (new : M) (stop : Stop) → lists.sdl.counter < LAST_COUNTER
+        → StoppedWithin world reaches kinds.Sdl shape old new (IsTwo lists.sdl) (sdl_update_uses lists.sdl) stop × LeavesCopies kinds.Sdl shape (world old).cells (world new).cells (SdlValue (lists_grown shape lists capacity).sdl)
+        → StopsGrowing world reaches shape old new lists capacity lists stop
+    growing_stopped new stop room did = halted new did.0.alone stop room (update_halted world reaches shape old new (lists_grown shape lists capacity).sdl stop did.0 did.1)

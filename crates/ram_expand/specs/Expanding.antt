@@ -1,6 +1,7 @@
 -- What an expansion does, by its answer: for `grow` and `expand_lists`.
 use Rattle.std.specs.Prelude.{◌≡◌, ℕ, ◌<◌, ◌==◌, ◌⊎◌, if◌then◌else◌, true, IsTrue, List, [], ◌∷◌}
 use Rattle.model_geometry.specs.Geometry.{Shape}
+use Rattle.model_lists.specs.Texts.{IsTwo}
 use Rattle.model_medium.specs.World.{World}
 use Rattle.model_stops.specs.declared.Stop.{Stop}
 use Rattle.model_stops.specs.declared.Stop.TheVariants as stops
@@ -14,6 +15,7 @@ use Rattle.model_drive.specs.Repairs.{sdl_update_uses}
 use Rattle.model_drive.specs.Expands.{IsLawfulSize, ssa_for, shortened}
 use Rattle.ram_zones.specs.declared.list_kind.ListKind.TheVariants as kinds
 use Rattle.ram_copies.specs.Calls.{CallEnds, StoppedWithin}
+use Rattle.ram_replace.specs.Updates.{LeavesSdl}
 use Rattle.ram_expand.specs.Sizes.{IsPresent, IsSmaller}
 use Rattle.ram_expand.specs.declared.expanding.ExpandEnd.{ExpandEnd}
 use Rattle.ram_expand.specs.declared.expanding.ExpandEnd.TheVariants as ends
@@ -32,7 +34,7 @@ module _ {M : Type 0} (world : M → World) (reaches : M → M → ℕ → Type 
   -- The power was on, and the disc has the capacity already.
   pub record KeepsSize : Type 0 where
     pub size : IsPresent shape lists capacity
-    pub ended : CallEnds world reaches kinds.Sdl shape old new 0
+    pub ended : CallEnds world reaches kinds.Sdl shape old new (IsTwo lists.sdl) 0
     pub does : DoesNothing
 
   -- The power was on, and the disc cannot have the capacity.
@@ -46,7 +48,7 @@ module _ {M : Type 0} (world : M → World) (reaches : M → M → ℕ → Type 
   pub record HasGrown : Type 0 where
     pub size : IsSmaller shape lists capacity
     pub room : lists.sdl.counter < LAST_COUNTER
-    pub ended : CallEnds world reaches kinds.Sdl shape old new (sdl_update_uses lists.sdl)
+    pub ended : CallEnds world reaches kinds.Sdl shape old new (IsTwo lists.sdl) (sdl_update_uses lists.sdl)
     pub lists_are : lists' ≡ lists_grown shape lists capacity
     pub settled : AreSettled shape (world new).cells lists'
     pub has_copy : (world old).known ≡ true → ¬ SdlIsLost shape (world new).cells lists.sdl
@@ -59,20 +61,21 @@ module _ {M : Type 0} (world : M → World) (reaches : M → M → ℕ → Type 
     pub size : IsSmaller shape lists capacity
     pub counter_is : counter ≡ lists.sdl.counter
     pub cause : SdlIsLost shape (world new).cells lists.sdl ⊎ (counter ≡ LAST_COUNTER)
-    pub ended :
-        CallEnds world reaches kinds.Sdl shape old new (if counter == LAST_COUNTER then 0 else sdl_update_uses lists.sdl)
+    pub ended : CallEnds world reaches kinds.Sdl shape old new (IsTwo lists.sdl)
+        (if counter == LAST_COUNTER then 0 else sdl_update_uses lists.sdl)
     pub same : lists' ≡ lists
     pub settled : AreSettled shape (world new).cells lists
     pub keeps : (disc : List ℕ) → FitsUnder shape (world old).cells lists disc
         → FitsUnder shape (world new).cells lists disc
 
   -- It was stopped in the update, for a cause that its count shows. The lists in memory are as before; the cells give those
-  -- or the new ones, and no others, and the disc or its first sectors fit under them.
+  -- or the new ones, and no others, and the disc or its first sectors fit under them; and this is left of the copies, from below.
   pub record StopsGrowing (stop : Stop) : Type 0 where
     pub size : IsSmaller shape lists capacity
     pub room : lists.sdl.counter < LAST_COUNTER
-    pub stopped : StoppedWithin world reaches kinds.Sdl shape old new (sdl_update_uses lists.sdl) stop
+    pub stopped : StoppedWithin world reaches kinds.Sdl shape old new (IsTwo lists.sdl) (sdl_update_uses lists.sdl) stop
     pub same : lists' ≡ lists
+    pub left : LeavesSdl shape (world old).cells (world new).cells (lists_grown shape lists capacity).sdl
     pub given : (other : Lists) → IsGiven shape (world new).cells other
         → (other ≡ lists) ⊎ (other ≡ lists_grown shape lists capacity)
     pub covers : (disc : List ℕ) → FitsUnder shape (world old).cells lists disc

@@ -85,10 +85,12 @@ fn grow<M: Medium>(
 
 /// Gives a formatted disc a capacity of so many sectors: the logical blocks behind them become supplementary spares. Where
 /// the disc has just so many, nothing is done. Else the new secondary list, with the larger area and a counter one greater,
-/// is updated, in 8 uses, and taken over: an entry of a block that is a spare now says that it is retired, and its
-/// replacement is free again. `draft` holds that list until then, and nothing of use before and after. It takes no memory.
+/// is updated, in 8 uses for each of its parts, and taken over: an entry of a block that is a spare now says that it is
+/// retired, and its replacement is free again. The version stays. `draft` holds that list until then, and nothing of use
+/// before and after. It takes no memory.
 ///
-/// Refused: a capacity of 0, no multiple of 16, greater than the disc has, or one that leaves more spares in all than 4,092.
+/// Refused: a capacity of 0, no multiple of 16, greater than the disc has, or one that leaves more spares in all than a disc
+/// of its version may have: 4,092, or 8,184.
 /// The lists in memory change with Good alone, once a copy of the new list can be read. (Spare areas after ECMA-330; how
 /// one grows is this project's own.)
 pub fn expand_lists<M: Medium>(

@@ -1,33 +1,38 @@
 -- How a rewriting format goes, list after list.
-use Rattle.std.specs.Prelude.{◌≡◌, ℕ, ◌+◌, ◌*◌, Bool, true, false, List}
+use Rattle.std.specs.Prelude.{◌≡◌, ℕ, ◌+◌, ◌*◌, ◌≤◌, Bool, true, false, List}
 use Rattle.std.proofs.Common.{refl, sym, ap, ◌∙◌, inl, inr, subst, arith}
 use Rattle.std.proofs.lemmas.Bool.{cases_eq}
 use Rattle.model_counts.specs.Counts.{counted, Rose}
 use Rattle.model_geometry.specs.Geometry.{Shape, dds_block, sdl_block, sdl_second_block}
-use Rattle.model_lists.specs.Values.{Dds, Sdl, IsLawfulSdl}
+use Rattle.model_lists.specs.declared.versions.Version.TheVariants.{One, Two}
+use Rattle.model_lists.specs.Values.{Dds, Sdl, parts_by}
 use Rattle.model_lists.specs.Texts.{IsDdsText, IsTwo, IsSdlText, IsSdlSecond}
 use Rattle.model_lists.proofs.DdsTexts as dds_texts
 use Rattle.model_lists.proofs.SdlTexts as sdl_texts
-use Rattle.model_medium.specs.Cells.{Cell, Blank, Good, Torn, Dead, cell_at}
+use Rattle.model_medium.specs.Cells.{Cell, Blank, Good, Torn, Dead, IsSameOrDead, cell_at}
 use Rattle.model_medium.specs.World.{World, IsUse}
 use Rattle.model_stops.specs.Stops.{Continues, Stops, FailsInUse}
 use Rattle.model_stops.specs.declared.Stop.{Stop}
 use Rattle.model_stops.specs.declared.Stop.TheVariants as stops
-use Rattle.model_copies.specs.Copies.{IsArea, Holds, HoldsOrDead, MayHold, HasCopy, HasDdsCopy, Settled, AllLost}
-use Rattle.model_copies.specs.Parts.{HasSdlParts, SdlIsExact, MayLeaveParts}
-use Rattle.model_copies.proofs.SdlParts.{sdl_before, exact_same}
-use Rattle.model_copies.proofs.PartFacts.{held_there}
+use Rattle.model_copies.specs.Copies.{IsArea, Holds, HoldsOrDead, MayHold, HasCopy, HasDdsCopy, Settled, AllLost, Rewrites}
+use Rattle.model_copies.specs.Parts.{HasSdlParts, SdlIsExact, SdlIsLost, MayLeaveParts}
+use Rattle.model_copies.proofs.CopyFacts.{copy_settled}
+use Rattle.model_copies.proofs.SdlParts.{sdl_before, exact_same, lost_decided}
+use Rattle.model_copies.proofs.PartFacts.{held_there, held_alive, held_same, left_or_held}
 use Rattle.model_copies.proofs.Rewriting.{rewrites_like}
 use Rattle.model_places.specs.Places.{Lists}
-use Rattle.model_volume.specs.Given.{IsGiven, AreSettled}
+use Rattle.model_volume.specs.Given.{IsWholePair, IsGiven, AreSettled}
 use Rattle.ram_medium.specs.Laws.{MediumLaws}
 use Rattle.ram_medium.proofs.Parts.{continues_then, stops_later, stops_within}
 use Rattle.ram_zones.specs.declared.list_kind.ListKind.TheVariants as kinds
 use Rattle.ram_copies.specs.Values.{DdsValue, SdlValue}
-use Rattle.ram_copies.specs.Calls.{StoppedCounts, ChangesCopiesAlone, StoppedWithin, MayLeaveCopies}
-use Rattle.ram_copies.proofs.EachList.{dds_settled, dds_may_hold, dds_rewritten, sdl_settled, sdl_settled_exact, sdl_lost, sdl_all_lost, sdl_left, seconds_stay_by_dds, sdl_rewritten}
-use Rattle.ram_lists.proofs.MountSteps.{settled_may_hold, copy_back, settled_same, dds_only, sdl_only, sdl_stay, dds_stay}
-use Rattle.ram_format.specs.Rewriting.{HasRepairedList, StopsRepairingList, RepairsBothLists, RewritesBy, RewriteStopped, StopsRewriting, lost_of}
+use Rattle.ram_copies.specs.Calls.{StoppedCounts, ChangesCopiesAlone, StopsRepairing}
+use Rattle.ram_copies.proofs.PartsOf.{parts_few}
+use Rattle.ram_copies.proofs.EachList.{dds_exact, dds_lost, dds_all_lost, dds_spares, dds_rewritten, sdl_exact, sdl_lost, sdl_all_lost, sdl_rewritten, seconds_rewritten, seconds_stay_by_dds}
+use Rattle.ram_lists.specs.Mends.{MendsDds, MendsSdl}
+use Rattle.ram_lists.proofs.Mending.{settled_may_hold, dds_in_part, sdl_in_part, dds_to_end, sdl_from}
+use Rattle.ram_lists.proofs.MountSteps.{copy_back, settled_same, dds_only, sdl_only, sdl_stay, dds_stay}
+use Rattle.ram_format.specs.Rewriting.{HasRepairedList, StopsRepairingList, RepairsBothLists, RewritesBy, RewriteStopped, StopsRewriting, lost_of, most_rewrite_uses}
 
 module _ {V : Type 0} (text : V → List ℕ → Type 0) where
   -- a value has one text
@@ -91,6 +96,71 @@ given_held shape old new dds sdl other given =
       );
     }
 
+-- The secondary list has no copy left, and the structure is settled: what is given after a stopped repair was given before. A pair of
+-- lists of two parts would need a whole copy of one, and each copy has a dead cell; one of a list of one part is in its first cell
+-- alone, and the repair puts no such text there.
+module _ (shape : Shape) (old new : List Cell) (dds : Dds) (v : Sdl) (lost : SdlIsLost shape old v) (settled : Settled IsDdsText (dds_block shape) old dds)
+    (back : (w : Dds) (area : ℕ) → HasDdsCopy shape new w area → HasDdsCopy shape old w area)
+    (dies : (block : ℕ) → cell_at old block ≡ Dead → cell_at new block ≡ Dead) (left : MayLeaveParts IsTwo IsSdlText IsSdlSecond (sdl_block shape) (sdl_second_block shape) old new v) where
+  one_version : (cell : Cell) (u w : Sdl) → Holds IsSdlText cell u → Holds IsSdlText cell w → u.version ≡ w.version
+  one_version Blank u w h k = absurd h
+  one_version (Good bytes) u w h k = sdl_texts.first_version u w bytes h k
+  one_version Torn u w h k = absurd h
+  one_version Dead u w h k = absurd h
+
+  one_part : (w : Sdl) → w.version ≡ One → (a b : ℕ) → HasSdlParts shape new w a b → HasSdlParts shape old w a b
+  one_part w one a b parts = record {
+    is_area = parts.is_area;
+    is_area' = parts.is_area';
+    holds = elim (left_or_held IsSdlText (cell_at old (sdl_block shape a)) (cell_at new (sdl_block shape a)) v w (left.firsts a parts.is_area) parts.holds) [
+      | inl same ↦ held_same IsSdlText (cell_at old (sdl_block shape a)) (cell_at new (sdl_block shape a)) w same parts.holds
+      | inr held ↦ absurd (none held)
+    ];
+    holds' = λ two. absurd (sdl_texts.one_no_two w.version one two);
+  }
+    where
+      none : Holds IsSdlText (cell_at new (sdl_block shape a)) v → ⊥
+      none held = elim (lost a parts.is_area) [
+        | inl dead ↦ held_alive IsSdlText (cell_at new (sdl_block shape a)) w parts.holds (dies (sdl_block shape a) dead)
+        | inr two ↦ sdl_texts.one_no_two v.version (one_version (cell_at new (sdl_block shape a)) v w held parts.holds ∙ one) two.0
+      ]
+
+  its_version : (lists : Lists) (area : ℕ) → HasDdsCopy shape new lists.dds area → lists.sdl.version ≡ lists.dds.version → lists.sdl.version ≡ dds.version
+  its_version lists area copy same = same ∙ ap (λ (d : Dds). d.version) (copy_settled IsDdsText dds_texts.one_value (dds_block shape) old dds lists.dds area settled (back lists.dds area copy))
+
+  no_whole : (pair : Lists) → IsWholePair shape new pair → pair.sdl.version ≡ Two → ⊥
+  no_whole pair whole two = elim (lost whole.sdl_area whole.sdl_copy.is_area) [
+    | inl dead ↦ held_alive IsSdlText (cell_at new (sdl_block shape whole.sdl_area)) pair.sdl whole.sdl_copy.holds (dies (sdl_block shape whole.sdl_area) dead)
+    | inr dead ↦ held_alive IsSdlSecond (cell_at new (sdl_second_block shape whole.sdl_area)) pair.sdl (whole.sdl_copy.holds' two) (dies (sdl_second_block shape whole.sdl_area) dead.1)
+  ]
+
+  lost_given : (other : Lists) → IsGiven shape new other → IsGiven shape old other
+  lost_given other given =
+      let whole = given.some_whole in
+      let its = its_version other given.dds_area given.dds_copy given.valid.together.same_version in
+      let theirs = its_version whole.0 whole.1.dds_area whole.1.dds_copy whole.1.valid.together.same_version in
+      elim (sdl_texts.version_cases other.sdl.version) [
+        | inr two ↦ absurd (no_whole whole.0 whole.1 (theirs ∙ sym its ∙ two))
+        | inl one ↦ record {
+          dds_area = given.dds_area;
+          dds_copy = back other.dds given.dds_area given.dds_copy;
+          first_area = given.first_area;
+          second_area = given.second_area;
+          sdl_parts = one_part other.sdl one given.first_area given.second_area given.sdl_parts;
+          valid = given.valid;
+          some_whole = (
+            whole.0,
+            record {
+              dds_area = whole.1.dds_area;
+              dds_copy = back whole.0.dds whole.1.dds_area whole.1.dds_copy;
+              sdl_area = whole.1.sdl_area;
+              sdl_copy = one_part whole.0.sdl (theirs ∙ sym its ∙ one) whole.1.sdl_area whole.1.sdl_area whole.1.sdl_copy;
+              valid = whole.1.valid;
+            },
+          );
+        }
+      ]
+
 -- a dead cell stays dead in the use that failed
 use_stays_dead : (old new : World) (block : ℕ) → IsUse old new block → (other : ℕ) → cell_at old.cells other ≡ Dead → cell_at new.cells other ≡ Dead
 use_stays_dead old new block one other dead = elim (cases_eq other block) [
@@ -102,7 +172,7 @@ failed_stays_dead : (old new : World) (block : ℕ) → FailsInUse old new block
 failed_stays_dead old new block (inl read) = use_stays_dead old new block read.2.one
 failed_stays_dead old new block (inr write) = use_stays_dead old new block write.1.one
 
-module _ {M : Type 0} (world : M → World) (block_count : M → ℕ) (reaches : M → M → ℕ → Type 0) (laws : MediumLaws world block_count reaches) (shape : Shape) (lists : Lists) (lawful : IsLawfulSdl lists.sdl) where
+module _ {M : Type 0} (world : M → World) (block_count : M → ℕ) (reaches : M → M → ℕ → Type 0) (laws : MediumLaws world block_count reaches) (shape : Shape) (lists : Lists) where
   stays_dead : (a b : M) (k : ℕ) → Continues world reaches a b k → (block : ℕ) → cell_at (world a).cells block ≡ Dead → cell_at (world b).cells block ≡ Dead
   stays_dead a b k continues = (laws.follows a b k continues.reach).lasts.stays_dead
 
@@ -111,42 +181,74 @@ module _ {M : Type 0} (world : M → World) (block_count : M → ℕ) (reaches :
   stop_stays_dead a b most stops.Off s block dead = ap (λ (w : World). cell_at w.cells block) s.nothing ∙ dead
   stop_stays_dead a b most stops.Fault s block dead = failed_stays_dead (world s.mid) (world b) s.block s.fails block ((laws.follows a s.mid s.before s.reach).lasts.stays_dead block dead)
 
-  -- a call of the structure's copies leaves the texts of the secondary list
-  parts_back : (a b : M) → ChangesCopiesAlone world reaches kinds.Dds shape a b → (w : Sdl) (x y : ℕ) → HasSdlParts shape (world b).cells w x y → HasSdlParts shape (world a).cells w x y
-  parts_back a b alone w x y parts = sdl_before shape (world a).cells (world b).cells w x y (inl (sdl_stay world reaches shape a b alone x)) (inl (seconds_stay_by_dds world reaches shape a b alone y)) parts
+  -- a call of the structure's copies leaves the cells of the secondary list
+  sdl_same : (a b : M) → ChangesCopiesAlone world reaches kinds.Dds shape a b ⊥ → (area : ℕ) → cell_at (world b).cells (sdl_block shape area) ≡ cell_at (world a).cells (sdl_block shape area)
+  sdl_same a b alone = sdl_stay world reaches shape a b alone
+
+  second_same : (a b : M) → ChangesCopiesAlone world reaches kinds.Dds shape a b ⊥ → (area : ℕ) → cell_at (world b).cells (sdl_second_block shape area) ≡ cell_at (world a).cells (sdl_second_block shape area)
+  second_same a b alone = seconds_stay_by_dds world reaches shape a b (λ t. t) alone
+
+  parts_back : (a b : M) → ChangesCopiesAlone world reaches kinds.Dds shape a b ⊥ → (w : Sdl) (x y : ℕ) → HasSdlParts shape (world b).cells w x y → HasSdlParts shape (world a).cells w x y
+  parts_back a b alone w x y parts = sdl_before shape (world a).cells (world b).cells w x y (inl (sdl_same a b alone x)) (inl (second_same a b alone y)) parts
+
+  -- a list that the repair did not come to
+  mends_none : (a b : M) → ChangesCopiesAlone world reaches kinds.Dds shape a b ⊥ → MendsSdl shape (world a).cells (world b).cells lists.sdl
+  mends_none a b alone = record {
+    may = record { firsts = λ area is. inl (sdl_same a b alone area); seconds = λ area is. inl (second_same a b alone area) };
+    stays_dead = record { firsts = λ area is dead. sdl_same a b alone area ∙ dead; seconds = λ area is dead. second_same a b alone area ∙ dead };
+    stops = record {
+      at = 0;
+      firsts = record { done = λ area is less. absurd (omega (arith, less)); to_come = λ area is more. inl (sdl_same a b alone area) };
+      seconds = λ two. record { done = λ area is less. absurd (omega (arith, less)); to_come = λ area is more. inl (second_same a b alone area) };
+      second_later = λ two. inl (inl (second_same a b alone 0));
+    };
+    spares = record { firsts = λ area is held. inl (sdl_same a b alone area); seconds = λ two area is held. inl (second_same a b alone area) };
+  }
 
   module _ (old one : M) (settled : AreSettled shape (world old).cells lists) where
-    first_stop : (stop : Stop) → StoppedWithin world reaches kinds.Dds shape old one 12 stop → MayLeaveCopies world reaches kinds.Dds shape old one (DdsValue lists.dds) → RewriteStopped world reaches shape old one lists stop
-    first_stop stop stopped left = record {
-      was_on = stopped.was_on;
-      stops = stops_within world block_count reaches laws old one 12 24 stop (omega arith) stopped.stops;
-      counts = stopped.counts;
-      as_known = stopped.alone.as_known;
-      only = dds_only world reaches shape old one stopped.alone;
+    first_stop : (stop : Stop) → StopsRepairing world reaches kinds.Dds shape old one (DdsValue lists.dds) stop → RewriteStopped world reaches shape old one lists stop
+    first_stop stop stopped = record {
+      was_on = stopped.within.was_on;
+      stops = stops_within world block_count reaches laws old one 12 (most_rewrite_uses lists.sdl) stop (omega arith) stopped.within.stops;
+      counts = stopped.within.counts;
+      as_known = stopped.within.alone.as_known;
+      only = dds_only world reaches shape old one stopped.within.alone;
       given = given_held shape (world old).cells (world one).cells
-          (copy_held IsDdsText (dds_block shape) dds_texts.one_text (world old).cells (world one).cells lists.dds settled.dds (stop_stays_dead old one 12 stop stopped.stops)
-          (λ area is. dds_may_hold (cell_at (world old).cells (dds_block shape area)) (cell_at (world one).cells (dds_block shape area)) lists.dds (left area is)))
-          (parts_back old one stopped.alone);
+          (copy_held IsDdsText (dds_block shape) dds_texts.one_text (world old).cells (world one).cells lists.dds settled.dds (stop_stays_dead old one 12 stop stopped.within.stops) mends.may)
+          (parts_back old one stopped.within.alone);
+      dds = mends;
+      sdl = mends_none old one stopped.within.alone;
     }
+      where
+        mends : MendsDds shape (world old).cells (world one).cells lists.dds
+        mends = dds_in_part shape (world old).cells (world one).cells lists.dds stopped.leaves stopped.spares
 
     pub first_ends : (stop : Stop) → StopsRepairingList world reaches shape old one kinds.Dds (DdsValue lists.dds) stop → StopsRewriting world reaches shape old one lists stop
-    first_ends stops.Cut h = first_stop stops.Cut h.0 h.1
+    first_ends stops.Cut h = first_stop stops.Cut h
     first_ends stops.Off h = h
-    first_ends stops.Fault h = first_stop stops.Fault h.0 h.1
+    first_ends stops.Fault h = first_stop stops.Fault h
 
     module _ (dds_kept : Bool) (did : HasRepairedList world reaches shape old one kinds.Dds (DdsValue lists.dds) dds_kept) where
-      dds_settled_one : Settled IsDdsText (dds_block shape) (world one).cells lists.dds
-      dds_settled_one = dds_settled shape (world one).cells lists.dds did.settled
+      abbrev dds_uses : ℕ
+      dds_uses = 4 + 2 * did.repairs.firsts
 
-      sdl_exact_one : SdlIsExact shape (world one).cells lists.sdl
-      sdl_exact_one = exact_same shape (world old).cells (world one).cells lists.sdl (λ area is. sdl_stay world reaches shape old one did.repairs.ends.alone area) (λ area is. seconds_stay_by_dds world reaches shape old one did.repairs.ends.alone area)
-          (sdl_settled_exact shape (world old).cells lists.sdl lawful.version_is settled.sdl)
+      no_seconds : did.repairs.seconds ≡ 0
+      no_seconds = did.repairs.none (λ t. t)
+
+      repaired : Continues world reaches old one dds_uses
+      repaired = subst (λ (n : ℕ). Continues world reaches old one n) same did.repairs.ends.continues
+        where
+          same : 4 * 1 + 2 * (did.repairs.firsts + did.repairs.seconds) ≡ dds_uses
+          same = let none = no_seconds in omega (arith, none)
+
+      dds_settled_one : Settled IsDdsText (dds_block shape) (world one).cells lists.dds
+      dds_settled_one = dds_exact shape lists.dds (world one).cells did.exact
 
       module _ (two : M) where
         -- a copy of the structure that can be read now could be before
         dds_held : ((area : ℕ) → cell_at (world two).cells (dds_block shape area) ≡ cell_at (world one).cells (dds_block shape area)) → (w : Dds) (area : ℕ)
             → HasCopy IsDdsText (dds_block shape) (world two).cells w area → HasCopy IsDdsText (dds_block shape) (world old).cells w area
-        dds_held same w area copy = copy_held IsDdsText (dds_block shape) dds_texts.one_text (world old).cells (world one).cells lists.dds settled.dds (stays_dead old one (4 + 2 * did.repairs.rewritten) did.repairs.ends.continues)
+        dds_held same w area copy = copy_held IsDdsText (dds_block shape) dds_texts.one_text (world old).cells (world one).cells lists.dds settled.dds (stays_dead old one dds_uses repaired)
             (λ at is. settled_may_hold IsDdsText (cell_at (world old).cells (dds_block shape at)) (cell_at (world one).cells (dds_block shape at)) lists.dds (dds_settled_one at is)) w area
             (copy_back IsDdsText (dds_block shape) (world one).cells (world two).cells same w area copy)
 
@@ -155,61 +257,100 @@ module _ {M : Type 0} (world : M → World) (block_count : M → ℕ) (reaches :
         later_counts stops.Off off = absurd (off.was_off did.repairs.ends.counts.stays_on)
         later_counts stops.Fault failed = record { turns_off = failed.turns_off; no_cut = failed.no_cut ∙ did.repairs.ends.counts.no_cut; fault = subst (λ (n : ℕ). Rose n (world two).faults) did.repairs.ends.counts.no_fault failed.fault }
 
-        second_stop : (stop : Stop) → StoppedWithin world reaches kinds.Sdl shape one two 12 stop → MayLeaveCopies world reaches kinds.Sdl shape one two (SdlValue lists.sdl) → RewriteStopped world reaches shape old two lists stop
-        second_stop stop stopped left = record {
+        second_stop : (stop : Stop) → StopsRepairing world reaches kinds.Sdl shape one two (SdlValue lists.sdl) stop → RewriteStopped world reaches shape old two lists stop
+        second_stop stop stopped = record {
           was_on = did.repairs.ends.was_on;
-          stops = stops_within world block_count reaches laws old two (4 + 2 * did.repairs.rewritten + 12) 24 stop (let few = did.repairs.few in omega (arith, few)) (stops_later world block_count reaches laws old one two (4 + 2 * did.repairs.rewritten) 12 stop did.repairs.ends.continues stopped.stops);
-          counts = later_counts stop stopped.counts;
-          as_known = stopped.alone.as_known ∙ did.repairs.ends.alone.as_known;
-          only = λ block away. sdl_only world reaches shape one two stopped.alone block away ∙ dds_only world reaches shape old one did.repairs.ends.alone block away;
-          given = given_held shape (world old).cells (world two).cells (dds_held (dds_stay world reaches shape one two stopped.alone))
-              (λ w a b parts. parts_back old one did.repairs.ends.alone w a b
-              (parts_held shape (world one).cells (world two).cells lists.sdl sdl_exact_one (stop_stays_dead one two 12 stop stopped.stops) (sdl_left world reaches shape one two lists.sdl stopped.alone left) w a b parts));
+          stops = stops_within world block_count reaches laws old two (dds_uses + 12 * parts_by lists.sdl.version) (most_rewrite_uses lists.sdl) stop few
+              (stops_later world block_count reaches laws old one two dds_uses (12 * parts_by lists.sdl.version) stop repaired stopped.within.stops);
+          counts = later_counts stop stopped.within.counts;
+          as_known = stopped.within.alone.as_known ∙ did.repairs.ends.alone.as_known;
+          only = λ block away. sdl_only world reaches shape one two stopped.within.alone block away ∙ dds_only world reaches shape old one did.repairs.ends.alone block away;
+          given = given;
+          dds = dds_to_end shape (world old).cells (world two).cells lists.dds
+              (settled_same IsDdsText (dds_block shape) (world one).cells (world two).cells stay lists.dds dds_settled_one)
+              (λ area is dead. stay area ∙ stays_dead old one dds_uses repaired (dds_block shape area) dead)
+              (λ area is held. elim (spares area is held) [ inl same ↦ inl (stay area ∙ same) | inr dead ↦ inr (stay area ∙ dead) ]);
+          sdl = mends;
         }
+          where
+            few : dds_uses + 12 * parts_by lists.sdl.version ≤ most_rewrite_uses lists.sdl
+            few = let most = did.repairs.few in let parts = parts_few lists.sdl.version in omega (arith, most, parts)
+
+            stay : (area : ℕ) → cell_at (world two).cells (dds_block shape area) ≡ cell_at (world one).cells (dds_block shape area)
+            stay = dds_stay world reaches shape one two stopped.within.alone
+
+            spares : (area : ℕ) → IsArea area → Holds IsDdsText (cell_at (world old).cells (dds_block shape area)) lists.dds → IsSameOrDead (cell_at (world old).cells (dds_block shape area)) (cell_at (world one).cells (dds_block shape area))
+            spares = dds_spares shape lists.dds (world old).cells (world one).cells did.repairs.spares
+
+            mends : MendsSdl shape (world old).cells (world two).cells lists.sdl
+            mends = sdl_from shape (world one).cells (world old).cells (world two).cells (λ area. sym (sdl_same old one did.repairs.ends.alone area)) (λ area. sym (second_same old one did.repairs.ends.alone area)) lists.sdl
+                (sdl_in_part shape (world one).cells (world two).cells lists.sdl stopped.leaves stopped.spares)
+
+            dies : (block : ℕ) → cell_at (world old).cells block ≡ Dead → cell_at (world two).cells block ≡ Dead
+            dies block dead = stop_stays_dead one two (12 * parts_by lists.sdl.version) stop stopped.within.stops block (stays_dead old one dds_uses repaired block dead)
+
+            given : (other : Lists) → IsGiven shape (world two).cells other → IsGiven shape (world old).cells other
+            given = elim (lost_decided shape (world old).cells lists.sdl) [
+              | inl lost ↦ lost_given shape (world old).cells (world two).cells lists.dds lists.sdl lost settled.dds (dds_held stay) dies mends.may
+              | inr not ↦ given_held shape (world old).cells (world two).cells (dds_held stay)
+                  (parts_held shape (world old).cells (world two).cells lists.sdl (settled.sdl (λ both. not both.0)) dies mends.may)
+            ]
 
         pub second_ends : (stop : Stop) → StopsRepairingList world reaches shape one two kinds.Sdl (SdlValue lists.sdl) stop → StopsRewriting world reaches shape old two lists stop
-        second_ends stops.Cut h = second_stop stops.Cut h.0 h.1
+        second_ends stops.Cut h = second_stop stops.Cut h
         second_ends stops.Off h = absurd (h.was_off did.repairs.ends.counts.stays_on)
-        second_ends stops.Fault h = second_stop stops.Fault h.0 h.1
+        second_ends stops.Fault h = second_stop stops.Fault h
 
         module _ (sdl_kept : Bool) (done : HasRepairedList world reaches shape one two kinds.Sdl (SdlValue lists.sdl) sdl_kept) where
+          abbrev sdl_uses : ℕ
+          sdl_uses = 4 * parts_by lists.sdl.version + 2 * (done.repairs.firsts + done.repairs.seconds)
+
+          -- as many cells were written again as by the cells at entry
+          from_entry : {V : Type 0} (text : V → List ℕ → Type 0) (place : ℕ → ℕ) (v : V) (n : ℕ) → ((area : ℕ) → cell_at (world one).cells (place area) ≡ cell_at (world old).cells (place area))
+              → Rewrites (λ (c : Cell). Holds text c v) place (world one).cells (world two).cells 4 n → Rewrites (λ (c : Cell). Holds text c v) place (world old).cells (world two).cells 4 n
+          from_entry text place v n same = rewrites_like (λ (c : Cell). Holds text c v) place (world one).cells (world two).cells (λ (c : Cell). Holds text c v) place (world old).cells (world two).cells 4 n
+              (λ area some most was. (subst (λ (c : Cell). Holds text c v) (same area) was.0, was.1))
+              (λ area some most was. (subst (λ (c : Cell). Holds text c v) (sym (same area)) was.0, was.1))
+
           both : RepairsBothLists world reaches shape old two lists
           both = record {
             was_on = did.repairs.ends.was_on;
-            dds_uses = 4 + 2 * did.repairs.rewritten;
+            dds_uses = dds_uses;
             dds = record {
-              rewritten = did.repairs.rewritten;
+              rewritten = did.repairs.firsts;
               few = did.repairs.few;
               uses_are = refl;
               rewrites = λ known.
-                  rewrites_like (λ (c : Cell). Holds IsDdsText c lists.dds) (dds_block shape) (world old).cells (world one).cells (λ (c : Cell). Holds IsDdsText c lists.dds) (dds_block shape) (world old).cells (world two).cells 4 did.repairs.rewritten
+                  rewrites_like (λ (c : Cell). Holds IsDdsText c lists.dds) (dds_block shape) (world old).cells (world one).cells (λ (c : Cell). Holds IsDdsText c lists.dds) (dds_block shape) (world old).cells (world two).cells 4 did.repairs.firsts
                   (λ area some most was. (was.0, subst (λ (c : Cell). Holds IsDdsText c lists.dds) (sym (dds_stay world reaches shape one two done.repairs.ends.alone area)) was.1))
                   (λ area some most was. (was.0, subst (λ (c : Cell). Holds IsDdsText c lists.dds) (dds_stay world reaches shape one two done.repairs.ends.alone area) was.1))
-                  (dds_rewritten shape (world old).cells (world one).cells lists.dds did.repairs.rewritten (did.repairs.rewrites known));
+                  (dds_rewritten shape lists.dds (world old).cells (world one).cells did.repairs.firsts did.repairs.seconds (did.repairs.rewrites known));
             };
-            sdl_uses = 4 + 2 * done.repairs.rewritten;
+            sdl_uses = sdl_uses;
             sdl = record {
-              rewritten = done.repairs.rewritten;
+              firsts = done.repairs.firsts;
+              seconds = done.repairs.seconds;
               few = done.repairs.few;
+              few' = done.repairs.few';
+              none = done.repairs.none;
               uses_are = refl;
-              rewrites = λ known.
-                  rewrites_like (λ (c : Cell). Holds IsSdlText c lists.sdl) (sdl_block shape) (world one).cells (world two).cells (λ (c : Cell). Holds IsSdlText c lists.sdl) (sdl_block shape) (world old).cells (world two).cells 4 done.repairs.rewritten
-                  (λ area some most was. (subst (λ (c : Cell). Holds IsSdlText c lists.sdl) (sdl_stay world reaches shape old one did.repairs.ends.alone area) was.0, was.1))
-                  (λ area some most was. (subst (λ (c : Cell). Holds IsSdlText c lists.sdl) (sym (sdl_stay world reaches shape old one did.repairs.ends.alone area)) was.0, was.1))
-                  (sdl_rewritten shape (world one).cells (world two).cells lists.sdl done.repairs.rewritten (done.repairs.rewrites (did.repairs.ends.alone.as_known ∙ known)));
+              of_firsts = λ known. from_entry IsSdlText (sdl_block shape) lists.sdl done.repairs.firsts (sdl_same old one did.repairs.ends.alone)
+                  (sdl_rewritten shape lists.sdl (world one).cells (world two).cells done.repairs.firsts done.repairs.seconds (done.repairs.rewrites (did.repairs.ends.alone.as_known ∙ known)));
+              of_seconds = λ has known. from_entry IsSdlSecond (sdl_second_block shape) lists.sdl done.repairs.seconds (second_same old one did.repairs.ends.alone)
+                  (seconds_rewritten shape lists.sdl (world one).cells (world two).cells done.repairs.firsts done.repairs.seconds (done.repairs.rewrites (did.repairs.ends.alone.as_known ∙ known)) has);
             };
-            continues = continues_then world block_count reaches laws old one two (4 + 2 * did.repairs.rewritten) (4 + 2 * done.repairs.rewritten) did.repairs.ends.continues done.repairs.ends.continues;
+            continues = continues_then world block_count reaches laws old one two dds_uses sdl_uses repaired done.repairs.ends.continues;
             counts = record { stays_on = done.repairs.ends.counts.stays_on; no_cut = done.repairs.ends.counts.no_cut ∙ did.repairs.ends.counts.no_cut; no_fault = done.repairs.ends.counts.no_fault ∙ did.repairs.ends.counts.no_fault };
             as_known = done.repairs.ends.alone.as_known ∙ did.repairs.ends.alone.as_known;
             only = λ block away. sdl_only world reaches shape one two done.repairs.ends.alone block away ∙ dds_only world reaches shape old one did.repairs.ends.alone block away;
             settled = record {
               dds = settled_same IsDdsText (dds_block shape) (world one).cells (world two).cells (dds_stay world reaches shape one two done.repairs.ends.alone) lists.dds dds_settled_one;
-              sdl = λ _. sdl_settled shape (world two).cells lists.sdl lawful.version_is done.settled;
+              sdl = λ _. sdl_exact shape lists.sdl (world two).cells done.exact;
             };
           }
 
-          dds_lost : AllLost (dds_block shape) (world one).cells → AllLost (dds_block shape) (world two).cells
-          dds_lost lost area is = dds_stay world reaches shape one two done.repairs.ends.alone area ∙ lost area is
+          dds_lost_two : AllLost (dds_block shape) (world one).cells → AllLost (dds_block shape) (world two).cells
+          dds_lost_two lost area is = dds_stay world reaches shape one two done.repairs.ends.alone area ∙ lost area is
 
           dds_not_lost : ¬ AllLost (dds_block shape) (world one).cells → ¬ AllLost (dds_block shape) (world two).cells
           dds_not_lost has lost = has (λ area is. sym (dds_stay world reaches shape one two done.repairs.ends.alone area) ∙ lost area is)
@@ -219,18 +360,18 @@ module _ {M : Type 0} (world : M → World) (block_count : M → ℕ) (reaches :
       → HasRepairedList world reaches shape one two kinds.Sdl (SdlValue lists.sdl) sdl_kept → RewritesBy world reaches shape old two lists (lost_of lists dds_kept sdl_kept)
   rewritten_by old one two settled true true did done = record {
     both = both old one settled true did two true done;
-    has_dds = λ known. dds_not_lost old one settled true did two true done (did.left known);
-    has_sdl = λ known lost. done.left (did.repairs.ends.alone.as_known ∙ known) (sdl_all_lost shape (world two).cells lists.sdl lawful.version_is lost);
+    has_dds = λ known. dds_not_lost old one settled true did two true done (λ lost. did.left known (dds_all_lost shape lists.dds (world one).cells lost));
+    has_sdl = λ known lost. done.left (did.repairs.ends.alone.as_known ∙ known) (sdl_all_lost shape lists.sdl (world two).cells lost);
   }
   rewritten_by old one two settled true false did done = record {
     both = both old one settled true did two false done;
-    lost = inr (λ known. dds_not_lost old one settled true did two false done (did.left known), sdl_lost shape (world two).cells lists.sdl done.left, refl);
+    lost = inr (λ known. dds_not_lost old one settled true did two false done (λ lost. did.left known (dds_all_lost shape lists.dds (world one).cells lost)), sdl_lost shape lists.sdl (world two).cells done.left, refl);
   }
   rewritten_by old one two settled false true did done = record {
     both = both old one settled false did two true done;
-    lost = inl (dds_lost old one settled false did two true done did.left, refl);
+    lost = inl (dds_lost_two old one settled false did two true done (dds_lost shape lists.dds (world one).cells did.left), refl);
   }
   rewritten_by old one two settled false false did done = record {
     both = both old one settled false did two false done;
-    lost = inl (dds_lost old one settled false did two false done did.left, refl);
+    lost = inl (dds_lost_two old one settled false did two false done (dds_lost shape lists.dds (world one).cells did.left), refl);
   }

@@ -28,7 +28,7 @@ use Rattle.model_places.specs.Places as places
 use Rattle.model_places.specs.Valid.{AreValid}
 use Rattle.model_volume.specs.Given.{IsGiven, IsListBlock}
 use Rattle.model_volume.specs.Covers.{FitsUnder, SomeFit}
-use Rattle.model_volume.proofs.ListCells.{dds_listed, sdl_listed}
+use Rattle.model_volume.proofs.ListCells.{dds_listed, sdl_listed, second_listed, no_data_block_second}
 use Rattle.model_formats.specs.Defects.{IsCertified, ChangesFormatted}
 use Rattle.model_formats.specs.Fresh.{formatting_dds, formatted_dds, fresh_sdl, fresh_lists}
 use Rattle.model_formats.specs.Stopped.{zero_disc}
@@ -38,10 +38,10 @@ use Rattle.model_formats.proofs.Marks.{marked_kept, marked_begun, marked_middle,
 use Rattle.ram_medium.specs.Laws.{MediumLaws}
 use Rattle.ram_medium.proofs.Parts.{continues_then, stops_later, stops_within}
 use Rattle.ram_zones.specs.declared.list_kind.ListKind.TheVariants as kinds
-use Rattle.ram_copies.specs.Values.{DdsValue, SdlValue}
-use Rattle.ram_copies.specs.Calls.{StoppedCounts, ChangesCopiesAlone, CallEnds, StoppedWithin, MayLeaveCopies}
+use Rattle.ram_copies.specs.Values.{DdsValue, SdlValue, HasTwo}
+use Rattle.ram_copies.specs.Calls.{StoppedCounts, ChangesCopiesAlone, CallEnds, StoppedWithin, LeavesCopies}
 use Rattle.model_copies.proofs.SdlParts.{exact_same}
-use Rattle.ram_copies.proofs.EachList.{dds_settled, dds_may_hold, sdl_settled, sdl_lost, sdl_lost_exact, sdl_all_lost, seconds_stay_by_dds}
+use Rattle.ram_copies.proofs.EachList.{dds_exact, dds_may, dds_lost, dds_all_lost, sdl_exact, sdl_lost, sdl_all_lost, seconds_stay_by_dds}
 use Rattle.ram_lists.proofs.MountSteps.{settled_same, sdl_stay, dds_stay}
 use Rattle.ram_certify.specs.Certifying.{certify_uses, ChangesCertifiedAlone, StopsCertifying}
 use Rattle.ram_format.specs.declared.ends.End.{End}
@@ -54,7 +54,6 @@ pub lawful_dds : (shape : Shape) (mark psa : ℕ) (entries : List PdlEntry) → 
     → IsStrictlyIncreasing (pdl_blocks entries) → All (Contains (data_blocks shape)) (pdl_blocks entries)
     → IsLawfulDds (record { version = One; counter = mark + 2; state = Formatted; psa = psa; entries = entries })
 lawful_dds shape mark psa entries lawful same room few rise all = record {
-  version_is = refl;
   counted = omega (arith, room);
   limits = record { some = omega (arith, same, lawful.some_spares); most = omega (arith, same, lawful.most_spares); few = omega (arith, same, few); fits = tt };
   list = record {
@@ -72,11 +71,11 @@ module _ {M : Type 0} (world : M → World) (block_count : M → ℕ) (reaches :
     (shape : Shape) (kept : List PdlEntry) (kind : PdlKind) (mark : ℕ) (room : mark + 2 ≤ 4294967295) where
   -- ---- what each step changes
 
-  dds_only : (old new : M) → ChangesCopiesAlone world reaches kinds.Dds shape old new → ChangesFormatted shape (Contains kept) (world old).cells (world new).cells
-  dds_only old new alone block away apart = alone.others block (λ area is same. away (subst (IsListBlock shape) (sym same) (dds_listed shape area is)))
+  dds_only : (old new : M) → {two : Type 0} → ChangesCopiesAlone world reaches kinds.Dds shape old new two → ChangesFormatted shape (Contains kept) (world old).cells (world new).cells
+  dds_only old new alone block away apart = alone.others block (λ area is same. away (subst (IsListBlock shape) (sym same) (dds_listed shape area is))) (λ two area is same. away (subst (IsListBlock shape) (sym same) (second_listed shape area is)))
 
-  sdl_only : (old new : M) → ChangesCopiesAlone world reaches kinds.Sdl shape old new → ChangesFormatted shape (Contains kept) (world old).cells (world new).cells
-  sdl_only old new alone block away apart = alone.others block (λ area is same. away (subst (IsListBlock shape) (sym same) (sdl_listed shape area is)))
+  sdl_only : (old new : M) → {two : Type 0} → ChangesCopiesAlone world reaches kinds.Sdl shape old new two → ChangesFormatted shape (Contains kept) (world old).cells (world new).cells
+  sdl_only old new alone block away apart = alone.others block (λ area is same. away (subst (IsListBlock shape) (sym same) (sdl_listed shape area is))) (λ two area is same. away (subst (IsListBlock shape) (sym same) (second_listed shape area is)))
 
   certified_only : (old new : M) → ChangesCertifiedAlone world reaches shape kept old new → ChangesFormatted shape (Contains kept) (world old).cells (world new).cells
   certified_only old new alone block away apart = alone.others block apart
@@ -84,11 +83,11 @@ module _ {M : Type 0} (world : M → World) (block_count : M → ℕ) (reaches :
   only_then : (a b c : M) → ChangesFormatted shape (Contains kept) (world a).cells (world b).cells → ChangesFormatted shape (Contains kept) (world b).cells (world c).cells → ChangesFormatted shape (Contains kept) (world a).cells (world c).cells
   only_then a b c one two block away apart = two block away apart ∙ one block away apart
 
-  data_stay_dds : (old new : M) → ChangesCopiesAlone world reaches kinds.Dds shape old new → (block : ℕ) → Contains (data_blocks shape) block → cell_at (world new).cells block ≡ cell_at (world old).cells block
-  data_stay_dds old new alone block is = alone.others block (λ area at same. no_data_block_dds shape area (subst (Contains (data_blocks shape)) same is))
+  data_stay_dds : (old new : M) → {two : Type 0} → ChangesCopiesAlone world reaches kinds.Dds shape old new two → (block : ℕ) → Contains (data_blocks shape) block → cell_at (world new).cells block ≡ cell_at (world old).cells block
+  data_stay_dds old new alone block is = alone.others block (λ area at same. no_data_block_dds shape area (subst (Contains (data_blocks shape)) same is)) (λ two area at same. no_data_block_second shape area (subst (Contains (data_blocks shape)) same is))
 
-  data_stay_sdl : (old new : M) → ChangesCopiesAlone world reaches kinds.Sdl shape old new → (block : ℕ) → Contains (data_blocks shape) block → cell_at (world new).cells block ≡ cell_at (world old).cells block
-  data_stay_sdl old new alone block is = alone.others block (λ area at same. no_data_block_sdl shape area (subst (Contains (data_blocks shape)) same is))
+  data_stay_sdl : (old new : M) → {two : Type 0} → ChangesCopiesAlone world reaches kinds.Sdl shape old new two → (block : ℕ) → Contains (data_blocks shape) block → cell_at (world new).cells block ≡ cell_at (world old).cells block
+  data_stay_sdl old new alone block is = alone.others block (λ area at same. no_data_block_sdl shape area (subst (Contains (data_blocks shape)) same is)) (λ two area at same. no_data_block_second shape area (subst (Contains (data_blocks shape)) same is))
 
   dds_certified_stay : (old new : M) → ChangesCertifiedAlone world reaches shape kept old new → (area : ℕ) → cell_at (world new).cells (dds_block shape area) ≡ cell_at (world old).cells (dds_block shape area)
   dds_certified_stay old new alone area = alone.others (dds_block shape area) (λ (c : IsCertified shape (Contains kept) (dds_block shape area)). no_data_block_dds shape area c.data_block)
@@ -98,7 +97,7 @@ module _ {M : Type 0} (world : M → World) (block_count : M → ℕ) (reaches :
 
   -- ---- how far it went
 
-  goes_first : (old new : M) → CallEnds world reaches kinds.Dds shape old new 8 → FormatGoes world reaches shape kept kind mark old new 8
+  goes_first : (old new : M) → CallEnds world reaches kinds.Dds shape old new ⊥ 8 → FormatGoes world reaches shape kept kind mark old new 8
   goes_first old new ended = record { was_on = ended.was_on; room = room; continues = ended.continues; counts = ended.counts; as_known = ended.alone.as_known; only = dds_only old new ended.alone }
 
   goes_then : (old mid new : M) (j k : ℕ) → FormatGoes world reaches shape kept kind mark old mid j → Continues world reaches mid new k → UseContinues (world mid) (world new) → (world new).known ≡ (world mid).known
@@ -121,7 +120,7 @@ module _ {M : Type 0} (world : M → World) (block_count : M → ℕ) (reaches :
   -- ---- the first update
 
   module _ (old one : M) (marked : AreMarkedWithin shape (world old).cells mark) (on : IsTrue (world old).power) where
-    first_stop : (stop : Stop) → StoppedWithin world reaches kinds.Dds shape old one 8 stop → MayLeaveCopies world reaches kinds.Dds shape old one (DdsValue (formatting_dds shape mark)) → FormatStopped world reaches shape kept kind mark old one stop
+    first_stop : (stop : Stop) → StoppedWithin world reaches kinds.Dds shape old one ⊥ 8 stop → LeavesCopies kinds.Dds shape (world old).cells (world one).cells (DdsValue (formatting_dds shape mark)) → FormatStopped world reaches shape kept kind mark old one stop
     first_stop stop stopped left = record {
       was_on = on;
       room = room;
@@ -135,19 +134,19 @@ module _ {M : Type 0} (world : M → World) (block_count : M → ℕ) (reaches :
       where
         before : (lists : places.Lists) → IsGiven shape (world one).cells lists → IsGiven shape (world old).cells lists
         before = given_in_first shape (world old).cells (world one).cells mark
-            (λ area is. dds_may_hold (cell_at (world old).cells (dds_block shape area)) (cell_at (world one).cells (dds_block shape area)) (formatting_dds shape mark) (left area is))
-            (sdl_stay world reaches shape old one stopped.alone) (seconds_stay_by_dds world reaches shape old one stopped.alone)
+            (dds_may shape (formatting_dds shape mark) (world old).cells (world one).cells left)
+            (sdl_stay world reaches shape old one stopped.alone) (seconds_stay_by_dds world reaches shape old one (λ t. t) stopped.alone)
 
     pub first_ends : (end : End) → EndsWritingList world reaches shape old one kinds.Dds (DdsValue (formatting_dds shape mark)) (mark + 1) mark end → EndsFormat world reaches shape kept kind mark old one end
     first_ends (ends.TooMany found left) h = absurd h
-    first_ends (ends.NoCopy due left) h = inl (record {
+    first_ends (ends.NoCopy due left) h = let lost = dds_lost shape (formatting_dds shape mark) (world one).cells h.1.lost in inl (record {
       goes = goes_first old one h.0;
-      lost = h.1;
+      lost = lost;
       counter_is = h.2;
       left_is = h.3;
       leaves = record {
-        gives_none = lost_gives_none shape (world one).cells h.1;
-        marked = subst (AreMarkedWithin shape (world one).cells) (sym h.3) (marked_kept shape mark (world old).cells (world one).cells marked h.1 (sdl_stay world reaches shape old one h.0.alone));
+        gives_none = lost_gives_none shape (world one).cells lost;
+        marked = subst (AreMarkedWithin shape (world one).cells) (sym h.3) (marked_kept shape mark (world old).cells (world one).cells marked lost (sdl_stay world reaches shape old one h.0.alone));
       };
     })
     first_ends ends.Cut h = first_stop stops.Cut h.0 h.1
@@ -159,7 +158,7 @@ module _ {M : Type 0} (world : M → World) (block_count : M → ℕ) (reaches :
       gone_one = goes_first old one did.ended
 
       formatting_one : Settled IsDdsText (dds_block shape) (world one).cells (formatting_dds shape mark)
-      formatting_one = dds_settled shape (world one).cells (formatting_dds shape mark) did.settled
+      formatting_one = dds_exact shape (formatting_dds shape mark) (world one).cells did.exact
 
       -- ---- the certification
 
@@ -239,13 +238,13 @@ module _ {M : Type 0} (world : M → World) (block_count : M → ℕ) (reaches :
           -- ---- the update of the secondary list
 
           module _ (three : M) where
-            stays_three : ChangesCopiesAlone world reaches kinds.Sdl shape two three → Settled IsDdsText (dds_block shape) (world three).cells (formatting_dds shape mark)
+            stays_three : {two_parts : Type 0} → ChangesCopiesAlone world reaches kinds.Sdl shape two three two_parts → Settled IsDdsText (dds_block shape) (world three).cells (formatting_dds shape mark)
             stays_three alone = settled_same IsDdsText (dds_block shape) (world two).cells (world three).cells (dds_stay world reaches shape two three alone) (formatting_dds shape mark) formatting_two
 
-            gone_three : CallEnds world reaches kinds.Sdl shape two three 8 → FormatGoes world reaches shape kept kind mark old three (8 + certify_uses world reaches shape kept one two + 8)
+            gone_three : CallEnds world reaches kinds.Sdl shape two three (HasTwo (SdlValue (fresh_sdl mark))) 8 → FormatGoes world reaches shape kept kind mark old three (8 + certify_uses world reaches shape kept one two + 8)
             gone_three ended = goes_then old two three (8 + certify_uses world reaches shape kept one two) 8 gone_two ended.continues ended.counts ended.alone.as_known (sdl_only two three ended.alone)
 
-            third_stop : (stop : Stop) → StoppedWithin world reaches kinds.Sdl shape two three 8 stop → FormatStopped world reaches shape kept kind mark old three stop
+            third_stop : (stop : Stop) → StoppedWithin world reaches kinds.Sdl shape two three (HasTwo (SdlValue (fresh_sdl mark))) 8 stop → FormatStopped world reaches shape kept kind mark old three stop
             third_stop stop stopped = stopped_formatting three (8 + certify_uses world reaches shape kept one two) 8 two gone_two (omega arith) stop stopped.stops stopped.counts stopped.alone.as_known
                 (sdl_only two three stopped.alone) (stays_three stopped.alone)
 
@@ -254,12 +253,12 @@ module _ {M : Type 0} (world : M → World) (block_count : M → ℕ) (reaches :
             third_ends (ends.NoCopy due left) h = inr (inl (record {
               goes = gone_three h.0;
               few = few_at three (data_stay_sdl two three h.0.alone);
-              lost = sdl_lost shape (world three).cells (fresh_sdl mark) h.1;
+              lost = sdl_lost shape (fresh_sdl mark) (world three).cells h.1.lost;
               counter_is = h.2;
               left_is = h.3;
               leaves = record {
                 gives_none = formatting_gives_none shape (world three).cells mark (stays_three h.0.alone);
-                marked = subst (AreMarkedWithin shape (world three).cells) (sym h.3) (marked_middle shape mark (world three).cells (stays_three h.0.alone) (sdl_lost_exact shape (world three).cells (fresh_sdl mark) refl h.1));
+                marked = subst (AreMarkedWithin shape (world three).cells) (sym h.3) (marked_middle shape mark (world three).cells (stays_three h.0.alone) (sdl_exact shape (fresh_sdl mark) (world three).cells h.1.exact));
               };
             }))
             third_ends ends.Cut h = third_stop stops.Cut h.0
@@ -271,7 +270,7 @@ module _ {M : Type 0} (world : M → World) (block_count : M → ℕ) (reaches :
               formatting_three = stays_three done.ended.alone
 
               fresh_three : SdlIsExact shape (world three).cells (fresh_sdl mark)
-              fresh_three = sdl_settled shape (world three).cells (fresh_sdl mark) refl done.settled
+              fresh_three = sdl_exact shape (fresh_sdl mark) (world three).cells done.exact
 
               pub valid : AreValid shape (fresh_lists shape mark entries)
               valid = fresh_valid shape mark entries lawful few.defects.rise few.defects.data_only few.few
@@ -279,16 +278,16 @@ module _ {M : Type 0} (world : M → World) (block_count : M → ℕ) (reaches :
               -- ---- the last update of the structure
 
               module _ (four : M) where
-                data_stay : ChangesCopiesAlone world reaches kinds.Dds shape three four → (block : ℕ) → Contains (data_blocks shape) block → cell_at (world four).cells block ≡ cell_at (world two).cells block
+                data_stay : ChangesCopiesAlone world reaches kinds.Dds shape three four ⊥ → (block : ℕ) → Contains (data_blocks shape) block → cell_at (world four).cells block ≡ cell_at (world two).cells block
                 data_stay alone block is = data_stay_dds three four alone block is ∙ data_stay_sdl two three done.ended.alone block is
 
-                fresh_four : ChangesCopiesAlone world reaches kinds.Dds shape three four → SdlIsExact shape (world four).cells (fresh_sdl mark)
-                fresh_four alone = exact_same shape (world three).cells (world four).cells (fresh_sdl mark) (λ area is. sdl_stay world reaches shape three four alone area) (λ area is. seconds_stay_by_dds world reaches shape three four alone area) fresh_three
+                fresh_four : ChangesCopiesAlone world reaches kinds.Dds shape three four ⊥ → SdlIsExact shape (world four).cells (fresh_sdl mark)
+                fresh_four alone = exact_same shape (world three).cells (world four).cells (fresh_sdl mark) (λ area is. sdl_stay world reaches shape three four alone area) (λ area is. seconds_stay_by_dds world reaches shape three four (λ t. t) alone area) fresh_three
 
-                gone_four : CallEnds world reaches kinds.Dds shape three four 8 → FormatGoes world reaches shape kept kind mark old four (uses_of_all world reaches shape kept kind mark old four)
+                gone_four : CallEnds world reaches kinds.Dds shape three four ⊥ 8 → FormatGoes world reaches shape kept kind mark old four (uses_of_all world reaches shape kept kind mark old four)
                 gone_four ended = goes_then old three four (8 + certify_uses world reaches shape kept one two + 8) 8 (gone_three done.ended) ended.continues ended.counts ended.alone.as_known (dds_only three four ended.alone)
 
-                zeros_cover : ChangesCopiesAlone world reaches kinds.Dds shape three four → (world old).known ≡ true → FitsUnder shape (world four).cells (fresh_lists shape mark entries) (zero_disc shape)
+                zeros_cover : ChangesCopiesAlone world reaches kinds.Dds shape three four ⊥ → (world old).known ≡ true → FitsUnder shape (world four).cells (fresh_lists shape mark entries) (zero_disc shape)
                 zeros_cover alone known = zeros_fit shape (world four).cells mark entries valid (λ block is apart.
                     (still_defects four (data_stay alone)).certified known block (record { data_block = is; not_kept = λ entry has same. apart (subst (Contains (pdl_blocks entries)) same (listed entry has)) }))
                   where
@@ -298,7 +297,7 @@ module _ {M : Type 0} (world : M → World) (block_count : M → ℕ) (reaches :
                         let at = get_or-map (λ (e : PdlEntry). e.block) entries in_all.0 entry entry.block in_all.1 in
                         (in_all.0, omega (arith, in_all.1, length-map entries (λ (e : PdlEntry). e.block)), at ∙ ap (λ (e : PdlEntry). e.block) in_all.2)
 
-                fourth_stop : (stop : Stop) → StoppedWithin world reaches kinds.Dds shape three four 8 stop → MayLeaveCopies world reaches kinds.Dds shape three four (DdsValue (formatted_dds shape mark entries)) → FormatStopped world reaches shape kept kind mark old four stop
+                fourth_stop : (stop : Stop) → StoppedWithin world reaches kinds.Dds shape three four ⊥ 8 stop → LeavesCopies kinds.Dds shape (world three).cells (world four).cells (DdsValue (formatted_dds shape mark entries)) → FormatStopped world reaches shape kept kind mark old four stop
                 fourth_stop stop stopped left = record {
                   was_on = on;
                   room = room;
@@ -316,20 +315,20 @@ module _ {M : Type 0} (world : M → World) (block_count : M → ℕ) (reaches :
                   where
                     are_fresh : (lists : places.Lists) → IsGiven shape (world four).cells lists → lists ≡ fresh_lists shape mark entries
                     are_fresh = given_in_last shape (world three).cells (world four).cells mark entries
-                        (λ area is. dds_may_hold (cell_at (world three).cells (dds_block shape area)) (cell_at (world four).cells (dds_block shape area)) (formatted_dds shape mark entries) (left area is))
+                        (dds_may shape (formatted_dds shape mark entries) (world three).cells (world four).cells left)
                         formatting_three (fresh_four stopped.alone)
 
                 pub fourth_ends : (end : End) → EndsWritingList world reaches shape three four kinds.Dds (DdsValue (formatted_dds shape mark entries)) (mark + 2) (mark + 2) end → EndsFormat world reaches shape kept kind mark old four end
                 fourth_ends (ends.TooMany found left) h = absurd h
-                fourth_ends (ends.NoCopy due left) h = inr (inr (record {
+                fourth_ends (ends.NoCopy due left) h = let lost = dds_lost shape (formatted_dds shape mark entries) (world four).cells h.1.lost in inr (inr (record {
                   goes = gone_four h.0;
                   few = few_at four (data_stay h.0.alone);
-                  lost = h.1;
+                  lost = lost;
                   counter_is = h.2;
                   left_is = h.3;
                   leaves = record {
-                    gives_none = lost_gives_none shape (world four).cells h.1;
-                    marked = subst (AreMarkedWithin shape (world four).cells) (sym h.3) (marked_last shape mark (world four).cells h.1 (fresh_four h.0.alone));
+                    gives_none = lost_gives_none shape (world four).cells lost;
+                    marked = subst (AreMarkedWithin shape (world four).cells) (sym h.3) (marked_last shape mark (world four).cells lost (fresh_four h.0.alone));
                   };
                 }))
                 fourth_ends ends.Cut h = fourth_stop stops.Cut h.0 h.1
@@ -345,8 +344,11 @@ module _ {M : Type 0} (world : M → World) (block_count : M → ℕ) (reaches :
                   defects = still_defects four (data_stay last.ended.alone);
                   valid = valid;
                   lawful_dds = lawful_list;
-                  lawful_sdl = record { version_is = refl; counted = omega arith; dds_counted = omega (arith, room); limits = record { most = omega arith; few = omega arith }; list = record { rise = λ k h. absurd (omega arith); numbers = λ k d h. absurd (omega arith) } };
-                  settled = record { dds = dds_settled shape (world four).cells (formatted_dds shape mark entries) last.settled; sdl = λ _. fresh_four last.ended.alone };
-                  has_dds = λ known lost. last.not_lost (done.ended.alone.as_known ∙ few.defects.alone.as_known ∙ known_one known) lost;
-                  has_sdl = λ known lost. done.not_lost (few.defects.alone.as_known ∙ known_one known) (λ area is. sym (sdl_stay world reaches shape three four last.ended.alone area) ∙ sdl_all_lost shape (world four).cells (fresh_sdl mark) refl lost area is);
+                  lawful_sdl = record { counted = omega arith; dds_counted = omega (arith, room); limits = record { most = omega arith; few = omega arith }; list = record { rise = λ k h. absurd (omega arith); numbers = λ k d h. absurd (omega arith) } };
+                  settled = record { dds = dds_exact shape (formatted_dds shape mark entries) (world four).cells last.exact; sdl = λ _. fresh_four last.ended.alone };
+                  has_dds = λ known lost. last.not_lost (done.ended.alone.as_known ∙ few.defects.alone.as_known ∙ known_one known) (dds_all_lost shape (formatted_dds shape mark entries) (world four).cells lost);
+                  has_sdl = λ known lost. done.not_lost (few.defects.alone.as_known ∙ known_one known) (λ area is. elim (lost area is) [
+                    | inl dead ↦ inl (sym (sdl_stay world reaches shape three four last.ended.alone area) ∙ dead)
+                    | inr dead ↦ inr (dead.0, sym (seconds_stay_by_dds world reaches shape three four (λ t. t) last.ended.alone area) ∙ dead.1)
+                  ]);
                 }

@@ -10,12 +10,10 @@ use Rattle.model_lists.specs.Values.{pdl_blocks}
 use Rattle.model_medium.specs.World.{World, UseContinues, IsOff}
 use Rattle.model_stops.specs.Stops.{Continues}
 use Rattle.model_stops.specs.declared.Stop.TheVariants as stops
-use Rattle.model_copies.specs.Copies.{Settled}
 use Rattle.model_formats.specs.Defects.{AreCertified, AreDefective}
 use Rattle.ram_zones.specs.declared.list_kind.ListKind.{ListKind}
-use Rattle.ram_zones.specs.ListKind.{list_block}
-use Rattle.ram_copies.specs.Values.{ListValue, IsText}
-use Rattle.ram_copies.specs.Calls.{CallEnds, StoppedWithin, LeavesNone, MayLeaveCopies}
+use Rattle.ram_copies.specs.Values.{ListValue, HasTwo}
+use Rattle.ram_copies.specs.Calls.{CallEnds, StoppedWithin, IsExact, IsLost, KeepsNone, LeavesCopies, update_uses}
 use Rattle.ram_certify.specs.Certifying.{certify_uses, ChangesCertifiedAlone, StopsCertifying}
 use Rattle.ram_format.specs.declared.ends.End.{End}
 use Rattle.ram_format.specs.declared.ends.End.TheVariants as ends
@@ -26,23 +24,25 @@ kind_by first = if first then pdl_kinds.P else pdl_kinds.G1
 
 module _ {M : Type 0} (world : M → World) (reaches : M → M → ℕ → Type 0) (shape : Shape) (old new : M) where
   module _ (kind : ListKind) (value : ListValue) where
-    -- Each copy was written and read back, and one at least can be read. (This project's own, as all here.)
+    -- Each cell was written and read back, and one copy at least can be read. (This project's own.)
     pub record HasWrittenList : Type 0 where
-      pub ended : CallEnds world reaches kind shape old new 8
-      pub settled : Settled (IsText kind) (λ area. list_block shape area kind) (world new).cells value
-      pub not_lost : (world old).known ≡ true → ¬ LeavesNone world reaches kind shape old new
+      pub ended : CallEnds world reaches kind shape old new (HasTwo value) (update_uses value)
+      pub exact : IsExact kind shape (world new).cells value
+      pub not_lost : (world old).known ≡ true → ¬ IsLost kind shape (world new).cells value
 
     -- the update ended before its end, or left no copy: then the counter that was due and the mark from now on are these
     abbrev pub EndsWritingList : (counter mark : ℕ) → End → Type 0
     EndsWritingList counter mark (ends.TooMany found left) = ⊥
     EndsWritingList counter mark (ends.NoCopy due left) =
-        CallEnds world reaches kind shape old new 8 × LeavesNone world reaches kind shape old new
-        × (due ≡ counter) × (left ≡ mark)
+        CallEnds world reaches kind shape old new (HasTwo value) (update_uses value)
+        × KeepsNone world reaches kind shape old new value × (due ≡ counter) × (left ≡ mark)
     EndsWritingList counter mark ends.Cut =
-        StoppedWithin world reaches kind shape old new 8 stops.Cut × MayLeaveCopies world reaches kind shape old new value
+        StoppedWithin world reaches kind shape old new (HasTwo value) (update_uses value) stops.Cut
+        × LeavesCopies kind shape (world old).cells (world new).cells value
     EndsWritingList counter mark ends.Off = IsOff (world old) (world new)
     EndsWritingList counter mark ends.Fault =
-        StoppedWithin world reaches kind shape old new 8 stops.Fault × MayLeaveCopies world reaches kind shape old new value
+        StoppedWithin world reaches kind shape old new (HasTwo value) (update_uses value) stops.Fault
+        × LeavesCopies kind shape (world old).cells (world new).cells value
 
   module _ (kept : List PdlEntry) (kind : PdlKind) where
     -- The data blocks that are not kept were certified: these entries are the kept ones and those of the dead blocks.

@@ -1,41 +1,45 @@
 -- What a rewriting format does, by its answer: for `rewrite`.
-use Rattle.std.specs.Prelude.{◌≡◌, ℕ, ◌+◌, ◌⊎◌, Bool, MatchBool, true, false, IsTrue, Option, Some, None}
-use Rattle.model_geometry.specs.Geometry.{Shape, dds_block, sdl_block}
-use Rattle.model_lists.specs.Texts.{IsDdsText, IsSdlText}
+use Rattle.std.specs.Prelude.{◌≡◌, ℕ, ◌+◌, ◌*◌, ◌⊎◌, Bool, MatchBool, true, false, IsTrue, Option, Some, None}
+use Rattle.model_geometry.specs.Geometry.{Shape, dds_block}
+use Rattle.model_lists.specs.Values.{Sdl, parts_by}
+use Rattle.model_lists.specs.Texts.{IsDdsText}
 use Rattle.model_medium.specs.World.{World, UseContinues, IsOff}
 use Rattle.model_stops.specs.Stops.{Continues, Stops}
 use Rattle.model_stops.specs.declared.Stop.{Stop}
 use Rattle.model_stops.specs.declared.Stop.TheVariants as stops
-use Rattle.model_copies.specs.Copies.{Settled, AllLost}
+use Rattle.model_copies.specs.Copies.{AllLost}
 use Rattle.model_copies.specs.Parts.{SdlIsLost}
 use Rattle.model_places.specs.Places.{Lists}
 use Rattle.model_volume.specs.Given.{IsGiven, AreSettled, OnlyLists}
 use Rattle.ram_zones.specs.declared.list_kind.ListKind.{ListKind}
-use Rattle.ram_zones.specs.ListKind.{list_block}
-use Rattle.ram_copies.specs.Values.{ListValue, IsText}
-use Rattle.ram_copies.specs.Calls.{StoppedCounts, StoppedWithin, LeavesNone, MayLeaveCopies, Repairs}
-use Rattle.ram_lists.specs.Mounts.{RepairsCopies}
+use Rattle.ram_copies.specs.Values.{ListValue}
+use Rattle.ram_copies.specs.Calls.{StoppedCounts, IsExact, IsLost, Repairs, StopsRepairing}
+use Rattle.ram_lists.specs.Mends.{MendsDds, MendsSdl}
+use Rattle.ram_lists.specs.Mounts.{RepairsCopies, RepairsParts}
 use Rattle.ram_format.specs.declared.rewriting.Rewritten.{Rewritten}
 use Rattle.ram_format.specs.declared.rewriting.Rewritten.TheVariants as rewrites
 
+-- how many uses a rewriting format of these lists takes at most: it repairs the structure and the secondary list (this
+-- project's own, as all here)
+abbrev pub most_rewrite_uses : Sdl → ℕ
+most_rewrite_uses sdl = 12 + (4 * parts_by sdl.version + 16)
+
 module _ {M : Type 0} (world : M → World) (reaches : M → M → ℕ → Type 0) (shape : Shape) (old new : M) where
   module _ (kind : ListKind) (value : ListValue) where
-    -- The copies of a list were repaired, and are settled: one at least can be read, or all are dead. (This project's own,
-    -- as all here.)
+    -- The copies of a list were repaired, and each of their cells is exactly its part or dead: one copy at least can be read,
+    -- or none is left.
     pub record HasRepairedList (kept : Bool) : Type 0 where
       pub repairs : Repairs world reaches kind shape old new value
-      pub settled : Settled (IsText kind) (λ area. list_block shape area kind) (world new).cells value
+      pub exact : IsExact kind shape (world new).cells value
       pub left : MatchBool kept
-          ((world old).known ≡ true → ¬ LeavesNone world reaches kind shape old new)
-          (LeavesNone world reaches kind shape old new)
+          ((world old).known ≡ true → ¬ IsLost kind shape (world new).cells value)
+          (IsLost kind shape (world new).cells value)
 
     -- the repair was stopped
     abbrev pub StopsRepairingList : Stop → Type 0
-    StopsRepairingList stops.Cut =
-        StoppedWithin world reaches kind shape old new 12 stops.Cut × MayLeaveCopies world reaches kind shape old new value
+    StopsRepairingList stops.Cut = StopsRepairing world reaches kind shape old new value stops.Cut
     StopsRepairingList stops.Off = IsOff (world old) (world new)
-    StopsRepairingList stops.Fault =
-        StoppedWithin world reaches kind shape old new 12 stops.Fault × MayLeaveCopies world reaches kind shape old new value
+    StopsRepairingList stops.Fault = StopsRepairing world reaches kind shape old new value stops.Fault
 
   module _ (lists : Lists) where
     -- Both lists were repaired, and are settled: no other cell changed.
@@ -44,7 +48,7 @@ module _ {M : Type 0} (world : M → World) (reaches : M → M → ℕ → Type 
       pub dds_uses : ℕ
       pub dds : RepairsCopies IsDdsText (dds_block shape) (world old) (world new) lists.dds dds_uses
       pub sdl_uses : ℕ
-      pub sdl : RepairsCopies IsSdlText (sdl_block shape) (world old) (world new) lists.sdl sdl_uses
+      pub sdl : RepairsParts shape (world old) (world new) lists.sdl sdl_uses
       pub continues : Continues world reaches old new (dds_uses + sdl_uses)
       pub counts : UseContinues (world old) (world new)
       pub as_known : (world new).known ≡ (world old).known
@@ -69,14 +73,17 @@ module _ {M : Type 0} (world : M → World) (reaches : M → M → ℕ → Type 
     RewritesBy None = HaveCopies
     RewritesBy (Some counter) = LacksCopies counter
 
-    -- It was stopped, for a cause that its count shows: lists that the cells give now they gave before.
+    -- It was stopped, for a cause that its count shows: lists that the cells give now they gave before. The copies of both
+    -- lists were repaired up to where that was stopped; a list to which it did not come has the area 0.
     pub record RewriteStopped (stop : Stop) : Type 0 where
       pub was_on : IsTrue (world old).power
-      pub stops : Stops world reaches old new 24 stop
+      pub stops : Stops world reaches old new (most_rewrite_uses lists.sdl) stop
       pub counts : StoppedCounts (world old) (world new) stop
       pub as_known : (world new).known ≡ (world old).known
       pub only : OnlyLists shape (world old).cells (world new).cells
       pub given : (other : Lists) → IsGiven shape (world new).cells other → IsGiven shape (world old).cells other
+      pub dds : MendsDds shape (world old).cells (world new).cells lists.dds
+      pub sdl : MendsSdl shape (world old).cells (world new).cells lists.sdl
 
     abbrev pub StopsRewriting : Stop → Type 0
     StopsRewriting stops.Cut = RewriteStopped stops.Cut

@@ -6,52 +6,54 @@ use Rattle.std.proofs.lemmas.Bool.{cases_Bool, true≢false}
 use Rattle.model_counts.specs.Counts.{counted, Rose}
 use Rattle.model_geometry.specs.Geometry.{Shape, dds_block, sdl_block, sdl_second_block}
 use Rattle.model_lists.specs.Values.{Dds, Sdl}
+use Rattle.model_lists.specs.declared.versions.Version.{Version}
+use Rattle.model_lists.specs.declared.versions.Version.TheVariants.{One, Two}
 use Rattle.model_lists.specs.Texts.{IsDdsText, IsTwo, IsSdlText, IsSdlSecond}
 use Rattle.model_lists.specs.declared.dds.DdsState.{DdsState}
 use Rattle.model_lists.specs.declared.dds.DdsState.TheVariants.{Formatting, Formatted}
-use Rattle.model_medium.specs.Cells.{Cell, Blank, Good, Torn, Dead, IsSameOrDead, cell_at}
+use Rattle.model_medium.specs.Cells.{Cell, Dead, IsSameOrDead, cell_at}
 use Rattle.model_medium.specs.World.{World, UseContinues}
 use Rattle.model_stops.specs.Stops.{Continues}
 use Rattle.model_stops.specs.declared.Stop.{Stop}
 use Rattle.model_stops.specs.declared.Stop.TheVariants as stops
 use Rattle.model_copies.specs.Copies.{IsArea, Holds, HoldsOrDead, MayHold, HasCopy, HasDdsCopy, Settled, IsChosen, NoneChosen, IsGreatestMark, IsSeen, HoldNothingNew}
-use Rattle.model_copies.specs.Parts.{HasSdlCopy, Names, AreMarkedWithin, Mark, PartsHoldNothingNew}
-use Rattle.model_copies.proofs.SdlParts.{sdl_before, sdl_repaired as parts_repaired}
+use Rattle.model_copies.specs.Parts.{HasSdlCopy, SdlIsExact, Names, AreMarkedWithin, Mark, MayLeaveParts, PartsHoldNothingNew, CountMores}
+use Rattle.model_copies.proofs.SdlParts.{sdl_before, sdl_two_decided, sdl_repaired as parts_repaired}
 use Rattle.model_copies.proofs.CopyFacts.{copy_settled}
 use Rattle.model_copies.proofs.Marking.{greater_mark}
 use Rattle.model_copies.proofs.Rewriting.{rewrites_seen}
 use Rattle.model_copies.proofs.NothingNew.{nothing_new_from_dead, nothing_new_from_write, nothing_new_then}
 use Rattle.model_places.specs.Places.{Lists}
 use Rattle.model_places.specs.Valid.{IsValidPdl}
-use Rattle.model_volume.specs.Given.{IsWholePair, IsGiven, GivesNone, FitsDds, IsChosenDds, IsChosenSdl, NoDdsChosen, NoSdlChosen, IsListBlock, OnlyLists, AreSeen}
+use Rattle.model_volume.specs.Given.{IsWholePair, IsGiven, GivesNone, IsChosenDds, IsChosenSdl, NoDdsChosen, NoSdlChosen, AreChosen, IsListBlock, OnlyLists, AreSeen}
 use Rattle.model_lists.proofs.DdsTexts as dds_texts
 use Rattle.model_volume.proofs.Updates.{dds_no_sdl}
-use Rattle.model_volume.proofs.GivenFacts.{none_lacking, given_before, given_in_dds_repair, given_others, exact_settled, bare_without_dds, bare_formatting, bare_without_sdl}
-use Rattle.model_volume.proofs.ListCells.{dds_listed, sdl_listed, seen_by, dds_seen, sdl_seen, loses_seen}
+use Rattle.model_volume.proofs.GivenFacts.{chosen_whole, none_lacking, given_before, given_in_dds_repair, given_others, exact_settled, bare_without_dds, bare_formatting, bare_without_sdl}
+use Rattle.model_volume.proofs.ListCells.{dds_listed, sdl_listed, second_listed, seen_by, dds_seen, sdl_seen, second_seen, loses_seen}
 use Rattle.ram_medium.specs.Laws.{MediumLaws}
 use Rattle.ram_medium.proofs.Parts.{continues_then, stops_later, stops_within}
 use Rattle.ram_zones.specs.declared.list_kind.ListKind.{ListKind}
 use Rattle.ram_zones.specs.declared.list_kind.ListKind.TheVariants as kinds
-use Rattle.ram_copies.specs.Values.{ListValue, DdsValue, SdlValue, IsText}
-use Rattle.ram_copies.specs.Calls.{StoppedCounts, ChangesCopiesAlone, CallEnds, StoppedWithin, MayLeaveCopies}
-use Rattle.ram_copies.specs.Chooses.{SawCopies, Finds, FindsNone}
-use Rattle.ram_copies.proofs.EachList.{dds_settled, dds_chosen, dds_none, dds_marked, dds_may_hold, dds_rewritten, sdl_any, sdl_own, sdl_settled, sdl_none, sdl_marked, sdl_rewritten, sdl_left, seconds_stay, seconds_stay_by_dds}
+use Rattle.ram_copies.specs.Values.{ListValue, DdsValue, SdlValue}
+use Rattle.ram_copies.proofs.PartsOf.{parts_few}
+use Rattle.ram_copies.specs.Choices.{MayHaveTwo}
+use Rattle.ram_copies.specs.Calls.{StoppedCounts, ChangesCopiesAlone, CallEnds, StoppedWithin, StopsRepairing, repair_uses, most_repair_uses}
+use Rattle.ram_copies.specs.Chooses.{SawCopies, StopsChoosing, Finds, FindsNone}
+use Rattle.ram_copies.proofs.Areas.{second_no_dds, second_no_sdl}
+use Rattle.ram_copies.proofs.EachList.{dds_exact, dds_may, dds_spares, dds_rewritten, sdl_exact, sdl_may, sdl_rewritten, seconds_rewritten, seconds_stay_by_dds}
+use Rattle.ram_copies.proofs.EachChoice.{dds_uses as four_uses, dds_chosen, dds_none, dds_marked, sdl_few, sdl_copy, sdl_no_better, sdl_none, sdl_marked, sdl_counted}
 use Rattle.ram_lists.specs.Lists.{AcceptsDds, AcceptsSdl, AcceptsNothing}
 use Rattle.ram_lists.specs.Parts.{HasPicked, EndsPicking, PicksBest, IsMended, EndsMending}
-use Rattle.ram_lists.specs.Mounts.{KeepsGiven, RepairsCopies, WasStopped, EndsWithLists, EndsBare, EndRule}
+use Rattle.ram_lists.specs.Mends.{MendsDds, SdlCellsDie, StopsMounting}
+use Rattle.ram_lists.specs.Mounts.{KeepsGiven, RepairsCopies, RepairsParts, WasStopped, EndsWithLists, EndsBare, EndRule}
 use Rattle.ram_lists.specs.declared.ends.End.{End}
 use Rattle.ram_lists.specs.declared.ends.End.TheVariants as ends
+use Rattle.ram_lists.proofs.Mending.{settled_may_hold, dds_in_part, sdl_in_part, dds_to_end, spares_same, sdl_from}
 
 -- ---- cells
 
 seen_left : (place : ℕ → ℕ) (old new : List Cell) → IsSeen place old new new → (area : ℕ) → IsArea area → IsSameOrDead (cell_at old (place area)) (cell_at new (place area))
 seen_left place old new seen area is = elim (seen area is) [ inl same ↦ inl same | inr dead ↦ inr dead.0 ]
-
-pub settled_may_hold : {V : Type 0} (text : V → List ℕ → Type 0) (old cell : Cell) (v : V) → HoldsOrDead text cell v → MayHold text old v cell
-settled_may_hold text old Blank v h = absurd h
-settled_may_hold text old (Good bytes) v h = inr (inl h)
-settled_may_hold text old Torn v h = absurd h
-settled_may_hold text old Dead v h = inr (inr (inr refl))
 
 none_held : {V : Type 0} (text : V → List ℕ → Type 0) (place : ℕ → ℕ) (cells : List Cell) → cells ≡ [] → (v : V) (area : ℕ) → HasCopy text place cells v area → ⊥
 none_held text place cells none v area copy = subst (λ (cs : List Cell). Holds text (cell_at cs (place area)) v) none copy.holds
@@ -111,30 +113,25 @@ marked_still shape old new mark d area within copy settled same = record {
 
 -- ---- what each step keeps
 
--- of the cells of the secondary list some may have died, and nothing else happened to them
-pub record SdlDies (shape : Shape) (old new : List Cell) : Type 0 where
-  pub firsts : (area : ℕ) → IsArea area → IsSameOrDead (cell_at old (sdl_block shape area)) (cell_at new (sdl_block shape area))
-  pub seconds : (area : ℕ) → IsArea area → IsSameOrDead (cell_at old (sdl_second_block shape area)) (cell_at new (sdl_second_block shape area))
-
 dies_then : (a b c : Cell) → IsSameOrDead a b → IsSameOrDead b c → IsSameOrDead a c
 dies_then a b c (inl same) (inl as_was) = inl (as_was ∙ same)
 dies_then a b c (inr dead) (inl as_was) = inr (as_was ∙ dead)
 dies_then a b c first (inr dead) = inr dead
 
-sdl_dies_then : (shape : Shape) (a b c : List Cell) → SdlDies shape a b → SdlDies shape b c → SdlDies shape a c
+sdl_dies_then : (shape : Shape) (a b c : List Cell) → SdlCellsDie shape a b → SdlCellsDie shape b c → SdlCellsDie shape a c
 sdl_dies_then shape a b c one two = record {
   firsts = λ area is. dies_then (cell_at a (sdl_block shape area)) (cell_at b (sdl_block shape area)) (cell_at c (sdl_block shape area)) (one.firsts area is) (two.firsts area is);
   seconds = λ area is. dies_then (cell_at a (sdl_second_block shape area)) (cell_at b (sdl_second_block shape area)) (cell_at c (sdl_second_block shape area)) (one.seconds area is) (two.seconds area is);
 }
 
 -- so they hold nothing new, also where more happens behind it
-parts_from_dying : (shape : Shape) (old new : List Cell) → SdlDies shape old new → PartsHoldNothingNew IsTwo IsSdlText IsSdlSecond (sdl_block shape) (sdl_second_block shape) old new
+parts_from_dying : (shape : Shape) (old new : List Cell) → SdlCellsDie shape old new → PartsHoldNothingNew IsTwo IsSdlText IsSdlSecond (sdl_block shape) (sdl_second_block shape) old new
 parts_from_dying shape old new dies = record {
   firsts = λ area is. elim (dies.firsts area is) [ inl same ↦ inl same | inr dead ↦ inr (inr (inl dead)) ];
   seconds = λ area is. elim (dies.seconds area is) [ inl same ↦ inl same | inr dead ↦ inr (inr (inl dead)) ];
 }
 
-parts_then : (shape : Shape) (a b c : List Cell) → SdlDies shape a b → PartsHoldNothingNew IsTwo IsSdlText IsSdlSecond (sdl_block shape) (sdl_second_block shape) b c → PartsHoldNothingNew IsTwo IsSdlText IsSdlSecond (sdl_block shape) (sdl_second_block shape) a c
+parts_then : (shape : Shape) (a b c : List Cell) → SdlCellsDie shape a b → PartsHoldNothingNew IsTwo IsSdlText IsSdlSecond (sdl_block shape) (sdl_second_block shape) b c → PartsHoldNothingNew IsTwo IsSdlText IsSdlSecond (sdl_block shape) (sdl_second_block shape) a c
 parts_then shape a b c dies later = record {
   firsts = λ area is. elim (later.firsts area is) [
     | inl same ↦ elim (dies.firsts area is) [ inl as_was ↦ inl (same ∙ as_was) | inr dead ↦ inr (inr (inl (same ∙ dead))) ]
@@ -153,7 +150,7 @@ parts_then shape a b c dies later = record {
     before : (v : Sdl) (at : ℕ) → HasSdlCopy shape b v at → HasSdlCopy shape a v at
     before v at whole = sdl_before shape a b v at at (dies.firsts at whole.is_area) (dies.seconds at whole.is_area) whole
 
-keeps_then : (shape : Shape) (a b c : World) → KeepsGiven shape a b → SdlDies shape a.cells b.cells → KeepsGiven shape b c → KeepsGiven shape a c
+keeps_then : (shape : Shape) (a b c : World) → KeepsGiven shape a b → SdlCellsDie shape a.cells b.cells → KeepsGiven shape b c → KeepsGiven shape a c
 keeps_then shape a b c one dies two = record {
   as_known = two.as_known ∙ one.as_known;
   only = λ block away. two.only block away ∙ one.only block away;
@@ -165,17 +162,34 @@ keeps_then shape a b c one dies two = record {
 -- an update of one list changes no cells but its own
 module _ {M : Type 0} (world : M → World) (reaches : M → M → ℕ → Type 0) (shape : Shape) where
   -- the cells of the other list stay
-  pub sdl_stay : (old new : M) → ChangesCopiesAlone world reaches kinds.Dds shape old new → (a : ℕ) → cell_at (world new).cells (sdl_block shape a) ≡ cell_at (world old).cells (sdl_block shape a)
-  sdl_stay old new alone a = alone.others (sdl_block shape a) (λ at is same. dds_no_sdl shape at a (sym same))
+  pub sdl_stay : (old new : M) {two : Type 0} → ChangesCopiesAlone world reaches kinds.Dds shape old new two → (a : ℕ) → cell_at (world new).cells (sdl_block shape a) ≡ cell_at (world old).cells (sdl_block shape a)
+  sdl_stay old new alone a = alone.others (sdl_block shape a) (λ at is same. dds_no_sdl shape at a (sym same)) (λ two at is same. second_no_sdl shape at a (sym same))
 
-  pub dds_stay : (old new : M) → ChangesCopiesAlone world reaches kinds.Sdl shape old new → (a : ℕ) → cell_at (world new).cells (dds_block shape a) ≡ cell_at (world old).cells (dds_block shape a)
-  dds_stay old new alone a = alone.others (dds_block shape a) (λ at is same. dds_no_sdl shape a at same)
+  pub dds_stay : (old new : M) {two : Type 0} → ChangesCopiesAlone world reaches kinds.Sdl shape old new two → (a : ℕ) → cell_at (world new).cells (dds_block shape a) ≡ cell_at (world old).cells (dds_block shape a)
+  dds_stay old new alone a = alone.others (dds_block shape a) (λ at is same. dds_no_sdl shape a at same) (λ two at is same. second_no_dds shape at a (sym same))
 
-  pub dds_only : (old new : M) → ChangesCopiesAlone world reaches kinds.Dds shape old new → OnlyLists shape (world old).cells (world new).cells
+  -- and a list of one part leaves the cells of second parts
+  pub seconds_stay : (old new : M) {two : Type 0} → ¬ two → ChangesCopiesAlone world reaches kinds.Sdl shape old new two → (a : ℕ) → cell_at (world new).cells (sdl_second_block shape a) ≡ cell_at (world old).cells (sdl_second_block shape a)
+  seconds_stay old new none alone a = alone.others (sdl_second_block shape a) (λ at is. second_no_sdl shape a at) (λ two. absurd (none two))
+
+  pub dds_only : (old new : M) {two : Type 0} → ChangesCopiesAlone world reaches kinds.Dds shape old new two → OnlyLists shape (world old).cells (world new).cells
   dds_only old new alone block away = alone.others block (λ at is same. away (subst (IsListBlock shape) (sym same) (dds_listed shape at is)))
+      (λ two at is same. away (subst (IsListBlock shape) (sym same) (second_listed shape at is)))
 
-  pub sdl_only : (old new : M) → ChangesCopiesAlone world reaches kinds.Sdl shape old new → OnlyLists shape (world old).cells (world new).cells
+  pub sdl_only : (old new : M) {two : Type 0} → ChangesCopiesAlone world reaches kinds.Sdl shape old new two → OnlyLists shape (world old).cells (world new).cells
   sdl_only old new alone block away = alone.others block (λ at is same. away (subst (IsListBlock shape) (sym same) (sdl_listed shape at is)))
+      (λ two at is same. away (subst (IsListBlock shape) (sym same) (second_listed shape at is)))
+
+  -- what a repair of a secondary list to its end leaves of its cells
+  exact_may : (old new : M) (s : Sdl) → ChangesCopiesAlone world reaches kinds.Sdl shape old new (IsTwo s) → SdlIsExact shape (world new).cells s
+      → MayLeaveParts IsTwo IsSdlText IsSdlSecond (sdl_block shape) (sdl_second_block shape) (world old).cells (world new).cells s
+  exact_may old new s alone exact = record {
+    firsts = λ a is. settled_may_hold IsSdlText (cell_at (world old).cells (sdl_block shape a)) (cell_at (world new).cells (sdl_block shape a)) s (exact.firsts a is);
+    seconds = λ a is. elim (sdl_two_decided s) [
+      | inl two ↦ inr (two, settled_may_hold IsSdlSecond (cell_at (world old).cells (sdl_second_block shape a)) (cell_at (world new).cells (sdl_second_block shape a)) s (exact.seconds two a is))
+      | inr one ↦ inl (seconds_stay old new one alone a)
+    ];
+  }
 
 module _ {M : Type 0} (world : M → World) (block_count : M → ℕ) (reaches : M → M → ℕ → Type 0) (laws : MediumLaws world block_count reaches) (shape : Shape) where
   by_known : (m : M) (P : Type 0) → ((world m).known ≡ true → P) → ((world m).cells ≡ [] → P) → P
@@ -184,30 +198,30 @@ module _ {M : Type 0} (world : M → World) (block_count : M → ℕ) (reaches :
     | inr no' ↦ unknown (subst (λ (b : Bool). OnFalse b ((world m).cells ≡ [])) no' (laws.unknown m))
   ]
 
-  dds_others : (old new : M) → ChangesCopiesAlone world reaches kinds.Sdl shape old new → HoldNothingNew IsDdsText (dds_block shape) (world old).cells (world new).cells
+  dds_others : (old new : M) {two : Type 0} → ChangesCopiesAlone world reaches kinds.Sdl shape old new two → HoldNothingNew IsDdsText (dds_block shape) (world old).cells (world new).cells
   dds_others old new alone = nothing_new_from_dead IsDdsText (dds_block shape) (world old).cells (world new).cells (λ a is. inl (dds_stay world reaches shape old new alone a))
 
   -- what a call of either list does to the cells of the secondary one
-  sdl_others : (old new : M) → ChangesCopiesAlone world reaches kinds.Dds shape old new → SdlDies shape (world old).cells (world new).cells
-  sdl_others old new alone = record { firsts = λ a is. inl (sdl_stay world reaches shape old new alone a); seconds = λ a is. inl (seconds_stay_by_dds world reaches shape old new alone a) }
+  sdl_others : (old new : M) → ChangesCopiesAlone world reaches kinds.Dds shape old new ⊥ → SdlCellsDie shape (world old).cells (world new).cells
+  sdl_others old new alone = record { firsts = λ a is. inl (sdl_stay world reaches shape old new alone a); seconds = λ a is. inl (seconds_stay_by_dds world reaches shape old new (λ t. t) alone a) }
 
-  sdl_looked : (old new : M) → ChangesCopiesAlone world reaches kinds.Sdl shape old new → SawCopies world reaches kinds.Sdl shape old new → SdlDies shape (world old).cells (world new).cells
-  sdl_looked old new alone saw = record { firsts = seen_left (sdl_block shape) (world old).cells (world new).cells saw; seconds = λ a is. inl (seconds_stay world reaches shape old new alone a) }
+  sdl_looked : (old new : M) → SawCopies world reaches kinds.Sdl shape old new → SdlCellsDie shape (world old).cells (world new).cells
+  sdl_looked old new saw = record { firsts = seen_left (sdl_block shape) (world old).cells (world new).cells saw.firsts; seconds = seen_left (sdl_second_block shape) (world old).cells (world new).cells saw.seconds }
 
-  dds_look_keeps : (old new : M) → ChangesCopiesAlone world reaches kinds.Dds shape old new → SawCopies world reaches kinds.Dds shape old new → KeepsGiven shape (world old) (world new)
+  dds_look_keeps : (old new : M) → ChangesCopiesAlone world reaches kinds.Dds shape old new ⊥ → SawCopies world reaches kinds.Dds shape old new → KeepsGiven shape (world old) (world new)
   dds_look_keeps old new alone saw =
       let dies = sdl_others old new alone in
       record {
         as_known = alone.as_known;
         only = dds_only world reaches shape old new alone;
-        dds = nothing_new_from_dead IsDdsText (dds_block shape) (world old).cells (world new).cells (seen_left (dds_block shape) (world old).cells (world new).cells saw);
+        dds = nothing_new_from_dead IsDdsText (dds_block shape) (world old).cells (world new).cells (seen_left (dds_block shape) (world old).cells (world new).cells saw.firsts);
         sdl = parts_from_dying shape (world old).cells (world new).cells dies;
-        given = λ lists given. given_before shape (world old).cells (world new).cells lists (seen_left (dds_block shape) (world old).cells (world new).cells saw) dies.firsts dies.seconds given;
+        given = λ lists given. given_before shape (world old).cells (world new).cells lists (seen_left (dds_block shape) (world old).cells (world new).cells saw.firsts) dies.firsts dies.seconds given;
       }
 
-  sdl_look_keeps : (old new : M) → ChangesCopiesAlone world reaches kinds.Sdl shape old new → SawCopies world reaches kinds.Sdl shape old new → KeepsGiven shape (world old) (world new)
+  sdl_look_keeps : (old new : M) {two : Type 0} → ChangesCopiesAlone world reaches kinds.Sdl shape old new two → SawCopies world reaches kinds.Sdl shape old new → KeepsGiven shape (world old) (world new)
   sdl_look_keeps old new alone saw =
-      let dies = sdl_looked old new alone saw in
+      let dies = sdl_looked old new saw in
       record {
         as_known = alone.as_known;
         only = sdl_only world reaches shape old new alone;
@@ -216,9 +230,9 @@ module _ {M : Type 0} (world : M → World) (block_count : M → ℕ) (reaches :
         given = λ lists given. given_before shape (world old).cells (world new).cells lists (λ a is. inl (dds_stay world reaches shape old new alone a)) dies.firsts dies.seconds given;
       }
 
-  dds_mend_keeps : (old new : M) (d : Dds) (area : ℕ) → ((world old).known ≡ true → HasDdsCopy shape (world old).cells d area) → ChangesCopiesAlone world reaches kinds.Dds shape old new
-      → MayLeaveCopies world reaches kinds.Dds shape old new (DdsValue d) → KeepsGiven shape (world old) (world new)
-  dds_mend_keeps old new d area copy alone left = record {
+  dds_mend_keeps : (old new : M) (d : Dds) (area : ℕ) → ((world old).known ≡ true → HasDdsCopy shape (world old).cells d area) → ChangesCopiesAlone world reaches kinds.Dds shape old new ⊥
+      → ((a : ℕ) → IsArea a → MayHold IsDdsText (cell_at (world old).cells (dds_block shape a)) d (cell_at (world new).cells (dds_block shape a))) → KeepsGiven shape (world old) (world new)
+  dds_mend_keeps old new d area copy alone may = record {
     as_known = alone.as_known;
     only = dds_only world reaches shape old new alone;
     dds = by_known new (HoldNothingNew IsDdsText (dds_block shape) (world old).cells (world new).cells)
@@ -230,16 +244,14 @@ module _ {M : Type 0} (world : M → World) (block_count : M → ℕ) (reaches :
         (λ none lists given. absurd (none_given shape (world new).cells none lists given));
   }
     where
-      may : (a : ℕ) → IsArea a → MayHold IsDdsText (cell_at (world old).cells (dds_block shape a)) d (cell_at (world new).cells (dds_block shape a))
-      may a is = dds_may_hold (cell_at (world old).cells (dds_block shape a)) (cell_at (world new).cells (dds_block shape a)) d (left a is)
-
-      dies : SdlDies shape (world old).cells (world new).cells
+      dies : SdlCellsDie shape (world old).cells (world new).cells
       dies = sdl_others old new alone
 
   -- the secondary list is repaired after its structure was, and a whole pair was seen before both
   sdl_mend_keeps : (old mid new : M) (lists : Lists) → ((world old).known ≡ true → IsWholePair shape (world old).cells lists) → KeepsGiven shape (world old) (world mid)
       → ((a : ℕ) → cell_at (world mid).cells (sdl_block shape a) ≡ cell_at (world old).cells (sdl_block shape a)) → ((a : ℕ) → cell_at (world mid).cells (sdl_second_block shape a) ≡ cell_at (world old).cells (sdl_second_block shape a))
-      → ChangesCopiesAlone world reaches kinds.Sdl shape mid new → MayLeaveCopies world reaches kinds.Sdl shape mid new (SdlValue lists.sdl) → KeepsGiven shape (world old) (world new)
+      → ChangesCopiesAlone world reaches kinds.Sdl shape mid new (IsTwo lists.sdl) → MayLeaveParts IsTwo IsSdlText IsSdlSecond (sdl_block shape) (sdl_second_block shape) (world mid).cells (world new).cells lists.sdl
+      → KeepsGiven shape (world old) (world new)
   sdl_mend_keeps old mid new lists whole first same same' alone left = record {
     as_known = alone.as_known ∙ first.as_known;
     only = λ block away. sdl_only world reaches shape mid new alone block away ∙ first.only block away;
@@ -256,7 +268,7 @@ module _ {M : Type 0} (world : M → World) (block_count : M → ℕ) (reaches :
       dds_new : HoldNothingNew IsDdsText (dds_block shape) (world old).cells (world new).cells
       dds_new = nothing_new_then IsDdsText (dds_block shape) (world old).cells (world mid).cells (world new).cells dds_texts.one_value first.dds (dds_others mid new alone)
 
-      dies : SdlDies shape (world old).cells (world mid).cells
+      dies : SdlCellsDie shape (world old).cells (world mid).cells
       dies = record { firsts = λ a is. inl (same a); seconds = λ a is. inl (same' a) }
 
       sdl_new : (world new).known ≡ true → PartsHoldNothingNew IsTwo IsSdlText IsSdlSecond (sdl_block shape) (sdl_second_block shape) (world old).cells (world new).cells
@@ -264,7 +276,7 @@ module _ {M : Type 0} (world : M → World) (block_count : M → ℕ) (reaches :
           let pair = whole (known_old known) in
           let there = sdl_before shape (world mid).cells (world old).cells lists.sdl pair.sdl_area pair.sdl_area (inl (sym (same pair.sdl_area))) (inl (sym (same' pair.sdl_area))) pair.sdl_copy in
           parts_then shape (world old).cells (world mid).cells (world new).cells dies
-          (parts_repaired shape (world mid).cells (world new).cells lists.sdl pair.sdl_area there (sdl_left world reaches shape mid new lists.sdl alone left))
+          (parts_repaired shape (world mid).cells (world new).cells lists.sdl pair.sdl_area there left)
 
   -- ---- how far it went
 
@@ -274,10 +286,10 @@ module _ {M : Type 0} (world : M → World) (block_count : M → ℕ) (reaches :
     pub counts : UseContinues (world old) (world mid)
     pub keeps : KeepsGiven shape (world old) (world mid)
 
-  gone_first : (kind : ListKind) (old new : M) (k : ℕ) → CallEnds world reaches kind shape old new k → KeepsGiven shape (world old) (world new) → Gone old new k
+  gone_first : (kind : ListKind) (old new : M) {two : Type 0} (k : ℕ) → CallEnds world reaches kind shape old new two k → KeepsGiven shape (world old) (world new) → Gone old new k
   gone_first kind old new k ended keeps = record { was_on = ended.was_on; continues = ended.continues; counts = ended.counts; keeps = keeps }
 
-  gone_then : (kind : ListKind) (old mid new : M) (j k : ℕ) → Gone old mid j → CallEnds world reaches kind shape mid new k → KeepsGiven shape (world old) (world new) → Gone old new (j + k)
+  gone_then : (kind : ListKind) (old mid new : M) {two : Type 0} (j k : ℕ) → Gone old mid j → CallEnds world reaches kind shape mid new two k → KeepsGiven shape (world old) (world new) → Gone old new (j + k)
   gone_then kind old mid new j k gone ended keeps = record {
     was_on = gone.was_on;
     continues = continues_then world block_count reaches laws old mid new j k gone.continues ended.continues;
@@ -290,105 +302,202 @@ module _ {M : Type 0} (world : M → World) (block_count : M → ℕ) (reaches :
   counts_later old mid new stops.Off first off = absurd (off.was_off first.stays_on)
   counts_later old mid new stops.Fault first fail = record { turns_off = fail.turns_off; no_cut = fail.no_cut ∙ first.no_cut; fault = subst (λ (n : ℕ). Rose n (world new).faults) first.no_fault fail.fault }
 
-  stopped_later : (kind : ListKind) (old mid new : M) (j most : ℕ) (stop : Stop) → j + most ≤ 32 → Gone old mid j → StoppedWithin world reaches kind shape mid new most stop → KeepsGiven shape (world old) (world new) → WasStopped world reaches shape old new stop
-  stopped_later kind old mid new j most stop few gone stopped keeps = record {
-    was_on = gone.was_on;
-    stops = stops_within world block_count reaches laws old new (j + most) 32 stop few (stops_later world block_count reaches laws old mid new j most stop gone.continues stopped.stops);
-    counts = counts_later old mid new stop gone.counts stopped.counts;
+  -- what a stopped mount leaves, where cells are known
+  abbrev Leaves : M → M → Type 0
+  Leaves old new = (world old).known ≡ true → StopsMounting shape (world old).cells (world new).cells
+
+  stopped_first : (kind : ListKind) (old new : M) {two : Type 0} (most : ℕ) (stop : Stop) → most ≤ 48 → StoppedWithin world reaches kind shape old new two most stop → KeepsGiven shape (world old) (world new) → Leaves old new
+      → WasStopped world reaches shape old new stop
+  stopped_first kind old new most stop few stopped keeps left = record {
+    was_on = stopped.was_on;
+    stops = stops_within world block_count reaches laws old new most 48 stop few stopped.stops;
+    counts = stopped.counts;
     keeps = keeps;
+    left = left;
   }
 
-  -- the first choice ended before its end
+  stopped_later : (kind : ListKind) (old mid new : M) {two : Type 0} (j most : ℕ) (stop : Stop) → j + most ≤ 48 → Gone old mid j → StoppedWithin world reaches kind shape mid new two most stop → KeepsGiven shape (world old) (world new) → Leaves old new
+      → WasStopped world reaches shape old new stop
+  stopped_later kind old mid new j most stop few gone stopped keeps left = record {
+    was_on = gone.was_on;
+    stops = stops_within world block_count reaches laws old new (j + most) 48 stop few (stops_later world block_count reaches laws old mid new j most stop gone.continues stopped.stops);
+    counts = counts_later old mid new stop gone.counts stopped.counts;
+    keeps = keeps;
+    left = left;
+  }
+
+  -- dead cells of both lists stay dead
+  pub record ListsStayDead (old new : M) : Type 0 where
+    pub dds : (area : ℕ) → IsArea area → cell_at (world old).cells (dds_block shape area) ≡ Dead → cell_at (world new).cells (dds_block shape area) ≡ Dead
+    pub firsts : (area : ℕ) → IsArea area → cell_at (world old).cells (sdl_block shape area) ≡ Dead → cell_at (world new).cells (sdl_block shape area) ≡ Dead
+    pub seconds : (area : ℕ) → IsArea area → cell_at (world old).cells (sdl_second_block shape area) ≡ Dead → cell_at (world new).cells (sdl_second_block shape area) ≡ Dead
+
+  dead_as_is : (m : M) → ListsStayDead m m
+  dead_as_is m = record { dds = λ a is dead. dead; firsts = λ a is dead. dead; seconds = λ a is dead. dead }
+
+  dead_then : (a b c : M) → ListsStayDead a b → ListsStayDead b c → ListsStayDead a c
+  dead_then a b c one two = record {
+    dds = λ area is dead. two.dds area is (one.dds area is dead);
+    firsts = λ area is dead. two.firsts area is (one.firsts area is dead);
+    seconds = λ area is dead. two.seconds area is (one.seconds area is dead);
+  }
+
+  dead_after : (old new : M) (k : ℕ) → Continues world reaches old new k → ListsStayDead old new
+  dead_after old new k continues = record { dds = λ a is. stays (dds_block shape a); firsts = λ a is. stays (sdl_block shape a); seconds = λ a is. stays (sdl_second_block shape a) }
+    where
+      stays : (block : ℕ) → cell_at (world old).cells block ≡ Dead → cell_at (world new).cells block ≡ Dead
+      stays = (laws.follows old new k continues.reach).lasts.stays_dead
+
+  -- of the structure's repair, and of the secondary list's
+  dead_in_dds : (old new : M) (d : Dds) (stop : Stop) → StopsRepairing world reaches kinds.Dds shape old new (DdsValue d) stop → ListsStayDead old new
+  dead_in_dds old new d stop stopped = record {
+    dds = stopped.leaves.stays_dead.firsts;
+    firsts = λ a is dead. sdl_stay world reaches shape old new stopped.within.alone a ∙ dead;
+    seconds = stopped.leaves.stays_dead.seconds;
+  }
+
+  dead_in_sdl : (old new : M) (s : Sdl) (stop : Stop) → StopsRepairing world reaches kinds.Sdl shape old new (SdlValue s) stop → ListsStayDead old new
+  dead_in_sdl old new s stop stopped = record {
+    dds = λ a is dead. dds_stay world reaches shape old new stopped.within.alone a ∙ dead;
+    firsts = stopped.leaves.stays_dead.firsts;
+    seconds = stopped.leaves.stays_dead.seconds;
+  }
+
+  -- ---- the first choice
+
+  first_seen : (old new : M) → ChangesCopiesAlone world reaches kinds.Dds shape old new ⊥ → SawCopies world reaches kinds.Dds shape old new → AreSeen shape (world old).cells (world new).cells (world new).cells
+  first_seen old new alone saw = seen_by shape (world old).cells (world new).cells (world new).cells (dds_only world reaches shape old new alone) saw.firsts
+      (λ a is. inl (sdl_stay world reaches shape old new alone a)) (λ a is. inl (seconds_stay_by_dds world reaches shape old new (λ t. t) alone a))
+
+  -- what a mount leaves that was stopped in a choice
+  left_looking : (old new : M) → AreSeen shape (world old).cells (world new).cells (world new).cells → Leaves old new
+  left_looking old new seen known = record { seen = (world new).cells; are_seen = seen; mends = inl (λ block. inl refl) }
+
+  first_stops : (old new : M) (stop : Stop) → StopsChoosing world reaches kinds.Dds shape old new stop → WasStopped world reaches shape old new stop
+  first_stops old new stop stopped = stopped_first kinds.Dds old new 4 stop (omega arith) stopped.within (dds_look_keeps old new stopped.within.alone stopped.saw) (left_looking old new (first_seen old new stopped.within.alone stopped.saw))
+
+  -- it ended before its end
   pub first_ends : (old new : M) (end : End) → EndsPicking world reaches kinds.Dds shape old new end → EndRule world reaches shape old new end
-  first_ends old new ends.Cut (stopped, saw) = record { was_on = stopped.was_on; stops = stops_within world block_count reaches laws old new 4 32 stops.Cut (omega arith) stopped.stops; counts = stopped.counts; keeps = dds_look_keeps old new stopped.alone saw }
+  first_ends old new ends.Cut stopped = first_stops old new stops.Cut stopped
   first_ends old new ends.Off off = off
-  first_ends old new ends.Fault (stopped, saw) = record { was_on = stopped.was_on; stops = stops_within world block_count reaches laws old new 4 32 stops.Fault (omega arith) stopped.stops; counts = stopped.counts; keeps = dds_look_keeps old new stopped.alone saw }
-  first_ends old new ends.NoMemory (out, saw) = record { was_on = out.was_on; uses = out.uses; few = let f = out.few in omega (arith, f); continues = out.continues; counts = out.counts; keeps = dds_look_keeps old new out.alone saw; loses = loses_seen shape (world old).cells (world new).cells (seen_by shape (world old).cells (world new).cells (world new).cells (dds_only world reaches shape old new out.alone) saw (λ a is. inl (sdl_stay world reaches shape old new out.alone a))) }
+  first_ends old new ends.Fault stopped = first_stops old new stops.Fault stopped
+  first_ends old new ends.NoMemory out = record {
+    was_on = out.was_on;
+    uses = out.uses;
+    few = let f = out.few in omega (arith, f);
+    continues = out.continues;
+    counts = out.counts;
+    keeps = dds_look_keeps old new out.alone out.saw;
+    loses = loses_seen shape (world old).cells (world new).cells (first_seen old new out.alone out.saw);
+  }
 
   module _ (old one : M) (accepted : ListValue → Type 0) (best1 : Option (ListValue × ℕ)) (m : ℕ) (look1 : HasPicked world reaches kinds.Dds shape old one accepted best1 m) where
+    alone_one : ChangesCopiesAlone world reaches kinds.Dds shape old one ⊥
+    alone_one = look1.out.ends.alone
+
     gone_one : Gone old one 4
-    gone_one = gone_first kinds.Dds old one 4 look1.ended (dds_look_keeps old one look1.ended.alone look1.saw)
+    gone_one = gone_first kinds.Dds old one 4 (four_uses world reaches shape old one look1.out) (dds_look_keeps old one alone_one look1.out.saw)
 
     -- what the second choice keeps of what the first did
-    one_looks : (new : M) → ChangesCopiesAlone world reaches kinds.Sdl shape one new → SawCopies world reaches kinds.Sdl shape one new → KeepsGiven shape (world old) (world new)
-    one_looks new alone saw = keeps_then shape (world old) (world one) (world new) gone_one.keeps (sdl_others old one look1.ended.alone) (sdl_look_keeps one new alone saw)
+    one_looks : (new : M) {two : Type 0} → ChangesCopiesAlone world reaches kinds.Sdl shape one new two → SawCopies world reaches kinds.Sdl shape one new → KeepsGiven shape (world old) (world new)
+    one_looks new alone saw = keeps_then shape (world old) (world one) (world new) gone_one.keeps (sdl_others old one alone_one) (sdl_look_keeps one new alone saw)
 
     -- what was seen in both choices, where dead cells stayed dead since
-    both_seen : (two new : M) → ChangesCopiesAlone world reaches kinds.Sdl shape one two → SawCopies world reaches kinds.Sdl shape one two
-        → ((block : ℕ) → cell_at (world two).cells block ≡ Dead → cell_at (world new).cells block ≡ Dead) → AreSeen shape (world old).cells (world two).cells (world new).cells
+    both_seen : (two new : M) {may : Type 0} → ChangesCopiesAlone world reaches kinds.Sdl shape one two may → SawCopies world reaches kinds.Sdl shape one two → ListsStayDead two new
+        → AreSeen shape (world old).cells (world two).cells (world new).cells
     both_seen two new alone saw stays = seen_by shape (world old).cells (world two).cells (world new).cells
-        (λ block away. sdl_only world reaches shape one two alone block away ∙ dds_only world reaches shape old one look1.ended.alone block away)
-        (λ a is. elim (look1.saw a is) [
+        (λ block away. sdl_only world reaches shape one two alone block away ∙ dds_only world reaches shape old one alone_one block away)
+        (λ a is. elim (look1.out.saw.firsts a is) [
           | inl same ↦ inl (dds_stay world reaches shape one two alone a ∙ same)
-          | inr dead ↦ inr (dds_stay world reaches shape one two alone a ∙ dead.0, stays (dds_block shape a) (dds_stay world reaches shape one two alone a ∙ dead.0))
+          | inr dead ↦ inr (dds_stay world reaches shape one two alone a ∙ dead.0, stays.dds a is (dds_stay world reaches shape one two alone a ∙ dead.0))
         ])
-        (λ a is. elim (saw a is) [
-          | inl same ↦ inl (same ∙ sdl_stay world reaches shape old one look1.ended.alone a)
-          | inr dead ↦ inr (dead.0, stays (sdl_block shape a) dead.0)
+        (λ a is. elim (saw.firsts a is) [
+          | inl same ↦ inl (same ∙ sdl_stay world reaches shape old one alone_one a)
+          | inr dead ↦ inr (dead.0, stays.firsts a is dead.0)
+        ])
+        (λ a is. elim (saw.seconds a is) [
+          | inl same ↦ inl (same ∙ seconds_stay_by_dds world reaches shape old one (λ t. t) alone_one a)
+          | inr dead ↦ inr (dead.0, stays.seconds a is dead.0)
         ])
 
-    -- the second choice did
+    second_stops : (new : M) (stop : Stop) → StopsChoosing world reaches kinds.Sdl shape one new stop → WasStopped world reaches shape old new stop
+    second_stops new stop stopped = stopped_later kinds.Sdl old one new 4 8 stop (omega arith) gone_one stopped.within (one_looks new stopped.within.alone stopped.saw)
+        (left_looking old new (both_seen new new stopped.within.alone stopped.saw (dead_as_is new)))
+
+    -- the second choice ended before its end
     pub second_ends : (new : M) (end : End) → EndsPicking world reaches kinds.Sdl shape one new end → EndRule world reaches shape old new end
-    second_ends new ends.Cut (stopped, saw) = stopped_later kinds.Sdl old one new 4 4 stops.Cut (omega arith) gone_one stopped (one_looks new stopped.alone saw)
+    second_ends new ends.Cut stopped = second_stops new stops.Cut stopped
     second_ends new ends.Off off = absurd (off.was_off gone_one.continues.is_on)
-    second_ends new ends.Fault (stopped, saw) = stopped_later kinds.Sdl old one new 4 4 stops.Fault (omega arith) gone_one stopped (one_looks new stopped.alone saw)
-    second_ends new ends.NoMemory (out, saw) = record {
+    second_ends new ends.Fault stopped = second_stops new stops.Fault stopped
+    second_ends new ends.NoMemory out = record {
       was_on = gone_one.was_on;
       uses = 4 + out.uses;
       few = let f = out.few in omega (arith, f);
       continues = continues_then world block_count reaches laws old one new 4 out.uses gone_one.continues out.continues;
       counts = record { stays_on = out.counts.stays_on; no_cut = out.counts.no_cut ∙ gone_one.counts.no_cut; no_fault = out.counts.no_fault ∙ gone_one.counts.no_fault };
-      keeps = one_looks new out.alone saw;
-      loses = loses_seen shape (world old).cells (world new).cells (both_seen new new out.alone saw (λ block dead. dead));
+      keeps = one_looks new out.alone out.saw;
+      loses = loses_seen shape (world old).cells (world new).cells (both_seen new new out.alone out.saw (dead_as_is new));
     }
 
     module _ (two : M) (accepted2 : ListValue → Type 0) (best2 : Option (ListValue × ℕ)) (n : ℕ) (look2 : HasPicked world reaches kinds.Sdl shape one two accepted2 best2 n) where
-      gone_two : Gone old two (4 + 4)
-      gone_two = gone_then kinds.Sdl old one two 4 4 gone_one look2.ended (one_looks two look2.ended.alone look2.saw)
+      abbrev mores : ℕ
+      mores = look2.out.mores
+
+      few_mores : mores ≤ 4
+      few_mores = sdl_few world reaches shape one two look2.out
+
+      alone_two : ChangesCopiesAlone world reaches kinds.Sdl shape one two (MayHaveTwo kinds.Sdl)
+      alone_two = look2.out.ends.alone
+
+      gone_two : Gone old two (4 + (4 + mores))
+      gone_two = gone_then kinds.Sdl old one two 4 (4 + mores) gone_one look2.out.ends (one_looks two alone_two look2.out.saw)
 
       -- what is kept behind both choices
       two_then : (new : M) → KeepsGiven shape (world two) (world new) → KeepsGiven shape (world old) (world new)
       two_then new keeps = keeps_then shape (world old) (world two) (world new) gone_two.keeps
-          (sdl_dies_then shape (world old).cells (world one).cells (world two).cells (sdl_others old one look1.ended.alone) (sdl_looked one two look2.ended.alone look2.saw)) keeps
+          (sdl_dies_then shape (world old).cells (world one).cells (world two).cells (sdl_others old one alone_one) (sdl_looked one two look2.out.saw)) keeps
 
       same_dds : (a : ℕ) → cell_at (world two).cells (dds_block shape a) ≡ cell_at (world one).cells (dds_block shape a)
-      same_dds = dds_stay world reaches shape one two look2.ended.alone
+      same_dds = dds_stay world reaches shape one two alone_two
 
-      are_seen : (new : M) → ((block : ℕ) → cell_at (world two).cells block ≡ Dead → cell_at (world new).cells block ≡ Dead) → AreSeen shape (world old).cells (world two).cells (world new).cells
-      are_seen new = both_seen two new look2.ended.alone look2.saw
-
-      stays_from : (new : M) (k : ℕ) → Continues world reaches two new k → (block : ℕ) → cell_at (world two).cells block ≡ Dead → cell_at (world new).cells block ≡ Dead
-      stays_from new k continues block dead = (laws.follows two new k continues.reach).lasts.stays_dead block dead
+      are_seen : (new : M) → ListsStayDead two new → AreSeen shape (world old).cells (world two).cells (world new).cells
+      are_seen new = both_seen two new alone_two look2.out.saw
 
       known_one : (world old).known ≡ true → (world one).known ≡ true
-      known_one known = look1.ended.alone.as_known ∙ known
+      known_one known = alone_one.as_known ∙ known
 
       known_two : (world old).known ≡ true → (world two).known ≡ true
-      known_two known = look2.ended.alone.as_known ∙ known_one known
+      known_two known = alone_two.as_known ∙ known_one known
 
       known_back : (world two).known ≡ true → (world old).known ≡ true
-      known_back known = sym (look2.ended.alone.as_known ∙ look1.ended.alone.as_known) ∙ known
+      known_back known = sym (alone_two.as_known ∙ alone_one.as_known) ∙ known
 
       mark_both : (mark : ℕ) → m ≤ mark → n ≤ mark → (mark ≡ m) ⊎ (mark ≡ n) → (world old).known ≡ true → Mark shape (world two).cells mark
       mark_both mark low low' is known = greater_mark shape (world two).cells m n mark
           (marked_same IsDdsText (dds_block shape) (world one).cells (world two).cells same_dds (λ (d : Dds). d.counter) m (dds_marked shape (world one).cells m (look1.mark_is known)))
           (sdl_marked shape (world two).cells n (look2.mark_is (known_one known))) low low' is
 
+      mores_seen : (world old).known ≡ true → CountMores shape (world two).cells 4 mores
+      mores_seen known = sdl_counted shape (world two).cells 4 mores (look2.out.counted (known_one known))
+
       -- no structure was chosen
       pub nothing_found : (mark : ℕ) → m ≤ mark → n ≤ mark → (mark ≡ m) ⊎ (mark ≡ n) → FindsNone world reaches kinds.Dds shape old one (AcceptsDds shape) → EndsBare world reaches shape old two mark
       nothing_found mark low low' is none = record {
+        mores = mores;
         dds = None;
         uses = 0;
         repaired = refl;
-        ended = record { was_on = gone_two.was_on; continues = gone_two.continues; counts = gone_two.counts; keeps = gone_two.keeps };
+        ended = record { was_on = gone_two.was_on; continues = subst (Continues world reaches old two) (omega arith) gone_two.continues; counts = gone_two.counts; keeps = gone_two.keeps };
         finds = record {
           gives_none = by_known two (GivesNone shape (world two).cells) (λ known. bare_without_dds shape (world two).cells (no_dds (known_back known))) (none_given shape (world two).cells);
           marked = by_known two (AreMarkedWithin shape (world two).cells mark) (λ known. (mark_both mark low low' is (known_back known)).within) (none_marked shape (world two).cells mark);
           seen = (world two).cells;
-          are_seen = are_seen two (λ block dead. dead);
+          are_seen = are_seen two (dead_as_is two);
           none = λ known. none_lacking shape (world two).cells None (no_dds known);
           lacks = no_dds;
           mark_is = mark_both mark low low' is;
+          few = few_mores;
+          counted = mores_seen;
         };
       }
         where
@@ -400,55 +509,94 @@ module _ {M : Type 0} (world : M → World) (block_count : M → ℕ) (reaches :
         first_is : (world old).known ≡ true → IsChosenDds shape (world two).cells d d_area
         first_is known = chosen_same IsDdsText (dds_block shape) (world one).cells (world two).cells same_dds (λ (x : Dds). x.counter) (IsValidPdl shape) d d_area (dds_chosen shape (world one).cells (AcceptsDds shape) d d_area (found.chosen known))
 
-        first_keeps : (three : M) → ChangesCopiesAlone world reaches kinds.Dds shape two three → MayLeaveCopies world reaches kinds.Dds shape two three (DdsValue d) → KeepsGiven shape (world two) (world three)
-        first_keeps three alone left = dds_mend_keeps two three d d_area (λ known. (first_is (known_back known)).copy) alone left
+        first_keeps : (three : M) → ChangesCopiesAlone world reaches kinds.Dds shape two three ⊥
+            → ((a : ℕ) → IsArea a → MayHold IsDdsText (cell_at (world two).cells (dds_block shape a)) d (cell_at (world three).cells (dds_block shape a))) → KeepsGiven shape (world two) (world three)
+        first_keeps three alone may = dds_mend_keeps two three d d_area (λ known. (first_is (known_back known)).copy) alone may
+
+        fits_24 : (4 + (4 + mores)) + 12 ≤ 48
+        fits_24 = let f = few_mores in omega (arith, f)
+
+        third_stops : (new : M) (stop : Stop) → StopsRepairing world reaches kinds.Dds shape two new (DdsValue d) stop → WasStopped world reaches shape old new stop
+        third_stops new stop stopped = stopped_later kinds.Dds old two new (4 + (4 + mores)) 12 stop fits_24 gone_two stopped.within
+            (two_then new (first_keeps new stopped.within.alone (dds_may shape d (world two).cells (world new).cells stopped.leaves)))
+            (λ known. record {
+              seen = (world two).cells;
+              are_seen = are_seen new (dead_in_dds two new d stop stopped);
+              mends = inr (inl (
+                d,
+                d_area,
+                record {
+                  chosen = first_is known;
+                  mends = dds_in_part shape (world two).cells (world new).cells d stopped.leaves stopped.spares;
+                  dies = sdl_others two new stopped.within.alone;
+                },
+              ));
+            })
 
         pub third_ends : (new : M) (end : End) → EndsMending world reaches kinds.Dds shape two new (DdsValue d) end → EndRule world reaches shape old new end
-        third_ends new ends.Cut (stopped, left) = stopped_later kinds.Dds old two new (4 + 4) 12 stops.Cut (omega arith) gone_two stopped (two_then new (first_keeps new stopped.alone left))
+        third_ends new ends.Cut stopped = third_stops new stops.Cut stopped
         third_ends new ends.Off off = absurd (off.was_off gone_two.continues.is_on)
-        third_ends new ends.Fault (stopped, left) = stopped_later kinds.Dds old two new (4 + 4) 12 stops.Fault (omega arith) gone_two stopped (two_then new (first_keeps new stopped.alone left))
+        third_ends new ends.Fault stopped = third_stops new stops.Fault stopped
         third_ends new ends.NoMemory never = absurd never
 
         module _ (three : M) (mended : IsMended world reaches kinds.Dds shape two three (DdsValue d)) where
-          keeps_three : KeepsGiven shape (world two) (world three)
-          keeps_three = first_keeps three mended.repairs.ends.alone (λ a is. settled_may_hold (IsText kinds.Dds) (cell_at (world two).cells (dds_block shape a)) (cell_at (world three).cells (dds_block shape a)) (DdsValue d) (mended.settled a is))
+          abbrev rewritten : ℕ
+          rewritten = mended.repairs.firsts
 
-          gone_three : Gone old three (4 + 4 + (4 + 2 * mended.repairs.rewritten))
-          gone_three = gone_then kinds.Dds old two three (4 + 4) (4 + 2 * mended.repairs.rewritten) gone_two mended.repairs.ends (two_then three keeps_three)
+          alone_three : ChangesCopiesAlone world reaches kinds.Dds shape two three ⊥
+          alone_three = mended.repairs.ends.alone
+
+          third : CallEnds world reaches kinds.Dds shape two three ⊥ (4 + 2 * rewritten)
+          third = subst (CallEnds world reaches kinds.Dds shape two three ⊥) (let none = mended.repairs.none (λ t. t) in let e : 4 * 1 + 2 * (mended.repairs.firsts + mended.repairs.seconds) ≡ 4 + 2 * rewritten = omega (arith, none) in e) mended.repairs.ends
 
           d_settled : Settled IsDdsText (dds_block shape) (world three).cells d
-          d_settled = dds_settled shape (world three).cells d mended.settled
+          d_settled = dds_exact shape d (world three).cells mended.exact
+
+          keeps_three : KeepsGiven shape (world two) (world three)
+          keeps_three = first_keeps three alone_three (λ a is. settled_may_hold IsDdsText (cell_at (world two).cells (dds_block shape a)) (cell_at (world three).cells (dds_block shape a)) d (d_settled a is))
+
+          gone_three : Gone old three (4 + (4 + mores) + (4 + 2 * rewritten))
+          gone_three = gone_then kinds.Dds old two three (4 + (4 + mores)) (4 + 2 * rewritten) gone_two third (two_then three keeps_three)
+
+          stays_three : ListsStayDead two three
+          stays_three = dead_after two three (4 + 2 * rewritten) third.continues
 
           same_sdl : (a : ℕ) → cell_at (world three).cells (sdl_block shape a) ≡ cell_at (world two).cells (sdl_block shape a)
-          same_sdl = sdl_stay world reaches shape two three mended.repairs.ends.alone
+          same_sdl = sdl_stay world reaches shape two three alone_three
 
           same_second : (a : ℕ) → cell_at (world three).cells (sdl_second_block shape a) ≡ cell_at (world two).cells (sdl_second_block shape a)
-          same_second = seconds_stay_by_dds world reaches shape two three mended.repairs.ends.alone
+          same_second = seconds_stay_by_dds world reaches shape two three (λ t. t) alone_three
 
           known_three : (world old).known ≡ true → (world three).known ≡ true
-          known_three known = mended.repairs.ends.alone.as_known ∙ known_two known
+          known_three known = alone_three.as_known ∙ known_two known
 
           back_three : (world three).known ≡ true → (world old).known ≡ true
-          back_three known = known_back (sym mended.repairs.ends.alone.as_known ∙ known)
+          back_three known = known_back (sym alone_three.as_known ∙ known)
 
           -- the structure's repair, as a part of the mount, where its copies stay after it
-          dds_repaired : (new : M) → ((block : ℕ) → cell_at (world two).cells block ≡ Dead → cell_at (world new).cells block ≡ Dead) → ((a : ℕ) → cell_at (world new).cells (dds_block shape a) ≡ cell_at (world three).cells (dds_block shape a))
-              → RepairsCopies IsDdsText (dds_block shape) (world old) (world new) d (4 + 2 * mended.repairs.rewritten)
-          dds_repaired new stays stay = record {
-            rewritten = mended.repairs.rewritten;
-            few = mended.repairs.few;
-            uses_are = refl;
-            rewrites = λ known. rewrites_seen IsDdsText (dds_block shape) d (world old).cells (world two).cells (world three).cells (world new).cells
-                (dds_seen shape (world old).cells (world two).cells (world new).cells (are_seen new stays)) stay mended.repairs.rewritten
-                (dds_rewritten shape (world two).cells (world three).cells d mended.repairs.rewritten (mended.repairs.rewrites (known_two known)));
-          }
+          module _ (new : M) (stays : ListsStayDead two new) (stay : (a : ℕ) → cell_at (world new).cells (dds_block shape a) ≡ cell_at (world three).cells (dds_block shape a)) where
+            dds_repaired : RepairsCopies IsDdsText (dds_block shape) (world old) (world new) d (4 + 2 * rewritten)
+            dds_repaired = record {
+              rewritten = rewritten;
+              few = mended.repairs.few;
+              uses_are = refl;
+              rewrites = λ known. rewrites_seen IsDdsText (dds_block shape) d (world old).cells (world two).cells (world three).cells (world new).cells
+                  (dds_seen shape (world old).cells (world two).cells (world new).cells (are_seen new stays)) stay rewritten
+                  (dds_rewritten shape d (world two).cells (world three).cells rewritten mended.repairs.seconds (mended.repairs.rewrites (known_two known)));
+            }
+
+            dds_mended : MendsDds shape (world two).cells (world new).cells d
+            dds_mended = dds_to_end shape (world two).cells (world new).cells d (settled_same IsDdsText (dds_block shape) (world three).cells (world new).cells stay d d_settled) stays.dds
+                (spares_same IsDdsText (dds_block shape) (world two).cells (world two).cells (world three).cells (world new).cells (λ a. refl) stay d
+                (dds_spares shape d (world two).cells (world three).cells mended.repairs.spares))
 
           ends_bare : (mark : ℕ) → m ≤ mark → n ≤ mark → (mark ≡ m) ⊎ (mark ≡ n) → ((world old).known ≡ true → GivesNone shape (world three).cells)
               → ((world old).known ≡ true → (d.state ≡ Formatting) ⊎ NoSdlChosen shape (world two).cells d) → EndsBare world reaches shape old three mark
           ends_bare mark low low' is bare why = record {
+            mores = mores;
             dds = Some d;
-            uses = 4 + 2 * mended.repairs.rewritten;
-            repaired = (dds_repaired three (stays_from three (4 + 2 * mended.repairs.rewritten) mended.repairs.ends.continues) (λ a. refl), d_settled);
+            uses = 4 + 2 * rewritten;
+            repaired = (dds_repaired three stays_three (λ a. refl), d_settled);
             ended = record {
               was_on = gone_three.was_on;
               continues = subst (Continues world reaches old three) (omega arith) gone_three.continues;
@@ -461,10 +609,12 @@ module _ {M : Type 0} (world : M → World) (block_count : M → ℕ) (reaches :
                   (λ known. marked_still shape (world two).cells (world three).cells mark d d_area (mark_both mark low low' is (back_three known)).within (first_is (back_three known)).copy d_settled same_sdl)
                   (none_marked shape (world three).cells mark);
               seen = (world two).cells;
-              are_seen = are_seen three (stays_from three (4 + 2 * mended.repairs.rewritten) mended.repairs.ends.continues);
+              are_seen = are_seen three stays_three;
               none = λ known. none_lacking shape (world two).cells (Some d) ((d_area, first_is known), why known);
               lacks = λ known. ((d_area, first_is known), why known);
               mark_is = mark_both mark low low' is;
+              few = few_mores;
+              counted = mores_seen;
             };
           }
 
@@ -484,67 +634,96 @@ module _ {M : Type 0} (world : M → World) (block_count : M → ℕ) (reaches :
             second_is : (world old).known ≡ true → IsChosenSdl shape (world two).cells d s s_area
             second_is known =
                 let chosen = below.chosen (known_one known) in
-                record {
-                  copy = sdl_own shape (world two).cells s s_area chosen.copy;
-                  fits = below.fits;
-                  no_better = λ other at copy fits. chosen.no_better (SdlValue other) at (sdl_any shape (world two).cells other at copy) fits;
-                }
+                record { copy = sdl_copy shape (world two).cells s s_area chosen.copy; fits = below.fits; no_better = sdl_no_better shape (world two).cells (AcceptsSdl shape d) s s_area chosen }
+
+            both_chosen : d.state ≡ Formatted → (world old).known ≡ true → AreChosen shape (world two).cells (record { dds = d; sdl = s })
+            both_chosen state known = record { dds_area = d_area; dds_chosen = first_is known; sdl_area = s_area; sdl_chosen = second_is known; formatted = state }
 
             -- a whole pair was seen, where the structure says that the disc is formatted
-            second_keeps : (four : M) → d.state ≡ Formatted → ChangesCopiesAlone world reaches kinds.Sdl shape three four → MayLeaveCopies world reaches kinds.Sdl shape three four (SdlValue s) → KeepsGiven shape (world old) (world four)
+            second_keeps : (four : M) → d.state ≡ Formatted → ChangesCopiesAlone world reaches kinds.Sdl shape three four (IsTwo s)
+                → MayLeaveParts IsTwo IsSdlText IsSdlSecond (sdl_block shape) (sdl_second_block shape) (world three).cells (world four).cells s → KeepsGiven shape (world old) (world four)
             second_keeps four state alone left = two_then four (sdl_mend_keeps two three four (record { dds = d; sdl = s })
-                (λ known. record {
-                  dds_area = d_area;
-                  dds_copy = (first_is (known_back known)).copy;
-                  sdl_area = s_area;
-                  sdl_copy = (second_is (known_back known)).copy;
-                  valid = record { primary = found.fits; together = below.fits; formatted = state };
-                })
+                (λ known. chosen_whole shape (world two).cells (record { dds = d; sdl = s }) (both_chosen state (known_back known)))
                 keeps_three same_sdl same_second alone left)
 
-            fits_32 : (4 + 4 + (4 + 2 * mended.repairs.rewritten)) + 12 ≤ 32
-            fits_32 = let f = mended.repairs.few in omega (arith, f)
+            fits_48 : (4 + (4 + mores) + (4 + 2 * rewritten)) + most_repair_uses (SdlValue s) ≤ 48
+            fits_48 = let f = few_mores in let g = mended.repairs.few in let p = parts_few s.version in omega (arith, f, g, p)
+
+            fourth_stops : (new : M) (stop : Stop) → d.state ≡ Formatted → StopsRepairing world reaches kinds.Sdl shape three new (SdlValue s) stop → WasStopped world reaches shape old new stop
+            fourth_stops new stop state stopped = stopped_later kinds.Sdl old three new (4 + (4 + mores) + (4 + 2 * rewritten)) (most_repair_uses (SdlValue s)) stop fits_48 gone_three stopped.within
+                (second_keeps new state stopped.within.alone (sdl_may shape s (world three).cells (world new).cells stopped.leaves))
+                (λ known. record {
+                  seen = (world two).cells;
+                  are_seen = are_seen new stays;
+                  mends = inr (inr (
+                    record { dds = d; sdl = s },
+                    record {
+                      chosen = both_chosen state known;
+                      dds = dds_mended new stays (dds_stay world reaches shape three new stopped.within.alone);
+                      sdl = sdl_from shape (world three).cells (world two).cells (world new).cells (λ a. sym (same_sdl a)) (λ a. sym (same_second a)) s
+                          (sdl_in_part shape (world three).cells (world new).cells s stopped.leaves stopped.spares);
+                    },
+                  ));
+                })
+              where
+                stays : ListsStayDead two new
+                stays = dead_then two three new stays_three (dead_in_sdl three new s stop stopped)
 
             pub fourth_ends : (new : M) (end : End) → d.state ≡ Formatted → EndsMending world reaches kinds.Sdl shape three new (SdlValue s) end → EndRule world reaches shape old new end
-            fourth_ends new ends.Cut state (stopped, left) = stopped_later kinds.Sdl old three new (4 + 4 + (4 + 2 * mended.repairs.rewritten)) 12 stops.Cut fits_32 gone_three stopped (second_keeps new state stopped.alone left)
+            fourth_ends new ends.Cut state stopped = fourth_stops new stops.Cut state stopped
             fourth_ends new ends.Off state off = absurd (off.was_off gone_three.continues.is_on)
-            fourth_ends new ends.Fault state (stopped, left) = stopped_later kinds.Sdl old three new (4 + 4 + (4 + 2 * mended.repairs.rewritten)) 12 stops.Fault fits_32 gone_three stopped (second_keeps new state stopped.alone left)
+            fourth_ends new ends.Fault state stopped = fourth_stops new stops.Fault state stopped
             fourth_ends new ends.NoMemory state never = absurd never
 
             module _ (four : M) (state : d.state ≡ Formatted) (done : IsMended world reaches kinds.Sdl shape three four (SdlValue s)) where
-              gone_four : Gone old four (4 + 4 + (4 + 2 * mended.repairs.rewritten) + (4 + 2 * done.repairs.rewritten))
-              gone_four = gone_then kinds.Sdl old three four (4 + 4 + (4 + 2 * mended.repairs.rewritten)) (4 + 2 * done.repairs.rewritten) gone_three done.repairs.ends
-                  (second_keeps four state done.repairs.ends.alone (λ a is. settled_may_hold (IsText kinds.Sdl) (cell_at (world three).cells (sdl_block shape a)) (cell_at (world four).cells (sdl_block shape a)) (SdlValue s) (done.settled a is)))
+              abbrev firsts : ℕ
+              firsts = done.repairs.firsts
 
-              stays_four : (block : ℕ) → cell_at (world three).cells block ≡ Dead → cell_at (world four).cells block ≡ Dead
-              stays_four block dead = (laws.follows three four (4 + 2 * done.repairs.rewritten) done.repairs.ends.continues.reach).lasts.stays_dead block dead
+              abbrev seconds : ℕ
+              seconds = done.repairs.seconds
 
-              stays_both : (block : ℕ) → cell_at (world two).cells block ≡ Dead → cell_at (world four).cells block ≡ Dead
-              stays_both block dead = stays_four block (stays_from three (4 + 2 * mended.repairs.rewritten) mended.repairs.ends.continues block dead)
+              s_exact : SdlIsExact shape (world four).cells s
+              s_exact = sdl_exact shape s (world four).cells done.exact
+
+              gone_four : Gone old four (4 + (4 + mores) + (4 + 2 * rewritten) + repair_uses (SdlValue s) (firsts + seconds))
+              gone_four = gone_then kinds.Sdl old three four (4 + (4 + mores) + (4 + 2 * rewritten)) (repair_uses (SdlValue s) (firsts + seconds)) gone_three done.repairs.ends
+                  (second_keeps four state done.repairs.ends.alone (exact_may world reaches shape three four s done.repairs.ends.alone s_exact))
+
+              stays_both : ListsStayDead two four
+              stays_both = dead_then two three four stays_three (dead_after three four (repair_uses (SdlValue s) (firsts + seconds)) done.repairs.ends.continues)
 
               -- the copies of the secondary list were, before their repair, as they were seen
-              before_repair : IsSeen (sdl_block shape) (world old).cells (world three).cells (world four).cells
-              before_repair a is = elim (sdl_seen shape (world old).cells (world two).cells (world four).cells (are_seen four stays_both) a is) [
-                | inl same ↦ inl (same_sdl a ∙ same)
-                | inr dead ↦ inr (same_sdl a ∙ dead.0, dead.1)
+              before_repair : (place : ℕ → ℕ) → ((a : ℕ) → cell_at (world three).cells (place a) ≡ cell_at (world two).cells (place a)) → IsSeen place (world old).cells (world two).cells (world four).cells
+                  → IsSeen place (world old).cells (world three).cells (world four).cells
+              before_repair place same seen a is = elim (seen a is) [
+                | inl was ↦ inl (same a ∙ was)
+                | inr dead ↦ inr (same a ∙ dead.0, dead.1)
               ]
 
-              sdl_repaired : RepairsCopies IsSdlText (sdl_block shape) (world old) (world four) s (4 + 2 * done.repairs.rewritten)
+              sdl_repaired : RepairsParts shape (world old) (world four) s (repair_uses (SdlValue s) (firsts + seconds))
               sdl_repaired = record {
-                rewritten = done.repairs.rewritten;
+                firsts = firsts;
+                seconds = seconds;
                 few = done.repairs.few;
+                few' = done.repairs.few';
+                none = done.repairs.none;
                 uses_are = refl;
-                rewrites = λ known. rewrites_seen IsSdlText (sdl_block shape) s (world old).cells (world three).cells (world four).cells (world four).cells
-                    before_repair (λ a. refl) done.repairs.rewritten
-                    (sdl_rewritten shape (world three).cells (world four).cells s done.repairs.rewritten (done.repairs.rewrites (known_three known)));
+                of_firsts = λ known. rewrites_seen IsSdlText (sdl_block shape) s (world old).cells (world three).cells (world four).cells (world four).cells
+                    (before_repair (sdl_block shape) same_sdl (sdl_seen shape (world old).cells (world two).cells (world four).cells (are_seen four stays_both))) (λ a. refl) firsts
+                    (sdl_rewritten shape s (world three).cells (world four).cells firsts seconds (done.repairs.rewrites (known_three known)));
+                of_seconds = λ two' known. rewrites_seen IsSdlSecond (sdl_second_block shape) s (world old).cells (world three).cells (world four).cells (world four).cells
+                    (before_repair (sdl_second_block shape) same_second (second_seen shape (world old).cells (world two).cells (world four).cells (are_seen four stays_both))) (λ a. refl) seconds
+                    (seconds_rewritten shape s (world three).cells (world four).cells firsts seconds (done.repairs.rewrites (known_three known)) two');
               }
 
               pub both_found : EndsWithLists world reaches shape old four (record { dds = d; sdl = s })
               both_found = record {
-                dds_uses = 4 + 2 * mended.repairs.rewritten;
-                dds = dds_repaired four stays_both (dds_stay world reaches shape three four done.repairs.ends.alone);
-                sdl_uses = 4 + 2 * done.repairs.rewritten;
+                mores = mores;
+                dds_uses = 4 + 2 * rewritten;
+                dds = dds_repaired four stays_both dds_stays;
+                sdl_uses = repair_uses (SdlValue s) (firsts + seconds);
                 sdl = sdl_repaired;
+                exact = s_exact;
                 ended = record {
                   was_on = gone_four.was_on;
                   continues = subst (Continues world reaches old four) (omega arith) gone_four.continues;
@@ -556,13 +735,17 @@ module _ {M : Type 0} (world : M → World) (block_count : M → ℕ) (reaches :
                   lawful_dds = found.in_grammar;
                   lawful_sdl = below.in_grammar;
                   settled = exact_settled shape (world four).cells (record { dds = d; sdl = s })
-                      (settled_same IsDdsText (dds_block shape) (world three).cells (world four).cells (dds_stay world reaches shape three four done.repairs.ends.alone) d d_settled)
-                      (sdl_settled shape (world four).cells s below.in_grammar.version_is done.settled);
+                      (settled_same IsDdsText (dds_block shape) (world three).cells (world four).cells dds_stays d d_settled) s_exact;
                   seen = (world two).cells;
                   are_seen = are_seen four stays_both;
-                  chosen = λ known. record { dds_area = d_area; dds_chosen = first_is known; sdl_area = s_area; sdl_chosen = second_is known; formatted = state };
+                  chosen = both_chosen state;
+                  few = few_mores;
+                  counted = mores_seen;
                 };
               }
+                where
+                  dds_stays : (a : ℕ) → cell_at (world four).cells (dds_block shape a) ≡ cell_at (world three).cells (dds_block shape a)
+                  dds_stays = dds_stay world reaches shape three four done.repairs.ends.alone
 
   -- ---- the same, by what the parts answered
 

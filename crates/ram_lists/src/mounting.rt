@@ -106,8 +106,9 @@ fn mount_lists<M: Medium>(
     })
 }
 
-/// Chooses the lists of a disc, and repairs the copies of those that were chosen: 8 uses, and for each list that is
-/// repaired 4 and 2 for each copy that is written again.
+/// Chooses the lists of a disc, and repairs the copies of those that were chosen: 8 uses, and one more for each first part
+/// of a secondary list after which another follows; and for each list that is repaired 4 for each of its parts, and 2 for
+/// each cell that is written again.
 pub fn mount<M: Medium>(
     alloc: Global,
     medium: &mut M,

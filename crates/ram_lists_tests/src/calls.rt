@@ -107,7 +107,7 @@ impl<M: MediumControl> Bench<M> {
         if taken.medium.blocks() != taken.geometry.total() {
             return Ok(Answer::NoDisc);
         }
-        let Some(value) = T::decode(alloc, text)? else {
+        let Some(value) = T::decode(alloc, text, None)? else {
             return Ok(Answer::NoText);
         };
         let (medium, geometry) = (&mut taken.medium, &taken.geometry);

@@ -38,12 +38,27 @@ impl ListBlock for Starved {
         self.list.counter
     }
 
-    fn encode(&self, into: &mut Block) {
+    fn parts(&self) -> u32 {
+        1
+    }
+
+    fn encode(&self, _part: u32, into: &mut Block) {
         self.list.encode(into);
     }
 
-    fn decode(alloc: Global, from: &Block) -> Result<Option<Starved>, AllocError> {
-        match DdsPdl::decode(alloc, from)? {
+    fn more(_first: &Block) -> Option<u32> {
+        None
+    }
+
+    fn decode(
+        alloc: Global,
+        first: &Block,
+        second: Option<&Block>,
+    ) -> Result<Option<Starved>, AllocError> {
+        if second.is_some() {
+            return Ok(None);
+        }
+        match DdsPdl::decode(alloc, first)? {
             None => Ok(None),
             Some(list) => {
                 if list.counter == REFUSED {

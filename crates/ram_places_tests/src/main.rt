@@ -5,6 +5,7 @@
 mod blocks;
 mod entries;
 mod marks;
+mod parts;
 mod places;
 mod rows;
 mod spares;

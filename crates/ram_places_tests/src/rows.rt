@@ -3,9 +3,10 @@
 use crate::blocks::{add_block, add_data_block, add_list_blocks, add_sizes};
 use crate::entries::answer_entries;
 use crate::marks::answer_marks;
+use crate::parts::both_parts;
 use crate::places::{Places, replacing, slipping};
 use crate::states::answer_states;
-use crate::texts::{add_dds, add_sdl};
+use crate::texts::{add_both, add_dds, add_more, add_sdl};
 use ram_by_hand::{List, Rows, byte_of, entries_of, number_of, put};
 use ram_bytes::Block;
 use ram_slip::{is_valid_pdl, is_valid_ssa};
@@ -21,6 +22,8 @@ pub struct PlaceRows;
 struct Table {
     places: Places,
     text: Block,
+    /// The block behind it, of a list of two.
+    second: Block,
 }
 
 impl Rows for PlaceRows {
@@ -33,7 +36,7 @@ impl Rows for PlaceRows {
     }
 }
 
-/// The small disc without a slipped block, and a block of zeros.
+/// The small disc without a slipped block, and two blocks of zeros.
 fn small(alloc: Global) -> Result<Option<Table>, AllocError> {
     let Ok(geometry) = Geometry::new(1, 1, 4) else {
         return Ok(None);
@@ -46,6 +49,7 @@ fn small(alloc: Global) -> Result<Option<Table>, AllocError> {
     Ok(Some(Table {
         places,
         text: Block::zeros(alloc)?,
+        second: Block::zeros(alloc)?,
     }))
 }
 
@@ -126,33 +130,76 @@ fn write_list(
     answer.push_str("put")
 }
 
-/// Makes the step of these words that is about texts, where one byte may be another.
+/// Takes both parts of the text of a secondary list with these entries.
+fn write_parts(
+    alloc: Global,
+    table: &mut Table,
+    words: &[&str],
+    answer: &mut String,
+) -> Result<(), AllocError> {
+    let entries = entries_of(alloc, words)?;
+    let (first, second) = both_parts(alloc, &entries)?;
+    table.text = first;
+    table.second = second;
+    answer.push_str("put")
+}
+
+/// Puts bytes into a block, and adds that they were put.
+fn add_put(
+    alloc: Global,
+    text: &mut Block,
+    at: &str,
+    bytes: &[&str],
+    answer: &mut String,
+) -> Result<(), AllocError> {
+    put_words(alloc, text, number_of(at).unwrap_or(0), bytes)?;
+    answer.push_str("put")
+}
+
+/// A block like this one, but for one byte where words name one.
+fn changed(alloc: Global, block: &Block, words: &[&str]) -> Result<Block, AllocError> {
+    let mut text = Block::zeros(alloc)?;
+    text.copy_from(block);
+    if let [at, byte] = words {
+        put_words(alloc, &mut text, number_of(at).unwrap_or(0), &[*byte])?;
+    }
+    Ok(text)
+}
+
+/// Adds what the texts say, where one byte may be another.
+fn read_text(
+    alloc: Global,
+    table: &Table,
+    word: &str,
+    other: &[&str],
+    answer: &mut String,
+) -> Result<(), AllocError> {
+    match word {
+        "dds" => add_dds(alloc, &changed(alloc, &table.text, other)?, answer),
+        "sdl" => add_sdl(alloc, &changed(alloc, &table.text, other)?, answer),
+        "more" => add_more(&changed(alloc, &table.text, other)?, answer),
+        "two" => {
+            let second = changed(alloc, &table.second, other)?;
+            add_both(alloc, &table.text, &second, answer)
+        }
+        _ => answer.push_str("no such step"),
+    }
+}
+
+/// Makes the step of these words that is about texts.
 fn make_text(
     alloc: Global,
     table: &mut Table,
     words: &[&str],
     answer: &mut String,
 ) -> Result<(), AllocError> {
-    let mut text = Block::zeros(alloc)?;
-    text.copy_from(&table.text);
     match words {
-        ["dds"] => add_dds(alloc, &text, answer),
-        ["sdl"] => add_sdl(alloc, &text, answer),
-        ["dds", at, byte] => {
-            put_words(alloc, &mut text, number_of(at).unwrap_or(0), &[*byte])?;
-            add_dds(alloc, &text, answer)
-        }
-        ["sdl", at, byte] => {
-            put_words(alloc, &mut text, number_of(at).unwrap_or(0), &[*byte])?;
-            add_sdl(alloc, &text, answer)
-        }
-        ["put", at, bytes @ ..] => {
-            let at = number_of(at).unwrap_or(0);
-            put_words(alloc, &mut table.text, at, bytes)?;
-            answer.push_str("put")
-        }
+        ["put", at, bytes @ ..] => add_put(alloc, &mut table.text, at, bytes, answer),
+        ["second", at, bytes @ ..] => add_put(alloc, &mut table.second, at, bytes, answer),
         ["entries", entries @ ..] => write_list(alloc, table, entries, answer),
-        _ => answer.push_str("no such step"),
+        ["parts", entries @ ..] => write_parts(alloc, table, entries, answer),
+        [word, other @ ..] => read_text(alloc, table, word, other, answer),
+        [] => answer.push_str("no such step"),
     }
 }
 

@@ -36,14 +36,8 @@ pub fn add_dds(alloc: Global, text: &Block, answer: &mut String) -> Result<(), A
     add_again(again.same(text), answer)
 }
 
-/// Adds the secondary list whose text a block is, and whether it is written again so: up to three of its entries, and how many
-/// it has.
-pub fn add_sdl(alloc: Global, text: &Block, answer: &mut String) -> Result<(), AllocError> {
-    let Some(value) = Sdl::decode(alloc, text)? else {
-        return answer.push_str("no text");
-    };
-    let mut again = spoiled(alloc)?;
-    value.encode(&mut again);
+/// Adds the numbers of a secondary list, up to three of its entries, and how many it has.
+fn add_list(value: &Sdl, answer: &mut String) -> Result<(), AllocError> {
     write!(
         answer,
         "{} {} {}",
@@ -53,5 +47,43 @@ pub fn add_sdl(alloc: Global, text: &Block, answer: &mut String) -> Result<(), A
     for entry in value.entries.as_slice().iter().take(3) {
         write!(answer, ", {} {:?}", entry.defective, entry.replacement)?;
     }
+    Ok(())
+}
+
+/// Adds the secondary list whose text a block is, and whether it is written again so.
+pub fn add_sdl(alloc: Global, text: &Block, answer: &mut String) -> Result<(), AllocError> {
+    let Some(value) = Sdl::decode(alloc, text, None)? else {
+        return answer.push_str("no text");
+    };
+    let mut again = spoiled(alloc)?;
+    value.encode(1, &mut again);
+    add_list(&value, answer)?;
     add_again(again.same(text), answer)
+}
+
+/// Adds the secondary list whose text two blocks are, and whether both are written again so.
+pub fn add_both(
+    alloc: Global,
+    first: &Block,
+    second: &Block,
+    answer: &mut String,
+) -> Result<(), AllocError> {
+    let Some(value) = Sdl::decode(alloc, first, Some(second))? else {
+        return answer.push_str("no text");
+    };
+    let mut first_again = spoiled(alloc)?;
+    value.encode(1, &mut first_again);
+    let mut second_again = spoiled(alloc)?;
+    value.encode(2, &mut second_again);
+    add_list(&value, answer)?;
+    add_again(first_again.same(first) && second_again.same(second), answer)
+}
+
+/// Adds whether a block is the first part of two, and which structure it then names.
+pub fn add_more(first: &Block, answer: &mut String) -> Result<(), AllocError> {
+    if Sdl::more(first) {
+        write!(answer, "more, under {}", Sdl::more_mark(first))
+    } else {
+        answer.push_str("no more")
+    }
 }

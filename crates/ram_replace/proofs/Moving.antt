@@ -4,7 +4,6 @@ use Rattle.std.proofs.Common.{refl, sym, ap, ◌∙◌, inl, inr, subst, arith, 
 use Rattle.std.specs.List.{Contains}
 use Rattle.std.proofs.lemmas.Bool.{cond-true, cond-false, lt-ltb, le-ltb, ne_eqb, cases_order}
 use Rattle.std.proofs.lemmas.List.Elements.{All-contains}
-use Rattle.model_lists.specs.declared.versions.Version.TheVariants.{One}
 use Rattle.model_geometry.specs.Geometry.{Shape, IsLawful, lead_out, data_blocks}
 use Rattle.model_geometry.proofs.DataBlocks.{data_blocks_bounds}
 use Rattle.model_geometry.proofs.Zones.{total_most}
@@ -162,9 +161,8 @@ module _ (shape : Shape) (lawful : IsLawful shape) (lists : Lists) (valid : AreV
     replacement_fits = data_number r (spare_is_unslipped shape lists r (members.from d r has));
   }
 
-  pub valid_lawful : lists.sdl.version ≡ One → lists.sdl.counter < 2 ^ 32 → lists.sdl.dds_counter < 2 ^ 32 → IsLawfulSdl lists.sdl
-  valid_lawful one counted dds_counted = record {
-    version_is = one;
+  pub valid_lawful : lists.sdl.counter < 2 ^ 32 → lists.sdl.dds_counter < 2 ^ 32 → IsLawfulSdl lists.sdl
+  valid_lawful counted dds_counted = record {
     counted = counted;
     dds_counted = dds_counted;
     limits = record {

@@ -7,8 +7,8 @@ use Rattle.std.proofs.lemmas.List.Elements.{Contains-get_or}
 use Rattle.model_geometry.specs.Geometry.{Shape, data_blocks, dds_block, sdl_block, sdl_second_block}
 use Rattle.model_geometry.proofs.ListBlocks.{no_data_block_sdl}
 use Rattle.model_lists.specs.Values.{Sdl}
-use Rattle.model_lists.specs.Texts.{IsDdsText}
-use Rattle.model_medium.specs.Cells.{Cell, Blank, Good, Torn, Dead, IsGood, MayLeave, cell_at}
+use Rattle.model_lists.specs.Texts.{IsDdsText, IsTwo}
+use Rattle.model_medium.specs.Cells.{Cell, Good, Dead, IsGood, MayLeave, cell_at}
 use Rattle.model_medium.specs.World.{World}
 use Rattle.model_sectors.specs.Discs.{Agrees}
 use Rattle.model_sectors.proofs.Fitting.{agrees_not_good}
@@ -28,7 +28,7 @@ use Rattle.model_volume.proofs.Moved.{home_not_free, home_is_data_block, free_is
 use Rattle.model_volume.proofs.Updates.{agrees_good, data_moves, settled_kept, dds_settled, fits_before, fits_written, fits_moved, cover_settled, cover_between}
 use Rattle.model_drive.specs.declared.TheConstants.{LAST_COUNTER}
 use Rattle.model_drive.specs.Repairs.{sdl_update_uses}
-use Rattle.model_drive.specs.Course.{ToHome, ToSpare, lists_placed, most_placing_uses, AreDead}
+use Rattle.model_drive.specs.Course.{ToHome, ToSpare, lists_placed, WentTo, AreMoved, most_placing_uses, AreDead}
 use Rattle.model_drive.specs.Blocks.{LeavesBlock, StopsAtBlock}
 use Rattle.ram_medium.specs.Laws.{MediumLaws}
 use Rattle.ram_medium.proofs.Parts.{continues_then, continues_quiet, stops_later, stops_within}
@@ -38,8 +38,9 @@ use Rattle.ram_copies.specs.Calls.{StoppedCounts, ChangesCopiesAlone}
 use Rattle.ram_copies.proofs.Lifting.{quiet_counts, fault_counts}
 use Rattle.ram_replace.specs.declared.spares.Found.{Found}
 use Rattle.ram_replace.specs.Spares.{ChangesSparesAlone, HaveFailed, IsFound, StopsTrying}
-use Rattle.ram_replace.specs.Updates.{KeepsListCopies, LosesListCopies, HasUpdated, LeavesListCopies, StopsUpdating}
-use Rattle.ram_replace.specs.Placing.{HasEnded, PlacesBlock, MeetsNoSpare, MeetsNoCopy, PlacingStopped}
+use Rattle.ram_lists.proofs.MountSteps.{dds_stay}
+use Rattle.ram_replace.specs.Updates.{KeepsListCopies, LosesListCopies, HasUpdated, LeavesSdl, StopsUpdating}
+use Rattle.ram_replace.specs.Placing.{HasEnded, PlacesBlock, MeetsNoSpare, MeetsNoCopy, LeavesPlacing, PlacingStopped}
 use Rattle.ram_replace.proofs.Trying.{on_true}
 
 dead_is_bad : (cell : Cell) → cell ≡ Dead → ¬ IsGood cell
@@ -75,12 +76,14 @@ module _ {M : Type 0} (world : M → World) (block_count : M → ℕ) (reaches :
       counts = quiet_counts world block_count reaches laws old new k continues;
     }
 
-    stopped_by : (new : M) (stop : Stop) → IsTrue (world old).power → StopsAtBlock world reaches shape old new lists i bytes stop → PlacingStopped world reaches shape old new lists i bytes lists stop
-    stopped_by new stop on stopped = record {
+    stopped_by : (new : M) (stop : Stop) → IsTrue (world old).power → StopsAtBlock world reaches shape old new lists i bytes stop → ((world old).known ≡ true → LeavesPlacing shape (world new).cells lists i)
+        → PlacingStopped world reaches shape old new lists i bytes lists stop
+    stopped_by new stop on stopped left = record {
       was_on = on;
       counts = stopped_counts old new (most_placing_uses shape lists i) stop stopped.stops;
       same = refl;
       stopped = stopped;
+      left = left;
     }
 
     -- ---- while cells of the home and of spares alone change
@@ -113,6 +116,7 @@ module _ {M : Type 0} (world : M → World) (block_count : M → ℕ) (reaches :
     home_stopped new stop on stopped = stopped_by new stop on
         (stopped_at new (home_alone new stopped.others) 2 stop (omega arith) stopped.stops stopped.as_known
         (left_three (cell_at (world old).cells (home_of shape lists i)) (cell_at (world new).cells (home_of shape lists i)) bytes stopped.left))
+        (λ known. inl (settled_new new (home_alone new stopped.others)))
 
     pub home_put : (new : M) → IsBlockPut world reaches old new (home_of shape lists i) bytes → PlacesBlock world reaches shape old new lists i bytes lists
     home_put new put = record {
@@ -153,6 +157,7 @@ module _ {M : Type 0} (world : M → World) (block_count : M → ℕ) (reaches :
           (stopped_at new (both_alone new stopped.alone) (2 + 2 * length (free_spares shape lists)) stop (omega arith)
           (stops_later world block_count reaches laws old mid new 2 (2 * length (free_spares shape lists)) stop lost.continues stopped.stops)
           (stopped.as_known ∙ lost.as_known) (inr (inr (home_bad new stopped.alone))))
+          (λ known. inl (settled_new new (both_alone new stopped.alone)))
 
       leaves_by : (new : M) (k uses : ℕ) → uses ≡ 2 + k → ChangesSparesAlone world reaches mid new (free_spares shape lists) bytes → Continues world reaches mid new k
           → (world new).known ≡ (world mid).known → LeavesBlock world reaches shape old new lists i bytes lists uses
@@ -183,7 +188,7 @@ module _ {M : Type 0} (world : M → World) (block_count : M → ℕ) (reaches :
 
         no_update_uses : (counter : ℕ) → counter ≡ LAST_COUNTER → 2 + (2 * found.tried + 2) + (if counter == LAST_COUNTER then 0 else sdl_update_uses lists.sdl) ≡ 2 + (2 * found.tried + 2)
         no_update_uses counter last =
-            let none : (if counter == LAST_COUNTER then 0 else sdl_update_uses lists.sdl) ≡ 0 = cond-true (eqb counter LAST_COUNTER) 0 8 (eq-eqb counter LAST_COUNTER last) in
+            let none : (if counter == LAST_COUNTER then 0 else sdl_update_uses lists.sdl) ≡ 0 = cond-true (eqb counter LAST_COUNTER) 0 (sdl_update_uses lists.sdl) (eq-eqb counter LAST_COUNTER last) in
             omega (arith, none)
 
         pub last_counter : lists.sdl.counter ≡ LAST_COUNTER → MeetsNoCopy world reaches shape old here lists i bytes lists lists.sdl.counter
@@ -230,12 +235,13 @@ module _ {M : Type 0} (world : M → World) (block_count : M → ℕ) (reaches :
         continues_here : Continues world reaches old here (2 + (2 * found.tried + 2))
         continues_here = continues_then world block_count reaches laws old mid here 2 (2 * found.tried + 2) lost.continues has.continues
 
-        module _ (new : M) (alone : ChangesCopiesAlone world reaches kinds.Sdl shape here new) where
+        module _ (new : M) (alone : ChangesCopiesAlone world reaches kinds.Sdl shape here new (IsTwo lists.sdl)) where
           all_only : OnlyMoves shape (world old).cells (world new).cells lists i
-          all_only block apart away outside = alone.others block (λ area is. outside area) ∙ both_alone here has.alone block apart away
+          all_only block apart away outside outside' = alone.others block (λ area is. outside area) (λ two area is. outside' area) ∙ both_alone here has.alone block apart away
 
           data_same : (block : ℕ) → Contains (data_blocks shape) block → cell_at (world new).cells block ≡ cell_at (world here).cells block
           data_same block is_data = alone.others block (λ area is same. no_data_block_sdl shape area (subst (Contains (data_blocks shape)) same is_data))
+              (λ two area is same. no_data_block_second shape area (subst (Contains (data_blocks shape)) same is_data))
 
           free_same : (block : ℕ) → Contains (free_spares shape lists) block → cell_at (world new).cells block ≡ cell_at (world here).cells block
           free_same block free = data_same block (free_is_data shape lists valid block free)
@@ -262,41 +268,53 @@ module _ {M : Type 0} (world : M → World) (block_count : M → ℕ) (reaches :
           dds_still : Settled IsDdsText (dds_block shape) (world new).cells lists.dds
           dds_still = dds_settled shape lists valid i inside (world old).cells (world new).cells all_only settled
 
+          went_to : (world old).known ≡ true → WentTo shape (world new).cells lists i (ToSpare found.tried)
+          went_to known = (dead_still, tried_dead, spare_good_still known)
+
+          is_moved : (other : Lists) → other ≡ moved → (world old).known ≡ true → AreMoved shape (world new).cells lists i other
+          is_moved other after known = record { tried = found.tried; some_spare = has.stands.inside; went = went_to known; lists_are = after ∙ moved_is }
+
+          goes_on : Continues world reaches here new (sdl_update_uses lists.sdl) → Continues world reaches old new (2 + (2 * found.tried + 2) + sdl_update_uses lists.sdl)
+          goes_on continues = continues_then world block_count reaches laws old here new (2 + (2 * found.tried + 2)) (sdl_update_uses lists.sdl) continues_here continues
+
           -- it was stopped
-          update_stopped : (stop : Stop) → IsTrue (world old).power → Stops world reaches here new 8 stop → LeavesListCopies world reaches shape here new moved_sdl
+          update_stopped : (stop : Stop) → IsTrue (world old).power → Stops world reaches here new (sdl_update_uses lists.sdl) stop → LeavesSdl shape (world here).cells (world new).cells moved_sdl
               → PlacingStopped world reaches shape old new lists i bytes lists stop
           update_stopped stop on stops left = stopped_by new stop on (record {
-            stops = stops_within world block_count reaches laws old new (2 + (2 * found.tried + 2) + 8) (most_placing_uses shape lists i) stop (let inside = has.stands.inside in omega (arith, inside))
-                (stops_later world block_count reaches laws old here new (2 + (2 * found.tried + 2)) 8 stop continues_here stops);
+            stops = stops_within world block_count reaches laws old new (2 + (2 * found.tried + 2) + sdl_update_uses lists.sdl) (most_placing_uses shape lists i) stop (let inside = has.stands.inside in omega (arith, inside))
+                (stops_later world block_count reaches laws old here new (2 + (2 * found.tried + 2)) (sdl_update_uses lists.sdl) stop continues_here stops);
             given = λ known other given. elim (pair_between shape (world new).cells lists.dds lists.sdl moved_sdl other dds_still valid.together.same_version between given) [
               | inl before ↦ inl before
-              | inr after ↦ inr (record {
-                tried = found.tried;
-                some_spare = has.stands.inside;
-                went = (dead_still, tried_dead, spare_good_still known);
-                lists_are = after ∙ moved_is;
-              })
+              | inr after ↦ inr (is_moved other after known)
             ];
             as_known = as_known_all;
             only = all_only;
             covers = λ disc disc' differs fits. cover_between shape lists valid i inside (world old).cells (world new).cells all_only bytes disc disc' differs fits
                 (tried_of (free_spares shape lists) found.tried) found.spare next spare_agrees settled bad_still between;
           })
+              (λ known. inr (record {
+                before = (world here).cells;
+                settled = settled_here;
+                same_dds = λ area is. dds_stay world reaches shape here new alone area;
+                moved = moved;
+                is_moved = is_moved moved refl known;
+                left = left;
+              }))
             where
               between : SdlIsBetween shape (world new).cells lists.sdl moved_sdl
-              between = settled_stopped shape (world here).cells (world new).cells lists.sdl moved_sdl settled_here.sdl refl (inl (λ same. omega (arith, same))) left.parts left.dead
+              between = settled_stopped shape (world here).cells (world new).cells lists.sdl moved_sdl settled_here.sdl refl (inl (λ same. omega (arith, same))) left.may left.stays_dead
 
           -- no copy can be read
-          no_copy_left : lists.sdl.counter ≢ LAST_COUNTER → Continues world reaches here new 8 → LosesListCopies world reaches shape here new moved_sdl
+          no_copy_left : lists.sdl.counter ≢ LAST_COUNTER → Continues world reaches here new (sdl_update_uses lists.sdl) → LosesListCopies world reaches shape here new moved_sdl
               → MeetsNoCopy world reaches shape old new lists i bytes lists lists.sdl.counter
           no_copy_left room continues left = record {
-            ended = ended_by new (2 + (2 * found.tried + 2) + 8) lists goes;
+            ended = ended_by new (2 + (2 * found.tried + 2) + sdl_update_uses lists.sdl) lists (goes_on continues);
             finds = record {
               tried = found.tried;
               some_spare = has.stands.inside;
               leaves = record {
                 same = refl;
-                continues = subst (Continues world reaches old new) uses goes;
+                continues = subst (Continues world reaches old new) uses (goes_on continues);
                 as_known = as_known_all;
                 settled = record { dds = dds_still; sdl = lost_settled shape (world new).cells lists.sdl moved_sdl refl refl left.exact left.lost };
                 only = all_only;
@@ -310,43 +328,37 @@ module _ {M : Type 0} (world : M → World) (block_count : M → ℕ) (reaches :
             };
           }
             where
-              goes : Continues world reaches old new (2 + (2 * found.tried + 2) + 8)
-              goes = continues_then world block_count reaches laws old here new (2 + (2 * found.tried + 2)) 8 continues_here continues
-
-              uses : 2 + (2 * found.tried + 2) + 8 ≡ 2 + (2 * found.tried + 2) + (if lists.sdl.counter == LAST_COUNTER then 0 else sdl_update_uses lists.sdl)
+              uses : 2 + (2 * found.tried + 2) + sdl_update_uses lists.sdl ≡ 2 + (2 * found.tried + 2) + (if lists.sdl.counter == LAST_COUNTER then 0 else sdl_update_uses lists.sdl)
               uses =
-                  let some : (if lists.sdl.counter == LAST_COUNTER then 0 else sdl_update_uses lists.sdl) ≡ 8 = cond-false (eqb lists.sdl.counter LAST_COUNTER) 0 8 (ne_eqb lists.sdl.counter LAST_COUNTER room) in
+                  let some : (if lists.sdl.counter == LAST_COUNTER then 0 else sdl_update_uses lists.sdl) ≡ sdl_update_uses lists.sdl = cond-false (eqb lists.sdl.counter LAST_COUNTER) 0 (sdl_update_uses lists.sdl) (ne_eqb lists.sdl.counter LAST_COUNTER room) in
                   omega (arith, some)
 
           -- the list was written
-          list_written : lists.sdl.counter < LAST_COUNTER → Continues world reaches here new 8 → KeepsListCopies world reaches shape here new moved_sdl
+          list_written : lists.sdl.counter < LAST_COUNTER → Continues world reaches here new (sdl_update_uses lists.sdl) → KeepsListCopies world reaches shape here new moved_sdl
               → PlacesBlock world reaches shape old new lists i bytes moved
           list_written room continues kept = record {
-            ended = ended_by new (2 + (2 * found.tried + 2) + 8) moved goes;
+            ended = ended_by new (2 + (2 * found.tried + 2) + sdl_update_uses lists.sdl) moved (goes_on continues);
             puts = record {
               placing = ToSpare found.tried;
               can = (has.stands.inside, room);
               lists_are = moved_is;
-              continues = goes;
+              continues = goes_on continues;
               as_known = as_known_all;
               settled = record { dds = dds_still; sdl = λ _. kept.exact };
               only = all_only;
-              went = λ known. (dead_still, tried_dead, spare_good_still known);
+              went = went_to;
               has_copy = λ known none. kept.not_lost (has.as_known ∙ lost.as_known ∙ known) (lost_alike shape (world new).cells lists.sdl moved_sdl refl none);
               makes = λ disc disc' differs fits. fits_moved shape lists valid i inside (world old).cells (world new).cells all_only bytes disc disc' differs fits
                   (tried_of (free_spares shape lists) found.tried) found.spare next spare_agrees;
             };
           }
-            where
-              goes : Continues world reaches old new (2 + (2 * found.tried + 2) + 8)
-              goes = continues_then world block_count reaches laws old here new (2 + (2 * found.tried + 2)) 8 continues_here continues
 
         -- how the update ended
         pub update_ends : (new : M) (stop : Stop) → IsTrue (world old).power → StopsUpdating world reaches shape here new moved_sdl stop
             → PlacingStopped world reaches shape old new lists i bytes lists stop
-        update_ends new stops.Cut on h = update_stopped new h.0.alone stops.Cut on h.0.stops h.1
+        update_ends new stops.Cut on h = update_stopped new h.stopped.alone stops.Cut on h.stopped.stops h.left
         update_ends new stops.Off on h = absurd (h.was_off has.continues.is_on)
-        update_ends new stops.Fault on h = update_stopped new h.0.alone stops.Fault on h.0.stops h.1
+        update_ends new stops.Fault on h = update_stopped new h.stopped.alone stops.Fault on h.stopped.stops h.left
 
         pub no_copy : (new : M) → lists.sdl.counter ≢ LAST_COUNTER → HasUpdated world reaches shape here new moved_sdl false
             → MeetsNoCopy world reaches shape old new lists i bytes lists lists.sdl.counter

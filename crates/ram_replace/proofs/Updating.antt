@@ -1,30 +1,40 @@
 -- What an update of a list says of the secondary one.
-use Rattle.std.specs.Prelude.{◌≡◌, ℕ, Bool, true, false}
+use Rattle.std.specs.Prelude.{ℕ, true, false}
 use Rattle.model_geometry.specs.Geometry.{Shape}
-use Rattle.model_lists.specs.Values.{Sdl, IsLawfulSdl}
+use Rattle.model_lists.specs.Values.{Sdl}
+use Rattle.model_lists.specs.Texts.{IsTwo}
 use Rattle.model_medium.specs.World.{World}
+use Rattle.model_stops.specs.declared.Stop.{Stop}
+use Rattle.model_drive.specs.Repairs.{sdl_update_uses}
 use Rattle.ram_zones.specs.declared.list_kind.ListKind.TheVariants as kinds
 use Rattle.ram_copies.specs.Values.{SdlValue}
-use Rattle.ram_copies.specs.Calls.{ChangesCopiesAlone, CallEnds, Keeps, LeavesNone, MayLeaveCopies, StaysDead}
-use Rattle.ram_copies.proofs.EachList.{sdl_settled, sdl_lost, sdl_lost_exact, sdl_all_lost, sdl_left, sdl_stay_dead}
-use Rattle.ram_replace.specs.Updates.{HasUpdated, LeavesListCopies}
+use Rattle.ram_copies.specs.Calls.{LeavesCopies, CallEnds, StoppedWithin, Keeps, KeepsNone}
+use Rattle.ram_copies.proofs.EachList.{sdl_exact, sdl_lost, sdl_all_lost, sdl_may, sdl_stays_dead, sdl_stops}
+use Rattle.ram_replace.specs.Updates.{HasUpdated, HaltsUpdating}
 
-module _ {M : Type 0} (world : M → World) (reaches : M → M → ℕ → Type 0) (shape : Shape) (old new : M) (value : Sdl) (lawful : IsLawfulSdl value) where
-  pub updated_kept : (readable : ℕ) → CallEnds world reaches kinds.Sdl shape old new 8 → Keeps world reaches kinds.Sdl shape old new (SdlValue value) readable → HasUpdated world reaches shape old new value true
+module _ {M : Type 0} (world : M → World) (reaches : M → M → ℕ → Type 0) (shape : Shape) (old new : M) (value : Sdl) where
+  pub updated_kept : (readable : ℕ) → CallEnds world reaches kinds.Sdl shape old new (IsTwo value) (sdl_update_uses value) → Keeps world reaches kinds.Sdl shape old new (SdlValue value) readable → HasUpdated world reaches shape old new value true
   updated_kept readable ended keeps = record {
     ended = ended;
     left = record {
-      exact = sdl_settled shape (world new).cells value lawful.version_is keeps.settled;
-      not_lost = λ known lost. keeps.not_lost known (sdl_all_lost shape (world new).cells value lawful.version_is lost);
+      exact = sdl_exact shape value (world new).cells keeps.exact;
+      not_lost = λ known lost. keeps.not_lost known (sdl_all_lost shape value (world new).cells lost);
     };
   }
 
-  pub updated_lost : CallEnds world reaches kinds.Sdl shape old new 8 → LeavesNone world reaches kinds.Sdl shape old new → HasUpdated world reaches shape old new value false
-  updated_lost ended lost = record {
+  pub updated_lost : CallEnds world reaches kinds.Sdl shape old new (IsTwo value) (sdl_update_uses value) → KeepsNone world reaches kinds.Sdl shape old new (SdlValue value) → HasUpdated world reaches shape old new value false
+  updated_lost ended keeps = record {
     ended = ended;
-    left = record { exact = sdl_lost_exact shape (world new).cells value lawful.version_is lost; lost = sdl_lost shape (world new).cells value lost };
+    left = record { exact = sdl_exact shape value (world new).cells keeps.exact; lost = sdl_lost shape value (world new).cells keeps.lost };
   }
 
-  pub left_stopped : ChangesCopiesAlone world reaches kinds.Sdl shape old new → MayLeaveCopies world reaches kinds.Sdl shape old new (SdlValue value) → StaysDead world reaches kinds.Sdl shape old new
-      → LeavesListCopies world reaches shape old new value
-  left_stopped alone left dead = record { parts = sdl_left world reaches shape old new value alone left; dead = sdl_stay_dead world reaches shape old new alone dead }
+  pub update_halted : (stop : Stop) → StoppedWithin world reaches kinds.Sdl shape old new (IsTwo value) (sdl_update_uses value) stop → LeavesCopies kinds.Sdl shape (world old).cells (world new).cells (SdlValue value)
+      → HaltsUpdating world reaches shape old new value stop
+  update_halted stop stopped leaves = record {
+    stopped = stopped;
+    left = record {
+      may = sdl_may shape value (world old).cells (world new).cells leaves;
+      stays_dead = sdl_stays_dead shape value (world old).cells (world new).cells leaves;
+      stops = sdl_stops shape value (world old).cells (world new).cells leaves;
+    };
+  }

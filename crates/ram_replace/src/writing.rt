@@ -107,8 +107,8 @@ fn place<M: Medium>(
 
 /// Writes logical block `i` to its home, which the caller has looked up, and reads it back: 2 uses. Where the home is
 /// dead, one free spare after another is written and read back, 2 uses each, until one has the bytes; then the secondary
-/// list that says so is updated, 8 uses, and taken over. `draft` holds that list until then, and nothing of use before
-/// and after. After Done the room of `scratch` has the bytes, where cells are known. It takes no memory.
+/// list that says so is updated, 8 uses for each of its parts, and taken over. `draft` holds that list until then, and
+/// nothing of use before and after. After Done the room of `scratch` has the bytes, where cells are known. It takes no memory.
 ///
 /// The lists in memory change with Done alone, once a copy of the new list can be read. (Linear replacement after
 /// ECMA-330; the order of the steps is this project's own.)

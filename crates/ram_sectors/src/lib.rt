@@ -99,8 +99,8 @@ pub trait Disc: Sectors {
 
     /// Gives the disc a smaller capacity, in sectors: its last blocks become supplementary spares. The sectors that are left
     /// stay. Refused, with the capacity, where the disc cannot have this one: 0, no multiple of 16, more than it has, or
-    /// more spares in all than 4,092. NoUpdate, where the list that would say so could not be written: its copies are all
-    /// dead, or its counter is the last one.
+    /// more spares in all than 4,092, or 8,184 where its lists have version 2. NoUpdate, where the list that would say so could
+    /// not be written: its copies are all dead, or its counter is the last one.
     fn expand(&mut self, capacity: u32) -> ExpandOut
         ensures cause { ExpandCause (Self.shows self.old) (Self.shows self.new) capacity result }
         ensures step { (s : Standing) → Self.stands self.old s

@@ -16,7 +16,7 @@ use ram_zones::Geometry;
 pub struct SpareCounts {
     /// How many primary spares, at most 4,092.
     pub free_primary: u32,
-    /// How many supplementary spares, at most 4,092.
+    /// How many supplementary spares, at most 4,092 with the primary ones under version 1, and 8,184 under version 2.
     pub free_supplementary: u32,
 }
 

@@ -12,10 +12,10 @@ use Rattle.model_drive.specs.Shown.{Shown, IsOn, StandsFor}
 use Rattle.model_drive.specs.Reads.{ReadStep}
 use Rattle.model_drive.specs.Writes.{WriteStep}
 use Rattle.model_drive.specs.Formats.{FormatStep}
-use Rattle.model_geometry.specs.Geometry.{dds_block, sdl_block}
-use Rattle.model_lists.specs.Values.{Dds}
-use Rattle.model_lists.specs.Texts.{IsDdsText, IsSdlText}
-use Rattle.model_drive.specs.Repairs.{RepairsList}
+use Rattle.model_geometry.specs.Geometry.{dds_block}
+use Rattle.model_lists.specs.Values.{Dds, Sdl}
+use Rattle.model_lists.specs.Texts.{IsDdsText}
+use Rattle.model_drive.specs.Repairs.{RepairsList, RepairsSdl}
 use Rattle.model_drive.specs.Power.{RepairsChosenDds, PowerCause, PowerStep}
 use Rattle.ram_volume.specs.Powers.{turned_off, PowerSteps}
 use Rattle.ram_volume.specs.Formats.{FormatSteps}
@@ -49,6 +49,18 @@ repairs_again : {V : Type 0} (text : V → List ℕ → Type 0) (place : ℕ →
 repairs_again text place old new value uses repairs =
     record { rewritten = repairs.rewritten; few = repairs.few; uses_are = repairs.uses_are; rewrites = repairs.rewrites }
 
+parts_again : (old new : Shown) (sdl : Sdl) (uses : ℕ) → RepairsSdl (turned_off old) new sdl uses → RepairsSdl old new sdl uses
+parts_again old new sdl uses repairs = record {
+  firsts = repairs.firsts;
+  seconds = repairs.seconds;
+  few = repairs.few;
+  few' = repairs.few';
+  none = repairs.none;
+  uses_are = repairs.uses_are;
+  of_firsts = repairs.of_firsts;
+  of_seconds = repairs.of_seconds;
+}
+
 chosen_again : (old new : Shown) (chosen : Option Dds) (uses : ℕ) → RepairsChosenDds (turned_off old) new chosen uses → RepairsChosenDds old new chosen uses
 chosen_again old new None uses none = none
 chosen_again old new (Some dds) uses repairs = (repairs_again IsDdsText (dds_block old.shape) old new dds uses repairs.0, repairs.1)
@@ -66,7 +78,10 @@ power_again old new (powers.Ready known) cause = record {
   dds_uses = cause.dds_uses;
   dds = repairs_again IsDdsText (dds_block old.shape) old new cause.lists.dds cause.dds_uses cause.dds;
   sdl_uses = cause.sdl_uses;
-  sdl = repairs_again IsSdlText (sdl_block old.shape) old new cause.lists.sdl cause.sdl_uses cause.sdl;
+  sdl = parts_again old new cause.lists.sdl cause.sdl_uses cause.sdl;
+  mores = cause.mores;
+  few = cause.few;
+  mores_are = cause.mores_are;
   ends = cause.ends;
 }
 power_again old new powers.NotFormatted cause = record {
@@ -79,6 +94,9 @@ power_again old new powers.NotFormatted cause = record {
   lacks = cause.lacks;
   uses = cause.uses;
   repaired = chosen_again old new cause.chosen cause.uses cause.repaired;
+  mores = cause.mores;
+  few = cause.few;
+  mores_are = cause.mores_are;
   ends = cause.ends;
 }
 power_again old new powers.Cut cause = record {

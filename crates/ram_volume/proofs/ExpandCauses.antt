@@ -40,9 +40,9 @@ module _ {M : Type 0} (world : M → World) (reaches : M → M → ℕ → Type 
   abbrev pub off : Shown
   off = shown_without shape (machine new)
 
-  any : (left : Option Lists) (mark : ℕ) → IsTrue (world old).power → IsLawfulSize shape lists.sdl.version (capacity_of shape lists) sectors → ChangesCopiesAlone world reaches kinds.Sdl shape old new
+  any : (left : Option Lists) (mark : ℕ) → IsTrue (world old).power → IsLawfulSize shape lists.sdl.version (capacity_of shape lists) sectors → {two : Type 0} → ChangesCopiesAlone world reaches kinds.Sdl shape old new two
       → ExpandsAny before (record { shape = shape; medium = machine new; lists = left; mark = mark; buffer = [] }) sectors lists
-  any left mark on size alone = record { was_on = on; in_use = refl; lawful = size; only = alone.others }
+  any left mark on size alone = record { was_on = on; in_use = refl; lawful = size; only = λ block first second. alone.others block first (λ two. second) }
 
   -- the disc has the capacity already, or it has now
   stays_cause : KeepsSize world reaches shape old new lists sectors lists' → StaysAsLarge before after sectors

@@ -8,8 +8,8 @@ use Rattle.model_medium.specs.Exact.{Event, PowerOn, PowerOff}
 use Rattle.model_medium.specs.Reach.{Reach}
 use Rattle.model_medium.specs.declared.WornBlock.{WornBlock}
 use Rattle.model_medium.specs.declared.ArmedCut.{ArmedCut}
-use Rattle.model_geometry.specs.Geometry.{dds_block, sdl_block}
-use Rattle.model_lists.specs.Texts.{IsDdsText, IsSdlText}
+use Rattle.model_geometry.specs.Geometry.{dds_block}
+use Rattle.model_lists.specs.Texts.{IsDdsText}
 use Rattle.model_volume.specs.Given.{AreSeen}
 use Rattle.model_stops.specs.Stops.{Stops}
 use Rattle.model_stops.specs.declared.Stop.{Stop}
@@ -20,10 +20,10 @@ use Rattle.model_places.specs.Places.{Lists}
 use Rattle.model_drive.proofs.Ends.{stop_off}
 use Rattle.model_drive.proofs.Powers.{power_step}
 use Rattle.model_drive.specs.Shown.{Shown, capacity}
-use Rattle.model_drive.specs.Repairs.{mount_most, RepairsList}
+use Rattle.model_drive.specs.Repairs.{mount_most, RepairsList, RepairsSdl}
 use Rattle.model_drive.specs.Power.{turned_on, MountsAny, MountsLists, MountsNone, RepairsChosenDds, StopsInMount, MountLacksMemory}
 use Rattle.ram_medium.specs.Laws.{ControlLaws, machine_shown}
-use Rattle.ram_lists.specs.Mounts.{KeepsGiven, RepairsCopies, RepairsChosen, EndsWithLists, EndsBare, WasStopped, WasOutOfMemory}
+use Rattle.ram_lists.specs.Mounts.{KeepsGiven, RepairsCopies, RepairsParts, RepairsChosen, EndsWithLists, EndsBare, WasStopped, WasOutOfMemory}
 use Rattle.ram_volume.specs.Shown.{shown_without, shown_unformatted, shown_under}
 use Rattle.ram_volume.specs.Powers.{PowerSteps}
 use Rattle.ram_volume.proofs.Keeping.{off_right, under_right}
@@ -58,6 +58,20 @@ module _ {M : Type 0} (world : M → World) (reaches : M → M → ℕ → Type 
         let k = subst (λ (w : World). RepairsCopies text place w (world new) value uses) powers r in
         record { rewritten = k.rewritten; few = k.few; uses_are = k.uses_are; rewrites = k.rewrites }
 
+    repairs_parts : (new : M) (lists : Option Lists) (mark : ℕ) (sdl : Sdl) (uses : ℕ) → RepairsParts shape (world on) (world new) sdl uses → RepairsSdl old (after new lists mark) sdl uses
+    repairs_parts new lists mark sdl uses r =
+        let k = subst (λ (w : World). RepairsParts shape w (world new) sdl uses) powers r in
+        record {
+          firsts = k.firsts;
+          seconds = k.seconds;
+          few = k.few;
+          few' = k.few';
+          none = k.none;
+          uses_are = k.uses_are;
+          of_firsts = k.of_firsts;
+          of_seconds = k.of_seconds;
+        }
+
     known_on : (known : Bool) → (world off).known ≡ known → (world on).known ≡ known
     known_on known is = ap (λ (w : World). w.known) powers ∙ is
 
@@ -75,8 +89,11 @@ module _ {M : Type 0} (world : M → World) (reaches : M → M → ℕ → Type 
       dds_uses = ends.dds_uses;
       dds = repairs IsDdsText (dds_block shape) new (Some lists) lists.dds.counter lists.dds ends.dds_uses ends.dds;
       sdl_uses = ends.sdl_uses;
-      sdl = repairs IsSdlText (sdl_block shape) new (Some lists) lists.dds.counter lists.sdl ends.sdl_uses ends.sdl;
-      ends = record { reach = reached new (8 + (ends.dds_uses + ends.sdl_uses)) ends.ended.continues.reach; is_on = ends.ended.continues.is_on };
+      sdl = repairs_parts new (Some lists) lists.dds.counter lists.sdl ends.sdl_uses ends.sdl;
+      mores = ends.mores;
+      few = ends.finds.few;
+      mores_are = λ known. ends.finds.counted (known_on true known);
+      ends = record { reach = reached new (8 + ends.mores + (ends.dds_uses + ends.sdl_uses)) ends.ended.continues.reach; is_on = ends.ended.continues.is_on };
     }
 
     abbrev under : M → Dds → Sdl → List (ℕ × List ℕ) → Shown
@@ -112,12 +129,15 @@ module _ {M : Type 0} (world : M → World) (reaches : M → M → ℕ → Type 
       lacks = λ known. ends.finds.lacks (known_on true known);
       uses = ends.uses;
       repaired = repaired_chosen new mark ends.dds ends.uses ends.repaired;
-      ends = record { reach = reached new (8 + ends.uses) ends.ended.continues.reach; is_on = ends.ended.continues.is_on };
+      mores = ends.mores;
+      few = ends.finds.few;
+      mores_are = λ known. ends.finds.counted (known_on true known);
+      ends = record { reach = reached new (8 + ends.mores + ends.uses) ends.ended.continues.reach; is_on = ends.ended.continues.is_on };
     }
 
-    stops_shown : (new : M) (stop : Stop) → Stops world reaches on new 32 stop → Stops (λ (m : Machine). m.world) Reach (turned_on old).medium (machine new) mount_most stop
+    stops_shown : (new : M) (stop : Stop) → Stops world reaches on new 48 stop → Stops (λ (m : Machine). m.world) Reach (turned_on old).medium (machine new) mount_most stop
     stops_shown new stop s =
-        subst (λ (m : Machine). Stops (λ (m : Machine). m.world) Reach m (machine new) mount_most stop) (laws.exactly off on PowerOn turned) (machine_stops world reaches takes arms armed_cut laws on new 32 mount_most refl stop s)
+        subst (λ (m : Machine). Stops (λ (m : Machine). m.world) Reach m (machine new) mount_most stop) (laws.exactly off on PowerOn turned) (machine_stops world reaches takes arms armed_cut laws on new 48 mount_most refl stop s)
 
     pub stopped : (new : M) (stop : Stop) → WasStopped world reaches shape on new stop → StopsInMount old (shown_without shape (machine new)) stop
     stopped new stop was = record {

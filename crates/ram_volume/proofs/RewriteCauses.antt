@@ -1,7 +1,8 @@
 -- From the rule of a rewriting format to the cause of its answer, one lemma for each.
 use Rattle.std.proofs.Common.{ℕ, ◌+◌, Option, List, [], refl}
-use Rattle.model_geometry.specs.Geometry.{Shape, dds_block, sdl_block}
-use Rattle.model_lists.specs.Texts.{IsDdsText, IsSdlText}
+use Rattle.model_geometry.specs.Geometry.{Shape, dds_block}
+use Rattle.model_lists.specs.Texts.{IsDdsText}
+use Rattle.model_lists.specs.Values.{Sdl}
 use Rattle.model_medium.specs.World.{World}
 use Rattle.model_medium.specs.Machine.{Machine}
 use Rattle.model_medium.specs.Exact.{Event}
@@ -11,10 +12,10 @@ use Rattle.model_stops.specs.declared.Stop.{Stop}
 use Rattle.model_places.specs.Places.{Lists}
 use Rattle.model_drive.specs.declared.FormatOut.TheVariants as outs
 use Rattle.model_drive.specs.Shown.{Shown}
-use Rattle.model_drive.specs.Repairs.{RepairsList}
+use Rattle.model_drive.specs.Repairs.{RepairsList, RepairsSdl, repair_uses, sdl_repair_uses}
 use Rattle.model_drive.specs.Rewriting.{RepairsBoth, StopsInRewrite, RewriteCause}
 use Rattle.ram_medium.specs.Laws.{ControlLaws, machine_shown}
-use Rattle.ram_lists.specs.Mounts.{RepairsCopies}
+use Rattle.ram_lists.specs.Mounts.{RepairsCopies, RepairsParts}
 use Rattle.ram_format.specs.Rewriting.{RepairsBothLists, HaveCopies, LacksCopies, RewriteStopped}
 use Rattle.ram_volume.specs.Shown.{shown_without, shown_under}
 use Rattle.ram_volume.proofs.Machines.{machine_continues, machine_stops}
@@ -33,6 +34,18 @@ module _ {M : Type 0} (world : M → World) (reaches : M → M → ℕ → Type 
   repairs : {V : Type 0} (text : V → List ℕ → Type 0) (place : ℕ → ℕ) (value : V) (uses : ℕ) → RepairsCopies text place (world old) (world new) value uses → RepairsList text place before after value uses
   repairs text place value uses r = record { rewritten = r.rewritten; few = r.few; uses_are = r.uses_are; rewrites = r.rewrites }
 
+  repairs_parts : (sdl : Sdl) (uses : ℕ) → RepairsParts shape (world old) (world new) sdl uses → RepairsSdl before after sdl uses
+  repairs_parts sdl uses r = record {
+    firsts = r.firsts;
+    seconds = r.seconds;
+    few = r.few;
+    few' = r.few';
+    none = r.none;
+    uses_are = r.uses_are;
+    of_firsts = r.of_firsts;
+    of_seconds = r.of_seconds;
+  }
+
   both : RepairsBothLists world reaches shape old new lists → RepairsBoth before after lists
   both r = record {
     was_on = r.was_on;
@@ -42,7 +55,7 @@ module _ {M : Type 0} (world : M → World) (reaches : M → M → ℕ → Type 
     dds_uses = r.dds_uses;
     dds = repairs IsDdsText (dds_block shape) lists.dds r.dds_uses r.dds;
     sdl_uses = r.sdl_uses;
-    sdl = repairs IsSdlText (sdl_block shape) lists.sdl r.sdl_uses r.sdl;
+    sdl = repairs_parts lists.sdl r.sdl_uses r.sdl;
     ends = machine_continues world reaches takes arms armed_cut laws old new (r.dds_uses + r.sdl_uses) r.continues;
   }
 
@@ -55,13 +68,13 @@ module _ {M : Type 0} (world : M → World) (reaches : M → M → ℕ → Type 
   lacking_cause counter lacks = record { both = both lacks.both; lost = lacks.lost }
 
   -- it was stopped
-  pub stopped_cause : (stop : Stop) → RewriteStopped world reaches shape old new lists stop → StopsInRewrite before (shown_without shape (machine new)) stop
+  pub stopped_cause : (stop : Stop) → RewriteStopped world reaches shape old new lists stop → StopsInRewrite before (shown_without shape (machine new)) lists stop
   stopped_cause stop was = record {
     was_on = was.was_on;
     only = was.only;
     given = λ known. was.given;
     stopped = record {
-      stops = machine_stops world reaches takes arms armed_cut laws old new 24 24 refl stop was.stops;
+      stops = machine_stops world reaches takes arms armed_cut laws old new (repair_uses 4 + sdl_repair_uses lists.sdl 8) (repair_uses 4 + sdl_repair_uses lists.sdl 8) refl stop was.stops;
       no_lists = refl;
       no_mark = refl;
       no_buffer = refl;

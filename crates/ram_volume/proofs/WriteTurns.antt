@@ -3,6 +3,7 @@ use Rattle.std.proofs.Common.{◌≡◌, ℕ, suc, ◌+◌, ◌*◌, ◌<◌, �
 use Rattle.std.specs.List.{Contains}
 use Rattle.model_geometry.specs.Geometry.{Shape, data_blocks}
 use Rattle.model_geometry.proofs.ListBlocks.{no_data_block_sdl}
+use Rattle.model_volume.proofs.ListCells.{no_data_block_second}
 use Rattle.model_medium.specs.Cells.{Cell, IsSameOrDead, IsGood, cell_at}
 use Rattle.model_medium.specs.World.{World}
 use Rattle.model_medium.specs.Machine.{Machine}
@@ -136,7 +137,8 @@ module _ {M : Type 0} (world : M → World) (block_count : M → ℕ) (reaches :
         (did.wrote.wrote.only (home_of shape lists i)
         (λ j less same. apart j (let l = less in omega (arith, l)) (homes_apart shape lists valid i (block_with lba + j) within_old (let w = within_old in let l = less in omega (arith, w, l)) same))
         (λ j less. home_not_free shape lists valid i within_old)
-        (λ area same. no_data_block_sdl shape area (subst (Contains (data_blocks shape)) same (home_is_data_block shape lists valid i within_old))))
+        (λ area same. no_data_block_sdl shape area (subst (Contains (data_blocks shape)) same (home_is_data_block shape lists valid i within_old)))
+        (λ area same. no_data_block_second shape area (subst (Contains (data_blocks shape)) same (home_is_data_block shape lists valid i within_old))))
       where
         home_is : place ≡ home_of shape lists i
         home_is = ap (λ (l : Lists). home_of shape l i) did.wrote.wrote.reached_are ∙ after_later shape lists (block_with lba) valid course did.wrote.wrote.can i (omega arith) within_old
@@ -201,7 +203,7 @@ module _ {M : Type 0} (world : M → World) (block_count : M → ℕ) (reaches :
       unread_cause : LacksRest before (under new reached held_mid) lba n named place
       unread_cause =
           lacks_rest before now (under new reached held_mid) lba n course lists reached did.wrote valid covered
-          (λ block home free sdl. lacks.unread.dies.others block home) (λ block was. unread_goes.reach.lasts.stays_dead block was)
+          (λ block home free sdl second. lacks.unread.dies.others block home) (λ block was. unread_goes.reach.lasts.stays_dead block was)
           named place (record { covered = covered; first = named_is })
           (reads_it world block_count reaches rules shape reached mid held_mid (numbers_in held) lba n (length course) did.wrote.buffered_are lacks.partly lacks.unread.not_buffered)
           unread_goes refl refl refl refl lacks.unread.not_good
@@ -381,7 +383,7 @@ module _ {M : Type 0} (world : M → World) (block_count : M → ℕ) (reaches :
         took_left : (disc : List ℕ) → StandsFor before (On disc) → TookCourse shape (world new).cells lists (block_with lba) course
         took_left disc stood =
             (begun before now after lba n course lists reached did.wrote valid covered
-            (λ block home free sdl. leaves.only block home free sdl ∙ ap (λ (l : List Cell). cell_at l block) same_cells)
+            (λ block home free sdl second. leaves.only block home free sdl second ∙ ap (λ (l : List Cell). cell_at l block) same_cells)
             (λ block was. leaves_shown.continues.reach.lasts.stays_dead block (ap (λ (l : List Cell). cell_at l block) same_cells ∙ was))).took stood.0
 
         good_left : (disc : List ℕ) → StandsFor before (On disc) → (j : ℕ) → j < length course → IsGood (cell_at (world new).cells (home_of shape reached (block_with lba + j)))

@@ -60,7 +60,7 @@ impl<M: MediumControl> NotFormatted<M> {
 
 impl<M: MediumControl> Ready<M> {
     /// What the drive tells of its disc: how many sectors it has; how many spares there are in each of the two areas, in
-    /// blocks, and how many of these are free, each at most 4,092; and how many sectors a full format gives. (This
+    /// blocks, and how many of these are free, at most 8,184 in all; and how many sectors a full format gives. (This
     /// project's own; the spares are those of ECMA-330's linear replacement.)
     pub fn counts(&self) -> DriveCounts
         ensures { CountsRule (shown_ready self.now) result }

@@ -1,7 +1,6 @@
 use Rattle.std.specs.Prelude.{option_map, ℕ, ◌≡◌}
 use Rattle.std.proofs.Common.{refl, ◌∙◌, subst, arith}
 use Rattle.std.proofs.lemmas.Result.{err_from_is_err_and}
-use Rattle.ram_zones.specs.ListKind.{list_block}
 use Rattle.ram_copies.specs.Choices.{held_of, HasLooked}
 use Rattle.ram_copies.proofs.Choosing.{looked_none, looked_more, look_halts}
 use Rattle.ram_copies.proofs.looks.look_at_copies.Goals as goal
@@ -11,22 +10,22 @@ loop-k-init g c = record { so_far = looked_none g.M.Medium.world g.M.Medium.bloc
 
 pub loop-k-preserved : goal.loop-k-preserved
 loop-k-preserved g c = record {
-  so_far = looked_more g.M.Medium.world g.M.Medium.block_count g.M.Medium.reaches g.met.M.Medium.laws c.args.medium.now c.args.geometry.now g.T.ListBlock.LIST (g.A.Accept.accepted c.args.accept.now) c.loop-k.medium c.look_at.new.medium c.loop-k.k (held_of g.T.ListBlock.value c.loop-k.best) c.loop-k.mark c.loop-k.invariant.so_far (omega (arith, c.loop-k-test.true, c.loop-k.auto.k-end)) (option_map g.T.ListBlock.value c.in_ok-found.found) (held_of g.T.ListBlock.value c.consider-best.result) c.higher-mark.result
-      (rw (c.list_block-block.ensures.block, c.LIST.ensures) at c.in_ok-found.ensures.rule)
-      (λ before seen. c.consider-best.ensures.better (λ (area : ℕ). list_block c.args.geometry.now area g.T.ListBlock.LIST) (g.M.Medium.world c.look_at.new.medium).cells c.loop-k.k refl before seen)
-      (λ before seen. c.higher-mark.ensures (λ (area : ℕ). list_block c.args.geometry.now area g.T.ListBlock.LIST) (g.M.Medium.world c.look_at.new.medium).cells c.loop-k.k before seen);
-  in_grammar = c.consider-best.ensures.in_grammar c.loop-k.invariant.in_grammar c.in_ok-found.ensures.in_grammar;
+  so_far = rw c.higher-mark.ensures (looked_more g.M.Medium.world g.M.Medium.block_count g.M.Medium.reaches g.met.M.Medium.laws c.args.medium.now c.args.geometry.now g.T.ListBlock.LIST (g.A.Accept.accepted c.args.accept.now) c.loop-k.medium c.look_at.new.medium c.loop-k.k (omega (arith, c.loop-k-test.true, c.loop-k.auto.k-end))
+      (held_of g.T.ListBlock.value c.loop-k.best) c.loop-k.mark c.loop-k.invariant.so_far (option_map g.T.ListBlock.value c.in_ok-seen.seen.found) c.in_ok-seen.seen.mark (held_of g.T.ListBlock.value c.consider-best.result) c.in_ok-seen.ensures.rule
+      (λ before seen. c.consider-best.ensures.better c.args.geometry.now (g.M.Medium.world c.look_at.new.medium).cells c.loop-k.k refl before seen));
+  in_grammar = c.consider-best.ensures.in_grammar c.loop-k.invariant.in_grammar c.in_ok-seen.ensures.in_grammar;
   fine = c.consider-best.ensures.accepted c.loop-k.invariant.fine;
-  as_many = c.in_ok-found.ensures.as_many ∙ c.loop-k.invariant.as_many;
+  as_many = c.in_ok-seen.ensures.as_many ∙ c.loop-k.invariant.as_many;
 }
 
-pub returns-in_err-found-clause-rule : goal.returns-in_err-found-clause-rule
-returns-in_err-found-clause-rule g c =
+pub returns-in_err-seen-clause-rule : goal.returns-in_err-seen-clause-rule
+returns-in_err-seen-clause-rule g c =
     let p = err_from_is_err_and c.from_residual.result c.from_residual.ensures.1 in
-    rw (p.1, p.2) (look_halts g.M.Medium.world g.M.Medium.block_count g.M.Medium.reaches g.met.M.Medium.laws c.args.medium.now c.args.geometry.now g.T.ListBlock.LIST (g.A.Accept.accepted c.args.accept.now) c.loop-k.medium c.look_at.new.medium c.loop-k.k (held_of g.T.ListBlock.value c.loop-k.best) c.loop-k.mark c.loop-k.invariant.so_far (omega (arith, c.loop-k-test.true, c.loop-k.auto.k-end)) _ (rw (c.list_block-block.ensures.block, c.LIST.ensures) at c.in_err-found.ensures.rule))
+    rw (p.1, p.2) (look_halts g.M.Medium.world g.M.Medium.block_count g.M.Medium.reaches g.met.M.Medium.laws c.args.medium.now c.args.geometry.now g.T.ListBlock.LIST (g.A.Accept.accepted c.args.accept.now) c.loop-k.medium c.look_at.new.medium c.loop-k.k (omega (arith, c.loop-k-test.true, c.loop-k.auto.k-end))
+    (held_of g.T.ListBlock.value c.loop-k.best) c.loop-k.mark c.loop-k.invariant.so_far _ c.in_err-seen.ensures.rule)
 
 pub returns-clause-rule : goal.returns-clause-rule
 returns-clause-rule g c =
     let last : c.loop-k.k ≡ 4 = omega (arith, c.loop-k-test.false, c.loop-k.auto.k-end) in
-    subst (λ (n : ℕ). HasLooked {M = g.row.M.Denot} g.M.Medium.world g.M.Medium.reaches g.T.ListBlock.LIST c.args.medium.now c.loop-k.medium (λ area. list_block c.args.geometry.now area g.T.ListBlock.LIST) (g.A.Accept.accepted c.args.accept.now) n (held_of g.T.ListBlock.value c.loop-k.best) c.loop-k.mark)
+    subst (λ (n : ℕ). HasLooked {M = g.row.M.Denot} g.M.Medium.world g.M.Medium.reaches g.T.ListBlock.LIST c.args.medium.now c.loop-k.medium c.args.geometry.now (g.A.Accept.accepted c.args.accept.now) n (held_of g.T.ListBlock.value c.loop-k.best) c.loop-k.mark)
     last c.loop-k.invariant.so_far

@@ -14,4 +14,4 @@ returns-clause-lawful c =
     let is = draft_is c.args.geometry.now lists c.args.ssa (sdl_of c.copy_from.new.self) (sdl_of c.retire_spares.new.draft) c.copy_from.ensures.value c.retire_spares.ensures.value in
     subst IsLawfulSdl (sym is)
     (valid_lawful c.args.geometry.now c.requires.shape (lists_expanded c.args.geometry.now lists c.args.ssa)
-    (expanded_valid c.args.geometry.now lists c.args.ssa c.requires.valid c.requires.area c.requires.grows) c.requires.lawful.version_is (omega (arith, c.requires.counter)) c.requires.lawful.dds_counted)
+    (expanded_valid c.args.geometry.now lists c.args.ssa c.requires.valid c.requires.area c.requires.grows) (omega (arith, c.requires.counter)) c.requires.lawful.dds_counted)

@@ -6,16 +6,16 @@ use Rattle.ram_format.proofs.rewriting.repair_lists.Goals as goal
 pub returns-in_err-dds_kept-clause-rule : goal.returns-in_err-dds_kept-clause-rule
 returns-in_err-dds_kept-clause-rule g c =
     let p = err_from_is_err_and c.from_residual.result c.from_residual.ensures.1 in
-    rw (p.1, p.2) (first_ends g.M.Medium.world g.M.Medium.block_count g.M.Medium.reaches g.met.M.Medium.laws c.args.geometry.now (lists_of c.args.lists.now) c.requires.sdl c.args.medium.now c.repair_list.new.medium c.requires.settled _ c.in_err-dds_kept.ensures.rule)
+    rw (p.1, p.2) (first_ends g.M.Medium.world g.M.Medium.block_count g.M.Medium.reaches g.met.M.Medium.laws c.args.geometry.now (lists_of c.args.lists.now) c.args.medium.now c.repair_list.new.medium c.requires.settled _ c.in_err-dds_kept.ensures.rule)
 
 pub returns-in_err-sdl_kept-clause-rule : goal.returns-in_err-sdl_kept-clause-rule
 returns-in_err-sdl_kept-clause-rule g c =
     let p = err_from_is_err_and c.from_residual-in_err-sdl_kept.result c.from_residual-in_err-sdl_kept.ensures.1 in
-    rw (p.1, p.2) (second_ends g.M.Medium.world g.M.Medium.block_count g.M.Medium.reaches g.met.M.Medium.laws c.args.geometry.now (lists_of c.args.lists.now) c.requires.sdl c.args.medium.now c.repair_list.new.medium c.requires.settled
+    rw (p.1, p.2) (second_ends g.M.Medium.world g.M.Medium.block_count g.M.Medium.reaches g.met.M.Medium.laws c.args.geometry.now (lists_of c.args.lists.now) c.args.medium.now c.repair_list.new.medium c.requires.settled
     _ c.in_ok-dds_kept.ensures.rule c.repair_list-2.new.medium _ c.in_err-sdl_kept.ensures.rule)
 
 pub returns-clause-rule : goal.returns-clause-rule
 returns-clause-rule g c =
     rw c.lost_counter.ensures
-    (rewritten_by g.M.Medium.world g.M.Medium.block_count g.M.Medium.reaches g.met.M.Medium.laws c.args.geometry.now (lists_of c.args.lists.now) c.requires.sdl c.args.medium.now c.repair_list.new.medium c.repair_list-2.new.medium c.requires.settled
+    (rewritten_by g.M.Medium.world g.M.Medium.block_count g.M.Medium.reaches g.met.M.Medium.laws c.args.geometry.now (lists_of c.args.lists.now) c.args.medium.now c.repair_list.new.medium c.repair_list-2.new.medium c.requires.settled
     _ _ c.in_ok-dds_kept.ensures.rule c.in_ok-sdl_kept.ensures.rule)
