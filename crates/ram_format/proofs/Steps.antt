@@ -10,7 +10,7 @@ use Rattle.model_geometry.proofs.DataBlocks.{data_blocks_bounds}
 use Rattle.model_geometry.proofs.Zones.{total_most}
 use Rattle.model_geometry.proofs.ListBlocks.{no_data_block_dds, no_data_block_sdl}
 use Rattle.model_lists.specs.declared.dds.DdsState.TheVariants.{Formatted}
-use Rattle.model_lists.specs.declared.versions.Version.TheVariants.{One}
+use Rattle.model_lists.specs.declared.versions.Version.TheVariants.{Two}
 use Rattle.model_lists.specs.declared.dds.PdlEntry.{PdlEntry}
 use Rattle.model_lists.specs.declared.dds.PdlKind.{PdlKind}
 use Rattle.model_lists.specs.Values.{pdl_blocks, IsLawfulDds}
@@ -52,7 +52,7 @@ use Rattle.ram_format.specs.Full.{uses_of_all, FormatGoes, AreDefects, AreFewDef
 -- a structure with entries that rise, and are data blocks, is lawful
 pub lawful_dds : (shape : Shape) (mark psa : ℕ) (entries : List PdlEntry) → IsLawful shape → psa ≡ shape.psa → mark + 2 ≤ 4294967295 → length entries ≤ shape.psa
     → IsStrictlyIncreasing (pdl_blocks entries) → All (Contains (data_blocks shape)) (pdl_blocks entries)
-    → IsLawfulDds (record { version = One; counter = mark + 2; state = Formatted; psa = psa; entries = entries })
+    → IsLawfulDds (record { version = Two; counter = mark + 2; state = Formatted; psa = psa; entries = entries })
 lawful_dds shape mark psa entries lawful same room few rise all = record {
   counted = omega (arith, room);
   limits = record { some = omega (arith, same, lawful.some_spares); most = omega (arith, same, lawful.most_spares); few = omega (arith, same, few); fits = tt };
@@ -241,11 +241,11 @@ module _ {M : Type 0} (world : M → World) (block_count : M → ℕ) (reaches :
             stays_three : {two_parts : Type 0} → ChangesCopiesAlone world reaches kinds.Sdl shape two three two_parts → Settled IsDdsText (dds_block shape) (world three).cells (formatting_dds shape mark)
             stays_three alone = settled_same IsDdsText (dds_block shape) (world two).cells (world three).cells (dds_stay world reaches shape two three alone) (formatting_dds shape mark) formatting_two
 
-            gone_three : CallEnds world reaches kinds.Sdl shape two three (HasTwo (SdlValue (fresh_sdl mark))) 8 → FormatGoes world reaches shape kept kind mark old three (8 + certify_uses world reaches shape kept one two + 8)
-            gone_three ended = goes_then old two three (8 + certify_uses world reaches shape kept one two) 8 gone_two ended.continues ended.counts ended.alone.as_known (sdl_only two three ended.alone)
+            gone_three : CallEnds world reaches kinds.Sdl shape two three (HasTwo (SdlValue (fresh_sdl mark))) 16 → FormatGoes world reaches shape kept kind mark old three (8 + certify_uses world reaches shape kept one two + 16)
+            gone_three ended = goes_then old two three (8 + certify_uses world reaches shape kept one two) 16 gone_two ended.continues ended.counts ended.alone.as_known (sdl_only two three ended.alone)
 
-            third_stop : (stop : Stop) → StoppedWithin world reaches kinds.Sdl shape two three (HasTwo (SdlValue (fresh_sdl mark))) 8 stop → FormatStopped world reaches shape kept kind mark old three stop
-            third_stop stop stopped = stopped_formatting three (8 + certify_uses world reaches shape kept one two) 8 two gone_two (omega arith) stop stopped.stops stopped.counts stopped.alone.as_known
+            third_stop : (stop : Stop) → StoppedWithin world reaches kinds.Sdl shape two three (HasTwo (SdlValue (fresh_sdl mark))) 16 stop → FormatStopped world reaches shape kept kind mark old three stop
+            third_stop stop stopped = stopped_formatting three (8 + certify_uses world reaches shape kept one two) 16 two gone_two (omega arith) stop stopped.stops stopped.counts stopped.alone.as_known
                 (sdl_only two three stopped.alone) (stays_three stopped.alone)
 
             pub third_ends : (end : End) → EndsWritingList world reaches shape two three kinds.Sdl (SdlValue (fresh_sdl mark)) 1 (mark + 2) end → EndsFormat world reaches shape kept kind mark old three end
@@ -285,7 +285,7 @@ module _ {M : Type 0} (world : M → World) (block_count : M → ℕ) (reaches :
                 fresh_four alone = exact_same shape (world three).cells (world four).cells (fresh_sdl mark) (λ area is. sdl_stay world reaches shape three four alone area) (λ area is. seconds_stay_by_dds world reaches shape three four (λ t. t) alone area) fresh_three
 
                 gone_four : CallEnds world reaches kinds.Dds shape three four ⊥ 8 → FormatGoes world reaches shape kept kind mark old four (uses_of_all world reaches shape kept kind mark old four)
-                gone_four ended = goes_then old three four (8 + certify_uses world reaches shape kept one two + 8) 8 (gone_three done.ended) ended.continues ended.counts ended.alone.as_known (dds_only three four ended.alone)
+                gone_four ended = goes_then old three four (8 + certify_uses world reaches shape kept one two + 16) 8 (gone_three done.ended) ended.continues ended.counts ended.alone.as_known (dds_only three four ended.alone)
 
                 zeros_cover : ChangesCopiesAlone world reaches kinds.Dds shape three four ⊥ → (world old).known ≡ true → FitsUnder shape (world four).cells (fresh_lists shape mark entries) (zero_disc shape)
                 zeros_cover alone known = zeros_fit shape (world four).cells mark entries valid (λ block is apart.
@@ -301,8 +301,8 @@ module _ {M : Type 0} (world : M → World) (block_count : M → ℕ) (reaches :
                 fourth_stop stop stopped left = record {
                   was_on = on;
                   room = room;
-                  stops = stops_later world block_count reaches laws old three four (8 + certify_uses world reaches shape kept one two + 8) 8 stop (gone_three done.ended).continues stopped.stops;
-                  counts = counts_later old three four (8 + certify_uses world reaches shape kept one two + 8) stop (gone_three done.ended) stopped.counts;
+                  stops = stops_later world block_count reaches laws old three four (8 + certify_uses world reaches shape kept one two + 16) 8 stop (gone_three done.ended).continues stopped.stops;
+                  counts = counts_later old three four (8 + certify_uses world reaches shape kept one two + 16) stop (gone_three done.ended) stopped.counts;
                   as_known = stopped.alone.as_known ∙ (gone_three done.ended).as_known;
                   only = only_then old three four (gone_three done.ended).only (dds_only three four stopped.alone);
                   given = λ known lists given. inr (record {

@@ -29,12 +29,12 @@ use Rattle.ram_format.specs.declared.full.FullEnd.TheVariants as fulls
 module _ {M : Type 0} (world : M → World) (reaches : M → M → ℕ → Type 0)
     (shape : Shape) (kept : List PdlEntry) (kind : PdlKind) (mark : ℕ) (old new : M) where
   -- The uses of the phases, up to the end of each: an update of the structure, the certification, an update of the
-  -- secondary list, and one of the structure. (This project's own, as all here.)
+  -- secondary list, of two parts, and one of the structure. (This project's own, as all here.)
   abbrev pub uses_of_two : ℕ
   uses_of_two = 8 + certify_uses world reaches shape kept old new
 
   abbrev pub uses_of_three : ℕ
-  uses_of_three = uses_of_two + 8
+  uses_of_three = uses_of_two + 16
 
   abbrev pub uses_of_all : ℕ
   uses_of_all = uses_of_three + 8

@@ -123,7 +123,7 @@ fn format_disc<M: Medium>(
     let Room { defects, entries } = room;
     let psa = geometry.psa();
     let formatting = DdsPdl {
-        version: Version::One,
+        version: Version::Two,
         counter: mark + 1,
         state: DdsState::Formatting,
         psa,
@@ -133,7 +133,7 @@ fn format_disc<M: Medium>(
     let kind = kind_of(first);
     let defective = find_defects(medium, geometry, kept, kind, mark + 1, defects, scratch)?;
     let sdl = Sdl {
-        version: Version::One,
+        version: Version::Two,
         counter: 1,
         dds_counter: mark + 2,
         ssa: 0,
@@ -141,7 +141,7 @@ fn format_disc<M: Medium>(
     };
     write_list(medium, geometry, &sdl, 1, mark + 2, scratch)?;
     let dds = DdsPdl {
-        version: Version::One,
+        version: Version::Two,
         counter: mark + 2,
         state: DdsState::Formatted,
         psa,

@@ -43,7 +43,7 @@ module _ {M : Type 0} (world : M → World) (reaches : M → M → ℕ → Type 
   two_are = ap (λ (n : ℕ). 8 + 2 * (length (data_blocks shape) - n)) all.count_is
 
   three_are : uses_of_three world reaches shape kept kind mark old new ≡ uses_to_sdl before drop_sdl
-  three_are = ap (λ (n : ℕ). n + 8) two_are
+  three_are = ap (λ (n : ℕ). n + 16) two_are
 
   all_are : uses_of_all world reaches shape kept kind mark old new ≡ uses_of_format before drop_sdl
   all_are = ap (λ (n : ℕ). n + 8) three_are
