@@ -1,11 +1,11 @@
 -- The blocks that a request covers, and the blocks of a buffer.
 use Rattle.std.proofs.Common.{◌≡◌, ℕ, zero, suc, ◌+◌, ◌-◌, ◌*◌, ◌<◌, ◌≤◌, ◌⊎◌, inl, inr, List, [], ◌∷◌, length, take, refl, sym, ◌∙◌, ap, subst, arith}
-use Rattle.std.specs.Prelude.{◌/◌, ◌==◌, ◌||◌, if◌then◌else◌, cond, not, Bool, true, false, IsTrue, Option, Some, None, map}
+use Rattle.std.specs.Prelude.{◌/◌, ◌==◌, ◌||◌, if◌then◌else◌, cond, not, Bool, true, false, IsTrue, Option, Some, None}
 use Rattle.std.specs.Option.{option_map, is_some}
 use Rattle.std.specs.List.{filter, find, list_any}
 use Rattle.std.proofs.lemmas.Bool.{cases_eq, cases_Bool, both_ways, ltb-false, eqb-true, eq-eqb, ne_eqb, cond-true, cond-false, or_cases, or_left, or_right, not_from_false, false_from_ne_true}
-use Rattle.std.proofs.lemmas.List.{take_all, length-take, take-map}
-use Rattle.model_buffer.specs.Buffer.{bytes_at, with_newest, numbers_in, touched_one}
+use Rattle.std.proofs.lemmas.List.{take_all, length-take}
+use Rattle.model_buffer.specs.Buffer.{bytes_at, numbers_in, touched_one}
 use Rattle.model_buffer.specs.declared.TheConstants.{BUFFERED_BLOCKS}
 use Rattle.model_sectors.specs.Discs.{replaced}
 use Rattle.model_sectors.specs.Requests.{block_with, blocks_covered, start_in, end_in, is_partly, HoldsSector}
@@ -270,28 +270,6 @@ bytes_at_some i buffer bytes h =
 pub bytes_at_none : (i : ℕ) (buffer : List (ℕ × List ℕ)) → bytes_at i buffer ≡ None → ¬ IsTrue (is_buffered (numbers_in buffer) i)
 bytes_at_none i buffer h = λ here. both_ways (is_buffered (numbers_in buffer) i)
     (sym (is_some-found i buffer) ∙ ap is_some (none_mapped (λ (held : ℕ × List ℕ). held.1) (find (λ held. held.0 == i) buffer) h)) here
-
--- one more of a buffer, kept or not, and its number
-numbers_step : (b : Bool) (x : ℕ × List ℕ) (xs : List (ℕ × List ℕ)) (ys : List ℕ) → map (λ held. held.0) xs ≡ ys
-    → map (λ held. held.0) (cond b (x ∷ xs) xs) ≡ cond b (x.0 ∷ ys) ys
-numbers_step true x xs ys h = ap (λ (l : List ℕ). x.0 ∷ l) h
-numbers_step false x xs ys h = h
-
--- the numbers of those that pass a test on the number
-numbers_kept : (q : ℕ → Bool) (buffer : List (ℕ × List ℕ)) → map (λ held. held.0) (filter (λ held. q held.0) buffer) ≡ filter q (map (λ held. held.0) buffer)
-numbers_kept q [] = refl
-numbers_kept q (x ∷ xs) = numbers_step (q x.0) x (filter (λ held. q held.0) xs) (filter q (map (λ held. held.0) xs)) (numbers_kept q xs)
-
--- the numbers after a use, in any room
-numbers_in_room : (room : ℕ) (i : ℕ) (bytes : List ℕ) (buffer : List (ℕ × List ℕ))
-    → numbers_in (take room ((i, bytes) ∷ filter (λ held. not (held.0 == i)) buffer)) ≡ take room (i ∷ filter (λ other. not (other == i)) (numbers_in buffer))
-numbers_in_room room i bytes buffer =
-    sym (take-map (λ (held : ℕ × List ℕ). held.0) room ((i, bytes) ∷ filter (λ held. not (held.0 == i)) buffer))
-    ∙ ap (λ (l : List ℕ). take room (i ∷ l)) (numbers_kept (λ other. not (other == i)) buffer)
-
--- the numbers after a use follow from the numbers before
-pub numbers_in-with_newest : (i : ℕ) (bytes : List ℕ) (buffer : List (ℕ × List ℕ)) → numbers_in (with_newest i bytes buffer) ≡ touched_one (numbers_in buffer) i
-numbers_in-with_newest i bytes buffer = numbers_in_room BUFFERED_BLOCKS i bytes buffer
 
 -- before the first covered block nothing is replaced
 pub replaced_first : (d : List ℕ) (lba : ℕ) (bytes : List ℕ) → replaced d lba bytes (block_with lba) ≡ d

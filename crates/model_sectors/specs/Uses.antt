@@ -1,6 +1,6 @@
 -- How many uses of the medium the calls of a drive take, and which blocks are buffered after them. For the causes of
 -- reads and writes. (This project's own, as all here.)
-use Rattle.std.specs.Prelude.{ℕ, zero, suc, ◌+◌, ◌==◌, ◌&&◌, not, Bool, if◌then◌else◌, List}
+use Rattle.std.specs.Prelude.{ℕ, zero, suc, ◌+◌, ◌==◌, ◌&&◌, not, Bool, if◌then◌else◌, List, [], ◌∷◌}
 use Rattle.std.specs.List.{list_any}
 use Rattle.model_buffer.specs.Buffer.{touched_one}
 use Rattle.model_sectors.specs.Requests.{block_with, is_partly}
@@ -9,6 +9,12 @@ use Rattle.model_sectors.specs.Requests.{block_with, is_partly}
 abbrev pub touched_from : List ℕ → (first : ℕ) → ℕ → List ℕ
 touched_from buffered first zero = buffered
 touched_from buffered first (suc k) = touched_one (touched_from buffered first k) (first + k)
+
+-- the last so many of the numbers from this one on, of so many, the last one first
+abbrev pub last_of : (first count : ℕ) → ℕ → List ℕ
+last_of first count zero = []
+last_of first zero (suc j) = []
+last_of first (suc count) (suc j) = (first + count) ∷ last_of first count j
 
 -- whether a block is buffered
 abbrev pub is_buffered : List ℕ → ℕ → Bool

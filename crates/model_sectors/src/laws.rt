@@ -1,6 +1,7 @@
 //! Laws of the definitions, as functions with an empty body: the build fails where one is not proved.
 ghost use Rattle.std.specs.Prelude.{◌≡◌, ℕ, ◌+◌, ◌-◌, ◌*◌, ◌^◌, ◌<◌, ◌≤◌, ◌⊎◌, List, length, take, drop};
 ghost use Rattle.model_sectors.specs.Discs.{sectors_of, replaced};
+ghost use Rattle.model_sectors.specs.Uses.{touched_from, last_of};
 ghost use Rattle.model_sectors.specs.Requests.{block_with, IsCovered, HoldsSector};
 ghost use Rattle.model_sectors.specs.declared.TheConstants.{MOST_SECTORS};
 
@@ -30,4 +31,13 @@ pub fn what_is_replaced_reads_back()
     ensures as_long { (disc : List ℕ) (blocks lba n : ℕ) (bytes : List ℕ) (block : ℕ)
         → length bytes ≡ 2048 * n → lba + n ≤ 16 * blocks → length disc ≡ 32768 * blocks
         → length (replaced disc lba bytes block) ≡ length disc }
+{}
+
+/// After so many uses of blocks in turn, up to eight, these blocks are at the front of the buffer, the last one first, whatever
+/// was buffered before. So after eight or more no other block is there, and what was buffered before does not matter.
+pub fn the_last_eight_uses_decide()
+    ensures front { (b : List ℕ) (first k j : ℕ) → j ≤ k → j ≤ 8
+        → take j (touched_from b first k) ≡ last_of first k j }
+    ensures all { (b : List ℕ) (first k : ℕ) → 8 ≤ k → touched_from b first k ≡ last_of first k 8 }
+    ensures before { (b c : List ℕ) (first k : ℕ) → touched_from b first (k + 8) ≡ touched_from c (first + k) 8 }
 {}

@@ -6,7 +6,7 @@ mod laws;
 
 pub use laws::{
     a_block_is_covered_where_it_holds_a_sector, limits_of_requests_are_these,
-    what_is_replaced_reads_back,
+    the_last_eight_uses_decide, what_is_replaced_reads_back,
 };
 
 /// How many sectors a disc has at most, so that the numbers of its bytes fit into 64 bits and those of its sectors into

@@ -11,7 +11,8 @@ use Rattle.model_buffer.specs.declared.TheConstants.{BUFFERED_BLOCKS}
 use Rattle.model_sectors.specs.Discs.{block_of, sectors_of}
 use Rattle.model_sectors.specs.Requests.{block_with, blocks_covered, merged_in}
 use Rattle.model_sectors.specs.Uses.{is_buffered, touched_from}
-use Rattle.model_sectors.proofs.Covering.{bytes_at_none, numbers_in-with_newest}
+use Rattle.model_buffer.proofs.Numbers.{numbers_in-with_newest}
+use Rattle.model_sectors.proofs.Covering.{bytes_at_none}
 use Rattle.model_stops.specs.declared.Stop.{Stop}
 use Rattle.model_places.specs.Places.{Lists, logical_count, home_of}
 use Rattle.model_places.specs.Valid.{AreValid}

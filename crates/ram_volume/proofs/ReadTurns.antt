@@ -10,7 +10,8 @@ use Rattle.model_buffer.specs.Buffer.{numbers_in, touched_one}
 use Rattle.model_sectors.specs.Discs.{Agrees, sectors_of, block_of}
 use Rattle.model_sectors.specs.Requests.{block_with, blocks_covered}
 use Rattle.model_sectors.specs.Uses.{is_buffered, is_at_hand, read_uses}
-use Rattle.model_sectors.proofs.Covering.{covered_inside, at_hand_was_buffered, bytes_at_some, numbers_in-with_newest}
+use Rattle.model_buffer.proofs.Numbers.{numbers_in-with_newest}
+use Rattle.model_sectors.proofs.Covering.{covered_inside, at_hand_was_buffered, bytes_at_some}
 use Rattle.model_stops.specs.Stops.{Continues}
 use Rattle.model_places.specs.Places.{Lists, logical_count, home_of}
 use Rattle.model_drive.specs.Shown.{HoldsBlocksOf}

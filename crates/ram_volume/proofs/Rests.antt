@@ -10,7 +10,8 @@ use Rattle.model_buffer.proofs.Touched.{touched_twice}
 use Rattle.model_sectors.specs.Discs.{Agrees, block_of}
 use Rattle.model_sectors.specs.Requests.{block_with, is_partly, merged_in}
 use Rattle.model_sectors.specs.Uses.{touched_from, is_buffered, is_at_hand, reads_rest, touched_refused}
-use Rattle.model_sectors.proofs.Covering.{bytes_at_some, numbers_in-with_newest}
+use Rattle.model_buffer.proofs.Numbers.{numbers_in-with_newest}
+use Rattle.model_sectors.proofs.Covering.{bytes_at_some}
 use Rattle.model_sectors.proofs.Pieces.{length_block}
 use Rattle.model_sectors.proofs.Merges.{merged_whole}
 use Rattle.model_stops.specs.Stops.{Continues}

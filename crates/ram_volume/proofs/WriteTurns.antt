@@ -15,7 +15,8 @@ use Rattle.model_buffer.specs.Buffer.{numbers_in, touched_one, with_newest}
 use Rattle.model_sectors.specs.Discs.{On, Off, replaced}
 use Rattle.model_sectors.specs.Requests.{block_with, blocks_covered, start_in, merged_in}
 use Rattle.model_sectors.specs.Uses.{touched_refused}
-use Rattle.model_sectors.proofs.Covering.{covered_inside, block_with_start, numbers_in-with_newest, replaced_first}
+use Rattle.model_buffer.proofs.Numbers.{numbers_in-with_newest}
+use Rattle.model_sectors.proofs.Covering.{covered_inside, block_with_start, replaced_first}
 use Rattle.model_stops.specs.Stops.{Continues, Stops}
 use Rattle.model_stops.specs.declared.Stop.{Stop}
 use Rattle.model_stops.specs.declared.Stop.TheVariants as stops
