@@ -44,7 +44,7 @@ use Rattle.ram_copies.proofs.EachList.{dds_exact, dds_may, dds_spares, dds_rewri
 use Rattle.ram_copies.proofs.EachChoice.{dds_uses as four_uses, dds_chosen, dds_none, dds_marked, sdl_few, sdl_copy, sdl_no_better, sdl_none, sdl_marked, sdl_counted}
 use Rattle.ram_lists.specs.Lists.{AcceptsDds, AcceptsSdl, AcceptsNothing}
 use Rattle.ram_lists.specs.Parts.{HasPicked, EndsPicking, PicksBest, IsMended, EndsMending}
-use Rattle.ram_lists.specs.Mends.{MendsDds, SdlCellsDie, StopsMounting}
+use Rattle.model_survival.specs.Stops.{MendsDds, SdlCellsDie, StopsMounting}
 use Rattle.ram_lists.specs.Mounts.{KeepsGiven, RepairsCopies, RepairsParts, WasStopped, EndsWithLists, EndsBare, EndRule}
 use Rattle.ram_lists.specs.declared.ends.End.{End}
 use Rattle.ram_lists.specs.declared.ends.End.TheVariants as ends
@@ -659,9 +659,11 @@ module _ {M : Type 0} (world : M → World) (block_count : M → ℕ) (reaches :
                     record { dds = d; sdl = s },
                     record {
                       chosen = both_chosen state known;
-                      dds = dds_mended new stays (dds_stay world reaches shape three new stopped.within.alone);
-                      sdl = sdl_from shape (world three).cells (world two).cells (world new).cells (λ a. sym (same_sdl a)) (λ a. sym (same_second a)) s
-                          (sdl_in_part shape (world three).cells (world new).cells s stopped.leaves stopped.spares);
+                      mends = record {
+                        dds = dds_mended new stays (dds_stay world reaches shape three new stopped.within.alone);
+                        sdl = sdl_from shape (world three).cells (world two).cells (world new).cells (λ a. sym (same_sdl a)) (λ a. sym (same_second a)) s
+                            (sdl_in_part shape (world three).cells (world new).cells s stopped.leaves stopped.spares);
+                      };
                     },
                   ));
                 })

@@ -15,7 +15,7 @@ use Rattle.model_places.specs.Valid.{AreValid}
 use Rattle.model_volume.specs.Given.{IsGiven, GivesNone, AreChosen, ChoosesNone, LacksLists, AreSettled, OnlyLists, LosesListCells, AreSeen}
 use Rattle.ram_copies.specs.Calls.{StoppedCounts}
 use Rattle.ram_lists.specs.Lists.{lists_of}
-use Rattle.ram_lists.specs.Mends.{StopsMounting}
+use Rattle.model_survival.specs.Stops.{StopsMounting}
 use Rattle.ram_lists.specs.declared.mounting.Mounted.{Mounted}
 use Rattle.ram_lists.specs.declared.mounting.Mounted.TheVariants as mounts
 use Rattle.ram_lists.specs.declared.ends.End.{End}
