@@ -31,6 +31,13 @@ impl Request {
         Some(Request { lba, n })
     }
 
+    /// The logical block with its first sector.
+    pub fn first(self) -> u32
+        ensures { result ≡ block_with self.lba }
+    {
+        self.lba / SECTORS_PER_BLOCK as u32
+    }
+
     /// How many logical blocks it covers, whole or in part.
     pub fn blocks(self) -> u32
         ensures { result ≡ blocks_covered self.lba self.n }
@@ -39,7 +46,7 @@ impl Request {
             return 0;
         }
         let last = (self.lba + self.n - 1) / SECTORS_PER_BLOCK as u32;
-        last + 1 - self.lba / SECTORS_PER_BLOCK as u32
+        last + 1 - self.first()
     }
 
     /// The part that it covers of the block after `k` others.
@@ -48,7 +55,7 @@ impl Request {
         ensures request { result.request ≡ self }
         ensures block { result.block ≡ block_with self.lba + k }
     {
-        let block = self.lba / SECTORS_PER_BLOCK as u32 + k;
+        let block = self.first() + k;
         let first = block * SECTORS_PER_BLOCK as u32;
         Part {
             request: self,

@@ -4,6 +4,7 @@ use Rattle.std.specs.Prelude.{◌==◌, not, cond}
 use Rattle.std.specs.Option.{option_map}
 use Rattle.std.specs.List.{Contains, filter, find}
 use Rattle.std.proofs.lemmas.Bool.{cases_Bool, cond-true, cond-false, eqb-true, eq-eqb}
+use Rattle.std.proofs.lemmas.List.{take-take}
 use Rattle.model_buffer.specs.Buffer.{bytes_at, with_newest}
 use Rattle.model_buffer.specs.declared.TheConstants.{BUFFERED_BLOCKS}
 use Rattle.model_sectors.specs.Discs.{block_of}
@@ -102,9 +103,34 @@ pub holds_put : (disc disc' : List ℕ) (i : ℕ) (bytes : List ℕ) (buffer : L
     → HoldsBlocksOf disc' (with_newest i bytes buffer)
 holds_put disc disc' i bytes buffer is others holds = put_in_room BUFFERED_BLOCKS disc disc' i bytes buffer is others holds
 
--- a block that is used twice in a row is buffered as if it were used once: there is room for one
+-- the front of what passes a test passes it
+filter-take : {X : Type 0} (p : X → Bool) (n : ℕ) (xs : List X) → filter p (take n (filter p xs)) ≡ take n (filter p xs)
+filter-take p zero xs = refl
+filter-take p (suc n) [] = refl
+filter-take p (suc n) (x ∷ xs) = elim (cases_Bool (p x)) [
+  | inl passes ↦
+      let here : filter p (x ∷ xs) ≡ x ∷ filter p xs = cond-true (p x) (x ∷ filter p xs) (filter p xs) passes in
+      ap (λ l. filter p (take (suc n) l)) here
+      ∙ cond-true (p x) (x ∷ filter p (take n (filter p xs))) (filter p (take n (filter p xs))) passes
+      ∙ ap (λ l. x ∷ l) (filter-take p n xs)
+      ∙ sym (ap (take (suc n)) here)
+  | inr fails ↦
+      let here : filter p (x ∷ xs) ≡ filter p xs = cond-false (p x) (x ∷ filter p xs) (filter p xs) fails in
+      ap (λ l. filter p (take (suc n) l)) here ∙ filter-take p (suc n) xs ∙ sym (ap (take (suc n)) here)
+]
+
+newest_twice_in_room : (room i : ℕ) (bytes : List ℕ) (buffer : List (ℕ × List ℕ))
+    → take room ((i, bytes) ∷ filter (λ held. not (held.0 == i)) (take room ((i, bytes) ∷ filter (λ held. not (held.0 == i)) buffer))) ≡ take room ((i, bytes) ∷ filter (λ held. not (held.0 == i)) buffer)
+newest_twice_in_room zero i bytes buffer = refl
+newest_twice_in_room (suc room) i bytes buffer =
+    let p : (ℕ × List ℕ) → Bool = λ held. not (held.0 == i) in
+    let out : p (i, bytes) ≡ false = ap not (eq-eqb i i refl) in
+    ap (λ l. (i, bytes) ∷ take room l) (cond-false (p (i, bytes)) ((i, bytes) ∷ filter p (take room (filter p buffer))) (filter p (take room (filter p buffer))) out ∙ filter-take p room buffer)
+    ∙ ap (λ l. (i, bytes) ∷ l) (take-take room room (filter p buffer) (omega arith))
+
+-- a block that is used twice in a row is buffered as if it were used once
 pub newest_twice : (i : ℕ) (bytes : List ℕ) (buffer : List (ℕ × List ℕ)) → with_newest i bytes (with_newest i bytes buffer) ≡ with_newest i bytes buffer
-newest_twice i bytes buffer = refl
+newest_twice i bytes buffer = newest_twice_in_room BUFFERED_BLOCKS i bytes buffer
 
 -- the block that was used last is there, in any room
 used_in_room : (room i : ℕ) (bytes : List ℕ) (buffer : List (ℕ × List ℕ)) → 0 < room → bytes_at i (take room ((i, bytes) ∷ filter (λ held. not (held.0 == i)) buffer)) ≡ Some bytes

@@ -1,5 +1,5 @@
 -- How a fetch of a logical block ends.
-use Rattle.std.specs.Prelude.{length, ◌<◌, ◌≤◌, ◌≡◌, ℕ, Bool, true, false, MatchBool, Some, None, List}
+use Rattle.std.specs.Prelude.{length, ◌<◌, ◌≤◌, ◌≡◌, ℕ, Bool, true, false, MatchBool, Result, Ok, Err, MatchResult, Some, None, List, []}
 use Rattle.std.proofs.Common.{refl, sym, ap, ◌∙◌, inl, inr, subst, arith}
 use Rattle.model_geometry.specs.Geometry.{Shape, total}
 use Rattle.model_medium.specs.Cells.{IsSameOrDead, cell_at}
@@ -14,8 +14,11 @@ use Rattle.model_stops.specs.declared.Stop.TheVariants as stops
 use Rattle.model_places.specs.Places.{Lists, logical_count, home_of}
 use Rattle.model_places.specs.Valid.{AreValid}
 use Rattle.model_places.proofs.Homes.{home_inside}
-use Rattle.ram_medium.specs.WholeBlocks.{EndedRead, StoppedRead}
+use Rattle.ram_medium.specs.WholeBlocks.{EndedRead, StoppedRead, read_end}
+use Rattle.ram_medium.specs.ReadInto.{bytes_read}
+use Rattle.model_sectors.specs.Requests.{filled_by}
 use Rattle.ram_volume.specs.Blocks.{DiesAtMost, FromHome, IsFetched, CannotBeRead, Fetches, FetchStopped}
+use Rattle.ram_volume.specs.Reading.{KeepsBefore, ReadsPart}
 use Rattle.ram_volume.proofs.Buffers.{same_in_some, newest_twice}
 
 -- the home of a logical block is a block of the medium
@@ -83,3 +86,16 @@ module _ {M : Type 0} (world : M → World) (reaches : M → M → ℕ → Type 
   halted stops.Cut rule stopped = stops_there stops.Cut stopped (use_dies (world old) (world new) place rule.one rule.left)
   halted stops.Off rule stopped = stops_there stops.Off stopped (off_dies (world old) (world new) place rule.0)
   halted stops.Fault rule stopped = stops_there stops.Fault stopped (use_dies (world old) (world new) place rule.one rule.left)
+
+-- a part was read past the buffer, whatever that has but its block: `into'` are the caller's bytes after it
+module _ {M : Type 0} (world : M → World) (reaches : M → M → ℕ → Type 0) (old new : M) (lba n block place : ℕ) (bytes into into' : List ℕ) (kept : KeepsBefore lba block into into') (filled : into' ≡ filled_by lba n block bytes into) where
+  pub read_past_it : (read : Result Bool Stop) → MatchResult read (EndedRead (world old) (world new) place [] (bytes_read (read_end read) bytes)) (StoppedRead (world old) (world new) place [] [])
+      → MatchResult read (λ whole. Continues world reaches old new 1) (Stops world reaches old new 1) → (held : List (ℕ × List ℕ)) → length held ≤ BUFFERED_BLOCKS → bytes_at block held ≡ None
+      → MatchResult read (ReadsPart world reaches old new held lba n block place true held into into') (FetchStopped world reaches old new held block place)
+  read_past_it (Ok true) rule continues held few none = record {
+    due = with_newest block bytes held;
+    copied = record { bytes = bytes; fetched = read_in world reaches old new held block place few none [] bytes true refl rule continues (with_newest block bytes held) refl; copied = filled };
+    kept = refl;
+  }
+  read_past_it (Ok false) rule continues held few none = record { unread = unread world reaches old new held block place few none [] [] false refl rule continues; before = kept }
+  read_past_it (Err stop) rule continues held few none = halted world reaches old new held block place few none [] [] stop rule continues

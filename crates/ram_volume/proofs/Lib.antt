@@ -24,4 +24,5 @@ mod WriteTurns
 mod CallSteps
 mod Somes
 mod Held
+pub mod Behind
 pub mod ReadAhead

@@ -1,6 +1,6 @@
 -- What a read does with the parts of its request, and what the drive stands for after it. `held` are the blocks that were
 -- buffered before, and `held'` those after it. (This project's own, as all here.)
-use Rattle.std.specs.Prelude.{◌≡◌, ℕ, zero, suc, ◌+◌, ◌-◌, ◌*◌, ◌<◌, ◌≤◌, ◌⊎◌, Bool, true, false, IsTrue, MatchBool, Option, Some, None, Result, Ok, Err, List, [], length, take}
+use Rattle.std.specs.Prelude.{◌≡◌, ℕ, zero, suc, ◌+◌, ◌-◌, ◌*◌, ◌<◌, ◌≤◌, ◌⊎◌, Bool, true, false, IsTrue, if◌then◌else◌, MatchBool, Option, Some, None, Result, Ok, Err, List, [], length, take}
 use Rattle.model_geometry.specs.Geometry.{Shape}
 use Rattle.model_medium.specs.Cells.{Cell, IsGood, cell_at}
 use Rattle.model_medium.specs.World.{World}
@@ -16,6 +16,7 @@ use Rattle.model_stops.specs.declared.Stop.{Stop}
 use Rattle.model_places.specs.Places.{Lists, home_of}
 use Rattle.model_drive.specs.Shown.{Shown, HoldsBlocksOf, StandsUnder, StandsFor}
 use Rattle.model_drive.specs.Reads.{ReadStep}
+use Rattle.ram_buffer.specs.Held.{IsAmong}
 use Rattle.ram_volume.specs.Blocks.{DiesAtMost, IsFetched, CannotBeRead}
 
 -- What the drive stands for after a read, for each thing that it stood for.
@@ -43,10 +44,16 @@ abbrev pub KeepsBefore : (lba block : ℕ) → (into into' : List ℕ) → Type 
 KeepsBefore lba block into into' =
     take (2048 * (start_in lba block - lba)) into' ≡ take (2048 * (start_in lba block - lba)) into
 
--- A block was read, and is still to be buffered: it is covered whole, and the buffer has nothing.
-pub record IsOwed (lba n block : ℕ) (held' : List (ℕ × List ℕ)) : Type 0 where
+-- A request covers so many blocks, none of them buffered, that those before its last ones may be read past the buffer.
+pub record IsLong (lba n : ℕ) (held : List (ℕ × List ℕ)) : Type 0 where
+  pub many : 16 ≤ blocks_covered lba n
+  pub none : (i : ℕ) → IsAmong (block_with lba) (blocks_covered lba n) i → bytes_at i held ≡ None
+
+-- A block may be read past the buffer: it is covered whole, and not buffered.
+pub record MayPass (lba n block : ℕ) (held : List (ℕ × List ℕ)) : Type 0 where
   pub all : is_partly lba n block ≡ false
-  pub nothing : held' ≡ []
+  pub none : bytes_at block held ≡ None
+  pub few : length held ≤ BUFFERED_BLOCKS
 
 -- A block is the one used last: it was buffered, or its bytes came out of those of a request. `room` is what the block had
 -- through which they went.
@@ -56,10 +63,11 @@ pub record PutsNewest (lba n block : ℕ) (into room : List ℕ) (held held' : L
   pub came : (bytes_at block held ≡ Some bytes)
       ⊎ ((bytes_at block held ≡ None) × (length room ≡ 32768) × (bytes ≡ merged_in lba n into block room))
 
--- the same of the block before the one after k others of a request, where there is such a one
-abbrev pub PutsBefore : (lba n k : ℕ) → (into room : List ℕ) → (held held' : List (ℕ × List ℕ)) → Type 0
-PutsBefore lba n zero into room held held' = held' ≡ held
-PutsBefore lba n (suc k) into room held held' = PutsNewest lba n (block_with lba + k) into room held held'
+-- So many blocks of a request from this one on are those used last, one after another. `into` are the bytes of the request.
+abbrev pub PutsFrom : (lba n : ℕ) → List ℕ → (first count : ℕ) → (held held' : List (ℕ × List ℕ)) → Type 0
+PutsFrom lba n into first zero held held' = held' ≡ held
+PutsFrom lba n into first (suc count) held held' = (mid : List (ℕ × List ℕ)) × (room : List ℕ)
+    × PutsFrom lba n into first count held mid × PutsNewest lba n (first + count) into room mid held'
 
 module _ {M : Type 0} (world : M → World) (reaches : M → M → ℕ → Type 0) (old new : M)
     (held : List (ℕ × List ℕ)) where
@@ -70,12 +78,12 @@ module _ {M : Type 0} (world : M → World) (reaches : M → M → ℕ → Type 
       pub fetched : IsFetched world reaches old new held i place bytes held'
       pub copied : into' ≡ filled_by lba n i bytes into
 
-    module _ (last : Bool) (held' : List (ℕ × List ℕ)) (into into' : List ℕ) where
-      -- The part was read. The buffer is then the one that is due, or the block is owed to it, if it is not the last one.
+    module _ (past : Bool) (held' : List (ℕ × List ℕ)) (into into' : List ℕ) where
+      -- The part was read, past the buffer, which is as it was, or so that the block is buffered.
       pub record IsReadPart : Type 0 where
         pub due : List (ℕ × List ℕ)
         pub copied : IsCopied due into into'
-        pub kept : (held' ≡ due) ⊎ ((last ≡ false) × IsOwed lba n i held')
+        pub kept : held' ≡ (if past then held else due)
 
       -- its block cannot be read, and the parts before it are as they were
       pub record IsUnreadPart : Type 0 where

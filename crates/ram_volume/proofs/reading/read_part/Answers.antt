@@ -1,16 +1,19 @@
-use Rattle.std.specs.Prelude.{ℕ, Bool, false, MatchResult, List}
+use Rattle.std.specs.Prelude.{◌≡◌, ℕ, Bool, true, false, if◌then◌else◌, List}
 use Rattle.std.proofs.Common.{refl, sym, ap, ◌∙◌, inl, subst}
 use Rattle.std.proofs.lemmas.Result.{err_from_is_err_and}
 use Rattle.model_buffer.specs.Buffer.{with_newest}
 use Rattle.model_places.specs.Places.{home_of}
 use Rattle.ram_lists.specs.Lists.{lists_of}
 use Rattle.ram_volume.specs.Blocks.{IsFetched, CannotBeRead, FetchStopped}
-use Rattle.ram_volume.specs.Reading.{ReadsPart}
 use Rattle.ram_volume.proofs.Fetches.{home_below, read_in, unread, halted}
 use Rattle.ram_volume.proofs.reading.read_part.Goals as goal
 
 pub read_whole-requires : goal.read_whole-requires
 read_whole-requires g c =
+    home_below c.args.geometry.now (lists_of c.args.lists.now) c.args.part.block c.home-place.result (g.M.Medium.block_count c.args.medium.now) c.requires.valid c.requires.inside c.home-place.ensures c.requires.size
+
+pub read_past-requires-clause-inside : goal.read_past-requires-clause-inside
+read_past-requires-clause-inside g c =
     home_below c.args.geometry.now (lists_of c.args.lists.now) c.args.part.block c.home-place.result (g.M.Medium.block_count c.args.medium.now) c.requires.valid c.requires.inside c.home-place.ensures c.requires.size
 
 pub returns-in_err-read_whole-clause-rule : goal.returns-in_err-read_whole-clause-rule
@@ -21,10 +24,6 @@ returns-in_err-read_whole-clause-rule g c =
     (halted g.M.Medium.world g.M.Medium.reaches c.args.medium.now c.read_whole.new.medium c.args.buffer.now c.args.part.block c.home-place.result c.if-lookup.ensures.few c.if-lookup.ensures.found.0
     _ _ c.in_err-read_whole.field-0.0 c.in_err-read_whole.ensures.rule c.in_err-read_whole.ensures.continues))
 
-pub read_through-requires-clause-inside : goal.read_through-requires-clause-inside
-read_through-requires-clause-inside g c =
-    home_below c.args.geometry.now (lists_of c.args.lists.now) c.args.part.block c.home-place.result (g.M.Medium.block_count c.args.medium.now) c.requires.valid c.requires.inside c.home-place.ensures c.requires.size
-
 pub returns-then-not-branch-clause-rule : goal.returns-then-not-branch-clause-rule
 returns-then-not-branch-clause-rule g c = record {
   unread = subst (λ (held' : List (ℕ × List ℕ)). CannotBeRead {M = g.row.M.Denot} g.M.Medium.world g.M.Medium.reaches c.args.medium.now c.read_whole.new.medium c.args.buffer.now c.args.part.block
@@ -34,6 +33,11 @@ returns-then-not-branch-clause-rule g c = record {
       _ c.read_whole.new.into c.in_ok-read_whole.field-0 c.if-not-branch.true c.in_ok-read_whole.ensures.rule c.in_ok-read_whole.ensures.continues));
   before = refl;
 }
+
+-- the block is buffered, where it did not go past the buffer
+put_there : (past : Bool) (held due : List (ℕ × List ℕ)) → past ≡ false → due ≡ (if past then held else due)
+put_there true held due goes = absurd (let e : true ≡ false = goes in cc)
+put_there false held due goes = refl
 
 pub returns-clause-rule : goal.returns-clause-rule
 returns-clause-rule g c = record {
@@ -46,7 +50,7 @@ returns-clause-rule g c = record {
         c.put.new.self (c.put.ensures ∙ ap (with_newest c.args.part.block c.read_whole.new.into) c.if-lookup.ensures.found.1));
     copied = c.copy_out-2.ensures;
   };
-  kept = inl refl;
+  kept = put_there c.args.past c.args.buffer.now c.put.new.self c.if-past.false;
 }
 
 pub returns-then-lookup-clause-rule : goal.returns-then-lookup-clause-rule
@@ -57,17 +61,5 @@ returns-then-lookup-clause-rule g c = record {
     fetched = record { buffer_is = c.if-lookup.ensures.found.1; came = inl (record { unused = refl; was_there = c.if-lookup.ensures.found.0 }); few = c.if-lookup.ensures.few };
     copied = c.copy_out.ensures;
   };
-  kept = inl refl;
+  kept = put_there c.args.past c.args.buffer.now c.lookup.new.self c.if-past.false;
 }
-
-pub returns-then-not-is_partly-clause-rule : goal.returns-then-not-is_partly-clause-rule
-returns-then-not-is_partly-clause-rule g c =
-    subst (λ (last : Bool). R c.args.buffer.now (home_of c.args.geometry.now (lists_of c.args.lists.now) c.args.part.block) last) (sym c.if-not-last.true)
-    (subst (λ (held : List (ℕ × List ℕ)). R held (home_of c.args.geometry.now (lists_of c.args.lists.now) c.args.part.block) false) c.if-lookup.ensures.found.1
-    (subst (λ (place : ℕ). R c.lookup.new.self place false) c.home-place.ensures c.read_through.ensures.rule))
-  where
-    R : List (ℕ × List ℕ) → ℕ → Bool → Type 0
-    R held place last = MatchResult c.read_through.result
-        (λ found. ReadsPart {M = g.row.M.Denot} g.M.Medium.world g.M.Medium.reaches c.args.medium.now c.read_through.new.medium held c.args.part.request.lba c.args.part.request.n c.args.part.block place last
-        c.read_through.new.buffer c.args.into.now c.read_through.new.into found)
-        (λ stop. FetchStopped {M = g.row.M.Denot} g.M.Medium.world g.M.Medium.reaches c.args.medium.now c.read_through.new.medium held c.args.part.block place stop)
