@@ -1,0 +1,3 @@
+pub mod Findable
+pub mod Losing
+pub mod Stops
