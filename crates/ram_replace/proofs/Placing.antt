@@ -29,6 +29,7 @@ use Rattle.model_volume.proofs.Updates.{agrees_good, data_moves, settled_kept, d
 use Rattle.model_drive.specs.declared.TheConstants.{LAST_COUNTER}
 use Rattle.model_drive.specs.Repairs.{sdl_update_uses}
 use Rattle.model_drive.specs.Course.{ToHome, ToSpare, lists_placed, WentTo, AreMoved, most_placing_uses, AreDead}
+use Rattle.model_survival.specs.Stops.{LeavesSdl}
 use Rattle.model_drive.specs.Blocks.{LeavesBlock, StopsAtBlock}
 use Rattle.ram_medium.specs.Laws.{MediumLaws}
 use Rattle.ram_medium.proofs.Parts.{continues_then, continues_quiet, stops_later, stops_within}
@@ -39,8 +40,8 @@ use Rattle.ram_copies.proofs.Lifting.{quiet_counts, fault_counts}
 use Rattle.ram_replace.specs.declared.spares.Found.{Found}
 use Rattle.ram_replace.specs.Spares.{ChangesSparesAlone, HaveFailed, IsFound, StopsTrying}
 use Rattle.ram_lists.proofs.MountSteps.{dds_stay}
-use Rattle.ram_replace.specs.Updates.{KeepsListCopies, LosesListCopies, HasUpdated, LeavesSdl, StopsUpdating}
-use Rattle.ram_replace.specs.Placing.{HasEnded, PlacesBlock, MeetsNoSpare, MeetsNoCopy, LeavesPlacing, PlacingStopped}
+use Rattle.ram_replace.specs.Updates.{KeepsListCopies, LosesListCopies, HasUpdated, StopsUpdating}
+use Rattle.ram_replace.specs.Placing.{HasEnded, PlacesBlock, MeetsNoSpare, MeetsNoCopy, PlacingStopped}
 use Rattle.ram_replace.proofs.Trying.{on_true}
 
 dead_is_bad : (cell : Cell) → cell ≡ Dead → ¬ IsGood cell
@@ -76,14 +77,12 @@ module _ {M : Type 0} (world : M → World) (block_count : M → ℕ) (reaches :
       counts = quiet_counts world block_count reaches laws old new k continues;
     }
 
-    stopped_by : (new : M) (stop : Stop) → IsTrue (world old).power → StopsAtBlock world reaches shape old new lists i bytes stop → ((world old).known ≡ true → LeavesPlacing shape (world new).cells lists i)
-        → PlacingStopped world reaches shape old new lists i bytes lists stop
-    stopped_by new stop on stopped left = record {
+    stopped_by : (new : M) (stop : Stop) → IsTrue (world old).power → StopsAtBlock world reaches shape old new lists i bytes stop → PlacingStopped world reaches shape old new lists i bytes lists stop
+    stopped_by new stop on stopped = record {
       was_on = on;
       counts = stopped_counts old new (most_placing_uses shape lists i) stop stopped.stops;
       same = refl;
       stopped = stopped;
-      left = left;
     }
 
     -- ---- while cells of the home and of spares alone change
@@ -98,12 +97,13 @@ module _ {M : Type 0} (world : M → World) (block_count : M → ℕ) (reaches :
       stopped_at : (most : ℕ) (stop : Stop) → most ≤ most_placing_uses shape lists i → Stops world reaches old new most stop → (world new).known ≡ (world old).known
           → (cell_at (world new).cells (home_of shape lists i) ≡ cell_at (world old).cells (home_of shape lists i)) ⊎ (cell_at (world new).cells (home_of shape lists i) ≡ Good bytes)
           ⊎ (¬ IsGood (cell_at (world new).cells (home_of shape lists i))) → StopsAtBlock world reaches shape old new lists i bytes stop
-      stopped_at most stop few stops as_known left = record {
+      stopped_at most stop few stops as_known there = record {
         stops = stops_within world block_count reaches laws old new most (most_placing_uses shape lists i) stop few stops;
         given = λ known other given. inl (settled_alone shape (world new).cells lists other settled_new valid.together.same_version given);
+        left = λ known. inl settled_new;
         as_known = as_known;
         only = moves;
-        covers = λ disc disc' differs fits. cover_settled shape lists valid i inside (world old).cells (world new).cells moves bytes disc disc' differs fits settled_new left;
+        covers = λ disc disc' differs fits. cover_settled shape lists valid i inside (world old).cells (world new).cells moves bytes disc disc' differs fits settled_new there;
       }
 
     -- ---- the home
@@ -116,7 +116,6 @@ module _ {M : Type 0} (world : M → World) (block_count : M → ℕ) (reaches :
     home_stopped new stop on stopped = stopped_by new stop on
         (stopped_at new (home_alone new stopped.others) 2 stop (omega arith) stopped.stops stopped.as_known
         (left_three (cell_at (world old).cells (home_of shape lists i)) (cell_at (world new).cells (home_of shape lists i)) bytes stopped.left))
-        (λ known. inl (settled_new new (home_alone new stopped.others)))
 
     pub home_put : (new : M) → IsBlockPut world reaches old new (home_of shape lists i) bytes → PlacesBlock world reaches shape old new lists i bytes lists
     home_put new put = record {
@@ -157,7 +156,6 @@ module _ {M : Type 0} (world : M → World) (block_count : M → ℕ) (reaches :
           (stopped_at new (both_alone new stopped.alone) (2 + 2 * length (free_spares shape lists)) stop (omega arith)
           (stops_later world block_count reaches laws old mid new 2 (2 * length (free_spares shape lists)) stop lost.continues stopped.stops)
           (stopped.as_known ∙ lost.as_known) (inr (inr (home_bad new stopped.alone))))
-          (λ known. inl (settled_new new (both_alone new stopped.alone)))
 
       leaves_by : (new : M) (k uses : ℕ) → uses ≡ 2 + k → ChangesSparesAlone world reaches mid new (free_spares shape lists) bytes → Continues world reaches mid new k
           → (world new).known ≡ (world mid).known → LeavesBlock world reaches shape old new lists i bytes lists uses
@@ -280,29 +278,29 @@ module _ {M : Type 0} (world : M → World) (block_count : M → ℕ) (reaches :
           -- it was stopped
           update_stopped : (stop : Stop) → IsTrue (world old).power → Stops world reaches here new (sdl_update_uses lists.sdl) stop → LeavesSdl shape (world here).cells (world new).cells moved_sdl
               → PlacingStopped world reaches shape old new lists i bytes lists stop
-          update_stopped stop on stops left = stopped_by new stop on (record {
+          update_stopped stop on stops leaves = stopped_by new stop on (record {
             stops = stops_within world block_count reaches laws old new (2 + (2 * found.tried + 2) + sdl_update_uses lists.sdl) (most_placing_uses shape lists i) stop (let inside = has.stands.inside in omega (arith, inside))
                 (stops_later world block_count reaches laws old here new (2 + (2 * found.tried + 2)) (sdl_update_uses lists.sdl) stop continues_here stops);
             given = λ known other given. elim (pair_between shape (world new).cells lists.dds lists.sdl moved_sdl other dds_still valid.together.same_version between given) [
               | inl before ↦ inl before
               | inr after ↦ inr (is_moved other after known)
             ];
+            left = λ known. inr (record {
+              before = (world here).cells;
+              settled = settled_here;
+              same_dds = λ area is. dds_stay world reaches shape here new alone area;
+              moved = moved;
+              is_moved = is_moved moved refl known;
+              left = leaves;
+            });
             as_known = as_known_all;
             only = all_only;
             covers = λ disc disc' differs fits. cover_between shape lists valid i inside (world old).cells (world new).cells all_only bytes disc disc' differs fits
                 (tried_of (free_spares shape lists) found.tried) found.spare next spare_agrees settled bad_still between;
           })
-              (λ known. inr (record {
-                before = (world here).cells;
-                settled = settled_here;
-                same_dds = λ area is. dds_stay world reaches shape here new alone area;
-                moved = moved;
-                is_moved = is_moved moved refl known;
-                left = left;
-              }))
             where
               between : SdlIsBetween shape (world new).cells lists.sdl moved_sdl
-              between = settled_stopped shape (world here).cells (world new).cells lists.sdl moved_sdl settled_here.sdl refl (inl (λ same. omega (arith, same))) left.may left.stays_dead
+              between = settled_stopped shape (world here).cells (world new).cells lists.sdl moved_sdl settled_here.sdl refl (inl (λ same. omega (arith, same))) leaves.may leaves.stays_dead
 
           -- no copy can be read
           no_copy_left : lists.sdl.counter ≢ LAST_COUNTER → Continues world reaches here new (sdl_update_uses lists.sdl) → LosesListCopies world reaches shape here new moved_sdl

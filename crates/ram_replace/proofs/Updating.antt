@@ -9,7 +9,8 @@ use Rattle.model_drive.specs.Repairs.{sdl_update_uses}
 use Rattle.ram_zones.specs.declared.list_kind.ListKind.TheVariants as kinds
 use Rattle.ram_copies.specs.Values.{SdlValue}
 use Rattle.ram_copies.specs.Calls.{LeavesCopies, CallEnds, StoppedWithin, Keeps, KeepsNone}
-use Rattle.ram_copies.proofs.EachList.{sdl_exact, sdl_lost, sdl_all_lost, sdl_may, sdl_stays_dead, sdl_stops}
+use Rattle.ram_copies.proofs.EachList.{sdl_exact, sdl_lost, sdl_all_lost}
+use Rattle.ram_lists.proofs.Mending.{sdl_left}
 use Rattle.ram_replace.specs.Updates.{HasUpdated, HaltsUpdating}
 
 module _ {M : Type 0} (world : M → World) (reaches : M → M → ℕ → Type 0) (shape : Shape) (old new : M) (value : Sdl) where
@@ -32,9 +33,5 @@ module _ {M : Type 0} (world : M → World) (reaches : M → M → ℕ → Type 
       → HaltsUpdating world reaches shape old new value stop
   update_halted stop stopped leaves = record {
     stopped = stopped;
-    left = record {
-      may = sdl_may shape value (world old).cells (world new).cells leaves;
-      stays_dead = sdl_stays_dead shape value (world old).cells (world new).cells leaves;
-      stops = sdl_stops shape value (world old).cells (world new).cells leaves;
-    };
+    left = sdl_left shape (world old).cells (world new).cells value leaves;
   }

@@ -1,17 +1,12 @@
 -- What the write of one logical block does, by its answer: for `place` and `write_home`.
-use Rattle.std.specs.Prelude.{◌≡◌, ℕ, ◌⊎◌, ⊤, Bool, true, IsTrue, List}
-use Rattle.model_geometry.specs.Geometry.{Shape, dds_block}
-use Rattle.model_medium.specs.Cells.{Cell, cell_at}
+use Rattle.std.specs.Prelude.{◌≡◌, ℕ, ⊤, Bool, true, IsTrue, List}
+use Rattle.model_geometry.specs.Geometry.{Shape}
 use Rattle.model_medium.specs.World.{World, UseContinues}
 use Rattle.model_stops.specs.declared.Stop.{Stop}
 use Rattle.model_stops.specs.declared.Stop.TheVariants as stops
-use Rattle.model_copies.specs.Copies.{IsArea}
 use Rattle.model_places.specs.Places.{Lists}
-use Rattle.model_volume.specs.Given.{AreSettled}
-use Rattle.model_drive.specs.Course.{AreMoved}
 use Rattle.model_drive.specs.Blocks.{PutsBlock, FindsNoSpare, FindsNoCopy, StopsAtBlock}
 use Rattle.ram_copies.specs.Calls.{StoppedCounts}
-use Rattle.ram_replace.specs.Updates.{LeavesSdl}
 use Rattle.ram_replace.specs.declared.writing.Outcome.{Outcome}
 use Rattle.ram_replace.specs.declared.writing.Outcome.TheVariants as outcomes
 use Rattle.ram_replace.specs.declared.writing.Placed.{Placed}
@@ -31,22 +26,6 @@ LeavesReadBack known bytes back (places.NoUpdate counter) = ⊤
 LeavesReadBack known bytes back places.Cut = ⊤
 LeavesReadBack known bytes back places.Off = ⊤
 LeavesReadBack known bytes back places.Fault = ⊤
-
-module _ (shape : Shape) (cells : List Cell) (lists : Lists) (i : ℕ) where
-  -- The update of the secondary list to a move of this block was stopped: when it began the lists were settled, and this is
-  -- left of its copies. (This project's own, as all here.)
-  pub record MovesInPart : Type 0 where
-    pub before : List Cell
-    pub settled : AreSettled shape before lists
-    pub same_dds : (area : ℕ) → IsArea area
-        → cell_at cells (dds_block shape area) ≡ cell_at before (dds_block shape area)
-    pub moved : Lists
-    pub is_moved : AreMoved shape cells lists i moved
-    pub left : LeavesSdl shape before cells moved.sdl
-
-  -- what a write that was stopped leaves of the copies: the lists are settled still, or the update to the next ones was stopped
-  abbrev pub LeavesPlacing : Type 0
-  LeavesPlacing = AreSettled shape cells lists ⊎ MovesInPart
 
 module _ {M : Type 0} (world : M → World) (reaches : M → M → ℕ → Type 0) (shape : Shape) (old new : M)
     (lists : Lists) (i : ℕ) (bytes : List ℕ) (lists' : Lists) where
@@ -77,7 +56,6 @@ module _ {M : Type 0} (world : M → World) (reaches : M → M → ℕ → Type 
     pub counts : StoppedCounts (world old) (world new) stop
     pub same : lists' ≡ lists
     pub stopped : StopsAtBlock world reaches shape old new lists i bytes stop
-    pub left : (world old).known ≡ true → LeavesPlacing shape (world new).cells lists i
 
   -- the power was off, and nothing was done
   pub record FoundOff : Type 0 where

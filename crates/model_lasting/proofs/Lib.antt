@@ -1,0 +1,3 @@
+pub mod DeadCells
+pub mod Finding
+pub mod Staying
