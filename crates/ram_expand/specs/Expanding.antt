@@ -15,7 +15,7 @@ use Rattle.model_drive.specs.Repairs.{sdl_update_uses}
 use Rattle.model_drive.specs.Expands.{IsLawfulSize, ssa_for, shortened}
 use Rattle.ram_zones.specs.declared.list_kind.ListKind.TheVariants as kinds
 use Rattle.ram_copies.specs.Calls.{CallEnds, StoppedWithin}
-use Rattle.ram_replace.specs.Updates.{LeavesSdl}
+use Rattle.model_survival.specs.Stops.{LeavesSdl}
 use Rattle.ram_expand.specs.Sizes.{IsPresent, IsSmaller}
 use Rattle.ram_expand.specs.declared.expanding.ExpandEnd.{ExpandEnd}
 use Rattle.ram_expand.specs.declared.expanding.ExpandEnd.TheVariants as ends

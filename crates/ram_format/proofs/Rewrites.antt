@@ -27,10 +27,10 @@ use Rattle.ram_medium.proofs.Parts.{continues_then, stops_later, stops_within}
 use Rattle.ram_zones.specs.declared.list_kind.ListKind.TheVariants as kinds
 use Rattle.ram_copies.specs.Values.{DdsValue, SdlValue}
 use Rattle.ram_copies.specs.Calls.{StoppedCounts, ChangesCopiesAlone, StopsRepairing}
-use Rattle.ram_copies.proofs.PartsOf.{parts_few}
 use Rattle.ram_copies.proofs.EachList.{dds_exact, dds_lost, dds_all_lost, dds_spares, dds_rewritten, sdl_exact, sdl_lost, sdl_all_lost, sdl_rewritten, seconds_rewritten, seconds_stay_by_dds}
-use Rattle.ram_lists.specs.Mends.{MendsDds, MendsSdl}
+use Rattle.model_survival.specs.Stops.{MendsDds, MendsSdl}
 use Rattle.ram_lists.proofs.Mending.{settled_may_hold, dds_in_part, sdl_in_part, dds_to_end, sdl_from}
+use Rattle.ram_format.proofs.Lefts.{sdl_not_mended}
 use Rattle.ram_lists.proofs.MountSteps.{copy_back, settled_same, dds_only, sdl_only, sdl_stay, dds_stay}
 use Rattle.ram_format.specs.Rewriting.{HasRepairedList, StopsRepairingList, RepairsBothLists, RewritesBy, RewriteStopped, StopsRewriting, lost_of, most_rewrite_uses}
 
@@ -193,17 +193,7 @@ module _ {M : Type 0} (world : M → World) (block_count : M → ℕ) (reaches :
 
   -- a list that the repair did not come to
   mends_none : (a b : M) → ChangesCopiesAlone world reaches kinds.Dds shape a b ⊥ → MendsSdl shape (world a).cells (world b).cells lists.sdl
-  mends_none a b alone = record {
-    may = record { firsts = λ area is. inl (sdl_same a b alone area); seconds = λ area is. inl (second_same a b alone area) };
-    stays_dead = record { firsts = λ area is dead. sdl_same a b alone area ∙ dead; seconds = λ area is dead. second_same a b alone area ∙ dead };
-    stops = record {
-      at = 0;
-      firsts = record { done = λ area is less. absurd (omega (arith, less)); to_come = λ area is more. inl (sdl_same a b alone area) };
-      seconds = λ two. record { done = λ area is less. absurd (omega (arith, less)); to_come = λ area is more. inl (second_same a b alone area) };
-      second_later = λ two. inl (inl (second_same a b alone 0));
-    };
-    spares = record { firsts = λ area is held. inl (sdl_same a b alone area); seconds = λ two area is held. inl (second_same a b alone area) };
-  }
+  mends_none a b alone = sdl_not_mended shape (world a).cells (world b).cells (sdl_same a b alone) (second_same a b alone) lists.sdl
 
   module _ (old one : M) (settled : AreSettled shape (world old).cells lists) where
     first_stop : (stop : Stop) → StopsRepairing world reaches kinds.Dds shape old one (DdsValue lists.dds) stop → RewriteStopped world reaches shape old one lists stop
@@ -214,10 +204,9 @@ module _ {M : Type 0} (world : M → World) (block_count : M → ℕ) (reaches :
       as_known = stopped.within.alone.as_known;
       only = dds_only world reaches shape old one stopped.within.alone;
       given = given_held shape (world old).cells (world one).cells
-          (copy_held IsDdsText (dds_block shape) dds_texts.one_text (world old).cells (world one).cells lists.dds settled.dds (stop_stays_dead old one 12 stop stopped.within.stops) mends.may)
+          (copy_held IsDdsText (dds_block shape) dds_texts.one_text (world old).cells (world one).cells lists.dds settled.dds (stop_stays_dead old one 12 stop stopped.within.stops) mends.left.may)
           (parts_back old one stopped.within.alone);
-      dds = mends;
-      sdl = mends_none old one stopped.within.alone;
+      left = record { dds = mends; sdl = mends_none old one stopped.within.alone };
     }
       where
         mends : MendsDds shape (world old).cells (world one).cells lists.dds
@@ -266,15 +255,17 @@ module _ {M : Type 0} (world : M → World) (block_count : M → ℕ) (reaches :
           as_known = stopped.within.alone.as_known ∙ did.repairs.ends.alone.as_known;
           only = λ block away. sdl_only world reaches shape one two stopped.within.alone block away ∙ dds_only world reaches shape old one did.repairs.ends.alone block away;
           given = given;
-          dds = dds_to_end shape (world old).cells (world two).cells lists.dds
-              (settled_same IsDdsText (dds_block shape) (world one).cells (world two).cells stay lists.dds dds_settled_one)
-              (λ area is dead. stay area ∙ stays_dead old one dds_uses repaired (dds_block shape area) dead)
-              (λ area is held. elim (spares area is held) [ inl same ↦ inl (stay area ∙ same) | inr dead ↦ inr (stay area ∙ dead) ]);
-          sdl = mends;
+          left = record {
+            dds = dds_to_end shape (world old).cells (world two).cells lists.dds
+                (settled_same IsDdsText (dds_block shape) (world one).cells (world two).cells stay lists.dds dds_settled_one)
+                (λ area is dead. stay area ∙ stays_dead old one dds_uses repaired (dds_block shape area) dead)
+                (λ area is held. elim (spares area is held) [ inl same ↦ inl (stay area ∙ same) | inr dead ↦ inr (stay area ∙ dead) ]);
+            sdl = mends;
+          };
         }
           where
             few : dds_uses + 12 * parts_by lists.sdl.version ≤ most_rewrite_uses lists.sdl
-            few = let most = did.repairs.few in let parts = parts_few lists.sdl.version in omega (arith, most, parts)
+            few = let most = did.repairs.few in omega (arith, most)
 
             stay : (area : ℕ) → cell_at (world two).cells (dds_block shape area) ≡ cell_at (world one).cells (dds_block shape area)
             stay = dds_stay world reaches shape one two stopped.within.alone
@@ -291,9 +282,9 @@ module _ {M : Type 0} (world : M → World) (block_count : M → ℕ) (reaches :
 
             given : (other : Lists) → IsGiven shape (world two).cells other → IsGiven shape (world old).cells other
             given = elim (lost_decided shape (world old).cells lists.sdl) [
-              | inl lost ↦ lost_given shape (world old).cells (world two).cells lists.dds lists.sdl lost settled.dds (dds_held stay) dies mends.may
+              | inl lost ↦ lost_given shape (world old).cells (world two).cells lists.dds lists.sdl lost settled.dds (dds_held stay) dies mends.left.may
               | inr not ↦ given_held shape (world old).cells (world two).cells (dds_held stay)
-                  (parts_held shape (world old).cells (world two).cells lists.sdl (settled.sdl (λ both. not both.0)) dies mends.may)
+                  (parts_held shape (world old).cells (world two).cells lists.sdl (settled.sdl (λ both. not both.0)) dies mends.left.may)
             ]
 
         pub second_ends : (stop : Stop) → StopsRepairingList world reaches shape one two kinds.Sdl (SdlValue lists.sdl) stop → StopsRewriting world reaches shape old two lists stop

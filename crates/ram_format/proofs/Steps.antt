@@ -5,7 +5,7 @@ use Rattle.std.specs.List.{All, Contains}
 use Rattle.std.specs.List.Sorted.{IsStrictlyIncreasing}
 use Rattle.std.proofs.lemmas.List.{get_or-map, length-map}
 use Rattle.std.proofs.lemmas.List.Elements.{All-contains}
-use Rattle.model_geometry.specs.Geometry.{Shape, IsLawful, data_blocks, lead_out, dds_block, sdl_block}
+use Rattle.model_geometry.specs.Geometry.{Shape, IsLawful, data_blocks, lead_out, dds_block, sdl_block, sdl_second_block}
 use Rattle.model_geometry.proofs.DataBlocks.{data_blocks_bounds}
 use Rattle.model_geometry.proofs.Zones.{total_most}
 use Rattle.model_geometry.proofs.ListBlocks.{no_data_block_dds, no_data_block_sdl}
@@ -27,10 +27,12 @@ use Rattle.model_copies.specs.Parts.{SdlIsExact, AreMarkedWithin}
 use Rattle.model_places.specs.Places as places
 use Rattle.model_places.specs.Valid.{AreValid}
 use Rattle.model_volume.specs.Given.{IsGiven, IsListBlock}
+use Rattle.model_survival.specs.Stops.{LeavesSdl}
 use Rattle.model_volume.specs.Covers.{FitsUnder, SomeFit}
 use Rattle.model_volume.proofs.ListCells.{dds_listed, sdl_listed, second_listed, no_data_block_second}
 use Rattle.model_formats.specs.Defects.{IsCertified, ChangesFormatted}
 use Rattle.model_formats.specs.Fresh.{formatting_dds, formatted_dds, fresh_sdl, fresh_lists}
+use Rattle.model_formats.specs.Leaving.{SaysFormatting}
 use Rattle.model_formats.specs.Stopped.{zero_disc}
 use Rattle.model_formats.proofs.Phases.{lost_gives_none, formatting_gives_none, given_in_first, given_in_last, cover_data}
 use Rattle.model_formats.proofs.Fresh.{fresh_valid, zeros_fit}
@@ -43,10 +45,12 @@ use Rattle.ram_copies.specs.Calls.{StoppedCounts, ChangesCopiesAlone, CallEnds, 
 use Rattle.model_copies.proofs.SdlParts.{exact_same}
 use Rattle.ram_copies.proofs.EachList.{dds_exact, dds_may, dds_lost, dds_all_lost, sdl_exact, sdl_lost, sdl_all_lost, seconds_stay_by_dds}
 use Rattle.ram_lists.proofs.MountSteps.{settled_same, sdl_stay, dds_stay}
+use Rattle.ram_lists.proofs.Mending.{dds_left, sdl_left, sdl_left_from}
 use Rattle.ram_certify.specs.Certifying.{certify_uses, ChangesCertifiedAlone, StopsCertifying}
 use Rattle.ram_format.specs.declared.ends.End.{End}
 use Rattle.ram_format.specs.declared.ends.End.TheVariants as ends
 use Rattle.ram_format.specs.Phases.{HasWrittenList, EndsWritingList, HasFoundDefects, FindsFewDefects, EndsFinding}
+use Rattle.ram_format.proofs.Lefts.{sdl_stays, sdl_not_written}
 use Rattle.ram_format.specs.Full.{uses_of_all, FormatGoes, AreDefects, AreFewDefects, MakesLists, FormatStopped, EndsFormat}
 
 -- a structure with entries that rise, and are data blocks, is lawful
@@ -95,6 +99,9 @@ module _ {M : Type 0} (world : M → World) (block_count : M → ℕ) (reaches :
   sdl_certified_stay : (old new : M) → ChangesCertifiedAlone world reaches shape kept old new → (area : ℕ) → cell_at (world new).cells (sdl_block shape area) ≡ cell_at (world old).cells (sdl_block shape area)
   sdl_certified_stay old new alone area = alone.others (sdl_block shape area) (λ (c : IsCertified shape (Contains kept) (sdl_block shape area)). no_data_block_sdl shape area c.data_block)
 
+  second_certified_stay : (old new : M) → ChangesCertifiedAlone world reaches shape kept old new → (area : ℕ) → cell_at (world new).cells (sdl_second_block shape area) ≡ cell_at (world old).cells (sdl_second_block shape area)
+  second_certified_stay old new alone area = alone.others (sdl_second_block shape area) (λ (c : IsCertified shape (Contains kept) (sdl_second_block shape area)). no_data_block_second shape area c.data_block)
+
   -- ---- how far it went
 
   goes_first : (old new : M) → CallEnds world reaches kinds.Dds shape old new ⊥ 8 → FormatGoes world reaches shape kept kind mark old new 8
@@ -121,7 +128,7 @@ module _ {M : Type 0} (world : M → World) (block_count : M → ℕ) (reaches :
 
   module _ (old one : M) (marked : AreMarkedWithin shape (world old).cells mark) (on : IsTrue (world old).power) where
     first_stop : (stop : Stop) → StoppedWithin world reaches kinds.Dds shape old one ⊥ 8 stop → LeavesCopies kinds.Dds shape (world old).cells (world one).cells (DdsValue (formatting_dds shape mark)) → FormatStopped world reaches shape kept kind mark old one stop
-    first_stop stop stopped left = record {
+    first_stop stop stopped leaves = record {
       was_on = on;
       room = room;
       stops = stops_within world block_count reaches laws old one 8 (uses_of_all world reaches shape kept kind mark old one) stop (omega arith) stopped.stops;
@@ -130,11 +137,15 @@ module _ {M : Type 0} (world : M → World) (block_count : M → ℕ) (reaches :
       only = dds_only old one stopped.alone;
       given = λ known lists given. inl (before lists given);
       covers = λ known. inl (cover_data shape (world old).cells (world one).cells (data_stay_dds old one stopped.alone) before);
+      left = inl (record {
+        dds = dds_left shape (world old).cells (world one).cells (formatting_dds shape mark) leaves;
+        sdl = sdl_stays shape (world old).cells (world one).cells (sdl_stay world reaches shape old one stopped.alone) (seconds_stay_by_dds world reaches shape old one (λ t. t) stopped.alone);
+      });
     }
       where
         before : (lists : places.Lists) → IsGiven shape (world one).cells lists → IsGiven shape (world old).cells lists
         before = given_in_first shape (world old).cells (world one).cells mark
-            (dds_may shape (formatting_dds shape mark) (world old).cells (world one).cells left)
+            (dds_may shape (formatting_dds shape mark) (world old).cells (world one).cells leaves)
             (sdl_stay world reaches shape old one stopped.alone) (seconds_stay_by_dds world reaches shape old one (λ t. t) stopped.alone)
 
     pub first_ends : (end : End) → EndsWritingList world reaches shape old one kinds.Dds (DdsValue (formatting_dds shape mark)) (mark + 1) mark end → EndsFormat world reaches shape kept kind mark old one end
@@ -169,8 +180,8 @@ module _ {M : Type 0} (world : M → World) (block_count : M → ℕ) (reaches :
         -- it was stopped while the structure said Formatting
         stopped_formatting : (new : M) (j k : ℕ) (mid : M) → FormatGoes world reaches shape kept kind mark old mid j → j + k ≤ uses_of_all world reaches shape kept kind mark old new → (stop : Stop)
             → Stops world reaches mid new k stop → StoppedCounts (world mid) (world new) stop → (world new).known ≡ (world mid).known → ChangesFormatted shape (Contains kept) (world mid).cells (world new).cells
-            → Settled IsDdsText (dds_block shape) (world new).cells (formatting_dds shape mark) → FormatStopped world reaches shape kept kind mark old new stop
-        stopped_formatting new j k mid gone few stop stops counts as_known only settled = record {
+            → SaysFormatting shape (world new).cells mark → LeavesSdl shape (world old).cells (world new).cells (fresh_sdl mark) → FormatStopped world reaches shape kept kind mark old new stop
+        stopped_formatting new j k mid gone few stop stops counts as_known only settled leaves = record {
           was_on = on;
           room = room;
           stops = stops_within world block_count reaches laws old new (j + k) (uses_of_all world reaches shape kept kind mark old new) stop few (stops_later world block_count reaches laws old mid new j k stop gone.continues stops);
@@ -179,11 +190,20 @@ module _ {M : Type 0} (world : M → World) (block_count : M → ℕ) (reaches :
           only = only_then old mid new gone.only only;
           given = λ known lists given. absurd (formatting_gives_none shape (world new).cells mark settled lists given);
           covers = λ known. inr (inl (formatting_gives_none shape (world new).cells mark settled));
+          left = inr (inl (record { dds = settled; sdl = leaves }));
         }
+
+        -- the cells of the secondary list's copies are as they were
+        firsts_two : ChangesCertifiedAlone world reaches shape kept one two → (area : ℕ) → cell_at (world two).cells (sdl_block shape area) ≡ cell_at (world old).cells (sdl_block shape area)
+        firsts_two alone area = sdl_certified_stay one two alone area ∙ sdl_stay world reaches shape old one did.ended.alone area
+
+        seconds_two : ChangesCertifiedAlone world reaches shape kept one two → (area : ℕ) → cell_at (world two).cells (sdl_second_block shape area) ≡ cell_at (world old).cells (sdl_second_block shape area)
+        seconds_two alone area = second_certified_stay one two alone area ∙ seconds_stay_by_dds world reaches shape old one (λ t. t) did.ended.alone area
 
         second_stop : (stop : Stop) → StopsCertifying world reaches shape kept one two stop → FormatStopped world reaches shape kept kind mark old two stop
         second_stop stop stopped = stopped_formatting two 8 (certify_uses world reaches shape kept one two) one gone_one (omega arith) stop stopped.stops stopped.counts stopped.alone.as_known
             (certified_only one two stopped.alone) (stays_formatting stopped.alone)
+            (sdl_not_written shape (world old).cells (world two).cells (firsts_two stopped.alone) (seconds_two stopped.alone) (fresh_sdl mark))
 
         gone_by : (entries : List PdlEntry) → HasFoundDefects world reaches shape one two kept kind entries → FormatGoes world reaches shape kept kind mark old two (8 + certify_uses world reaches shape kept one two)
         gone_by entries d = goes_then old one two 8 (certify_uses world reaches shape kept one two) gone_one d.continues d.counts d.alone.as_known (certified_only one two d.alone)
@@ -198,11 +218,12 @@ module _ {M : Type 0} (world : M → World) (block_count : M → ℕ) (reaches :
           found_is = h.0.found_is;
           many = h.0.many;
           defects = record { defective = λ known. h.0.defects.defective (known_one known); certified = λ known. h.0.defects.certified (known_one known) };
+          formatting = stays_formatting h.0.defects.alone;
           left_is = h.1;
           leaves = record {
             gives_none = formatting_gives_none shape (world two).cells mark (stays_formatting h.0.defects.alone);
             marked = subst (AreMarkedWithin shape (world two).cells) (sym h.1) (marked_begun shape mark (world old).cells (world two).cells marked (stays_formatting h.0.defects.alone)
-                (λ area. sdl_certified_stay one two h.0.defects.alone area ∙ sdl_stay world reaches shape old one did.ended.alone area));
+                (firsts_two h.0.defects.alone));
           };
         }
         second_ends (ends.NoCopy due left) h = absurd h
@@ -244,15 +265,19 @@ module _ {M : Type 0} (world : M → World) (block_count : M → ℕ) (reaches :
             gone_three : CallEnds world reaches kinds.Sdl shape two three (HasTwo (SdlValue (fresh_sdl mark))) 16 → FormatGoes world reaches shape kept kind mark old three (8 + certify_uses world reaches shape kept one two + 16)
             gone_three ended = goes_then old two three (8 + certify_uses world reaches shape kept one two) 16 gone_two ended.continues ended.counts ended.alone.as_known (sdl_only two three ended.alone)
 
-            third_stop : (stop : Stop) → StoppedWithin world reaches kinds.Sdl shape two three (HasTwo (SdlValue (fresh_sdl mark))) 16 stop → FormatStopped world reaches shape kept kind mark old three stop
-            third_stop stop stopped = stopped_formatting three (8 + certify_uses world reaches shape kept one two) 16 two gone_two (omega arith) stop stopped.stops stopped.counts stopped.alone.as_known
+            third_stop : (stop : Stop) → StoppedWithin world reaches kinds.Sdl shape two three (HasTwo (SdlValue (fresh_sdl mark))) 16 stop
+                → LeavesCopies kinds.Sdl shape (world two).cells (world three).cells (SdlValue (fresh_sdl mark)) → FormatStopped world reaches shape kept kind mark old three stop
+            third_stop stop stopped leaves = stopped_formatting three (8 + certify_uses world reaches shape kept one two) 16 two gone_two (omega arith) stop stopped.stops stopped.counts stopped.alone.as_known
                 (sdl_only two three stopped.alone) (stays_three stopped.alone)
+                (sdl_left_from shape (world two).cells (world old).cells (world three).cells (λ area. sym (firsts_two few.defects.alone area)) (λ area. sym (seconds_two few.defects.alone area)) (fresh_sdl mark)
+                (sdl_left shape (world two).cells (world three).cells (fresh_sdl mark) leaves))
 
             pub third_ends : (end : End) → EndsWritingList world reaches shape two three kinds.Sdl (SdlValue (fresh_sdl mark)) 1 (mark + 2) end → EndsFormat world reaches shape kept kind mark old three end
             third_ends (ends.TooMany found left) h = absurd h
             third_ends (ends.NoCopy due left) h = inr (inl (record {
               goes = gone_three h.0;
               few = few_at three (data_stay_sdl two three h.0.alone);
+              formatting = stays_three h.0.alone;
               lost = sdl_lost shape (fresh_sdl mark) (world three).cells h.1.lost;
               counter_is = h.2;
               left_is = h.3;
@@ -261,9 +286,9 @@ module _ {M : Type 0} (world : M → World) (block_count : M → ℕ) (reaches :
                 marked = subst (AreMarkedWithin shape (world three).cells) (sym h.3) (marked_middle shape mark (world three).cells (stays_three h.0.alone) (sdl_exact shape (fresh_sdl mark) (world three).cells h.1.exact));
               };
             }))
-            third_ends ends.Cut h = third_stop stops.Cut h.0
+            third_ends ends.Cut h = third_stop stops.Cut h.0 h.1
             third_ends ends.Off h = absurd (h.was_off gone_two.counts.stays_on)
-            third_ends ends.Fault h = third_stop stops.Fault h.0
+            third_ends ends.Fault h = third_stop stops.Fault h.0 h.1
 
             module _ (done : HasWrittenList world reaches shape two three kinds.Sdl (SdlValue (fresh_sdl mark))) (lawful : IsLawful shape) where
               formatting_three : Settled IsDdsText (dds_block shape) (world three).cells (formatting_dds shape mark)
@@ -298,7 +323,7 @@ module _ {M : Type 0} (world : M → World) (block_count : M → ℕ) (reaches :
                         (in_all.0, omega (arith, in_all.1, length-map entries (λ (e : PdlEntry). e.block)), at ∙ ap (λ (e : PdlEntry). e.block) in_all.2)
 
                 fourth_stop : (stop : Stop) → StoppedWithin world reaches kinds.Dds shape three four ⊥ 8 stop → LeavesCopies kinds.Dds shape (world three).cells (world four).cells (DdsValue (formatted_dds shape mark entries)) → FormatStopped world reaches shape kept kind mark old four stop
-                fourth_stop stop stopped left = record {
+                fourth_stop stop stopped leaves = record {
                   was_on = on;
                   room = room;
                   stops = stops_later world block_count reaches laws old three four (8 + certify_uses world reaches shape kept one two + 16) 8 stop (gone_three done.ended).continues stopped.stops;
@@ -311,11 +336,18 @@ module _ {M : Type 0} (world : M → World) (block_count : M → ℕ) (reaches :
                     lists_are = are_fresh lists given;
                   });
                   covers = λ known. inr (inr (λ lists given. subst (λ (l : places.Lists). SomeFit shape (world four).cells l (zero_disc shape ∷ [])) (sym (are_fresh lists given)) (inl (zeros_cover stopped.alone known))));
+                  left = inr (inr (record {
+                    before = (world three).cells;
+                    formatting = formatting_three;
+                    entries = entries;
+                    dds = dds_left shape (world three).cells (world four).cells (formatted_dds shape mark entries) leaves;
+                    sdl = fresh_four stopped.alone;
+                  }));
                 }
                   where
                     are_fresh : (lists : places.Lists) → IsGiven shape (world four).cells lists → lists ≡ fresh_lists shape mark entries
                     are_fresh = given_in_last shape (world three).cells (world four).cells mark entries
-                        (dds_may shape (formatted_dds shape mark entries) (world three).cells (world four).cells left)
+                        (dds_may shape (formatted_dds shape mark entries) (world three).cells (world four).cells leaves)
                         formatting_three (fresh_four stopped.alone)
 
                 pub fourth_ends : (end : End) → EndsWritingList world reaches shape three four kinds.Dds (DdsValue (formatted_dds shape mark entries)) (mark + 2) (mark + 2) end → EndsFormat world reaches shape kept kind mark old four end

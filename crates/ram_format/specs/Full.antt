@@ -17,6 +17,7 @@ use Rattle.model_places.specs.Valid.{AreValid}
 use Rattle.model_volume.specs.Given.{IsGiven, GivesNone, AreSettled}
 use Rattle.model_formats.specs.Defects.{AreCertified, AreDefective, ChangesFormatted}
 use Rattle.model_formats.specs.Fresh.{fresh_sdl, fresh_lists}
+use Rattle.model_formats.specs.Leaving.{SaysFormatting, FormatsInPart}
 use Rattle.model_formats.specs.Stopped.{CoversStopped}
 use Rattle.ram_copies.specs.Calls.{StoppedCounts}
 use Rattle.ram_certify.specs.Certifying.{certify_uses}
@@ -79,13 +80,14 @@ module _ {M : Type 0} (world : M → World) (reaches : M → M → ℕ → Type 
     pub has_dds : (world old).known ≡ true → ¬ AllLost (dds_block shape) (world new).cells
     pub has_sdl : (world old).known ≡ true → ¬ SdlIsLost shape (world new).cells (fresh_sdl mark)
 
-  -- More blocks are defective than may be slipped, and so many.
+  -- More blocks are defective than may be slipped, and so many. The structure says Formatting.
   pub record MeetsTooMany (found left : ℕ) : Type 0 where
     pub goes : FormatGoes uses_of_two
     pub entries : List PdlEntry
     pub found_is : found ≡ length entries
     pub many : shape.psa < found
     pub defects : AreDefects entries
+    pub formatting : SaysFormatting shape (world new).cells mark
     pub left_is : left ≡ mark + 1
     pub leaves : LeavesNoLists left
 
@@ -97,10 +99,11 @@ module _ {M : Type 0} (world : M → World) (reaches : M → M → ℕ → Type 
     pub left_is : left ≡ mark
     pub leaves : LeavesNoLists left
 
-  -- the update of the secondary list left no copy of it
+  -- the update of the secondary list left no copy of it, and the structure says Formatting
   pub record LosesSecond (counter left : ℕ) : Type 0 where
     pub goes : FormatGoes uses_of_three
     pub few : AreFewDefects
+    pub formatting : SaysFormatting shape (world new).cells mark
     pub lost : SdlIsLost shape (world new).cells (fresh_sdl mark)
     pub counter_is : counter ≡ 1
     pub left_is : left ≡ mark + 2
@@ -129,7 +132,7 @@ module _ {M : Type 0} (world : M → World) (reaches : M → M → ℕ → Type 
     pub lists_are : lists ≡ fresh_lists shape mark entries
 
   -- It was stopped, for a cause that its count shows. The lists that the cells give they gave before, or they are the new
-  -- ones; and what the disc stands for is as it was, or none, or none and the disc of zeros.
+  -- ones; what the disc stands for is as it was, or none, or none and the disc of zeros; and this is left of the lists.
   pub record FormatStopped (stop : Stop) : Type 0 where
     pub was_on : IsTrue (world old).power
     pub room : mark + 2 ≤ 4294967295
@@ -140,6 +143,7 @@ module _ {M : Type 0} (world : M → World) (reaches : M → M → ℕ → Type 
     pub given : (world old).known ≡ true → (lists : places.Lists) → IsGiven shape (world new).cells lists
         → IsGiven shape (world old).cells lists ⊎ AreNewLists lists
     pub covers : (world old).known ≡ true → CoversStopped shape (world old).cells (world new).cells
+    pub left : FormatsInPart shape (world old).cells (world new).cells mark
 
   -- the power was off, and nothing was done
   pub record FoundOff : Type 0 where

@@ -14,15 +14,15 @@ use Rattle.model_volume.specs.Given.{IsGiven, AreSettled, OnlyLists}
 use Rattle.ram_zones.specs.declared.list_kind.ListKind.{ListKind}
 use Rattle.ram_copies.specs.Values.{ListValue}
 use Rattle.ram_copies.specs.Calls.{StoppedCounts, IsExact, IsLost, Repairs, StopsRepairing}
-use Rattle.ram_lists.specs.Mends.{MendsDds, MendsSdl}
+use Rattle.model_survival.specs.Stops.{MendsLists}
 use Rattle.ram_lists.specs.Mounts.{RepairsCopies, RepairsParts}
 use Rattle.ram_format.specs.declared.rewriting.Rewritten.{Rewritten}
 use Rattle.ram_format.specs.declared.rewriting.Rewritten.TheVariants as rewrites
 
--- how many uses a rewriting format of these lists takes at most: it repairs the structure and the secondary list (this
+-- how many uses a rewriting format of these lists takes at most: a repair of both, all cells of which are written again (this
 -- project's own, as all here)
 abbrev pub most_rewrite_uses : Sdl → ℕ
-most_rewrite_uses sdl = 12 + (4 * parts_by sdl.version + 16)
+most_rewrite_uses sdl = 12 + (4 * parts_by sdl.version + 2 * (4 * parts_by sdl.version))
 
 module _ {M : Type 0} (world : M → World) (reaches : M → M → ℕ → Type 0) (shape : Shape) (old new : M) where
   module _ (kind : ListKind) (value : ListValue) where
@@ -73,8 +73,8 @@ module _ {M : Type 0} (world : M → World) (reaches : M → M → ℕ → Type 
     RewritesBy None = HaveCopies
     RewritesBy (Some counter) = LacksCopies counter
 
-    -- It was stopped, for a cause that its count shows: lists that the cells give now they gave before. The copies of both
-    -- lists were repaired up to where that was stopped; a list to which it did not come has the area 0.
+    -- It was stopped, for a cause that its count shows: lists that the cells give now they gave before, and the copies of both
+    -- lists were repaired up to there.
     pub record RewriteStopped (stop : Stop) : Type 0 where
       pub was_on : IsTrue (world old).power
       pub stops : Stops world reaches old new (most_rewrite_uses lists.sdl) stop
@@ -82,8 +82,7 @@ module _ {M : Type 0} (world : M → World) (reaches : M → M → ℕ → Type 
       pub as_known : (world new).known ≡ (world old).known
       pub only : OnlyLists shape (world old).cells (world new).cells
       pub given : (other : Lists) → IsGiven shape (world new).cells other → IsGiven shape (world old).cells other
-      pub dds : MendsDds shape (world old).cells (world new).cells lists.dds
-      pub sdl : MendsSdl shape (world old).cells (world new).cells lists.sdl
+      pub left : MendsLists shape (world old).cells (world new).cells lists
 
     abbrev pub StopsRewriting : Stop → Type 0
     StopsRewriting stops.Cut = RewriteStopped stops.Cut
