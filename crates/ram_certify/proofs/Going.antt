@@ -12,16 +12,16 @@ use Rattle.model_lists.specs.declared.dds.PdlEntry.{PdlEntry}
 use Rattle.model_lists.proofs.Reading.{rises_on}
 use Rattle.model_medium.specs.Cells.{Cell, Good, Dead, MayLeave, cell_at}
 use Rattle.model_medium.specs.World.{World}
-use Rattle.model_stops.specs.Stops.{Continues}
+use Rattle.model_stops.specs.Stops.{Continues, Stops}
 use Rattle.model_stops.specs.declared.Stop.{Stop}
 use Rattle.model_sectors.specs.Discs.{zeros}
 use Rattle.model_formats.specs.Defects.{AreKept, IsCertified}
 use Rattle.ram_medium.specs.Laws.{MediumLaws}
 use Rattle.ram_medium.proofs.Parts.{continues_then, stops_later, stops_within}
 use Rattle.ram_copies.specs.Puts.{IsBlockPut, IsBlockLost, StopsPutting}
-use Rattle.ram_copies.proofs.Lifting.{quiet_counts}
-use Rattle.ram_certify.specs.Certifying.{HasCertified}
-use Rattle.ram_certify.specs.Blocks.{IsReached, IsNextKept, IsFoundBy, HasCertifiedUpTo, StopsCertifyingBlocks}
+use Rattle.ram_copies.proofs.Lifting.{quiet_counts, stopped_counts}
+use Rattle.ram_certify.specs.Certifying.{HasCertified, StopsCertifying}
+use Rattle.ram_certify.specs.Blocks.{IsReached, IsNextKept, IsFoundBy, HasCertifiedUpTo}
 use Rattle.ram_certify.proofs.Passing.{is_certified, passed_by, passed_on, kept_is_not_certified, reached_here, reached_more, reached_before, reached_below, reached_all, not_reached, rest_is_room, passed_all}
 
 -- one more, where there is room
@@ -177,29 +177,30 @@ module _ {M : Type 0} (world : M → World) (block_count : M → ℕ) (reaches :
       }
 
       -- it was stopped at this block
-      pub certifying_stops : (stop : Stop) → StopsPutting world reaches mid new (slice_index (data_blocks shape) n) (zeros 32768) stop → StopsCertifyingBlocks world reaches shape kept old new stop
-      certifying_stops stop halts = record {
-        stops = stops_within world block_count reaches laws old new (2 * (n - passed) + 2) (2 * (length (data_blocks shape) - length kept)) stop
-            (let h = rest_is_room shape kept are n passed so_far.passed_are n_in other so_far.within in let few = so_far.few in let within = so_far.within in omega (arith, h, few, within))
-            (stops_later world block_count reaches laws old mid new (2 * (n - passed)) 2 stop so_far.continues halts.stops);
-        as_known = halts.as_known ∙ so_far.as_known;
-        others = λ block apart. halts.others block (λ same. apart (subst (IsCertified shape (Contains kept)) (sym same) here)) ∙ so_far.others block (λ h. apart h.0);
+      pub certifying_stops : (stop : Stop) → IsTrue (world old).power → StopsPutting world reaches mid new (slice_index (data_blocks shape) n) (zeros 32768) stop → StopsCertifying world reaches shape kept old new stop
+      certifying_stops stop on halts = record {
+        was_on = on;
+        stops = stopped;
+        counts = stopped_counts world block_count reaches laws old new (2 * (length (data_blocks shape) - length kept)) stop stopped;
+        alone = record {
+          as_known = halts.as_known ∙ so_far.as_known;
+          others = λ block apart. halts.others block (λ same. apart (subst (IsCertified shape (Contains kept)) (sym same) here)) ∙ so_far.others block (λ h. apart h.0);
+        };
         left = all_left halts.others halts.left;
       }
+        where
+          stopped : Stops world reaches old new (2 * (length (data_blocks shape) - length kept)) stop
+          stopped = stops_within world block_count reaches laws old new (2 * (n - passed) + 2) (2 * (length (data_blocks shape) - length kept)) stop
+              (let h = rest_is_room shape kept are n passed so_far.passed_are n_in other so_far.within in let few = so_far.few in let within = so_far.within in omega (arith, h, few, within))
+              (stops_later world block_count reaches laws old mid new (2 * (n - passed)) 2 stop so_far.continues halts.stops)
 
   -- all data blocks were looked at
-  pub certified_all : (new : M) (passed count : ℕ) (found : List ℕ) → HasCertifiedUpTo world reaches shape kept old new most (length (data_blocks shape)) passed found count
-      → HasCertifiedUpTo world reaches shape kept old new most (length (data_blocks shape)) (length kept) found count
-  certified_all new passed count found so_far =
-      subst (λ (p : ℕ). HasCertifiedUpTo world reaches shape kept old new most (length (data_blocks shape)) p found count) (passed_all shape kept are passed so_far.within so_far.passed_are) so_far
-
-  -- so the certification went to its end
-  pub certified_rule : (new : M) (count : ℕ) (found : List ℕ) → IsTrue (world old).power
-      → HasCertifiedUpTo world reaches shape kept old new most (length (data_blocks shape)) (length kept) found count → HasCertified world reaches shape kept old new most found count
-  certified_rule new count found on so_far = record {
+  pub certified_all : (new : M) (passed count : ℕ) (found : List ℕ) → IsTrue (world old).power
+      → HasCertifiedUpTo world reaches shape kept old new most (length (data_blocks shape)) passed found count → HasCertified world reaches shape kept old new most found count
+  certified_all new passed count found on so_far = record {
     was_on = on;
-    continues = so_far.continues;
-    counts = quiet_counts world block_count reaches laws old new (2 * (length (data_blocks shape) - length kept)) so_far.continues;
+    continues = goes_on;
+    counts = quiet_counts world block_count reaches laws old new (2 * (length (data_blocks shape) - length kept)) goes_on;
     alone = record { as_known = so_far.as_known; others = λ block apart. so_far.others block (λ h. apart h.0) };
     certified = λ known block is. so_far.done block is (reached_all shape block);
     unreadable = so_far.unreadable;
@@ -211,3 +212,6 @@ module _ {M : Type 0} (world : M → World) (block_count : M → ℕ) (reaches :
     count_is = so_far.count_is;
     found_are = so_far.found_are;
   }
+    where
+      goes_on : Continues world reaches old new (2 * (length (data_blocks shape) - length kept))
+      goes_on = subst (λ (p : ℕ). Continues world reaches old new (2 * (length (data_blocks shape) - p))) (passed_all shape kept are passed so_far.within so_far.passed_are) so_far.continues

@@ -7,11 +7,9 @@ use Rattle.model_lists.specs.declared.dds.PdlEntry.{PdlEntry}
 use Rattle.model_lists.specs.Values.{pdl_blocks}
 use Rattle.model_medium.specs.Cells.{Good, Dead, MayLeave, cell_at}
 use Rattle.model_medium.specs.World.{World}
-use Rattle.model_stops.specs.Stops.{Continues, Stops}
-use Rattle.model_stops.specs.declared.Stop.{Stop}
+use Rattle.model_stops.specs.Stops.{Continues}
 use Rattle.model_sectors.specs.Discs.{zeros}
-use Rattle.model_formats.specs.Defects.{IsCertified, ChangesCertified}
-use Rattle.ram_certify.specs.Certifying.{certify_uses}
+use Rattle.model_formats.specs.Defects.{IsCertified}
 
 -- The block is one of the first so many data blocks. (This project's own, as all here.)
 abbrev pub IsReached : Shape → ℕ → ℕ → Type 0
@@ -52,10 +50,3 @@ module _ {M : Type 0} (world : M → World) (reaches : M → M → ℕ → Type 
     pub all : (world old).known ≡ true → (block : ℕ) → IsFoundBy n block → Contains unreadable block
     pub count_is : count ≡ length unreadable
     pub found_are : found ≡ take room unreadable
-
-  -- it was stopped
-  pub record StopsCertifyingBlocks (stop : Stop) : Type 0 where
-    pub stops : Stops world reaches old new (certify_uses world reaches shape kept old new) stop
-    pub as_known : (world new).known ≡ (world old).known
-    pub others : ChangesCertified shape (Contains kept) (world old).cells (world new).cells
-    pub left : (block : ℕ) → MayLeave (cell_at (world old).cells block) (zeros 32768) (cell_at (world new).cells block)

@@ -1,4 +1,4 @@
--- What a certification does, by its answer: for `certify`.
+-- What a certification does: for `certify_blocks`, and by its answer for `certify`.
 use Rattle.std.specs.Prelude.{◌≡◌, ℕ, ◌-◌, ◌*◌, true, IsTrue, List, [], length, take}
 use Rattle.std.specs.List.{Contains}
 use Rattle.std.specs.List.Sorted.{IsStrictlyIncreasing}

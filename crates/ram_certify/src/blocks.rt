@@ -4,7 +4,8 @@ ghost use Rattle.std.specs.Prelude.{◌≡◌, ◌≤◌, ◌↔◌, IsTrue, Mat
 ghost use Rattle.model_geometry.specs.Geometry.{total, data_blocks};
 ghost use Rattle.model_sectors.specs.Discs.{zeros};
 ghost use Rattle.model_formats.specs.Defects.{AreKept};
-ghost use Rattle.ram_certify.specs.Blocks.{HasCertifiedUpTo, StopsCertifyingBlocks, IsNextKept};
+ghost use Rattle.ram_certify.specs.Certifying.{HasCertified, StopsCertifying};
+ghost use Rattle.ram_certify.specs.Blocks.{IsNextKept};
 
 use model_lists::PdlEntry;
 use ram_bytes::Block;
@@ -38,7 +39,11 @@ fn note(found: &mut Vec<u32>, block: u32, most: usize)
     }
 }
 
-/// Certifies the data blocks that are not kept. How many of them are dead.
+/// Writes zeros to each data block that is not kept, and reads it back, from the lowest on: two uses each. The numbers of
+/// those that are dead then go into `found`, as far as it has room. How many they are.
+///
+/// `kept` names data blocks that rise, `zero` is a block of zeros, and `found` is empty. Where the work was stopped, what it
+/// has is not said. (After ECMA-330's certification; the order is this project's own.)
 pub fn certify_blocks<M: Medium>(
     medium: &mut M,
     geometry: &Geometry,
@@ -53,9 +58,9 @@ pub fn certify_blocks<M: Medium>(
     requires zero { zero.now ≡ zeros 32768 }
     requires empty { found.old.items ≡ [] }
     ensures rule { MatchResult result
-        (HasCertifiedUpTo M.world M.reaches geometry.now kept.now medium.old medium.new (vec_capacity found.old)
-        (length (data_blocks geometry.now)) (length kept.now) found.new.items)
-        (StopsCertifyingBlocks M.world M.reaches geometry.now kept.now medium.old medium.new) }
+        (HasCertified M.world M.reaches geometry.now kept.now medium.old medium.new (vec_capacity found.old)
+        found.new.items)
+        (StopsCertifying M.world M.reaches geometry.now kept.now medium.old medium.new) }
     ensures room { vec_capacity found.old ≤ vec_capacity found.new }
     ensures as_many { M.block_count medium.new ≡ M.block_count medium.old }
 {

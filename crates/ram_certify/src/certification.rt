@@ -37,11 +37,8 @@ pub fn zero_block(alloc: Global) -> Result<Block, AllocError>
     Block::zeros(alloc)
 }
 
-/// Writes zeros to each data block that is not kept, and reads it back, from the lowest on: two uses each. The numbers of
-/// those that are dead then go into `found`, as far as it has room, and all of them are counted.
-///
-/// `kept` names data blocks that rise, `zero` is a block of zeros, and `found` is empty. After Cut and Fault what it has is
-/// not said. (After ECMA-330's certification; the order is this project's own.)
+/// Certifies the data blocks that are not kept, as [`certify_blocks`] does, where the power is on. After Cut and Fault what
+/// `found` has is not said.
 pub fn certify<M: Medium>(
     medium: &mut M,
     geometry: &Geometry,

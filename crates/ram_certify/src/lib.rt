@@ -5,4 +5,5 @@
 mod blocks;
 mod certification;
 
+pub use blocks::certify_blocks;
 pub use certification::{Certified, certify, zero_block};

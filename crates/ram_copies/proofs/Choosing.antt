@@ -13,7 +13,7 @@ use Rattle.ram_zones.specs.declared.list_kind.ListKind.TheVariants as kinds
 use Rattle.ram_copies.specs.Values.{ListValue, IsText, IsSecond}
 use Rattle.ram_copies.specs.Calls.{first_block, second_block, IsWhole}
 use Rattle.ram_copies.specs.Choices.{MayHaveTwo, most_mores, HoldsMore, CellNames, SeenAt, CountFollowing, IsGreatestMarkUpTo, BestUpTo, CopiesSay, LooksAt, HaltsLooking, OnlyLooksAt, OnlyLooks, HasLooked, HaltsLookingAt, higher_of}
-use Rattle.ram_copies.specs.declared.looks.Halt.{Halt}
+use Rattle.ram_copies.specs.declared.halts.Halt.{Halt}
 use Rattle.ram_copies.proofs.Areas.{places_apart, second_no_dds, second_no_sdl}
 use Rattle.ram_copies.proofs.Best.{says_next}
 use Rattle.ram_copies.proofs.Looking.{same_then}

@@ -6,8 +6,8 @@ use Rattle.model_stops.specs.Stops.{Continues}
 use Rattle.ram_medium.specs.Laws.{MediumLaws}
 use Rattle.ram_medium.proofs.Parts.{continues_then, stops_later, stops_within}
 use Rattle.ram_zones.specs.declared.list_kind.ListKind.{ListKind}
-use Rattle.ram_copies.specs.declared.looks.Halt.{Halt}
-use Rattle.ram_copies.specs.declared.looks.Halt.TheVariants as halts
+use Rattle.ram_copies.specs.declared.halts.Halt.{Halt}
+use Rattle.ram_copies.specs.declared.halts.Halt.TheVariants as halts
 use Rattle.ram_copies.specs.Choices.{HaltsWithin}
 
 module _ {M : Type 0} (world : M → World) (block_count : M → ℕ) (reaches : M → M → ℕ → Type 0) (laws : MediumLaws world block_count reaches) (kind : ListKind) where

@@ -1,5 +1,5 @@
--- What an update and a repair do, by what was put into the copies.
-use Rattle.std.specs.Prelude.{◌≡◌, ℕ, zero, suc, ◌+◌, ◌*◌, ◌≤◌, IsTrue, MatchResult, List}
+-- What an update and a repair do, by what was put into the copies, and their answers by that.
+use Rattle.std.specs.Prelude.{◌≡◌, ◌≢◌, ℕ, zero, suc, ◌+◌, ◌*◌, ◌≤◌, IsTrue, MatchResult, List}
 use Rattle.std.proofs.Common.{Result, Ok, Err, refl, ◌∙◌, inl, inr, subst, arith}
 use Rattle.model_geometry.specs.Geometry.{Shape}
 use Rattle.model_medium.specs.World.{World, UseContinues, HasFailed}
@@ -11,8 +11,8 @@ use Rattle.ram_medium.specs.Laws.{MediumLaws}
 use Rattle.ram_medium.proofs.Parts.{continues_quiet, use_failed}
 use Rattle.ram_zones.specs.declared.list_kind.ListKind.{ListKind}
 use Rattle.ram_copies.specs.Values.{ListValue, IsText, IsSecond, HasTwo, parts_of}
-use Rattle.ram_copies.specs.Writes.{HasPutCopies, StopsPuttingCopies}
-use Rattle.ram_copies.specs.Calls.{StoppedCounts, ChangesCopiesAlone, CallEnds, StoppedWithin, IsExact, Keeps, KeepsNone, Repairs, StopsRepairing, PurposeRule, repair_uses, updated_of}
+use Rattle.ram_copies.specs.Writes.{HasPutCopies, StopsPuttingCopies, most_uses}
+use Rattle.ram_copies.specs.Calls.{StoppedCounts, ChangesCopiesAlone, CallEnds, StoppedWithin, IsExact, Keeps, KeepsNone, KeepsCopies, Repairs, HasPutList, StopsPuttingList, UpdateRule, RepairRule, repair_uses, updated_of}
 use Rattle.ram_copies.specs.declared.writes.Purpose.{Purpose}
 use Rattle.ram_copies.specs.declared.writes.Purpose.TheVariants as purposes
 use Rattle.ram_copies.proofs.Counting.{lost_copies}
@@ -52,6 +52,12 @@ module _ {M : Type 0} (world : M → World) (block_count : M → ℕ) (reaches :
         no_cut = failed.no_cut ∙ before.no_cut;
         fault = subst (λ (n : ℕ). Rose n (world new).faults) before.no_fault failed.fault;
       }
+
+  -- what a stop counts
+  pub stopped_counts : (most : ℕ) (stop : Stop) → Stops world reaches old new most stop → StoppedCounts (world old) (world new) stop
+  stopped_counts most stops.Cut ended = ended.cut
+  stopped_counts most stops.Off ended = ended
+  stopped_counts most stops.Fault ended = fault_counts most ended
 
 -- ---- the calls
 
@@ -108,37 +114,56 @@ module _ {M : Type 0} (world : M → World) (block_count : M → ℕ) (reaches :
     spares = spares_by purposes.Repair readable h;
   }
 
-  -- a call that was cut, or failed
-  stopped_by : (most : ℕ) (stop : Stop) → Stops world reaches old new most stop → StoppedCounts (world old) (world new) stop
-      → ChangesCopiesAlone world reaches kind shape old new (HasTwo value) → StoppedWithin world reaches kind shape old new (HasTwo value) most stop
-  stopped_by most stop stops counts alone = record { was_on = on; stops = stops; counts = counts; alone = alone }
+  keeps : (purpose : Purpose) (readable : ℕ) → HasPutCopies world reaches kind shape value old new purpose 4 readable → KeepsCopies world reaches kind shape old new value readable
+  keeps purpose zero h = none_by purpose 0 h refl
+  keeps purpose (suc n) h = keeps_by purpose (suc n) h (omega arith)
 
-  counts_of : (most : ℕ) (stop : Stop) → Stops world reaches old new most stop → StoppedCounts (world old) (world new) stop
-  counts_of most stops.Cut ended = ended.cut
-  counts_of most stops.Off ended = ended
-  counts_of most stops.Fault ended = fault_counts world block_count reaches laws old new most ended
+  -- either came to its end
+  pub list_put : (purpose : Purpose) (readable : ℕ) → HasPutCopies world reaches kind shape value old new purpose 4 readable → HasPutList world reaches kind shape old new value purpose readable
+  list_put purposes.Update readable h = (update_ends readable h, keeps purposes.Update readable h)
+  list_put purposes.Repair readable h = (repair_ends readable h, keeps purposes.Repair readable h)
 
-  update_stops : (stop : Stop) → (h : StopsPuttingCopies world reaches kind shape value old new purposes.Update stop) → StoppedWithin world reaches kind shape old new (HasTwo value) (8 * parts_of value) stop
-  update_stops stop h = stopped_by (8 * parts_of value) stop h.stops (counts_of (8 * parts_of value) stop h.stops) h.alone
-
-  repair_stops : (stop : Stop) → (h : StopsPuttingCopies world reaches kind shape value old new purposes.Repair stop) → StopsRepairing world reaches kind shape old new value stop
-  repair_stops stop h = record {
-    within = stopped_by (12 * parts_of value) stop h.stops (counts_of (12 * parts_of value) stop h.stops) h.alone;
-    leaves = h.leaves;
-    spares = h.spares refl;
+  -- or was stopped
+  stopped_by : (purpose : Purpose) (stop : Stop) → StopsPuttingCopies world reaches kind shape value old new purpose stop → StoppedWithin world reaches kind shape old new (HasTwo value) (most_uses purpose value) stop
+  stopped_by purpose stop h = record {
+    was_on = on;
+    stops = h.stops;
+    counts = stopped_counts world block_count reaches laws old new (most_uses purpose value) stop h.stops;
+    alone = h.alone;
   }
 
-  -- either, by its answer
-  pub purpose_rule : (purpose : Purpose) (ended : Result ℕ Stop)
-      → MatchResult ended (HasPutCopies world reaches kind shape value old new purpose 4) (StopsPuttingCopies world reaches kind shape value old new purpose)
-      → PurposeRule world reaches kind shape old new value purpose (updated_of ended)
-  purpose_rule purposes.Update (Ok zero) h = (update_ends 0 h, none_by purposes.Update 0 h refl)
-  purpose_rule purposes.Update (Ok (suc n)) h = (update_ends (suc n) h, keeps_by purposes.Update (suc n) h (omega arith))
-  purpose_rule purposes.Update (Err stops.Cut) h = (update_stops stops.Cut h, h.leaves)
-  purpose_rule purposes.Update (Err stops.Off) h = h.stops
-  purpose_rule purposes.Update (Err stops.Fault) h = (update_stops stops.Fault h, h.leaves)
-  purpose_rule purposes.Repair (Ok zero) h = (repair_ends 0 h, none_by purposes.Repair 0 h refl)
-  purpose_rule purposes.Repair (Ok (suc n)) h = (repair_ends (suc n) h, keeps_by purposes.Repair (suc n) h (omega arith))
-  purpose_rule purposes.Repair (Err stops.Cut) h = repair_stops stops.Cut h
-  purpose_rule purposes.Repair (Err stops.Off) h = h.stops
-  purpose_rule purposes.Repair (Err stops.Fault) h = repair_stops stops.Fault h
+  pub putting_stopped : (purpose : Purpose) (stop : Stop) → StopsPuttingCopies world reaches kind shape value old new purpose stop → StopsPuttingList world reaches kind shape old new value purpose stop
+  putting_stopped purposes.Update stop h = record { within = stopped_by purposes.Update stop h; leaves = h.leaves }
+  putting_stopped purposes.Repair stop h = record { within = stopped_by purposes.Repair stop h; leaves = h.leaves; spares = h.spares refl }
+
+-- ---- the answers, by the end of either
+
+module _ {M : Type 0} (world : M → World) (reaches : M → M → ℕ → Type 0) (kind : ListKind) (shape : Shape) (old new : M) (value : ListValue) where
+  pub update_rule : (ended : Result ℕ Stop) → MatchResult ended (HasPutList world reaches kind shape old new value purposes.Update) (StopsPuttingList world reaches kind shape old new value purposes.Update)
+      → UpdateRule world reaches kind shape old new value (updated_of ended)
+  update_rule (Ok zero) h = h
+  update_rule (Ok (suc n)) h = h
+  update_rule (Err stops.Cut) h = h
+  update_rule (Err stops.Off) h = h.within.stops
+  update_rule (Err stops.Fault) h = h
+
+  pub repair_rule : (ended : Result ℕ Stop) → MatchResult ended (HasPutList world reaches kind shape old new value purposes.Repair) (StopsPuttingList world reaches kind shape old new value purposes.Repair)
+      → RepairRule world reaches kind shape old new value (updated_of ended)
+  repair_rule (Ok zero) h = h
+  repair_rule (Ok (suc n)) h = h
+  repair_rule (Err stops.Cut) h = h
+  repair_rule (Err stops.Off) h = h.within.stops
+  repair_rule (Err stops.Fault) h = h
+
+  -- what is kept of the copies, by how many can be read
+  pub exact_of : (readable : ℕ) → KeepsCopies world reaches kind shape old new value readable → IsExact kind shape (world new).cells value
+  exact_of zero keeps = keeps.exact
+  exact_of (suc n) keeps = keeps.exact
+
+  pub some_kept : (readable : ℕ) → readable ≢ 0 → KeepsCopies world reaches kind shape old new value readable → Keeps world reaches kind shape old new value readable
+  some_kept zero some keeps = absurd (some refl)
+  some_kept (suc n) some keeps = keeps
+
+  pub none_kept : (readable : ℕ) → readable ≡ 0 → KeepsCopies world reaches kind shape old new value readable → KeepsNone world reaches kind shape old new value
+  none_kept zero none keeps = keeps
+  none_kept (suc n) none keeps = absurd (omega (arith, none))

@@ -19,8 +19,8 @@ use Rattle.ram_copies.specs.Values.{ListValue, IsText, HasTwo, IsSecond, HasMore
 use Rattle.ram_copies.specs.Calls.{first_block, second_block, IsWhole}
 use Rattle.ram_copies.specs.Choices.{MayHaveTwo, most_mores, HoldsMore, CellNames, SeenAt, NamedAt, CopySays, BothSay, OnlyReads, LooksOn, HaltsLookingOn, OnlyLooksAt, LooksAt, HaltsLooking}
 use Rattle.ram_copies.specs.declared.looks.Seen.{Seen}
-use Rattle.ram_copies.specs.declared.looks.Halt.{Halt}
-use Rattle.ram_copies.specs.declared.looks.Halt.TheVariants as halts
+use Rattle.ram_copies.specs.declared.halts.Halt.{Halt}
+use Rattle.ram_copies.specs.declared.halts.Halt.TheVariants as halts
 use Rattle.ram_copies.proofs.Areas.{second_no_sdl}
 use Rattle.ram_copies.proofs.Halting.{halts_within, halts_later}
 use Rattle.ram_copies.proofs.ListTexts.{first_says, says_two, says_kind, more_marks, text_marks, mark_of_text}

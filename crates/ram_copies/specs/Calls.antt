@@ -1,4 +1,4 @@
--- What an update and a repair of a list of one part or two do, by their answers: for `update`, `repair` and `put_list`.
+-- What an update and a repair of a list of one part or two do: for `put_copies`, and by their answers for `update` and `repair`.
 use Rattle.std.specs.Prelude.{◌≡◌, ◌≢◌, ℕ, zero, suc, ◌+◌, ◌*◌, ◌≤◌, ◌⊎◌, true, IsTrue, List, Result, Ok, Err}
 use Rattle.model_geometry.specs.Geometry.{Shape}
 use Rattle.model_medium.specs.Cells.{Cell, Dead, cell_at}
@@ -123,19 +123,15 @@ module _ {M : Type 0} (world : M → World) (reaches : M → M → ℕ → Type 
     pub exact : IsExact kind shape (world new).cells value
     pub lost : IsLost kind shape (world new).cells value
 
-  -- What an update does, by its answer: each cell was written and read back.
-  abbrev pub UpdateRule : Updated → Type 0
-  UpdateRule (updates.Kept readable) =
-      CallEnds world reaches kind shape old new (HasTwo value) (update_uses value) × Keeps readable
-  UpdateRule updates.NoCopy =
-      CallEnds world reaches kind shape old new (HasTwo value) (update_uses value) × KeepsNone
-  UpdateRule updates.Cut =
-      StoppedWithin world reaches kind shape old new (HasTwo value) (update_uses value) stops.Cut
-      × LeavesCopies kind shape (world old).cells (world new).cells value
-  UpdateRule updates.Off = IsOff (world old) (world new)
-  UpdateRule updates.Fault =
-      StoppedWithin world reaches kind shape old new (HasTwo value) (update_uses value) stops.Fault
-      × LeavesCopies kind shape (world old).cells (world new).cells value
+  -- each cell is exactly its part or dead now, and so many copies can be read whole
+  abbrev pub KeepsCopies : (readable : ℕ) → Type 0
+  KeepsCopies zero = KeepsNone
+  KeepsCopies (suc n) = Keeps (suc n)
+
+  -- an update was stopped
+  pub record StopsUpdating (stop : Stop) : Type 0 where
+    pub within : StoppedWithin world reaches kind shape old new (HasTwo value) (update_uses value) stop
+    pub leaves : LeavesCopies kind shape (world old).cells (world new).cells value
 
   -- A repair went to its end: it read each cell, and wrote and read back those that were not exactly their parts.
   pub record Repairs : Type 0 where
@@ -155,6 +151,27 @@ module _ {M : Type 0} (world : M → World) (reaches : M → M → ℕ → Type 
     pub leaves : LeavesCopies kind shape (world old).cells (world new).cells value
     pub spares : SparesExactCells kind shape (world old).cells (world new).cells value
 
+  -- The text of the list was put into all copies, and so many can be read. An update wrote each cell, and read it back.
+  abbrev pub HasPutList : Purpose → (readable : ℕ) → Type 0
+  HasPutList purposes.Update readable =
+      CallEnds world reaches kind shape old new (HasTwo value) (update_uses value) × KeepsCopies readable
+  HasPutList purposes.Repair readable = Repairs × KeepsCopies readable
+
+  -- it was stopped
+  abbrev pub StopsPuttingList : Purpose → Stop → Type 0
+  StopsPuttingList purposes.Update stop = StopsUpdating stop
+  StopsPuttingList purposes.Repair stop = StopsRepairing stop
+
+  -- What an update does, by its answer.
+  abbrev pub UpdateRule : Updated → Type 0
+  UpdateRule (updates.Kept readable) =
+      CallEnds world reaches kind shape old new (HasTwo value) (update_uses value) × Keeps readable
+  UpdateRule updates.NoCopy =
+      CallEnds world reaches kind shape old new (HasTwo value) (update_uses value) × KeepsNone
+  UpdateRule updates.Cut = StopsUpdating stops.Cut
+  UpdateRule updates.Off = IsOff (world old) (world new)
+  UpdateRule updates.Fault = StopsUpdating stops.Fault
+
   -- What a repair does, by its answer.
   abbrev pub RepairRule : Updated → Type 0
   RepairRule (updates.Kept readable) = Repairs × Keeps readable
@@ -162,11 +179,6 @@ module _ {M : Type 0} (world : M → World) (reaches : M → M → ℕ → Type 
   RepairRule updates.Cut = StopsRepairing stops.Cut
   RepairRule updates.Off = IsOff (world old) (world new)
   RepairRule updates.Fault = StopsRepairing stops.Fault
-
-  -- what either does
-  abbrev pub PurposeRule : Purpose → Updated → Type 0
-  PurposeRule purposes.Update result = UpdateRule result
-  PurposeRule purposes.Repair result = RepairRule result
 
 -- the answer for the number of copies that can be read, or the cause of a stop
 abbrev pub updated_of : Result ℕ Stop → Updated

@@ -11,8 +11,8 @@ use Rattle.ram_zones.specs.declared.list_kind.ListKind.TheVariants as kinds
 use Rattle.ram_copies.specs.Values.{ListValue, IsText, HasTwo, IsSecond, HasMore, NamesMark, counter_of}
 use Rattle.ram_copies.specs.Calls.{first_block, second_block, IsWhole}
 use Rattle.ram_copies.specs.declared.looks.Held.{Held}
-use Rattle.ram_copies.specs.declared.looks.Halt.{Halt}
-use Rattle.ram_copies.specs.declared.looks.Halt.TheVariants as halts
+use Rattle.ram_copies.specs.declared.halts.Halt.{Halt}
+use Rattle.ram_copies.specs.declared.halts.Halt.TheVariants as halts
 
 -- a text of this kind may have a second part (this project's own, as all here)
 abbrev pub MayHaveTwo : ListKind → Type 0

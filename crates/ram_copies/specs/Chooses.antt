@@ -1,4 +1,4 @@
--- What the choice of a list does, by its answer: for `choose`.
+-- What the choice of a list does: for `look_at_copies`, and by its answer for `choose`.
 use Rattle.std.specs.Prelude.{◌≡◌, ℕ, ◌+◌, ◌<◌, ◌≤◌, ◌⊎◌, true, IsTrue, Option, Some, None, List, Result, Ok, Err}
 use Rattle.model_geometry.specs.Geometry.{Shape}
 use Rattle.model_medium.specs.Cells.{Cell}
@@ -15,8 +15,8 @@ use Rattle.ram_copies.specs.declared.choice.Chosen.{Chosen}
 use Rattle.ram_copies.specs.declared.choice.Chosen.TheVariants as chosens
 use Rattle.ram_copies.specs.declared.looks.Held.{Held}
 use Rattle.ram_copies.specs.declared.looks.Choice.{Choice}
-use Rattle.ram_copies.specs.declared.looks.Halt.{Halt}
-use Rattle.ram_copies.specs.declared.looks.Halt.TheVariants as halts
+use Rattle.ram_copies.specs.declared.halts.Halt.{Halt}
+use Rattle.ram_copies.specs.declared.halts.Halt.TheVariants as halts
 
 -- The copy of this area is the one that is chosen: no whole copy that is accepted has a greater counter, and none of an
 -- equal counter lies in a lower area. (This project's own, as all here.)
@@ -74,14 +74,31 @@ module _ {M : Type 0} (world : M → World) (reaches : M → M → ℕ → Type 
     FindsNone = (world old).known ≡ true → (value : ListValue) (area : ℕ)
         → IsWhole kind shape (world new).cells value area → ¬ accepted value
 
-    -- What a choice does, by its answer: 4 uses, and one more for each first part after which another follows.
-    abbrev pub ChooseRule : {T : Type 0} → (T → ListValue) → Chosen T → Type 0
-    ChooseRule value_of (chosens.Found value area mark) = ChoosesOut × Finds (value_of value) area × IsMarkSeen mark
-    ChooseRule value_of (chosens.Nothing mark) = ChoosesOut × FindsNone × IsMarkSeen mark
-    ChooseRule value_of chosens.Cut = StopsChoosing stops.Cut
-    ChooseRule value_of chosens.Off = IsOff (world old) (world new)
-    ChooseRule value_of chosens.Fault = StopsChoosing stops.Fault
-    ChooseRule value_of chosens.NoMemory = ChoosesOutOfMemory
+    -- what was chosen of the copies that were seen, if anything
+    abbrev pub FindsBest : Option (ListValue × ℕ) → Type 0
+    FindsBest None = FindsNone
+    FindsBest (Some best) = Finds best.0 best.1
+
+    -- All copies were looked at, in 4 uses, and one more for each first part after which another follows. A list was chosen,
+    -- or none, and this is the greatest mark.
+    pub record HasChosen (best : Option (ListValue × ℕ)) (mark : ℕ) : Type 0 where
+      pub out : ChoosesOut
+      pub best_is : FindsBest best
+      pub mark_is : IsMarkSeen mark
+
+  -- why the choice did not come to its end
+  abbrev pub HaltsChoosing : Halt → Type 0
+  HaltsChoosing (halts.Stopped stop) = StopsChoosing stop
+  HaltsChoosing halts.NoMemory = ChoosesOutOfMemory
+
+  -- What a choice does, by its answer.
+  abbrev pub ChooseRule : (accepted : ListValue → Type 0) → {T : Type 0} → (T → ListValue) → Chosen T → Type 0
+  ChooseRule accepted value_of (chosens.Found value area mark) = HasChosen accepted (Some (value_of value, area)) mark
+  ChooseRule accepted value_of (chosens.Nothing mark) = HasChosen accepted None mark
+  ChooseRule accepted value_of chosens.Cut = StopsChoosing stops.Cut
+  ChooseRule accepted value_of chosens.Off = IsOff (world old) (world new)
+  ChooseRule accepted value_of chosens.Fault = StopsChoosing stops.Fault
+  ChooseRule accepted value_of chosens.NoMemory = ChoosesOutOfMemory
 
 -- the answer for what was found
 abbrev pub found_of : {T : Type 0} → Option (Held T) → ℕ → Chosen T

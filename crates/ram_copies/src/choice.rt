@@ -5,7 +5,8 @@ ghost use Rattle.model_geometry.specs.Geometry.{total};
 ghost use Rattle.ram_copies.specs.Chooses.{ChooseRule, found_of, chosen_of};
 
 use crate::blocks::{Accept, ListBlock};
-use crate::looks::{Choice, Halt, Held, look_at_copies};
+use crate::halts::Halt;
+use crate::looks::{Choice, Held, look_at_copies};
 use crate::scratch::Scratch;
 use ram_medium::{Medium, Stop};
 use ram_zones::Geometry;

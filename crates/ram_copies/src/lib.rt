@@ -4,6 +4,7 @@
 
 mod blocks;
 mod choice;
+mod halts;
 mod laws;
 mod lists;
 mod looks;
@@ -15,7 +16,10 @@ mod writes;
 
 pub use blocks::{Accept, ListBlock};
 pub use choice::{Chosen, choose};
+pub use halts::Halt;
 pub use laws::{decoding_gives_what_was_encoded, texts_of_lists_are_exact};
+pub use looks::{Choice, Held, look_at_copies};
 pub use puts::put_block;
 pub use scratch::Scratch;
 pub use updates::{Updated, repair, update};
+pub use writes::{Purpose, put_copies};

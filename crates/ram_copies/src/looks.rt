@@ -6,16 +6,18 @@ ghost use Rattle.model_geometry.specs.Geometry.{Shape, total};
 ghost use Rattle.ram_copies.specs.declared.looks.Held.{Held};
 ghost use Rattle.ram_copies.specs.declared.looks.Seen.{Seen};
 ghost use Rattle.ram_copies.specs.declared.looks.Choice.{Choice};
-ghost use Rattle.ram_copies.specs.declared.looks.Halt.TheVariants.{NoMemory};
+ghost use Rattle.ram_copies.specs.declared.halts.Halt.TheVariants.{NoMemory};
 ghost use Rattle.ram_copies.specs.Values.{IsInGrammar, Decodes, mark_of};
-ghost use Rattle.ram_copies.specs.Choices.{BestUpTo, SeenAt, held_of, higher_of, LooksOn, HaltsLookingOn, LooksAt, HaltsLooking, HasLooked, HaltsLookingAt};
+ghost use Rattle.ram_copies.specs.Choices.{BestUpTo, SeenAt, held_of, higher_of, LooksOn, HaltsLookingOn, LooksAt, HaltsLooking};
+ghost use Rattle.ram_copies.specs.Chooses.{HasChosen, HaltsChoosing};
 
 use crate::blocks::{Accept, ListBlock};
+use crate::halts::Halt;
 use crate::scratch::Scratch;
 use ram_bytes::Block;
-use ram_medium::{Medium, Stop, read_whole};
+use ram_medium::{Medium, read_whole};
 use ram_zones::{Geometry, ListKind};
-use std::alloc::{AllocError, Global};
+use std::alloc::Global;
 
 /// A list, and the area in which it was found.
 #[derive(Drop)]
@@ -40,15 +42,6 @@ pub struct Choice<T> {
     pub mark: u32,
 }
 
-/// Why the looks did not come to their end.
-#[derive(Clone, Copy)]
-pub enum Halt {
-    /// The work on the medium was stopped.
-    Stopped { stop: Stop },
-    /// A call that takes memory was refused it.
-    NoMemory,
-}
-
 /// What a copy of one part says, which was read.
 fn alone<T: ListBlock>(alloc: Global, first: &Block) -> Result<Seen<T>, Halt>
     ensures says { MatchResult result
@@ -58,20 +51,17 @@ fn alone<T: ListBlock>(alloc: Global, first: &Block) -> Result<Seen<T>, Halt>
     ensures in_grammar { IfOk result
         (λ (seen : Seen T). IfSome seen.found (λ list. IsInGrammar T.LIST (T.value list))) }
 {
-    match T::decode(alloc, first, None) {
-        Ok(None) => Ok(Seen {
+    let Some(list) = T::decode(alloc, first, None)? else {
+        return Ok(Seen {
             found: None,
             mark: None,
-        }),
-        Ok(Some(list)) => {
-            let mark = list.mark();
-            Ok(Seen {
-                found: Some(list),
-                mark: Some(mark),
-            })
-        }
-        Err(_) => Err(Halt::NoMemory),
-    }
+        });
+    };
+    let mark = list.mark();
+    Ok(Seen {
+        found: Some(list),
+        mark: Some(mark),
+    })
 }
 
 /// Reads the second part, after a first one that was read. The list, if it can be read and is in the grammar.
@@ -91,14 +81,10 @@ fn look_on<T: ListBlock, M: Medium>(
         (λ (found : Option T). IfSome found (λ list. IsInGrammar T.LIST (T.value list))) }
     ensures as_many { M.block_count medium.new ≡ M.block_count medium.old }
 {
-    match read_whole(medium, block, second) {
-        Ok(true) => match T::decode(alloc, first, Some(second)) {
-            Ok(found) => Ok(found),
-            Err(_) => Err(Halt::NoMemory),
-        },
-        Ok(false) => Ok(None),
-        Err(stop) => Err(Halt::Stopped { stop }),
+    if !read_whole(medium, block, second)? {
+        return Ok(None);
     }
+    Ok(T::decode(alloc, first, Some(second))?)
 }
 
 /// Reads the copy of one area: its first part, and the second where one follows.
@@ -122,15 +108,11 @@ fn look_at<T: ListBlock, M: Medium>(
     ensures as_many { M.block_count medium.new ≡ M.block_count medium.old }
 {
     let block = geometry.list_block(area, T::LIST);
-    match read_whole(medium, block, &mut scratch.text) {
-        Ok(true) => {}
-        Ok(false) => {
-            return Ok(Seen {
-                found: None,
-                mark: None,
-            });
-        }
-        Err(stop) => return Err(Halt::Stopped { stop }),
+    if !read_whole(medium, block, &mut scratch.text)? {
+        return Ok(Seen {
+            found: None,
+            mark: None,
+        });
     }
     let Some(mark) = T::more(&scratch.text) else {
         return alone(alloc, &scratch.text);
@@ -188,7 +170,8 @@ fn consider<T: ListBlock, A: Accept<T>>(
     }
 }
 
-/// Looks at the copy of each area in turn.
+/// Looks at the copy of each area in turn: 4 uses, and one more for each first part after which another follows. The best
+/// of those of which all can be read and that are in the grammar and are accepted, and the greatest mark.
 pub fn look_at_copies<T: ListBlock, M: Medium, A: Accept<T>>(
     alloc: Global,
     medium: &mut M,
@@ -199,13 +182,9 @@ pub fn look_at_copies<T: ListBlock, M: Medium, A: Accept<T>>(
     requires size { M.block_count medium.old ≡ total geometry.now }
     requires on { IsTrue (M.world medium.old).power }
     ensures rule { MatchResult result
-        (λ found. HasLooked M.world M.reaches T.LIST medium.old medium.new geometry.now
-        (A.accepted accept.now) 4 (held_of T.value found.best) found.mark)
-        (λ halt. HaltsLookingAt M.world M.reaches T.LIST medium.old medium.new geometry.now halt) }
-    ensures in_grammar { IfOk result
-        (λ (found : Choice T). IfSome found.best (λ h. IsInGrammar T.LIST (T.value h.value))) }
-    ensures accepted { IfOk result
-        (λ (found : Choice T). IfSome found.best (λ h. A.accepted accept.now (T.value h.value))) }
+        (λ found. HasChosen M.world M.reaches T.LIST geometry.now medium.old medium.new
+        (A.accepted accept.now) (held_of T.value found.best) found.mark)
+        (HaltsChoosing M.world M.reaches T.LIST geometry.now medium.old medium.new) }
     ensures as_many { M.block_count medium.new ≡ M.block_count medium.old }
 {
     let mut best = None;

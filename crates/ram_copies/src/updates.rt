@@ -1,10 +1,9 @@
 //! The update and the repair of a list. They touch its four copies alone, and take no memory.
 
-ghost use Rattle.std.specs.Prelude.{◌≡◌, ◌≢◌};
+ghost use Rattle.std.specs.Prelude.{◌≡◌};
 ghost use Rattle.model_geometry.specs.Geometry.{total};
 ghost use Rattle.ram_copies.specs.Values.{IsInGrammar};
-ghost use Rattle.ram_copies.specs.Calls.{UpdateRule, RepairRule, PurposeRule, updated_of};
-ghost use Rattle.ram_copies.specs.Writes.{AreTexts};
+ghost use Rattle.ram_copies.specs.Calls.{UpdateRule, RepairRule, updated_of};
 
 use crate::blocks::ListBlock;
 use crate::scratch::Scratch;
@@ -43,39 +42,6 @@ fn answer_of(ended: Result<u32, Stop>) -> Updated
     }
 }
 
-/// Writes the parts of the list's text into the room for them.
-fn spell<T: ListBlock>(value: &T, scratch: &mut Scratch)
-    requires { IsInGrammar T.LIST (T.value value.now) }
-    ensures { AreTexts T.LIST (T.value value.now) scratch.new.text scratch.new.second }
-{
-    value.encode(1, &mut scratch.text);
-    if value.parts() == 2 {
-        value.encode(2, &mut scratch.second);
-    }
-}
-
-/// Puts the text of the list into its four copies in turn.
-fn put_list<T: ListBlock, M: Medium>(
-    medium: &mut M,
-    geometry: &Geometry,
-    value: &T,
-    purpose: Purpose,
-    scratch: &mut Scratch,
-) -> Updated
-    requires size { M.block_count medium.old ≡ total geometry.now }
-    requires in_grammar { IsInGrammar T.LIST (T.value value.now) }
-    ensures rule { PurposeRule M.world M.reaches T.LIST geometry.now medium.old medium.new
-        (T.value value.now) purpose result }
-    ensures as_many { M.block_count medium.new ≡ M.block_count medium.old }
-{
-    if !medium.powered() {
-        return Updated::Off;
-    }
-    spell(value, scratch);
-    let ended = put_copies(medium, geometry, value, purpose, scratch);
-    answer_of(ended)
-}
-
 /// Writes the list to each of its four copies in turn, and reads each cell back: 8 uses, or 16 where it has two parts.
 pub fn update<T: ListBlock, M: Medium>(
     medium: &mut M,
@@ -89,7 +55,11 @@ pub fn update<T: ListBlock, M: Medium>(
         (T.value value.now) result }
     ensures as_many { M.block_count medium.new ≡ M.block_count medium.old }
 {
-    put_list(medium, geometry, value, Purpose::Update, scratch)
+    if !medium.powered() {
+        return Updated::Off;
+    }
+    let ended = put_copies(medium, geometry, value, Purpose::Update, scratch);
+    answer_of(ended)
 }
 
 /// Reads each cell of the list's four copies in turn, and writes each that is not exactly its part of the text again, with a
@@ -106,5 +76,9 @@ pub fn repair<T: ListBlock, M: Medium>(
         (T.value value.now) result }
     ensures as_many { M.block_count medium.new ≡ M.block_count medium.old }
 {
-    put_list(medium, geometry, value, Purpose::Repair, scratch)
+    if !medium.powered() {
+        return Updated::Off;
+    }
+    let ended = put_copies(medium, geometry, value, Purpose::Repair, scratch);
+    answer_of(ended)
 }

@@ -1,4 +1,4 @@
--- What an expansion does, by its answer: for `grow` and `expand_lists`.
+-- What an expansion does: for `grow`, and by its answer for `expand_lists`.
 use Rattle.std.specs.Prelude.{◌≡◌, ℕ, ◌<◌, ◌==◌, ◌⊎◌, if◌then◌else◌, true, IsTrue, List, [], ◌∷◌}
 use Rattle.model_geometry.specs.Geometry.{Shape}
 use Rattle.model_lists.specs.Texts.{IsTwo}
@@ -19,6 +19,8 @@ use Rattle.model_survival.specs.Stops.{LeavesSdl}
 use Rattle.ram_expand.specs.Sizes.{IsPresent, IsSmaller}
 use Rattle.ram_expand.specs.declared.expanding.ExpandEnd.{ExpandEnd}
 use Rattle.ram_expand.specs.declared.expanding.ExpandEnd.TheVariants as ends
+use Rattle.ram_expand.specs.declared.expanding.Grown.{Grown}
+use Rattle.ram_expand.specs.declared.expanding.Grown.TheVariants as growns
 
 -- The lists where the supplementary spare area has grown until this capacity is left. (This project's own, as all here.)
 abbrev pub lists_grown : Shape → Lists → (capacity : ℕ) → Lists
@@ -86,14 +88,11 @@ module _ {M : Type 0} (world : M → World) (reaches : M → M → ℕ → Type 
     pub off : ¬ IsTrue (world old).power
     pub does : DoesNothing
 
-  -- what it does to a disc of a greater capacity, with the power on
-  abbrev pub GrowRule : ExpandEnd → Type 0
-  GrowRule ends.Good = HasGrown
-  GrowRule ends.Refused = ⊥
-  GrowRule (ends.NoUpdate counter) = LacksUpdate counter
-  GrowRule ends.Cut = StopsGrowing stops.Cut
-  GrowRule ends.Off = ⊥
-  GrowRule ends.Fault = StopsGrowing stops.Fault
+  -- how an expansion that was not stopped ended
+  abbrev pub EndsGrowing : Grown → Type 0
+  EndsGrowing growns.Good = KeepsSize ⊎ HasGrown
+  EndsGrowing growns.Refused = RefusesCapacity
+  EndsGrowing (growns.NoUpdate counter) = LacksUpdate counter
 
   -- what an expansion does, by its answer
   abbrev pub ExpandRule : ExpandEnd → Type 0

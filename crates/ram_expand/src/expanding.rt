@@ -1,22 +1,17 @@
 //! The expansion of the supplementary spare area.
 
-ghost use Rattle.std.specs.Prelude.{◌≡◌, ◌≤◌, IsTrue};
-ghost use Rattle.model_geometry.specs.declared.TheConstants.{SDL_LIMIT};
-ghost use Rattle.model_geometry.specs.Geometry.{total};
-ghost use Rattle.model_lists.specs.Values.{IsLawfulSdl};
-ghost use Rattle.model_places.specs.Valid.{AreValid};
+ghost use Rattle.std.specs.Prelude.{◌≡◌, IsTrue, MatchResult};
 ghost use Rattle.model_volume.specs.Given.{AreSettled};
-ghost use Rattle.ram_sdl.specs.Sdl.{sdl_of};
 ghost use Rattle.ram_lists.specs.Lists.{lists_of};
-ghost use Rattle.ram_expand.specs.Sizes.{IsSmaller};
-ghost use Rattle.ram_expand.specs.Expanding.{GrowRule, ExpandRule};
+ghost use Rattle.ram_lists.specs.Fit.{IsFit};
+ghost use Rattle.ram_expand.specs.Expanding.{EndsGrowing, StopsGrowing, ExpandRule};
 
 use crate::drafts::draft_expanded;
 use crate::sizes::{Size, area_for, size_of};
 use model_drive::LAST_COUNTER;
-use ram_copies::{Scratch, Updated, update};
+use ram_copies::{Purpose, Scratch, put_copies};
 use ram_lists::Lists;
-use ram_medium::Medium;
+use ram_medium::{Medium, Stop};
 use ram_sdl::Sdl;
 use ram_zones::Geometry;
 
@@ -41,46 +36,19 @@ pub enum ExpandEnd {
     Fault,
 }
 
-/// Gives a disc this smaller capacity, with the power on.
-fn grow<M: Medium>(
-    medium: &mut M,
-    geometry: &Geometry,
-    lists: &mut Lists,
-    draft: &mut Sdl,
-    capacity: u32,
-    scratch: &mut Scratch,
-) -> ExpandEnd
-    requires size { M.block_count medium.old ≡ total geometry.now }
-    requires on { IsTrue (M.world medium.old).power }
-    requires valid { AreValid geometry.now (lists_of lists.old) }
-    requires lawful { IsLawfulSdl (sdl_of lists.old.sdl) }
-    requires settled { AreSettled geometry.now (M.world medium.old).cells (lists_of lists.old) }
-    requires smaller { IsSmaller geometry.now (lists_of lists.old) capacity }
-    requires room { SDL_LIMIT ≤ lists.old.sdl.entries.room }
-    requires draft { SDL_LIMIT ≤ draft.old.entries.room }
-    ensures rule { GrowRule M.world M.reaches geometry.now medium.old medium.new (lists_of lists.old) capacity
-        (lists_of lists.new) result }
-    ensures valid { AreValid geometry.now (lists_of lists.new) }
-    ensures lawful { IsLawfulSdl (sdl_of lists.new.sdl) }
-    ensures room { SDL_LIMIT ≤ lists.new.sdl.entries.room }
-    ensures draft { SDL_LIMIT ≤ draft.new.entries.room }
-    ensures as_many { M.block_count medium.new ≡ M.block_count medium.old }
-{
-    let counter = lists.sdl.counter;
-    if counter == LAST_COUNTER {
-        return ExpandEnd::NoUpdate { counter };
-    }
-    let ssa = area_for(geometry, capacity);
-    draft_expanded(geometry, lists, draft, ssa);
-    match update(medium, geometry, draft, scratch) {
-        Updated::Kept { readable: _ } => {}
-        Updated::NoCopy => return ExpandEnd::NoUpdate { counter },
-        Updated::Cut => return ExpandEnd::Cut,
-        Updated::Off => unreachable!(),
-        Updated::Fault => return ExpandEnd::Fault,
-    }
-    lists.sdl.copy_from(draft);
-    ExpandEnd::Good
+/// How an expansion ended that was not stopped.
+#[derive(Clone, Copy)]
+pub enum Grown {
+    /// The disc has the capacity.
+    Good,
+    /// The disc cannot have the capacity, and nothing was done.
+    Refused,
+    /// The secondary list could not be updated: all its copies are dead, or its counter is the last one. The lists are
+    /// as before.
+    NoUpdate {
+        /// The counter of the list in use.
+        counter: u32,
+    },
 }
 
 /// Gives a formatted disc a capacity of so many sectors: the logical blocks behind them become supplementary spares. Where
@@ -93,6 +61,43 @@ fn grow<M: Medium>(
 /// of its version may have: 4,092, or 8,184.
 /// The lists in memory change with Good alone, once a copy of the new list can be read. (Spare areas after ECMA-330; how
 /// one grows is this project's own.)
+pub fn grow<M: Medium>(
+    medium: &mut M,
+    geometry: &Geometry,
+    lists: &mut Lists,
+    draft: &mut Sdl,
+    capacity: u32,
+    scratch: &mut Scratch,
+) -> Result<Grown, Stop>
+    requires fit { IsFit geometry.now (M.block_count medium.old) lists.old draft.old }
+    requires on { IsTrue (M.world medium.old).power }
+    requires settled { AreSettled geometry.now (M.world medium.old).cells (lists_of lists.old) }
+    ensures rule { MatchResult result
+        (EndsGrowing M.world M.reaches geometry.now medium.old medium.new (lists_of lists.old) capacity
+        (lists_of lists.new))
+        (StopsGrowing M.world M.reaches geometry.now medium.old medium.new (lists_of lists.old) capacity
+        (lists_of lists.new)) }
+    ensures fit { IsFit geometry.now (M.block_count medium.new) lists.new draft.new }
+{
+    match size_of(geometry, lists, capacity) {
+        Size::Unlawful => return Ok(Grown::Refused),
+        Size::Present => return Ok(Grown::Good),
+        Size::Smaller => {}
+    }
+    let counter = lists.sdl.counter;
+    if counter == LAST_COUNTER {
+        return Ok(Grown::NoUpdate { counter });
+    }
+    let ssa = area_for(geometry, capacity);
+    draft_expanded(geometry, lists, draft, ssa);
+    if put_copies(medium, geometry, draft, Purpose::Update, scratch)? == 0 {
+        return Ok(Grown::NoUpdate { counter });
+    }
+    lists.sdl.copy_from(draft);
+    Ok(Grown::Good)
+}
+
+/// Gives a formatted disc a capacity, as [`grow`] does, where the power is on.
 pub fn expand_lists<M: Medium>(
     medium: &mut M,
     geometry: &Geometry,
@@ -101,26 +106,21 @@ pub fn expand_lists<M: Medium>(
     capacity: u32,
     scratch: &mut Scratch,
 ) -> ExpandEnd
-    requires size { M.block_count medium.old ≡ total geometry.now }
-    requires valid { AreValid geometry.now (lists_of lists.old) }
-    requires lawful { IsLawfulSdl (sdl_of lists.old.sdl) }
+    requires fit { IsFit geometry.now (M.block_count medium.old) lists.old draft.old }
     requires settled { AreSettled geometry.now (M.world medium.old).cells (lists_of lists.old) }
-    requires room { SDL_LIMIT ≤ lists.old.sdl.entries.room }
-    requires draft { SDL_LIMIT ≤ draft.old.entries.room }
     ensures rule { ExpandRule M.world M.reaches geometry.now medium.old medium.new (lists_of lists.old)
         capacity (lists_of lists.new) result }
-    ensures valid { AreValid geometry.now (lists_of lists.new) }
-    ensures lawful { IsLawfulSdl (sdl_of lists.new.sdl) }
-    ensures room { SDL_LIMIT ≤ lists.new.sdl.entries.room }
-    ensures draft { SDL_LIMIT ≤ draft.new.entries.room }
-    ensures as_many { M.block_count medium.new ≡ M.block_count medium.old }
+    ensures fit { IsFit geometry.now (M.block_count medium.new) lists.new draft.new }
 {
     if !medium.powered() {
         return ExpandEnd::Off;
     }
-    match size_of(geometry, lists, capacity) {
-        Size::Unlawful => ExpandEnd::Refused,
-        Size::Present => ExpandEnd::Good,
-        Size::Smaller => grow(medium, geometry, lists, draft, capacity, scratch),
+    match grow(medium, geometry, lists, draft, capacity, scratch) {
+        Ok(Grown::Good) => ExpandEnd::Good,
+        Ok(Grown::Refused) => ExpandEnd::Refused,
+        Ok(Grown::NoUpdate { counter }) => ExpandEnd::NoUpdate { counter },
+        Err(Stop::Cut) => ExpandEnd::Cut,
+        Err(Stop::Off) => ExpandEnd::Off,
+        Err(Stop::Fault) => ExpandEnd::Fault,
     }
 }

@@ -6,4 +6,4 @@ mod drafts;
 mod expanding;
 mod sizes;
 
-pub use expanding::{ExpandEnd, expand_lists};
+pub use expanding::{ExpandEnd, Grown, expand_lists, grow};

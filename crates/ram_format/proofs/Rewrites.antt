@@ -1,5 +1,5 @@
 -- How a rewriting format goes, list after list.
-use Rattle.std.specs.Prelude.{◌≡◌, ℕ, ◌+◌, ◌*◌, ◌≤◌, Bool, true, false, List}
+use Rattle.std.specs.Prelude.{◌≡◌, ℕ, zero, suc, ◌+◌, ◌*◌, ◌≤◌, List}
 use Rattle.std.proofs.Common.{refl, sym, ap, ◌∙◌, inl, inr, subst, arith}
 use Rattle.std.proofs.lemmas.Bool.{cases_eq}
 use Rattle.model_counts.specs.Counts.{counted, Rose}
@@ -17,7 +17,7 @@ use Rattle.model_stops.specs.declared.Stop.TheVariants as stops
 use Rattle.model_copies.specs.Copies.{IsArea, Holds, HoldsOrDead, MayHold, HasCopy, HasDdsCopy, Settled, AllLost, Rewrites}
 use Rattle.model_copies.specs.Parts.{HasSdlParts, SdlIsExact, SdlIsLost, MayLeaveParts}
 use Rattle.model_copies.proofs.CopyFacts.{copy_settled}
-use Rattle.model_copies.proofs.SdlParts.{sdl_before, exact_same, lost_decided}
+use Rattle.model_copies.proofs.SdlParts.{sdl_before, lost_decided}
 use Rattle.model_copies.proofs.PartFacts.{held_there, held_alive, held_same, left_or_held}
 use Rattle.model_copies.proofs.Rewriting.{rewrites_like}
 use Rattle.model_places.specs.Places.{Lists}
@@ -26,13 +26,15 @@ use Rattle.ram_medium.specs.Laws.{MediumLaws}
 use Rattle.ram_medium.proofs.Parts.{continues_then, stops_later, stops_within}
 use Rattle.ram_zones.specs.declared.list_kind.ListKind.TheVariants as kinds
 use Rattle.ram_copies.specs.Values.{DdsValue, SdlValue}
-use Rattle.ram_copies.specs.Calls.{StoppedCounts, ChangesCopiesAlone, StopsRepairing}
+use Rattle.ram_copies.specs.Calls.{StoppedCounts, ChangesCopiesAlone, IsExact, Repairs, StopsRepairing, HasPutList}
+use Rattle.ram_copies.specs.declared.writes.Purpose.TheVariants.{Repair}
+use Rattle.ram_copies.proofs.Lifting.{exact_of}
 use Rattle.ram_copies.proofs.EachList.{dds_exact, dds_lost, dds_all_lost, dds_spares, dds_rewritten, sdl_exact, sdl_lost, sdl_all_lost, sdl_rewritten, seconds_rewritten, seconds_stay_by_dds}
 use Rattle.model_survival.specs.Stops.{MendsDds, MendsSdl}
 use Rattle.ram_lists.proofs.Mending.{settled_may_hold, dds_in_part, sdl_in_part, dds_to_end, sdl_from}
 use Rattle.ram_format.proofs.Lefts.{sdl_not_mended}
 use Rattle.ram_lists.proofs.MountSteps.{copy_back, settled_same, dds_only, sdl_only, sdl_stay, dds_stay}
-use Rattle.ram_format.specs.Rewriting.{HasRepairedList, StopsRepairingList, RepairsBothLists, RewritesBy, RewriteStopped, StopsRewriting, lost_of, most_rewrite_uses}
+use Rattle.ram_format.specs.Rewriting.{RepairsBothLists, RewritesBy, RewriteStopped, lost_of, most_rewrite_uses}
 
 module _ {V : Type 0} (text : V → List ℕ → Type 0) where
   -- a value has one text
@@ -196,7 +198,7 @@ module _ {M : Type 0} (world : M → World) (block_count : M → ℕ) (reaches :
   mends_none a b alone = sdl_not_mended shape (world a).cells (world b).cells (sdl_same a b alone) (second_same a b alone) lists.sdl
 
   module _ (old one : M) (settled : AreSettled shape (world old).cells lists) where
-    first_stop : (stop : Stop) → StopsRepairing world reaches kinds.Dds shape old one (DdsValue lists.dds) stop → RewriteStopped world reaches shape old one lists stop
+    pub first_stop : (stop : Stop) → StopsRepairing world reaches kinds.Dds shape old one (DdsValue lists.dds) stop → RewriteStopped world reaches shape old one lists stop
     first_stop stop stopped = record {
       was_on = stopped.within.was_on;
       stops = stops_within world block_count reaches laws old one 12 (most_rewrite_uses lists.sdl) stop (omega arith) stopped.within.stops;
@@ -212,26 +214,21 @@ module _ {M : Type 0} (world : M → World) (block_count : M → ℕ) (reaches :
         mends : MendsDds shape (world old).cells (world one).cells lists.dds
         mends = dds_in_part shape (world old).cells (world one).cells lists.dds stopped.leaves stopped.spares
 
-    pub first_ends : (stop : Stop) → StopsRepairingList world reaches shape old one kinds.Dds (DdsValue lists.dds) stop → StopsRewriting world reaches shape old one lists stop
-    first_ends stops.Cut h = first_stop stops.Cut h
-    first_ends stops.Off h = h
-    first_ends stops.Fault h = first_stop stops.Fault h
-
-    module _ (dds_kept : Bool) (did : HasRepairedList world reaches shape old one kinds.Dds (DdsValue lists.dds) dds_kept) where
+    module _ (did : Repairs world reaches kinds.Dds shape old one (DdsValue lists.dds)) (exact : IsExact kinds.Dds shape (world one).cells (DdsValue lists.dds)) where
       abbrev dds_uses : ℕ
-      dds_uses = 4 + 2 * did.repairs.firsts
+      dds_uses = 4 + 2 * did.firsts
 
-      no_seconds : did.repairs.seconds ≡ 0
-      no_seconds = did.repairs.none (λ t. t)
+      no_seconds : did.seconds ≡ 0
+      no_seconds = did.none (λ t. t)
 
       repaired : Continues world reaches old one dds_uses
-      repaired = subst (λ (n : ℕ). Continues world reaches old one n) same did.repairs.ends.continues
+      repaired = subst (λ (n : ℕ). Continues world reaches old one n) same did.ends.continues
         where
-          same : 4 * 1 + 2 * (did.repairs.firsts + did.repairs.seconds) ≡ dds_uses
+          same : 4 * 1 + 2 * (did.firsts + did.seconds) ≡ dds_uses
           same = let none = no_seconds in omega (arith, none)
 
       dds_settled_one : Settled IsDdsText (dds_block shape) (world one).cells lists.dds
-      dds_settled_one = dds_exact shape lists.dds (world one).cells did.exact
+      dds_settled_one = dds_exact shape lists.dds (world one).cells exact
 
       module _ (two : M) where
         -- a copy of the structure that can be read now could be before
@@ -242,18 +239,18 @@ module _ {M : Type 0} (world : M → World) (block_count : M → ℕ) (reaches :
             (copy_back IsDdsText (dds_block shape) (world one).cells (world two).cells same w area copy)
 
         later_counts : (stop : Stop) → StoppedCounts (world one) (world two) stop → StoppedCounts (world old) (world two) stop
-        later_counts stops.Cut cut = record { turns_off = cut.turns_off; one_cut = cut.one_cut ∙ ap (λ n. counted n 1) did.repairs.ends.counts.no_cut; no_fault = cut.no_fault ∙ did.repairs.ends.counts.no_fault }
-        later_counts stops.Off off = absurd (off.was_off did.repairs.ends.counts.stays_on)
-        later_counts stops.Fault failed = record { turns_off = failed.turns_off; no_cut = failed.no_cut ∙ did.repairs.ends.counts.no_cut; fault = subst (λ (n : ℕ). Rose n (world two).faults) did.repairs.ends.counts.no_fault failed.fault }
+        later_counts stops.Cut cut = record { turns_off = cut.turns_off; one_cut = cut.one_cut ∙ ap (λ n. counted n 1) did.ends.counts.no_cut; no_fault = cut.no_fault ∙ did.ends.counts.no_fault }
+        later_counts stops.Off off = absurd (off.was_off did.ends.counts.stays_on)
+        later_counts stops.Fault failed = record { turns_off = failed.turns_off; no_cut = failed.no_cut ∙ did.ends.counts.no_cut; fault = subst (λ (n : ℕ). Rose n (world two).faults) did.ends.counts.no_fault failed.fault }
 
-        second_stop : (stop : Stop) → StopsRepairing world reaches kinds.Sdl shape one two (SdlValue lists.sdl) stop → RewriteStopped world reaches shape old two lists stop
+        pub second_stop : (stop : Stop) → StopsRepairing world reaches kinds.Sdl shape one two (SdlValue lists.sdl) stop → RewriteStopped world reaches shape old two lists stop
         second_stop stop stopped = record {
-          was_on = did.repairs.ends.was_on;
+          was_on = did.ends.was_on;
           stops = stops_within world block_count reaches laws old two (dds_uses + 12 * parts_by lists.sdl.version) (most_rewrite_uses lists.sdl) stop few
               (stops_later world block_count reaches laws old one two dds_uses (12 * parts_by lists.sdl.version) stop repaired stopped.within.stops);
           counts = later_counts stop stopped.within.counts;
-          as_known = stopped.within.alone.as_known ∙ did.repairs.ends.alone.as_known;
-          only = λ block away. sdl_only world reaches shape one two stopped.within.alone block away ∙ dds_only world reaches shape old one did.repairs.ends.alone block away;
+          as_known = stopped.within.alone.as_known ∙ did.ends.alone.as_known;
+          only = λ block away. sdl_only world reaches shape one two stopped.within.alone block away ∙ dds_only world reaches shape old one did.ends.alone block away;
           given = given;
           left = record {
             dds = dds_to_end shape (world old).cells (world two).cells lists.dds
@@ -265,16 +262,16 @@ module _ {M : Type 0} (world : M → World) (block_count : M → ℕ) (reaches :
         }
           where
             few : dds_uses + 12 * parts_by lists.sdl.version ≤ most_rewrite_uses lists.sdl
-            few = let most = did.repairs.few in omega (arith, most)
+            few = let most = did.few in omega (arith, most)
 
             stay : (area : ℕ) → cell_at (world two).cells (dds_block shape area) ≡ cell_at (world one).cells (dds_block shape area)
             stay = dds_stay world reaches shape one two stopped.within.alone
 
             spares : (area : ℕ) → IsArea area → Holds IsDdsText (cell_at (world old).cells (dds_block shape area)) lists.dds → IsSameOrDead (cell_at (world old).cells (dds_block shape area)) (cell_at (world one).cells (dds_block shape area))
-            spares = dds_spares shape lists.dds (world old).cells (world one).cells did.repairs.spares
+            spares = dds_spares shape lists.dds (world old).cells (world one).cells did.spares
 
             mends : MendsSdl shape (world old).cells (world two).cells lists.sdl
-            mends = sdl_from shape (world one).cells (world old).cells (world two).cells (λ area. sym (sdl_same old one did.repairs.ends.alone area)) (λ area. sym (second_same old one did.repairs.ends.alone area)) lists.sdl
+            mends = sdl_from shape (world one).cells (world old).cells (world two).cells (λ area. sym (sdl_same old one did.ends.alone area)) (λ area. sym (second_same old one did.ends.alone area)) lists.sdl
                 (sdl_in_part shape (world one).cells (world two).cells lists.sdl stopped.leaves stopped.spares)
 
             dies : (block : ℕ) → cell_at (world old).cells block ≡ Dead → cell_at (world two).cells block ≡ Dead
@@ -287,14 +284,9 @@ module _ {M : Type 0} (world : M → World) (block_count : M → ℕ) (reaches :
                   (parts_held shape (world old).cells (world two).cells lists.sdl (settled.sdl (λ both. not both.0)) dies mends.left.may)
             ]
 
-        pub second_ends : (stop : Stop) → StopsRepairingList world reaches shape one two kinds.Sdl (SdlValue lists.sdl) stop → StopsRewriting world reaches shape old two lists stop
-        second_ends stops.Cut h = second_stop stops.Cut h
-        second_ends stops.Off h = absurd (h.was_off did.repairs.ends.counts.stays_on)
-        second_ends stops.Fault h = second_stop stops.Fault h
-
-        module _ (sdl_kept : Bool) (done : HasRepairedList world reaches shape one two kinds.Sdl (SdlValue lists.sdl) sdl_kept) where
+        module _ (done : Repairs world reaches kinds.Sdl shape one two (SdlValue lists.sdl)) (all : IsExact kinds.Sdl shape (world two).cells (SdlValue lists.sdl)) where
           abbrev sdl_uses : ℕ
-          sdl_uses = 4 * parts_by lists.sdl.version + 2 * (done.repairs.firsts + done.repairs.seconds)
+          sdl_uses = 4 * parts_by lists.sdl.version + 2 * (done.firsts + done.seconds)
 
           -- as many cells were written again as by the cells at entry
           from_entry : {V : Type 0} (text : V → List ℕ → Type 0) (place : ℕ → ℕ) (v : V) (n : ℕ) → ((area : ℕ) → cell_at (world one).cells (place area) ≡ cell_at (world old).cells (place area))
@@ -305,64 +297,73 @@ module _ {M : Type 0} (world : M → World) (block_count : M → ℕ) (reaches :
 
           both : RepairsBothLists world reaches shape old two lists
           both = record {
-            was_on = did.repairs.ends.was_on;
+            was_on = did.ends.was_on;
             dds_uses = dds_uses;
             dds = record {
-              rewritten = did.repairs.firsts;
-              few = did.repairs.few;
+              rewritten = did.firsts;
+              few = did.few;
               uses_are = refl;
               rewrites = λ known.
-                  rewrites_like (λ (c : Cell). Holds IsDdsText c lists.dds) (dds_block shape) (world old).cells (world one).cells (λ (c : Cell). Holds IsDdsText c lists.dds) (dds_block shape) (world old).cells (world two).cells 4 did.repairs.firsts
-                  (λ area some most was. (was.0, subst (λ (c : Cell). Holds IsDdsText c lists.dds) (sym (dds_stay world reaches shape one two done.repairs.ends.alone area)) was.1))
-                  (λ area some most was. (was.0, subst (λ (c : Cell). Holds IsDdsText c lists.dds) (dds_stay world reaches shape one two done.repairs.ends.alone area) was.1))
-                  (dds_rewritten shape lists.dds (world old).cells (world one).cells did.repairs.firsts did.repairs.seconds (did.repairs.rewrites known));
+                  rewrites_like (λ (c : Cell). Holds IsDdsText c lists.dds) (dds_block shape) (world old).cells (world one).cells (λ (c : Cell). Holds IsDdsText c lists.dds) (dds_block shape) (world old).cells (world two).cells 4 did.firsts
+                  (λ area some most was. (was.0, subst (λ (c : Cell). Holds IsDdsText c lists.dds) (sym (dds_stay world reaches shape one two done.ends.alone area)) was.1))
+                  (λ area some most was. (was.0, subst (λ (c : Cell). Holds IsDdsText c lists.dds) (dds_stay world reaches shape one two done.ends.alone area) was.1))
+                  (dds_rewritten shape lists.dds (world old).cells (world one).cells did.firsts did.seconds (did.rewrites known));
             };
             sdl_uses = sdl_uses;
             sdl = record {
-              firsts = done.repairs.firsts;
-              seconds = done.repairs.seconds;
-              few = done.repairs.few;
-              few' = done.repairs.few';
-              none = done.repairs.none;
+              firsts = done.firsts;
+              seconds = done.seconds;
+              few = done.few;
+              few' = done.few';
+              none = done.none;
               uses_are = refl;
-              of_firsts = λ known. from_entry IsSdlText (sdl_block shape) lists.sdl done.repairs.firsts (sdl_same old one did.repairs.ends.alone)
-                  (sdl_rewritten shape lists.sdl (world one).cells (world two).cells done.repairs.firsts done.repairs.seconds (done.repairs.rewrites (did.repairs.ends.alone.as_known ∙ known)));
-              of_seconds = λ has known. from_entry IsSdlSecond (sdl_second_block shape) lists.sdl done.repairs.seconds (second_same old one did.repairs.ends.alone)
-                  (seconds_rewritten shape lists.sdl (world one).cells (world two).cells done.repairs.firsts done.repairs.seconds (done.repairs.rewrites (did.repairs.ends.alone.as_known ∙ known)) has);
+              of_firsts = λ known. from_entry IsSdlText (sdl_block shape) lists.sdl done.firsts (sdl_same old one did.ends.alone)
+                  (sdl_rewritten shape lists.sdl (world one).cells (world two).cells done.firsts done.seconds (done.rewrites (did.ends.alone.as_known ∙ known)));
+              of_seconds = λ has known. from_entry IsSdlSecond (sdl_second_block shape) lists.sdl done.seconds (second_same old one did.ends.alone)
+                  (seconds_rewritten shape lists.sdl (world one).cells (world two).cells done.firsts done.seconds (done.rewrites (did.ends.alone.as_known ∙ known)) has);
             };
-            continues = continues_then world block_count reaches laws old one two dds_uses sdl_uses repaired done.repairs.ends.continues;
-            counts = record { stays_on = done.repairs.ends.counts.stays_on; no_cut = done.repairs.ends.counts.no_cut ∙ did.repairs.ends.counts.no_cut; no_fault = done.repairs.ends.counts.no_fault ∙ did.repairs.ends.counts.no_fault };
-            as_known = done.repairs.ends.alone.as_known ∙ did.repairs.ends.alone.as_known;
-            only = λ block away. sdl_only world reaches shape one two done.repairs.ends.alone block away ∙ dds_only world reaches shape old one did.repairs.ends.alone block away;
+            continues = continues_then world block_count reaches laws old one two dds_uses sdl_uses repaired done.ends.continues;
+            counts = record { stays_on = done.ends.counts.stays_on; no_cut = done.ends.counts.no_cut ∙ did.ends.counts.no_cut; no_fault = done.ends.counts.no_fault ∙ did.ends.counts.no_fault };
+            as_known = done.ends.alone.as_known ∙ did.ends.alone.as_known;
+            only = λ block away. sdl_only world reaches shape one two done.ends.alone block away ∙ dds_only world reaches shape old one did.ends.alone block away;
             settled = record {
-              dds = settled_same IsDdsText (dds_block shape) (world one).cells (world two).cells (dds_stay world reaches shape one two done.repairs.ends.alone) lists.dds dds_settled_one;
-              sdl = λ _. sdl_exact shape lists.sdl (world two).cells done.exact;
+              dds = settled_same IsDdsText (dds_block shape) (world one).cells (world two).cells (dds_stay world reaches shape one two done.ends.alone) lists.dds dds_settled_one;
+              sdl = λ _. sdl_exact shape lists.sdl (world two).cells all;
             };
           }
 
           dds_lost_two : AllLost (dds_block shape) (world one).cells → AllLost (dds_block shape) (world two).cells
-          dds_lost_two lost area is = dds_stay world reaches shape one two done.repairs.ends.alone area ∙ lost area is
+          dds_lost_two lost area is = dds_stay world reaches shape one two done.ends.alone area ∙ lost area is
 
           dds_not_lost : ¬ AllLost (dds_block shape) (world one).cells → ¬ AllLost (dds_block shape) (world two).cells
-          dds_not_lost has lost = has (λ area is. sym (dds_stay world reaches shape one two done.repairs.ends.alone area) ∙ lost area is)
+          dds_not_lost has lost = has (λ area is. sym (dds_stay world reaches shape one two done.ends.alone area) ∙ lost area is)
 
-  -- how it ended, by which list has a copy
-  pub rewritten_by : (old one two : M) (settled : AreSettled shape (world old).cells lists) (dds_kept sdl_kept : Bool) → HasRepairedList world reaches shape old one kinds.Dds (DdsValue lists.dds) dds_kept
-      → HasRepairedList world reaches shape one two kinds.Sdl (SdlValue lists.sdl) sdl_kept → RewritesBy world reaches shape old two lists (lost_of lists dds_kept sdl_kept)
-  rewritten_by old one two settled true true did done = record {
-    both = both old one settled true did two true done;
-    has_dds = λ known. dds_not_lost old one settled true did two true done (λ lost. did.left known (dds_all_lost shape lists.dds (world one).cells lost));
-    has_sdl = λ known lost. done.left (did.repairs.ends.alone.as_known ∙ known) (sdl_all_lost shape lists.sdl (world two).cells lost);
+  -- ---- the same, by what the calls answered
+
+  module _ (old one : M) (settled : AreSettled shape (world old).cells lists) (of_dds : ℕ) (did : HasPutList world reaches kinds.Dds shape old one (DdsValue lists.dds) Repair of_dds) where
+    exact_one : IsExact kinds.Dds shape (world one).cells (DdsValue lists.dds)
+    exact_one = exact_of world reaches kinds.Dds shape old one (DdsValue lists.dds) of_dds did.1
+
+    pub second_stops : (two : M) (stop : Stop) → StopsRepairing world reaches kinds.Sdl shape one two (SdlValue lists.sdl) stop → RewriteStopped world reaches shape old two lists stop
+    second_stops two stop stopped = second_stop old one settled did.0 exact_one two stop stopped
+
+  -- how it ended, by how many copies of each can be read
+  pub rewritten_by : (old one two : M) (settled : AreSettled shape (world old).cells lists) (of_dds of_sdl : ℕ) → HasPutList world reaches kinds.Dds shape old one (DdsValue lists.dds) Repair of_dds
+      → HasPutList world reaches kinds.Sdl shape one two (SdlValue lists.sdl) Repair of_sdl → RewritesBy world reaches shape old two lists (lost_of lists of_dds of_sdl)
+  rewritten_by old one two settled zero of_sdl did done = record {
+    both = both old one settled did.0 did.1.exact two done.0 (exact_of world reaches kinds.Sdl shape one two (SdlValue lists.sdl) of_sdl done.1);
+    lost = inl (dds_lost_two old one settled did.0 did.1.exact two done.0 (exact_of world reaches kinds.Sdl shape one two (SdlValue lists.sdl) of_sdl done.1) (dds_lost shape lists.dds (world one).cells did.1.lost), refl);
   }
-  rewritten_by old one two settled true false did done = record {
-    both = both old one settled true did two false done;
-    lost = inr (λ known. dds_not_lost old one settled true did two false done (λ lost. did.left known (dds_all_lost shape lists.dds (world one).cells lost)), sdl_lost shape lists.sdl (world two).cells done.left, refl);
+  rewritten_by old one two settled (suc n) zero did done = record {
+    both = both old one settled did.0 did.1.exact two done.0 done.1.exact;
+    lost = inr (
+      λ known. dds_not_lost old one settled did.0 did.1.exact two done.0 done.1.exact (λ lost. did.1.not_lost known (dds_all_lost shape lists.dds (world one).cells lost)),
+      sdl_lost shape lists.sdl (world two).cells done.1.lost,
+      refl,
+    );
   }
-  rewritten_by old one two settled false true did done = record {
-    both = both old one settled false did two true done;
-    lost = inl (dds_lost_two old one settled false did two true done (dds_lost shape lists.dds (world one).cells did.left), refl);
-  }
-  rewritten_by old one two settled false false did done = record {
-    both = both old one settled false did two false done;
-    lost = inl (dds_lost_two old one settled false did two false done (dds_lost shape lists.dds (world one).cells did.left), refl);
+  rewritten_by old one two settled (suc n) (suc m) did done = record {
+    both = both old one settled did.0 did.1.exact two done.0 done.1.exact;
+    has_dds = λ known. dds_not_lost old one settled did.0 did.1.exact two done.0 done.1.exact (λ lost. did.1.not_lost known (dds_all_lost shape lists.dds (world one).cells lost));
+    has_sdl = λ known lost. done.1.not_lost (did.0.ends.alone.as_known ∙ known) (sdl_all_lost shape lists.sdl (world two).cells lost);
   }

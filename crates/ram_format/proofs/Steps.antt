@@ -1,5 +1,5 @@
 -- How a full format goes, phase after phase, on the cells.
-use Rattle.std.specs.Prelude.{◌≡◌, ℕ, ◌+◌, ◌≤◌, ◌<◌, ◌⊎◌, true, IsTrue, List, [], ◌∷◌, length, get_or}
+use Rattle.std.specs.Prelude.{◌≡◌, ◌≢◌, ℕ, ◌+◌, ◌≤◌, ◌<◌, ◌⊎◌, true, IsTrue, List, [], ◌∷◌, length, get_or}
 use Rattle.std.proofs.Common.{refl, sym, ap, ◌∙◌, inl, inr, subst, arith}
 use Rattle.std.specs.List.{All, Contains}
 use Rattle.std.specs.List.Sorted.{IsStrictlyIncreasing}
@@ -22,7 +22,7 @@ use Rattle.model_stops.specs.Stops.{Continues, Stops}
 use Rattle.model_stops.specs.declared.Stop.{Stop}
 use Rattle.model_stops.specs.declared.Stop.TheVariants as stops
 use Rattle.model_sectors.specs.Discs.{zeros}
-use Rattle.model_copies.specs.Copies.{Settled}
+use Rattle.model_copies.specs.Copies.{Settled, AllLost}
 use Rattle.model_copies.specs.Parts.{SdlIsExact, AreMarkedWithin}
 use Rattle.model_places.specs.Places as places
 use Rattle.model_places.specs.Valid.{AreValid}
@@ -39,19 +39,22 @@ use Rattle.model_formats.proofs.Fresh.{fresh_valid, zeros_fit}
 use Rattle.model_formats.proofs.Marks.{marked_kept, marked_begun, marked_middle, marked_last}
 use Rattle.ram_medium.specs.Laws.{MediumLaws}
 use Rattle.ram_medium.proofs.Parts.{continues_then, stops_later, stops_within}
+use Rattle.ram_zones.specs.declared.list_kind.ListKind.{ListKind}
 use Rattle.ram_zones.specs.declared.list_kind.ListKind.TheVariants as kinds
-use Rattle.ram_copies.specs.Values.{DdsValue, SdlValue, HasTwo}
-use Rattle.ram_copies.specs.Calls.{StoppedCounts, ChangesCopiesAlone, CallEnds, StoppedWithin, LeavesCopies}
+use Rattle.ram_copies.specs.Values.{ListValue, DdsValue, SdlValue, HasTwo}
+use Rattle.ram_copies.specs.Calls.{StoppedCounts, ChangesCopiesAlone, CallEnds, StoppedWithin, IsExact, IsLost, LeavesCopies, KeepsNone, StopsUpdating, HasPutList, update_uses}
+use Rattle.ram_copies.specs.declared.writes.Purpose.TheVariants.{Update}
+use Rattle.ram_copies.proofs.Lifting.{some_kept, none_kept}
 use Rattle.model_copies.proofs.SdlParts.{exact_same}
-use Rattle.ram_copies.proofs.EachList.{dds_exact, dds_may, dds_lost, dds_all_lost, sdl_exact, sdl_lost, sdl_all_lost, seconds_stay_by_dds}
+use Rattle.ram_copies.proofs.EachList.{dds_exact, dds_may, dds_lost, dds_all_lost, sdl_exact, sdl_lost, seconds_stay_by_dds}
 use Rattle.ram_lists.proofs.MountSteps.{settled_same, sdl_stay, dds_stay}
 use Rattle.ram_lists.proofs.Mending.{dds_left, sdl_left, sdl_left_from}
 use Rattle.ram_certify.specs.Certifying.{certify_uses, ChangesCertifiedAlone, StopsCertifying}
-use Rattle.ram_format.specs.declared.ends.End.{End}
-use Rattle.ram_format.specs.declared.ends.End.TheVariants as ends
-use Rattle.ram_format.specs.Phases.{HasWrittenList, EndsWritingList, HasFoundDefects, FindsFewDefects, EndsFinding}
+use Rattle.ram_format.specs.declared.halts.FormatHalt.{FormatHalt}
+use Rattle.ram_format.specs.declared.halts.FormatHalt.TheVariants as halts
+use Rattle.ram_format.specs.Phases.{HasFoundDefects, FindsFewDefects, HaltsFinding}
 use Rattle.ram_format.proofs.Lefts.{sdl_stays, sdl_not_written}
-use Rattle.ram_format.specs.Full.{uses_of_all, FormatGoes, AreDefects, AreFewDefects, MakesLists, FormatStopped, EndsFormat}
+use Rattle.ram_format.specs.Full.{uses_of_all, FormatGoes, AreDefects, AreFewDefects, MakesLists, FormatStopped, HaltsFormat}
 
 -- a structure with entries that rise, and are data blocks, is lawful
 pub lawful_dds : (shape : Shape) (mark psa : ℕ) (entries : List PdlEntry) → IsLawful shape → psa ≡ shape.psa → mark + 2 ≤ 4294967295 → length entries ≤ shape.psa
@@ -102,6 +105,16 @@ module _ {M : Type 0} (world : M → World) (block_count : M → ℕ) (reaches :
   second_certified_stay : (old new : M) → ChangesCertifiedAlone world reaches shape kept old new → (area : ℕ) → cell_at (world new).cells (sdl_second_block shape area) ≡ cell_at (world old).cells (sdl_second_block shape area)
   second_certified_stay old new alone area = alone.others (sdl_second_block shape area) (λ (c : IsCertified shape (Contains kept) (sdl_second_block shape area)). no_data_block_second shape area c.data_block)
 
+  -- ---- an update that left a copy of its list
+
+  pub record HasWrittenList (list : ListKind) (old new : M) (value : ListValue) : Type 0 where
+    pub ended : CallEnds world reaches list shape old new (HasTwo value) (update_uses value)
+    pub exact : IsExact list shape (world new).cells value
+    pub not_lost : (world old).known ≡ true → ¬ IsLost list shape (world new).cells value
+
+  pub has_written : (list : ListKind) (old new : M) (value : ListValue) (readable : ℕ) → HasPutList world reaches list shape old new value Update readable → readable ≢ 0 → HasWrittenList list old new value
+  has_written list old new value readable put some = let keeps = some_kept world reaches list shape old new value readable some put.1 in record { ended = put.0; exact = keeps.exact; not_lost = keeps.not_lost }
+
   -- ---- how far it went
 
   goes_first : (old new : M) → CallEnds world reaches kinds.Dds shape old new ⊥ 8 → FormatGoes world reaches shape kept kind mark old new 8
@@ -148,23 +161,26 @@ module _ {M : Type 0} (world : M → World) (block_count : M → ℕ) (reaches :
             (dds_may shape (formatting_dds shape mark) (world old).cells (world one).cells leaves)
             (sdl_stay world reaches shape old one stopped.alone) (seconds_stay_by_dds world reaches shape old one (λ t. t) stopped.alone)
 
-    pub first_ends : (end : End) → EndsWritingList world reaches shape old one kinds.Dds (DdsValue (formatting_dds shape mark)) (mark + 1) mark end → EndsFormat world reaches shape kept kind mark old one end
-    first_ends (ends.TooMany found left) h = absurd h
-    first_ends (ends.NoCopy due left) h = let lost = dds_lost shape (formatting_dds shape mark) (world one).cells h.1.lost in inl (record {
-      goes = goes_first old one h.0;
+    pub first_stops : (stop : Stop) → StopsUpdating world reaches kinds.Dds shape old one (DdsValue (formatting_dds shape mark)) stop → FormatStopped world reaches shape kept kind mark old one stop
+    first_stops stop h = first_stop stop h.within h.leaves
+
+    pub first_lost : (readable : ℕ) → HasPutList world reaches kinds.Dds shape old one (DdsValue (formatting_dds shape mark)) Update readable → readable ≡ 0
+        → HaltsFormat world reaches shape kept kind mark old one (halts.NoCopy (mark + 1) mark)
+    first_lost readable did none = inl (record {
+      goes = goes_first old one did.0;
       lost = lost;
-      counter_is = h.2;
-      left_is = h.3;
+      counter_is = refl;
+      left_is = refl;
       leaves = record {
         gives_none = lost_gives_none shape (world one).cells lost;
-        marked = subst (AreMarkedWithin shape (world one).cells) (sym h.3) (marked_kept shape mark (world old).cells (world one).cells marked lost (sdl_stay world reaches shape old one h.0.alone));
+        marked = marked_kept shape mark (world old).cells (world one).cells marked lost (sdl_stay world reaches shape old one did.0.alone);
       };
     })
-    first_ends ends.Cut h = first_stop stops.Cut h.0 h.1
-    first_ends ends.Off h = absurd (h.was_off on)
-    first_ends ends.Fault h = first_stop stops.Fault h.0 h.1
+      where
+        lost : AllLost (dds_block shape) (world one).cells
+        lost = dds_lost shape (formatting_dds shape mark) (world one).cells (none_kept world reaches kinds.Dds shape old one (DdsValue (formatting_dds shape mark)) readable none did.1).lost
 
-    module _ (did : HasWrittenList world reaches shape old one kinds.Dds (DdsValue (formatting_dds shape mark))) where
+    module _ (did : HasWrittenList kinds.Dds old one (DdsValue (formatting_dds shape mark))) where
       gone_one : FormatGoes world reaches shape kept kind mark old one 8
       gone_one = goes_first old one did.ended
 
@@ -211,8 +227,8 @@ module _ {M : Type 0} (world : M → World) (block_count : M → ℕ) (reaches :
         known_one : (world old).known ≡ true → (world one).known ≡ true
         known_one known = did.ended.alone.as_known ∙ known
 
-        pub second_ends : (end : End) → EndsFinding world reaches shape one two kept kind (mark + 1) end → EndsFormat world reaches shape kept kind mark old two end
-        second_ends (ends.TooMany found left) h = record {
+        pub second_halts : (halt : FormatHalt) → HaltsFinding world reaches shape one two kept kind (mark + 1) halt → HaltsFormat world reaches shape kept kind mark old two halt
+        second_halts (halts.TooMany found left) h = record {
           goes = gone_by h.0.entries h.0.defects;
           entries = h.0.entries;
           found_is = h.0.found_is;
@@ -226,10 +242,10 @@ module _ {M : Type 0} (world : M → World) (block_count : M → ℕ) (reaches :
                 (firsts_two h.0.defects.alone));
           };
         }
-        second_ends (ends.NoCopy due left) h = absurd h
-        second_ends ends.Cut h = second_stop stops.Cut h
-        second_ends ends.Off h = absurd (h.was_off did.ended.counts.stays_on)
-        second_ends ends.Fault h = second_stop stops.Fault h
+        second_halts (halts.NoRoom left) h = absurd h
+        second_halts (halts.NoCopy due left) h = absurd h
+        second_halts halts.NoMemory h = absurd h
+        second_halts (halts.Stopped stop) h = second_stop stop h
 
         module _ (entries : List PdlEntry) (few : FindsFewDefects world reaches shape one two kept kind entries) where
           formatting_two : Settled IsDdsText (dds_block shape) (world two).cells (formatting_dds shape mark)
@@ -272,25 +288,28 @@ module _ {M : Type 0} (world : M → World) (block_count : M → ℕ) (reaches :
                 (sdl_left_from shape (world two).cells (world old).cells (world three).cells (λ area. sym (firsts_two few.defects.alone area)) (λ area. sym (seconds_two few.defects.alone area)) (fresh_sdl mark)
                 (sdl_left shape (world two).cells (world three).cells (fresh_sdl mark) leaves))
 
-            pub third_ends : (end : End) → EndsWritingList world reaches shape two three kinds.Sdl (SdlValue (fresh_sdl mark)) 1 (mark + 2) end → EndsFormat world reaches shape kept kind mark old three end
-            third_ends (ends.TooMany found left) h = absurd h
-            third_ends (ends.NoCopy due left) h = inr (inl (record {
-              goes = gone_three h.0;
-              few = few_at three (data_stay_sdl two three h.0.alone);
-              formatting = stays_three h.0.alone;
-              lost = sdl_lost shape (fresh_sdl mark) (world three).cells h.1.lost;
-              counter_is = h.2;
-              left_is = h.3;
+            pub third_stops : (stop : Stop) → StopsUpdating world reaches kinds.Sdl shape two three (SdlValue (fresh_sdl mark)) stop → FormatStopped world reaches shape kept kind mark old three stop
+            third_stops stop h = third_stop stop h.within h.leaves
+
+            pub third_lost : (readable : ℕ) → HasPutList world reaches kinds.Sdl shape two three (SdlValue (fresh_sdl mark)) Update readable → readable ≡ 0
+                → HaltsFormat world reaches shape kept kind mark old three (halts.NoCopy 1 (mark + 2))
+            third_lost readable put none = inr (inl (record {
+              goes = gone_three put.0;
+              few = few_at three (data_stay_sdl two three put.0.alone);
+              formatting = stays_three put.0.alone;
+              lost = sdl_lost shape (fresh_sdl mark) (world three).cells keeps.lost;
+              counter_is = refl;
+              left_is = refl;
               leaves = record {
-                gives_none = formatting_gives_none shape (world three).cells mark (stays_three h.0.alone);
-                marked = subst (AreMarkedWithin shape (world three).cells) (sym h.3) (marked_middle shape mark (world three).cells (stays_three h.0.alone) (sdl_exact shape (fresh_sdl mark) (world three).cells h.1.exact));
+                gives_none = formatting_gives_none shape (world three).cells mark (stays_three put.0.alone);
+                marked = marked_middle shape mark (world three).cells (stays_three put.0.alone) (sdl_exact shape (fresh_sdl mark) (world three).cells keeps.exact);
               };
             }))
-            third_ends ends.Cut h = third_stop stops.Cut h.0 h.1
-            third_ends ends.Off h = absurd (h.was_off gone_two.counts.stays_on)
-            third_ends ends.Fault h = third_stop stops.Fault h.0 h.1
+              where
+                keeps : KeepsNone world reaches kinds.Sdl shape two three (SdlValue (fresh_sdl mark))
+                keeps = none_kept world reaches kinds.Sdl shape two three (SdlValue (fresh_sdl mark)) readable none put.1
 
-            module _ (done : HasWrittenList world reaches shape two three kinds.Sdl (SdlValue (fresh_sdl mark))) (lawful : IsLawful shape) where
+            module _ (done : HasWrittenList kinds.Sdl two three (SdlValue (fresh_sdl mark))) (lawful : IsLawful shape) where
               formatting_three : Settled IsDdsText (dds_block shape) (world three).cells (formatting_dds shape mark)
               formatting_three = stays_three done.ended.alone
 
@@ -350,24 +369,27 @@ module _ {M : Type 0} (world : M → World) (block_count : M → ℕ) (reaches :
                         (dds_may shape (formatted_dds shape mark entries) (world three).cells (world four).cells leaves)
                         formatting_three (fresh_four stopped.alone)
 
-                pub fourth_ends : (end : End) → EndsWritingList world reaches shape three four kinds.Dds (DdsValue (formatted_dds shape mark entries)) (mark + 2) (mark + 2) end → EndsFormat world reaches shape kept kind mark old four end
-                fourth_ends (ends.TooMany found left) h = absurd h
-                fourth_ends (ends.NoCopy due left) h = let lost = dds_lost shape (formatted_dds shape mark entries) (world four).cells h.1.lost in inr (inr (record {
-                  goes = gone_four h.0;
-                  few = few_at four (data_stay h.0.alone);
+                pub fourth_stops : (stop : Stop) → StopsUpdating world reaches kinds.Dds shape three four (DdsValue (formatted_dds shape mark entries)) stop → FormatStopped world reaches shape kept kind mark old four stop
+                fourth_stops stop h = fourth_stop stop h.within h.leaves
+
+                pub fourth_lost : (readable : ℕ) → HasPutList world reaches kinds.Dds shape three four (DdsValue (formatted_dds shape mark entries)) Update readable → readable ≡ 0
+                    → HaltsFormat world reaches shape kept kind mark old four (halts.NoCopy (mark + 2) (mark + 2))
+                fourth_lost readable put none = inr (inr (record {
+                  goes = gone_four put.0;
+                  few = few_at four (data_stay put.0.alone);
                   lost = lost;
-                  counter_is = h.2;
-                  left_is = h.3;
+                  counter_is = refl;
+                  left_is = refl;
                   leaves = record {
                     gives_none = lost_gives_none shape (world four).cells lost;
-                    marked = subst (AreMarkedWithin shape (world four).cells) (sym h.3) (marked_last shape mark (world four).cells lost (fresh_four h.0.alone));
+                    marked = marked_last shape mark (world four).cells lost (fresh_four put.0.alone);
                   };
                 }))
-                fourth_ends ends.Cut h = fourth_stop stops.Cut h.0 h.1
-                fourth_ends ends.Off h = absurd (h.was_off (gone_three done.ended).counts.stays_on)
-                fourth_ends ends.Fault h = fourth_stop stops.Fault h.0 h.1
+                  where
+                    lost : AllLost (dds_block shape) (world four).cells
+                    lost = dds_lost shape (formatted_dds shape mark entries) (world four).cells (none_kept world reaches kinds.Dds shape three four (DdsValue (formatted_dds shape mark entries)) readable none put.1).lost
 
-                pub makes_lists : HasWrittenList world reaches shape three four kinds.Dds (DdsValue (formatted_dds shape mark entries)) → IsLawfulDds (formatted_dds shape mark entries) → MakesLists world reaches shape kept kind mark old four (fresh_lists shape mark entries)
+                pub makes_lists : HasWrittenList kinds.Dds three four (DdsValue (formatted_dds shape mark entries)) → IsLawfulDds (formatted_dds shape mark entries) → MakesLists world reaches shape kept kind mark old four (fresh_lists shape mark entries)
                 makes_lists last lawful_list = record {
                   goes = gone_four last.ended;
                   entries = entries;

@@ -1,4 +1,4 @@
--- What a full format does, by its answer: for `full_format`.
+-- What a full format does: for `format_lists`, and by its answer for `full_format`.
 use Rattle.std.specs.Prelude.{◌≡◌, ℕ, ◌+◌, ◌≤◌, ◌<◌, ◌⊎◌, true, IsTrue, List, length}
 use Rattle.std.specs.List.{Contains}
 use Rattle.model_geometry.specs.declared.TheConstants.{SDL_LIMIT}
@@ -22,8 +22,8 @@ use Rattle.model_formats.specs.Stopped.{CoversStopped}
 use Rattle.ram_copies.specs.Calls.{StoppedCounts}
 use Rattle.ram_certify.specs.Certifying.{certify_uses}
 use Rattle.ram_lists.specs.Lists.{lists_of}
-use Rattle.ram_format.specs.declared.ends.End.{End}
-use Rattle.ram_format.specs.declared.ends.End.TheVariants as ends
+use Rattle.ram_format.specs.declared.halts.FormatHalt.{FormatHalt}
+use Rattle.ram_format.specs.declared.halts.FormatHalt.TheVariants as halts
 use Rattle.ram_format.specs.declared.full.FullEnd.{FullEnd}
 use Rattle.ram_format.specs.declared.full.FullEnd.TheVariants as fulls
 
@@ -156,13 +156,13 @@ module _ {M : Type 0} (world : M → World) (reaches : M → M → ℕ → Type 
     pub room : mark + 2 ≤ 4294967295
     pub nothing : new ≡ old
 
-  -- How a format that had begun ended before its end.
-  abbrev pub EndsFormat : End → Type 0
-  EndsFormat (ends.TooMany found left) = MeetsTooMany found left
-  EndsFormat (ends.NoCopy counter left) = LosesFirst counter left ⊎ LosesSecond counter left ⊎ LosesThird counter left
-  EndsFormat ends.Cut = FormatStopped stops.Cut
-  EndsFormat ends.Off = ⊥
-  EndsFormat ends.Fault = FormatStopped stops.Fault
+  -- why a format did not come to its end
+  abbrev pub HaltsFormat : FormatHalt → Type 0
+  HaltsFormat (halts.TooMany found left) = MeetsTooMany found left
+  HaltsFormat (halts.NoRoom left) = HasNoRoom left
+  HaltsFormat (halts.NoCopy counter left) = LosesFirst counter left ⊎ LosesSecond counter left ⊎ LosesThird counter left
+  HaltsFormat halts.NoMemory = FormatNoMemory
+  HaltsFormat (halts.Stopped stop) = FormatStopped stop
 
   -- What a full format does, by its answer.
   abbrev pub FullRule : FullEnd → Type 0

@@ -1,5 +1,5 @@
--- What a rewriting format does, by its answer: for `rewrite`.
-use Rattle.std.specs.Prelude.{◌≡◌, ℕ, ◌+◌, ◌*◌, ◌⊎◌, Bool, MatchBool, true, false, IsTrue, Option, Some, None}
+-- What a rewriting format does: for `repair_lists`, and by its answer for `rewrite`.
+use Rattle.std.specs.Prelude.{◌≡◌, ℕ, zero, suc, ◌+◌, ◌*◌, ◌⊎◌, true, IsTrue, Option, Some, None}
 use Rattle.model_geometry.specs.Geometry.{Shape, dds_block}
 use Rattle.model_lists.specs.Values.{Sdl, parts_by}
 use Rattle.model_lists.specs.Texts.{IsDdsText}
@@ -11,9 +11,7 @@ use Rattle.model_copies.specs.Copies.{AllLost}
 use Rattle.model_copies.specs.Parts.{SdlIsLost}
 use Rattle.model_places.specs.Places.{Lists}
 use Rattle.model_volume.specs.Given.{IsGiven, AreSettled, OnlyLists}
-use Rattle.ram_zones.specs.declared.list_kind.ListKind.{ListKind}
-use Rattle.ram_copies.specs.Values.{ListValue}
-use Rattle.ram_copies.specs.Calls.{StoppedCounts, IsExact, IsLost, Repairs, StopsRepairing}
+use Rattle.ram_copies.specs.Calls.{StoppedCounts}
 use Rattle.model_survival.specs.Stops.{MendsLists}
 use Rattle.ram_lists.specs.Mounts.{RepairsCopies, RepairsParts}
 use Rattle.ram_format.specs.declared.rewriting.Rewritten.{Rewritten}
@@ -25,22 +23,6 @@ abbrev pub most_rewrite_uses : Sdl → ℕ
 most_rewrite_uses sdl = 12 + (4 * parts_by sdl.version + 2 * (4 * parts_by sdl.version))
 
 module _ {M : Type 0} (world : M → World) (reaches : M → M → ℕ → Type 0) (shape : Shape) (old new : M) where
-  module _ (kind : ListKind) (value : ListValue) where
-    -- The copies of a list were repaired, and each of their cells is exactly its part or dead: one copy at least can be read,
-    -- or none is left.
-    pub record HasRepairedList (kept : Bool) : Type 0 where
-      pub repairs : Repairs world reaches kind shape old new value
-      pub exact : IsExact kind shape (world new).cells value
-      pub left : MatchBool kept
-          ((world old).known ≡ true → ¬ IsLost kind shape (world new).cells value)
-          (IsLost kind shape (world new).cells value)
-
-    -- the repair was stopped
-    abbrev pub StopsRepairingList : Stop → Type 0
-    StopsRepairingList stops.Cut = StopsRepairing world reaches kind shape old new value stops.Cut
-    StopsRepairingList stops.Off = IsOff (world old) (world new)
-    StopsRepairingList stops.Fault = StopsRepairing world reaches kind shape old new value stops.Fault
-
   module _ (lists : Lists) where
     -- Both lists were repaired, and are settled: no other cell changed.
     pub record RepairsBothLists : Type 0 where
@@ -84,11 +66,6 @@ module _ {M : Type 0} (world : M → World) (reaches : M → M → ℕ → Type 
       pub given : (other : Lists) → IsGiven shape (world new).cells other → IsGiven shape (world old).cells other
       pub left : MendsLists shape (world old).cells (world new).cells lists
 
-    abbrev pub StopsRewriting : Stop → Type 0
-    StopsRewriting stops.Cut = RewriteStopped stops.Cut
-    StopsRewriting stops.Off = IsOff (world old) (world new)
-    StopsRewriting stops.Fault = RewriteStopped stops.Fault
-
     -- What a rewriting format does, by its answer.
     abbrev pub RewriteRule : Rewritten → Type 0
     RewriteRule rewrites.Good = HaveCopies
@@ -98,7 +75,7 @@ module _ {M : Type 0} (world : M → World) (reaches : M → M → ℕ → Type 
     RewriteRule rewrites.Fault = RewriteStopped stops.Fault
 
 -- the counter of a list that has no copy left, if one has none: the structure's, or the secondary list's
-abbrev pub lost_of : Lists → Bool → Bool → Option ℕ
-lost_of lists true true = None
-lost_of lists true false = Some lists.sdl.counter
-lost_of lists false second = Some lists.dds.counter
+abbrev pub lost_of : Lists → (of_dds of_sdl : ℕ) → Option ℕ
+lost_of lists zero of_sdl = Some lists.dds.counter
+lost_of lists (suc n) zero = Some lists.sdl.counter
+lost_of lists (suc n) (suc m) = None

@@ -6,16 +6,16 @@ ghost use Rattle.model_copies.specs.Parts.{AreMarkedWithin};
 ghost use Rattle.model_formats.specs.Defects.{AreKept};
 ghost use Rattle.ram_format.specs.Phases.{kind_by};
 ghost use Rattle.ram_lists.specs.Lists.{lists_of};
-ghost use Rattle.ram_format.specs.Full.{MakesLists, EndsFormat, FullRule, IsRoomyEnd};
+ghost use Rattle.ram_format.specs.Full.{MakesLists, HaltsFormat, FullRule, IsRoomyEnd};
 ghost use Rattle.ram_format.specs.Rooms.{IsFormatRoom};
 
-use crate::ends::End;
-use crate::phases::{DefectRoom, find_defects, write_list};
+use crate::halts::FormatHalt;
+use crate::phases::{DefectRoom, find_defects, with_copy};
 use ram_certify::zero_block;
-use ram_copies::Scratch;
+use ram_copies::{Purpose, Scratch, put_copies};
 use ram_dds::{DdsPdl, DdsState, PdlEntries, PdlEntry, PdlKind};
 use ram_lists::Lists;
-use ram_medium::Medium;
+use ram_medium::{Medium, Stop};
 use ram_sdl::{SDL_LIMIT, Sdl, SdlEntries, Version};
 use ram_zones::Geometry;
 use std::alloc::{AllocError, Global};
@@ -106,7 +106,7 @@ fn format_disc<M: Medium>(
     mark: u32,
     room: Room,
     scratch: &mut Scratch,
-) -> Result<Lists, End>
+) -> Result<Lists, FormatHalt>
     requires size { M.block_count medium.old ≡ total geometry.now }
     requires on { IsTrue (M.world medium.old).power }
     requires kept { AreKept geometry.now kept.now }
@@ -116,7 +116,7 @@ fn format_disc<M: Medium>(
     ensures rule { MatchResult result
         (λ lists. MakesLists M.world M.reaches geometry.now kept.now (kind_by first) mark medium.old medium.new
         (lists_of lists))
-        (EndsFormat M.world M.reaches geometry.now kept.now (kind_by first) mark medium.old medium.new) }
+        (HaltsFormat M.world M.reaches geometry.now kept.now (kind_by first) mark medium.old medium.new) }
     ensures roomy { IfOk result (λ lists. SDL_LIMIT ≤ lists.sdl.entries.room) }
     ensures as_many { M.block_count medium.new ≡ M.block_count medium.old }
 {
@@ -129,7 +129,8 @@ fn format_disc<M: Medium>(
         psa,
         entries: PdlEntries::from_vec(Vec::new(alloc)),
     };
-    write_list(medium, geometry, &formatting, mark + 1, mark, scratch)?;
+    let readable = put_copies(medium, geometry, &formatting, Purpose::Update, scratch)?;
+    with_copy(readable, mark + 1, mark)?;
     let kind = kind_of(first);
     let defective = find_defects(medium, geometry, kept, kind, mark + 1, defects, scratch)?;
     let sdl = Sdl {
@@ -139,7 +140,8 @@ fn format_disc<M: Medium>(
         ssa: 0,
         entries,
     };
-    write_list(medium, geometry, &sdl, 1, mark + 2, scratch)?;
+    let readable = put_copies(medium, geometry, &sdl, Purpose::Update, scratch)?;
+    with_copy(readable, 1, mark + 2)?;
     let dds = DdsPdl {
         version: Version::Two,
         counter: mark + 2,
@@ -147,7 +149,8 @@ fn format_disc<M: Medium>(
         psa,
         entries: defective,
     };
-    write_list(medium, geometry, &dds, mark + 2, mark + 2, scratch)?;
+    let readable = put_copies(medium, geometry, &dds, Purpose::Update, scratch)?;
+    with_copy(readable, mark + 2, mark + 2)?;
     Ok(Lists { dds, sdl })
 }
 
@@ -157,6 +160,34 @@ fn format_disc<M: Medium>(
 ///
 /// `kept` names data blocks that rise, `first` says that the disc was not formatted before, and `mark` is no less than the
 /// disc's. (After ECMA-330; the counters and the order are this project's own.)
+pub fn format_lists<M: Medium>(
+    alloc: Global,
+    medium: &mut M,
+    geometry: &Geometry,
+    kept: &[PdlEntry],
+    first: bool,
+    mark: u32,
+    scratch: &mut Scratch,
+) -> Result<Lists, FormatHalt>
+    requires size { M.block_count medium.old ≡ total geometry.now }
+    requires on { IsTrue (M.world medium.old).power }
+    requires kept { AreKept geometry.now kept.now }
+    requires marked { AreMarkedWithin geometry.now (M.world medium.old).cells mark }
+    ensures rule { MatchResult result
+        (λ lists. MakesLists M.world M.reaches geometry.now kept.now (kind_by first) mark medium.old medium.new
+        (lists_of lists))
+        (HaltsFormat M.world M.reaches geometry.now kept.now (kind_by first) mark medium.old medium.new) }
+    ensures roomy { IfOk result (λ lists. SDL_LIMIT ≤ lists.sdl.entries.room) }
+    ensures as_many { M.block_count medium.new ≡ M.block_count medium.old }
+{
+    if GREATEST_MARK < mark {
+        return Err(FormatHalt::NoRoom { mark });
+    }
+    let room = Room::new(alloc, geometry, kept.len())?;
+    format_disc(alloc, medium, geometry, kept, first, mark, room, scratch)
+}
+
+/// Formats a disc, as [`format_lists`] does, where the power is on.
 pub fn full_format<M: Medium>(
     alloc: Global,
     medium: &mut M,
@@ -177,18 +208,14 @@ pub fn full_format<M: Medium>(
     if !medium.powered() {
         return FullEnd::Off;
     }
-    if GREATEST_MARK < mark {
-        return FullEnd::NoRoom { mark };
-    }
-    let Ok(room) = Room::new(alloc, geometry, kept.len()) else {
-        return FullEnd::NoMemory;
-    };
-    match format_disc(alloc, medium, geometry, kept, first, mark, room, scratch) {
+    match format_lists(alloc, medium, geometry, kept, first, mark, scratch) {
         Ok(lists) => FullEnd::Good { lists },
-        Err(End::TooMany { found, mark }) => FullEnd::TooMany { found, mark },
-        Err(End::NoCopy { counter, mark }) => FullEnd::NoCopy { counter, mark },
-        Err(End::Cut) => FullEnd::Cut,
-        Err(End::Off) => FullEnd::Off,
-        Err(End::Fault) => FullEnd::Fault,
+        Err(FormatHalt::TooMany { found, mark }) => FullEnd::TooMany { found, mark },
+        Err(FormatHalt::NoRoom { mark }) => FullEnd::NoRoom { mark },
+        Err(FormatHalt::NoCopy { counter, mark }) => FullEnd::NoCopy { counter, mark },
+        Err(FormatHalt::Stopped { stop: Stop::Cut }) => FullEnd::Cut,
+        Err(FormatHalt::Stopped { stop: Stop::Off }) => FullEnd::Off,
+        Err(FormatHalt::Stopped { stop: Stop::Fault }) => FullEnd::Fault,
+        Err(FormatHalt::NoMemory) => FullEnd::NoMemory,
     }
 }

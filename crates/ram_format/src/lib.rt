@@ -2,13 +2,14 @@
 //! repairs the copies of those that are there.
 #![tactic(auto)]
 
-mod ends;
 mod full;
+mod halts;
 mod keeping;
 mod merging;
 mod phases;
 mod rewriting;
 
-pub use full::{FullEnd, full_format};
+pub use full::{FullEnd, format_lists, full_format};
+pub use halts::FormatHalt;
 pub use keeping::kept_entries;
-pub use rewriting::{Rewritten, rewrite};
+pub use rewriting::{Rewritten, repair_lists, rewrite};

@@ -6,8 +6,6 @@ use Rattle.std.proofs.lemmas.Bool.{cases_Bool, true≢false}
 use Rattle.model_counts.specs.Counts.{counted, Rose}
 use Rattle.model_geometry.specs.Geometry.{Shape, dds_block, sdl_block, sdl_second_block}
 use Rattle.model_lists.specs.Values.{Dds, Sdl}
-use Rattle.model_lists.specs.declared.versions.Version.{Version}
-use Rattle.model_lists.specs.declared.versions.Version.TheVariants.{One, Two}
 use Rattle.model_lists.specs.Texts.{IsDdsText, IsTwo, IsSdlText, IsSdlSecond}
 use Rattle.model_lists.specs.declared.dds.DdsState.{DdsState}
 use Rattle.model_lists.specs.declared.dds.DdsState.TheVariants.{Formatting, Formatted}
@@ -29,6 +27,7 @@ use Rattle.model_volume.specs.Given.{IsWholePair, IsGiven, GivesNone, IsChosenDd
 use Rattle.model_lists.proofs.DdsTexts as dds_texts
 use Rattle.model_volume.proofs.Updates.{dds_no_sdl}
 use Rattle.model_volume.proofs.GivenFacts.{chosen_whole, none_lacking, given_before, given_in_dds_repair, given_others, exact_settled, bare_without_dds, bare_formatting, bare_without_sdl}
+use Rattle.model_survival.specs.Stops.{MendsDds, SdlCellsDie, StopsMounting}
 use Rattle.model_volume.proofs.ListCells.{dds_listed, sdl_listed, second_listed, seen_by, dds_seen, sdl_seen, second_seen, loses_seen}
 use Rattle.ram_medium.specs.Laws.{MediumLaws}
 use Rattle.ram_medium.proofs.Parts.{continues_then, stops_later, stops_within}
@@ -37,17 +36,17 @@ use Rattle.ram_zones.specs.declared.list_kind.ListKind.TheVariants as kinds
 use Rattle.ram_copies.specs.Values.{ListValue, DdsValue, SdlValue}
 use Rattle.ram_copies.proofs.PartsOf.{parts_few}
 use Rattle.ram_copies.specs.Choices.{MayHaveTwo}
-use Rattle.ram_copies.specs.Calls.{StoppedCounts, ChangesCopiesAlone, CallEnds, StoppedWithin, StopsRepairing, repair_uses, most_repair_uses}
-use Rattle.ram_copies.specs.Chooses.{SawCopies, StopsChoosing, Finds, FindsNone}
+use Rattle.ram_copies.specs.Calls.{StoppedCounts, ChangesCopiesAlone, CallEnds, StoppedWithin, IsExact, Repairs, StopsRepairing, HasPutList, repair_uses, most_repair_uses}
+use Rattle.ram_copies.specs.Chooses.{SawCopies, StopsChoosing, Finds, FindsNone, FindsBest, HasChosen, HaltsChoosing}
 use Rattle.ram_copies.proofs.Areas.{second_no_dds, second_no_sdl}
 use Rattle.ram_copies.proofs.EachList.{dds_exact, dds_may, dds_spares, dds_rewritten, sdl_exact, sdl_may, sdl_rewritten, seconds_rewritten, seconds_stay_by_dds}
 use Rattle.ram_copies.proofs.EachChoice.{dds_uses as four_uses, dds_chosen, dds_none, dds_marked, sdl_few, sdl_copy, sdl_no_better, sdl_none, sdl_marked, sdl_counted}
 use Rattle.ram_lists.specs.Lists.{AcceptsDds, AcceptsSdl, AcceptsNothing}
-use Rattle.ram_lists.specs.Parts.{HasPicked, EndsPicking, PicksBest, IsMended, EndsMending}
-use Rattle.model_survival.specs.Stops.{MendsDds, SdlCellsDie, StopsMounting}
-use Rattle.ram_lists.specs.Mounts.{KeepsGiven, RepairsCopies, RepairsParts, WasStopped, EndsWithLists, EndsBare, EndRule}
-use Rattle.ram_lists.specs.declared.ends.End.{End}
-use Rattle.ram_lists.specs.declared.ends.End.TheVariants as ends
+use Rattle.ram_copies.specs.declared.halts.Halt.{Halt}
+use Rattle.ram_copies.specs.declared.halts.Halt.TheVariants as halts
+use Rattle.ram_copies.specs.declared.writes.Purpose.TheVariants.{Repair}
+use Rattle.ram_copies.proofs.Lifting.{exact_of}
+use Rattle.ram_lists.specs.Mounts.{KeepsGiven, RepairsCopies, RepairsParts, WasStopped, EndsWithLists, EndsBare, HaltsMounting}
 use Rattle.ram_lists.proofs.Mending.{settled_may_hold, dds_in_part, sdl_in_part, dds_to_end, spares_same, sdl_from}
 
 -- ---- cells
@@ -377,11 +376,9 @@ module _ {M : Type 0} (world : M → World) (block_count : M → ℕ) (reaches :
   first_stops old new stop stopped = stopped_first kinds.Dds old new 4 stop (omega arith) stopped.within (dds_look_keeps old new stopped.within.alone stopped.saw) (left_looking old new (first_seen old new stopped.within.alone stopped.saw))
 
   -- it ended before its end
-  pub first_ends : (old new : M) (end : End) → EndsPicking world reaches kinds.Dds shape old new end → EndRule world reaches shape old new end
-  first_ends old new ends.Cut stopped = first_stops old new stops.Cut stopped
-  first_ends old new ends.Off off = off
-  first_ends old new ends.Fault stopped = first_stops old new stops.Fault stopped
-  first_ends old new ends.NoMemory out = record {
+  pub first_halts : (old new : M) (halt : Halt) → HaltsChoosing world reaches kinds.Dds shape old new halt → HaltsMounting world reaches shape old new halt
+  first_halts old new (halts.Stopped stop) stopped = first_stops old new stop stopped
+  first_halts old new halts.NoMemory out = record {
     was_on = out.was_on;
     uses = out.uses;
     few = let f = out.few in omega (arith, f);
@@ -391,7 +388,7 @@ module _ {M : Type 0} (world : M → World) (block_count : M → ℕ) (reaches :
     loses = loses_seen shape (world old).cells (world new).cells (first_seen old new out.alone out.saw);
   }
 
-  module _ (old one : M) (accepted : ListValue → Type 0) (best1 : Option (ListValue × ℕ)) (m : ℕ) (look1 : HasPicked world reaches kinds.Dds shape old one accepted best1 m) where
+  module _ (old one : M) (accepted : ListValue → Type 0) (best1 : Option (ListValue × ℕ)) (m : ℕ) (look1 : HasChosen world reaches kinds.Dds shape old one accepted best1 m) where
     alone_one : ChangesCopiesAlone world reaches kinds.Dds shape old one ⊥
     alone_one = look1.out.ends.alone
 
@@ -425,11 +422,9 @@ module _ {M : Type 0} (world : M → World) (block_count : M → ℕ) (reaches :
         (left_looking old new (both_seen new new stopped.within.alone stopped.saw (dead_as_is new)))
 
     -- the second choice ended before its end
-    pub second_ends : (new : M) (end : End) → EndsPicking world reaches kinds.Sdl shape one new end → EndRule world reaches shape old new end
-    second_ends new ends.Cut stopped = second_stops new stops.Cut stopped
-    second_ends new ends.Off off = absurd (off.was_off gone_one.continues.is_on)
-    second_ends new ends.Fault stopped = second_stops new stops.Fault stopped
-    second_ends new ends.NoMemory out = record {
+    pub second_halts : (new : M) (halt : Halt) → HaltsChoosing world reaches kinds.Sdl shape one new halt → HaltsMounting world reaches shape old new halt
+    second_halts new (halts.Stopped stop) stopped = second_stops new stop stopped
+    second_halts new halts.NoMemory out = record {
       was_on = gone_one.was_on;
       uses = 4 + out.uses;
       few = let f = out.few in omega (arith, f);
@@ -439,7 +434,7 @@ module _ {M : Type 0} (world : M → World) (block_count : M → ℕ) (reaches :
       loses = loses_seen shape (world old).cells (world new).cells (both_seen new new out.alone out.saw (dead_as_is new));
     }
 
-    module _ (two : M) (accepted2 : ListValue → Type 0) (best2 : Option (ListValue × ℕ)) (n : ℕ) (look2 : HasPicked world reaches kinds.Sdl shape one two accepted2 best2 n) where
+    module _ (two : M) (accepted2 : ListValue → Type 0) (best2 : Option (ListValue × ℕ)) (n : ℕ) (look2 : HasChosen world reaches kinds.Sdl shape one two accepted2 best2 n) where
       abbrev mores : ℕ
       mores = look2.out.mores
 
@@ -516,7 +511,7 @@ module _ {M : Type 0} (world : M → World) (block_count : M → ℕ) (reaches :
         fits_24 : (4 + (4 + mores)) + 12 ≤ 48
         fits_24 = let f = few_mores in omega (arith, f)
 
-        third_stops : (new : M) (stop : Stop) → StopsRepairing world reaches kinds.Dds shape two new (DdsValue d) stop → WasStopped world reaches shape old new stop
+        pub third_stops : (new : M) (stop : Stop) → StopsRepairing world reaches kinds.Dds shape two new (DdsValue d) stop → WasStopped world reaches shape old new stop
         third_stops new stop stopped = stopped_later kinds.Dds old two new (4 + (4 + mores)) 12 stop fits_24 gone_two stopped.within
             (two_then new (first_keeps new stopped.within.alone (dds_may shape d (world two).cells (world new).cells stopped.leaves)))
             (λ known. record {
@@ -533,24 +528,18 @@ module _ {M : Type 0} (world : M → World) (block_count : M → ℕ) (reaches :
               ));
             })
 
-        pub third_ends : (new : M) (end : End) → EndsMending world reaches kinds.Dds shape two new (DdsValue d) end → EndRule world reaches shape old new end
-        third_ends new ends.Cut stopped = third_stops new stops.Cut stopped
-        third_ends new ends.Off off = absurd (off.was_off gone_two.continues.is_on)
-        third_ends new ends.Fault stopped = third_stops new stops.Fault stopped
-        third_ends new ends.NoMemory never = absurd never
-
-        module _ (three : M) (mended : IsMended world reaches kinds.Dds shape two three (DdsValue d)) where
+        module _ (three : M) (mended : Repairs world reaches kinds.Dds shape two three (DdsValue d)) (exact : IsExact kinds.Dds shape (world three).cells (DdsValue d)) where
           abbrev rewritten : ℕ
-          rewritten = mended.repairs.firsts
+          rewritten = mended.firsts
 
           alone_three : ChangesCopiesAlone world reaches kinds.Dds shape two three ⊥
-          alone_three = mended.repairs.ends.alone
+          alone_three = mended.ends.alone
 
           third : CallEnds world reaches kinds.Dds shape two three ⊥ (4 + 2 * rewritten)
-          third = subst (CallEnds world reaches kinds.Dds shape two three ⊥) (let none = mended.repairs.none (λ t. t) in let e : 4 * 1 + 2 * (mended.repairs.firsts + mended.repairs.seconds) ≡ 4 + 2 * rewritten = omega (arith, none) in e) mended.repairs.ends
+          third = subst (CallEnds world reaches kinds.Dds shape two three ⊥) (let none = mended.none (λ t. t) in let e : 4 * 1 + 2 * (mended.firsts + mended.seconds) ≡ 4 + 2 * rewritten = omega (arith, none) in e) mended.ends
 
           d_settled : Settled IsDdsText (dds_block shape) (world three).cells d
-          d_settled = dds_exact shape d (world three).cells mended.exact
+          d_settled = dds_exact shape d (world three).cells exact
 
           keeps_three : KeepsGiven shape (world two) (world three)
           keeps_three = first_keeps three alone_three (λ a is. settled_may_hold IsDdsText (cell_at (world two).cells (dds_block shape a)) (cell_at (world three).cells (dds_block shape a)) d (d_settled a is))
@@ -578,17 +567,17 @@ module _ {M : Type 0} (world : M → World) (block_count : M → ℕ) (reaches :
             dds_repaired : RepairsCopies IsDdsText (dds_block shape) (world old) (world new) d (4 + 2 * rewritten)
             dds_repaired = record {
               rewritten = rewritten;
-              few = mended.repairs.few;
+              few = mended.few;
               uses_are = refl;
               rewrites = λ known. rewrites_seen IsDdsText (dds_block shape) d (world old).cells (world two).cells (world three).cells (world new).cells
                   (dds_seen shape (world old).cells (world two).cells (world new).cells (are_seen new stays)) stay rewritten
-                  (dds_rewritten shape d (world two).cells (world three).cells rewritten mended.repairs.seconds (mended.repairs.rewrites (known_two known)));
+                  (dds_rewritten shape d (world two).cells (world three).cells rewritten mended.seconds (mended.rewrites (known_two known)));
             }
 
             dds_mended : MendsDds shape (world two).cells (world new).cells d
             dds_mended = dds_to_end shape (world two).cells (world new).cells d (settled_same IsDdsText (dds_block shape) (world three).cells (world new).cells stay d d_settled) stays.dds
                 (spares_same IsDdsText (dds_block shape) (world two).cells (world two).cells (world three).cells (world new).cells (λ a. refl) stay d
-                (dds_spares shape d (world two).cells (world three).cells mended.repairs.spares))
+                (dds_spares shape d (world two).cells (world three).cells mended.spares))
 
           ends_bare : (mark : ℕ) → m ≤ mark → n ≤ mark → (mark ≡ m) ⊎ (mark ≡ n) → ((world old).known ≡ true → GivesNone shape (world three).cells)
               → ((world old).known ≡ true → (d.state ≡ Formatting) ⊎ NoSdlChosen shape (world two).cells d) → EndsBare world reaches shape old three mark
@@ -647,9 +636,9 @@ module _ {M : Type 0} (world : M → World) (block_count : M → ℕ) (reaches :
                 keeps_three same_sdl same_second alone left)
 
             fits_48 : (4 + (4 + mores) + (4 + 2 * rewritten)) + most_repair_uses (SdlValue s) ≤ 48
-            fits_48 = let f = few_mores in let g = mended.repairs.few in let p = parts_few s.version in omega (arith, f, g, p)
+            fits_48 = let f = few_mores in let g = mended.few in let p = parts_few s.version in omega (arith, f, g, p)
 
-            fourth_stops : (new : M) (stop : Stop) → d.state ≡ Formatted → StopsRepairing world reaches kinds.Sdl shape three new (SdlValue s) stop → WasStopped world reaches shape old new stop
+            pub fourth_stops : (new : M) (stop : Stop) → d.state ≡ Formatted → StopsRepairing world reaches kinds.Sdl shape three new (SdlValue s) stop → WasStopped world reaches shape old new stop
             fourth_stops new stop state stopped = stopped_later kinds.Sdl old three new (4 + (4 + mores) + (4 + 2 * rewritten)) (most_repair_uses (SdlValue s)) stop fits_48 gone_three stopped.within
                 (second_keeps new state stopped.within.alone (sdl_may shape s (world three).cells (world new).cells stopped.leaves))
                 (λ known. record {
@@ -671,28 +660,22 @@ module _ {M : Type 0} (world : M → World) (block_count : M → ℕ) (reaches :
                 stays : ListsStayDead two new
                 stays = dead_then two three new stays_three (dead_in_sdl three new s stop stopped)
 
-            pub fourth_ends : (new : M) (end : End) → d.state ≡ Formatted → EndsMending world reaches kinds.Sdl shape three new (SdlValue s) end → EndRule world reaches shape old new end
-            fourth_ends new ends.Cut state stopped = fourth_stops new stops.Cut state stopped
-            fourth_ends new ends.Off state off = absurd (off.was_off gone_three.continues.is_on)
-            fourth_ends new ends.Fault state stopped = fourth_stops new stops.Fault state stopped
-            fourth_ends new ends.NoMemory state never = absurd never
-
-            module _ (four : M) (state : d.state ≡ Formatted) (done : IsMended world reaches kinds.Sdl shape three four (SdlValue s)) where
+            module _ (four : M) (state : d.state ≡ Formatted) (done : Repairs world reaches kinds.Sdl shape three four (SdlValue s)) (all : IsExact kinds.Sdl shape (world four).cells (SdlValue s)) where
               abbrev firsts : ℕ
-              firsts = done.repairs.firsts
+              firsts = done.firsts
 
               abbrev seconds : ℕ
-              seconds = done.repairs.seconds
+              seconds = done.seconds
 
               s_exact : SdlIsExact shape (world four).cells s
-              s_exact = sdl_exact shape s (world four).cells done.exact
+              s_exact = sdl_exact shape s (world four).cells all
 
               gone_four : Gone old four (4 + (4 + mores) + (4 + 2 * rewritten) + repair_uses (SdlValue s) (firsts + seconds))
-              gone_four = gone_then kinds.Sdl old three four (4 + (4 + mores) + (4 + 2 * rewritten)) (repair_uses (SdlValue s) (firsts + seconds)) gone_three done.repairs.ends
-                  (second_keeps four state done.repairs.ends.alone (exact_may world reaches shape three four s done.repairs.ends.alone s_exact))
+              gone_four = gone_then kinds.Sdl old three four (4 + (4 + mores) + (4 + 2 * rewritten)) (repair_uses (SdlValue s) (firsts + seconds)) gone_three done.ends
+                  (second_keeps four state done.ends.alone (exact_may world reaches shape three four s done.ends.alone s_exact))
 
               stays_both : ListsStayDead two four
-              stays_both = dead_then two three four stays_three (dead_after three four (repair_uses (SdlValue s) (firsts + seconds)) done.repairs.ends.continues)
+              stays_both = dead_then two three four stays_three (dead_after three four (repair_uses (SdlValue s) (firsts + seconds)) done.ends.continues)
 
               -- the copies of the secondary list were, before their repair, as they were seen
               before_repair : (place : ℕ → ℕ) → ((a : ℕ) → cell_at (world three).cells (place a) ≡ cell_at (world two).cells (place a)) → IsSeen place (world old).cells (world two).cells (world four).cells
@@ -706,16 +689,16 @@ module _ {M : Type 0} (world : M → World) (block_count : M → ℕ) (reaches :
               sdl_repaired = record {
                 firsts = firsts;
                 seconds = seconds;
-                few = done.repairs.few;
-                few' = done.repairs.few';
-                none = done.repairs.none;
+                few = done.few;
+                few' = done.few';
+                none = done.none;
                 uses_are = refl;
                 of_firsts = λ known. rewrites_seen IsSdlText (sdl_block shape) s (world old).cells (world three).cells (world four).cells (world four).cells
                     (before_repair (sdl_block shape) same_sdl (sdl_seen shape (world old).cells (world two).cells (world four).cells (are_seen four stays_both))) (λ a. refl) firsts
-                    (sdl_rewritten shape s (world three).cells (world four).cells firsts seconds (done.repairs.rewrites (known_three known)));
+                    (sdl_rewritten shape s (world three).cells (world four).cells firsts seconds (done.rewrites (known_three known)));
                 of_seconds = λ two' known. rewrites_seen IsSdlSecond (sdl_second_block shape) s (world old).cells (world three).cells (world four).cells (world four).cells
                     (before_repair (sdl_second_block shape) same_second (second_seen shape (world old).cells (world two).cells (world four).cells (are_seen four stays_both))) (λ a. refl) seconds
-                    (seconds_rewritten shape s (world three).cells (world four).cells firsts seconds (done.repairs.rewrites (known_three known)) two');
+                    (seconds_rewritten shape s (world three).cells (world four).cells firsts seconds (done.rewrites (known_three known)) two');
               }
 
               pub both_found : EndsWithLists world reaches shape old four (record { dds = d; sdl = s })
@@ -747,40 +730,44 @@ module _ {M : Type 0} (world : M → World) (block_count : M → ℕ) (reaches :
               }
                 where
                   dds_stays : (a : ℕ) → cell_at (world four).cells (dds_block shape a) ≡ cell_at (world three).cells (dds_block shape a)
-                  dds_stays = dds_stay world reaches shape three four done.repairs.ends.alone
+                  dds_stays = dds_stay world reaches shape three four done.ends.alone
 
   -- ---- the same, by what the parts answered
 
-  pub nothing_by : (old one two : M) (best1 : Option (ListValue × ℕ)) (m n mark : ℕ) → HasPicked world reaches kinds.Dds shape old one (AcceptsDds shape) best1 m → HasPicked world reaches kinds.Sdl shape one two AcceptsNothing None n
+  pub nothing_by : (old one two : M) (best1 best2 : Option (ListValue × ℕ)) (m n mark : ℕ) → HasChosen world reaches kinds.Dds shape old one (AcceptsDds shape) best1 m → HasChosen world reaches kinds.Sdl shape one two AcceptsNothing best2 n
       → best1 ≡ None → m ≤ mark → n ≤ mark → (mark ≡ m) ⊎ (mark ≡ n) → EndsBare world reaches shape old two mark
-  nothing_by old one two best1 m n mark look1 look2 e low low' is = nothing_found old one (AcceptsDds shape) best1 m look1 two AcceptsNothing None n look2 mark low low' is
-      (subst (PicksBest world reaches kinds.Dds shape old one (AcceptsDds shape)) e look1.best_is)
+  nothing_by old one two best1 best2 m n mark look1 look2 e low low' is = nothing_found old one (AcceptsDds shape) best1 m look1 two AcceptsNothing best2 n look2 mark low low' is
+      (subst (FindsBest world reaches kinds.Dds shape old one (AcceptsDds shape)) e look1.best_is)
 
-  module _ (old one two : M) (best1 best2 : Option (ListValue × ℕ)) (m n : ℕ) (d : Dds) (d_area : ℕ) (look1 : HasPicked world reaches kinds.Dds shape old one (AcceptsDds shape) best1 m)
-      (e : best1 ≡ Some (DdsValue d, d_area)) (look2 : HasPicked world reaches kinds.Sdl shape one two (AcceptsSdl shape d) best2 n) where
+  module _ (old one two : M) (best1 best2 : Option (ListValue × ℕ)) (m n : ℕ) (d : Dds) (d_area : ℕ) (look1 : HasChosen world reaches kinds.Dds shape old one (AcceptsDds shape) best1 m)
+      (e : best1 ≡ Some (DdsValue d, d_area)) (look2 : HasChosen world reaches kinds.Sdl shape one two (AcceptsSdl shape d) best2 n) where
     found_by : Finds world reaches kinds.Dds shape old one (AcceptsDds shape) (DdsValue d) d_area
-    found_by = subst (PicksBest world reaches kinds.Dds shape old one (AcceptsDds shape)) e look1.best_is
+    found_by = subst (FindsBest world reaches kinds.Dds shape old one (AcceptsDds shape)) e look1.best_is
 
-    pub third_by : (new : M) (end : End) → EndsMending world reaches kinds.Dds shape two new (DdsValue d) end → EndRule world reaches shape old new end
-    third_by new end ended = third_ends old one (AcceptsDds shape) best1 m look1 two (AcceptsSdl shape d) best2 n look2 d d_area found_by new end ended
+    pub third_by : (new : M) (stop : Stop) → StopsRepairing world reaches kinds.Dds shape two new (DdsValue d) stop → WasStopped world reaches shape old new stop
+    third_by new stop stopped = third_stops old one (AcceptsDds shape) best1 m look1 two (AcceptsSdl shape d) best2 n look2 d d_area found_by new stop stopped
 
-    module _ (three : M) (mended : IsMended world reaches kinds.Dds shape two three (DdsValue d)) where
+    module _ (three : M) (readable : ℕ) (mended : HasPutList world reaches kinds.Dds shape two three (DdsValue d) Repair readable) where
+      exact_by : IsExact kinds.Dds shape (world three).cells (DdsValue d)
+      exact_by = exact_of world reaches kinds.Dds shape two three (DdsValue d) readable mended.1
+
       pub formatting_by : (mark : ℕ) → m ≤ mark → n ≤ mark → (mark ≡ m) ⊎ (mark ≡ n) → d.state ≡ Formatting → EndsBare world reaches shape old three mark
-      formatting_by mark low low' is state = formatting_found old one (AcceptsDds shape) best1 m look1 two (AcceptsSdl shape d) best2 n look2 d d_area found_by three mended mark low low' is state
+      formatting_by mark low low' is state = formatting_found old one (AcceptsDds shape) best1 m look1 two (AcceptsSdl shape d) best2 n look2 d d_area found_by three mended.0 exact_by mark low low' is state
 
       pub lone_by : (mark : ℕ) → m ≤ mark → n ≤ mark → (mark ≡ m) ⊎ (mark ≡ n) → best2 ≡ None → EndsBare world reaches shape old three mark
-      lone_by mark low low' is none = lone_found old one (AcceptsDds shape) best1 m look1 two (AcceptsSdl shape d) best2 n look2 d d_area found_by three mended mark low low' is
-          (subst (PicksBest world reaches kinds.Sdl shape one two (AcceptsSdl shape d)) none look2.best_is)
+      lone_by mark low low' is none = lone_found old one (AcceptsDds shape) best1 m look1 two (AcceptsSdl shape d) best2 n look2 d d_area found_by three mended.0 exact_by mark low low' is
+          (subst (FindsBest world reaches kinds.Sdl shape one two (AcceptsSdl shape d)) none look2.best_is)
 
       module _ (s : Sdl) (s_area : ℕ) (e2 : best2 ≡ Some (SdlValue s, s_area)) where
         below_by : Finds world reaches kinds.Sdl shape one two (AcceptsSdl shape d) (SdlValue s) s_area
-        below_by = subst (PicksBest world reaches kinds.Sdl shape one two (AcceptsSdl shape d)) e2 look2.best_is
+        below_by = subst (FindsBest world reaches kinds.Sdl shape one two (AcceptsSdl shape d)) e2 look2.best_is
 
-        pub fourth_by : (new : M) (end : End) → d.state ≡ Formatted → EndsMending world reaches kinds.Sdl shape three new (SdlValue s) end → EndRule world reaches shape old new end
-        fourth_by new end state ended = fourth_ends old one (AcceptsDds shape) best1 m look1 two (AcceptsSdl shape d) best2 n look2 d d_area found_by three mended s s_area below_by new end state ended
+        pub fourth_by : (new : M) (stop : Stop) → d.state ≡ Formatted → StopsRepairing world reaches kinds.Sdl shape three new (SdlValue s) stop → WasStopped world reaches shape old new stop
+        fourth_by new stop state stopped = fourth_stops old one (AcceptsDds shape) best1 m look1 two (AcceptsSdl shape d) best2 n look2 d d_area found_by three mended.0 exact_by s s_area below_by new stop state stopped
 
-        pub both_by : (four : M) → IsMended world reaches kinds.Sdl shape three four (SdlValue s) → d.state ≡ Formatted → EndsWithLists world reaches shape old four (record { dds = d; sdl = s })
-        both_by four done state = both_found old one (AcceptsDds shape) best1 m look1 two (AcceptsSdl shape d) best2 n look2 d d_area found_by three mended s s_area below_by four state done
+        pub both_by : (four : M) (readable' : ℕ) → HasPutList world reaches kinds.Sdl shape three four (SdlValue s) Repair readable' → d.state ≡ Formatted → EndsWithLists world reaches shape old four (record { dds = d; sdl = s })
+        both_by four readable' done state = both_found old one (AcceptsDds shape) best1 m look1 two (AcceptsSdl shape d) best2 n look2 d d_area found_by three mended.0 exact_by s s_area below_by four state done.0
+            (exact_of world reaches kinds.Sdl shape three four (SdlValue s) readable' done.1)
 
 pub not_formatted : (s : DdsState) (b : Bool) → (s ≡ Formatted → IsTrue b) → b ≡ false → s ≡ Formatting
 not_formatted Formatting b h e = refl

@@ -1,4 +1,4 @@
--- What a mount does, by its answer: for `mount`.
+-- What a mount does: for `mount_lists`, and by its answer for `mount`.
 use Rattle.std.specs.Prelude.{◌≡◌, ℕ, ◌+◌, ◌*◌, ◌≤◌, true, IsTrue, Option, Some, None, List}
 use Rattle.model_geometry.specs.Geometry.{Shape, dds_block, sdl_block, sdl_second_block}
 use Rattle.model_lists.specs.Values.{Dds, Sdl, IsLawfulDds, IsLawfulSdl, parts_by}
@@ -13,15 +13,15 @@ use Rattle.model_copies.specs.Parts.{PartsHoldNothingNew, SdlIsExact, AreMarkedW
 use Rattle.model_places.specs.Places as places
 use Rattle.model_places.specs.Valid.{AreValid}
 use Rattle.model_volume.specs.Given.{IsGiven, GivesNone, AreChosen, ChoosesNone, LacksLists, AreSettled, OnlyLists, LosesListCells, AreSeen}
-use Rattle.ram_copies.specs.Calls.{StoppedCounts}
-use Rattle.ram_lists.specs.Lists.{lists_of}
 use Rattle.model_survival.specs.Stops.{StopsMounting}
+use Rattle.ram_copies.specs.Calls.{StoppedCounts}
+use Rattle.ram_copies.specs.declared.halts.Halt.{Halt}
+use Rattle.ram_copies.specs.declared.halts.Halt.TheVariants as halts
+use Rattle.ram_lists.specs.Lists.{lists_of}
 use Rattle.ram_lists.specs.declared.mounting.Mounted.{Mounted}
 use Rattle.ram_lists.specs.declared.mounting.Mounted.TheVariants as mounts
-use Rattle.ram_lists.specs.declared.ends.End.{End}
-use Rattle.ram_lists.specs.declared.ends.End.TheVariants as ends
-use Rattle.ram_lists.specs.declared.mounting.Disc.{Disc}
-use Rattle.ram_lists.specs.declared.mounting.Disc.TheVariants as discs
+use Rattle.ram_lists.specs.declared.mounting.Found.{Found}
+use Rattle.ram_lists.specs.declared.mounting.Found.TheVariants as founds
 
 -- No cell changed but those of lists; each copy of a list is as it was, or torn or dead, or holds what some copy of it
 -- held; and lists that the cells give now they gave before. (This project's own, as all here.)
@@ -136,17 +136,15 @@ module _ {M : Type 0} (world : M → World) (reaches : M → M → ℕ → Type 
     pub ended : MountHasEnded (8 + mores + uses)
     pub finds : FindsNoLists shape (world old) (world new) dds mark mores
 
-  -- How a mount ended before its end.
-  abbrev pub EndRule : End → Type 0
-  EndRule ends.Cut = WasStopped stops.Cut
-  EndRule ends.Off = IsOff (world old) (world new)
-  EndRule ends.Fault = WasStopped stops.Fault
-  EndRule ends.NoMemory = WasOutOfMemory
+  -- what a mount found
+  abbrev pub HasMounted : Found → Type 0
+  HasMounted (founds.Lists lists) = EndsWithLists (lists_of lists)
+  HasMounted (founds.Bare mark) = EndsBare mark
 
-  -- What a mount found.
-  abbrev pub FoundRule : Disc → Type 0
-  FoundRule (discs.Formatted lists) = EndsWithLists (lists_of lists)
-  FoundRule (discs.Bare mark) = EndsBare mark
+  -- why it did not come to its end
+  abbrev pub HaltsMounting : Halt → Type 0
+  HaltsMounting (halts.Stopped stop) = WasStopped stop
+  HaltsMounting halts.NoMemory = WasOutOfMemory
 
   -- What a mount does, by its answer.
   abbrev pub MountRule : Mounted → Type 0

@@ -3,15 +3,14 @@
 ghost use Rattle.std.specs.Prelude.{◌≡◌, ◌↔◌, IsTrue, MatchResult};
 ghost use Rattle.model_lists.specs.declared.dds.DdsState.TheVariants.{Formatted};
 ghost use Rattle.model_geometry.specs.Geometry.{total};
-ghost use Rattle.ram_lists.specs.Mounts.{MountRule, FoundRule, EndRule};
+ghost use Rattle.ram_lists.specs.Mounts.{MountRule, HasMounted, HaltsMounting};
 
-use crate::ends::End;
+use crate::fits::{DdsFits, NoneFits, SdlFits};
 use crate::lists::Lists;
-use crate::parts::{Pick, mend, pick_dds, pick_none, pick_sdl};
 use model_lists::DdsState;
-use ram_copies::Scratch;
+use ram_copies::{Choice, Halt, Purpose, Scratch, look_at_copies, put_copies};
 use ram_dds::DdsPdl;
-use ram_medium::Medium;
+use ram_medium::{Medium, Stop};
 use ram_sdl::Sdl;
 use ram_zones::Geometry;
 use std::alloc::Global;
@@ -42,9 +41,9 @@ pub enum Mounted {
 
 /// What a mount found.
 #[derive(Drop)]
-pub enum Disc {
-    /// The disc is formatted, and these are its lists.
-    Formatted {
+pub enum Found {
+    /// The disc is formatted, and these are its lists. Each of their copies is exactly its text, or dead.
+    Lists {
         /// The lists.
         lists: Lists,
     },
@@ -65,50 +64,57 @@ fn is_formatted(dds: &DdsPdl) -> bool
     }
 }
 
-/// Chooses the lists and repairs them.
-fn mount_lists<M: Medium>(
+/// Chooses the lists of a disc, and repairs the copies of those that were chosen: 8 uses, and one more for each first part
+/// of a secondary list after which another follows; and for each list that is repaired 4 for each of its parts, and 2 for
+/// each cell that is written again.
+pub fn mount_lists<M: Medium>(
     alloc: Global,
     medium: &mut M,
     geometry: &Geometry,
     scratch: &mut Scratch,
-) -> Result<Disc, End>
+) -> Result<Found, Halt>
     requires size { M.block_count medium.old ≡ total geometry.now }
+    requires on { IsTrue (M.world medium.old).power }
     ensures rule { MatchResult result
-        (FoundRule M.world M.reaches geometry.now medium.old medium.new)
-        (EndRule M.world M.reaches geometry.now medium.old medium.new) }
+        (HasMounted M.world M.reaches geometry.now medium.old medium.new)
+        (HaltsMounting M.world M.reaches geometry.now medium.old medium.new) }
     ensures as_many { M.block_count medium.new ≡ M.block_count medium.old }
 {
-    let Pick { best, mark: first } = pick_dds(alloc, medium, geometry, scratch)?;
+    let fits = DdsFits { geometry };
+    let Choice { best, mark: first } = look_at_copies::<DdsPdl, M, DdsFits>(
+        alloc, medium, geometry, &fits, scratch,
+    )?;
     let Some(dds) = best else {
-        let other = pick_none(alloc, medium, geometry, scratch)?;
-        return Ok(Disc::Bare {
-            mark: first.max(other),
+        let fits = NoneFits {};
+        let other = look_at_copies::<Sdl, M, NoneFits>(alloc, medium, geometry, &fits, scratch)?;
+        return Ok(Found::Bare {
+            mark: first.max(other.mark),
         });
     };
-    let Pick {
-        best: below,
-        mark: second,
-    } = pick_sdl(alloc, medium, geometry, &dds.value, scratch)?;
-    let mark = first.max(second);
-    mend::<DdsPdl, M>(medium, geometry, &dds.value, scratch)?;
-    if !is_formatted(&dds.value) {
-        return Ok(Disc::Bare { mark });
-    }
-    let Some(sdl) = below else {
-        return Ok(Disc::Bare { mark });
+    let dds = dds.value;
+    let fits = SdlFits {
+        geometry,
+        dds: &dds,
     };
-    mend::<Sdl, M>(medium, geometry, &sdl.value, scratch)?;
-    Ok(Disc::Formatted {
-        lists: Lists {
-            dds: dds.value,
-            sdl: sdl.value,
-        },
+    let Choice { best, mark: second } = look_at_copies::<Sdl, M, SdlFits>(
+        alloc, medium, geometry, &fits, scratch,
+    )?;
+    let mark = first.max(second);
+    put_copies(medium, geometry, &dds, Purpose::Repair, scratch)?;
+    if !is_formatted(&dds) {
+        return Ok(Found::Bare { mark });
+    }
+    let Some(sdl) = best else {
+        return Ok(Found::Bare { mark });
+    };
+    let sdl = sdl.value;
+    put_copies(medium, geometry, &sdl, Purpose::Repair, scratch)?;
+    Ok(Found::Lists {
+        lists: Lists { dds, sdl },
     })
 }
 
-/// Chooses the lists of a disc, and repairs the copies of those that were chosen: 8 uses, and one more for each first part
-/// of a secondary list after which another follows; and for each list that is repaired 4 for each of its parts, and 2 for
-/// each cell that is written again.
+/// Mounts a disc, as [`mount_lists`] does, where the power is on.
 pub fn mount<M: Medium>(
     alloc: Global,
     medium: &mut M,
@@ -119,12 +125,15 @@ pub fn mount<M: Medium>(
     ensures rule { MountRule M.world M.reaches geometry.now medium.old medium.new result }
     ensures as_many { M.block_count medium.new ≡ M.block_count medium.old }
 {
+    if !medium.powered() {
+        return Mounted::Off;
+    }
     match mount_lists(alloc, medium, geometry, scratch) {
-        Ok(Disc::Formatted { lists }) => Mounted::Lists { lists },
-        Ok(Disc::Bare { mark }) => Mounted::Bare { mark },
-        Err(End::Cut) => Mounted::Cut,
-        Err(End::Off) => Mounted::Off,
-        Err(End::Fault) => Mounted::Fault,
-        Err(End::NoMemory) => Mounted::NoMemory,
+        Ok(Found::Lists { lists }) => Mounted::Lists { lists },
+        Ok(Found::Bare { mark }) => Mounted::Bare { mark },
+        Err(Halt::Stopped { stop: Stop::Cut }) => Mounted::Cut,
+        Err(Halt::Stopped { stop: Stop::Off }) => Mounted::Off,
+        Err(Halt::Stopped { stop: Stop::Fault }) => Mounted::Fault,
+        Err(Halt::NoMemory) => Mounted::NoMemory,
     }
 }

@@ -2,4 +2,3 @@ pub mod FreeSpares
 pub mod Trying
 pub mod Placing
 pub mod Moving
-pub mod Updating

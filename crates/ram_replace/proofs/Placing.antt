@@ -1,5 +1,5 @@
 -- How the write of a logical block goes, step after step, on the cells.
-use Rattle.std.specs.Prelude.{◌≡◌, ◌≢◌, ℕ, ◌+◌, ◌*◌, ◌≤◌, ◌<◌, ◌⊎◌, true, false, IsTrue, ◌==◌, if◌then◌else◌, List, length, slice_index}
+use Rattle.std.specs.Prelude.{◌≡◌, ◌≢◌, ℕ, ◌+◌, ◌*◌, ◌≤◌, ◌<◌, ◌⊎◌, true, IsTrue, ◌==◌, if◌then◌else◌, List, length, slice_index}
 use Rattle.std.proofs.Common.{refl, sym, ap, ◌∙◌, inl, inr, subst, arith, eqb}
 use Rattle.std.specs.List.{Contains}
 use Rattle.std.proofs.lemmas.Bool.{cond-true, cond-false, eq-eqb, ne_eqb}
@@ -14,9 +14,8 @@ use Rattle.model_sectors.specs.Discs.{Agrees}
 use Rattle.model_sectors.proofs.Fitting.{agrees_not_good}
 use Rattle.model_stops.specs.Stops.{Continues, Stops}
 use Rattle.model_stops.specs.declared.Stop.{Stop}
-use Rattle.model_stops.specs.declared.Stop.TheVariants as stops
 use Rattle.model_copies.specs.Copies.{Settled}
-use Rattle.model_copies.specs.Parts.{SdlIsBetween}
+use Rattle.model_copies.specs.Parts.{SdlIsBetween, SdlIsExact, SdlIsLost}
 use Rattle.model_copies.proofs.SdlParts.{settled_stopped, lost_settled, lost_alike}
 use Rattle.model_places.specs.Places.{Lists, logical_count, home_of, free_spares}
 use Rattle.model_places.specs.Valid.{AreValid}
@@ -35,12 +34,15 @@ use Rattle.ram_medium.specs.Laws.{MediumLaws}
 use Rattle.ram_medium.proofs.Parts.{continues_then, continues_quiet, stops_later, stops_within}
 use Rattle.ram_zones.specs.declared.list_kind.ListKind.TheVariants as kinds
 use Rattle.ram_copies.specs.Puts.{IsBlockPut, IsBlockLost, StopsPutting}
-use Rattle.ram_copies.specs.Calls.{StoppedCounts, ChangesCopiesAlone}
-use Rattle.ram_copies.proofs.Lifting.{quiet_counts, fault_counts}
+use Rattle.ram_copies.specs.Values.{SdlValue}
+use Rattle.ram_copies.specs.Calls.{ChangesCopiesAlone, StopsUpdating, HasPutList}
+use Rattle.ram_copies.specs.declared.writes.Purpose.TheVariants.{Update}
+use Rattle.ram_copies.proofs.EachList.{sdl_exact, sdl_lost, sdl_all_lost}
+use Rattle.ram_copies.proofs.Lifting.{quiet_counts, stopped_counts, exact_of, some_kept, none_kept}
 use Rattle.ram_replace.specs.declared.spares.Found.{Found}
 use Rattle.ram_replace.specs.Spares.{ChangesSparesAlone, HaveFailed, IsFound, StopsTrying}
 use Rattle.ram_lists.proofs.MountSteps.{dds_stay}
-use Rattle.ram_replace.specs.Updates.{KeepsListCopies, LosesListCopies, HasUpdated, StopsUpdating}
+use Rattle.ram_lists.proofs.Mending.{sdl_left}
 use Rattle.ram_replace.specs.Placing.{HasEnded, PlacesBlock, MeetsNoSpare, MeetsNoCopy, PlacingStopped}
 use Rattle.ram_replace.proofs.Trying.{on_true}
 
@@ -64,11 +66,6 @@ left_three was cell bytes (inr (inr (inr dead))) = inr (inr (dead_is_bad cell de
 
 module _ {M : Type 0} (world : M → World) (block_count : M → ℕ) (reaches : M → M → ℕ → Type 0) (laws : MediumLaws world block_count reaches) where
   -- the count of work that was stopped
-  stopped_counts : (old new : M) (most : ℕ) (stop : Stop) → Stops world reaches old new most stop → StoppedCounts (world old) (world new) stop
-  stopped_counts old new most stops.Cut stopped = stopped.cut
-  stopped_counts old new most stops.Off stopped = stopped
-  stopped_counts old new most stops.Fault stopped = fault_counts world block_count reaches laws old new most stopped
-
   module _ (shape : Shape) (lists : Lists) (valid : AreValid shape lists) (i : ℕ) (inside : i < logical_count shape lists) (bytes : List ℕ)
       (old : M) (settled : AreSettled shape (world old).cells lists) where
     ended_by : (new : M) (k : ℕ) (lists' : Lists) → Continues world reaches old new k → HasEnded world reaches shape old new lists i bytes lists'
@@ -80,7 +77,7 @@ module _ {M : Type 0} (world : M → World) (block_count : M → ℕ) (reaches :
     stopped_by : (new : M) (stop : Stop) → IsTrue (world old).power → StopsAtBlock world reaches shape old new lists i bytes stop → PlacingStopped world reaches shape old new lists i bytes lists stop
     stopped_by new stop on stopped = record {
       was_on = on;
-      counts = stopped_counts old new (most_placing_uses shape lists i) stop stopped.stops;
+      counts = stopped_counts world block_count reaches laws old new (most_placing_uses shape lists i) stop stopped.stops;
       same = refl;
       stopped = stopped;
     }
@@ -303,9 +300,9 @@ module _ {M : Type 0} (world : M → World) (block_count : M → ℕ) (reaches :
               between = settled_stopped shape (world here).cells (world new).cells lists.sdl moved_sdl settled_here.sdl refl (inl (λ same. omega (arith, same))) leaves.may leaves.stays_dead
 
           -- no copy can be read
-          no_copy_left : lists.sdl.counter ≢ LAST_COUNTER → Continues world reaches here new (sdl_update_uses lists.sdl) → LosesListCopies world reaches shape here new moved_sdl
+          no_copy_left : lists.sdl.counter ≢ LAST_COUNTER → Continues world reaches here new (sdl_update_uses lists.sdl) → SdlIsExact shape (world new).cells moved_sdl → SdlIsLost shape (world new).cells moved_sdl
               → MeetsNoCopy world reaches shape old new lists i bytes lists lists.sdl.counter
-          no_copy_left room continues left = record {
+          no_copy_left room continues exact all_lost = record {
             ended = ended_by new (2 + (2 * found.tried + 2) + sdl_update_uses lists.sdl) lists (goes_on continues);
             finds = record {
               tried = found.tried;
@@ -314,13 +311,13 @@ module _ {M : Type 0} (world : M → World) (block_count : M → ℕ) (reaches :
                 same = refl;
                 continues = subst (Continues world reaches old new) uses (goes_on continues);
                 as_known = as_known_all;
-                settled = record { dds = dds_still; sdl = lost_settled shape (world new).cells lists.sdl moved_sdl refl refl left.exact left.lost };
+                settled = record { dds = dds_still; sdl = lost_settled shape (world new).cells lists.sdl moved_sdl refl refl exact all_lost };
                 only = all_only;
                 dead = dead_still;
                 keeps = λ disc fits. fits_before shape lists valid i inside (world old).cells (world new).cells all_only disc (inr bad_still) fits;
               };
               counter_is = refl;
-              cause = inl (lost_alike shape (world new).cells moved_sdl lists.sdl refl left.lost);
+              cause = inl (lost_alike shape (world new).cells moved_sdl lists.sdl refl all_lost);
               tried_dead = tried_dead;
               spare_has = spare_good_still;
             };
@@ -332,9 +329,9 @@ module _ {M : Type 0} (world : M → World) (block_count : M → ℕ) (reaches :
                   omega (arith, some)
 
           -- the list was written
-          list_written : lists.sdl.counter < LAST_COUNTER → Continues world reaches here new (sdl_update_uses lists.sdl) → KeepsListCopies world reaches shape here new moved_sdl
-              → PlacesBlock world reaches shape old new lists i bytes moved
-          list_written room continues kept = record {
+          list_written : lists.sdl.counter < LAST_COUNTER → Continues world reaches here new (sdl_update_uses lists.sdl) → SdlIsExact shape (world new).cells moved_sdl
+              → ((world here).known ≡ true → ¬ SdlIsLost shape (world new).cells moved_sdl) → PlacesBlock world reaches shape old new lists i bytes moved
+          list_written room continues exact not_lost = record {
             ended = ended_by new (2 + (2 * found.tried + 2) + sdl_update_uses lists.sdl) moved (goes_on continues);
             puts = record {
               placing = ToSpare found.tried;
@@ -342,26 +339,29 @@ module _ {M : Type 0} (world : M → World) (block_count : M → ℕ) (reaches :
               lists_are = moved_is;
               continues = goes_on continues;
               as_known = as_known_all;
-              settled = record { dds = dds_still; sdl = λ _. kept.exact };
+              settled = record { dds = dds_still; sdl = λ _. exact };
               only = all_only;
               went = went_to;
-              has_copy = λ known none. kept.not_lost (has.as_known ∙ lost.as_known ∙ known) (lost_alike shape (world new).cells lists.sdl moved_sdl refl none);
+              has_copy = λ known none. not_lost (has.as_known ∙ lost.as_known ∙ known) (lost_alike shape (world new).cells lists.sdl moved_sdl refl none);
               makes = λ disc disc' differs fits. fits_moved shape lists valid i inside (world old).cells (world new).cells all_only bytes disc disc' differs fits
                   (tried_of (free_spares shape lists) found.tried) found.spare next spare_agrees;
             };
           }
 
-        -- how the update ended
-        pub update_ends : (new : M) (stop : Stop) → IsTrue (world old).power → StopsUpdating world reaches shape here new moved_sdl stop
+        -- ---- how the update ended
+
+        pub update_stops : (new : M) (stop : Stop) → IsTrue (world old).power → StopsUpdating world reaches kinds.Sdl shape here new (SdlValue moved_sdl) stop
             → PlacingStopped world reaches shape old new lists i bytes lists stop
-        update_ends new stops.Cut on h = update_stopped new h.stopped.alone stops.Cut on h.stopped.stops h.left
-        update_ends new stops.Off on h = absurd (h.was_off has.continues.is_on)
-        update_ends new stops.Fault on h = update_stopped new h.stopped.alone stops.Fault on h.stopped.stops h.left
+        update_stops new stop on h = update_stopped new h.within.alone stop on h.within.stops (sdl_left shape (world here).cells (world new).cells moved_sdl h.leaves)
 
-        pub no_copy : (new : M) → lists.sdl.counter ≢ LAST_COUNTER → HasUpdated world reaches shape here new moved_sdl false
-            → MeetsNoCopy world reaches shape old new lists i bytes lists lists.sdl.counter
-        no_copy new room did = no_copy_left new did.ended.alone room did.ended.continues did.left
+        module _ (new : M) (readable : ℕ) (did : HasPutList world reaches kinds.Sdl shape here new (SdlValue moved_sdl) Update readable) where
+          exact_by : SdlIsExact shape (world new).cells moved_sdl
+          exact_by = sdl_exact shape moved_sdl (world new).cells (exact_of world reaches kinds.Sdl shape here new (SdlValue moved_sdl) readable did.1)
 
-        pub spare_put : (new : M) → lists.sdl.counter < LAST_COUNTER → HasUpdated world reaches shape here new moved_sdl true
-            → PlacesBlock world reaches shape old new lists i bytes moved
-        spare_put new room did = list_written new did.ended.alone room did.ended.continues did.left
+          pub no_copy : readable ≡ 0 → lists.sdl.counter ≢ LAST_COUNTER → MeetsNoCopy world reaches shape old new lists i bytes lists lists.sdl.counter
+          no_copy none room = no_copy_left new did.0.alone room did.0.continues exact_by
+              (sdl_lost shape moved_sdl (world new).cells (none_kept world reaches kinds.Sdl shape here new (SdlValue moved_sdl) readable none did.1).lost)
+
+          pub spare_put : readable ≢ 0 → lists.sdl.counter < LAST_COUNTER → PlacesBlock world reaches shape old new lists i bytes moved
+          spare_put some room = list_written new did.0.alone room did.0.continues exact_by
+              (λ known none. (some_kept world reaches kinds.Sdl shape here new (SdlValue moved_sdl) readable some did.1).not_lost known (sdl_all_lost shape moved_sdl (world new).cells none))

@@ -1,3 +1,2 @@
 pub mod Spares
-pub mod Updates
 pub mod Placing

@@ -4,7 +4,6 @@
 
 mod drafts;
 mod spares;
-mod updates;
 mod writing;
 
-pub use writing::{Placed, write_home};
+pub use writing::{Outcome, Placed, place_block, write_home};

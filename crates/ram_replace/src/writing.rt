@@ -1,22 +1,17 @@
 //! The write of one logical block, to its home or to a spare.
 
-ghost use Rattle.std.specs.Prelude.{◌≡◌, ◌<◌, ◌≤◌, IsTrue, IfOk, MatchResult, length};
-ghost use Rattle.model_geometry.specs.declared.TheConstants.{SDL_LIMIT};
-ghost use Rattle.model_geometry.specs.Geometry.{total};
-ghost use Rattle.model_lists.specs.Values.{IsLawfulSdl};
+ghost use Rattle.std.specs.Prelude.{◌≡◌, ◌<◌, IsTrue, IfOk, MatchResult, length};
 ghost use Rattle.model_places.specs.Places.{logical_count, home_of};
-ghost use Rattle.model_places.specs.Valid.{AreValid};
 ghost use Rattle.model_volume.specs.Given.{AreSettled};
 ghost use Rattle.ram_bytes.specs.declared.block.TheConstants.{BLOCK_BYTES};
-ghost use Rattle.ram_sdl.specs.Sdl.{sdl_of};
 ghost use Rattle.ram_lists.specs.Lists.{lists_of};
+ghost use Rattle.ram_lists.specs.Fit.{IsFit};
 ghost use Rattle.ram_replace.specs.Placing.{EndsPlacing, PlacingStopped, PlacedRule, EndsWithReadBack, LeavesReadBack};
 
 use crate::drafts::draft_moved;
 use crate::spares::find_spare;
-use crate::updates::update_list;
 use model_drive::LAST_COUNTER;
-use ram_copies::{Scratch, put_block};
+use ram_copies::{Purpose, Scratch, put_block, put_copies};
 use ram_lists::Lists;
 use ram_medium::{Medium, Stop};
 use ram_sdl::Sdl;
@@ -45,14 +40,27 @@ pub enum Placed {
 
 /// How a write ended that was not stopped.
 #[derive(Clone, Copy)]
-enum Outcome {
+pub enum Outcome {
+    /// Its home has the bytes: the one that it had, or a spare.
     Done,
+    /// The home is dead, and so are all free spares.
     NoSpare,
-    NoUpdate { counter: u32 },
+    /// The home is dead and a spare has the bytes, but the secondary list could not be updated: all its copies are
+    /// dead, or its counter is the last one. The block stays where it was.
+    NoUpdate {
+        /// The counter of the list in use.
+        counter: u32,
+    },
 }
 
-/// Writes a logical block to its home, or to a spare, with the power on.
-fn place<M: Medium>(
+/// Writes logical block `i` to its home, which the caller has looked up, and reads it back: 2 uses. Where the home is
+/// dead, one free spare after another is written and read back, 2 uses each, until one has the bytes; then the secondary
+/// list that says so is updated, 8 uses for each of its parts, and taken over. `draft` holds that list until then, and
+/// nothing of use before and after. After Done the room of `scratch` has the bytes, where cells are known. It takes no memory.
+///
+/// The lists in memory change with Done alone, once a copy of the new list can be read. (Linear replacement after
+/// ECMA-330; the order of the steps is this project's own.)
+pub fn place_block<M: Medium>(
     medium: &mut M,
     geometry: &Geometry,
     lists: &mut Lists,
@@ -62,15 +70,11 @@ fn place<M: Medium>(
     from: &[u8],
     scratch: &mut Scratch,
 ) -> Result<Outcome, Stop>
-    requires size { M.block_count medium.old ≡ total geometry.now }
+    requires fit { IsFit geometry.now (M.block_count medium.old) lists.old draft.old }
     requires on { IsTrue (M.world medium.old).power }
-    requires valid { AreValid geometry.now (lists_of lists.old) }
-    requires lawful { IsLawfulSdl (sdl_of lists.old.sdl) }
     requires settled { AreSettled geometry.now (M.world medium.old).cells (lists_of lists.old) }
     requires inside { i < logical_count geometry.now (lists_of lists.old) }
     requires home { home ≡ home_of geometry.now (lists_of lists.old) i }
-    requires room { SDL_LIMIT ≤ lists.old.sdl.entries.room }
-    requires draft { SDL_LIMIT ≤ draft.old.entries.room }
     requires whole { length from.now ≡ BLOCK_BYTES }
     ensures rule { MatchResult result
         (EndsPlacing M.world M.reaches geometry.now medium.old medium.new (lists_of lists.old) i from.now
@@ -78,11 +82,7 @@ fn place<M: Medium>(
         (PlacingStopped M.world M.reaches geometry.now medium.old medium.new (lists_of lists.old) i from.now
         (lists_of lists.new)) }
     ensures back { IfOk result (EndsWithReadBack (M.world medium.old).known from.now scratch.new.room) }
-    ensures valid { AreValid geometry.now (lists_of lists.new) }
-    ensures lawful { IsLawfulSdl (sdl_of lists.new.sdl) }
-    ensures room { SDL_LIMIT ≤ lists.new.sdl.entries.room }
-    ensures draft { SDL_LIMIT ≤ draft.new.entries.room }
-    ensures as_many { M.block_count medium.new ≡ M.block_count medium.old }
+    ensures fit { IsFit geometry.now (M.block_count medium.new) lists.new draft.new }
 {
     if put_block(medium, home, from, &mut scratch.room)? {
         return Ok(Outcome::Done);
@@ -95,7 +95,7 @@ fn place<M: Medium>(
         return Ok(Outcome::NoUpdate { counter });
     }
     draft_moved(geometry, lists, draft, i, found);
-    if !update_list(medium, geometry, draft, scratch)? {
+    if put_copies(medium, geometry, draft, Purpose::Update, scratch)? == 0 {
         return Ok(Outcome::NoUpdate { counter });
     }
     lists.sdl.copy_from(draft);
@@ -105,13 +105,7 @@ fn place<M: Medium>(
     Ok(Outcome::Done)
 }
 
-/// Writes logical block `i` to its home, which the caller has looked up, and reads it back: 2 uses. Where the home is
-/// dead, one free spare after another is written and read back, 2 uses each, until one has the bytes; then the secondary
-/// list that says so is updated, 8 uses for each of its parts, and taken over. `draft` holds that list until then, and
-/// nothing of use before and after. After Done the room of `scratch` has the bytes, where cells are known. It takes no memory.
-///
-/// The lists in memory change with Done alone, once a copy of the new list can be read. (Linear replacement after
-/// ECMA-330; the order of the steps is this project's own.)
+/// Writes a logical block, as [`place_block`] does, where the power is on.
 pub fn write_home<M: Medium>(
     medium: &mut M,
     geometry: &Geometry,
@@ -122,28 +116,20 @@ pub fn write_home<M: Medium>(
     from: &[u8],
     scratch: &mut Scratch,
 ) -> Placed
-    requires size { M.block_count medium.old ≡ total geometry.now }
-    requires valid { AreValid geometry.now (lists_of lists.old) }
-    requires lawful { IsLawfulSdl (sdl_of lists.old.sdl) }
+    requires fit { IsFit geometry.now (M.block_count medium.old) lists.old draft.old }
     requires settled { AreSettled geometry.now (M.world medium.old).cells (lists_of lists.old) }
     requires inside { i < logical_count geometry.now (lists_of lists.old) }
     requires home { home ≡ home_of geometry.now (lists_of lists.old) i }
-    requires room { SDL_LIMIT ≤ lists.old.sdl.entries.room }
-    requires draft { SDL_LIMIT ≤ draft.old.entries.room }
     requires whole { length from.now ≡ BLOCK_BYTES }
     ensures rule { PlacedRule M.world M.reaches geometry.now medium.old medium.new (lists_of lists.old) i
         from.now (lists_of lists.new) result }
     ensures back { LeavesReadBack (M.world medium.old).known from.now scratch.new.room result }
-    ensures valid { AreValid geometry.now (lists_of lists.new) }
-    ensures lawful { IsLawfulSdl (sdl_of lists.new.sdl) }
-    ensures room { SDL_LIMIT ≤ lists.new.sdl.entries.room }
-    ensures draft { SDL_LIMIT ≤ draft.new.entries.room }
-    ensures as_many { M.block_count medium.new ≡ M.block_count medium.old }
+    ensures fit { IsFit geometry.now (M.block_count medium.new) lists.new draft.new }
 {
     if !medium.powered() {
         return Placed::Off;
     }
-    match place(medium, geometry, lists, draft, i, home, from, scratch) {
+    match place_block(medium, geometry, lists, draft, i, home, from, scratch) {
         Ok(Outcome::Done) => Placed::Done,
         Ok(Outcome::NoSpare) => Placed::NoSpare,
         Ok(Outcome::NoUpdate { counter }) => Placed::NoUpdate { counter },

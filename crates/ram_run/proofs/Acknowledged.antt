@@ -45,6 +45,14 @@ use Rattle.ram_run.proofs.Decoded.{HasItsData, asks_for, its_data}
 use Rattle.ram_run.proofs.Shortened.{front_sector, front_long}
 use Rattle.ram_run.proofs.WrittenDiscs.{lies, write_on, write_off}
 
+-- a press of no lawful geometry does nothing
+pub not_pressed : (s t : State) (shape : Shape) (outcome : Outcome) → PressStep s shape outcome t → ¬ IsLawful shape → t ≡ s
+not_pressed s t shape (Ok (replies.Event events.Pressed)) step unlawful = absurd (unlawful step.0)
+not_pressed s t shape (Ok (replies.Event events.NotPressed)) step unlawful = step.1
+not_pressed s t shape (Err stopped.ImageFault) step unlawful = absurd (unlawful step.0)
+not_pressed s t shape (Err stopped.NoMemory) step unlawful = absurd (unlawful step.0)
+not_pressed s t shape _ step unlawful = absurd step
+
 module _ (at : ℕ) (bytes : List ℕ) where
   -- all discs that may be found have the bytes
   abbrev pub AllKeep : Standing → Type 0
@@ -202,14 +210,6 @@ module _ (at : ℕ) (bytes : List ℕ) where
   on_disc_keeps s line payload outcome data_in (Unopened image) step leaves keeps = absurd step
   on_disc_keeps s line payload outcome data_in (Disc t) step leaves keeps =
       rule_keeps s.disc.shown t.disc.shown s.disc.standing t.disc.standing s.disc.stands keeps s.host t.host line payload outcome data_in step.rule leaves
-
-  -- a press of no lawful geometry does nothing
-  not_pressed : (s t : State) (shape : Shape) (outcome : Outcome) → PressStep s shape outcome t → ¬ IsLawful shape → t ≡ s
-  not_pressed s t shape (Ok (replies.Event events.Pressed)) step unlawful = absurd (unlawful step.0)
-  not_pressed s t shape (Ok (replies.Event events.NotPressed)) step unlawful = step.1
-  not_pressed s t shape (Err stopped.ImageFault) step unlawful = absurd (unlawful step.0)
-  not_pressed s t shape (Err stopped.NoMemory) step unlawful = absurd (unlawful step.0)
-  not_pressed s t shape _ step unlawful = absurd step
 
   -- one line
   pub step_keeps : (s t : State) (line : Line) (payload data_in : List ℕ) (outcome : Outcome) → Step s line payload outcome data_in t → LeavesSector at line payload → Acknowledged s at bytes → Acknowledged t at bytes

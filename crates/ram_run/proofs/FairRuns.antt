@@ -56,7 +56,7 @@ one_cell old new at others left block = elim (cases_eq block at) [
 ]
 
 -- by the failure of a block no cell changes but that one, which dies
-cells_die : (total : ℕ) (old new : Machine) (block : ℕ) (end : FailEnd) → FailRule total old new block end → AreSameOrDead old.world.cells new.world.cells
+pub cells_die : (total : ℕ) (old new : Machine) (block : ℕ) (end : FailEnd) → FailRule total old new block end → AreSameOrDead old.world.cells new.world.cells
 cells_die total old new block fails.Done rule =
     let is = ap (λ (m : Machine). m.world.cells) rule.1 in
     one_cell old.world.cells new.world.cells block (λ other ne. ap (λ (l : List Cell). cell_at l other) is ∙ cell_at-set_other old.world.cells block other Dead ne)
@@ -65,7 +65,7 @@ cells_die total old new block (fails.NoBlock blocks) rule = λ other. inl (ap (�
 cells_die total old new block fails.Failed rule = one_cell old.world.cells new.world.cells block rule.1.others rule.1.left
 
 -- the arming of a block changes nothing but the arms
-worn_world : (total : ℕ) (old new : Machine) (worn : WornBlock) (end : Arm) → WearRule total old new worn end → new.world ≡ old.world
+pub worn_world : (total : ℕ) (old new : Machine) (worn : WornBlock) (end : Arm) → WearRule total old new worn end → new.world ≡ old.world
 worn_world total old new worn arming.Set rule = ap (λ (m : Machine). m.world) rule.2
 worn_world total old new worn (arming.NoBlock blocks) rule = ap (λ (m : Machine). m.world) rule.2
 worn_world total old new worn arming.Full rule = ap (λ (m : Machine). m.world) rule.2

@@ -28,3 +28,4 @@ pub mod VerifiedLines
 pub mod ExpandedLines
 mod FairRuns
 mod NoSpares
+mod LastingRuns

@@ -20,3 +20,4 @@ pub mod Completes
 pub mod Statuses
 pub mod Acknowledged
 pub mod Fairness
+pub mod Survival

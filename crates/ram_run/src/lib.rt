@@ -17,5 +17,6 @@ mod state;
 pub mod status;
 mod stopped;
 mod summary;
+pub mod survival;
 mod telling;
 mod volume;

@@ -102,10 +102,12 @@ power_again old new powers.NotFormatted cause = record {
 power_again old new powers.Cut cause = record {
   any = record { only = cause.any.only; given = cause.any.given; unbuffered = cause.any.unbuffered };
   stopped = record { stops = cause.stopped.stops; no_lists = cause.stopped.no_lists; no_mark = cause.stopped.no_mark; no_buffer = cause.stopped.no_buffer };
+  left = cause.left;
 }
 power_again old new powers.Fault cause = record {
   any = record { only = cause.any.only; given = cause.any.given; unbuffered = cause.any.unbuffered };
   stopped = record { stops = cause.stopped.stops; no_lists = cause.stopped.no_lists; no_mark = cause.stopped.no_mark; no_buffer = cause.stopped.no_buffer };
+  left = cause.left;
 }
 power_again old new powers.NoMemory cause = record {
   any = record { only = cause.any.only; given = cause.any.given; unbuffered = cause.any.unbuffered };
@@ -115,6 +117,7 @@ power_again old new powers.NoMemory cause = record {
   uses = cause.uses;
   few = cause.few;
   reach = cause.reach;
+  left = cause.left;
 }
 
 pub power_cause_again : (old on off new : Shown) (out : PowerOut) → old ≡ on → off ≡ turned_off on → PowerCause off new out → PowerCause old new out

@@ -96,6 +96,7 @@ module _ {M : Type 0} (world : M → World) (reaches : M → M → ℕ → Type 
     smaller = was.size.smaller;
     room = was.room;
     given = λ known. was.given;
+    left = λ known. was.left;
     stopped = record {
       stops = machine_stops world reaches takes arms armed_cut laws old new (sdl_update_uses lists.sdl) (sdl_update_uses lists.sdl) refl stop was.stopped.stops;
       no_lists = refl;

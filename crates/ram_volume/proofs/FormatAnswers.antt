@@ -2,6 +2,7 @@
 use Rattle.std.proofs.Common.{◌≡◌, ℕ, ◌⊎◌, inl, inr, Bool, false, Option, Some, None, List, [], refl}
 use Rattle.model_geometry.specs.Geometry.{Shape}
 use Rattle.model_lists.specs.declared.dds.PdlEntry.{PdlEntry}
+use Rattle.model_lists.specs.declared.dds.PdlKind.{PdlKind}
 use Rattle.model_lists.specs.declared.dds.PdlKind.TheVariants as pdl_kinds
 use Rattle.model_medium.specs.World.{World}
 use Rattle.model_medium.specs.Machine.{Machine}
@@ -42,6 +43,14 @@ module _ {M : Type 0} (world : M → World) (reaches : M → M → ℕ → Type 
 
   abbrev off : Shown
   off = shown_without shape (machine new)
+
+  -- where a list was lost, no lists are left
+  pub lost_leaves : (kept : List PdlEntry) (kind : PdlKind) (mark counter left : ℕ)
+      → LosesFirst world reaches shape kept kind mark old new counter left ⊎ LosesSecond world reaches shape kept kind mark old new counter left ⊎ LosesThird world reaches shape kept kind mark old new counter left
+      → LeavesNoLists world reaches shape kept kind mark old new left
+  lost_leaves kept kind mark counter left (inl first) = first.leaves
+  lost_leaves kept kind mark counter left (inr (inl second)) = second.leaves
+  lost_leaves kept kind mark counter left (inr (inr third)) = third.leaves
 
   -- of a disc that is not formatted
   module _ (mark : ℕ) (kind : Kind) where
@@ -111,18 +120,11 @@ module _ {M : Type 0} (world : M → World) (reaches : M → M → ℕ → Type 
       full_many_steps found left meets = steps ready (shown_unformatted shape (machine new) left) refl (bare_right shape (machine new) left meets.leaves.gives_none meets.leaves.marked) (kinds.Full drop_sdl) (outs.TooMany found)
           (full_many found left meets)
 
-      pub lost_leaves : (counter left : ℕ)
-          → LosesFirst world reaches shape kept pdl_kinds.G1 mark old new counter left ⊎ LosesSecond world reaches shape kept pdl_kinds.G1 mark old new counter left ⊎ LosesThird world reaches shape kept pdl_kinds.G1 mark old new counter left
-          → LeavesNoLists world reaches shape kept pdl_kinds.G1 mark old new left
-      lost_leaves counter left (inl first) = first.leaves
-      lost_leaves counter left (inr (inl second)) = second.leaves
-      lost_leaves counter left (inr (inr third)) = third.leaves
-
       pub full_lost_steps : (counter left : ℕ)
           → LosesFirst world reaches shape kept pdl_kinds.G1 mark old new counter left ⊎ LosesSecond world reaches shape kept pdl_kinds.G1 mark old new counter left ⊎ LosesThird world reaches shape kept pdl_kinds.G1 mark old new counter left
           → FormatSteps ready (shown_unformatted shape (machine new) left) (kinds.Full drop_sdl) (outs.NoUpdate counter)
       full_lost_steps counter left loses =
-          let leaves = lost_leaves counter left loses in
+          let leaves = lost_leaves kept pdl_kinds.G1 mark counter left loses in
           steps ready (shown_unformatted shape (machine new) left) refl (bare_right shape (machine new) left leaves.gives_none leaves.marked) (kinds.Full drop_sdl) (outs.NoUpdate counter) (full_lost counter left loses)
 
       pub full_cut : FormatStopped world reaches shape kept pdl_kinds.G1 mark old new stops.Cut → FormatCause ready off (kinds.Full drop_sdl) outs.Cut

@@ -93,6 +93,7 @@ module _ {M : Type 0} (world : M → World) (reaches : M → M → ℕ → Type 
     entries = meets.entries;
     found_is = meets.found_is;
     certified = found None left meets.entries meets.defects;
+    formatting = λ known. meets.formatting;
   }
 
   -- a list has no copy left
@@ -101,9 +102,9 @@ module _ {M : Type 0} (world : M → World) (reaches : M → M → ℕ → Type 
       → FullCause before (shown_unformatted shape (machine new) left) drop_sdl (outs.NoUpdate counter)
   lost_cause counter left (inl first) = inr (inl (record { any = any _ _ refl None left first.goes; no_lists = refl; lost = first.lost; counter_is = first.counter_is; mark_is = first.left_is }))
   lost_cause counter left (inr (inl second)) =
-      inr (inr (inl (record { any = any _ _ three_are None left second.goes; no_lists = refl; few = few None left second.few; lost = second.lost; counter_is = second.counter_is; mark_is = second.left_is })))
+      inr (inr (inl (record { any = any _ _ three_are None left second.goes; no_lists = refl; lost = record { few = few None left second.few; formatting = λ known. second.formatting; lost = second.lost }; counter_is = second.counter_is; mark_is = second.left_is })))
   lost_cause counter left (inr (inr third)) =
-      inr (inr (inr (record { any = any _ _ all_are None left third.goes; no_lists = refl; few = few None left third.few; lost = third.lost; counter_is = third.counter_is; mark_is = third.left_is })))
+      inr (inr (inr (record { any = any _ _ all_are None left third.goes; no_lists = refl; lost = record { few = few None left third.few; lost = third.lost }; counter_is = third.counter_is; mark_is = third.left_is })))
 
   -- it was stopped
   pub stop_cause : (stop : Stop) → FormatStopped world reaches shape kept kind mark old new stop → StopsInFormat before (shown_without shape (machine new)) drop_sdl stop
@@ -120,6 +121,7 @@ module _ {M : Type 0} (world : M → World) (reaches : M → M → ℕ → Type 
       })
     ];
     covers = was.covers;
+    left = λ known. was.left;
     stopped = record {
       stops = machine_stops world reaches takes arms armed_cut laws old new _ _ all_are stop was.stops;
       no_lists = refl;

@@ -10,7 +10,8 @@ use Rattle.model_medium.specs.declared.WornBlock.{WornBlock}
 use Rattle.model_medium.specs.declared.ArmedCut.{ArmedCut}
 use Rattle.model_geometry.specs.Geometry.{dds_block}
 use Rattle.model_lists.specs.Texts.{IsDdsText}
-use Rattle.model_volume.specs.Given.{AreSeen}
+use Rattle.model_volume.specs.Given.{AreSeen, LosesListCells}
+use Rattle.model_survival.specs.Stops.{StopsMounting}
 use Rattle.model_stops.specs.Stops.{Stops}
 use Rattle.model_stops.specs.declared.Stop.{Stop}
 use Rattle.model_stops.specs.declared.Stop.TheVariants as stops
@@ -143,6 +144,7 @@ module _ {M : Type 0} (world : M → World) (reaches : M → M → ℕ → Type 
     stopped new stop was = record {
       any = any new None 0 was.keeps;
       stopped = record { stops = stops_shown new stop was.stops; no_lists = refl; no_mark = refl; no_buffer = refl };
+      left = subst (λ (w : World). w.known ≡ true → StopsMounting shape w.cells (world new).cells) powers was.left;
     }
 
     pub cut_steps : (new : M) → WasStopped world reaches shape on new stops.Cut → PowerSteps old (shown_without shape (machine new)) outs.Cut
@@ -164,11 +166,13 @@ module _ {M : Type 0} (world : M → World) (reaches : M → M → ℕ → Type 
       no_lists = refl;
       no_mark = refl;
       uses = was.uses;
-      few = (let f = was.few in omega (arith, f));
+      few = was.few;
       reach = subst (λ (m : Machine). Reach (turned_on old).medium m was.uses)
           (ap (λ (p : Bool). record (machine mid) { world = record (world mid) { power = p } }) was.continues.is_on
           ∙ sym (ap (λ (m : Machine). record m { world = record m.world { power = true } }) (laws.exactly mid new PowerOff turns_off)))
           (reached mid was.uses was.continues.reach);
+      left = λ known. subst (λ (w : World). LosesListCells shape w.cells (world new).cells) powers
+          (subst (λ (w : World). LosesListCells shape (world on).cells w.cells) (sym power) was.loses);
     }
 
     pub memory_steps : (mid new : M) → WasOutOfMemory world reaches shape on mid → takes mid new PowerOff → world new ≡ record (world mid) { power = false }

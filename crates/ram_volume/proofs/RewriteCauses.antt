@@ -12,7 +12,7 @@ use Rattle.model_stops.specs.declared.Stop.{Stop}
 use Rattle.model_places.specs.Places.{Lists}
 use Rattle.model_drive.specs.declared.FormatOut.TheVariants as outs
 use Rattle.model_drive.specs.Shown.{Shown}
-use Rattle.model_drive.specs.Repairs.{RepairsList, RepairsSdl, repair_uses, sdl_repair_uses}
+use Rattle.model_drive.specs.Repairs.{RepairsList, RepairsSdl, most_rewrite_uses}
 use Rattle.model_drive.specs.Rewriting.{RepairsBoth, StopsInRewrite, RewriteCause}
 use Rattle.ram_medium.specs.Laws.{ControlLaws, machine_shown}
 use Rattle.ram_lists.specs.Mounts.{RepairsCopies, RepairsParts}
@@ -73,8 +73,9 @@ module _ {M : Type 0} (world : M → World) (reaches : M → M → ℕ → Type 
     was_on = was.was_on;
     only = was.only;
     given = λ known. was.given;
+    left = λ known. was.left;
     stopped = record {
-      stops = machine_stops world reaches takes arms armed_cut laws old new (repair_uses 4 + sdl_repair_uses lists.sdl 8) (repair_uses 4 + sdl_repair_uses lists.sdl 8) refl stop was.stops;
+      stops = machine_stops world reaches takes arms armed_cut laws old new (most_rewrite_uses lists.sdl) (most_rewrite_uses lists.sdl) refl stop was.stops;
       no_lists = refl;
       no_mark = refl;
       no_buffer = refl;

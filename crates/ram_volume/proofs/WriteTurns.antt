@@ -345,6 +345,7 @@ module _ {M : Type 0} (world : M → World) (block_count : M → ℕ) (reaches :
           shown = record {
             stops = machine_stops world reaches takes arms armed_cut laws at new (most_placing_uses shape reached i) (most_placing_uses shape reached i) refl stop halted.stops;
             given = halted.given;
+            left = halted.left;
             as_known = halted.as_known;
             only = halted.only;
             covers = halted.covers;

@@ -6,7 +6,8 @@ use Rattle.std.specs.List.{Contains}
 use Rattle.model_geometry.specs.Geometry.{Shape, data_blocks, lead_out, total}
 use Rattle.model_geometry.proofs.DataBlocks.{data_blocks_bounds}
 use Rattle.std.proofs.lemmas.List.{length-take}
-use Rattle.ram_certify.specs.Blocks.{IsNextKept, HasCertifiedUpTo}
+use Rattle.ram_certify.specs.Certifying.{HasCertified}
+use Rattle.ram_certify.specs.Blocks.{IsNextKept}
 use Rattle.ram_certify.proofs.Going.{kept_is_passed, block_kept, block_found, certifying_stops, certified_all}
 use Rattle.ram_certify.proofs.blocks.certify_blocks.Goals as goal
 use Rattle.ram_certify.proofs.blocks.certify_blocks.Goals.{then-is_next_kept, else-is_next_kept+in_ok-put_block+then-not-branch, else-is_next_kept+in_ok-put_block+else-not-branch}
@@ -33,7 +34,7 @@ returns-in_err-put_block-clause-rule g c =
     (certifying_stops g.M.Medium.world g.M.Medium.block_count g.M.Medium.reaches g.met.M.Medium.laws c.args.geometry.now c.args.kept.now c.requires.kept c.args.medium.now c.capacity-most.result c.loop-n.medium c.put_block.new.medium c.loop-n.n c.loop-n.passed c.loop-n.count c.loop-n.found.items
     c.loop-n.invariant.so_far (omega (arith, c.loop-n-test.true, c.loop-n.auto.n-end, c.data_blocks-n-end.ensures.count))
     (not_next c.is_next_kept.result (IsNextKept c.args.kept.now c.loop-n.passed (slice_index (data_blocks c.args.geometry.now) c.loop-n.n)) c.if-is_next_kept.false (rw c.data_block-block.ensures at c.is_next_kept.ensures.1))
-    _ (rw (c.data_block-block.ensures, c.bytes.ensures.same ∙ c.requires.zero) at c.in_err-put_block.ensures.rule))
+    _ c.requires.on (rw (c.data_block-block.ensures, c.bytes.ensures.same ∙ c.requires.zero) at c.in_err-put_block.ensures.rule))
 
 pub overflow_add-count : goal.overflow_add-count
 overflow_add-count g c = (let h = c.loop-n.invariant.so_far.few in omega (arith, h, c.loop-n-test.true, c.loop-n.auto.n-end, c.data_blocks-n-end.ensures.most))
@@ -72,6 +73,6 @@ loop-n-preserved g c =
 pub returns-clause-rule : goal.returns-clause-rule
 returns-clause-rule g c =
     let n_is : c.loop-n.n ≡ length (data_blocks c.args.geometry.now) = omega (arith, c.loop-n-test.false, c.loop-n.auto.n-end, c.data_blocks-n-end.ensures.count) in
-    subst (λ (most : ℕ). HasCertifiedUpTo g.M.Medium.world g.M.Medium.reaches c.args.geometry.now c.args.kept.now c.args.medium.now c.loop-n.medium most (length (data_blocks c.args.geometry.now)) (length c.args.kept.now) c.loop-n.found.items c.loop-n.count) c.capacity-most.ensures
-    (certified_all g.M.Medium.world g.M.Medium.block_count g.M.Medium.reaches g.met.M.Medium.laws c.args.geometry.now c.args.kept.now c.requires.kept c.args.medium.now c.capacity-most.result c.loop-n.medium c.loop-n.passed c.loop-n.count c.loop-n.found.items
+    subst (λ (most : ℕ). HasCertified g.M.Medium.world g.M.Medium.reaches c.args.geometry.now c.args.kept.now c.args.medium.now c.loop-n.medium most c.loop-n.found.items c.loop-n.count) c.capacity-most.ensures
+    (certified_all g.M.Medium.world g.M.Medium.block_count g.M.Medium.reaches g.met.M.Medium.laws c.args.geometry.now c.args.kept.now c.requires.kept c.args.medium.now c.capacity-most.result c.loop-n.medium c.loop-n.passed c.loop-n.count c.loop-n.found.items c.requires.on
     (rw n_is at c.loop-n.invariant.so_far))

@@ -13,7 +13,7 @@ pub overflow_add-all : goal.overflow_add-all
 overflow_add-all g c =
     let k = kept_few c.args.geometry.now c.args.kept.now c.requires.kept in
     let d = data_few c.args.geometry.now c.psa-psa.ensures.lawful in
-    let n = count_few g.M.Medium.world g.M.Medium.reaches c.args.geometry.now c.args.kept.now c.requires.kept c.args.kind c.args.medium.now c.certify.new.medium _ c.in-Done.count _ c.in-Done.ensures.rule in
+    let n = count_few g.M.Medium.world g.M.Medium.reaches c.args.geometry.now c.args.kept.now c.requires.kept c.args.kind c.args.medium.now c.certify_blocks.new.medium _ c.in_ok-count.count _ c.in_ok-count.ensures.rule in
     omega (arith, k, d, n)
 
 room_for_all : (psa kept count most : ℕ) → psa - kept ≤ most → kept + count ≤ psa → count ≤ most
@@ -21,21 +21,21 @@ room_for_all psa kept count most room few = omega (arith, room, few)
 
 pub returns-then-psa-all-clause-rule : goal.returns-then-psa-all-clause-rule
 returns-then-psa-all-clause-rule g c = (
-  finds_many g.M.Medium.world g.M.Medium.reaches c.args.geometry.now c.args.kept.now c.requires.kept c.args.kind c.args.medium.now c.certify.new.medium _ c.in-Done.count _ c.in-Done.ensures.rule
-      (length c.args.kept.now + c.in-Done.count) refl (rw c.psa-psa.ensures.spares at c.if-psa-all.true),
+  finds_many g.M.Medium.world g.M.Medium.reaches c.args.geometry.now c.args.kept.now c.requires.kept c.args.kind c.args.medium.now c.certify_blocks.new.medium _ c.in_ok-count.count _ c.in_ok-count.ensures.rule
+      (length c.args.kept.now + c.in_ok-count.count) refl (rw c.psa-psa.ensures.spares at c.if-psa-all.true),
   refl,
 )
 
 pub merge-requires-clause-can : goal.merge-requires-clause-can
 merge-requires-clause-can g c =
-    let few = room_for_all c.args.geometry.now.psa (length c.args.kept.now) c.in-Done.count _ c.requires.found_room (rw c.psa-psa.ensures.spares at c.if-psa-all.false) in
-    let all = found_all g.M.Medium.world g.M.Medium.reaches c.args.geometry.now c.args.kept.now c.requires.kept c.args.kind c.args.medium.now c.certify.new.medium _ c.in-Done.count _ c.in-Done.ensures.rule few in
+    let few = room_for_all c.args.geometry.now.psa (length c.args.kept.now) c.in_ok-count.count _ c.requires.found_room (rw c.psa-psa.ensures.spares at c.if-psa-all.false) in
+    let all = found_all g.M.Medium.world g.M.Medium.reaches c.args.geometry.now c.args.kept.now c.requires.kept c.args.kind c.args.medium.now c.certify_blocks.new.medium _ c.in_ok-count.count _ c.in_ok-count.ensures.rule few in
     subst (CanMerge c.args.kept.now) (sym (c.deref.ensures.value ∙ all))
-    (can_merge g.M.Medium.world g.M.Medium.reaches c.args.geometry.now c.args.kept.now c.requires.kept c.args.kind c.args.medium.now c.certify.new.medium _ c.in-Done.count _ c.in-Done.ensures.rule)
+    (can_merge g.M.Medium.world g.M.Medium.reaches c.args.geometry.now c.args.kept.now c.requires.kept c.args.kind c.args.medium.now c.certify_blocks.new.medium _ c.in_ok-count.count _ c.in_ok-count.ensures.rule)
 
-pub returns-in-Done-clause-rule : goal.returns-in-Done-clause-rule
-returns-in-Done-clause-rule g c =
+pub returns-clause-rule : goal.returns-clause-rule
+returns-clause-rule g c =
     let few = rw c.psa-psa.ensures.spares at c.if-psa-all.false in
-    let room = room_for_all c.args.geometry.now.psa (length c.args.kept.now) c.in-Done.count _ c.requires.found_room few in
-    finds_few g.M.Medium.world g.M.Medium.reaches c.args.geometry.now c.args.kept.now c.requires.kept c.args.kind c.args.medium.now c.certify.new.medium _ c.in-Done.count _ c.in-Done.ensures.rule
+    let room = room_for_all c.args.geometry.now.psa (length c.args.kept.now) c.in_ok-count.count _ c.requires.found_room few in
+    finds_few g.M.Medium.world g.M.Medium.reaches c.args.geometry.now c.args.kept.now c.requires.kept c.args.kind c.args.medium.now c.certify_blocks.new.medium _ c.in_ok-count.count _ c.in_ok-count.ensures.rule
     c.from_vec.result (rw (sym c.from_vec.ensures, c.deref.ensures.value) at c.merge.ensures) room few

@@ -1,4 +1,5 @@
-use Rattle.std.proofs.Common.{sym, subst}
+use Rattle.std.proofs.Common.{[], sym, subst}
+use Rattle.model_lists.specs.declared.dds.PdlKind.TheVariants as pdl_kinds
 use Rattle.model_drive.specs.declared.FormatOut.TheVariants as outs
 use Rattle.model_drive.specs.Shown.{Shown}
 use Rattle.model_drive.specs.Formats.{FormatCause}
@@ -6,7 +7,7 @@ use Rattle.model_volume.specs.Given.{GivesNone}
 use Rattle.ram_lists.specs.Lists.{lists_of}
 use Rattle.ram_volume.specs.Shown.{shown_bare}
 use Rattle.ram_volume.specs.Formats.{FormatSteps}
-use Rattle.ram_volume.proofs.FormatAnswers.{bare_good, bare_good_steps, bare_many, bare_lost, bare_cut, bare_fault, bare_cut_steps, bare_fault_steps}
+use Rattle.ram_volume.proofs.FormatAnswers.{bare_good, bare_good_steps, bare_many, bare_lost, lost_leaves, bare_cut, bare_fault, bare_cut_steps, bare_fault_steps}
 use Rattle.ram_volume.proofs.states.NotFormatted.format_anew.Goals as goal
 
 pub over-bare-requires-in-NoRoom-clause-bare : goal.over-bare-requires-in-NoRoom-clause-bare
@@ -16,6 +17,10 @@ over-bare-requires-in-NoRoom-clause-bare g c =
 pub over-bare-requires-in-NoMemory-clause-bare : goal.over-bare-requires-in-NoMemory-clause-bare
 over-bare-requires-in-NoMemory-clause-bare g c =
     subst (λ m. GivesNone c.args.self.geometry (g.M.Medium.world m).cells) (sym c.in-NoMemory.ensures.rule.nothing) c.args.self.bare
+
+pub over-bare-requires-in-NoCopy-clause-bare : goal.over-bare-requires-in-NoCopy-clause-bare
+over-bare-requires-in-NoCopy-clause-bare g c =
+    (lost_leaves g.M.Medium.world g.M.Medium.reaches g.M.Medium.takes g.M.MediumControl.arms g.M.MediumControl.armed_cut g.met.M.MediumControl.control_laws c.args.self.geometry c.args.self.medium c.full_format.new.medium [] pdl_kinds.P c.args.self.mark c.in-NoCopy.counter c.in-NoCopy.mark c.in-NoCopy.ensures.rule).gives_none
 
 pub returns-in-Good-clause-cause : goal.returns-in-Good-clause-cause
 returns-in-Good-clause-cause g c =

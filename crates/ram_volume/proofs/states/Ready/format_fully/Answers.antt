@@ -1,4 +1,5 @@
 use Rattle.std.proofs.Common.{sym, subst}
+use Rattle.model_lists.specs.declared.dds.PdlKind.TheVariants as pdl_kinds
 use Rattle.model_drive.specs.declared.FormatOut.TheVariants as outs
 use Rattle.model_drive.specs.Shown.{Shown}
 use Rattle.model_drive.specs.declared.Kind.TheVariants as kinds
@@ -66,7 +67,7 @@ returns-in-TooMany-clause-step g c =
 
 pub over-bare-requires-in-NoCopy-clause-bare : goal.over-bare-requires-in-NoCopy-clause-bare
 over-bare-requires-in-NoCopy-clause-bare g c =
-    (lost_leaves g.M.Medium.world g.M.Medium.reaches g.M.Medium.takes g.M.MediumControl.arms g.M.MediumControl.armed_cut g.met.M.MediumControl.control_laws c.args.self.geometry c.args.self.medium c.full_format.new.medium (lists_of c.args.self.lists) c.args.self.workspace.buffer c.args.drop_sdl c.deref.result.now (rw c.deref.ensures.value c.in-Ok.ensures) c.in-NoCopy.counter c.in-NoCopy.mark c.in-NoCopy.ensures.rule).gives_none
+    (lost_leaves g.M.Medium.world g.M.Medium.reaches g.M.Medium.takes g.M.MediumControl.arms g.M.MediumControl.armed_cut g.met.M.MediumControl.control_laws c.args.self.geometry c.args.self.medium c.full_format.new.medium c.deref.result.now pdl_kinds.G1 (lists_of c.args.self.lists).dds.counter c.in-NoCopy.counter c.in-NoCopy.mark c.in-NoCopy.ensures.rule).gives_none
 
 pub returns-in-NoCopy-clause-step : goal.returns-in-NoCopy-clause-step
 returns-in-NoCopy-clause-step g c =
