@@ -1,6 +1,6 @@
 //! A small disc in memory, with the memory that calls on its lists need.
 
-use ram_by_hand::{List, Structure, Taken};
+use ram_by_hand::{List, Structure, Taken, Version};
 use ram_bytes::Block;
 use ram_copies::Scratch;
 use ram_medium::{MediumControl, MemMedium, ReadEnd};
@@ -58,9 +58,10 @@ pub fn text_of(
     mark: u32,
 ) -> Result<Block, AllocError> {
     match list {
-        ListKind::Dds => Structure::formatted(counter, SPARES).text(alloc, &[]),
+        ListKind::Dds => Structure::formatted(Version::One, counter, SPARES).text(alloc, &[]),
         ListKind::Sdl | ListKind::SdlTwo => {
             let list = List {
+                version: Version::One,
                 counter,
                 under: mark,
                 ssa: 0,
