@@ -353,6 +353,7 @@ pub fn answer_work<M: Medium>(
             counter,
             under,
             version,
+            ssa,
             entries,
         } => {
             let entries = entries_of(alloc, entries)?;
@@ -360,7 +361,7 @@ pub fn answer_work<M: Medium>(
                 version,
                 counter,
                 under,
-                ssa: 0,
+                ssa: (ssa & 0xffff) as u16,
                 entries,
             };
             write_list(alloc, taken, areas, &list, answer)

@@ -39,6 +39,7 @@ pub enum Work<'a> {
         counter: u32,
         under: u32,
         version: Version,
+        ssa: u32,
         entries: &'a [&'a str],
     },
     /// It is told what the copies of the structure say.
@@ -62,6 +63,14 @@ fn version_of<'a>(words: &'a [&'a str]) -> Option<(Version, &'a [&'a str])> {
     }
 }
 
+/// How many supplementary spares there are, as words begin to tell, and the words behind it. There are none unless they do.
+fn ssa_of<'a>(words: &'a [&'a str]) -> Option<(u32, &'a [&'a str])> {
+    match words {
+        ["with", ssa, behind @ ..] => Some((number_of(ssa)?, behind)),
+        _ => Some((0, words)),
+    }
+}
+
 /// The copies of a list that these words say are written by hand.
 fn copying_of<'a>(words: &'a [&'a str]) -> Option<Work<'a>> {
     match words {
@@ -71,12 +80,14 @@ fn copying_of<'a>(words: &'a [&'a str]) -> Option<Work<'a>> {
             version: version_of(behind)?.0,
         }),
         ["list", areas, counter, "under", under, behind @ ..] => {
-            let (version, entries) = version_of(behind)?;
+            let (version, behind) = version_of(behind)?;
+            let (ssa, entries) = ssa_of(behind)?;
             Some(Work::List {
                 areas,
                 counter: number_of(counter)?,
                 under: number_of(under)?,
                 version,
+                ssa,
                 entries,
             })
         }
