@@ -320,11 +320,16 @@ impl Reference {
         }
     }
 
-    /// What a call answers: it goes from area to area, and in each from the first block to the second.
+    /// What a call answers.
     pub fn answer(&mut self, call: Call) -> Answer {
-        if let Call::Mount = call {
-            return self.mount();
+        match call {
+            Call::Mount => self.mount(),
+            Call::Choose { .. } | Call::Update { .. } | Call::Repair { .. } => self.over_areas(call),
         }
+    }
+
+    /// What a choice, an update or a repair answers: it goes from area to area, and in each from the first block to the second.
+    fn over_areas(&mut self, call: Call) -> Answer {
         let power = &mut self.power;
         for area in self.copies.iter_mut() {
             let goes_on = match call {
@@ -347,7 +352,7 @@ impl Reference {
         if !self.power.pass(4) {
             return self.power.stopped();
         }
-        let chosen = self.answer(Call::Choose { most: u32::MAX });
+        let chosen = self.over_areas(Call::Choose { most: u32::MAX });
         if !self.power.pass(4) {
             return self.power.stopped();
         }
@@ -357,7 +362,7 @@ impl Reference {
                 stopped => stopped,
             };
         };
-        match self.answer(Call::Repair { counter }) {
+        match self.over_areas(Call::Repair { counter }) {
             Answer::Kept { .. } | Answer::NoCopy => Answer::Mounted { counter },
             stopped => stopped,
         }
