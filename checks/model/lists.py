@@ -12,7 +12,7 @@ SECTORS_IN_BLOCK = BLOCK // SECTOR
 LAST_COUNTER = 2 ** 32 - 1
 VERSIONS = (1, 2)
 """The versions of the lists. That of the secondary list is the number of its parts, too."""
-MADE = 1
+MADE = 2
 """The version that a full format makes."""
 MOST_IN_PART = 4_092
 """How many entries a part of the secondary list has at most, and how many supplementary spares there are for each part."""

@@ -1,8 +1,9 @@
 //! What is done to a medium by hand, with the power on just for that.
 
-use crate::lists::{List, add_list, entries_of};
+use crate::lists::{List, add_list, entries_of, is_first_part};
 use crate::numbers::{byte_all_over, byte_of, put};
 use crate::structures::{Structure, add_structure};
+use crate::version::Version;
 use crate::work::Work;
 use ram_bytes::{Block, SECTOR_BYTES};
 use ram_medium::{Medium, ReadEnd, WriteEnd};
@@ -104,21 +105,22 @@ fn add_putting<M: Medium>(
     add_writing(medium, block, &text, answer)
 }
 
-/// Writes a text into areas, and adds how each write ended.
+/// Writes the blocks of a text into areas, and adds how each write ended.
 fn add_copying<M: Medium>(
     taken: &mut Taken<M>,
     areas: &str,
-    list: ListKind,
-    text: &Block,
+    texts: &[(ListKind, Block)],
     answer: &mut String,
 ) -> Result<(), AllocError> {
-    for (k, digit) in areas.chars().enumerate() {
-        if k > 0 {
-            answer.push_str(", ")?;
-        }
+    for digit in areas.chars() {
         let area = digit.to_digit(10).unwrap_or(0);
-        let block = list_block(&taken.geometry, area, list);
-        add_writing(&mut taken.medium, block, text, answer)?;
+        for (list, text) in texts.iter() {
+            if !answer.is_empty() {
+                answer.push_str(", ")?;
+            }
+            let block = list_block(&taken.geometry, area, *list);
+            add_writing(&mut taken.medium, block, text, answer)?;
+        }
     }
     Ok(())
 }
@@ -128,12 +130,11 @@ fn write_structure<M: Medium>(
     alloc: Global,
     taken: &mut Taken<M>,
     areas: &str,
-    counter: u32,
+    structure: Structure,
     answer: &mut String,
 ) -> Result<(), AllocError> {
-    let structure = Structure::formatted(counter, taken.geometry.psa());
     let text = structure.text(alloc, &[])?;
-    add_copying(taken, areas, ListKind::Dds, &text, answer)
+    add_copying(taken, areas, &[(ListKind::Dds, text)], answer)
 }
 
 /// Writes a secondary list into areas, and adds how each write ended.
@@ -144,8 +145,70 @@ fn write_list<M: Medium>(
     list: &List,
     answer: &mut String,
 ) -> Result<(), AllocError> {
-    let text = list.text(alloc)?;
-    add_copying(taken, areas, ListKind::Sdl, &text, answer)
+    let first = (ListKind::Sdl, list.text(alloc)?);
+    match list.version {
+        Version::One => add_copying(taken, areas, &[first], answer),
+        Version::Two => {
+            let second = (ListKind::SdlTwo, list.second(alloc)?);
+            add_copying(taken, areas, &[first, second], answer)
+        }
+    }
+}
+
+/// Reads a block of a list in an area.
+fn read_list_block<M: Medium>(
+    taken: &mut Taken<M>,
+    area: u32,
+    list: ListKind,
+    into: &mut Block,
+) -> ReadEnd {
+    let place = list_block(&taken.geometry, area, list);
+    read_block(&mut taken.medium, place, into)
+}
+
+/// Adds how the read of a block of a list ended, which cannot be read.
+fn add_end(end: ReadEnd, answer: &mut String) -> Result<(), AllocError> {
+    match end {
+        ReadEnd::Unreadable => answer.push_str("unreadable"),
+        end => write!(answer, "{end:?}"),
+    }
+}
+
+/// Adds what the copy of the structure in an area says.
+fn add_structure_in<M: Medium>(
+    alloc: Global,
+    taken: &mut Taken<M>,
+    area: u32,
+    answer: &mut String,
+) -> Result<(), AllocError> {
+    let mut block = Block::zeros(alloc)?;
+    match read_list_block(taken, area, ListKind::Dds, &mut block) {
+        ReadEnd::Done => add_structure(alloc, &block, answer),
+        end => add_end(end, answer),
+    }
+}
+
+/// Adds what the copy of the secondary list in an area says. The second block is read where the first says that it is the
+/// first of two parts.
+fn add_list_in<M: Medium>(
+    alloc: Global,
+    taken: &mut Taken<M>,
+    area: u32,
+    answer: &mut String,
+) -> Result<(), AllocError> {
+    let mut first = Block::zeros(alloc)?;
+    let end = read_list_block(taken, area, ListKind::Sdl, &mut first);
+    if end != ReadEnd::Done {
+        return add_end(end, answer);
+    }
+    if !is_first_part(&first) {
+        return add_list(alloc, &first, None, answer);
+    }
+    let mut second = Block::zeros(alloc)?;
+    match read_list_block(taken, area, ListKind::SdlTwo, &mut second) {
+        ReadEnd::Done => add_list(alloc, &first, Some(&second), answer),
+        end => add_end(end, answer),
+    }
 }
 
 /// What the copy of a list in an area says.
@@ -156,13 +219,9 @@ fn copy_in<M: Medium>(
     list: ListKind,
 ) -> Result<String, AllocError> {
     let mut text = String::new(alloc);
-    let mut block = Block::zeros(alloc)?;
-    let place = list_block(&taken.geometry, area, list);
-    match (read_block(&mut taken.medium, place, &mut block), list) {
-        (ReadEnd::Done, ListKind::Dds) => add_structure(alloc, &block, &mut text)?,
-        (ReadEnd::Done, ListKind::Sdl) => add_list(alloc, &block, &mut text)?,
-        (ReadEnd::Unreadable, _) => text.push_str("unreadable")?,
-        (end, _) => write!(text, "{end:?}")?,
+    match list {
+        ListKind::Dds => add_structure_in(alloc, taken, area, &mut text)?,
+        ListKind::Sdl | ListKind::SdlTwo => add_list_in(alloc, taken, area, &mut text)?,
     }
     Ok(text)
 }
@@ -281,20 +340,28 @@ pub fn answer_work<M: Medium>(
             let bytes = bytes_of(alloc, bytes)?;
             add_putting(alloc, &mut taken.medium, block, at, &bytes, answer)
         }
-        Work::Structure { areas, counter } => {
-            write_structure(alloc, taken, areas, counter, answer)
+        Work::Structure {
+            areas,
+            counter,
+            version,
+        } => {
+            let structure = Structure::formatted(version, counter, taken.geometry.psa());
+            write_structure(alloc, taken, areas, structure, answer)
         }
         Work::List {
             areas,
             counter,
             under,
+            version,
+            ssa,
             entries,
         } => {
             let entries = entries_of(alloc, entries)?;
             let list = List {
+                version,
                 counter,
                 under,
-                ssa: 0,
+                ssa: (ssa & 0xffff) as u16,
                 entries,
             };
             write_list(alloc, taken, areas, &list, answer)

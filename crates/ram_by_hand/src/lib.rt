@@ -9,6 +9,7 @@ mod lists;
 mod numbers;
 mod rows;
 mod structures;
+mod version;
 mod work;
 
 pub use doing::{Taken, add_area, answer_work};
@@ -17,4 +18,5 @@ pub use lists::{Entry, List, entries_of};
 pub use numbers::{byte_all_over, byte_of, number_of, put};
 pub use rows::{Rows, answer_rows};
 pub use structures::{Structure, add_structure};
+pub use version::Version;
 pub use work::{Work, work_of};

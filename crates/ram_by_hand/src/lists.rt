@@ -1,21 +1,29 @@
 //! Secondary lists: the text of one by its bytes, and what a block says as one.
 
 use crate::numbers::{number_at, number_of, put};
+use crate::version::Version;
 use ram_bytes::Block;
 use std::alloc::{AllocError, Global};
 use std::fmt::Write;
 
-/// The bytes that a secondary list begins with.
-const BEGIN: [u8; 4] = [0, 2, 1, 0];
+/// The bytes that a secondary list begins with, before its version.
+const BEGIN: [u8; 2] = [0, 2];
+
+/// What the first of two parts begins with.
+const FIRST_PART: [u8; 4] = [0, 2, 2, 1];
 
 /// Where the entries begin, and how many bytes each has.
 const ENTRIES_AT: usize = 32;
 
 const ENTRY_BYTES: usize = 8;
 
+/// How many entries a block has room for.
+const BLOCK_ENTRIES: usize = 4_092;
+
 /// A secondary list.
 #[derive(Drop)]
 pub struct List {
+    pub version: Version,
     pub counter: u32,
     /// The counter of the structure that it belongs to.
     pub under: u32,
@@ -153,41 +161,78 @@ fn entry_bytes(alloc: Global, entries: &[Entry]) -> Result<Vec<u8>, AllocError> 
     Ok(bytes)
 }
 
-/// The entries of which the first so many bytes of a block are.
+/// The first entries in a block, at most so many.
 fn entries_in(alloc: Global, bytes: &[u8], count: usize) -> Result<Vec<Entry>, AllocError> {
     let mut entries = Vec::new(alloc);
-    for entry in bytes.chunks_exact(ENTRY_BYTES).take(count) {
+    let behind = bytes.get(ENTRIES_AT..).unwrap_or(&[]);
+    for entry in behind.chunks_exact(ENTRY_BYTES).take(count) {
         entries.push(Entry::of(entry))?;
     }
     Ok(entries)
 }
 
+/// The list that blocks have, if they are its text.
+fn list_of(alloc: Global, first: &Block, second: Option<&Block>) -> Result<List, AllocError> {
+    let bytes = first.bytes();
+    let count = number_at(bytes, 14, 2) as usize;
+    let mut entries = entries_in(alloc, bytes, count)?;
+    let left = count.saturating_sub(entries.len());
+    if let Some(second) = second {
+        entries.extend_from_slice(&entries_in(alloc, second.bytes(), left)?)?;
+    }
+    Ok(List {
+        version: if second.is_some() { Version::Two } else { Version::One },
+        counter: number_at(bytes, 4, 4),
+        under: number_at(bytes, 8, 4),
+        ssa: (number_at(bytes, 12, 2) & 0xffff) as u16,
+        entries,
+    })
+}
+
+/// Whether a block says that it is the first of two parts.
+pub fn is_first_part(block: &Block) -> bool {
+    block.bytes().starts_with(&FIRST_PART)
+}
+
 impl List {
-    /// The text of the list.
-    pub fn text(&self, alloc: Global) -> Result<Block, AllocError> {
+    /// The text of one part, with those of the entries that lie in it. A list of one block has part 0.
+    fn part(&self, alloc: Global, part: u8, entries: &[Entry]) -> Result<Block, AllocError> {
         let mut text = Block::zeros(alloc)?;
         let count = (self.entries.len() & 0xffff) as u16;
         put(&mut text, 0, &BEGIN);
+        put(&mut text, 2, &[self.version.byte(), part]);
         put(&mut text, 4, &self.counter.to_be_bytes());
         put(&mut text, 8, &self.under.to_be_bytes());
         put(&mut text, 12, &self.ssa.to_be_bytes());
         put(&mut text, 14, &count.to_be_bytes());
-        put(&mut text, ENTRIES_AT, &entry_bytes(alloc, &self.entries)?);
+        put(&mut text, ENTRIES_AT, &entry_bytes(alloc, entries)?);
         Ok(text)
     }
 
-    /// The list whose text this is, if there is one.
-    fn of(alloc: Global, block: &Block) -> Result<Option<List>, AllocError> {
-        let bytes = block.bytes();
-        let count = number_at(bytes, 14, 2) as usize;
-        let list = List {
-            counter: number_at(bytes, 4, 4),
-            under: number_at(bytes, 8, 4),
-            ssa: (number_at(bytes, 12, 2) & 0xffff) as u16,
-            entries: entries_in(alloc, bytes.get(ENTRIES_AT..).unwrap_or(&[]), count)?,
+    /// The text of the list, or of its first part where it has two.
+    pub fn text(&self, alloc: Global) -> Result<Block, AllocError> {
+        let (front, _) = self.entries.split_at(self.entries.len().min(BLOCK_ENTRIES));
+        self.part(alloc, u8::from(self.version == Version::Two), front)
+    }
+
+    /// The text of the second part.
+    pub fn second(&self, alloc: Global) -> Result<Block, AllocError> {
+        let (_, behind) = self.entries.split_at(self.entries.len().min(BLOCK_ENTRIES));
+        self.part(alloc, 2, behind)
+    }
+
+    /// Whether these blocks are the text of the list.
+    fn has_text(
+        &self,
+        alloc: Global,
+        first: &Block,
+        second: Option<&Block>,
+    ) -> Result<bool, AllocError> {
+        let ends = match second {
+            None => true,
+            Some(second) => self.second(alloc)?.same(second),
         };
-        let is_text = list.text(alloc)?.same(block);
-        Ok(if is_text { Some(list) } else { None })
+        Ok(ends && self.text(alloc)?.same(first))
     }
 
     /// Adds the entries, as runs.
@@ -221,13 +266,22 @@ fn end_run(run: Option<Run>, text: &mut String) -> Result<(), AllocError> {
     run.add_to(text)
 }
 
-/// Adds what a block says as a secondary list: its counter, that of its structure, how many supplementary spares there are, if
-/// any, and its entries.
-pub fn add_list(alloc: Global, block: &Block, text: &mut String) -> Result<(), AllocError> {
-    let Some(list) = List::of(alloc, block)? else {
+/// Adds what blocks say as a secondary list: its counter, that of its structure, its version if that is 2, how many
+/// supplementary spares there are, if any, and its entries.
+pub fn add_list(
+    alloc: Global,
+    first: &Block,
+    second: Option<&Block>,
+    text: &mut String,
+) -> Result<(), AllocError> {
+    let list = list_of(alloc, first, second)?;
+    if !list.has_text(alloc, first, second)? {
         return text.push_str("no list");
-    };
+    }
     write!(text, "{} under {}", list.counter, list.under)?;
+    if list.version == Version::Two {
+        text.push_str(" version 2")?;
+    }
     if list.ssa > 0 {
         write!(text, " with {}", list.ssa)?;
     }

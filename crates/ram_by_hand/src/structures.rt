@@ -1,12 +1,13 @@
 //! Structures: the text of one by its bytes, and what a block says as one.
 
 use crate::numbers::{number_at, put};
+use crate::version::Version;
 use ram_bytes::Block;
 use std::alloc::{AllocError, Global};
 use std::fmt::Write;
 
-/// The bytes that a structure begins with, before that of its state.
-const BEGIN: [u8; 3] = [10, 10, 1];
+/// The bytes that a structure begins with, before those of its version and state.
+const BEGIN: [u8; 2] = [10, 10];
 
 /// The state of a formatted disc.
 const FORMATTED: u8 = 0x80;
@@ -21,6 +22,7 @@ const ENTRY_BYTES: usize = 4;
 /// What a structure says, but for its slipped blocks.
 #[derive(Clone, Copy)]
 pub struct Structure {
+    pub version: Version,
     pub counter: u32,
     pub state: u8,
     pub spares: u32,
@@ -28,8 +30,9 @@ pub struct Structure {
 
 impl Structure {
     /// The structure of a formatted disc.
-    pub fn formatted(counter: u32, spares: u32) -> Structure {
+    pub fn formatted(version: Version, counter: u32, spares: u32) -> Structure {
         Structure {
+            version,
             counter,
             state: FORMATTED,
             spares,
@@ -42,7 +45,7 @@ impl Structure {
         let [_, _, a, b] = self.spares.to_be_bytes();
         let count = ((slipped.len() / ENTRY_BYTES) & 0xffff) as u16;
         put(&mut text, 0, &BEGIN);
-        put(&mut text, 3, &[self.state]);
+        put(&mut text, 2, &[self.version.byte(), self.state]);
         put(&mut text, 4, &self.counter.to_be_bytes());
         put(&mut text, 8, &[a, b]);
         put(&mut text, LIST_AT, &[0, 1]);
@@ -53,7 +56,9 @@ impl Structure {
 
     /// The structure of which these are the first bytes, if it were one.
     fn of(bytes: &[u8]) -> Structure {
+        let is_two = bytes.get(2).copied() == Some(Version::Two.byte());
         Structure {
+            version: if is_two { Version::Two } else { Version::One },
             counter: number_at(bytes, 4, 4),
             state: bytes.get(3).copied().unwrap_or(0),
             spares: number_at(bytes, 8, 2),
@@ -67,7 +72,11 @@ impl Structure {
         } else {
             "formatting"
         };
-        write!(text, "{} {state}, {} spares", self.counter, self.spares)
+        let version = match self.version {
+            Version::One => "",
+            Version::Two => ", version 2",
+        };
+        write!(text, "{} {state}{version}, {} spares", self.counter, self.spares)
     }
 }
 
@@ -93,7 +102,8 @@ fn add_slipped(slipped: &[u8], text: &mut String) -> Result<(), AllocError> {
     Ok(())
 }
 
-/// Adds what a block says as a structure: its counter and state, how many primary spares there are, and the slipped blocks.
+/// Adds what a block says as a structure: its counter and state, its version if that is 2, how many primary spares there are,
+/// and the slipped blocks.
 pub fn add_structure(alloc: Global, block: &Block, text: &mut String) -> Result<(), AllocError> {
     let bytes = block.bytes();
     let structure = Structure::of(bytes);

@@ -1,6 +1,7 @@
 //! What is done to a medium by hand, word for word. Numbers are decimal, and bytes have two hexadecimal digits.
 
 use crate::numbers::{byte_of, number_of};
+use crate::version::Version;
 
 /// What is done by hand.
 #[derive(Clone, Copy)]
@@ -30,12 +31,15 @@ pub enum Work<'a> {
     Structure {
         areas: &'a str,
         counter: u32,
+        version: Version,
     },
     /// A secondary list under the structure of this counter is written into these areas.
     List {
         areas: &'a str,
         counter: u32,
         under: u32,
+        version: Version,
+        ssa: u32,
         entries: &'a [&'a str],
     },
     /// It is told what the copies of the structure say.
@@ -49,6 +53,46 @@ pub enum Work<'a> {
     },
     /// It is told how many blocks the medium has, and whether its power is on.
     Medium,
+}
+
+/// The version of which words begin to tell, and the words behind it. Lists have the first one unless words say otherwise.
+fn version_of<'a>(words: &'a [&'a str]) -> Option<(Version, &'a [&'a str])> {
+    match words {
+        ["version", version, behind @ ..] => Some((Version::of(version)?, behind)),
+        _ => Some((Version::One, words)),
+    }
+}
+
+/// How many supplementary spares there are, as words begin to tell, and the words behind it. There are none unless they do.
+fn ssa_of<'a>(words: &'a [&'a str]) -> Option<(u32, &'a [&'a str])> {
+    match words {
+        ["with", ssa, behind @ ..] => Some((number_of(ssa)?, behind)),
+        _ => Some((0, words)),
+    }
+}
+
+/// The copies of a list that these words say are written by hand.
+fn copying_of<'a>(words: &'a [&'a str]) -> Option<Work<'a>> {
+    match words {
+        ["structure", areas, counter, behind @ ..] => Some(Work::Structure {
+            areas,
+            counter: number_of(counter)?,
+            version: version_of(behind)?.0,
+        }),
+        ["list", areas, counter, "under", under, behind @ ..] => {
+            let (version, behind) = version_of(behind)?;
+            let (ssa, entries) = ssa_of(behind)?;
+            Some(Work::List {
+                areas,
+                counter: number_of(counter)?,
+                under: number_of(under)?,
+                version,
+                ssa,
+                entries,
+            })
+        }
+        _ => None,
+    }
 }
 
 /// What these words say is written by hand.
@@ -71,17 +115,7 @@ fn writing_of<'a>(words: &'a [&'a str]) -> Option<Work<'a>> {
             at: number_of(at)?,
             bytes,
         }),
-        ["structure", areas, counter] => Some(Work::Structure {
-            areas,
-            counter: number_of(counter)?,
-        }),
-        ["list", areas, counter, "under", under, entries @ ..] => Some(Work::List {
-            areas,
-            counter: number_of(counter)?,
-            under: number_of(under)?,
-            entries,
-        }),
-        _ => None,
+        _ => copying_of(words),
     }
 }
 

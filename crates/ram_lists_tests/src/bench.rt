@@ -1,10 +1,10 @@
 //! A small disc in memory, with the memory that calls on its lists need.
 
-use ram_by_hand::{List, Structure, Taken};
+use ram_by_hand::Taken;
 use ram_bytes::Block;
 use ram_copies::Scratch;
 use ram_medium::{MediumControl, MemMedium, ReadEnd};
-use ram_zones::{Geometry, ListKind};
+use ram_zones::Geometry;
 use std::alloc::{AllocError, Global};
 
 /// The blocks of the structure in areas 1 to 4.
@@ -13,11 +13,11 @@ pub const DDS_BLOCKS: [u32; 4] = [0, 2, 33, 35];
 /// The blocks of the secondary list in areas 1 to 4.
 pub const SDL_BLOCKS: [u32; 4] = [1, 3, 34, 36];
 
-/// The blocks of its second part, which no list has yet.
-const SECOND_BLOCKS: [u32; 4] = [4, 5, 37, 38];
+/// The blocks of its second part, where it has one.
+pub const SECOND_BLOCKS: [u32; 4] = [4, 5, 37, 38];
 
 /// How many primary spares the small disc has.
-const SPARES: u32 = 4;
+pub const SPARES: u32 = 4;
 
 /// A block of the small disc that is no copy of a list.
 const OTHER_BLOCK: u32 = 8;
@@ -39,36 +39,6 @@ impl Fresh for MemMedium {
 pub struct Bench<M> {
     pub taken: Taken<M>,
     pub scratch: Scratch,
-}
-
-/// The blocks of a list in areas 1 to 4.
-pub fn blocks_of(list: ListKind) -> [u32; 4] {
-    match list {
-        ListKind::Dds => DDS_BLOCKS,
-        ListKind::Sdl => SDL_BLOCKS,
-        ListKind::SdlTwo => SECOND_BLOCKS,
-    }
-}
-
-/// The text of the list with this counter, which has no entry. A secondary list names the structure of the counter `mark`.
-pub fn text_of(
-    alloc: Global,
-    list: ListKind,
-    counter: u32,
-    mark: u32,
-) -> Result<Block, AllocError> {
-    match list {
-        ListKind::Dds => Structure::formatted(counter, SPARES).text(alloc, &[]),
-        ListKind::Sdl | ListKind::SdlTwo => {
-            let list = List {
-                counter,
-                under: mark,
-                ssa: 0,
-                entries: Vec::new(alloc),
-            };
-            list.text(alloc)
-        }
-    }
 }
 
 /// A blank disc on which these uses fail, counted from 1, with the power on.

@@ -1,14 +1,13 @@
 //! The calls on the lists of a small disc, each with what it answered.
 
-use crate::bench::{Bench, text_of};
+use crate::bench::Bench;
 use crate::copies_reference::{Answer, Call};
-use ram_bytes::Block;
+use crate::texts::{Lists, Text, Texts};
 use ram_copies::{Accept, Chosen, ListBlock, Updated, choose, repair, update};
 use ram_dds::DdsPdl;
 use ram_lists::{Mounted, mount};
 use ram_medium::MediumControl;
 use ram_sdl::Sdl;
-use ram_zones::ListKind;
 use std::alloc::{AllocError, Global};
 
 /// Accepts the lists with a lower counter.
@@ -47,6 +46,19 @@ impl From<Updated> for Answer {
             Updated::Cut => Answer::Cut,
             Updated::Off => Answer::Off,
             Updated::Fault => Answer::Fault,
+        }
+    }
+}
+
+impl From<Found> for Answer {
+    fn from(found: Found) -> Answer {
+        match found {
+            Found::Lists(_, counter) => Answer::Mounted { counter },
+            Found::Bare(mark) => Answer::Bare { mark },
+            Found::Cut => Answer::Cut,
+            Found::Off => Answer::Off,
+            Found::Fault => Answer::Fault,
+            Found::NoMemory => Answer::NoMemory,
         }
     }
 }
@@ -100,14 +112,14 @@ impl<M: MediumControl> Bench<M> {
     pub fn write<T: ListBlock>(
         &mut self,
         alloc: Global,
-        text: &Block,
+        text: &Text,
         repairs: bool,
     ) -> Result<Answer, AllocError> {
         let taken = &mut self.taken;
         if taken.medium.blocks() != taken.geometry.total() {
             return Ok(Answer::NoDisc);
         }
-        let Some(value) = T::decode(alloc, text, None)? else {
+        let Some(value) = T::decode(alloc, &text.first, text.second.as_ref())? else {
             return Ok(Answer::NoText);
         };
         let (medium, geometry) = (&mut taken.medium, &taken.geometry);
@@ -119,31 +131,45 @@ impl<M: MediumControl> Bench<M> {
         Ok(Answer::from(updated))
     }
 
-    /// What a call answers on this list.
-    fn answer_on<T: ListBlock>(&mut self, alloc: Global, call: Call) -> Result<Answer, AllocError> {
-        match call {
-            Call::Choose { most } => Ok(self.choose::<T>(alloc, most)),
-            Call::Update { counter } => {
-                let text = text_of(alloc, T::LIST, counter, counter)?;
-                self.write::<T>(alloc, &text, false)
-            }
-            Call::Repair { counter } => {
-                let text = text_of(alloc, T::LIST, counter, counter)?;
-                self.write::<T>(alloc, &text, true)
-            }
+    /// What an update or a repair answers that writes one of these lists.
+    fn write_one<T: ListBlock>(
+        &mut self,
+        alloc: Global,
+        texts: &Texts,
+        counter: u32,
+        repairs: bool,
+    ) -> Result<Answer, AllocError> {
+        match texts.find(counter) {
+            Some(text) => self.write::<T>(alloc, text, repairs),
+            None => Ok(Answer::NoText),
         }
     }
 
-    /// What a call answers on a list.
+    /// What a call answers on these lists.
+    fn answer_on<T: ListBlock>(
+        &mut self,
+        alloc: Global,
+        texts: &Texts,
+        call: Call,
+    ) -> Result<Answer, AllocError> {
+        match call {
+            Call::Choose { most } => Ok(self.choose::<T>(alloc, most)),
+            Call::Update { counter } => self.write_one::<T>(alloc, texts, counter, false),
+            Call::Repair { counter } => self.write_one::<T>(alloc, texts, counter, true),
+            Call::Mount => Ok(Answer::from(self.mount(alloc))),
+        }
+    }
+
+    /// What a call answers on lists.
     pub fn answer(
         &mut self,
         alloc: Global,
-        list: ListKind,
+        texts: &Texts,
         call: Call,
     ) -> Result<Answer, AllocError> {
-        match list {
-            ListKind::Dds => self.answer_on::<DdsPdl>(alloc, call),
-            ListKind::Sdl | ListKind::SdlTwo => self.answer_on::<Sdl>(alloc, call),
+        match texts.lists {
+            Lists::Structures => self.answer_on::<DdsPdl>(alloc, texts, call),
+            Lists::OneBlock | Lists::TwoBlocks { .. } => self.answer_on::<Sdl>(alloc, texts, call),
         }
     }
 

@@ -1,10 +1,10 @@
 //! Mixtures of the four copies of a list, each call on them, and each stop of a use, beside the plain reference.
 
-use crate::bench::{Bench, Fresh, blank, blocks_of, text_of};
-use crate::copies_reference::{Answer, Call, Held, Laid, NEW, NEXT, OLD, Reference, Way};
+use crate::bench::{Bench, DDS_BLOCKS, Fresh, blank};
+use crate::copies_reference::{Answer, Area, Call, Held, Laid, NEW, NEXT, OLD, Reference, Way};
+use crate::texts::{Lists, Texts, structure_text};
 use ram_bytes::Block;
 use ram_medium::{Fate, ReadEnd};
-use ram_zones::ListKind;
 use std::alloc::{AllocError, Global};
 use std::fmt::Write;
 
@@ -26,15 +26,14 @@ const FAR: u32 = 100;
 
 /// Four copies of a list, a call on them, and how one of its uses is stopped.
 #[derive(Clone, Copy)]
-struct Case {
+pub struct Case {
     /// The number of the mixture.
-    number: u32,
-    list: ListKind,
-    image: [Laid; 4],
-    call: Call,
+    pub number: u32,
+    pub image: [Area<Laid>; 4],
+    pub call: Call,
     /// Which use is stopped: 1 is the first.
-    stop_in: u32,
-    way: Way,
+    pub stop_in: u32,
+    pub way: Way,
 }
 
 /// What happens on a disc.
@@ -45,7 +44,7 @@ struct Story {
     /// Whether the use after it is stopped.
     is_stopped_next: bool,
     /// What can then be read of the copies.
-    held: [Held; 4],
+    held: [Area<Held>; 4],
     /// The answer of a choice after that.
     chosen: Answer,
     /// The answer of a repair after that.
@@ -54,13 +53,13 @@ struct Story {
 
 /// How many cases there were, and the first that was not as it must be.
 #[derive(Clone, Copy)]
-struct Tally {
+pub struct Tally {
     cases: u32,
     other: Option<Case>,
 }
 
 impl Tally {
-    fn new() -> Tally {
+    pub fn new() -> Tally {
         Tally {
             cases: 0,
             other: None,
@@ -68,7 +67,7 @@ impl Tally {
     }
 
     /// Counts a case.
-    fn count(&mut self, case: Case, is_as_wanted: bool) {
+    pub fn count(&mut self, case: Case, is_as_wanted: bool) {
         self.cases = self.cases.saturating_add(1);
         if !is_as_wanted && self.other.is_none() {
             self.other = Some(case);
@@ -76,7 +75,7 @@ impl Tally {
     }
 
     /// Adds how many cases there were, and whether all were as they must be.
-    fn add_to(&self, answers: &mut String) -> Result<(), AllocError> {
+    pub fn add_to(&self, answers: &mut String) -> Result<(), AllocError> {
         match self.other {
             None => writeln!(answers, "{} as they must be", self.cases),
             Some(case) => writeln!(answers, "not mixture {}, use {}", case.number, case.stop_in),
@@ -84,25 +83,44 @@ impl Tally {
     }
 }
 
+/// What belongs into a block, or bytes of another list or of none.
+fn bytes_of<'a>(texts: &'a Texts, laid: Laid, part: Part) -> Option<&'a Block> {
+    let counter = match laid {
+        Laid::Old => OLD,
+        Laid::New | Laid::Falling => NEW,
+        Laid::Torn | Laid::Foreign => return None,
+    };
+    let text = texts.find(counter)?;
+    match part {
+        Part::First => Some(&text.first),
+        Part::Second => text.second.as_ref(),
+    }
+}
+
+/// Which block of a copy.
+#[derive(Clone, Copy, PartialEq, Eq)]
+enum Part {
+    First,
+    Second,
+}
+
 impl<M: Fresh> Bench<M> {
-    /// Lays one copy, in one use.
+    /// Lays one block, in one use.
     fn lay(
         &mut self,
         alloc: Global,
-        list: ListKind,
+        texts: &Texts,
         block: u32,
+        part: Part,
         laid: Laid,
     ) -> Result<(), AllocError> {
-        let text = match laid {
-            Laid::Old => text_of(alloc, list, OLD, OLD)?,
-            Laid::New | Laid::Falling => text_of(alloc, list, NEW, NEW)?,
-            Laid::Foreign => foreign(alloc, list, block)?,
-            Laid::Torn => Block::zeros(alloc)?,
-        };
         if laid == Laid::Torn {
             self.taken.medium.arm_cut(1, Fate::Torn);
         }
-        self.put(block, &text);
+        match bytes_of(texts, laid, part) {
+            Some(text) => self.put(block, text),
+            None => self.put(block, &foreign(alloc, texts, block, part)?),
+        }
         self.taken.medium.power_on();
         if laid == Laid::Falling {
             self.wear(block, 1);
@@ -110,70 +128,140 @@ impl<M: Fresh> Bench<M> {
         Ok(())
     }
 
-    /// What can be read of one copy, in one use.
-    fn held(&mut self, alloc: Global, list: ListKind, block: u32) -> Result<Held, AllocError> {
+    /// Lays the structures under which lists of two blocks lie.
+    fn lay_structures(&mut self, alloc: Global) -> Result<(), AllocError> {
+        let text = structure_text(alloc)?;
+        for block in DDS_BLOCKS {
+            self.put(block, &text);
+        }
+        Ok(())
+    }
+
+    /// Lays four copies.
+    fn lay_copies_of(
+        &mut self,
+        alloc: Global,
+        texts: &Texts,
+        image: [Area<Laid>; 4],
+    ) -> Result<(), AllocError> {
+        if texts.lists.under().is_some() {
+            self.lay_structures(alloc)?;
+        }
+        let seconds = texts.lists.second_blocks();
+        let blocks = texts.lists.first_blocks().into_iter().zip(seconds);
+        for ((first, second), laid) in blocks.zip(image) {
+            self.lay(alloc, texts, first, Part::First, laid.first)?;
+            if let Some((second, laid)) = second.zip(laid.second) {
+                self.lay(alloc, texts, second, Part::Second, laid)?;
+            }
+        }
+        Ok(())
+    }
+
+    /// What can be read of one block, in one use.
+    fn held(
+        &mut self,
+        alloc: Global,
+        texts: &Texts,
+        block: u32,
+        part: Part,
+    ) -> Result<Held, AllocError> {
         let mut into = Block::zeros(alloc)?;
         if self.look(block, &mut into) != ReadEnd::Done {
             return Ok(Held::Nothing);
         }
-        for counter in [OLD, NEXT, NEW] {
-            if into.same(&text_of(alloc, list, counter, counter)?) {
-                return Ok(Held::Text { counter });
-            }
-        }
-        Ok(Held::Foreign)
+        let counter = match part {
+            Part::First => texts.first_of(&into),
+            Part::Second => texts.second_of(&into),
+        };
+        Ok(match counter {
+            Some(counter) => Held::Text { counter },
+            None => Held::Foreign,
+        })
     }
 
-    /// What can be read of the four copies, in four uses.
-    fn looks(&mut self, alloc: Global, list: ListKind) -> Result<[Held; 4], AllocError> {
-        let [first, second, third, fourth] = blocks_of(list);
+    /// What can be read of one copy.
+    fn held_in(
+        &mut self,
+        alloc: Global,
+        texts: &Texts,
+        first: u32,
+        second: Option<u32>,
+    ) -> Result<Area<Held>, AllocError> {
+        let first = self.held(alloc, texts, first, Part::First)?;
+        let second = match second {
+            Some(block) => Some(self.held(alloc, texts, block, Part::Second)?),
+            None => None,
+        };
+        Ok(Area { first, second })
+    }
+
+    /// What can be read of the four copies, each block in one use.
+    fn looks(&mut self, alloc: Global, texts: &Texts) -> Result<[Area<Held>; 4], AllocError> {
+        let [a, b, c, d] = texts.lists.first_blocks();
+        let [e, f, g, h] = texts.lists.second_blocks();
         Ok([
-            self.held(alloc, list, first)?,
-            self.held(alloc, list, second)?,
-            self.held(alloc, list, third)?,
-            self.held(alloc, list, fourth)?,
+            self.held_in(alloc, texts, a, e)?,
+            self.held_in(alloc, texts, b, f)?,
+            self.held_in(alloc, texts, c, g)?,
+            self.held_in(alloc, texts, d, h)?,
         ])
     }
 
     /// What happens on the disc.
-    fn tell(&mut self, alloc: Global, list: ListKind, call: Call) -> Result<Story, AllocError> {
-        let first = self.answer(alloc, list, call)?;
+    fn tell(&mut self, alloc: Global, texts: &Texts, call: Call) -> Result<Story, AllocError> {
+        let first = self.answer(alloc, texts, call)?;
         self.taken.medium.power_on();
         Ok(Story {
             first,
             is_stopped_next: self.is_stopped_next(alloc)?,
-            held: self.looks(alloc, list)?,
-            chosen: self.answer(alloc, list, CHOOSE)?,
-            repaired: self.answer(alloc, list, REPAIR)?,
+            held: self.looks(alloc, texts)?,
+            chosen: self.answer(alloc, texts, CHOOSE)?,
+            repaired: self.answer(alloc, texts, REPAIR)?,
         })
     }
 }
 
-/// The text of the other list, or bytes of no list.
-fn foreign(alloc: Global, list: ListKind, block: u32) -> Result<Block, AllocError> {
-    let other = match list {
-        ListKind::Dds => ListKind::Sdl,
-        ListKind::Sdl | ListKind::SdlTwo => ListKind::Dds,
-    };
-    let mut text = text_of(alloc, other, NEW, NEW)?;
-    if block == blocks_of(list)[1] || block == blocks_of(list)[3] {
+/// The text of the other list, of the other part, or bytes of no list.
+fn foreign(alloc: Global, texts: &Texts, block: u32, part: Part) -> Result<Block, AllocError> {
+    let [_, second, _, fourth] = texts.lists.first_blocks();
+    let [_, other_second, _, other_fourth] = texts.lists.second_blocks();
+    let is_even = block == second || block == fourth;
+    if is_even || Some(block) == other_second || Some(block) == other_fourth {
+        let mut text = Block::zeros(alloc)?;
         text.fill(0xa5);
+        return Ok(text);
     }
-    Ok(text)
+    let text = match (texts.lists, part) {
+        (Lists::Structures, _) => Lists::OneBlock.text(alloc, NEW)?,
+        (Lists::OneBlock, _) | (_, Part::First) => Lists::Structures.text(alloc, NEW)?,
+        (lists, Part::Second) => lists.text(alloc, NEW)?,
+    };
+    Ok(text.first)
 }
 
-/// A disc with the copies of a case, each written in one use, on which the use that the case names is to be stopped.
-fn laid<M: Fresh>(alloc: Global, case: Case) -> Result<Option<Bench<M>>, AllocError> {
+/// How many uses it takes to lay copies.
+fn laying_uses(lists: Lists) -> u32 {
+    match lists {
+        Lists::Structures | Lists::OneBlock => 4,
+        Lists::TwoBlocks { .. } => 12,
+    }
+}
+
+/// A disc with the copies of a case, each block written in one use, on which the use that the case names is to be stopped.
+fn laid<M: Fresh>(
+    alloc: Global,
+    texts: &Texts,
+    case: Case,
+) -> Result<Option<Bench<M>>, AllocError> {
     let mut failing = Vec::new(alloc);
     if case.way == Way::Fault {
-        failing.push(u64::from(case.stop_in).saturating_add(4))?;
+        failing.push(u64::from(case.stop_in.saturating_add(laying_uses(texts.lists))))?;
     }
     let Some(mut bench) = blank::<M>(alloc, failing)? else {
         return Ok(None);
     };
-    for (block, laid) in blocks_of(case.list).into_iter().zip(case.image) {
-        bench.lay(alloc, case.list, block, laid)?;
-    }
+    bench.lay_copies_of(alloc, texts, case.image)?;
     if let Some(fate) = case.way.fate() {
         bench.taken.medium.arm_cut(case.stop_in.max(1), fate);
     }
@@ -181,16 +269,16 @@ fn laid<M: Fresh>(alloc: Global, case: Case) -> Result<Option<Bench<M>>, AllocEr
 }
 
 /// What happens in a case.
-fn told<M: Fresh>(alloc: Global, case: Case) -> Result<Option<Story>, AllocError> {
-    match laid::<M>(alloc, case)? {
-        Some(mut bench) => Ok(Some(bench.tell(alloc, case.list, case.call)?)),
+fn told<M: Fresh>(alloc: Global, texts: &Texts, case: Case) -> Result<Option<Story>, AllocError> {
+    match laid::<M>(alloc, texts, case)? {
+        Some(mut bench) => Ok(Some(bench.tell(alloc, texts, case.call)?)),
         None => Ok(None),
     }
 }
 
 /// What is to happen in a case.
-fn wanted(case: Case) -> Story {
-    let mut reference = Reference::laid(case.image, case.stop_in, case.way);
+fn wanted(lists: Lists, case: Case) -> Story {
+    let mut reference = Reference::laid(lists, case.image, case.stop_in, case.way);
     Story {
         first: reference.answer(case.call),
         is_stopped_next: reference.is_stopped_next(),
@@ -201,14 +289,14 @@ fn wanted(case: Case) -> Story {
 }
 
 /// How many uses a call takes that is not stopped.
-fn uses_of(image: [Laid; 4], call: Call) -> u32 {
-    let mut reference = Reference::laid(image, 0, Way::CutOld);
+fn uses_of(lists: Lists, image: [Area<Laid>; 4], call: Call) -> u32 {
+    let mut reference = Reference::laid(lists, image, 0, Way::CutOld);
     reference.answer(call);
     reference.uses()
 }
 
 /// One of five, by a number modulo 5.
-fn kind(number: u32) -> Laid {
+pub fn kind(number: u32) -> Laid {
     match number % 5 {
         0 => Laid::Old,
         1 => Laid::New,
@@ -219,74 +307,88 @@ fn kind(number: u32) -> Laid {
 }
 
 /// Whether a case is as it must be, with the use after the call stopped just where it is to be.
-fn agrees<M: Fresh>(alloc: Global, case: Case, ends: bool) -> Result<bool, AllocError> {
-    let due = wanted(case);
-    Ok(due.is_stopped_next == ends && told::<M>(alloc, case)? == Some(due))
+fn agrees<M: Fresh>(
+    alloc: Global,
+    texts: &Texts,
+    case: Case,
+    ends: bool,
+) -> Result<bool, AllocError> {
+    let due = wanted(texts.lists, case);
+    Ok(due.is_stopped_next == ends && told::<M>(alloc, texts, case)? == Some(due))
 }
 
 /// The last use of a call is cut, and then the one after it.
-fn try_ends<M: Fresh>(
+pub fn try_ends<M: Fresh>(
     alloc: Global,
+    texts: &Texts,
     number: u32,
-    image: [Laid; 4],
+    image: [Area<Laid>; 4],
+    call: Call,
     tally: &mut Tally,
 ) -> Result<(), AllocError> {
-    let list = if number % 2 == 0 {
-        ListKind::Dds
-    } else {
-        ListKind::Sdl
-    };
-    for call in CALLS {
-        let uses = uses_of(image, call);
-        for (stop_in, ends) in [(uses, false), (uses.saturating_add(1), true)] {
-            let case = Case {
-                number,
-                list,
-                image,
-                call,
-                stop_in,
-                way: Way::CutTorn,
-            };
-            tally.count(case, agrees::<M>(alloc, case, ends)?);
-        }
+    let uses = uses_of(texts.lists, image, call);
+    for (stop_in, ends) in [(uses, false), (uses.saturating_add(1), true)] {
+        let case = Case {
+            number,
+            image,
+            call,
+            stop_in,
+            way: Way::CutTorn,
+        };
+        tally.count(case, agrees::<M>(alloc, texts, case, ends)?);
     }
     Ok(())
+}
+
+/// The lists that calls on copies work on.
+pub fn texts_of(alloc: Global, lists: Lists) -> Result<Texts, AllocError> {
+    Texts::of(alloc, lists, &[OLD, NEXT, NEW])
 }
 
 /// All 625 mixtures, by turns of either list: the last use of each call is cut, and then the one after it.
 pub fn answer_all<M: Fresh>(alloc: Global, answers: &mut String) -> Result<(), AllocError> {
     let mut tally = Tally::new();
+    let structures = texts_of(alloc, Lists::Structures)?;
+    let secondary = texts_of(alloc, Lists::OneBlock)?;
     for number in 0..625_u32 {
-        let image = [
+        let kinds = [
             kind(number),
             kind(number / 5),
             kind(number / 25),
             kind(number / 125),
         ];
-        try_ends::<M>(alloc, number, image, &mut tally)?;
+        let texts = if number % 2 == 0 {
+            &structures
+        } else {
+            &secondary
+        };
+        for call in CALLS {
+            try_ends::<M>(alloc, texts, number, kinds.map(Area::of_one), call, &mut tally)?;
+        }
     }
     tally.add_to(answers)
 }
 
 /// Each use of a call is stopped, each way.
-fn try_stops<M: Fresh>(
+pub fn try_stops<M: Fresh>(
     alloc: Global,
+    texts: &Texts,
     number: u32,
-    image: [Laid; 4],
+    image: [Area<Laid>; 4],
     call: Call,
     tally: &mut Tally,
 ) -> Result<(), AllocError> {
-    for stop_in in 1..uses_of(image, call).saturating_add(2) {
+    for stop_in in 1..uses_of(texts.lists, image, call).saturating_add(2) {
         for way in WAYS {
             let case = Case {
                 number,
-                list: ListKind::Dds,
                 image,
                 call,
                 stop_in,
                 way,
             };
-            tally.count(case, told::<M>(alloc, case)? == Some(wanted(case)));
+            let due = wanted(texts.lists, case);
+            tally.count(case, told::<M>(alloc, texts, case)? == Some(due));
         }
     }
     Ok(())
@@ -295,11 +397,12 @@ fn try_stops<M: Fresh>(
 /// 25 mixtures, in which each two areas have each two of the five: each use of each call is stopped, each way.
 pub fn answer_stops<M: Fresh>(alloc: Global, answers: &mut String) -> Result<(), AllocError> {
     let mut tally = Tally::new();
+    let texts = texts_of(alloc, Lists::Structures)?;
     for number in 0..25_u32 {
         let (a, b) = (number % 5, number / 5);
-        let image = [kind(a), kind(b), kind(a + b), kind(a + 2 * b)];
+        let kinds = [kind(a), kind(b), kind(a + b), kind(a + 2 * b)];
         for call in CALLS {
-            try_stops::<M>(alloc, number, image, call, &mut tally)?;
+            try_stops::<M>(alloc, &texts, number, kinds.map(Area::of_one), call, &mut tally)?;
         }
     }
     tally.add_to(answers)
@@ -315,19 +418,23 @@ fn is_safe(image: [Laid; 4], call: Call) -> bool {
     let (old, new) = (count_of(image, Laid::Old), count_of(image, Laid::New));
     let alone = match call {
         Call::Update { .. } => old == 0 || new == 0,
-        Call::Choose { .. } | Call::Repair { .. } => true,
+        Call::Choose { .. } | Call::Repair { .. } | Call::Mount => true,
     };
     alone && old.max(new) >= 2 && count_of(image, Laid::Falling) == 0
 }
 
 /// The counter that a choice finds after the call of a case; none where it finds no list.
-fn found_after<M: Fresh>(alloc: Global, case: Case) -> Result<Option<u32>, AllocError> {
-    let Some(mut bench) = laid::<M>(alloc, case)? else {
+fn found_after<M: Fresh>(
+    alloc: Global,
+    texts: &Texts,
+    case: Case,
+) -> Result<Option<u32>, AllocError> {
+    let Some(mut bench) = laid::<M>(alloc, texts, case)? else {
         return Ok(None);
     };
-    bench.answer(alloc, case.list, case.call)?;
+    bench.answer(alloc, texts, case.call)?;
     bench.taken.medium.power_on();
-    Ok(match bench.answer(alloc, case.list, CHOOSE)? {
+    Ok(match bench.answer(alloc, texts, CHOOSE)? {
         Answer::Found { counter, .. } => Some(counter),
         _ => None,
     })
@@ -336,14 +443,14 @@ fn found_after<M: Fresh>(alloc: Global, case: Case) -> Result<Option<u32>, Alloc
 /// Each use of a call is cut: a choice finds then what it does before the call, or what it does after one that is not cut.
 fn try_cuts<M: Fresh>(
     alloc: Global,
+    texts: &Texts,
     number: u32,
-    image: [Laid; 4],
+    image: [Area<Laid>; 4],
     call: Call,
     tally: &mut Tally,
 ) -> Result<(), AllocError> {
     let whole = Case {
         number,
-        list: ListKind::Dds,
         image,
         call,
         stop_in: FAR,
@@ -351,20 +458,21 @@ fn try_cuts<M: Fresh>(
     };
     let before = found_after::<M>(
         alloc,
+        texts,
         Case {
             call: CHOOSE,
             ..whole
         },
     )?;
-    let after = found_after::<M>(alloc, whole)?;
-    for stop_in in 1..uses_of(image, call).saturating_add(1) {
+    let after = found_after::<M>(alloc, texts, whole)?;
+    for stop_in in 1..uses_of(texts.lists, image, call).saturating_add(1) {
         for way in [Way::CutOld, Way::CutNew, Way::CutTorn] {
             let case = Case {
                 stop_in,
                 way,
                 ..whole
             };
-            let found = found_after::<M>(alloc, case)?;
+            let found = found_after::<M>(alloc, texts, case)?;
             tally.count(case, found.is_some() && (found == before || found == after));
         }
     }
@@ -374,38 +482,63 @@ fn try_cuts<M: Fresh>(
 /// Of 125 mixtures, in which each three areas have each three of the five, those that are safe.
 pub fn answer_cuts<M: Fresh>(alloc: Global, answers: &mut String) -> Result<(), AllocError> {
     let mut tally = Tally::new();
+    let texts = texts_of(alloc, Lists::Structures)?;
     for number in 0..125_u32 {
         let (a, b, c) = (number % 5, number / 5 % 5, number / 25);
-        let image = [kind(a), kind(b), kind(c), kind(a + b + c)];
+        let kinds = [kind(a), kind(b), kind(c), kind(a + b + c)];
         for call in CALLS {
-            if is_safe(image, call) {
-                try_cuts::<M>(alloc, number, image, call, &mut tally)?;
+            if is_safe(kinds, call) {
+                try_cuts::<M>(alloc, &texts, number, kinds.map(Area::of_one), call, &mut tally)?;
             }
         }
     }
     tally.add_to(answers)
 }
 
+/// A disc with four old copies.
+pub fn all_old<M: Fresh>(alloc: Global, texts: &Texts) -> Result<Option<Bench<M>>, AllocError> {
+    let second = texts.lists.under().map(|_| Laid::Old);
+    let copy = Area {
+        first: Laid::Old,
+        second,
+    };
+    let case = Case {
+        number: 0,
+        image: [copy; 4],
+        call: CHOOSE,
+        stop_in: FAR,
+        way: Way::CutOld,
+    };
+    laid::<M>(alloc, texts, case)
+}
+
+/// Whether a call answers so, in just so many uses.
+pub fn answers_in<M: Fresh>(
+    bench: &mut Bench<M>,
+    alloc: Global,
+    texts: &Texts,
+    call: Call,
+    uses: u32,
+    wanted: Answer,
+) -> Result<bool, AllocError> {
+    let medium = &mut bench.taken.medium;
+    medium.arm_cut(uses.saturating_add(1), Fate::Old);
+    let answer = bench.answer(alloc, texts, call)?;
+    Ok(bench.is_stopped_next(alloc)? && answer == wanted)
+}
+
 /// Whether a call on four old copies, of which some are dead, answers as it must in so many uses, and the choice after it.
 fn keeps_the_rest<M: Fresh>(
     alloc: Global,
-    list: ListKind,
+    texts: &Texts,
     dead: u32,
     call: Call,
     uses: u32,
 ) -> Result<bool, AllocError> {
-    let case = Case {
-        number: dead,
-        list,
-        image: [Laid::Old; 4],
-        call,
-        stop_in: FAR,
-        way: Way::CutOld,
-    };
-    let Some(mut bench) = laid::<M>(alloc, case)? else {
+    let Some(mut bench) = all_old::<M>(alloc, texts)? else {
         return Ok(false);
     };
-    bench.fail_some(blocks_of(list), dead);
+    bench.fail_some(texts.lists.first_blocks(), dead);
     let readable = 4 - dead.count_ones().min(4);
     let (answer, found) = match readable {
         0 => (Answer::NoCopy, Answer::Nothing { mark: 0 }),
@@ -419,36 +552,22 @@ fn keeps_the_rest<M: Fresh>(
         ),
     };
     Ok(
-        answers_in(&mut bench, alloc, list, call, uses, answer)?
-            && answers_in(&mut bench, alloc, list, CHOOSE, 4, found)?,
+        answers_in(&mut bench, alloc, texts, call, uses, answer)?
+            && answers_in(&mut bench, alloc, texts, CHOOSE, 4, found)?,
     )
-}
-
-/// Whether a call answers so, in just so many uses.
-fn answers_in<M: Fresh>(
-    bench: &mut Bench<M>,
-    alloc: Global,
-    list: ListKind,
-    call: Call,
-    uses: u32,
-    wanted: Answer,
-) -> Result<bool, AllocError> {
-    let medium = &mut bench.taken.medium;
-    medium.arm_cut(uses.saturating_add(1), Fate::Old);
-    let answer = bench.answer(alloc, list, call)?;
-    Ok(bench.is_stopped_next(alloc)? && answer == wanted)
 }
 
 /// Each set of dead copies among old ones: an update takes 8 uses and a repair 12, and the others are kept.
 pub fn answer_dead<M: Fresh>(alloc: Global, answers: &mut String) -> Result<(), AllocError> {
     let mut kept = 0u32;
-    for dead in 0..16_u32 {
-        for list in [ListKind::Dds, ListKind::Sdl] {
+    for lists in [Lists::Structures, Lists::OneBlock] {
+        let texts = texts_of(alloc, lists)?;
+        for dead in 0..16_u32 {
             for (call, uses) in [
                 (Call::Update { counter: NEXT }, 8),
                 (Call::Repair { counter: NEXT }, 12),
             ] {
-                let is_kept = keeps_the_rest::<M>(alloc, list, dead, call, uses)?;
+                let is_kept = keeps_the_rest::<M>(alloc, &texts, dead, call, uses)?;
                 kept = kept.saturating_add(u32::from(is_kept));
             }
         }

@@ -1,5 +1,6 @@
-//! The plain reference: four copies in words, and what each call makes of them.
+//! The plain reference: four copies in words, of one block or of two, and what each call makes of them.
 
+use crate::texts::{Lists, STRUCTURE};
 use ram_medium::Fate;
 
 /// The counter of the oldest list that a copy holds.
@@ -11,19 +12,36 @@ pub const NEXT: u32 = 3;
 /// That of a later one.
 pub const NEW: u32 = 7;
 
-/// What is laid in an area before a call.
+/// What is laid in a block before a call.
 #[derive(Clone, Copy, PartialEq, Eq)]
 pub enum Laid {
-    /// The text of the list with the counter [`OLD`].
+    /// What belongs there of the list with the counter [`OLD`].
     Old,
-    /// The text of the list with the counter [`NEW`].
+    /// What belongs there of the list with the counter [`NEW`].
     New,
     /// The rest of a write that was cut short.
     Torn,
-    /// The text of the other list, or of none.
+    /// Of another list or part, or of none.
     Foreign,
-    /// The text of the list with the counter [`NEW`], in a block that dies at its next use.
+    /// What belongs there of the list with the counter [`NEW`], in a block that dies at its next use.
     Falling,
+}
+
+/// The copy of an area: its block, or both.
+#[derive(Clone, Copy, PartialEq, Eq)]
+pub struct Area<T> {
+    pub first: T,
+    pub second: Option<T>,
+}
+
+impl<T> Area<T> {
+    /// A copy of one block.
+    pub fn of_one(first: T) -> Area<T> {
+        Area {
+            first,
+            second: None,
+        }
+    }
 }
 
 /// How a use is stopped.
@@ -56,6 +74,8 @@ pub enum Call {
     Update { counter: u32 },
     /// A repair to the list with this counter.
     Repair { counter: u32 },
+    /// A mount of the disc, whose structures are exact.
+    Mount,
 }
 
 /// What a call answers.
@@ -65,6 +85,10 @@ pub enum Answer {
     Nothing { mark: u32 },
     Kept { readable: u32 },
     NoCopy,
+    /// A mount found the secondary list with this counter.
+    Mounted { counter: u32 },
+    /// A mount found no list.
+    Bare { mark: u32 },
     Cut,
     Off,
     Fault,
@@ -75,10 +99,10 @@ pub enum Answer {
     NoText,
 }
 
-/// What can be read of a copy.
+/// What can be read of a block.
 #[derive(Clone, Copy, PartialEq, Eq)]
 pub enum Held {
-    /// The text of the list with this counter.
+    /// What belongs there of the list with this counter.
     Text { counter: u32 },
     /// Other bytes.
     Foreign,
@@ -86,7 +110,7 @@ pub enum Held {
     Nothing,
 }
 
-/// One copy.
+/// One block.
 #[derive(Clone, Copy)]
 struct Copied {
     held: Held,
@@ -142,6 +166,16 @@ struct Power {
 }
 
 impl Power {
+    /// So many uses of other blocks, each of which may be stopped.
+    fn pass(&mut self, uses: u32) -> bool {
+        for _ in 0..uses {
+            if !self.begin(&mut Copied::laid(Laid::Torn)) {
+                return false;
+            }
+        }
+        true
+    }
+
     /// A use begins. Whether it goes on; one that fails kills nothing.
     fn begin(&mut self, copy: &mut Copied) -> bool {
         let stops = self.stop_in == 1;
@@ -155,12 +189,12 @@ impl Power {
         !stops
     }
 
-    /// Reads a copy. Whether it went to its end.
+    /// Reads a block. Whether it went to its end.
     fn read(&mut self, copy: &mut Copied) -> bool {
         self.begin(copy)
     }
 
-    /// Writes a copy. Whether it went to its end.
+    /// Writes a block. Whether it went to its end.
     fn write(&mut self, copy: &mut Copied, held: Held) -> bool {
         let goes_on = self.begin(copy);
         let left = match self.way {
@@ -181,22 +215,102 @@ impl Power {
     }
 }
 
+impl Power {
+    /// Writes a block, and reads it back.
+    fn put(&mut self, block: &mut Copied, counter: u32) -> bool {
+        self.write(block, Held::Text { counter }) && self.read(block)
+    }
+
+    /// Reads a block, and where it holds anything else, puts this.
+    fn mend(&mut self, block: &mut Copied, counter: u32) -> bool {
+        self.read(block) && (block.counter() == Some(counter) || self.put(block, counter))
+    }
+
+    /// Reads a copy: its second block where the first one holds the first part of any list.
+    fn look(&mut self, area: &mut Area<Copied>) -> bool {
+        if !self.read(&mut area.first) {
+            return false;
+        }
+        match (area.first.counter(), &mut area.second) {
+            (Some(_), Some(second)) => self.read(second),
+            _ => true,
+        }
+    }
+
+    /// Puts each block of a copy.
+    fn put_both(&mut self, area: &mut Area<Copied>, counter: u32) -> bool {
+        let goes_on = self.put(&mut area.first, counter);
+        match &mut area.second {
+            Some(second) => goes_on && self.put(second, counter),
+            None => goes_on,
+        }
+    }
+
+    /// Mends each block of a copy.
+    fn mend_both(&mut self, area: &mut Area<Copied>, counter: u32) -> bool {
+        let goes_on = self.mend(&mut area.first, counter);
+        match &mut area.second {
+            Some(second) => goes_on && self.mend(second, counter),
+            None => goes_on,
+        }
+    }
+}
+
+impl Area<Copied> {
+    fn laid(laid: Area<Laid>) -> Area<Copied> {
+        Area {
+            first: Copied::laid(laid.first),
+            second: laid.second.map(Copied::laid),
+        }
+    }
+
+    /// The counter of the list that the copy is.
+    fn counter(&self) -> Option<u32> {
+        match &self.second {
+            Some(second) if second.counter() != self.first.counter() => None,
+            _ => self.first.counter(),
+        }
+    }
+
+    /// Whether one of its blocks is dead.
+    fn is_lost(&self) -> bool {
+        let is_second_dead = match &self.second {
+            Some(second) => second.is_dead,
+            None => false,
+        };
+        self.first.is_dead || is_second_dead
+    }
+
+    fn held(&self) -> Area<Held> {
+        Area {
+            first: self.first.held,
+            second: match &self.second {
+                Some(second) => Some(second.held),
+                None => None,
+            },
+        }
+    }
+}
+
 /// The four copies, and what stops their uses.
 #[derive(Clone, Copy)]
 pub struct Reference {
-    copies: [Copied; 4],
+    /// Under which structure all lists lie, where that is one.
+    under: Option<u32>,
+    copies: [Area<Copied>; 4],
     power: Power,
 }
 
 impl Reference {
-    pub fn laid(image: [Laid; 4], stop_in: u32, way: Way) -> Reference {
+    pub fn laid(lists: Lists, image: [Area<Laid>; 4], stop_in: u32, way: Way) -> Reference {
         let [first, second, third, fourth] = image;
         Reference {
+            under: lists.under(),
             copies: [
-                Copied::laid(first),
-                Copied::laid(second),
-                Copied::laid(third),
-                Copied::laid(fourth),
+                Area::laid(first),
+                Area::laid(second),
+                Area::laid(third),
+                Area::laid(fourth),
             ],
             power: Power {
                 stop_in,
@@ -206,20 +320,22 @@ impl Reference {
         }
     }
 
-    /// What a call answers: it goes from area to area.
+    /// What a call answers.
     pub fn answer(&mut self, call: Call) -> Answer {
+        match call {
+            Call::Mount => self.mount(),
+            Call::Choose { .. } | Call::Update { .. } | Call::Repair { .. } => self.over_areas(call),
+        }
+    }
+
+    /// What a choice, an update or a repair answers: it goes from area to area, and in each from the first block to the second.
+    fn over_areas(&mut self, call: Call) -> Answer {
         let power = &mut self.power;
-        for copy in self.copies.iter_mut() {
+        for area in self.copies.iter_mut() {
             let goes_on = match call {
-                Call::Choose { .. } => power.read(copy),
-                Call::Update { counter } => {
-                    power.write(copy, Held::Text { counter }) && power.read(copy)
-                }
-                Call::Repair { counter } => {
-                    let text = Held::Text { counter };
-                    power.read(copy)
-                        && (copy.held == text || (power.write(copy, text) && power.read(copy)))
-                }
+                Call::Choose { .. } | Call::Mount => power.look(area),
+                Call::Update { counter } => power.put_both(area, counter),
+                Call::Repair { counter } => power.mend_both(area, counter),
             };
             if !goes_on {
                 return power.stopped();
@@ -227,14 +343,45 @@ impl Reference {
         }
         match call {
             Call::Choose { most } => self.best(most),
-            Call::Update { .. } | Call::Repair { .. } => self.count(),
+            Call::Update { .. } | Call::Repair { .. } | Call::Mount => self.count(),
+        }
+    }
+
+    /// A mount reads the structures, and chooses; it mends the structures, and the list that it chose.
+    fn mount(&mut self) -> Answer {
+        if !self.power.pass(4) {
+            return self.power.stopped();
+        }
+        let chosen = self.over_areas(Call::Choose { most: u32::MAX });
+        if !self.power.pass(4) {
+            return self.power.stopped();
+        }
+        let Answer::Found { counter, .. } = chosen else {
+            return match chosen {
+                Answer::Nothing { .. } => Answer::Bare { mark: STRUCTURE },
+                stopped => stopped,
+            };
+        };
+        match self.over_areas(Call::Repair { counter }) {
+            Answer::Kept { .. } | Answer::NoCopy => Answer::Mounted { counter },
+            stopped => stopped,
+        }
+    }
+
+    /// The greatest structure that a first block names.
+    fn mark(&self) -> u32 {
+        let greatest = self.copies.iter().filter_map(|copy| copy.first.counter()).max();
+        match (greatest, self.under) {
+            (Some(_), Some(under)) => under,
+            (Some(counter), None) => counter,
+            (None, _) => 0,
         }
     }
 
     /// The greatest accepted counter, and the first area that has it.
     fn best(&self, most: u32) -> Answer {
         let counters = || self.copies.iter().filter_map(|copy| copy.counter());
-        let mark = counters().max().unwrap_or(0);
+        let mark = self.mark();
         let Some(counter) = counters().filter(|counter| *counter < most).max() else {
             return Answer::Nothing { mark };
         };
@@ -254,7 +401,7 @@ impl Reference {
     fn count(&self) -> Answer {
         let mut readable = 0_u32;
         for copy in &self.copies {
-            if !copy.is_dead {
+            if !copy.is_lost() {
                 readable = readable.saturating_add(1);
             }
         }
@@ -271,16 +418,18 @@ impl Reference {
 
     /// Whether the next use is stopped. It is a use of no copy.
     pub fn is_stopped_next(&mut self) -> bool {
-        let mut elsewhere = Copied::laid(Laid::Torn);
-        !self.power.read(&mut elsewhere)
+        !self.power.pass(1)
     }
 
-    /// What can be read of the copies, each of which is read.
-    pub fn looks(&mut self) -> [Held; 4] {
-        for copy in self.copies.iter_mut() {
-            self.power.read(copy);
+    /// What can be read of the copies, each block of which is read.
+    pub fn looks(&mut self) -> [Area<Held>; 4] {
+        for area in self.copies.iter_mut() {
+            self.power.read(&mut area.first);
+            if let Some(second) = &mut area.second {
+                self.power.read(second);
+            }
         }
         let [first, second, third, fourth] = &self.copies;
-        [first.held, second.held, third.held, fourth.held]
+        [first.held(), second.held(), third.held(), fourth.held()]
     }
 }

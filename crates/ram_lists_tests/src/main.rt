@@ -10,8 +10,10 @@ mod greatest;
 mod memory;
 mod mounts;
 mod mounts_reference;
+mod parts;
 mod rows;
 mod steps;
+mod texts;
 
 use crate::rows::BenchRows;
 use ram_by_hand::answer_rows;

@@ -1,7 +1,8 @@
 //! A choice for which memory is refused.
 
-use crate::bench::{Bench, DDS_BLOCKS, Fresh, blank, text_of};
+use crate::bench::{Bench, DDS_BLOCKS, Fresh, blank};
 use crate::copies_reference::Answer;
+use crate::texts::text_of;
 use ram_bytes::Block;
 use ram_copies::ListBlock;
 use ram_dds::DdsPdl;

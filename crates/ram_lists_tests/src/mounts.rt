@@ -1,10 +1,11 @@
 //! Mounts of discs with every mixture of copies of one list, beside the plain reference.
 
-use crate::bench::{Bench, DDS_BLOCKS, Fresh, SDL_BLOCKS, blank, text_of};
+use crate::bench::{Bench, DDS_BLOCKS, Fresh, SDL_BLOCKS, blank};
 use crate::calls::Found;
 use crate::mounts_reference::{
     Copied, Copies, Form, Holds, Mount, Text, dds_kinds, expected, sdl_kinds,
 };
+use crate::texts::text_of;
 use ram_by_hand::put;
 use ram_bytes::Block;
 use ram_medium::{Fate, ReadEnd};

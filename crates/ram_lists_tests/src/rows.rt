@@ -2,11 +2,13 @@
 
 use crate::bench::{Bench, Fresh, blank};
 use crate::copies::{answer_all, answer_cuts, answer_dead, answer_stops};
+use crate::parts;
 use crate::copies_reference::{Answer, Call};
 use crate::greatest::answer_greatest;
 use crate::memory::answer_refused;
 use crate::mounts;
 use crate::steps::{Step, step_of};
+use crate::texts::{Lists, Text, Texts};
 use ram_by_hand::{Controlled, Rows, answer_event, answer_work};
 use ram_bytes::Block;
 use ram_dds::DdsPdl;
@@ -32,8 +34,12 @@ fn repair_as<M: Fresh>(
     list: ListKind,
     block: u32,
 ) -> Result<Answer, AllocError> {
-    let mut text = Block::zeros(alloc)?;
-    bench.look(block, &mut text);
+    let mut first = Block::zeros(alloc)?;
+    bench.look(block, &mut first);
+    let text = Text {
+        first,
+        second: None,
+    };
     match list {
         ListKind::Dds => bench.write::<DdsPdl>(alloc, &text, true),
         ListKind::Sdl | ListKind::SdlTwo => bench.write::<Sdl>(alloc, &text, true),
@@ -48,7 +54,12 @@ fn add_call<M: Fresh>(
     call: Call,
     answer: &mut String,
 ) -> Result<(), AllocError> {
-    let out = bench.answer(alloc, list, call)?;
+    let counters = match call {
+        Call::Update { counter } | Call::Repair { counter } => [counter],
+        Call::Choose { .. } | Call::Mount => [0],
+    };
+    let texts = Texts::of(alloc, Lists::of(list), &counters)?;
+    let out = bench.answer(alloc, &texts, call)?;
     write!(answer, "{out:?}")
 }
 
@@ -159,6 +170,9 @@ fn answer_row<M: Fresh + Controlled>(
         "greatest list" => answer_greatest(alloc, answers),
         "memory" => answer_refused::<M>(alloc, answers),
         "mixtures of mounts" => mounts::answer_mixtures::<M>(alloc, answers),
+        "mixtures of parts" => parts::answer_mixtures::<M>(alloc, answers),
+        "stops of parts" => parts::answer_stops::<M>(alloc, answers),
+        "dead parts" => parts::answer_dead::<M>(alloc, answers),
         "dead copies of mounts" => mounts::answer_dead::<M>(alloc, answers),
         _ => answer_lines::<M>(alloc, row, answers),
     }

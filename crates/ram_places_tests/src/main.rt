@@ -5,7 +5,6 @@
 mod blocks;
 mod entries;
 mod marks;
-mod parts;
 mod places;
 mod rows;
 mod spares;

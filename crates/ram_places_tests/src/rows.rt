@@ -3,11 +3,10 @@
 use crate::blocks::{add_block, add_data_block, add_list_blocks, add_sizes};
 use crate::entries::answer_entries;
 use crate::marks::answer_marks;
-use crate::parts::both_parts;
 use crate::places::{Places, replacing, slipping};
 use crate::states::answer_states;
 use crate::texts::{add_both, add_dds, add_more, add_sdl};
-use ram_by_hand::{List, Rows, byte_of, entries_of, number_of, put};
+use ram_by_hand::{List, Rows, Version, byte_of, entries_of, number_of, put};
 use ram_bytes::Block;
 use ram_slip::{is_valid_pdl, is_valid_ssa};
 use ram_zones::Geometry;
@@ -121,6 +120,7 @@ fn write_list(
     answer: &mut String,
 ) -> Result<(), AllocError> {
     let list = List {
+        version: Version::One,
         counter: 2,
         under: 2,
         ssa: 0,
@@ -137,10 +137,15 @@ fn write_parts(
     words: &[&str],
     answer: &mut String,
 ) -> Result<(), AllocError> {
-    let entries = entries_of(alloc, words)?;
-    let (first, second) = both_parts(alloc, &entries)?;
-    table.text = first;
-    table.second = second;
+    let list = List {
+        version: Version::Two,
+        counter: 3,
+        under: 2,
+        ssa: 0,
+        entries: entries_of(alloc, words)?,
+    };
+    table.text = list.text(alloc)?;
+    table.second = list.second(alloc)?;
     answer.push_str("put")
 }
 

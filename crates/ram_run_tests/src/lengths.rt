@@ -9,7 +9,7 @@ use std::ops::Range;
 const REPLY_BYTES: usize = 2_052;
 
 /// The digits of that reply on a new disc of one zone, scale 1 and four primary spares. Zeros follow.
-const BEGINNING: &str = "080200000a0a0180000000020004";
+const BEGINNING: &str = "080200000a0a0280000000020004";
 
 /// How many lengths one script asks for: its report has room.
 const GROUP: usize = 158;
