@@ -32,6 +32,8 @@ class Check(Exception):
         self.sense = Sense(*sense)
 
 
+BUFFERED_BLOCKS = 8
+
 FORMAT_FAILED = (3, 0x31, 0x01)
 UNREADABLE = (3, 0x11, 0x00)
 NO_SPARE = (3, 0x32, 0x00)
@@ -70,11 +72,12 @@ class Drive:
         self.lists: Optional[Lists] = None
         self.mark = 0
         """The greatest counter of a structure that a copy has or names."""
-        self.buffered: Optional[Tuple[int, bytes]] = None
+        self.buffered: Dict[int, bytes] = {}
+        """The logical blocks used last, the one used last behind the others."""
 
     def cut(self) -> None:
         """What a power cut leaves in memory: nothing."""
-        self.on, self.lists, self.buffered = False, None, None
+        self.on, self.lists, self.buffered = False, None, {}
 
     # The copies of lists.
 
@@ -143,12 +146,19 @@ class Drive:
     def fetch(self, logical: int) -> Optional[bytes]:
         """A logical block, out of the buffer or off the medium; it is buffered then."""
         assert self.lists is not None
-        if self.buffered is not None and self.buffered[0] == logical:
-            return self.buffered[1]
-        data = self.medium.read(self.lists.home(logical))
+        data = self.buffered.get(logical)
+        if data is None:
+            data = self.medium.read(self.lists.home(logical))
         if data is not None:
-            self.buffered = (logical, data)
+            self.buffer(logical, data)
         return data
+
+    def buffer(self, logical: int, data: bytes) -> None:
+        """Makes a logical block the one used last. The one used longest ago makes room for it."""
+        self.buffered.pop(logical, None)
+        self.buffered[logical] = data
+        if len(self.buffered) > BUFFERED_BLOCKS:
+            del self.buffered[next(iter(self.buffered))]
 
     def read(self, first: int, count: int) -> bytes:
         read = b""
@@ -173,7 +183,7 @@ class Drive:
             new = data[SECTOR * part.in_request:SECTOR * (part.in_request + part.sectors)]
             block = old[:SECTOR * part.in_block] + new + old[SECTOR * (part.in_block + part.sectors):]
             self.write_block(part, block)
-            self.buffered = (part.logical, block)
+            self.buffer(part.logical, block)
 
     def write_block(self, part: Part, block: bytes) -> None:
         """Writes a logical block to its home, or to the first free spare that is not dead."""
@@ -201,11 +211,11 @@ class Drive:
         else:
             kept: Dict[int, int] = {} if self.lists is None else self.kept(self.lists, forgets)
             kind = Kind.FIRST_FORMAT if self.lists is None else Kind.LATER_FORMAT
-            self.lists, self.buffered = None, None
+            self.lists, self.buffered = None, {}
             self.format_fully(kept, kind)
 
     def rewrite(self, lists: Lists) -> None:
-        self.buffered = None
+        self.buffered = {}
         repaired = [self.on_copies(self.mend, copies)
                     for copies in (self.structure_copies(lists.structure), self.secondary_copies(lists.secondary))]
         if not all(repaired):
@@ -257,7 +267,7 @@ class Drive:
     def expand(self, sectors: int) -> None:
         """Makes the last logical blocks supplementary spares, so that this many sectors are left."""
         assert self.lists is not None
-        self.buffered = None
+        self.buffered = {}
         if sectors == self.sectors:
             return
         old, blocks = self.lists, sectors // SECTORS_IN_BLOCK
