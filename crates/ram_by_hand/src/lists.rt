@@ -181,7 +181,11 @@ fn list_of(alloc: Global, first: &Block, second: Option<&Block>) -> Result<List,
         entries.extend_from_slice(&entries_in(alloc, second.bytes(), left)?)?;
     }
     Ok(List {
-        version: if second.is_some() { Version::Two } else { Version::One },
+        version: if second.is_some() {
+            Version::Two
+        } else {
+            Version::One
+        },
         counter: number_at(bytes, 4, 4),
         under: number_at(bytes, 8, 4),
         ssa: (number_at(bytes, 12, 2) & 0xffff) as u16,

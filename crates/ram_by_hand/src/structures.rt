@@ -76,7 +76,11 @@ impl Structure {
             Version::One => "",
             Version::Two => ", version 2",
         };
-        write!(text, "{} {state}{version}, {} spares", self.counter, self.spares)
+        write!(
+            text,
+            "{} {state}{version}, {} spares",
+            self.counter, self.spares
+        )
     }
 }
 

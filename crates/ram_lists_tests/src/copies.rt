@@ -363,7 +363,14 @@ pub fn answer_all<M: Fresh>(alloc: Global, answers: &mut String) -> Result<(), A
             &secondary
         };
         for call in CALLS {
-            try_ends::<M>(alloc, texts, number, kinds.map(Area::of_one), call, &mut tally)?;
+            try_ends::<M>(
+                alloc,
+                texts,
+                number,
+                kinds.map(Area::of_one),
+                call,
+                &mut tally,
+            )?;
         }
     }
     tally.add_to(answers)
@@ -402,7 +409,14 @@ pub fn answer_stops<M: Fresh>(alloc: Global, answers: &mut String) -> Result<(),
         let (a, b) = (number % 5, number / 5);
         let kinds = [kind(a), kind(b), kind(a + b), kind(a + 2 * b)];
         for call in CALLS {
-            try_stops::<M>(alloc, &texts, number, kinds.map(Area::of_one), call, &mut tally)?;
+            try_stops::<M>(
+                alloc,
+                &texts,
+                number,
+                kinds.map(Area::of_one),
+                call,
+                &mut tally,
+            )?;
         }
     }
     tally.add_to(answers)
@@ -488,7 +502,14 @@ pub fn answer_cuts<M: Fresh>(alloc: Global, answers: &mut String) -> Result<(), 
         let kinds = [kind(a), kind(b), kind(c), kind(a + b + c)];
         for call in CALLS {
             if is_safe(kinds, call) {
-                try_cuts::<M>(alloc, &texts, number, kinds.map(Area::of_one), call, &mut tally)?;
+                try_cuts::<M>(
+                    alloc,
+                    &texts,
+                    number,
+                    kinds.map(Area::of_one),
+                    call,
+                    &mut tally,
+                )?;
             }
         }
     }

@@ -324,7 +324,9 @@ impl Reference {
     pub fn answer(&mut self, call: Call) -> Answer {
         match call {
             Call::Mount => self.mount(),
-            Call::Choose { .. } | Call::Update { .. } | Call::Repair { .. } => self.over_areas(call),
+            Call::Choose { .. } | Call::Update { .. } | Call::Repair { .. } => self.over_areas(
+                call,
+            ),
         }
     }
 
@@ -370,7 +372,11 @@ impl Reference {
 
     /// The greatest structure that a first block names.
     fn mark(&self) -> u32 {
-        let greatest = self.copies.iter().filter_map(|copy| copy.first.counter()).max();
+        let greatest = self
+            .copies
+            .iter()
+            .filter_map(|copy| copy.first.counter())
+            .max();
         match (greatest, self.under) {
             (Some(_), Some(under)) => under,
             (Some(counter), None) => counter,

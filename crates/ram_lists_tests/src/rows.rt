@@ -2,13 +2,12 @@
 
 use crate::bench::{Bench, Fresh, blank};
 use crate::copies::{answer_all, answer_cuts, answer_dead, answer_stops};
-use crate::parts;
 use crate::copies_reference::{Answer, Call};
 use crate::greatest::answer_greatest;
 use crate::memory::answer_refused;
-use crate::mounts;
 use crate::steps::{Step, step_of};
 use crate::texts::{Lists, Text, Texts};
+use crate::{mounts, parts};
 use ram_by_hand::{Controlled, Rows, answer_event, answer_work};
 use ram_bytes::Block;
 use ram_dds::DdsPdl;

@@ -54,7 +54,10 @@ fn moved_past(tried: u32) -> List {
         2 => " 11-12>none 13>10",
         _ => " 10-12>none 13>9",
     };
-    List { counter: 2, entries }
+    List {
+        counter: 2,
+        entries,
+    }
 }
 
 /// The words for a version behind a counter.
@@ -117,7 +120,10 @@ impl Mixture {
     /// How many more uses a mount takes where those copies were dead before: two to write a block again in vain. A second block
     /// is not read for the choice where the first one cannot be read.
     fn more_uses(self) -> u32 {
-        let (odd, even) = ((self.copies & 5).count_ones().min(2), (self.copies & 10).count_ones().min(2));
+        let (odd, even) = (
+            (self.copies & 5).count_ones().min(2),
+            (self.copies & 10).count_ones().min(2),
+        );
         match (self.dying, self.version) {
             (true, _) => 0,
             (false, Version::One) => 2 * odd + 2 * even,
