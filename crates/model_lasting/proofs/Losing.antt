@@ -1,25 +1,24 @@
 -- That a stopped call loses one copy of a list at most.
 use Rattle.std.specs.Prelude.{◌≡◌, ℕ, ◌+◌, Bool, List}
-use Rattle.std.proofs.Common.{refl, sym, ap, ◌∙◌, inl, inr, subst}
+use Rattle.std.proofs.Common.{sym, ap, inl, inr, subst}
 use Rattle.std.proofs.lemmas.Bool.{cases_eq}
 use Rattle.model_geometry.specs.Geometry.{Shape, dds_block, sdl_block, sdl_second_block}
 use Rattle.model_lists.specs.declared.versions.Version.{Version}
 use Rattle.model_lists.specs.declared.versions.Version.TheVariants.{Two}
-use Rattle.model_lists.specs.Values.{Dds, Sdl}
+use Rattle.model_lists.specs.Values.{Dds}
 use Rattle.model_lists.specs.Texts.{IsDdsText}
-use Rattle.model_medium.specs.Cells.{Cell, Dead, IsSameOrDead, cell_at}
+use Rattle.model_medium.specs.Cells.{Cell, IsSameOrDead, cell_at}
 use Rattle.model_stops.specs.declared.Stop.{Stop}
 use Rattle.model_copies.specs.Copies.{IsArea, Holds, HoldsOrDead, HasDdsCopy, Settled}
-use Rattle.model_copies.specs.Parts.{HasSdlCopy, SdlIsExact}
 use Rattle.model_places.specs.Places.{Lists}
 use Rattle.model_volume.specs.Expansions.{lists_expanded}
 use Rattle.model_volume.proofs.Updates.{dds_no_sdl, dds_no_second}
-use Rattle.model_survival.specs.Findable.{DdsLives, SdlLives, ListCellsDie}
+use Rattle.model_survival.specs.Findable.{DdsLives, SdlLives}
 use Rattle.model_survival.specs.Losing.{LosesOneDds, LosesOneSdl, LosesOneAtMost, HaveOneVersion}
 use Rattle.model_survival.proofs.Finding.{alive_holds, lives_has, die_of_loses}
 use Rattle.model_survival.proofs.Losing.{dds_lost, sdl_lost, sdl_died, settled_lost, died_lost, mount_lost}
 use Rattle.model_formats.specs.Fresh.{formatting_dds, formatted_dds, fresh_sdl}
-use Rattle.model_formats.specs.Leaving.{FormatsFirst, FormatsSdl, FormatsLast, FormatsInPart}
+use Rattle.model_formats.specs.Leaving.{FormatsLast, FormatsInPart}
 use Rattle.model_drive.specs.Shown.{Shown, IsKnown, cells_in, home}
 use Rattle.model_sectors.specs.Requests.{block_with}
 use Rattle.model_drive.specs.Power.{StopsInMount, MountLacksMemory}
