@@ -3,14 +3,15 @@ use Rattle.std.specs.Prelude.{◌≡◌, ℕ, Bool, true, Option, Some, IfSome, 
 use Rattle.std.specs.Bool.{OnTrue}
 use Rattle.std.proofs.Common.{sym, ap, subst}
 use Rattle.ram_run.specs.declared.status.Status.{Status}
+use Rattle.ram_run.specs.RunCounts.{Counts}
 use Rattle.ram_run.specs.Words.{Surroundings}
 use Rattle.ram_run.specs.Progress.{Beginning}
 use Rattle.ram_run.specs.Endings.{Begins, IsBeginning, StandsWith, aftermath, bytes_returned}
 
 -- the same where the image was handed back
-pub leaves_there : (first : Beginning) (left written image image' : Option (List ℕ)) (status : Status) → image' ≡ image → StandsWith first (aftermath left written image) status
-    → StandsWith first (aftermath left written image') status
-leaves_there first left written image image' status same leaves = subst (λ o. StandsWith first (aftermath left written o) status) (sym same) leaves
+pub leaves_there : (first : Beginning) (left written image image' : Option (List ℕ)) (before after : Counts) (status : Status) → image' ≡ image → StandsWith first (aftermath left written image before after) status
+    → StandsWith first (aftermath left written image' before after) status
+leaves_there first left written image image' before after status same leaves = subst (λ o. StandsWith first (aftermath left written o before after) status) (sym same) leaves
 
 -- what is known, of the image that was opened
 pub begins_known : {I : Type 0} (bytes_of : I → Option (List ℕ)) (first : Beginning) (before : Surroundings I) (returned_known : Bool) (image : I) → IsBeginning bytes_of first before returned_known → IfSome before.opener.next (λ known. image ≡ known)
