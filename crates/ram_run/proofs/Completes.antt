@@ -21,6 +21,7 @@ use Rattle.ram_run.specs.Replies.{Outcome}
 use Rattle.ram_run.specs.States.{State, Served, Unopened, Disc, IsFirst, IsPressedDisc}
 use Rattle.ram_run.specs.LineSteps.{PressStep, OnDisc, Step}
 use Rattle.ram_run.specs.Run.{AnsweredLine, IsStep, Run, Reaches, script_text}
+use Rattle.model_counts.specs.Counts.{Rose}
 use Rattle.ram_run.specs.RunCounts.{Counts}
 use Rattle.ram_run.specs.Progress.{Beginning, SoFar, IsLast}
 use Rattle.ram_run.specs.Endings.{IsUnopened, IsOfScript, Aftermath, SinkRose, StandsWith, StatusCounts}
@@ -233,7 +234,7 @@ sink_failed before after (inr (inl source)) = source.sink
 sink_failed before after (inr (inr image)) = image.sink
 
 module _ (first : Beginning) (language : IsInLanguage first.script) (begins : BeginsWithDisc first) (before after : Counts) (none : NoneRose before after) where
-  comes_to_its_end : (aftermath : Aftermath) (status : Status) → StatusCounts before after status → StandsWith first aftermath status → IsComplete status
+  comes_to_its_end : (aftermath : Aftermath) (status : Status) → StatusCounts before after status → StandsWith first aftermath before after status → IsComplete status
   comes_to_its_end aftermath statuses.Done counts leaves = tt
   comes_to_its_end aftermath statuses.Usage counts leaves = absurd leaves
   comes_to_its_end aftermath statuses.Script counts leaves = absurd (well_spelled first leaves.2.far leaves.0 language leaves.1 leaves.2.last_is)
@@ -255,6 +256,6 @@ module _ (first : Beginning) (language : IsInLanguage first.script) (begins : Be
 
 -- such a run comes to its end
 pub completes : (first : Beginning) → IsInLanguage first.script → BeginsWithDisc first → (before after : Counts) → NoneRose before after
-    → (aftermath : Aftermath) (untouched : Type 0) (status : Status) → StatusCounts before after status → StandsWith first aftermath status ⊎ (IsUnopened status × untouched) → IsComplete status
+    → (aftermath : Aftermath) (untouched : Type 0) (status : Status) → StatusCounts before after status → StandsWith first aftermath before after status ⊎ (IsUnopened status × untouched) → IsComplete status
 completes first language begins before after none aftermath untouched status counts (inl stands) = comes_to_its_end first language begins before after none aftermath status counts stands
 completes first language begins before after none aftermath untouched status counts (inr un) = unopened first language begins before after none status counts un.0

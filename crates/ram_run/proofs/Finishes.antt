@@ -188,12 +188,12 @@ module _ (first : Beginning) (stands : State → Type 0) (image : Option (List �
 
   module _ (view : View) (written : Option (List ℕ)) (counts counts' : Counts) where
     -- the source failed after the lines
-    cut_by_source : (e : EndsBetween first stands view (Err stopped.SourceFault)) → IsCutBySource e.far (aftermath view.left written image counts counts')
+    cut_by_source : (e : EndsBetween first stands view (Err stopped.SourceFault)) → IsCutBySource e.far (aftermath view.left written image)
     cut_by_source e = record { image_is = leaves e.far.now e.stands_now; given = view.buffered; unended = e.stopped_at.unended.0; rest_is = e.stopped_at.unended.1 }
 
     -- the sink failed in the end, after lines that ended between two of them
     sink_between : (ending : Ending) (more : List ℕ) → EndsBetween first stands view ending → append_known written more ≡ append_known view.due (last_of view.tally ending) → IsNearlyWritten view.due written
-        → OnlySinkRose counts counts' → IsReportCutOff first (aftermath view.left written image counts counts')
+        → OnlySinkRose counts counts' → IsReportCutOff first (aftermath view.left written image) counts counts'
     sink_between ending more e prefix nearly alone = record {
       far = e.far;
       written_is = prefix_with_any first e.far view.due written nearly more (last_line view.tally ending) e.stopped_at.due_is e.stopped_at.last_is prefix;
@@ -202,7 +202,7 @@ module _ (first : Beginning) (stands : State → Type 0) (image : Option (List �
 
     -- the sink failed in the end, whatever the lines ended by
     at_sink : (ending : Ending) (more : List ℕ) → Ends first stands view ending → append_known written more ≡ append_known view.due (last_of view.tally ending) → IsNearlyWritten view.due written
-        → Behind counts counts' ending → IsReportCutOff first (aftermath view.left written image counts counts')
+        → Behind counts counts' ending → IsReportCutOff first (aftermath view.left written image) counts counts'
     at_sink (Ok done) more e prefix nearly behind = sink_between (Ok done) more e prefix nearly behind
     at_sink (Err stopped.NotInLanguage) more e prefix nearly behind = sink_between (Err stopped.NotInLanguage) more e prefix nearly behind
     at_sink (Err stopped.LineTooLong) more e prefix nearly behind = sink_between (Err stopped.LineTooLong) more e prefix nearly behind
@@ -227,7 +227,7 @@ module _ (first : Beginning) (stands : State → Type 0) (image : Option (List �
     }
 
     -- all was written, and there is a last line
-    ended : (last : LastLine) (far : SoFar first) → stands far.now → IsReported far view.due → IsLast far last → written ≡ append_known view.due (last_text last) → IsEnded first (aftermath view.left written image counts counts') last
+    ended : (last : LastLine) (far : SoFar first) → stands far.now → IsReported far view.due → IsLast far last → written ≡ append_known view.due (last_text last) → IsEnded first (aftermath view.left written image) last
     ended last far now due_is last_is whole = record {
       far = far;
       last_is = last_is;
@@ -236,11 +236,11 @@ module _ (first : Beginning) (stands : State → Type 0) (image : Option (List �
     }
 
     -- the next line was not done whole, and is not told
-    stopped_in : (outcome : Outcome) → EndsInLine first stands view outcome → written ≡ append_known view.due [] → IsStoppedInLine first (aftermath view.left written image counts counts') outcome
+    stopped_in : (outcome : Outcome) → EndsInLine first stands view outcome → written ≡ append_known view.due [] → IsStoppedInLine first (aftermath view.left written image) outcome
     stopped_in outcome e whole = record { far = e.far; written_is = written_as_due first e.far view.due written e.due_is whole; line = comes_to e.far outcome e.line }
 
     -- all was written, and the status tells how the lines ended
-    at_end : (ending : Ending) → Ends first stands view ending → (ending ≡ Err stopped.SinkFault → ⊥) → written ≡ append_known view.due (last_of view.tally ending) → StandsWith first (aftermath view.left written image counts counts') (status_of ending)
+    at_end : (ending : Ending) → Ends first stands view ending → (ending ≡ Err stopped.SinkFault → ⊥) → written ≡ append_known view.due (last_of view.tally ending) → StandsWith first (aftermath view.left written image) counts counts' (status_of ending)
     at_end (Ok done) e other whole = (view.tally.answered, ended (lasts.End view.tally.answered) e.far e.stands_now e.stopped_at.due_is e.stopped_at.last_is whole)
     at_end (Err stopped.NotInLanguage) e other whole =
         (lasts.NotInLanguage (view.tally.lines + 1), tt, ended (lasts.NotInLanguage (view.tally.lines + 1)) e.far e.stands_now e.stopped_at.due_is e.stopped_at.last_is whole)
@@ -260,12 +260,12 @@ module _ (first : Beginning) (stands : State → Type 0) (image : Option (List �
     at_end (Err stopped.NoMemory) e other whole = inr (stopped_in (Err stopped.NoMemory) e whole)
 
     module _ (ending : Ending) (before : Option (List ℕ)) (f f' : ℕ) (behind : (ending ≡ Err stopped.SinkFault) ⊎ Rose f f' → f ≤ f' → Behind counts counts' ending) where
-      by_status : (status : Status) → (statuses.SinkFault ≡ status → ⊥) → Ends first stands view ending → EndsWhole view.due (sink_view before f) (sink_view written f') view.tally ending status → StandsWith first (aftermath view.left written image counts counts') status
+      by_status : (status : Status) → (statuses.SinkFault ≡ status → ⊥) → Ends first stands view ending → EndsWhole view.due (sink_view before f) (sink_view written f') view.tally ending status → StandsWith first (aftermath view.left written image) counts counts' status
       by_status status other e rule =
-          subst (StandsWith first (aftermath view.left written image counts counts')) (sym rule.status_is) (at_end ending e (λ is. not_sink ending status rule.status_is is other) rule.whole)
+          subst (StandsWith first (aftermath view.left written image) counts counts') (sym rule.status_is) (at_end ending e (λ is. not_sink ending status rule.status_is is other) rule.whole)
 
       -- what is left and written, by the status that is told
-      pub left_by : (status : Status) → Ends first stands view ending → FinishRule view.due (sink_view before f) (sink_view written f') view.tally ending status → StandsWith first (aftermath view.left written image counts counts') status
+      pub left_by : (status : Status) → Ends first stands view ending → FinishRule view.due (sink_view before f) (sink_view written f') view.tally ending status → StandsWith first (aftermath view.left written image) counts counts' status
       left_by statuses.Usage e rule = absurd rule
       left_by statuses.SinkFault e rule = at_sink ending rule.more e rule.prefix rule.nearly (behind rule.cause rule.count)
       left_by statuses.Done e rule = by_status statuses.Done (λ x. cc) e rule

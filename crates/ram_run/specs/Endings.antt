@@ -37,19 +37,15 @@ status_of (Err stopped.SinkFault) = statuses.SinkFault
 status_of (Err stopped.ImageFault) = statuses.ImageFault
 status_of (Err stopped.NoMemory) = statuses.NoMemory
 
--- What is known afterwards: what the source has left, what is written, and the image's bytes; and how often each of them
--- had failed before the run, and then.
+-- What is known afterwards: what the source has left, what is written, and the image's bytes.
 pub record Aftermath : Type 0 where
   pub left : Option (List ℕ)
   pub written : Option (List ℕ)
   pub image : Option (List ℕ)
-  pub before : Counts
-  pub counts : Counts
 
 -- these
-abbrev pub aftermath : Option (List ℕ) → Option (List ℕ) → Option (List ℕ) → Counts → Counts → Aftermath
-aftermath left written image before counts =
-    record { left = left; written = written; image = image; before = before; counts = counts }
+abbrev pub aftermath : Option (List ℕ) → Option (List ℕ) → Option (List ℕ) → Aftermath
+aftermath left written image = record { left = left; written = written; image = image }
 
 -- the answers and this last line
 abbrev pub whole_text : {first : Beginning} → SoFar first → LastLine → List ℕ
@@ -107,20 +103,20 @@ pub record IsWrittenInPart {first : Beginning} (far : SoFar first) (written : Op
       ⊎ ((last : LastLine) × IsLast far last × (bytes ++ more ≡ whole_text far last))
   pub nearly : due_before far ≤ length bytes + GATHERED_ROOM
 
--- What had stopped the lines when the sink failed, and failed too: nothing else; the source; or the image, in the next line.
--- Where memory had run out in the next line, nothing else failed.
-abbrev pub StoodBehind : {first : Beginning} → SoFar first → Aftermath → Type 0
-StoodBehind far after =
-    (OnlySinkRose after.before after.counts × LeavesImage far.now after.image)
-    ⊎ (SourceAndSinkRose after.before after.counts × IsCutBySource far after)
-    ⊎ (ImageAndSinkRose after.before after.counts × ComesToThis far after.image (Err stopped.ImageFault))
-    ⊎ (OnlySinkRose after.before after.counts × ComesToThis far after.image (Err stopped.NoMemory))
+-- What else failed before the sink did: nothing; the source; or the image, in the next line. Where memory ran out in the
+-- next line, nothing else failed.
+abbrev pub StoodBehind : {first : Beginning} → SoFar first → Aftermath → (old new : Counts) → Type 0
+StoodBehind far after old new =
+    (OnlySinkRose old new × LeavesImage far.now after.image)
+    ⊎ (SourceAndSinkRose old new × IsCutBySource far after)
+    ⊎ (ImageAndSinkRose old new × ComesToThis far after.image (Err stopped.ImageFault))
+    ⊎ (OnlySinkRose old new × ComesToThis far after.image (Err stopped.NoMemory))
 
 -- the sink failed
-pub record IsReportCutOff (first : Beginning) (after : Aftermath) : Type 0 where
+pub record IsReportCutOff (first : Beginning) (after : Aftermath) (old new : Counts) : Type 0 where
   pub far : SoFar first
   pub written_is : IsWrittenInPart far after.written
-  pub behind : StoodBehind far after
+  pub behind : StoodBehind far after old new
 
 -- the last line tells what is wrong with the script
 abbrev pub IsOfScript : LastLine → Type 0
@@ -130,16 +126,18 @@ IsOfScript (lasts.LineTooLong line) = Unit {0}
 IsOfScript lasts.ScriptTooLong = Unit {0}
 IsOfScript (lasts.NotADisc line) = ⊥
 
--- What stands with each status, where the bytes of source, sink, opener and image are known.
-abbrev pub StandsWith : Beginning → Aftermath → Status → Type 0
-StandsWith first after statuses.Done = (answered : ℕ) × IsEnded first after (lasts.End answered)
-StandsWith first after statuses.Usage = ⊥
-StandsWith first after statuses.Script = (last : LastLine) × IsOfScript last × IsEnded first after last
-StandsWith first after statuses.ImageFault = IsNotBegun first after ⊎ IsStoppedInLine first after (Err stopped.ImageFault)
-StandsWith first after statuses.SourceFault = IsBroken first after
-StandsWith first after statuses.SinkFault = IsReportCutOff first after
-StandsWith first after statuses.NoMemory = IsNotBegun first after ⊎ IsStoppedInLine first after (Err stopped.NoMemory)
-StandsWith first after statuses.NotADisc = (line : ℕ) × IsEnded first after (lasts.NotADisc line)
+-- What stands with each status, where the bytes of source, sink, opener and image are known; and what had failed by then.
+abbrev pub StandsWith : Beginning → Aftermath → (old new : Counts) → Status → Type 0
+StandsWith first after old new statuses.Done = (answered : ℕ) × IsEnded first after (lasts.End answered)
+StandsWith first after old new statuses.Usage = ⊥
+StandsWith first after old new statuses.Script = (last : LastLine) × IsOfScript last × IsEnded first after last
+StandsWith first after old new statuses.ImageFault =
+    IsNotBegun first after ⊎ IsStoppedInLine first after (Err stopped.ImageFault)
+StandsWith first after old new statuses.SourceFault = IsBroken first after
+StandsWith first after old new statuses.SinkFault = IsReportCutOff first after old new
+StandsWith first after old new statuses.NoMemory =
+    IsNotBegun first after ⊎ IsStoppedInLine first after (Err stopped.NoMemory)
+StandsWith first after old new statuses.NotADisc = (line : ℕ) × IsEnded first after (lasts.NotADisc line)
 
 -- the sink failed, and of source and image at most the one that had stopped the lines before
 abbrev pub SinkRose : Counts → Counts → Type 0
@@ -230,9 +228,8 @@ bytes_returned bytes_of None = None
 bytes_returned bytes_of (Some image) = bytes_of image
 
 -- what is known after a run
-abbrev pub aftermath_of : {I : Type 0} → (I → Option (List ℕ)) → (before after : Surroundings I) → Aftermath
-aftermath_of bytes_of before after =
-    aftermath after.left after.written (bytes_returned bytes_of after.opener.returned) before.counts after.counts
+abbrev pub aftermath_of : {I : Type 0} → (I → Option (List ℕ)) → Surroundings I → Aftermath
+aftermath_of bytes_of after = aftermath after.left after.written (bytes_returned bytes_of after.opener.returned)
 
 -- the status of a run that opened no image: the opener failed, or there was no memory
 abbrev pub IsUnopened : Status → Type 0

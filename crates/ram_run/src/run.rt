@@ -74,8 +74,9 @@ pub fn run<S: Source, K: Sink, O: Opener>(
         → IsBeginning O.Image.bytes first
         (around S.Source K.Sink O.Opener script.old report.old opener.old) O.returned_known
         → StandsWith first (aftermath_of O.Image.bytes
-        (around S.Source K.Sink O.Opener script.old report.old opener.old)
-        (around S.Source K.Sink O.Opener script.new report.new opener.new)) result
+        (around S.Source K.Sink O.Opener script.new report.new opener.new))
+        (around S.Source K.Sink O.Opener script.old report.old opener.old).counts
+        (around S.Source K.Sink O.Opener script.new report.new opener.new).counts result
         ⊎ (IsUnopened result × IsNotOpened
         (around S.Source K.Sink O.Opener script.old report.old opener.old)
         (around S.Source K.Sink O.Opener script.new report.new opener.new)) }
@@ -132,8 +133,9 @@ fn run_image<S: Source, K: Sink, O: Opener>(
         → IsBeginning O.Image.bytes first
         (around S.Source K.Sink O.Opener script.old report.old opener.old) O.returned_known
         → StandsWith first (aftermath_of O.Image.bytes
-        (around S.Source K.Sink O.Opener script.old report.old opener.old)
-        (around S.Source K.Sink O.Opener script.new report.new opener.new)) result
+        (around S.Source K.Sink O.Opener script.new report.new opener.new))
+        (around S.Source K.Sink O.Opener script.old report.old opener.old).counts
+        (around S.Source K.Sink O.Opener script.new report.new opener.new).counts result
         ⊎ (IsUnopened result × IsNotOpened
         (around S.Source K.Sink O.Opener script.old report.old opener.old)
         (around S.Source K.Sink O.Opener script.new report.new opener.new)) }

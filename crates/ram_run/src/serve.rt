@@ -140,10 +140,10 @@ pub fn serve<D: Drive, S: Source, K: Sink>(
     ensures same { HasSameEnds dialogue.old dialogue.new }
     ensures leaves { (first : Beginning)
         → Begins first (S.left (source_of dialogue.old)) (K.written (sink_of dialogue.old)) (D.Image.bytes image)
-        → StandsWith first (aftermath (S.left (source_of dialogue.new)) (K.written (sink_of dialogue.new))
-        (D.Image.bytes result.0)
+        → StandsWith first
+        (aftermath (S.left (source_of dialogue.new)) (K.written (sink_of dialogue.new)) (D.Image.bytes result.0))
         (counts_with S.Source K.Sink dialogue.old (D.Image.faults image))
-        (counts_with S.Source K.Sink dialogue.new (D.Image.faults result.0))) result.1 }
+        (counts_with S.Source K.Sink dialogue.new (D.Image.faults result.0)) result.1 }
     ensures counts { StatusCounts (counts_with S.Source K.Sink dialogue.old (D.Image.faults image))
         (counts_with S.Source K.Sink dialogue.new (D.Image.faults result.0)) result.1 }
 {
