@@ -1,9 +1,9 @@
 //! The state of a run beside what lies in the drive and what goes between script and report: room for the data of a
 //! command both ways, and how many lines came.
-ghost use Rattle.std.specs.Prelude.{◌≡◌, ◌^◌, ◌<◌, ◌+◌, ℕ, Option, List, [], IfOk};
+ghost use Rattle.std.specs.Prelude.{◌≡◌, ◌^◌, ◌<◌, ◌+◌, ℕ, [], IfOk};
 ghost use Rattle.ram_text.specs.Dialogue.{HasSameEnds, AsksNothing, reading_of, sink_of};
 ghost use Rattle.ram_run.specs.Counting.{AreAtMost};
-ghost use Rattle.ram_run.specs.Replies.{Outcome, PrintsWhere};
+ghost use Rattle.ram_run.specs.Replies.{PrintsWhere};
 ghost use Rattle.ram_run.specs.RunCounts.{StopCounts, TellCount, counts_with};
 ghost use Rattle.ram_run.specs.RunState.{IsFresh, HasRoom, TallyRule};
 ghost use Rattle.ram_run.specs.Progress.{Beginning, SoFar, IsAt, NextRule, FoundCountsUses, TakesBytes, TellRule, run_view, tally_with};
