@@ -1,16 +1,65 @@
 -- What opening and closing an image make of a run over it.
 use Rattle.std.specs.Prelude.{◌≡◌, ℕ, Bool, true, Option, Some, IfSome, List}
 use Rattle.std.specs.Bool.{OnTrue}
-use Rattle.std.proofs.Common.{sym, ap, subst}
+use Rattle.std.proofs.Common.{arith, inl, inr, sym, ap, subst}
+use Rattle.model_counts.specs.Counts.{counted}
 use Rattle.ram_run.specs.declared.status.Status.{Status}
+use Rattle.ram_run.specs.declared.status.Status.TheVariants as statuses
+use Rattle.ram_run.specs.RunCounts.{Counts, counts_of, OnlySinkRose, SourceAndSinkRose, ImageAndSinkRose}
 use Rattle.ram_run.specs.Words.{Surroundings}
-use Rattle.ram_run.specs.Progress.{Beginning}
-use Rattle.ram_run.specs.Endings.{Begins, IsBeginning, StandsWith, aftermath, bytes_returned}
+use Rattle.ram_run.specs.Progress.{Beginning, SoFar}
+use Rattle.ram_run.specs.Endings.{Aftermath, Begins, IsBeginning, StandsWith, StoodBehind, aftermath, bytes_returned}
 
--- the same where the image was handed back
-pub leaves_there : (first : Beginning) (left written image image' : Option (List ℕ)) (status : Status) → image' ≡ image → StandsWith first (aftermath left written image) status
-    → StandsWith first (aftermath left written image') status
-leaves_there first left written image image' status same leaves = subst (λ o. StandsWith first (aftermath left written o) status) (sym same) leaves
+-- an image that had not failed was taken back: its failures are the opener's
+module _ (source source' sink sink' faults failed : ℕ) where
+  abbrev inside : Counts
+  inside = counts_of source sink 0
+
+  abbrev inside' : Counts
+  inside' = counts_of source' sink' failed
+
+  abbrev outside : Counts
+  outside = counts_of source sink faults
+
+  abbrev outside' : Counts
+  outside' = counts_of source' sink' (counted faults failed)
+
+  sink_alone : OnlySinkRose inside inside' → OnlySinkRose outside outside'
+  sink_alone rose = record { source = rose.source; sink = rose.sink; image = omega (arith, rose.image) }
+
+  source_too : SourceAndSinkRose inside inside' → SourceAndSinkRose outside outside'
+  source_too rose = record { source = rose.source; sink = rose.sink; image = omega (arith, rose.image) }
+
+  image_too : ImageAndSinkRose inside inside' → ImageAndSinkRose outside outside'
+  image_too rose = record { source = rose.source; sink = rose.sink; image = omega (arith, rose.image) }
+
+  module _ (first : Beginning) (after : Aftermath) where
+    behind_there : (far : SoFar first) → StoodBehind far after inside inside' → StoodBehind far after outside outside'
+    behind_there far (inl alone) = inl (sink_alone alone.0, alone.1)
+    behind_there far (inr (inl source)) = inr (inl (source_too source.0, source.1))
+    behind_there far (inr (inr (inl image))) = inr (inr (inl (image_too image.0, image.1)))
+    behind_there far (inr (inr (inr none))) = inr (inr (inr (sink_alone none.0, none.1)))
+
+    -- what stands with a status is told with the opener's count
+    pub stands_there : (status : Status) → StandsWith first after inside inside' status → StandsWith first after outside outside' status
+    stands_there statuses.Done stands = stands
+    stands_there statuses.Usage stands = stands
+    stands_there statuses.Script stands = stands
+    stands_there statuses.ImageFault stands = stands
+    stands_there statuses.SourceFault stands = stands
+    stands_there statuses.SinkFault stands = record { far = stands.far; written_is = stands.written_is; behind = behind_there stands.far stands.behind }
+    stands_there statuses.NoMemory stands = stands
+    stands_there statuses.NotADisc stands = stands
+
+-- the same, where what is known before and afterwards has other names
+pub renamed : (first : Beginning) (left left' written written' image image' : Option (List ℕ)) (old old' new new' : Counts) (status : Status) → left' ≡ left → written' ≡ written → image' ≡ image → old' ≡ old → new' ≡ new
+    → StandsWith first (aftermath left written image) old new status → StandsWith first (aftermath left' written' image') old' new' status
+renamed first left left' written written' image image' old old' new new' status l w i o n stands =
+    subst (λ x. StandsWith first (aftermath x written' image') old' new' status) (sym l)
+    (subst (λ x. StandsWith first (aftermath left x image') old' new' status) (sym w)
+    (subst (λ x. StandsWith first (aftermath left written x) old' new' status) (sym i)
+    (subst (λ x. StandsWith first (aftermath left written image) x new' status) (sym o)
+    (subst (λ x. StandsWith first (aftermath left written image) old x status) (sym n) stands))))
 
 -- what is known, of the image that was opened
 pub begins_known : {I : Type 0} (bytes_of : I → Option (List ℕ)) (first : Beginning) (before : Surroundings I) (returned_known : Bool) (image : I) → IsBeginning bytes_of first before returned_known → IfSome before.opener.next (λ known. image ≡ known)

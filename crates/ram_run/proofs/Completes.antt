@@ -21,9 +21,10 @@ use Rattle.ram_run.specs.Replies.{Outcome}
 use Rattle.ram_run.specs.States.{State, Served, Unopened, Disc, IsFirst, IsPressedDisc}
 use Rattle.ram_run.specs.LineSteps.{PressStep, OnDisc, Step}
 use Rattle.ram_run.specs.Run.{AnsweredLine, IsStep, Run, Reaches, script_text}
+use Rattle.model_counts.specs.Counts.{Rose}
 use Rattle.ram_run.specs.RunCounts.{Counts}
 use Rattle.ram_run.specs.Progress.{Beginning, SoFar, IsLast}
-use Rattle.ram_run.specs.Endings.{IsUnopened, IsOfScript, Aftermath, StandsWith, StatusCounts}
+use Rattle.ram_run.specs.Endings.{IsUnopened, IsOfScript, Aftermath, SinkRose, StandsWith, StatusCounts}
 use Rattle.ram_run.proofs.Answering.{distinct, disc_answers}
 use Rattle.ram_run.specs.Completes.{BeginsLine, ReadsOn, IsInLanguage, lines_text, AreSilent, IsLawfulPress, BeginsWithPress, BeginsWithDisc, NoneRose, IsComplete}
 
@@ -226,14 +227,20 @@ never_lacks : (first : Beginning) → BeginsWithDisc first → (far : SoFar firs
 never_lacks first begins far line is =
     let found = is.0 in has_disc first begins far.start far.starts far.events far.rest far.now found.0 found.1 found.2 found.3 far.run far.lines found.4 found.5
 
+-- the sink failed, whatever failed before it
+sink_failed : (before after : Counts) → SinkRose before after → Rose before.sink after.sink
+sink_failed before after (inl alone) = alone.sink
+sink_failed before after (inr (inl source)) = source.sink
+sink_failed before after (inr (inr image)) = image.sink
+
 module _ (first : Beginning) (language : IsInLanguage first.script) (begins : BeginsWithDisc first) (before after : Counts) (none : NoneRose before after) where
-  comes_to_its_end : (aftermath : Aftermath) (status : Status) → StatusCounts before after status → StandsWith first aftermath status → IsComplete status
+  comes_to_its_end : (aftermath : Aftermath) (status : Status) → StatusCounts before after status → StandsWith first aftermath before after status → IsComplete status
   comes_to_its_end aftermath statuses.Done counts leaves = tt
   comes_to_its_end aftermath statuses.Usage counts leaves = absurd leaves
   comes_to_its_end aftermath statuses.Script counts leaves = absurd (well_spelled first leaves.2.far leaves.0 language leaves.1 leaves.2.last_is)
   comes_to_its_end aftermath statuses.NotADisc counts leaves = absurd (never_lacks first begins leaves.1.far leaves.0 leaves.1.last_is)
   comes_to_its_end aftermath statuses.SourceFault counts leaves = absurd (none.source counts.source)
-  comes_to_its_end aftermath statuses.SinkFault counts leaves = absurd (none.sink counts.sink)
+  comes_to_its_end aftermath statuses.SinkFault counts leaves = absurd (none.sink (sink_failed before after counts))
   comes_to_its_end aftermath statuses.ImageFault counts leaves = absurd (none.image counts.image)
   comes_to_its_end aftermath statuses.NoMemory counts leaves = tt
 
@@ -249,6 +256,6 @@ module _ (first : Beginning) (language : IsInLanguage first.script) (begins : Be
 
 -- such a run comes to its end
 pub completes : (first : Beginning) → IsInLanguage first.script → BeginsWithDisc first → (before after : Counts) → NoneRose before after
-    → (aftermath : Aftermath) (untouched : Type 0) (status : Status) → StatusCounts before after status → StandsWith first aftermath status ⊎ (IsUnopened status × untouched) → IsComplete status
+    → (aftermath : Aftermath) (untouched : Type 0) (status : Status) → StatusCounts before after status → StandsWith first aftermath before after status ⊎ (IsUnopened status × untouched) → IsComplete status
 completes first language begins before after none aftermath untouched status counts (inl stands) = comes_to_its_end first language begins before after none aftermath status counts stands
 completes first language begins before after none aftermath untouched status counts (inr un) = unopened first language begins before after none status counts un.0

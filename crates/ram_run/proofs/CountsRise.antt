@@ -10,7 +10,8 @@ use Rattle.ram_run.specs.declared.status.Status.TheVariants as statuses
 use Rattle.ram_run.specs.Replies.{Outcome}
 use Rattle.ram_run.specs.RunCounts.{Counts, counts_of, SameCounts, WhyCounts, StopCounts, TellCount, LineCount}
 use Rattle.ram_run.specs.Progress.{View, Ending, TellRule}
-use Rattle.ram_run.specs.Endings.{status_of, StatusCounts, EndsWhole, FinishRule, sink_view}
+use Rattle.ram_run.specs.Endings.{status_of, SinkRose, StatusCounts, EndsWhole, FinishRule, sink_view}
+use Rattle.ram_run.proofs.Behind.{Behind}
 use Rattle.ram_run.proofs.Finishes.{not_sink}
 
 -- nothing failed in either of two steps
@@ -55,18 +56,6 @@ module _ (source sink sink' image image' : ℕ) (old new : View) (data_in : List
 
 -- the counts after a report was ended, by the status that is told
 module _ (source source' sink sink' sink'' image image' : ℕ) (due before written : Option (List ℕ)) (tally : Tally) where
-  -- whatever stopped the lines, no count fell, and but for the sink's end the sink is as it was
-  not_below : (ending : Ending) → StopCounts (counts_of source sink image) (counts_of source' sink' image') ending → (source ≤ source') × (image ≤ image')
-  not_below (Ok done) c = (omega (arith, c.source), omega (arith, c.image))
-  not_below (Err stopped.NotInLanguage) c = (omega (arith, c.source), omega (arith, c.image))
-  not_below (Err stopped.LineTooLong) c = (omega (arith, c.source), omega (arith, c.image))
-  not_below (Err stopped.ScriptTooLong) c = (omega (arith, c.source), omega (arith, c.image))
-  not_below (Err stopped.NotADisc) c = (omega (arith, c.source), omega (arith, c.image))
-  not_below (Err stopped.NoMemory) c = (omega (arith, c.source), omega (arith, c.image))
-  not_below (Err stopped.SourceFault) c = (omega (arith, c.source), omega (arith, c.image))
-  not_below (Err stopped.SinkFault) c = (omega (arith, c.source), omega (arith, c.image))
-  not_below (Err stopped.ImageFault) c = (omega (arith, c.source), omega (arith, c.image))
-
   -- the sink failed in the lines, or in the end
   sink_rose : (ending : Ending) → StopCounts (counts_of source sink image) (counts_of source' sink' image') ending → (ending ≡ Err stopped.SinkFault) ⊎ Rose sink' sink'' → sink' ≤ sink'' → Rose sink sink''
   sink_rose ending c (inl is) le = let rose = subst (StopCounts (counts_of source sink image) (counts_of source' sink' image')) is c in omega (arith, rose.sink, le)
@@ -79,6 +68,31 @@ module _ (source source' sink sink' sink'' image image' : ℕ) (due before writt
   sink_rose (Err stopped.SourceFault) c (inr rose) le = subst (λ n. Rose n sink'') c.sink rose
   sink_rose (Err stopped.ImageFault) c (inr rose) le = subst (λ n. Rose n sink'') c.sink rose
   sink_rose (Err stopped.SinkFault) c (inr rose) le = omega (arith, c.sink, le)
+
+  -- what had stopped the lines failed, and the sink; nothing else
+  pub behind : (ending : Ending) → StopCounts (counts_of source sink image) (counts_of source' sink' image') ending → (ending ≡ Err stopped.SinkFault) ⊎ Rose sink' sink'' → sink' ≤ sink''
+      → Behind (counts_of source sink image) (counts_of source' sink'' image') ending
+  behind (Ok done) c cause le = record { source = c.source; sink = sink_rose (Ok done) c cause le; image = c.image }
+  behind (Err stopped.NotInLanguage) c cause le = record { source = c.source; sink = sink_rose (Err stopped.NotInLanguage) c cause le; image = c.image }
+  behind (Err stopped.LineTooLong) c cause le = record { source = c.source; sink = sink_rose (Err stopped.LineTooLong) c cause le; image = c.image }
+  behind (Err stopped.ScriptTooLong) c cause le = record { source = c.source; sink = sink_rose (Err stopped.ScriptTooLong) c cause le; image = c.image }
+  behind (Err stopped.NotADisc) c cause le = record { source = c.source; sink = sink_rose (Err stopped.NotADisc) c cause le; image = c.image }
+  behind (Err stopped.NoMemory) c cause le = record { source = c.source; sink = sink_rose (Err stopped.NoMemory) c cause le; image = c.image }
+  behind (Err stopped.SinkFault) c cause le = record { source = c.source; sink = sink_rose (Err stopped.SinkFault) c cause le; image = c.image }
+  behind (Err stopped.SourceFault) c cause le = record { source = c.source; sink = sink_rose (Err stopped.SourceFault) c cause le; image = c.image }
+  behind (Err stopped.ImageFault) c cause le = record { source = c.source; sink = sink_rose (Err stopped.ImageFault) c cause le; image = c.image }
+
+  -- so at most one of source and image failed
+  at_most_one : (ending : Ending) → Behind (counts_of source sink image) (counts_of source' sink'' image') ending → SinkRose (counts_of source sink image) (counts_of source' sink'' image')
+  at_most_one (Ok done) b = inl b
+  at_most_one (Err stopped.NotInLanguage) b = inl b
+  at_most_one (Err stopped.LineTooLong) b = inl b
+  at_most_one (Err stopped.ScriptTooLong) b = inl b
+  at_most_one (Err stopped.NotADisc) b = inl b
+  at_most_one (Err stopped.NoMemory) b = inl b
+  at_most_one (Err stopped.SinkFault) b = inl b
+  at_most_one (Err stopped.SourceFault) b = inr (inl b)
+  at_most_one (Err stopped.ImageFault) b = inr (inr b)
 
   -- the status tells how the lines ended, and the sink did not fail in the end
   by_ending : (ending : Ending) → (ending ≡ Err stopped.SinkFault → ⊥) → StopCounts (counts_of source sink image) (counts_of source' sink' image') ending → sink'' ≡ sink'
@@ -102,7 +116,7 @@ module _ (source source' sink sink' sink'' image image' : ℕ) (due before writt
   pub status_counts : (ending : Ending) (status : Status) → StopCounts (counts_of source sink image) (counts_of source' sink' image') ending
       → FinishRule due (sink_view before sink') (sink_view written sink'') tally ending status → StatusCounts (counts_of source sink image) (counts_of source' sink'' image') status
   status_counts ending statuses.Usage c rule = absurd rule
-  status_counts ending statuses.SinkFault c rule = let le = not_below ending c in record { source = le.0; sink = sink_rose ending c rule.cause rule.count; image = le.1 }
+  status_counts ending statuses.SinkFault c rule = at_most_one ending (behind ending c rule.cause rule.count)
   status_counts ending statuses.Done c rule = by_status ending statuses.Done (λ x. cc) c rule
   status_counts ending statuses.Script c rule = by_status ending statuses.Script (λ x. cc) c rule
   status_counts ending statuses.ImageFault c rule = by_status ending statuses.ImageFault (λ x. cc) c rule

@@ -1,10 +1,17 @@
 -- How a run ends: what its lines left, and what was then written.
-use Rattle.std.specs.Prelude.{◌≡◌, ℕ, ◌+◌, Option, None, Some, Ok, Err, List, [], ◌++◌, length, take, drop}
+use Rattle.std.specs.Prelude.{◌≡◌, ℕ, ◌+◌, ◌≤◌, ◌⊎◌, Option, None, Some, Ok, Err, List, [], ◌++◌, length, take, drop}
 use Rattle.std.specs.Io.KnownBytes.{append_known, prepend_known}
-use Rattle.std.proofs.Common.{arith, refl, sym, ap, ◌∙◌, inl, inr, subst, append_assoc, append-nil, take-append-drop}
+use Rattle.std.proofs.Common.{arith, refl, sym, ap, ◌∙◌, inl, inr, subst, append_assoc, append-nil, length-append, take-append-drop}
 use Rattle.ram_text.proofs.Puts.{append_known-twice}
 use Rattle.ram_text.specs.ReportLines.{last_text}
 use Rattle.ram_text.specs.Writer.{IsCutShort}
+use Rattle.ram_text.specs.Dialogue.{room_of, sink_of, source_of}
+use Rattle.ram_text.specs.DialogueRoom.{IsEmptyRoom}
+use Rattle.ram_text.specs.declared.dialogue.Dialogue.{Dialogue}
+use Rattle.ram_text.specs.declared.gathered.TheConstants.{GATHERED_ROOM}
+use Rattle.ram_outside.specs.declared.sink.Sink.{Ghosts as Sinks}
+use Rattle.ram_outside.specs.declared.source.Source.{Ghosts as Sources}
+use Rattle.model_counts.specs.Counts.{Rose}
 use Rattle.ram_text.specs.declared.gathered.Print.TheVariants as prints
 use Rattle.ram_text.specs.declared.printing.LastLine.{LastLine}
 use Rattle.ram_text.specs.declared.printing.LastLine.TheVariants as lasts
@@ -20,8 +27,11 @@ use Rattle.ram_run.specs.Inserted.{LeavesImage}
 use Rattle.ram_run.specs.Run.{report_text}
 use Rattle.ram_run.specs.Starts.{StandsFirst}
 use Rattle.ram_run.specs.RunState.{IsFresh}
-use Rattle.ram_run.specs.Progress.{Beginning, SoFar, View, Between, IsReported, IsReportedInPart, ComesOut, IsLast, Ending, last_line, IsLastIfAny, EndsBetween, EndsInLine, Ends, run_view}
-use Rattle.ram_run.specs.Endings.{status_of, whole_text, text_if_any, last_of, LastLineRule, IsEnded, ComesToThis, IsStoppedInLine, IsWrittenInPart, IsReportCutOff, StandsWith, aftermath, sink_view, EndsAtSink, EndsWhole, FinishRule}
+use Rattle.ram_run.specs.Progress.{Beginning, SoFar, View, Between, IsReported, IsReportedInPart, ComesOut, IsLast, Ending, last_line, IsLastIfAny, EndsBetween, EndsInLine, Ends, due_before, run_view}
+use Rattle.ram_run.specs.Endings.{status_of, whole_text, text_if_any, last_of, LastLineRule, IsEnded, ComesToThis, IsStoppedInLine, IsWrittenInPart, IsReportCutOff, IsCutBySource, IsNearlyWritten, StandsWith, aftermath, sink_view, EndsAtSink, EndsWhole, FinishRule}
+use Rattle.ram_run.specs.RunCounts.{Counts, OnlySinkRose}
+use Rattle.ram_run.proofs.Behind.{Behind}
+use Rattle.ram_run.proofs.Turns.{before_within}
 
 -- a list that is told with more behind it
 known_prefix : (written : Option (List ℕ)) (more whole : List ℕ) → append_known written more ≡ Some whole → (bytes : List ℕ) × (written ≡ Some bytes) × (bytes ++ more ≡ whole)
@@ -42,50 +52,65 @@ module _ (first : Beginning) (far : SoFar first) (due written : Option (List ℕ
   written_as_due : IsReported far due → written ≡ append_known due [] → IsReported far written
   written_as_due known whole = whole ∙ append_known-nil due ∙ known
 
+  -- of what was due before the newest line at most one piece is missing
+  nearly_before : IsNearlyWritten due written → IsReported far due → (bytes : List ℕ) → written ≡ Some bytes → due_before far ≤ length bytes + GATHERED_ROOM
+  nearly_before nearly known bytes is =
+      omega (arith, nearly (first.report ++ report_text far.events) bytes known is, before_within first.report far.events)
+
   -- a prefix of the answers and a last line was written
-  prefix_with_last : (more : List ℕ) (last : LastLine) → IsReported far due → IsLast far last → append_known written more ≡ append_known due (last_text last) → IsWrittenInPart far written
-  prefix_with_last more last known is prefix =
+  prefix_with_last : IsNearlyWritten due written → (more : List ℕ) (last : LastLine) → IsReported far due → IsLast far last → append_known written more ≡ append_known due (last_text last) → IsWrittenInPart far written
+  prefix_with_last nearly more last known is prefix =
       let found = known_prefix written more (whole_text far last) (prefix ∙ with_where_known due first.report (report_text far.events) (last_text last) known) in
-      record { bytes = found.0; more = more; written_is = found.1; prefix = inr (last, is, found.2) }
+      record { bytes = found.0; more = more; written_is = found.1; prefix = inr (last, is, found.2); nearly = nearly_before nearly known found.0 found.1 }
 
   -- a prefix of the answers was written
-  prefix_of_due : (more : List ℕ) → IsReported far due → append_known written more ≡ append_known due [] → IsWrittenInPart far written
-  prefix_of_due more known prefix =
-      let found = known_prefix written more (first.report ++ report_text far.events) (prefix ∙ append_known-nil due ∙ known) in record { bytes = found.0; more = more; written_is = found.1; prefix = inl found.2 }
+  prefix_of_due : IsNearlyWritten due written → (more : List ℕ) → IsReported far due → append_known written more ≡ append_known due [] → IsWrittenInPart far written
+  prefix_of_due nearly more known prefix =
+      let found = known_prefix written more (first.report ++ report_text far.events) (prefix ∙ append_known-nil due ∙ known) in
+      record { bytes = found.0; more = more; written_is = found.1; prefix = inl found.2; nearly = nearly_before nearly known found.0 found.1 }
 
   -- a prefix of a front was written
-  prefix_of_prefix : (more : List ℕ) → IsReportedInPart far due → append_known written more ≡ append_known due [] → IsWrittenInPart far written
-  prefix_of_prefix more part prefix =
+  prefix_of_prefix : IsNearlyWritten due written → (more : List ℕ) → IsReportedInPart far due → append_known written more ≡ append_known due [] → IsWrittenInPart far written
+  prefix_of_prefix nearly more part prefix =
       let found = known_prefix written more part.written (prefix ∙ append_known-nil due ∙ part.due_is) in
       record {
         bytes = found.0;
         more = more ++ part.more;
         written_is = found.1;
         prefix = inl (sym (append_assoc found.0 more part.more) ∙ ap (λ l. l ++ part.more) found.2 ∙ part.prefix);
+        nearly = omega (arith, nearly part.written found.0 part.due_is found.1, part.before);
       }
 
   -- a prefix of the answers and of a last line, if there is one
-  prefix_with_any : (more : List ℕ) (last : Option LastLine) → IsReported far due → IsLastIfAny far last → append_known written more ≡ append_known due (text_if_any last) → IsWrittenInPart far written
-  prefix_with_any more None known is prefix = prefix_of_due more known prefix
-  prefix_with_any more (Some last) known is prefix = prefix_with_last more last known is prefix
+  prefix_with_any : IsNearlyWritten due written → (more : List ℕ) (last : Option LastLine) → IsReported far due → IsLastIfAny far last → append_known written more ≡ append_known due (text_if_any last) → IsWrittenInPart far written
+  prefix_with_any nearly more None known is prefix = prefix_of_due nearly more known prefix
+  prefix_with_any nearly more (Some last) known is prefix = prefix_with_last nearly more last known is prefix
 
 -- a status that is not the sink's is told of another ending
 pub not_sink : (ending : Ending) (status : Status) → status ≡ status_of ending → ending ≡ Err stopped.SinkFault → (statuses.SinkFault ≡ status → ⊥) → ⊥
 not_sink ending status is sink other = other (sym (is ∙ ap status_of sink))
 
 -- the lines begin with nothing read and nothing gathered
-pub begins : (first : Beginning) (stands : State → Type 0) (left written : Option (List ℕ)) (state : RunState) → IsFresh state → left ≡ Some first.script → written ≡ Some first.report
-    → StandsFirst first.image stands → Between first stands (run_view left written state)
-begins first stands left written state fresh left_is written_is start = record {
+pub begins : {S K : Type 0} (sources : Sources S) (sinks : Sinks K) (first : Beginning) (stands : State → Type 0) (dialogue : Dialogue S K) (state : RunState) → IsFresh state → IsEmptyRoom (room_of dialogue)
+    → sources.left (source_of dialogue) ≡ Some first.script → sinks.written (sink_of dialogue) ≡ Some first.report
+    → StandsFirst first.image stands → Between first stands (run_view sources sinks dialogue state.tally)
+begins sources sinks first stands dialogue state fresh empty left_is written_is start = record {
   far = record { start = start.state; events = []; now = start.state; rest = first.script; starts = start.first; run = refl; lines = inl refl; within = omega arith };
   stands_now = start.stands_first;
   at = record {
-    left_is = ap (λ l. prepend_known l left) fresh.buffered ∙ ap (prepend_known []) left_is;
-    taken_is = ap (λ n. n + length first.script) fresh.taken ∙ omega arith;
+    left_is = ap (λ l. prepend_known l (sources.left (source_of dialogue))) empty.buffered ∙ ap (prepend_known []) left_is;
+    taken_is = ap (λ n. n + length first.script) empty.taken ∙ omega arith;
     tallied = record { lines = ap (λ (t : Tally). t.lines) fresh.tally; answered = ap (λ (t : Tally). t.answered) fresh.tally; counts = ap (λ (t : Tally). t.counts) fresh.tally };
-    due_is = ap (append_known written) fresh.gathered ∙ ap (λ o. append_known o []) written_is;
+    due_is = ap (append_known (sinks.written (sink_of dialogue))) empty.gathered ∙ ap (λ o. append_known o []) written_is;
   };
 }
+
+-- little is gathered, so little of what is due is not written
+nearly_by : (due written : Option (List ℕ)) (gathered extra : List ℕ) → length gathered ≤ GATHERED_ROOM → append_known written gathered ≡ append_known due extra → IsNearlyWritten due written
+nearly_by due written gathered extra few same text bytes due_is written_is =
+    let known : Some (bytes ++ gathered) ≡ Some (text ++ extra) = sym (ap (λ o. append_known o gathered) written_is) ∙ same ∙ ap (λ o. append_known o extra) due_is in
+    let parts : bytes ++ gathered ≡ text ++ extra = cc in
+    omega (arith, few, ap length parts, length-append bytes gathered, length-append text extra)
 
 -- the sink failed at the last line
 at_last_line : (due due' written : Option (List ℕ)) (gathered text : List ℕ) → due' ≡ append_known written gathered → (n : ℕ) → due' ≡ append_known due (take n text)
@@ -94,11 +119,12 @@ at_last_line due due' written gathered text is n grew =
     sym (append_known-twice written gathered (drop n text)) ∙ ap (λ o. append_known o (drop n text)) (sym is ∙ grew) ∙ append_known-twice due (take n text) (drop n text) ∙ ap (append_known due) (take-append-drop n text)
 
 -- the sink failed at the last line, or had failed before
-module _ (due due' before written : Option (List ℕ)) (gathered : List ℕ) (f f' : ℕ) (tally : Tally) (is : due' ≡ append_known written gathered) where
+module _ (due due' before written : Option (List ℕ)) (gathered : List ℕ) (f f' : ℕ) (tally : Tally) (is : due' ≡ append_known written gathered) (few : length gathered ≤ GATHERED_ROOM) where
   while_printing : (ending : Ending) → IsCutShort due due' f f' (last_of tally ending) → EndsAtSink due (sink_view before f) (sink_view written f') tally ending
   while_printing ending rule = record {
     more = gathered ++ drop rule.n (last_of tally ending);
     prefix = at_last_line due due' written gathered (last_of tally ending) is rule.n rule.grew;
+    nearly = nearly_by due written gathered (take rule.n (last_of tally ending)) few (sym is ∙ rule.grew);
     count = omega (arith, rule.count);
     cause = inr rule.count;
   }
@@ -112,10 +138,40 @@ module _ (due due' before written : Option (List ℕ)) (gathered : List ℕ) (f 
   failed_at_last (Err stopped.LineTooLong) rule = while_printing (Err stopped.LineTooLong) rule
   failed_at_last (Err stopped.ScriptTooLong) rule = while_printing (Err stopped.ScriptTooLong) rule
   failed_at_last (Err stopped.NotADisc) rule = while_printing (Err stopped.NotADisc) rule
-  failed_at_last (Err stopped.SinkFault) rule = record { more = gathered; prefix = sym is ∙ rule.1 ∙ sym (append_known-nil due); count = omega (arith, rule.2); cause = inl refl }
+  failed_at_last (Err stopped.SinkFault) rule = record { more = gathered; prefix = sym is ∙ rule.1 ∙ sym (append_known-nil due); nearly = nearly_by due written gathered [] few (sym is ∙ rule.1 ∙ sym (append_known-nil due)); count = omega (arith, rule.2); cause = inl refl }
   failed_at_last (Err stopped.SourceFault) rule = none_printed stopped.SourceFault rule
   failed_at_last (Err stopped.ImageFault) rule = none_printed stopped.ImageFault rule
   failed_at_last (Err stopped.NoMemory) rule = none_printed stopped.NoMemory rule
+
+-- the last line is printed, where there is one
+module _ (due due' : Option (List ℕ)) (f f' : ℕ) (tally : Tally) where
+  no_last : (why : Stopped) → last_of tally (Err why) ≡ [] → (prints.Done ≡ prints.Done) × (due' ≡ due) × (f' ≡ f) → (due' ≡ append_known due (last_of tally (Err why))) × (f' ≡ f)
+  no_last why none rule = (rule.1 ∙ sym (append_known-nil due) ∙ ap (append_known due) (sym none), rule.2)
+
+  pub last_printed : (ending : Ending) → LastLineRule due due' f f' tally ending prints.Done → (due' ≡ append_known due (last_of tally ending)) × (f' ≡ f)
+  last_printed (Ok done) rule = (rule.grew, rule.count)
+  last_printed (Err stopped.NotInLanguage) rule = (rule.grew, rule.count)
+  last_printed (Err stopped.LineTooLong) rule = (rule.grew, rule.count)
+  last_printed (Err stopped.ScriptTooLong) rule = (rule.grew, rule.count)
+  last_printed (Err stopped.NotADisc) rule = (rule.grew, rule.count)
+  last_printed (Err stopped.SinkFault) rule = absurd (let clash : prints.Done ≡ prints.Failed = rule.0 in cc)
+  last_printed (Err stopped.SourceFault) rule = no_last stopped.SourceFault refl rule
+  last_printed (Err stopped.ImageFault) rule = no_last stopped.ImageFault refl rule
+  last_printed (Err stopped.NoMemory) rule = no_last stopped.NoMemory refl rule
+
+  -- the sink failed when all was to be handed over
+  pub failed_at_flush : (due'' before written : Option (List ℕ)) (gathered : List ℕ) (f'' : ℕ) → due'' ≡ append_known written gathered → length gathered ≤ GATHERED_ROOM → (ending : Ending)
+      → LastLineRule due due' f f' tally ending prints.Done → due'' ≡ due' → Rose f' f'' → EndsAtSink due (sink_view before f) (sink_view written f'') tally ending
+  failed_at_flush due'' before written gathered f'' is few ending rule same rose =
+      let printed = last_printed ending rule in
+      let whole = sym is ∙ same ∙ printed.0 in
+      record {
+        more = gathered;
+        prefix = whole;
+        nearly = nearly_by due written gathered (last_of tally ending) few whole;
+        count = omega (arith, printed.1, rose);
+        cause = inr (omega (arith, printed.1, rose));
+      }
 
 module _ (first : Beginning) (stands : State → Type 0) (image : Option (List ℕ)) (leaves : (s : State) → stands s → LeavesImage s image) where
   -- the image is as the line leaves it
@@ -130,29 +186,45 @@ module _ (first : Beginning) (stands : State → Type 0) (image : Option (List �
     image_is = leaves out.state out.stands_after;
   }
 
-  module _ (view : View) (written : Option (List ℕ)) where
+  module _ (view : View) (written : Option (List ℕ)) (counts counts' : Counts) where
+    -- the source failed after the lines
+    cut_by_source : (e : EndsBetween first stands view (Err stopped.SourceFault)) → IsCutBySource e.far (aftermath view.left written image)
+    cut_by_source e = record { image_is = leaves e.far.now e.stands_now; given = view.buffered; unended = e.stopped_at.unended.0; rest_is = e.stopped_at.unended.1 }
+
     -- the sink failed in the end, after lines that ended between two of them
-    sink_between : (ending : Ending) (more : List ℕ) → EndsBetween first stands view ending → append_known written more ≡ append_known view.due (last_of view.tally ending) → IsReportCutOff first (aftermath view.left written image)
-    sink_between ending more e prefix = record {
+    sink_between : (ending : Ending) (more : List ℕ) → EndsBetween first stands view ending → append_known written more ≡ append_known view.due (last_of view.tally ending) → IsNearlyWritten view.due written
+        → OnlySinkRose counts counts' → IsReportCutOff first (aftermath view.left written image) counts counts'
+    sink_between ending more e prefix nearly alone = record {
       far = e.far;
-      written_is = prefix_with_any first e.far view.due written more (last_line view.tally ending) e.stopped_at.due_is e.stopped_at.last_is prefix;
-      image_is = inl (leaves e.far.now e.stands_now);
+      written_is = prefix_with_any first e.far view.due written nearly more (last_line view.tally ending) e.stopped_at.due_is e.stopped_at.last_is prefix;
+      behind = inl (alone, leaves e.far.now e.stands_now);
     }
 
     -- the sink failed in the end, whatever the lines ended by
-    at_sink : (ending : Ending) (more : List ℕ) → Ends first stands view ending → append_known written more ≡ append_known view.due (last_of view.tally ending) → IsReportCutOff first (aftermath view.left written image)
-    at_sink (Ok done) more e prefix = sink_between (Ok done) more e prefix
-    at_sink (Err stopped.NotInLanguage) more e prefix = sink_between (Err stopped.NotInLanguage) more e prefix
-    at_sink (Err stopped.LineTooLong) more e prefix = sink_between (Err stopped.LineTooLong) more e prefix
-    at_sink (Err stopped.ScriptTooLong) more e prefix = sink_between (Err stopped.ScriptTooLong) more e prefix
-    at_sink (Err stopped.NotADisc) more e prefix = sink_between (Err stopped.NotADisc) more e prefix
-    at_sink (Err stopped.SourceFault) more e prefix = sink_between (Err stopped.SourceFault) more e prefix
-    at_sink (Err stopped.SinkFault) more e prefix =
-        record { far = e.far; written_is = prefix_of_prefix first e.far view.due written more e.part prefix; image_is = inl (leaves e.far.now e.stands_now) }
-    at_sink (Err stopped.ImageFault) more e prefix =
-        record { far = e.far; written_is = prefix_of_due first e.far view.due written more e.due_is prefix; image_is = inr (inl (comes_to e.far (Err stopped.ImageFault) e.line)) }
-    at_sink (Err stopped.NoMemory) more e prefix =
-        record { far = e.far; written_is = prefix_of_due first e.far view.due written more e.due_is prefix; image_is = inr (inr (comes_to e.far (Err stopped.NoMemory) e.line)) }
+    at_sink : (ending : Ending) (more : List ℕ) → Ends first stands view ending → append_known written more ≡ append_known view.due (last_of view.tally ending) → IsNearlyWritten view.due written
+        → Behind counts counts' ending → IsReportCutOff first (aftermath view.left written image) counts counts'
+    at_sink (Ok done) more e prefix nearly behind = sink_between (Ok done) more e prefix nearly behind
+    at_sink (Err stopped.NotInLanguage) more e prefix nearly behind = sink_between (Err stopped.NotInLanguage) more e prefix nearly behind
+    at_sink (Err stopped.LineTooLong) more e prefix nearly behind = sink_between (Err stopped.LineTooLong) more e prefix nearly behind
+    at_sink (Err stopped.ScriptTooLong) more e prefix nearly behind = sink_between (Err stopped.ScriptTooLong) more e prefix nearly behind
+    at_sink (Err stopped.NotADisc) more e prefix nearly behind = sink_between (Err stopped.NotADisc) more e prefix nearly behind
+    at_sink (Err stopped.SourceFault) more e prefix nearly behind = record {
+      far = e.far;
+      written_is = prefix_of_due first e.far view.due written nearly more e.stopped_at.due_is prefix;
+      behind = inr (inl (behind, cut_by_source e));
+    }
+    at_sink (Err stopped.SinkFault) more e prefix nearly behind =
+        record { far = e.far; written_is = prefix_of_prefix first e.far view.due written nearly more e.part prefix; behind = inl (behind, leaves e.far.now e.stands_now) }
+    at_sink (Err stopped.ImageFault) more e prefix nearly behind = record {
+      far = e.far;
+      written_is = prefix_of_due first e.far view.due written nearly more e.due_is prefix;
+      behind = inr (inr (inl (behind, comes_to e.far (Err stopped.ImageFault) e.line)));
+    }
+    at_sink (Err stopped.NoMemory) more e prefix nearly behind = record {
+      far = e.far;
+      written_is = prefix_of_due first e.far view.due written nearly more e.due_is prefix;
+      behind = inr (inr (inr (behind, comes_to e.far (Err stopped.NoMemory) e.line)));
+    }
 
     -- all was written, and there is a last line
     ended : (last : LastLine) (far : SoFar first) → stands far.now → IsReported far view.due → IsLast far last → written ≡ append_known view.due (last_text last) → IsEnded first (aftermath view.left written image) last
@@ -168,7 +240,7 @@ module _ (first : Beginning) (stands : State → Type 0) (image : Option (List �
     stopped_in outcome e whole = record { far = e.far; written_is = written_as_due first e.far view.due written e.due_is whole; line = comes_to e.far outcome e.line }
 
     -- all was written, and the status tells how the lines ended
-    at_end : (ending : Ending) → Ends first stands view ending → (ending ≡ Err stopped.SinkFault → ⊥) → written ≡ append_known view.due (last_of view.tally ending) → StandsWith first (aftermath view.left written image) (status_of ending)
+    at_end : (ending : Ending) → Ends first stands view ending → (ending ≡ Err stopped.SinkFault → ⊥) → written ≡ append_known view.due (last_of view.tally ending) → StandsWith first (aftermath view.left written image) counts counts' (status_of ending)
     at_end (Ok done) e other whole = (view.tally.answered, ended (lasts.End view.tally.answered) e.far e.stands_now e.stopped_at.due_is e.stopped_at.last_is whole)
     at_end (Err stopped.NotInLanguage) e other whole =
         (lasts.NotInLanguage (view.tally.lines + 1), tt, ended (lasts.NotInLanguage (view.tally.lines + 1)) e.far e.stands_now e.stopped_at.due_is e.stopped_at.last_is whole)
@@ -181,24 +253,21 @@ module _ (first : Beginning) (stands : State → Type 0) (image : Option (List �
         record {
           far = e.far;
           written_is = written_as_due first e.far view.due written e.stopped_at.due_is whole;
-          image_is = leaves e.far.now e.stands_now;
-          given = view.buffered;
-          unended = e.stopped_at.unended.0;
-          rest_is = e.stopped_at.unended.1;
+          cut = cut_by_source e;
         }
     at_end (Err stopped.SinkFault) e other whole = absurd (other refl)
     at_end (Err stopped.ImageFault) e other whole = inr (stopped_in (Err stopped.ImageFault) e whole)
     at_end (Err stopped.NoMemory) e other whole = inr (stopped_in (Err stopped.NoMemory) e whole)
 
-    module _ (ending : Ending) (before : Option (List ℕ)) (f f' : ℕ) where
-      by_status : (status : Status) → (statuses.SinkFault ≡ status → ⊥) → Ends first stands view ending → EndsWhole view.due (sink_view before f) (sink_view written f') view.tally ending status → StandsWith first (aftermath view.left written image) status
+    module _ (ending : Ending) (before : Option (List ℕ)) (f f' : ℕ) (behind : (ending ≡ Err stopped.SinkFault) ⊎ Rose f f' → f ≤ f' → Behind counts counts' ending) where
+      by_status : (status : Status) → (statuses.SinkFault ≡ status → ⊥) → Ends first stands view ending → EndsWhole view.due (sink_view before f) (sink_view written f') view.tally ending status → StandsWith first (aftermath view.left written image) counts counts' status
       by_status status other e rule =
-          subst (StandsWith first (aftermath view.left written image)) (sym rule.status_is) (at_end ending e (λ is. not_sink ending status rule.status_is is other) rule.whole)
+          subst (StandsWith first (aftermath view.left written image) counts counts') (sym rule.status_is) (at_end ending e (λ is. not_sink ending status rule.status_is is other) rule.whole)
 
       -- what is left and written, by the status that is told
-      pub left_by : (status : Status) → Ends first stands view ending → FinishRule view.due (sink_view before f) (sink_view written f') view.tally ending status → StandsWith first (aftermath view.left written image) status
+      pub left_by : (status : Status) → Ends first stands view ending → FinishRule view.due (sink_view before f) (sink_view written f') view.tally ending status → StandsWith first (aftermath view.left written image) counts counts' status
       left_by statuses.Usage e rule = absurd rule
-      left_by statuses.SinkFault e rule = at_sink ending rule.more e rule.prefix
+      left_by statuses.SinkFault e rule = at_sink ending rule.more e rule.prefix rule.nearly (behind rule.cause rule.count)
       left_by statuses.Done e rule = by_status statuses.Done (λ x. cc) e rule
       left_by statuses.Script e rule = by_status statuses.Script (λ x. cc) e rule
       left_by statuses.ImageFault e rule = by_status statuses.ImageFault (λ x. cc) e rule

@@ -9,6 +9,7 @@ pub mod Answering
 pub mod Counted
 pub mod Completes
 pub mod Turns
+pub mod Behind
 pub mod LinesTaken
 pub mod CountsRise
 pub mod FewLines

@@ -1,5 +1,5 @@
 -- How the lines so far go on by one line, and how they end.
-use Rattle.std.specs.Prelude.{◌≡◌, ℕ, ◌+◌, ◌<◌, ◌⊎◌, Option, Some, Ok, Err, List, [], ◌∷◌, ◌++◌, length, take, drop}
+use Rattle.std.specs.Prelude.{◌≡◌, ℕ, ◌+◌, ◌<◌, ◌≤◌, ◌⊎◌, Option, Some, Ok, Err, List, [], ◌∷◌, ◌++◌, length, take, drop}
 use Rattle.std.specs.Io.KnownBytes.{append_known, prepend_known}
 use Rattle.std.proofs.Common.{arith, sym, ap, ◌∙◌, inl, inr, subst, append_assoc, append-nil, length-append, take-append-drop}
 use Rattle.ram_text.specs.Lines.{line_feed}
@@ -18,7 +18,7 @@ use Rattle.ram_run.specs.States.{State}
 use Rattle.ram_run.specs.Inserted.{IsAnswered}
 use Rattle.ram_run.specs.Run.{AnsweredLine, EndsWithBytes, answers_of, script_text, report_text, line_text}
 use Rattle.ram_run.specs.RunCounts.{LineCount}
-use Rattle.ram_run.specs.Progress.{Beginning, SoFar, View, Between, Taken, Ending, EndsBetween, EndsCutOff, EndsInLine, Ends, TurnsTo, IsStoppedAt, IsStop, IsReplied, TellRule}
+use Rattle.ram_run.specs.Progress.{Beginning, SoFar, View, Between, Taken, Ending, EndsBetween, EndsCutOff, EndsInLine, Ends, TurnsTo, IsStoppedAt, IsStop, IsReplied, TellRule, lines_before}
 
 -- the script after one line more
 reaches_more : (ends : Type 0) (script text rest raw after : List ℕ) → (script ≡ text ++ rest) ⊎ ((rest ≡ []) × ends × (script ++ line_feed ∷ [] ≡ text)) → (rest ≡ raw ++ (line_feed ∷ after)) ⊎ ((rest ≡ raw) × (0 < length raw) × (after ≡ []))
@@ -33,6 +33,16 @@ reaches_more ends script text rest raw after (inr ended) (inr last) = absurd (om
 -- what is due after one text more
 due_more : (due due' : Option (List ℕ)) (report so_far text : List ℕ) → due ≡ Some (report ++ so_far) → due' ≡ append_known due text → due' ≡ Some (report ++ (so_far ++ text))
 due_more due due' report so_far text known grew = grew ∙ ap (λ o. append_known o text) known ∙ ap Some (append_assoc report so_far text)
+
+-- what was due before the newest line is a part of what is due
+pub before_within : (report : List ℕ) (events : List AnsweredLine) → length (report ++ report_text (lines_before events)) ≤ length (report ++ report_text events)
+before_within report [] = omega arith
+before_within report (event ∷ events) = omega (
+  arith,
+  length-append report (report_text events),
+  length-append report (report_text (event ∷ events)),
+  length-append (report_text events) (line_text (length events + 1) event.reply event.data_in),
+)
 
 module _ (first : Beginning) (far : SoFar first) (view : View) (line : Line) (payload : List ℕ) (t : Taken far view line payload) (stands : State → Type 0) (data_in : List ℕ) where
   -- the line with what it is answered
@@ -73,13 +83,21 @@ module _ (first : Beginning) (far : SoFar first) (view : View) (line : Line) (pa
   -- the line was answered, and the beginning of the answer is due
   cut_off : (new : View) (reply : Reply) → IsAnswered far.now line payload data_in stands (Ok reply)
       → (n : ℕ) × (new.due ≡ append_known view.due (take n (line_text (view.tally.lines + 1) reply data_in))) → EndsCutOff first stands new
-  cut_off new reply answered cut = record { far = one_more reply answered; stands_now = answered.stands; part = record { written = written; more = drop cut.0 text; due_is = grown; prefix = whole } }
+  cut_off new reply answered cut = record { far = one_more reply answered; stands_now = answered.stands; part = record { written = written; more = drop cut.0 text; due_is = grown; prefix = whole; before = there } }
     where
       text : List ℕ
       text = line_text (view.tally.lines + 1) reply data_in
 
       written : List ℕ
       written = first.report ++ (report_text far.events ++ take cut.0 text)
+
+      there : length (first.report ++ report_text far.events) ≤ length written
+      there = omega (
+        arith,
+        length-append first.report (report_text far.events),
+        length-append first.report (report_text far.events ++ take cut.0 text),
+        length-append (report_text far.events) (take cut.0 text),
+      )
 
       grown : new.due ≡ Some written
       grown = due_more view.due new.due first.report (report_text far.events) (take cut.0 text) t.due_is cut.1
@@ -147,7 +165,13 @@ ends_between first stands far view stopped.SourceFault now at is = record { far 
 ends_between first stands far view stopped.SinkFault now at is = record {
   far = far;
   stands_now = now;
-  part = record { written = first.report ++ report_text far.events; more = []; due_is = at.due_is; prefix = append-nil (first.report ++ report_text far.events) };
+  part = record {
+    written = first.report ++ report_text far.events;
+    more = [];
+    due_is = at.due_is;
+    prefix = append-nil (first.report ++ report_text far.events);
+    before = before_within first.report far.events;
+  };
 }
 ends_between first stands far view stopped.NotADisc now at is = absurd is
 ends_between first stands far view stopped.ImageFault now at is = absurd is

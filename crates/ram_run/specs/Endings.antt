@@ -1,11 +1,12 @@
 -- How a run ends: what stands with each status. For the main clause of the run, and the calls that end a report.
-use Rattle.std.specs.Prelude.{◌≡◌, ℕ, ◌≤◌, ◌⊎◌, Bool, true, Option, None, Some, Ok, Err, List, [], ◌++◌}
+use Rattle.std.specs.Prelude.{◌≡◌, ℕ, ◌+◌, ◌≤◌, ◌⊎◌, Bool, true, Option, None, Some, Ok, Err, List, [], ◌++◌, length}
 use Rattle.std.specs.Io.KnownBytes.{append_known, prepend_known}
 use Rattle.model_counts.specs.Counts.{Rose}
 use Rattle.ram_text.specs.Lines.{HasNoFeed}
 use Rattle.ram_text.specs.ReportLines.{last_text}
 use Rattle.ram_text.specs.Writer.{PrintRule}
 use Rattle.ram_text.specs.declared.gathered.Print.{Print}
+use Rattle.ram_text.specs.declared.gathered.TheConstants.{GATHERED_ROOM}
 use Rattle.ram_text.specs.declared.gathered.Print.TheVariants as prints
 use Rattle.ram_text.specs.declared.printing.LastLine.{LastLine}
 use Rattle.ram_text.specs.declared.printing.LastLine.TheVariants as lasts
@@ -21,8 +22,8 @@ use Rattle.ram_run.specs.States.{State}
 use Rattle.ram_run.specs.LineSteps.{Step}
 use Rattle.ram_run.specs.Inserted.{LeavesImage}
 use Rattle.ram_run.specs.Run.{report_text}
-use Rattle.ram_run.specs.RunCounts.{Counts, SameCounts, OnlySourceRose, OnlyImageRose}
-use Rattle.ram_run.specs.Progress.{Beginning, SoFar, IsReported, IsLast, Ending, last_line}
+use Rattle.ram_run.specs.RunCounts.{Counts, SameCounts, OnlySourceRose, OnlySinkRose, OnlyImageRose, SourceAndSinkRose, ImageAndSinkRose}
+use Rattle.ram_run.specs.Progress.{Beginning, SoFar, IsReported, IsLast, Ending, due_before, last_line}
 
 -- the status that an ending is told by (this project's own, as all here)
 abbrev pub status_of : Ending → Status
@@ -57,15 +58,19 @@ pub record IsEnded (first : Beginning) (after : Aftermath) (last : LastLine) : T
   pub written_is : after.written ≡ Some (whole_text far last)
   pub image_is : LeavesImage far.now after.image
 
--- All answers were written and no last line, and the image is as the lines leave it. Every whole line that the source gave
--- is answered: what follows them is bytes without a line feed, and then what the source has left.
-pub record IsBroken (first : Beginning) (after : Aftermath) : Type 0 where
-  pub far : SoFar first
-  pub written_is : IsReported far after.written
+-- The image is as the lines leave it. Every whole line that the source gave is answered: what follows them is bytes without
+-- a line feed, and then what the source has left.
+pub record IsCutBySource {first : Beginning} (far : SoFar first) (after : Aftermath) : Type 0 where
   pub image_is : LeavesImage far.now after.image
   pub given : List ℕ
   pub unended : HasNoFeed given
   pub rest_is : prepend_known given after.left ≡ Some far.rest
+
+-- All answers were written and no last line, and every whole line that the source gave is answered.
+pub record IsBroken (first : Beginning) (after : Aftermath) : Type 0 where
+  pub far : SoFar first
+  pub written_is : IsReported far after.written
+  pub cut : IsCutBySource far after
 
 -- the next line came out so, and the image is as it leaves it
 pub record ComesToThis {first : Beginning} (far : SoFar first) (image : Option (List ℕ)) (outcome : Outcome) : Type 0 where
@@ -88,25 +93,30 @@ pub record IsNotBegun (first : Beginning) (after : Aftermath) : Type 0 where
   pub written_is : after.written ≡ Some first.report
   pub image_is : after.image ≡ Some first.image
 
--- what was written is the beginning of the text due: the answers, and a last line where there is one
+-- What was written is the beginning of the text due: the answers, and a last line where there is one. Of what was due before
+-- the last of these lines at most one piece is missing.
 pub record IsWrittenInPart {first : Beginning} (far : SoFar first) (written : Option (List ℕ)) : Type 0 where
   pub bytes : List ℕ
   pub more : List ℕ
   pub written_is : written ≡ Some bytes
   pub prefix : (bytes ++ more ≡ first.report ++ report_text far.events)
       ⊎ ((last : LastLine) × IsLast far last × (bytes ++ more ≡ whole_text far last))
+  pub nearly : due_before far ≤ length bytes + GATHERED_ROOM
 
--- the image is as the lines leave it, or as the next one does in which the image failed or memory ran out
-abbrev pub IsLeftBySome : {first : Beginning} → SoFar first → Option (List ℕ) → Type 0
-IsLeftBySome far image =
-    LeavesImage far.now image ⊎ ComesToThis far image (Err stopped.ImageFault)
-    ⊎ ComesToThis far image (Err stopped.NoMemory)
+-- What else failed before the sink did: nothing; the source; or the image, in the next line. Where memory ran out in the
+-- next line, nothing else failed.
+abbrev pub StoodBehind : {first : Beginning} → SoFar first → Aftermath → (old new : Counts) → Type 0
+StoodBehind far after old new =
+    (OnlySinkRose old new × LeavesImage far.now after.image)
+    ⊎ (SourceAndSinkRose old new × IsCutBySource far after)
+    ⊎ (ImageAndSinkRose old new × ComesToThis far after.image (Err stopped.ImageFault))
+    ⊎ (OnlySinkRose old new × ComesToThis far after.image (Err stopped.NoMemory))
 
 -- the sink failed
-pub record IsReportCutOff (first : Beginning) (after : Aftermath) : Type 0 where
+pub record IsReportCutOff (first : Beginning) (after : Aftermath) (old new : Counts) : Type 0 where
   pub far : SoFar first
   pub written_is : IsWrittenInPart far after.written
-  pub image_is : IsLeftBySome far after.image
+  pub behind : StoodBehind far after old new
 
 -- the last line tells what is wrong with the script
 abbrev pub IsOfScript : LastLine → Type 0
@@ -116,22 +126,23 @@ IsOfScript (lasts.LineTooLong line) = Unit {0}
 IsOfScript lasts.ScriptTooLong = Unit {0}
 IsOfScript (lasts.NotADisc line) = ⊥
 
--- What stands with each status, where the bytes of source, sink, opener and image are known.
-abbrev pub StandsWith : Beginning → Aftermath → Status → Type 0
-StandsWith first after statuses.Done = (answered : ℕ) × IsEnded first after (lasts.End answered)
-StandsWith first after statuses.Usage = ⊥
-StandsWith first after statuses.Script = (last : LastLine) × IsOfScript last × IsEnded first after last
-StandsWith first after statuses.ImageFault = IsNotBegun first after ⊎ IsStoppedInLine first after (Err stopped.ImageFault)
-StandsWith first after statuses.SourceFault = IsBroken first after
-StandsWith first after statuses.SinkFault = IsReportCutOff first after
-StandsWith first after statuses.NoMemory = IsNotBegun first after ⊎ IsStoppedInLine first after (Err stopped.NoMemory)
-StandsWith first after statuses.NotADisc = (line : ℕ) × IsEnded first after (lasts.NotADisc line)
+-- What stands with each status, where the bytes of source, sink, opener and image are known; and what had failed by then.
+abbrev pub StandsWith : Beginning → Aftermath → (old new : Counts) → Status → Type 0
+StandsWith first after old new statuses.Done = (answered : ℕ) × IsEnded first after (lasts.End answered)
+StandsWith first after old new statuses.Usage = ⊥
+StandsWith first after old new statuses.Script = (last : LastLine) × IsOfScript last × IsEnded first after last
+StandsWith first after old new statuses.ImageFault =
+    IsNotBegun first after ⊎ IsStoppedInLine first after (Err stopped.ImageFault)
+StandsWith first after old new statuses.SourceFault = IsBroken first after
+StandsWith first after old new statuses.SinkFault = IsReportCutOff first after old new
+StandsWith first after old new statuses.NoMemory =
+    IsNotBegun first after ⊎ IsStoppedInLine first after (Err stopped.NoMemory)
+StandsWith first after old new statuses.NotADisc = (line : ℕ) × IsEnded first after (lasts.NotADisc line)
 
--- The sink failed. What had stopped the lines before may have been counted too.
-pub record SinkRose (before after : Counts) : Type 0 where
-  pub source : before.source ≤ after.source
-  pub sink : Rose before.sink after.sink
-  pub image : before.image ≤ after.image
+-- the sink failed, and of source and image at most the one that had stopped the lines before
+abbrev pub SinkRose : Counts → Counts → Type 0
+SinkRose before after =
+    OnlySinkRose before after ⊎ SourceAndSinkRose before after ⊎ ImageAndSinkRose before after
 
 -- The count that a status tells of rose, and no other; with every other status nothing failed at all.
 abbrev pub StatusCounts : Counts → Counts → Status → Type 0
@@ -170,10 +181,16 @@ pub record SinkView : Type 0 where
 abbrev pub sink_view : Option (List ℕ) → ℕ → SinkView
 sink_view written faults = record { written = written; faults = faults }
 
+-- of what is due at most one piece is not written
+abbrev pub IsNearlyWritten : Option (List ℕ) → Option (List ℕ) → Type 0
+IsNearlyWritten due written =
+    (text bytes : List ℕ) → due ≡ Some text → written ≡ Some bytes → length text ≤ length bytes + GATHERED_ROOM
+
 -- the sink failed in the end, or had failed before: what is written is the beginning of what is due and the last line
 pub record EndsAtSink (due : Option (List ℕ)) (old new : SinkView) (tally : Tally) (ending : Ending) : Type 0 where
   pub more : List ℕ
   pub prefix : append_known new.written more ≡ append_known due (last_of tally ending)
+  pub nearly : IsNearlyWritten due new.written
   pub count : old.faults ≤ new.faults
   pub cause : (ending ≡ Err stopped.SinkFault) ⊎ Rose old.faults new.faults
 

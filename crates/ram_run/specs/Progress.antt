@@ -1,16 +1,18 @@
 -- How far a run came: what stands between two lines, in a line, and where the lines end. For the loop over the lines and
 -- the calls below it.
-use Rattle.std.specs.Prelude.{◌≡◌, ℕ, ◌+◌, ◌<◌, ◌≤◌, ◌⊎◌, Option, None, Some, Result, Ok, Err, List, [], ◌++◌, length, take}
+use Rattle.std.specs.Prelude.{◌≡◌, ℕ, ◌+◌, ◌<◌, ◌≤◌, Option, None, Some, Result, Ok, Err, List, [], ◌∷◌, ◌++◌, length, take}
 use Rattle.std.specs.Io.KnownBytes.{append_known, prepend_known}
-use Rattle.ram_text.specs.Lines.{HasNoFeed, HoldsLine}
+use Rattle.ram_text.specs.Lines.{HasNoFeed}
 use Rattle.ram_text.specs.Script.{Reads}
-use Rattle.ram_text.specs.Writer.{due}
+use Rattle.ram_outside.specs.declared.sink.Sink.{Ghosts as Sinks}
+use Rattle.ram_outside.specs.declared.source.Source.{Ghosts as Sources}
+use Rattle.ram_text.specs.Dialogue.{reading_of, source_of, due_in}
+use Rattle.ram_text.specs.declared.dialogue.Dialogue.{Dialogue}
 use Rattle.ram_text.specs.declared.lines.TheConstants.{SCRIPT_LIMIT}
 use Rattle.ram_text.specs.declared.printing.LastLine.{LastLine}
 use Rattle.ram_text.specs.declared.printing.LastLine.TheVariants as lasts
 use Rattle.ram_text.specs.declared.script.Line.{Line}
 use Rattle.ram_run.specs.declared.reply.Reply.{Reply}
-use Rattle.ram_run.specs.declared.state.RunState.{RunState}
 use Rattle.ram_run.specs.declared.state.Tally.{Tally}
 use Rattle.ram_run.specs.declared.stopped.Stopped.{Stopped}
 use Rattle.ram_run.specs.declared.stopped.Stopped.TheVariants as stopped
@@ -62,15 +64,16 @@ pub record View : Type 0 where
 abbrev pub unread : View → Option (List ℕ)
 unread view = prepend_known view.buffered view.left
 
--- the view of a run in this state, whose source has this left, and whose sink has this written
-abbrev pub run_view : Option (List ℕ) → Option (List ℕ) → RunState → View
-run_view left written state = record {
-  buffered = state.reader.buffered;
-  left = left;
-  due = due written state.writer;
-  taken = state.reader.taken;
-  tally = state.tally;
-}
+module _ {S K : Type 0} (sources : Sources S) (sinks : Sinks K) where
+  -- the view of a run with this dialogue, of which so many lines came
+  abbrev pub run_view : Dialogue S K → Tally → View
+  run_view dialogue tally = record {
+    buffered = (reading_of dialogue).buffered;
+    left = sources.left (source_of dialogue);
+    due = due_in sources sinks dialogue;
+    taken = (reading_of dialogue).taken;
+    tally = tally;
+  }
 
 -- the view is that of the lines so far
 pub record IsAt {first : Beginning} (far : SoFar first) (view : View) : Type 0 where
@@ -164,12 +167,22 @@ abbrev pub TakesBytes : ℕ → ℕ → Result (Option Line) Stopped → Type 0
 TakesBytes taken taken' (Ok (Some line)) = (taken < taken') × (taken' ≤ SCRIPT_LIMIT)
 TakesBytes taken taken' _ = Unit {0}
 
--- the beginning of the text of the answers is due
+-- the lines but the newest
+abbrev pub lines_before : List AnsweredLine → List AnsweredLine
+lines_before [] = []
+lines_before (event ∷ events) = events
+
+-- how many bytes were due before the newest line
+abbrev pub due_before : {first : Beginning} → SoFar first → ℕ
+due_before {first} far = length (first.report ++ report_text (lines_before far.events))
+
+-- the beginning of the text of the answers is due, with all that was due before the newest line
 pub record IsReportedInPart {first : Beginning} (far : SoFar first) (due : Option (List ℕ)) : Type 0 where
   pub written : List ℕ
   pub more : List ℕ
   pub due_is : due ≡ Some written
   pub prefix : written ++ more ≡ first.report ++ report_text far.events
+  pub before : due_before far ≤ length written
 
 -- the next line comes out so, and leaves the inserted disc in a state
 pub record ComesOut {first : Beginning} (far : SoFar first) (stands : State → Type 0) (outcome : Outcome) : Type 0 where
@@ -234,9 +247,3 @@ TellRule old new data_in (Ok reply) (Ok done) = IsReplied old new reply data_in
 TellRule old new data_in (Ok reply) (Err stopped.SinkFault) =
     (n : ℕ) × (new.due ≡ append_known old.due (take n (line_text (old.tally.lines + 1) reply data_in)))
 TellRule old new data_in (Ok reply) (Err why) = ⊥
-
--- the answers so far were handed over where the next line has to be asked for, or the sink failed; what is due stays
-abbrev pub ShownRule : RunState → Ending → Type 0
-ShownRule state (Ok done) = HoldsLine state.reader ⊎ (state.writer ≡ [])
-ShownRule state (Err stopped.SinkFault) = Unit {0}
-ShownRule state (Err why) = ⊥

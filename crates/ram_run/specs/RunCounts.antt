@@ -1,6 +1,10 @@
 -- The counts of failures of source, sink and image over a run. For the calls of the run and its main clause.
 use Rattle.std.specs.Prelude.{◌≡◌, ℕ, Result, Ok, Err}
 use Rattle.model_counts.specs.Counts.{Rose}
+use Rattle.ram_outside.specs.declared.sink.Sink.{Ghosts as Sinks}
+use Rattle.ram_outside.specs.declared.source.Source.{Ghosts as Sources}
+use Rattle.ram_text.specs.Dialogue.{sink_of, source_of}
+use Rattle.ram_text.specs.declared.dialogue.Dialogue.{Dialogue}
 use Rattle.ram_run.specs.declared.reply.Reply.{Reply}
 use Rattle.ram_run.specs.declared.stopped.Stopped.{Stopped}
 use Rattle.ram_run.specs.declared.stopped.Stopped.TheVariants as stopped
@@ -14,6 +18,12 @@ pub record Counts : Type 0 where
 -- these counts
 abbrev pub counts_of : ℕ → ℕ → ℕ → Counts
 counts_of source sink image = record { source = source; sink = sink; image = image }
+
+module _ {S K : Type 0} (sources : Sources S) (sinks : Sinks K) where
+  -- the counts of a dialogue's source and sink, and that of the image
+  abbrev pub counts_with : Dialogue S K → ℕ → Counts
+  counts_with dialogue image =
+      counts_of (sources.faults (source_of dialogue)) (sinks.faults (sink_of dialogue)) image
 
 -- every count is as it was: nothing failed
 pub record SameCounts (before after : Counts) : Type 0 where
@@ -37,6 +47,18 @@ pub record OnlySinkRose (before after : Counts) : Type 0 where
 pub record OnlyImageRose (before after : Counts) : Type 0 where
   pub source : after.source ≡ before.source
   pub sink : after.sink ≡ before.sink
+  pub image : Rose before.image after.image
+
+-- the source failed, and then the sink
+pub record SourceAndSinkRose (before after : Counts) : Type 0 where
+  pub source : Rose before.source after.source
+  pub sink : Rose before.sink after.sink
+  pub image : after.image ≡ before.image
+
+-- the image failed, and then the sink
+pub record ImageAndSinkRose (before after : Counts) : Type 0 where
+  pub source : after.source ≡ before.source
+  pub sink : Rose before.sink after.sink
   pub image : Rose before.image after.image
 
 -- The count that tells why a run ends rose, and no other.

@@ -6,11 +6,8 @@ use Rattle.ram_run.specs.declared.state.Tally.{Tally}
 use Rattle.ram_run.specs.declared.stopped.Stopped.{Stopped}
 use Rattle.ram_run.specs.Counting.{AreAtMost, counts_in}
 
--- nothing was read yet, and nothing is gathered (this project's own, as all here)
+-- no line came yet (this project's own, as all here)
 pub record IsFresh (state : RunState) : Type 0 where
-  pub buffered : state.reader.buffered ≡ []
-  pub taken : state.reader.taken ≡ 0
-  pub gathered : state.writer ≡ []
   pub tally : state.tally ≡ record { lines = 0; answered = 0; counts = counts_in [] }
 
 -- there is room for the data of any line, both ways

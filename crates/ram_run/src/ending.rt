@@ -1,13 +1,13 @@
 //! The end of a report, and the status that tells how the run ended.
 ghost use Rattle.std.specs.Prelude.{◌≡◌, ◌-◌, ◌<◌, ◌^◌};
-ghost use Rattle.ram_text.specs.Writer.{due};
+ghost use Rattle.ram_text.specs.Dialogue.{HasSameEnds, AsksNothing, due_in, sink_of};
 ghost use Rattle.ram_run.specs.Endings.{status_of, sink_view, IsNoUsage, LastLineRule, FinishRule};
 
-use crate::state::{RunState, Tally};
+use crate::state::Tally;
 use crate::status::Status;
 use crate::stopped::Stopped;
-use ram_outside::Sink;
-use ram_text::{LastLine, Print, ReportWriter, print_last};
+use ram_outside::{Sink, Source};
+use ram_text::{Dialogue, LastLine, Print};
 
 /// The status that an ending is told by.
 pub fn status_of(ending: Result<(), Stopped>) -> Status
@@ -28,34 +28,40 @@ pub fn status_of(ending: Result<(), Stopped>) -> Status
 }
 
 /// Ends a report, and tells how the run ended.
-pub fn finish<K: Sink>(state: &mut RunState, report: &mut K, ending: Result<(), Stopped>) -> Status
-    requires { state.old.tally.lines < 2 ^ 64 - 1 }
+pub fn finish<S: Source, K: Sink>(
+    dialogue: &mut Dialogue<S, K>,
+    tally: Tally,
+    ending: Result<(), Stopped>,
+) -> Status
+    requires { tally.lines < 2 ^ 64 - 1 }
     ensures other { IsNoUsage result }
-    ensures rule { FinishRule (due (K.written report.old) state.old.writer)
-        (sink_view (K.written report.old) (K.faults report.old))
-        (sink_view (K.written report.new) (K.faults report.new))
-        state.old.tally ending result }
+    ensures ends { HasSameEnds dialogue.old dialogue.new }
+    ensures nothing { AsksNothing dialogue.old dialogue.new }
+    ensures rule { FinishRule (due_in S.Source K.Sink dialogue.old)
+        (sink_view (K.written (sink_of dialogue.old)) (K.faults (sink_of dialogue.old)))
+        (sink_view (K.written (sink_of dialogue.new)) (K.faults (sink_of dialogue.new))) tally ending result }
 {
-    match print_ending(&mut state.writer, report, state.tally, ending) {
+    match print_ending(dialogue, tally, ending) {
         Print::Failed => return Status::SinkFault,
         Print::Done => {}
     }
-    match state.writer.flush(report) {
+    match dialogue.flush() {
         Print::Failed => Status::SinkFault,
         Print::Done => status_of(ending),
     }
 }
 
 /// Prints the last line of a report, where there is one.
-fn print_ending<K: Sink>(
-    writer: &mut ReportWriter,
-    report: &mut K,
+fn print_ending<S: Source, K: Sink>(
+    dialogue: &mut Dialogue<S, K>,
     tally: Tally,
     ending: Result<(), Stopped>,
 ) -> Print
     requires { tally.lines < 2 ^ 64 - 1 }
-    ensures { LastLineRule (due (K.written report.old) writer.old) (due (K.written report.new) writer.new)
-        (K.faults report.old) (K.faults report.new) tally ending result }
+    ensures ends { HasSameEnds dialogue.old dialogue.new }
+    ensures nothing { AsksNothing dialogue.old dialogue.new }
+    ensures rule { LastLineRule (due_in S.Source K.Sink dialogue.old) (due_in S.Source K.Sink dialogue.new)
+        (K.faults (sink_of dialogue.old)) (K.faults (sink_of dialogue.new)) tally ending result }
 {
     let line = tally.lines + 1;
     let last = match ending {
@@ -69,5 +75,5 @@ fn print_ending<K: Sink>(
         Err(Stopped::SinkFault) => return Print::Failed,
         Err(Stopped::SourceFault | Stopped::ImageFault | Stopped::NoMemory) => return Print::Done,
     };
-    print_last(writer, report, &last)
+    dialogue.print_last(&last)
 }

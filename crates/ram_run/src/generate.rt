@@ -1,6 +1,7 @@
 //! The run of a script that is drawn from a number, and its summary in place of the report.
 ghost use Rattle.std.specs.Prelude.{◌≡◌, ℕ, Option, Some, List, []};
 ghost use Rattle.ram_generate.specs.Script.{script_from};
+ghost use Rattle.ram_text.specs.DialogueRoom.{IsEmptyRoom};
 ghost use Rattle.ram_run.specs.RunState.{IsFresh, HasRoom};
 ghost use Rattle.ram_run.specs.Progress.{Beginning};
 ghost use Rattle.ram_run.specs.Words.{AsksOnce};
@@ -19,6 +20,7 @@ use crate::telling::write_text;
 use ram_generate::generated;
 use ram_image::ImageMedium;
 use ram_outside::{Image, MemSink, Opened, Opener, Sink};
+use ram_text::{Dialogue, DialogueRoom};
 use ram_volume::Volume;
 use std::alloc::Global;
 
@@ -51,11 +53,14 @@ pub fn generate_image<K: Sink, O: Opener>(
     let Ok(state) = RunState::new(alloc) else {
         return Status::NoMemory;
     };
-    let mut state = state;
+    let Ok(room) = DialogueRoom::new(alloc) else {
+        return Status::NoMemory;
+    };
+    let (mut state, mut room) = (state, room);
     match opener.open(name) {
         Opened::Failed => Status::ImageFault,
         Opened::Image(image) => {
-            let (image, ended) = answer_script(alloc, image, script, &mut state);
+            let (image, ended) = answer_script(alloc, image, script, &mut state, &mut room);
             opener.close(image);
             match ended {
                 Ok(()) => tell_summary(alloc, seed, &state.tally, report),
@@ -72,8 +77,10 @@ fn answer_script<I: Image>(
     image: I,
     script: Vec<u8>,
     state: &mut RunState,
+    room: &mut DialogueRoom,
 ) -> (I, Result<(), Status>)
     requires fresh { IsFresh state.old }
+    requires empty { IsEmptyRoom room.old }
     requires room { HasRoom state.old }
     ensures ends { (first : Beginning) → first.script ≡ script.items → first.report ≡ []
         → I.bytes image ≡ Some first.image
@@ -82,12 +89,12 @@ fn answer_script<I: Image>(
 {
     let mut script = KeptScript::new(script);
     let mut aside = MemSink::new(alloc, usize::MAX, Vec::new(alloc));
+    let mut dialogue = Dialogue::new(&mut script, &mut aside, room);
     let (image, ending) = answer_lines::<Volume<ImageMedium<I>>, KeptScript, MemSink>(
         alloc,
         image,
         state,
-        &mut script,
-        &mut aside,
+        &mut dialogue,
     );
     (image, ended_by(ending))
 }

@@ -1,12 +1,12 @@
 //! What a line is answered, and how that is printed.
-ghost use Rattle.ram_text.specs.Writer.{due, PrintRule};
+ghost use Rattle.ram_text.specs.Dialogue.{Tells};
 ghost use Rattle.ram_run.specs.Run.{line_text};
 ghost use Rattle.ram_run.specs.Replies.{CanPrint};
 
 use ram_bytes::Cdb;
 use ram_mmc::Answer;
-use ram_outside::Sink;
-use ram_text::{Event, Print, ReportWriter, print_answer, print_event};
+use ram_outside::{Sink, Source};
+use ram_text::{Dialogue, Event, Print};
 
 /// What a line is answered.
 #[derive(Debug, PartialEq, Eq, Drop)]
@@ -25,22 +25,18 @@ pub enum Reply {
 }
 
 /// Prints what a line of this number is answered, with the data that a command gave.
-pub fn print_reply<K: Sink>(
-    writer: &mut ReportWriter,
-    report: &mut K,
+pub fn print_reply<S: Source, K: Sink>(
+    dialogue: &mut Dialogue<S, K>,
     number: u64,
     reply: &Reply,
     data_in: &[u8],
 ) -> Print
     requires { CanPrint reply.now }
-    ensures { PrintRule (due (K.written report.old) writer.old) (due (K.written report.new) writer.new)
-        (K.faults report.old) (K.faults report.new) (line_text number reply.now data_in.now) result }
+    ensures { Tells S.Source K.Sink dialogue.old dialogue.new (line_text number reply.now data_in.now) result }
 {
     match reply {
         Reply::Nothing => Print::Done,
-        Reply::Event(event) => print_event(writer, report, number, event),
-        Reply::Command { cdb, answer } => {
-            print_answer(writer, report, number, answer, cdb, data_in)
-        }
+        Reply::Event(event) => dialogue.print_event(number, event),
+        Reply::Command { cdb, answer } => dialogue.print_answer(number, answer, cdb, data_in),
     }
 }

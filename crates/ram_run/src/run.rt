@@ -16,6 +16,7 @@ use crate::status::Status;
 use crate::telling::write_text;
 use ram_image::ImageMedium;
 use ram_outside::{Opened, Opener, Sink, Source};
+use ram_text::{Dialogue, DialogueRoom};
 use ram_volume::Volume;
 use std::alloc::Global;
 
@@ -73,7 +74,9 @@ pub fn run<S: Source, K: Sink, O: Opener>(
         → IsBeginning O.Image.bytes first
         (around S.Source K.Sink O.Opener script.old report.old opener.old) O.returned_known
         → StandsWith first (aftermath_of O.Image.bytes
-        (around S.Source K.Sink O.Opener script.new report.new opener.new)) result
+        (around S.Source K.Sink O.Opener script.new report.new opener.new))
+        (around S.Source K.Sink O.Opener script.old report.old opener.old).counts
+        (around S.Source K.Sink O.Opener script.new report.new opener.new).counts result
         ⊎ (IsUnopened result × IsNotOpened
         (around S.Source K.Sink O.Opener script.old report.old opener.old)
         (around S.Source K.Sink O.Opener script.new report.new opener.new)) }
@@ -130,7 +133,9 @@ fn run_image<S: Source, K: Sink, O: Opener>(
         → IsBeginning O.Image.bytes first
         (around S.Source K.Sink O.Opener script.old report.old opener.old) O.returned_known
         → StandsWith first (aftermath_of O.Image.bytes
-        (around S.Source K.Sink O.Opener script.new report.new opener.new)) result
+        (around S.Source K.Sink O.Opener script.new report.new opener.new))
+        (around S.Source K.Sink O.Opener script.old report.old opener.old).counts
+        (around S.Source K.Sink O.Opener script.new report.new opener.new).counts result
         ⊎ (IsUnopened result × IsNotOpened
         (around S.Source K.Sink O.Opener script.old report.old opener.old)
         (around S.Source K.Sink O.Opener script.new report.new opener.new)) }
@@ -138,12 +143,19 @@ fn run_image<S: Source, K: Sink, O: Opener>(
     let Ok(state) = RunState::new(alloc) else {
         return Status::NoMemory;
     };
-    let mut state = state;
+    let Ok(room) = DialogueRoom::new(alloc) else {
+        return Status::NoMemory;
+    };
+    let (mut state, mut room) = (state, room);
     match opener.open(name) {
         Opened::Failed => Status::ImageFault,
         Opened::Image(image) => {
+            let mut dialogue = Dialogue::new(script, report, &mut room);
             let (image, status) = serve::<Volume<ImageMedium<O::Image>>, S, K>(
-                alloc, image, &mut state, script, report,
+                alloc,
+                image,
+                &mut state,
+                &mut dialogue,
             );
             opener.close(image);
             status

@@ -1,9 +1,11 @@
 //! The lines of a script, answered one after another.
-ghost use Rattle.std.specs.Prelude.{◌≡◌, ◌^◌, ◌<◌, ℕ, List, Option, []};
+ghost use Rattle.std.specs.Prelude.{◌^◌, ◌<◌, ◌≡◌};
+ghost use Rattle.ram_text.specs.Dialogue.{HasSameEnds, reading_of, room_of, sink_of, source_of};
+ghost use Rattle.ram_text.specs.DialogueRoom.{IsEmptyRoom};
 ghost use Rattle.ram_run.specs.NextLines.{CountsUses};
 ghost use Rattle.ram_run.specs.Counting.{AreAtMost};
 ghost use Rattle.ram_run.specs.Inserted.{Stands, faults_of};
-ghost use Rattle.ram_run.specs.RunCounts.{StopCounts, counts_of};
+ghost use Rattle.ram_run.specs.RunCounts.{StopCounts, counts_with};
 ghost use Rattle.ram_run.specs.RunState.{IsFresh, HasRoom, TallyRule};
 ghost use Rattle.ram_run.specs.Progress.{Beginning, SoFar, Between, Taken, TurnsTo, Ends, run_view};
 ghost use Rattle.ram_run.specs.Generating.{LeavesBy};
@@ -18,38 +20,37 @@ use crate::status::Status;
 use crate::stopped::Stopped;
 use ram_image::OpenFault;
 use ram_outside::{Image, Sink, Source};
-use ram_text::Line;
+use ram_text::{Dialogue, Line};
 use std::alloc::Global;
 
 /// Answers a line, and prints the answer.
-fn answer_line<D: Drive, K: Sink>(
+fn answer_line<D: Drive, S: Source, K: Sink>(
     alloc: Global,
     inserted: &mut Inserted<D>,
     line: Line,
     state: &mut RunState,
-    report: &mut K,
+    dialogue: &mut Dialogue<S, K>,
 ) -> Result<(), Stopped>
     requires uses { CountsUses line }
     requires lines { state.old.tally.lines < 2 ^ 63 }
     requires answered { state.old.tally.answered < 2 ^ 63 }
     requires few { AreAtMost state.old.tally.counts state.old.tally.lines }
     requires room { HasRoom state.old }
-    ensures turn { (first : Beginning) (far : SoFar first) (left : Option (List ℕ))
+    ensures ends { HasSameEnds dialogue.old dialogue.new }
+    ensures turn { (first : Beginning) (far : SoFar first)
         → Stands D.Sectors D.Image.Image inserted.old far.now
-        → Taken far (run_view left (K.written report.old) state.old) line state.old.payload.items
+        → Taken far (run_view S.Source K.Sink dialogue.old state.old.tally) line state.old.payload.items
         → TurnsTo first (Stands D.Sectors D.Image.Image inserted.new)
-        (run_view left (K.written report.new) state.new) result }
-    ensures counts { (source : ℕ)
-        → StopCounts (counts_of source (K.faults report.old)
-        (faults_of D.Sectors D.Image.Image inserted.old))
-        (counts_of source (K.faults report.new)
-        (faults_of D.Sectors D.Image.Image inserted.new)) result }
+        (run_view S.Source K.Sink dialogue.new state.new.tally) result }
+    ensures counts { StopCounts
+        (counts_with S.Source K.Sink dialogue.old (faults_of D.Sectors D.Image.Image inserted.old))
+        (counts_with S.Source K.Sink dialogue.new (faults_of D.Sectors D.Image.Image inserted.new)) result }
     ensures tally { TallyRule state.old.tally state.new.tally result }
-    ensures same_reader { state.new.reader ≡ state.old.reader }
+    ensures same_reading { reading_of dialogue.new ≡ reading_of dialogue.old }
     ensures room { HasRoom state.new }
 {
     let outcome = inserted.answer(alloc, line, &state.payload, &mut state.data_in);
-    tell(state, report, outcome)
+    tell(state, dialogue, outcome)
 }
 
 /// Answers the lines of a script one after another, and tells why they end.
@@ -57,29 +58,28 @@ pub fn serve_lines<D: Drive, S: Source, K: Sink>(
     alloc: Global,
     inserted: Inserted<D>,
     state: &mut RunState,
-    script: &mut S,
-    report: &mut K,
+    dialogue: &mut Dialogue<S, K>,
 ) -> (Inserted<D>, Result<(), Stopped>)
     requires fresh { IsFresh state.old }
+    requires empty { IsEmptyRoom (room_of dialogue.old) }
     requires room { HasRoom state.old }
+    ensures same { HasSameEnds dialogue.old dialogue.new }
     ensures ends { (first : Beginning)
         → Between first (Stands D.Sectors D.Image.Image inserted)
-        (run_view (S.left script.old) (K.written report.old) state.old)
+        (run_view S.Source K.Sink dialogue.old state.old.tally)
         → Ends first (Stands D.Sectors D.Image.Image result.0)
-        (run_view (S.left script.new) (K.written report.new) state.new) result.1 }
+        (run_view S.Source K.Sink dialogue.new state.new.tally) result.1 }
     ensures counts { StopCounts
-        (counts_of (S.faults script.old) (K.faults report.old)
-        (faults_of D.Sectors D.Image.Image inserted))
-        (counts_of (S.faults script.new) (K.faults report.new)
-        (faults_of D.Sectors D.Image.Image result.0)) result.1 }
+        (counts_with S.Source K.Sink dialogue.old (faults_of D.Sectors D.Image.Image inserted))
+        (counts_with S.Source K.Sink dialogue.new (faults_of D.Sectors D.Image.Image result.0)) result.1 }
     ensures few { state.new.tally.lines < 2 ^ 63 }
 {
     let mut inserted = inserted;
     loop {
-        match take_line(state, script, report) {
+        match take_line(state, dialogue) {
             Err(stopped) => return (inserted, Err(stopped)),
             Ok(None) => return (inserted, Ok(())),
-            Ok(Some(line)) => match answer_line(alloc, &mut inserted, line, state, report) {
+            Ok(Some(line)) => match answer_line(alloc, &mut inserted, line, state, dialogue) {
                 Ok(()) => {}
                 Err(stopped) => return (inserted, Err(stopped)),
             },
@@ -106,23 +106,23 @@ pub fn answer_lines<D: Drive, S: Source, K: Sink>(
     alloc: Global,
     image: D::Image,
     state: &mut RunState,
-    script: &mut S,
-    report: &mut K,
+    dialogue: &mut Dialogue<S, K>,
 ) -> (D::Image, Result<(), Stopped>)
     requires fresh { IsFresh state.old }
+    requires empty { IsEmptyRoom (room_of dialogue.old) }
     requires room { HasRoom state.old }
+    ensures same { HasSameEnds dialogue.old dialogue.new }
     ensures leaves { (first : Beginning)
-        → Begins first (S.left script.old) (K.written report.old) (D.Image.bytes image)
+        → Begins first (S.left (source_of dialogue.old)) (K.written (sink_of dialogue.old)) (D.Image.bytes image)
         → LeavesBy first state.new.tally (D.Image.bytes result.0) result.1 }
-    ensures counts { StopCounts
-        (counts_of (S.faults script.old) (K.faults report.old) (D.Image.faults image))
-        (counts_of (S.faults script.new) (K.faults report.new) (D.Image.faults result.0)) result.1 }
+    ensures counts { StopCounts (counts_with S.Source K.Sink dialogue.old (D.Image.faults image))
+        (counts_with S.Source K.Sink dialogue.new (D.Image.faults result.0)) result.1 }
 {
     let inserted = match begin::<D>(alloc, image) {
         Ok(inserted) => inserted,
         Err((image, stopped)) => return (image, Err(stopped)),
     };
-    let (inserted, ending) = serve_lines(alloc, inserted, state, script, report);
+    let (inserted, ending) = serve_lines(alloc, inserted, state, dialogue);
     (inserted.into_image(), ending)
 }
 
@@ -131,25 +131,27 @@ pub fn serve<D: Drive, S: Source, K: Sink>(
     alloc: Global,
     image: D::Image,
     state: &mut RunState,
-    script: &mut S,
-    report: &mut K,
+    dialogue: &mut Dialogue<S, K>,
 ) -> (D::Image, Status)
     requires fresh { IsFresh state.old }
+    requires empty { IsEmptyRoom (room_of dialogue.old) }
     requires room { HasRoom state.old }
     ensures other { IsNoUsage result.1 }
+    ensures same { HasSameEnds dialogue.old dialogue.new }
     ensures leaves { (first : Beginning)
-        → Begins first (S.left script.old) (K.written report.old) (D.Image.bytes image)
+        → Begins first (S.left (source_of dialogue.old)) (K.written (sink_of dialogue.old)) (D.Image.bytes image)
         → StandsWith first
-        (aftermath (S.left script.new) (K.written report.new) (D.Image.bytes result.0)) result.1 }
-    ensures counts { StatusCounts
-        (counts_of (S.faults script.old) (K.faults report.old) (D.Image.faults image))
-        (counts_of (S.faults script.new) (K.faults report.new) (D.Image.faults result.0)) result.1 }
+        (aftermath (S.left (source_of dialogue.new)) (K.written (sink_of dialogue.new)) (D.Image.bytes result.0))
+        (counts_with S.Source K.Sink dialogue.old (D.Image.faults image))
+        (counts_with S.Source K.Sink dialogue.new (D.Image.faults result.0)) result.1 }
+    ensures counts { StatusCounts (counts_with S.Source K.Sink dialogue.old (D.Image.faults image))
+        (counts_with S.Source K.Sink dialogue.new (D.Image.faults result.0)) result.1 }
 {
     let inserted = match begin::<D>(alloc, image) {
         Ok(inserted) => inserted,
         Err((image, stopped)) => return (image, status_of(Err(stopped))),
     };
-    let (inserted, ending) = serve_lines(alloc, inserted, state, script, report);
-    let status = finish(state, report, ending);
+    let (inserted, ending) = serve_lines(alloc, inserted, state, dialogue);
+    let status = finish(dialogue, state.tally, ending);
     (inserted.into_image(), status)
 }

@@ -2,7 +2,6 @@
 use Rattle.std.specs.Prelude.{◌≡◌, ℕ, ◌<◌, Option, List, [], length, take, Result, Ok, Err}
 use Rattle.std.specs.Io.KnownBytes.{append_known}
 use Rattle.model_counts.specs.Counts.{Rose}
-use Rattle.ram_outside.specs.declared.sink.Sink.{Ghosts as Sinks}
 use Rattle.ram_text.specs.declared.gathered.SinkFailed.{SinkFailed}
 use Rattle.ram_text.specs.declared.gathered.Print.{Print}
 use Rattle.ram_text.specs.declared.gathered.Print.TheVariants.{Done, Failed}
@@ -45,22 +44,3 @@ abbrev pub HandOverRule : Option (List ℕ) → Option (List ℕ) → ℕ → �
 HandOverRule written written' faults faults' text (Ok done) = (written' ≡ append_known written text) × (faults' ≡ faults)
 HandOverRule written written' faults faults' text (Err n) =
     (n < length text) × (written' ≡ append_known written (take n text)) × Rose faults faults'
-
-module _ {K : Type 0} (sinks : Sinks K) where
-  -- What is due of a report: what its sink has written, and what is gathered for it. (This project's own.)
-  abbrev pub due_of : List ℕ → K → Option (List ℕ)
-  due_of gathered sink = due (sinks.written sink) gathered
-
-  -- The text is printed, or cut off by a failure of the sink: what is gathered and the sink, before and after.
-  -- (This project's own.)
-  abbrev pub Prints : List ℕ → K → List ℕ → K → List ℕ → Print → Type 0
-  Prints w s w' s' text answer = PrintRule (due_of w s) (due_of w' s') (sinks.faults s) (sinks.faults s') text answer
-
-  -- the same of a call inside, by how it went (this project's own)
-  abbrev pub PutsText : List ℕ → K → List ℕ → K → List ℕ → Result (Unit {0}) SinkFailed → Type 0
-  PutsText w s w' s' text outcome = TextRule (due_of w s) (due_of w' s') (sinks.faults s) (sinks.faults s') text outcome
-
-  -- What is gathered is handed over, or a prefix of it and the sink failed: what is gathered and the sink, before and
-  -- after. (This project's own.)
-  abbrev pub HandsOver : List ℕ → K → List ℕ → K → Print → Type 0
-  HandsOver w s w' s' answer = FlushRule (due_of w s) (due_of w' s') w' (sinks.faults s) (sinks.faults s') answer

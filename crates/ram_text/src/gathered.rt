@@ -1,13 +1,14 @@
 //! Text that is gathered on its way to a sink. It touches its own bytes, and the sink's by `put` alone.
 ghost use Rattle.std.specs.Prelude.{◌≡◌, ◌+◌, ◌<◌, ◌≤◌, ℕ, Option, List, [], ◌++◌, length, IfOk, MatchBool};
-ghost use Rattle.ram_text.specs.Writer.{PutsText, TextRule, PrintRule, HandsOver, HandOverRule};
+ghost use Rattle.ram_text.specs.Writer.{TextRule, PrintRule, FlushRule, HandOverRule, due};
+ghost use Rattle.ram_text.specs.declared.gathered.TheConstants.{GATHERED_ROOM};
 
 use ram_outside::{Put, Sink};
 use std::alloc::{AllocError, Global};
 use std::marker::Model;
 
-/// How many bytes are gathered before they are handed to the sink.
-const ROOM: usize = 65_536;
+/// How many bytes are gathered at most before they are handed to the sink.
+pub const GATHERED_ROOM: usize = 65_536;
 
 /// The answer of a call that prints.
 #[derive(Clone, Copy, Debug, PartialEq, Eq)]
@@ -57,7 +58,7 @@ impl Gathered {
         ensures { IfOk result (λ gathered. gathered ≡ []) }
     {
         Ok(Gathered {
-            bytes: Vec::with_capacity(alloc, ROOM)?,
+            bytes: Vec::with_capacity(alloc, GATHERED_ROOM)?,
             sent: 0,
         })
     }
@@ -65,7 +66,9 @@ impl Gathered {
     /// Puts a text behind what is gathered; where it does not fit, what is gathered goes to the sink first. A text
     /// longer than the room goes to the sink at once.
     pub fn put<K: Sink>(&mut self, sink: &mut K, text: &[u8]) -> Result<(), SinkFailed>
-        ensures { PutsText K.Sink self.old sink.old self.new sink.new text.now result }
+        ensures rule { TextRule (due (K.written sink.old) self.old) (due (K.written sink.new) self.new)
+            (K.faults sink.old) (K.faults sink.new) text.now result }
+        ensures few { length self.new ≤ GATHERED_ROOM }
     {
         if self.gather(text) {
             return Ok(());
@@ -85,7 +88,9 @@ impl Gathered {
 
     /// Hands over what is gathered.
     pub fn flush<K: Sink>(&mut self, sink: &mut K) -> Print
-        ensures { HandsOver K.Sink self.old sink.old self.new sink.new result }
+        ensures rule { FlushRule (due (K.written sink.old) self.old) (due (K.written sink.new) self.new)
+            self.new (K.faults sink.old) (K.faults sink.new) result }
+        ensures few { length self.new ≤ GATHERED_ROOM }
     {
         match hand_over(sink, &self.bytes[self.sent..]) {
             Ok(()) => {
@@ -102,9 +107,10 @@ impl Gathered {
 
     // Puts the text behind what is gathered, if it fits.
     fn gather(&mut self, text: &[u8]) -> bool
-        ensures { MatchBool result (self.new ≡ self.old ++ text.now) (self.new ≡ self.old) }
+        ensures rule { MatchBool result (self.new ≡ self.old ++ text.now) (self.new ≡ self.old) }
+        ensures few { length self.new ≤ GATHERED_ROOM }
     {
-        if text.len() > ROOM - self.bytes.len() {
+        if text.len() > GATHERED_ROOM - self.bytes.len() {
             return false;
         }
         self.bytes.extend_from_slice(text).is_ok()

@@ -1,6 +1,7 @@
 //! The lines of a script, read from any source, and the report, written to any sink.
 #![tactic(auto)]
 
+pub mod dialogue;
 pub mod gathered;
 mod hexadecimal;
 pub mod laws;
@@ -11,7 +12,8 @@ pub mod report;
 pub mod script;
 mod words;
 
-pub use gathered::{Print, hand_over};
+pub use dialogue::{Dialogue, DialogueRoom};
+pub use gathered::{GATHERED_ROOM, Print, SinkFailed, hand_over};
 pub use lines::{LINE_LIMIT, LineReader, NextLine, SCRIPT_LIMIT};
 pub use payload::PAYLOAD_ROOM;
 pub use printing::{Event, LastLine, digits_of, print_answer, print_event, print_last, print_line};

@@ -4,6 +4,7 @@ ghost use Rattle.std.specs.Prelude.{◌≡◌, ◌↔◌, ℕ, ◌+◌, ◌-◌,
 ghost use Rattle.ram_outside.specs.Source.{TakeRule};
 ghost use Rattle.ram_text.specs.Lines.{Reading, HoldsLine, NextLineRule, HasNoFeed, IsFirstFeed};
 ghost use Rattle.ram_text.specs.Steps.{IsOpen, CutRule, FillRule, LastLineBytes, PassedFirst};
+ghost use Rattle.ram_text.specs.Reports.{gathered_in};
 ghost use Rattle.ram_text.specs.declared.lines.TheConstants.{LINE_LIMIT, SCRIPT_LIMIT, PIECE, ROOM};
 
 use crate::report::ReportWriter;
@@ -110,7 +111,7 @@ impl LineReader {
     /// one byte passes both, it is the script's. More is asked of the source only where all of the report is
     /// handed over.
     pub fn next_line<S: Source>(&mut self, source: &mut S, _report: &ReportWriter) -> NextLine
-        requires shown { HoldsLine self.old ⊎ (_report.now ≡ []) }
+        requires shown { HoldsLine self.old ⊎ (gathered_in _report.now ≡ []) }
         ensures rule { NextLineRule S.Source self.old self.new source.old source.new result }
         ensures asks_nothing { HoldsLine self.old → (result ≡ NextLine.Line) × (source.new ≡ source.old) }
     {

@@ -1,8 +1,8 @@
 //! The writer of a report: texts, numbers and hexadecimal digits, behind what is due. It touches what is gathered,
 //! and the sink by `put` alone.
-ghost use Rattle.std.specs.Prelude.{◌≡◌, ◌*◌, ◌≤◌, [], decimal, length, IfOk};
+ghost use Rattle.std.specs.Prelude.{◌≡◌, ◌*◌, ◌≤◌, [], decimal, length, vec_len, IfOk};
 ghost use Rattle.hex.specs.Hex.{encode_lower};
-ghost use Rattle.ram_text.specs.Writer.{PutsText, HandsOver};
+ghost use Rattle.ram_text.specs.declared.gathered.TheConstants.{GATHERED_ROOM};
 
 use crate::gathered::{Gathered, Print, SinkFailed};
 use crate::hexadecimal::encode_prefix;
@@ -10,7 +10,6 @@ use itoa::Buffer;
 use ram_bytes::SECTOR_BYTES;
 use ram_outside::Sink;
 use std::alloc::{AllocError, Global};
-use std::marker::Model;
 
 /// Writes a report to a sink. Texts are gathered, and handed over when 64 KiB are full or when told to. At all
 /// times what the sink has written is a prefix of the text that is due. Its room is taken when it is made.
@@ -18,22 +17,19 @@ use std::marker::Model;
 pub struct ReportWriter {
     gathered: Gathered,
     digits: Vec<u8>,
-}
 
-impl Model for ReportWriter {
-    ghost use Rattle.std.specs.Prelude.{◌≡◌, ℕ, List, vec_len};
-
-    ghost Value = { List ℕ };
-
-    ghost view = { λ w. w.gathered };
-
-    ghost invariant = { λ w. vec_len w.digits ≡ 4096 };
+    /// No more is gathered than there is room for.
+    pub ghost few: { length gathered ≤ GATHERED_ROOM },
+    /// There is room for the digits of a sector.
+    ghost row: { vec_len digits ≡ 4096 },
 }
 
 impl ReportWriter {
+    ghost use Rattle.ram_text.specs.Reports.{PutsText, HandsOver, gathered_in};
+
     /// A writer with nothing gathered.
     pub fn new(alloc: Global) -> Result<ReportWriter, AllocError>
-        ensures { IfOk result (λ writer. writer ≡ []) }
+        ensures { IfOk result (λ writer. gathered_in writer ≡ []) }
     {
         Ok(ReportWriter {
             gathered: Gathered::new(alloc)?,

@@ -1,7 +1,7 @@
 //! The answers to commands: `good`, a check with its sense, `cut`, `off`. Text alone.
 ghost use Rattle.std.specs.Prelude.{◌≡◌, ◌<◌, ◌++◌, codes, slice_index};
 ghost use Rattle.hex.specs.Hex.{lower_digits};
-ghost use Rattle.ram_text.specs.Writer.{Prints, PutsText};
+ghost use Rattle.ram_text.specs.Reports.{Prints, PutsText};
 ghost use Rattle.ram_text.specs.ReportLines.{numbered, sense_code, info_words, answer_words, answer_text, IsPrinted, IsAddressed};
 
 use crate::gathered::{Print, SinkFailed, printed};

@@ -2,7 +2,7 @@
 ghost use Rattle.std.specs.Prelude.{◌≡◌, ◌<◌, ◌≤◌, ◌/◌, ◌++◌, ◌∷◌, [], drop, length, codes, decimal};
 ghost use Rattle.hex.specs.Hex.{encode_lower};
 ghost use Rattle.model_commands.specs.Commands.{operation_of};
-ghost use Rattle.ram_text.specs.Writer.{PutsText};
+ghost use Rattle.ram_text.specs.Reports.{PutsText};
 ghost use Rattle.ram_text.specs.ReportLines.{reply_text, IsAddressed, is_read, is_one_byte, sector_text, sectors_text, data_text};
 
 use crate::gathered::SinkFailed;

@@ -1,6 +1,6 @@
 //! The answers to lines that are no commands: `pressed`, `ready`, `cut` and the like. Text alone.
 ghost use Rattle.std.specs.Prelude.{◌++◌, codes};
-ghost use Rattle.ram_text.specs.Writer.{Prints, PutsText};
+ghost use Rattle.ram_text.specs.Reports.{Prints, PutsText};
 ghost use Rattle.ram_text.specs.ReportLines.{numbered, event_words};
 
 use crate::gathered::{Print, SinkFailed, printed};

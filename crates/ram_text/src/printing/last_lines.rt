@@ -1,5 +1,5 @@
 //! The last line of a report, by how the run ended. Text alone.
-ghost use Rattle.ram_text.specs.Writer.{Prints, PutsText};
+ghost use Rattle.ram_text.specs.Reports.{Prints, PutsText};
 ghost use Rattle.ram_text.specs.ReportLines.{last_text};
 
 use crate::gathered::{Print, SinkFailed, printed};

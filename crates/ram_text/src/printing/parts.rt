@@ -1,6 +1,6 @@
 //! What the lines of a report are put together from: words, numbers, the end of a line. Text alone.
 ghost use Rattle.std.specs.Prelude.{◌++◌, codes, decimal};
-ghost use Rattle.ram_text.specs.Writer.{Prints, PutsText};
+ghost use Rattle.ram_text.specs.Reports.{Prints, PutsText};
 
 use crate::gathered::{Print, SinkFailed, printed};
 use crate::report::ReportWriter;

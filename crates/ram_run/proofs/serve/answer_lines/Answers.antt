@@ -1,3 +1,4 @@
+use Rattle.ram_text.specs.Dialogue.{sink_of, source_of}
 use Rattle.ram_run.specs.Inserted.{Stands}
 use Rattle.ram_run.specs.Progress.{run_view}
 use Rattle.ram_run.proofs.Finishes.{begins}
@@ -11,14 +12,14 @@ returns-in-Err-clause-leaves g c first b =
 
 pub returns-in-Err-clause-counts : goal.returns-in-Err-clause-counts
 returns-in-Err-clause-counts g c =
-    not_begun_counts (g.S.Source.faults c.args.script.now) (g.K.Sink.faults c.args.report.now) (g.D.Image.Image.faults c.args.image) (g.D.Image.Image.faults c.in-Err.image) c.in-Err.stopped c.in-Err.ensures.1
+    not_begun_counts (g.S.Source.faults (source_of c.args.dialogue.now)) (g.K.Sink.faults (sink_of c.args.dialogue.now)) (g.D.Image.Image.faults c.args.image) (g.D.Image.Image.faults c.in-Err.image) c.in-Err.stopped c.in-Err.ensures.1
 
 pub returns-clause-leaves : goal.returns-clause-leaves
 returns-clause-leaves g c first b =
     leaves_by first (Stands g.D.Sectors g.D.Image.Image c.serve_lines-inserted.result.0) (g.D.Image.Image.bytes c.into_image.result) c.into_image.ensures.left
-    (run_view (g.S.Source.left c.serve_lines-inserted.new.script) (g.K.Sink.written c.serve_lines-inserted.new.report) c.serve_lines-inserted.new.state) c.serve_lines-inserted.result.1
+    (run_view g.S.Source g.K.Sink c.serve_lines-inserted.new.dialogue c.serve_lines-inserted.new.state.tally) c.serve_lines-inserted.result.1
     (c.serve_lines-inserted.ensures.ends first
-    (begins first (Stands g.D.Sectors g.D.Image.Image c.in-Ok.inserted) (g.S.Source.left c.args.script.now) (g.K.Sink.written c.args.report.now) c.args.state.now c.requires.fresh b.left_is b.written_is
+    (begins g.S.Source g.K.Sink first (Stands g.D.Sectors g.D.Image.Image c.in-Ok.inserted) c.args.dialogue.now c.args.state.now c.requires.fresh c.requires.empty b.left_is b.written_is
     (c.in-Ok.ensures.0 first.image b.image_is)))
 
 pub returns-clause-counts : goal.returns-clause-counts

@@ -1,7 +1,8 @@
-use Rattle.std.proofs.Common.{arith, ap}
+use Rattle.std.proofs.Common.{arith, ap, ◌∙◌}
 use Rattle.ram_text.specs.Lines.{Reading}
+use Rattle.ram_text.specs.Dialogue.{reading_of}
 use Rattle.ram_run.specs.Inserted.{Stands, faults_of}
-use Rattle.ram_run.specs.RunCounts.{counts_of}
+use Rattle.ram_run.specs.RunCounts.{counts_with}
 use Rattle.ram_run.specs.Progress.{run_view}
 use Rattle.ram_run.proofs.CountsRise.{none_rose, why_counts}
 use Rattle.ram_run.proofs.FewLines.{few_more, few_still}
@@ -12,12 +13,12 @@ pub returns-in-Err-clause-ends : goal.returns-in-Err-clause-ends
 returns-in-Err-clause-ends g c first b =
     let now = c.loop-stopped.invariant.between first b in
     let stops = c.in-Err.ensures.next first now.far now.at in
-    ends_between first (Stands g.D.Sectors g.D.Image.Image c.loop-stopped.inserted) now.far (run_view (g.S.Source.left c.take_line.new.script) (g.K.Sink.written c.take_line.new.report) c.take_line.new.state) c.in-Err.stopped now.stands_now stops.0 stops.1
+    ends_between first (Stands g.D.Sectors g.D.Image.Image c.loop-stopped.inserted) now.far (run_view g.S.Source g.K.Sink c.take_line.new.dialogue c.take_line.new.state.tally) c.in-Err.stopped now.stands_now stops.0 stops.1
 
 pub returns-in-Err-clause-counts : goal.returns-in-Err-clause-counts
 returns-in-Err-clause-counts g c =
-    why_counts (counts_of (g.S.Source.faults c.args.script.now) (g.K.Sink.faults c.args.report.now) (faults_of g.D.Sectors g.D.Image.Image c.args.inserted)) (counts_of (g.S.Source.faults c.loop-stopped.script) (g.K.Sink.faults c.loop-stopped.report) (faults_of g.D.Sectors g.D.Image.Image c.loop-stopped.inserted))
-    (counts_of (g.S.Source.faults c.take_line.new.script) (g.K.Sink.faults c.take_line.new.report) (faults_of g.D.Sectors g.D.Image.Image c.loop-stopped.inserted))
+    why_counts (counts_with g.S.Source g.K.Sink c.args.dialogue.now (faults_of g.D.Sectors g.D.Image.Image c.args.inserted)) (counts_with g.S.Source g.K.Sink c.loop-stopped.dialogue (faults_of g.D.Sectors g.D.Image.Image c.loop-stopped.inserted))
+    (counts_with g.S.Source g.K.Sink c.take_line.new.dialogue (faults_of g.D.Sectors g.D.Image.Image c.loop-stopped.inserted))
     c.in-Err.stopped c.loop-stopped.invariant.counts (c.in-Err.ensures.counts (faults_of g.D.Sectors g.D.Image.Image c.loop-stopped.inserted))
 
 pub returns-in-Ok-None-clause-ends : goal.returns-in-Ok-None-clause-ends
@@ -26,42 +27,47 @@ returns-in-Ok-None-clause-ends g c first b =
 
 pub returns-in-Ok-None-clause-counts : goal.returns-in-Ok-None-clause-counts
 returns-in-Ok-None-clause-counts g c =
-    none_rose (counts_of (g.S.Source.faults c.args.script.now) (g.K.Sink.faults c.args.report.now) (faults_of g.D.Sectors g.D.Image.Image c.args.inserted)) (counts_of (g.S.Source.faults c.loop-stopped.script) (g.K.Sink.faults c.loop-stopped.report) (faults_of g.D.Sectors g.D.Image.Image c.loop-stopped.inserted))
-    (counts_of (g.S.Source.faults c.take_line.new.script) (g.K.Sink.faults c.take_line.new.report) (faults_of g.D.Sectors g.D.Image.Image c.loop-stopped.inserted))
+    none_rose (counts_with g.S.Source g.K.Sink c.args.dialogue.now (faults_of g.D.Sectors g.D.Image.Image c.args.inserted)) (counts_with g.S.Source g.K.Sink c.loop-stopped.dialogue (faults_of g.D.Sectors g.D.Image.Image c.loop-stopped.inserted))
+    (counts_with g.S.Source g.K.Sink c.take_line.new.dialogue (faults_of g.D.Sectors g.D.Image.Image c.loop-stopped.inserted))
     c.loop-stopped.invariant.counts (rw c.in-Ok-None.is at (c.take_line.ensures.counts (faults_of g.D.Sectors g.D.Image.Image c.loop-stopped.inserted)))
 
 pub loop-stopped-preserved : goal.loop-stopped-preserved
 loop-stopped-preserved g c =
     let takes = rw (c.in-Ok-Some.is, c.in-Ok-Some.field-0-is) at c.take_line.ensures.takes in
     let more = c.in-Ok.ensures.tally in
-    let reader = ap (λ (r : Reading). r.taken) c.answer_line.ensures.same_reader in
+    let reader = ap (λ (r : Reading). r.taken) c.answer_line.ensures.same_reading in
     let tally = c.take_line.ensures.same_tally in
     record {
-      between = λ first b. let now = c.loop-stopped.invariant.between first b in c.in-Ok.ensures.turn first now.far (g.S.Source.left c.take_line.new.script) now.stands_now (rw (c.in-Ok-Some.is, c.in-Ok-Some.field-0-is) at (c.take_line.ensures.next first now.far now.at));
-      counts = none_rose (counts_of (g.S.Source.faults c.args.script.now) (g.K.Sink.faults c.args.report.now) (faults_of g.D.Sectors g.D.Image.Image c.args.inserted)) (counts_of (g.S.Source.faults c.take_line.new.script) (g.K.Sink.faults c.take_line.new.report) (faults_of g.D.Sectors g.D.Image.Image c.loop-stopped.inserted))
-          (counts_of (g.S.Source.faults c.take_line.new.script) (g.K.Sink.faults c.answer_line.new.report) (faults_of g.D.Sectors g.D.Image.Image c.answer_line.new.inserted))
-          (none_rose (counts_of (g.S.Source.faults c.args.script.now) (g.K.Sink.faults c.args.report.now) (faults_of g.D.Sectors g.D.Image.Image c.args.inserted)) (counts_of (g.S.Source.faults c.loop-stopped.script) (g.K.Sink.faults c.loop-stopped.report) (faults_of g.D.Sectors g.D.Image.Image c.loop-stopped.inserted))
-          (counts_of (g.S.Source.faults c.take_line.new.script) (g.K.Sink.faults c.take_line.new.report) (faults_of g.D.Sectors g.D.Image.Image c.loop-stopped.inserted))
-          c.loop-stopped.invariant.counts (rw c.in-Ok-Some.is at (c.take_line.ensures.counts (faults_of g.D.Sectors g.D.Image.Image c.loop-stopped.inserted)))) (c.in-Ok.ensures.counts (g.S.Source.faults c.take_line.new.script));
+      same = record {
+        script = c.answer_line.ensures.ends.script ∙ c.take_line.ensures.ends.script ∙ c.loop-stopped.invariant.same.script;
+        report = c.answer_line.ensures.ends.report ∙ c.take_line.ensures.ends.report ∙ c.loop-stopped.invariant.same.report;
+        room = c.answer_line.ensures.ends.room ∙ c.take_line.ensures.ends.room ∙ c.loop-stopped.invariant.same.room;
+      };
+      between = λ first b. let now = c.loop-stopped.invariant.between first b in c.in-Ok.ensures.turn first now.far now.stands_now (rw (c.in-Ok-Some.is, c.in-Ok-Some.field-0-is) at (c.take_line.ensures.next first now.far now.at));
+      counts = none_rose (counts_with g.S.Source g.K.Sink c.args.dialogue.now (faults_of g.D.Sectors g.D.Image.Image c.args.inserted)) (counts_with g.S.Source g.K.Sink c.take_line.new.dialogue (faults_of g.D.Sectors g.D.Image.Image c.loop-stopped.inserted))
+          (counts_with g.S.Source g.K.Sink c.answer_line.new.dialogue (faults_of g.D.Sectors g.D.Image.Image c.answer_line.new.inserted))
+          (none_rose (counts_with g.S.Source g.K.Sink c.args.dialogue.now (faults_of g.D.Sectors g.D.Image.Image c.args.inserted)) (counts_with g.S.Source g.K.Sink c.loop-stopped.dialogue (faults_of g.D.Sectors g.D.Image.Image c.loop-stopped.inserted))
+          (counts_with g.S.Source g.K.Sink c.take_line.new.dialogue (faults_of g.D.Sectors g.D.Image.Image c.loop-stopped.inserted))
+          c.loop-stopped.invariant.counts (rw c.in-Ok-Some.is at (c.take_line.ensures.counts (faults_of g.D.Sectors g.D.Image.Image c.loop-stopped.inserted)))) c.in-Ok.ensures.counts;
       room = c.answer_line.ensures.room;
-      few = few_more c.loop-stopped.state.tally c.take_line.new.state.tally c.answer_line.new.state.tally c.loop-stopped.state.reader.taken c.take_line.new.state.reader.taken c.answer_line.new.state.reader.taken c.loop-stopped.invariant.few takes.0 reader tally more;
+      few = few_more c.loop-stopped.state.tally c.take_line.new.state.tally c.answer_line.new.state.tally (reading_of c.loop-stopped.dialogue).taken (reading_of c.take_line.new.dialogue).taken (reading_of c.answer_line.new.dialogue).taken c.loop-stopped.invariant.few takes.0 reader tally more;
       within = omega (arith, takes.1, reader);
     }
 
 pub returns-in-Err-answer_line-clause-ends : goal.returns-in-Err-answer_line-clause-ends
 returns-in-Err-answer_line-clause-ends g c first b =
     let now = c.loop-stopped.invariant.between first b in
-    c.in-Err-answer_line.ensures.turn first now.far (g.S.Source.left c.take_line.new.script) now.stands_now (rw (c.in-Ok-Some.is, c.in-Ok-Some.field-0-is) at (c.take_line.ensures.next first now.far now.at))
+    c.in-Err-answer_line.ensures.turn first now.far now.stands_now (rw (c.in-Ok-Some.is, c.in-Ok-Some.field-0-is) at (c.take_line.ensures.next first now.far now.at))
 
 pub returns-in-Err-answer_line-clause-counts : goal.returns-in-Err-answer_line-clause-counts
 returns-in-Err-answer_line-clause-counts g c =
-    why_counts (counts_of (g.S.Source.faults c.args.script.now) (g.K.Sink.faults c.args.report.now) (faults_of g.D.Sectors g.D.Image.Image c.args.inserted)) (counts_of (g.S.Source.faults c.take_line.new.script) (g.K.Sink.faults c.take_line.new.report) (faults_of g.D.Sectors g.D.Image.Image c.loop-stopped.inserted))
-    (counts_of (g.S.Source.faults c.take_line.new.script) (g.K.Sink.faults c.answer_line.new.report) (faults_of g.D.Sectors g.D.Image.Image c.answer_line.new.inserted))
+    why_counts (counts_with g.S.Source g.K.Sink c.args.dialogue.now (faults_of g.D.Sectors g.D.Image.Image c.args.inserted)) (counts_with g.S.Source g.K.Sink c.take_line.new.dialogue (faults_of g.D.Sectors g.D.Image.Image c.loop-stopped.inserted))
+    (counts_with g.S.Source g.K.Sink c.answer_line.new.dialogue (faults_of g.D.Sectors g.D.Image.Image c.answer_line.new.inserted))
     c.in-Err-answer_line.stopped
-    (none_rose (counts_of (g.S.Source.faults c.args.script.now) (g.K.Sink.faults c.args.report.now) (faults_of g.D.Sectors g.D.Image.Image c.args.inserted)) (counts_of (g.S.Source.faults c.loop-stopped.script) (g.K.Sink.faults c.loop-stopped.report) (faults_of g.D.Sectors g.D.Image.Image c.loop-stopped.inserted))
-    (counts_of (g.S.Source.faults c.take_line.new.script) (g.K.Sink.faults c.take_line.new.report) (faults_of g.D.Sectors g.D.Image.Image c.loop-stopped.inserted))
-    c.loop-stopped.invariant.counts (rw c.in-Ok-Some.is at (c.take_line.ensures.counts (faults_of g.D.Sectors g.D.Image.Image c.loop-stopped.inserted)))) (c.in-Err-answer_line.ensures.counts (g.S.Source.faults c.take_line.new.script))
+    (none_rose (counts_with g.S.Source g.K.Sink c.args.dialogue.now (faults_of g.D.Sectors g.D.Image.Image c.args.inserted)) (counts_with g.S.Source g.K.Sink c.loop-stopped.dialogue (faults_of g.D.Sectors g.D.Image.Image c.loop-stopped.inserted))
+    (counts_with g.S.Source g.K.Sink c.take_line.new.dialogue (faults_of g.D.Sectors g.D.Image.Image c.loop-stopped.inserted))
+    c.loop-stopped.invariant.counts (rw c.in-Ok-Some.is at (c.take_line.ensures.counts (faults_of g.D.Sectors g.D.Image.Image c.loop-stopped.inserted)))) c.in-Err-answer_line.ensures.counts
 
 pub returns-in-Err-answer_line-clause-few : goal.returns-in-Err-answer_line-clause-few
 returns-in-Err-answer_line-clause-few g c =
-    few_still c.loop-stopped.state.tally c.take_line.new.state.tally c.answer_line.new.state.tally c.loop-stopped.state.reader.taken c.loop-stopped.invariant.few c.loop-stopped.invariant.within c.take_line.ensures.same_tally c.in-Err-answer_line.ensures.tally
+    few_still c.loop-stopped.state.tally c.take_line.new.state.tally c.answer_line.new.state.tally (reading_of c.loop-stopped.dialogue).taken c.loop-stopped.invariant.few c.loop-stopped.invariant.within c.take_line.ensures.same_tally c.in-Err-answer_line.ensures.tally

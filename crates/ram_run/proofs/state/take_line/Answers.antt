@@ -1,23 +1,23 @@
+use Rattle.std.proofs.Common.{refl}
+use Rattle.ram_text.specs.Dialogue.{reading_of, source_of}
 use Rattle.ram_run.specs.Progress.{run_view}
 use Rattle.ram_run.proofs.LinesTaken.{takes_line, stops_unread}
 use Rattle.ram_run.proofs.state.take_line.Goals as goal
 
 pub returns-in-Ok-clause-next : goal.returns-in-Ok-clause-next
 returns-in-Ok-clause-next g c first far at =
-    takes_line first far (run_view (g.S.Source.left c.args.script.now) (g.K.Sink.written c.args.report.now) c.args.state.now)
-    (run_view (g.S.Source.left c.next_line.new.source) (g.K.Sink.written c.hand_over.new.report)
-    (record { reader = c.next_line.new.self; writer = c.hand_over.new.state.writer; payload = c.parse_line.new.payload; data_in = c.hand_over.new.state.data_in; tally = c.hand_over.new.state.tally }))
-    at c.hand_over.ensures.due c.hand_over.ensures.same_tally
-    c.next_line.new.self.line (g.S.Source.faults c.args.script.now) (g.S.Source.faults c.next_line.new.source) (rw c.hand_over.ensures.same_reader at c.in-Line.ensures.rule)
+    let looks = rw c.in-Ok-Line.field-0-is at c.in-Ok-Line.ensures.rule in
+    takes_line first far (run_view g.S.Source g.K.Sink c.args.dialogue.now c.args.state.now.tally) (run_view g.S.Source g.K.Sink c.next_line.new.self c.args.state.now.tally)
+    at looks.due refl
+    (reading_of c.next_line.new.self).line (g.S.Source.faults (source_of c.args.dialogue.now)) (g.S.Source.faults (source_of c.next_line.new.self)) looks.rule
     c.in-Ok.line c.parse_line.new.payload.items (rw c.line.ensures at c.in-Ok.ensures.read)
 
-pub returns-in-Err-clause-next : goal.returns-in-Err-clause-next
-returns-in-Err-clause-next g c first far at = (
-  stops_unread first far (run_view (g.S.Source.left c.args.script.now) (g.K.Sink.written c.args.report.now) c.args.state.now)
-      (run_view (g.S.Source.left c.next_line.new.source) (g.K.Sink.written c.hand_over.new.report)
-      (record { reader = c.next_line.new.self; writer = c.hand_over.new.state.writer; payload = c.parse_line.new.payload; data_in = c.hand_over.new.state.data_in; tally = c.hand_over.new.state.tally }))
-      at c.hand_over.ensures.due c.hand_over.ensures.same_tally
-      c.next_line.new.self.line (g.S.Source.faults c.args.script.now) (g.S.Source.faults c.next_line.new.source) (rw c.hand_over.ensures.same_reader at c.in-Line.ensures.rule)
-      (rw c.line.ensures at c.in-Err.ensures.read.0),
-  tt,
-)
+pub returns-in-Err-parse_line-clause-next : goal.returns-in-Err-parse_line-clause-next
+returns-in-Err-parse_line-clause-next g c first far at =
+    let looks = rw c.in-Ok-Line.field-0-is at c.in-Ok-Line.ensures.rule in (
+      stops_unread first far (run_view g.S.Source g.K.Sink c.args.dialogue.now c.args.state.now.tally) (run_view g.S.Source g.K.Sink c.next_line.new.self c.args.state.now.tally)
+          at looks.due refl
+          (reading_of c.next_line.new.self).line (g.S.Source.faults (source_of c.args.dialogue.now)) (g.S.Source.faults (source_of c.next_line.new.self)) looks.rule
+          (rw c.line.ensures at c.in-Err-parse_line.ensures.read.0),
+      tt,
+    )

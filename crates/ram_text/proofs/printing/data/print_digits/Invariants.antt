@@ -6,4 +6,4 @@ use Rattle.ram_text.proofs.printing.data.print_digits.Given as goal
 
 abbrev pub invariant-loop-k : goal.invariant-loop-k
 invariant-loop-k g l =
-    IsPut (due (g.K.Sink.written l.fn.sink) l.fn.writer) (due (g.K.Sink.written l.sink) l.writer) (g.K.Sink.faults l.fn.sink) (g.K.Sink.faults l.sink) (encode_lower (take (min (length l.bytes) (2048 * l.k)) l.bytes))
+    IsPut (due (g.K.Sink.written l.fn.sink) l.fn.writer.gathered) (due (g.K.Sink.written l.sink) l.writer.gathered) (g.K.Sink.faults l.fn.sink) (g.K.Sink.faults l.sink) (encode_lower (take (min (length l.bytes) (2048 * l.k)) l.bytes))

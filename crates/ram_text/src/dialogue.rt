@@ -1,0 +1,123 @@
+//! Both ends of a run: the script that comes, line by line, and the report that goes. The source and the sink are reached
+//! through it alone, and nothing is asked of the source while text is gathered for the sink.
+ghost use Rattle.std.specs.Prelude.{◌≡◌, IfOk};
+ghost use Rattle.ram_text.specs.ReportLines.{numbered, event_words, answer_text, last_text, IsPrinted, IsAddressed};
+
+use crate::gathered::{Print, SinkFailed};
+use crate::lines::{LineReader, NextLine};
+use crate::printing::{Event, LastLine, print_answer, print_event, print_last};
+use crate::report::ReportWriter;
+use ram_bytes::Cdb;
+use ram_outside::{Sink, Source};
+use ram_sense::Answer;
+use std::alloc::{AllocError, Global};
+
+/// Room for a dialogue: the lines that come, and the report that goes.
+#[derive(Drop)]
+pub struct DialogueRoom {
+    reader: LineReader,
+    writer: ReportWriter,
+}
+
+impl DialogueRoom {
+    ghost use Rattle.ram_text.specs.DialogueRoom.{IsEmptyRoom};
+
+    /// Nothing was read yet, and nothing is gathered. All room is taken here.
+    pub fn new(alloc: Global) -> Result<DialogueRoom, AllocError>
+        ensures { IfOk result (λ room. IsEmptyRoom room) }
+    {
+        Ok(DialogueRoom {
+            reader: LineReader::new(alloc)?,
+            writer: ReportWriter::new(alloc)?,
+        })
+    }
+}
+
+/// Both ends of a run.
+#[derive(Drop)]
+pub struct Dialogue<'a, S: Source, K: Sink> {
+    script: &'a mut S,
+    report: &'a mut K,
+    room: &'a mut DialogueRoom,
+}
+
+impl<'a, S: Source, K: Sink> Dialogue<'a, S, K> {
+    ghost use Rattle.ram_text.specs.Dialogue.{HasSameEnds, LookRule, Tells, HandsOverAll, reading_of};
+    ghost use Rattle.ram_text.specs.DialogueRoom.{IsBetween};
+
+    /// A dialogue between this source and this sink.
+    pub fn new(
+        script: &'a mut S,
+        report: &'a mut K,
+        room: &'a mut DialogueRoom,
+    ) -> Dialogue<'a, S, K>
+        ensures { IsBetween script.entry report.entry room.entry result }
+    {
+        Dialogue {
+            script,
+            report,
+            room,
+        }
+    }
+
+    /// Looks for the next line. Where it may have to be waited for, all of the report is handed over first; where the
+    /// sink fails then, nothing is asked.
+    pub fn next_line(&mut self) -> Result<NextLine, SinkFailed>
+        ensures ends { HasSameEnds self.old self.new }
+        ensures rule { LookRule S.Source K.Sink self.old self.new result }
+    {
+        let room = &mut *self.room;
+        if !room.reader.has_line() {
+            match room.writer.flush(&mut *self.report) {
+                Print::Done => {}
+                Print::Failed => return Err(SinkFailed),
+            }
+        }
+        Ok(room.reader.next_line(&mut *self.script, &room.writer))
+    }
+
+    /// The line found last, without its line feed; empty where the last answer was no line.
+    pub fn line(&self) -> &[u8]
+        ensures { result.now ≡ (reading_of self.now).line }
+    {
+        self.room.reader.line()
+    }
+
+    /// Prints the answer of the line of this number, which is no command.
+    pub fn print_event(&mut self, number: u64, event: &Event) -> Print
+        ensures { Tells S.Source K.Sink self.old self.new (numbered number (event_words event.now)) result }
+    {
+        print_event(&mut self.room.writer, &mut *self.report, number, event)
+    }
+
+    /// Prints the answer to a command, and behind `good` its reply.
+    pub fn print_answer(&mut self, number: u64, answer: &Answer, cdb: &Cdb, reply: &[u8]) -> Print
+        requires printed { IsPrinted answer.now }
+        requires addressed { IsAddressed answer.now cdb.now }
+        ensures { Tells S.Source K.Sink self.old self.new
+            (answer_text number answer.now cdb.now reply.now) result }
+    {
+        print_answer(
+            &mut self.room.writer,
+            &mut *self.report,
+            number,
+            answer,
+            cdb,
+            reply,
+        )
+    }
+
+    /// Prints the last line of a report.
+    pub fn print_last(&mut self, last: &LastLine) -> Print
+        ensures { Tells S.Source K.Sink self.old self.new (last_text last.now) result }
+    {
+        print_last(&mut self.room.writer, &mut *self.report, last)
+    }
+
+    /// Hands over what is gathered.
+    pub fn flush(&mut self) -> Print
+        ensures { HandsOverAll S.Source K.Sink self.old self.new result }
+    {
+        self.room.writer.flush(&mut *self.report)
+    }
+}
