@@ -1,3 +1,4 @@
 pub mod DeadCells
 pub mod Finding
+pub mod Losing
 pub mod Staying

@@ -76,7 +76,7 @@ module _ (shape : Shape) (old new : List Cell) where
   }
 
   -- the cells of both lists' copies died
-  sdl_died : (version : Version) → SdlCellsDie shape old new → LosesOneSdl shape old new version
+  pub sdl_died : (version : Version) → SdlCellsDie shape old new → LosesOneSdl shape old new version
   sdl_died version die = record {
     at = 0;
     others = λ v area same copy other lives. (
