@@ -11,10 +11,10 @@ touched_from buffered first zero = buffered
 touched_from buffered first (suc k) = touched_one (touched_from buffered first k) (first + k)
 
 -- the last so many of the numbers from this one on, of so many, the last one first
-abbrev pub last_of : (first count : ℕ) → ℕ → List ℕ
-last_of first count zero = []
-last_of first zero (suc j) = []
-last_of first (suc count) (suc j) = (first + count) ∷ last_of first count j
+abbrev pub last_numbers : (first count : ℕ) → ℕ → List ℕ
+last_numbers first count zero = []
+last_numbers first zero (suc j) = []
+last_numbers first (suc count) (suc j) = (first + count) ∷ last_numbers first count j
 
 -- whether a block is buffered
 abbrev pub is_buffered : List ℕ → ℕ → Bool

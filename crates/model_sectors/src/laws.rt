@@ -1,7 +1,7 @@
 //! Laws of the definitions, as functions with an empty body: the build fails where one is not proved.
 ghost use Rattle.std.specs.Prelude.{◌≡◌, ℕ, ◌+◌, ◌-◌, ◌*◌, ◌^◌, ◌<◌, ◌≤◌, ◌⊎◌, List, length, take, drop};
 ghost use Rattle.model_sectors.specs.Discs.{sectors_of, replaced};
-ghost use Rattle.model_sectors.specs.Uses.{touched_from, last_of};
+ghost use Rattle.model_sectors.specs.Uses.{touched_from, last_numbers};
 ghost use Rattle.model_sectors.specs.Requests.{block_with, IsCovered, HoldsSector};
 ghost use Rattle.model_sectors.specs.declared.TheConstants.{MOST_SECTORS};
 
@@ -37,7 +37,7 @@ pub fn what_is_replaced_reads_back()
 /// was buffered before. So after eight or more no other block is there, and what was buffered before does not matter.
 pub fn the_last_eight_uses_decide()
     ensures front { (b : List ℕ) (first k j : ℕ) → j ≤ k → j ≤ 8
-        → take j (touched_from b first k) ≡ last_of first k j }
-    ensures all { (b : List ℕ) (first k : ℕ) → 8 ≤ k → touched_from b first k ≡ last_of first k 8 }
+        → take j (touched_from b first k) ≡ last_numbers first k j }
+    ensures all { (b : List ℕ) (first k : ℕ) → 8 ≤ k → touched_from b first k ≡ last_numbers first k 8 }
     ensures before { (b c : List ℕ) (first k : ℕ) → touched_from b first (k + 8) ≡ touched_from c (first + k) 8 }
 {}

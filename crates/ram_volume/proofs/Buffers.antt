@@ -7,6 +7,7 @@ use Rattle.std.proofs.lemmas.Bool.{cases_Bool, cond-true, cond-false, eqb-true, 
 use Rattle.std.proofs.lemmas.List.{take-take}
 use Rattle.model_buffer.specs.Buffer.{bytes_at, with_newest}
 use Rattle.model_buffer.specs.declared.TheConstants.{BUFFERED_BLOCKS}
+use Rattle.model_buffer.proofs.Touched.{filter-take}
 use Rattle.model_sectors.specs.Discs.{block_of}
 use Rattle.model_places.proofs.Homes.{Contains-first, Contains-later}
 use Rattle.model_drive.specs.Shown.{HoldsBlocksOf}
@@ -102,22 +103,6 @@ put_in_room room disc disc' i bytes buffer is others holds j found has =
 pub holds_put : (disc disc' : List ℕ) (i : ℕ) (bytes : List ℕ) (buffer : List (ℕ × List ℕ)) → bytes ≡ block_of disc' i → ((j : ℕ) → j ≢ i → block_of disc' j ≡ block_of disc j) → HoldsBlocksOf disc buffer
     → HoldsBlocksOf disc' (with_newest i bytes buffer)
 holds_put disc disc' i bytes buffer is others holds = put_in_room BUFFERED_BLOCKS disc disc' i bytes buffer is others holds
-
--- the front of what passes a test passes it
-filter-take : {X : Type 0} (p : X → Bool) (n : ℕ) (xs : List X) → filter p (take n (filter p xs)) ≡ take n (filter p xs)
-filter-take p zero xs = refl
-filter-take p (suc n) [] = refl
-filter-take p (suc n) (x ∷ xs) = elim (cases_Bool (p x)) [
-  | inl passes ↦
-      let here : filter p (x ∷ xs) ≡ x ∷ filter p xs = cond-true (p x) (x ∷ filter p xs) (filter p xs) passes in
-      ap (λ l. filter p (take (suc n) l)) here
-      ∙ cond-true (p x) (x ∷ filter p (take n (filter p xs))) (filter p (take n (filter p xs))) passes
-      ∙ ap (λ l. x ∷ l) (filter-take p n xs)
-      ∙ sym (ap (take (suc n)) here)
-  | inr fails ↦
-      let here : filter p (x ∷ xs) ≡ filter p xs = cond-false (p x) (x ∷ filter p xs) (filter p xs) fails in
-      ap (λ l. filter p (take (suc n) l)) here ∙ filter-take p (suc n) xs ∙ sym (ap (take (suc n)) here)
-]
 
 newest_twice_in_room : (room i : ℕ) (bytes : List ℕ) (buffer : List (ℕ × List ℕ))
     → take room ((i, bytes) ∷ filter (λ held. not (held.0 == i)) (take room ((i, bytes) ∷ filter (λ held. not (held.0 == i)) buffer))) ≡ take room ((i, bytes) ∷ filter (λ held. not (held.0 == i)) buffer)

@@ -16,7 +16,7 @@ use Rattle.model_stops.specs.declared.Stop.{Stop}
 use Rattle.model_places.specs.Places.{Lists, home_of}
 use Rattle.model_drive.specs.Shown.{Shown, HoldsBlocksOf, StandsUnder, StandsFor}
 use Rattle.model_drive.specs.Reads.{ReadStep}
-use Rattle.ram_buffer.specs.Held.{IsAmong}
+use Rattle.ram_buffer.specs.Held.{IsOneFrom}
 use Rattle.ram_volume.specs.Blocks.{DiesAtMost, IsFetched, CannotBeRead}
 
 -- What the drive stands for after a read, for each thing that it stood for.
@@ -47,7 +47,7 @@ KeepsBefore lba block into into' =
 -- A request covers so many blocks, none of them buffered, that those before its last ones may be read past the buffer.
 pub record IsLong (lba n : ℕ) (held : List (ℕ × List ℕ)) : Type 0 where
   pub many : 16 ≤ blocks_covered lba n
-  pub none : (i : ℕ) → IsAmong (block_with lba) (blocks_covered lba n) i → bytes_at i held ≡ None
+  pub none : (i : ℕ) → IsOneFrom (block_with lba) (blocks_covered lba n) i → bytes_at i held ≡ None
 
 -- A block may be read past the buffer: it is covered whole, and not buffered.
 pub record MayPass (lba n block : ℕ) (held : List (ℕ × List ℕ)) : Type 0 where
