@@ -120,9 +120,9 @@ module _ (b : List ℕ) (lba n : ℕ) where
   -- a block of the request that was not buffered at first is not there before its turn
   pub behind_lacks : (k : ℕ) → ¬ IsTrue (is_buffered b (first + k)) → ¬ IsTrue (is_buffered (numbers_behind k) (first + k))
   behind_lacks k lacks here = elim (cases_lt last k) [
-      | inl late ↦ front (buffered_after_uses (front_numbers k) (first + last) (k - last) (first + k) (omega arith) here)
-      | inr early ↦ front (subst (λ (l : List ℕ). IsTrue (is_buffered l (first + k))) (behind_front k (omega arith)) here)
-    ]
+    | inl late ↦ front (buffered_after_uses (front_numbers k) (first + last) (k - last) (first + k) (omega arith) here)
+    | inr early ↦ front (subst (λ (l : List ℕ). IsTrue (is_buffered l (first + k))) (behind_front k (omega arith)) here)
+  ]
     where
       front : IsTrue (is_buffered (front_numbers k) (first + k)) → ⊥
       front h = lacks (buffered_after_uses b first (front_used (is_partly lba n first) k) (first + k) (let low = front_low (is_partly lba n first) k in omega arith) h)
@@ -136,16 +136,16 @@ module _ (b : List ℕ) (lba n : ℕ) where
   -- the last blocks that were read, put into the buffer, make it the one that it would be
   pub behind_put : (k : ℕ) → 16 ≤ blocks_covered lba n → k < blocks_covered lba n → touched_from (numbers_behind k) (first + (k - 8)) (k - (k - 8)) ≡ touched_from b first k
   behind_put k many covered = elim (cases_lt k 8) [
-      | inl few ↦
-          ap (λ (i : ℕ). touched_from (numbers_behind k) i (k - (k - 8))) (let e : first + (k - 8) ≡ first = omega arith in e)
-          ∙ ap (touched_from (numbers_behind k) first) (let e : k - (k - 8) ≡ k = omega arith in e)
-          ∙ ap (λ (l : List ℕ). touched_from l first k) (behind_front k (omega arith))
-          ∙ again (is_partly lba n first) k
-      | inr more ↦
-          ap (touched_from (numbers_behind k) (first + (k - 8))) (let e : k - (k - 8) ≡ 8 = omega arith in e)
-          ∙ sym (before_does_not_matter b (numbers_behind k) first (k - 8))
-          ∙ ap (touched_from b first) (let e : k - 8 + 8 ≡ k = omega arith in e)
-    ]
+    | inl few ↦
+        ap (λ (i : ℕ). touched_from (numbers_behind k) i (k - (k - 8))) (let e : first + (k - 8) ≡ first = omega arith in e)
+        ∙ ap (touched_from (numbers_behind k) first) (let e : k - (k - 8) ≡ k = omega arith in e)
+        ∙ ap (λ (l : List ℕ). touched_from l first k) (behind_front k (omega arith))
+        ∙ again (is_partly lba n first) k
+    | inr more ↦
+        ap (touched_from (numbers_behind k) (first + (k - 8))) (let e : k - (k - 8) ≡ 8 = omega arith in e)
+        ∙ sym (before_does_not_matter b (numbers_behind k) first (k - 8))
+        ∙ ap (touched_from b first) (let e : k - 8 + 8 ≡ k = omega arith in e)
+  ]
     where
       again : (partly : Bool) (k : ℕ) → touched_from (touched_from b first (front_used partly k)) first k ≡ touched_from b first k
       again true zero = refl

@@ -174,23 +174,23 @@ module _ {M : Type 0} (world : M → World) (block_count : M → ℕ) (reaches :
       -- a block that does not go past it is the first, covered in part, or one of the last eight
       not_past : (past : Bool) → past ≡ false → TellsPast lba n k true past → 16 ≤ blocks_covered lba n → (b : List ℕ) → numbers_behind b lba n (k + 1) ≡ touched_one (numbers_behind b lba n k) i'
       not_past past stays tells many b = elim (cases_lt (k + 8) (blocks_covered lba n)) [
-          | inr late ↦ behind_last b lba n k many late
-          | inl early ↦ elim (cases_eq k 0) [
-            | inl none ↦ at_first none early
-            | inr some ↦ absurd (false_is_not stays (tells.1 (refl, early, between_whole lba n k (omega arith) (omega arith))))
-          ]
+        | inr late ↦ behind_last b lba n k many late
+        | inl early ↦ elim (cases_eq k 0) [
+          | inl none ↦ at_first none early
+          | inr some ↦ absurd (false_is_not stays (tells.1 (refl, early, between_whole lba n k (omega arith) (omega arith))))
         ]
+      ]
         where
           at_first : k ≡ 0 → k + 8 < blocks_covered lba n → numbers_behind b lba n (k + 1) ≡ touched_one (numbers_behind b lba n k) i'
           at_first none early = elim (cases_Bool (is_partly lba n i')) [
-              | inr all ↦ absurd (false_is_not stays (tells.1 (refl, early, all)))
-              | inl partly ↦
-                  let same : i' ≡ block_with lba = omega (arith, none) in
-                  ap (numbers_behind b lba n) (let e : k + 1 ≡ 1 = omega (arith, none) in e)
-                  ∙ behind_first b lba n many (sym (ap (is_partly lba n) same) ∙ partly)
-                  ∙ ap (touched_one b) (sym same)
-                  ∙ ap (λ (l : List ℕ). touched_one l i') (sym (ap (numbers_behind b lba n) none ∙ behind_none b lba n))
-            ]
+            | inr all ↦ absurd (false_is_not stays (tells.1 (refl, early, all)))
+            | inl partly ↦
+                let same : i' ≡ block_with lba = omega (arith, none) in
+                ap (numbers_behind b lba n) (let e : k + 1 ≡ 1 = omega (arith, none) in e)
+                ∙ behind_first b lba n many (sym (ap (is_partly lba n) same) ∙ partly)
+                ∙ ap (touched_one b) (sym same)
+                ∙ ap (λ (l : List ℕ). touched_one l i') (sym (ap (numbers_behind b lba n) none ∙ behind_none b lba n))
+          ]
 
       behind_more : (past : Bool) → (ahead : ReadAhead world reaches shape lists true old mid held held' lba n k into) → (did : IsReadPart world reaches mid new held' lba n i' place' past held'' into into')
           → TellsPast lba n k true past → ((disc : List ℕ) → StoodFor shape lists (world old) held disc → did.copied.bytes ≡ block_of disc i')
@@ -267,13 +267,13 @@ module _ {M : Type 0} (world : M → World) (block_count : M → ℕ) (reaches :
         -- a block that is put, and is not there, is covered whole
         whole_put : (t : ℕ) (mid' : List (ℕ × List ℕ)) → t < k - (k - 8) → PutsFrom lba n into' from t held'' mid' → bytes_at (from + t) mid' ≡ None → ¬ IsTrue (is_partly lba n (block_with lba + (k - 8 + t)))
         whole_put t mid' less puts none partly = elim (cases_eq (k - 8 + t) 0) [
-            | inr some ↦ false_is_not (between_whole lba n (k - 8 + t) (omega arith) (omega arith)) partly
-            | inl first ↦
-                let same : mid' ≡ held'' = subst (λ (m : ℕ). PutsFrom lba n into' from m held'' mid') (let e : t ≡ 0 = omega (arith, first) in e) puts in
-                let here : block_with lba + (k - 8 + t) ≡ block_with lba = omega (arith, first) in
-                let there = first_is_there mid' same (omega arith) (omega arith) (sym (ap (is_partly lba n) here) ∙ partly) in
-                bytes_at_none (from + t) mid' none (subst (λ (j : ℕ). IsTrue (is_buffered (numbers_in mid') j)) (let e : block_with lba ≡ from + t = omega (arith, first) in e) there)
-          ]
+          | inr some ↦ false_is_not (between_whole lba n (k - 8 + t) (omega arith) (omega arith)) partly
+          | inl first ↦
+              let same : mid' ≡ held'' = subst (λ (m : ℕ). PutsFrom lba n into' from m held'' mid') (let e : t ≡ 0 = omega (arith, first) in e) puts in
+              let here : block_with lba + (k - 8 + t) ≡ block_with lba = omega (arith, first) in
+              let there = first_is_there mid' same (omega arith) (omega arith) (sym (ap (is_partly lba n) here) ∙ partly) in
+              bytes_at_none (from + t) mid' none (subst (λ (j : ℕ). IsTrue (is_buffered (numbers_in mid') j)) (let e : block_with lba ≡ from + t = omega (arith, first) in e) there)
+        ]
 
         is_block : (disc : List ℕ) → StoodFor shape lists (world old) held disc → (t : ℕ) (mid' after room : List _) → t < k - (k - 8) → PutsFrom lba n into' from t held'' mid'
             → HoldsBlocksOf disc mid' → (newest : PutsNewest lba n (from + t) into' room mid' after) → newest.bytes ≡ block_of disc (from + t)
