@@ -7,6 +7,7 @@
 //! them. Other lines have the short forms of `shorthand`.
 #![tactic(auto)]
 
+mod cuts;
 mod discs;
 mod dumps;
 mod failing;

@@ -94,6 +94,11 @@ fn change_runs(row: &mut Row, words: &[&str]) -> bool {
                 end: number_of(end),
             },
         ),
+        ["cuts", last] => {
+            row.runs = Runs::EachCut {
+                last: last.parse().unwrap_or(0),
+            };
+        }
         ["each", of, more_than] => {
             row.runs = Runs::EachFailure {
                 of: object_of(of),

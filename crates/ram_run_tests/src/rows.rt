@@ -1,4 +1,5 @@
 //! A row: what is run, over which image, and what is told of it.
+use crate::cuts::answer_cuts;
 use crate::failing::answer_each;
 use crate::generated::answer_generated;
 use crate::lengths::answer_lengths;
@@ -15,6 +16,8 @@ pub enum Runs {
     Script,
     /// The script, once for each call of this object, which fails there; it has more calls than this.
     EachFailure { of: Outside, more_than: u64 },
+    /// The script, once for each of so many uses in which the power is cut at its line `cut each`, and for each fate.
+    EachCut { last: u32 },
     /// A script of comments of so many bytes.
     Comments { bytes: usize },
     /// The words of the program, and no script.
@@ -114,6 +117,7 @@ fn ran(alloc: Global, row: &Row) -> Result<Ran, AllocError> {
 pub fn answer_row(alloc: Global, row: &Row, answer: &mut String) -> Result<Vec<u8>, AllocError> {
     match row.runs {
         Runs::EachFailure { of, more_than } => answer_each(alloc, row, of, more_than, answer)?,
+        Runs::EachCut { last } => answer_cuts(alloc, row, last, answer)?,
         Runs::Generated { number } => answer_generated(alloc, number, answer)?,
         Runs::Lengths { end } => answer_lengths(alloc, end, answer)?,
         _ => {
