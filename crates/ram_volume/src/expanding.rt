@@ -6,8 +6,8 @@ ghost use Rattle.ram_volume.specs.Shown.{shown_ready, shown_state};
 ghost use Rattle.ram_volume.specs.Expanding.{ExpandSteps};
 
 use crate::states::{PoweredOff, Ready, State};
-use ram_expand::{ExpandEnd, expand_lists};
-use ram_medium::MediumControl;
+use ram_expand::{Grown, grow};
+use ram_medium::{MediumControl, Stop};
 use ram_sectors::ExpandOut;
 
 impl<M: MediumControl> Ready<M> {
@@ -42,7 +42,7 @@ impl<M: MediumControl> Ready<M> {
             mut lists,
             mut workspace,
         } = self;
-        match expand_lists(
+        match grow(
             &mut medium,
             &geometry,
             &mut lists,
@@ -50,11 +50,11 @@ impl<M: MediumControl> Ready<M> {
             capacity,
             &mut workspace.scratch,
         ) {
-            ExpandEnd::Good => {
+            Ok(Grown::Good) => {
                 let ready = Ready::over(medium, geometry, lists, workspace);
                 (State::Ready(ready), ExpandOut::Good)
             }
-            ExpandEnd::Refused => {
+            Ok(Grown::Refused) => {
                 let ready = Ready {
                     medium,
                     geometry,
@@ -64,13 +64,13 @@ impl<M: MediumControl> Ready<M> {
                 let capacity = ready.capacity();
                 (State::Ready(ready), ExpandOut::Refused { capacity })
             }
-            ExpandEnd::NoUpdate { counter } => {
+            Ok(Grown::NoUpdate { counter }) => {
                 let ready = Ready::over(medium, geometry, lists, workspace);
                 (State::Ready(ready), ExpandOut::NoUpdate { counter })
             }
-            ExpandEnd::Cut => (State::Off(PoweredOff { medium, geometry }), ExpandOut::Cut),
-            ExpandEnd::Off => unreachable!(),
-            ExpandEnd::Fault => (
+            Err(Stop::Cut) => (State::Off(PoweredOff { medium, geometry }), ExpandOut::Cut),
+            Err(Stop::Off) => unreachable!(),
+            Err(Stop::Fault) => (
                 State::Off(PoweredOff { medium, geometry }),
                 ExpandOut::Fault,
             ),

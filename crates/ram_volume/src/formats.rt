@@ -18,9 +18,9 @@ ghost use Rattle.ram_volume.specs.Formats.{FormatSteps};
 
 use crate::memory::Workspace;
 use crate::states::{NotFormatted, PoweredOff, Ready, State};
-use ram_format::{FullEnd, Rewritten, full_format, kept_entries, rewrite};
+use ram_format::{FormatHalt, format_lists, kept_entries, repair_lists};
 use ram_lists::Lists;
-use ram_medium::MediumControl;
+use ram_medium::{MediumControl, Stop};
 use ram_sdl::Sdl;
 use ram_sectors::{FormatOut, Kind};
 use ram_zones::Geometry;
@@ -82,33 +82,36 @@ impl<M: MediumControl> NotFormatted<M> {
             mut workspace,
         } = self;
         let scratch = &mut workspace.scratch;
-        match full_format(alloc, &mut medium, &geometry, &[], true, mark, scratch) {
-            FullEnd::Good { lists } => {
+        match format_lists(alloc, &mut medium, &geometry, &[], true, mark, scratch) {
+            Ok(lists) => {
                 let ready = Ready::over(medium, geometry, lists, workspace);
                 (State::Ready(ready), FormatOut::Good)
             }
-            FullEnd::TooMany { found, mark } => {
+            Err(FormatHalt::TooMany { found, mark }) => {
                 let bare = Self::over(medium, geometry, mark, list, workspace);
                 (State::NotFormatted(bare), FormatOut::TooMany { found })
             }
-            FullEnd::NoRoom { mark: _ } => {
+            Err(FormatHalt::NoRoom { mark: _ }) => {
                 let bare = Self::over(medium, geometry, mark, list, workspace);
                 (
                     State::NotFormatted(bare),
                     FormatOut::NoUpdate { counter: mark },
                 )
             }
-            FullEnd::NoCopy { counter, mark } => {
+            Err(FormatHalt::NoCopy { counter, mark }) => {
                 let bare = Self::over(medium, geometry, mark, list, workspace);
                 (State::NotFormatted(bare), FormatOut::NoUpdate { counter })
             }
-            FullEnd::Cut => (State::Off(PoweredOff { medium, geometry }), FormatOut::Cut),
-            FullEnd::Off => unreachable!(),
-            FullEnd::Fault => (
+            Err(FormatHalt::Stopped { stop: Stop::Cut }) => (
+                State::Off(PoweredOff { medium, geometry }),
+                FormatOut::Cut,
+            ),
+            Err(FormatHalt::Stopped { stop: Stop::Off }) => unreachable!(),
+            Err(FormatHalt::Stopped { stop: Stop::Fault }) => (
                 State::Off(PoweredOff { medium, geometry }),
                 FormatOut::Fault,
             ),
-            FullEnd::NoMemory => {
+            Err(FormatHalt::NoMemory) => {
                 let bare = Self::over(medium, geometry, mark, list, workspace);
                 (State::NotFormatted(bare), FormatOut::NoMemory)
             }
@@ -177,17 +180,17 @@ impl<M: MediumControl> Ready<M> {
         } = self;
         let mark = lists.dds.counter;
         let scratch = &mut workspace.scratch;
-        match full_format(alloc, &mut medium, &geometry, &kept, false, mark, scratch) {
-            FullEnd::Good { lists } => {
+        match format_lists(alloc, &mut medium, &geometry, &kept, false, mark, scratch) {
+            Ok(lists) => {
                 let ready = Ready::over(medium, geometry, lists, workspace);
                 (State::Ready(ready), FormatOut::Good)
             }
-            FullEnd::TooMany { found, mark } => {
+            Err(FormatHalt::TooMany { found, mark }) => {
                 let Lists { dds: _, sdl: list } = lists;
                 let bare = NotFormatted::over(medium, geometry, mark, list, workspace);
                 (State::NotFormatted(bare), FormatOut::TooMany { found })
             }
-            FullEnd::NoRoom { mark } => {
+            Err(FormatHalt::NoRoom { mark }) => {
                 let ready = Ready {
                     medium,
                     geometry,
@@ -196,18 +199,21 @@ impl<M: MediumControl> Ready<M> {
                 };
                 (State::Ready(ready), FormatOut::NoUpdate { counter: mark })
             }
-            FullEnd::NoCopy { counter, mark } => {
+            Err(FormatHalt::NoCopy { counter, mark }) => {
                 let Lists { dds: _, sdl: list } = lists;
                 let bare = NotFormatted::over(medium, geometry, mark, list, workspace);
                 (State::NotFormatted(bare), FormatOut::NoUpdate { counter })
             }
-            FullEnd::Cut => (State::Off(PoweredOff { medium, geometry }), FormatOut::Cut),
-            FullEnd::Off => unreachable!(),
-            FullEnd::Fault => (
+            Err(FormatHalt::Stopped { stop: Stop::Cut }) => (
+                State::Off(PoweredOff { medium, geometry }),
+                FormatOut::Cut,
+            ),
+            Err(FormatHalt::Stopped { stop: Stop::Off }) => unreachable!(),
+            Err(FormatHalt::Stopped { stop: Stop::Fault }) => (
                 State::Off(PoweredOff { medium, geometry }),
                 FormatOut::Fault,
             ),
-            FullEnd::NoMemory => {
+            Err(FormatHalt::NoMemory) => {
                 let ready = Ready {
                     medium,
                     geometry,
@@ -231,18 +237,18 @@ impl<M: MediumControl> Ready<M> {
             lists,
             mut workspace,
         } = self;
-        match rewrite(&mut medium, &geometry, &lists, &mut workspace.scratch) {
-            Rewritten::Good => {
+        match repair_lists(&mut medium, &geometry, &lists, &mut workspace.scratch) {
+            Ok(None) => {
                 let ready = Ready::over(medium, geometry, lists, workspace);
                 (State::Ready(ready), FormatOut::Good)
             }
-            Rewritten::NoCopy { counter } => {
+            Ok(Some(counter)) => {
                 let ready = Ready::over(medium, geometry, lists, workspace);
                 (State::Ready(ready), FormatOut::NoUpdate { counter })
             }
-            Rewritten::Cut => (State::Off(PoweredOff { medium, geometry }), FormatOut::Cut),
-            Rewritten::Off => unreachable!(),
-            Rewritten::Fault => (
+            Err(Stop::Cut) => (State::Off(PoweredOff { medium, geometry }), FormatOut::Cut),
+            Err(Stop::Off) => unreachable!(),
+            Err(Stop::Fault) => (
                 State::Off(PoweredOff { medium, geometry }),
                 FormatOut::Fault,
             ),

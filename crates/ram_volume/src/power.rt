@@ -9,8 +9,9 @@ ghost use Rattle.ram_volume.specs.Powers.{turned_off, shown_after, power_out, Po
 
 use crate::memory::Memory;
 use crate::states::{NotFormatted, PowerOn, PoweredOff, Ready};
-use ram_lists::{Lists, Mounted, mount};
-use ram_medium::MediumControl;
+use ram_copies::Halt;
+use ram_lists::{Found, Lists, mount_lists};
+use ram_medium::{MediumControl, Stop};
 use std::alloc::Global;
 
 impl<M: MediumControl> PoweredOff<M> {
@@ -33,8 +34,8 @@ impl<M: MediumControl> PoweredOff<M> {
             mut workspace,
         } = memory;
         medium.power_on();
-        match mount(alloc, &mut medium, &geometry, &mut workspace.scratch) {
-            Mounted::Lists { lists } => {
+        match mount_lists(alloc, &mut medium, &geometry, &mut workspace.scratch) {
+            Ok(Found::Lists { lists }) => {
                 list.copy_from(&lists.sdl);
                 PowerOn::Ready(Ready {
                     medium,
@@ -46,17 +47,20 @@ impl<M: MediumControl> PoweredOff<M> {
                     workspace,
                 })
             }
-            Mounted::Bare { mark } => PowerOn::NotFormatted(NotFormatted {
+            Ok(Found::Bare { mark }) => PowerOn::NotFormatted(NotFormatted {
                 medium,
                 geometry,
                 mark,
                 spare_list: list,
                 workspace,
             }),
-            Mounted::Cut => PowerOn::Cut(PoweredOff { medium, geometry }),
-            Mounted::Off => unreachable!(),
-            Mounted::Fault => PowerOn::Fault(PoweredOff { medium, geometry }),
-            Mounted::NoMemory => {
+            Err(Halt::Stopped { stop: Stop::Cut }) => PowerOn::Cut(PoweredOff { medium, geometry }),
+            Err(Halt::Stopped { stop: Stop::Off }) => unreachable!(),
+            Err(Halt::Stopped { stop: Stop::Fault }) => PowerOn::Fault(PoweredOff {
+                medium,
+                geometry,
+            }),
+            Err(Halt::NoMemory) => {
                 medium.power_off();
                 PowerOn::NoMemory(PoweredOff { medium, geometry })
             }

@@ -3,17 +3,13 @@
 
 ghost use Rattle.std.specs.Prelude.{◌≡◌, ◌+◌, ◌*◌, ◌<◌, ◌≤◌, IsTrue, MatchResult, length};
 ghost use Rattle.model_commands.specs.declared.TheConstants.{TRANSFER_LIMIT};
-ghost use Rattle.model_geometry.specs.declared.TheConstants.{SDL_LIMIT};
-ghost use Rattle.model_geometry.specs.Geometry.{total};
-ghost use Rattle.model_lists.specs.Values.{IsLawfulSdl};
 ghost use Rattle.model_places.specs.Places.{logical_count, capacity_of};
-ghost use Rattle.model_places.specs.Valid.{AreValid};
 ghost use Rattle.model_volume.specs.Given.{AreSettled};
 ghost use Rattle.model_drive.specs.Shown.{capacity};
 ghost use Rattle.model_drive.specs.Writes.{WriteCause, WriteCompletes};
 ghost use Rattle.ram_medium.specs.Laws.{machine_shown};
-ghost use Rattle.ram_sdl.specs.Sdl.{sdl_of};
 ghost use Rattle.ram_lists.specs.Lists.{lists_of};
+ghost use Rattle.ram_lists.specs.Fit.{IsFit};
 ghost use Rattle.ram_volume.specs.Shown.{shown_ready, shown_state};
 ghost use Rattle.ram_volume.specs.Writing.{BringsRest, RestStopped, WritesPart, PartStops, EndsParts, StopsParts, WriteSteps};
 
@@ -25,7 +21,7 @@ use ram_buffer::BlockBuffer;
 use ram_bytes::Block;
 use ram_lists::{Lists, home};
 use ram_medium::{Medium, MediumControl, Stop};
-use ram_replace::{Placed, write_home};
+use ram_replace::{Outcome, place_block};
 use ram_requests::{Part, Request};
 use ram_zones::Geometry;
 
@@ -76,25 +72,17 @@ fn write_part<M: Medium>(
     part: Part,
     from: &[u8],
 ) -> Result<Wrote, Stop>
-    requires size { M.block_count medium.old ≡ total geometry.now }
+    requires fit { IsFit geometry.now (M.block_count medium.old) lists.old workspace.old.draft }
     requires on { IsTrue (M.world medium.old).power }
-    requires valid { AreValid geometry.now (lists_of lists.old) }
-    requires lawful { IsLawfulSdl (sdl_of lists.old.sdl) }
     requires settled { AreSettled geometry.now (M.world medium.old).cells (lists_of lists.old) }
     requires inside { part.block < logical_count geometry.now (lists_of lists.old) }
-    requires room { SDL_LIMIT ≤ lists.old.sdl.entries.room }
-    requires draft { SDL_LIMIT ≤ workspace.old.draft.entries.room }
     requires whole { length from.now ≡ 2048 * part.request.n }
     ensures rule { MatchResult result
         (WritesPart M.world M.reaches geometry.now medium.old medium.new (lists_of lists.old) (lists_of lists.new)
         workspace.old.buffer workspace.new.buffer part.request.lba part.request.n part.block from.now)
         (PartStops M.world M.reaches geometry.now medium.old medium.new (lists_of lists.old)
         workspace.old.buffer part.request.lba part.request.n part.block from.now) }
-    ensures valid { AreValid geometry.now (lists_of lists.new) }
-    ensures lawful { IsLawfulSdl (sdl_of lists.new.sdl) }
-    ensures room { SDL_LIMIT ≤ lists.new.sdl.entries.room }
-    ensures draft { SDL_LIMIT ≤ workspace.new.draft.entries.room }
-    ensures as_many { M.block_count medium.new ≡ M.block_count medium.old }
+    ensures fit { IsFit geometry.now (M.block_count medium.new) lists.new workspace.new.draft }
 {
     let place = home(geometry, lists, part.block);
     let Workspace {
@@ -107,18 +95,16 @@ fn write_part<M: Medium>(
         return Ok(Wrote::NoRest);
     }
     let bytes = part.merged(from, block);
-    match write_home(
+    let placed = place_block(
         medium, geometry, lists, draft, part.block, place, bytes, scratch,
-    ) {
-        Placed::Done => {
+    )?;
+    match placed {
+        Outcome::Done => {
             buffer.put(part.block, &mut scratch.room);
             Ok(Wrote::Done)
         }
-        Placed::NoSpare => Ok(Wrote::NoSpare),
-        Placed::NoUpdate { counter } => Ok(Wrote::NoUpdate { counter }),
-        Placed::Cut => Err(Stop::Cut),
-        Placed::Off => unreachable!(),
-        Placed::Fault => Err(Stop::Fault),
+        Outcome::NoSpare => Ok(Wrote::NoSpare),
+        Outcome::NoUpdate { counter } => Ok(Wrote::NoUpdate { counter }),
     }
 }
 
@@ -131,14 +117,10 @@ fn write_parts<M: MediumControl>(
     request: Request,
     from: &[u8],
 ) -> Result<WriteOut, Stop>
-    requires size { M.block_count medium.old ≡ total geometry.now }
+    requires fit { IsFit geometry.now (M.block_count medium.old) lists.old workspace.old.draft }
     requires on { IsTrue (M.world medium.old).power }
-    requires valid { AreValid geometry.now (lists_of lists.old) }
-    requires lawful { IsLawfulSdl (sdl_of lists.old.sdl) }
     requires settled { AreSettled geometry.now (M.world medium.old).cells (lists_of lists.old) }
     requires inside { request.lba + request.n ≤ capacity_of geometry.now (lists_of lists.old) }
-    requires room { SDL_LIMIT ≤ lists.old.sdl.entries.room }
-    requires draft { SDL_LIMIT ≤ workspace.old.draft.entries.room }
     requires whole { length from.now ≡ 2048 * request.n }
     ensures rule { MatchResult result
         (EndsParts geometry.now (machine_shown M.world M.arms M.armed_cut medium.old)
@@ -147,11 +129,7 @@ fn write_parts<M: MediumControl>(
         (StopsParts geometry.now (machine_shown M.world M.arms M.armed_cut medium.old)
         (machine_shown M.world M.arms M.armed_cut medium.new) (lists_of lists.old) workspace.old.buffer
         request.lba request.n from.now) }
-    ensures valid { AreValid geometry.now (lists_of lists.new) }
-    ensures lawful { IsLawfulSdl (sdl_of lists.new.sdl) }
-    ensures room { SDL_LIMIT ≤ lists.new.sdl.entries.room }
-    ensures draft { SDL_LIMIT ≤ workspace.new.draft.entries.room }
-    ensures as_many { M.block_count medium.new ≡ M.block_count medium.old }
+    ensures fit { IsFit geometry.now (M.block_count medium.new) lists.new workspace.new.draft }
 {
     for k in 0..request.blocks() {
         let part = request.part(k);

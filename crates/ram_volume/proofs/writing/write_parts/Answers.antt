@@ -1,5 +1,5 @@
 use Rattle.std.specs.Prelude.{◌≡◌, ◌<◌, ℕ}
-use Rattle.std.proofs.Common.{refl, sym, subst, ◌∙◌, arith}
+use Rattle.std.proofs.Common.{sym, subst, arith}
 use Rattle.std.proofs.lemmas.Result.{err_from_is_err_and}
 use Rattle.model_sectors.specs.Requests.{blocks_covered, start_in}
 use Rattle.model_places.specs.Places.{Lists, logical_count, home_of}
@@ -14,24 +14,14 @@ use Rattle.ram_volume.proofs.writing.write_parts.Goals as goal
 pub loop-k-init : goal.loop-k-init
 loop-k-init g c = record {
   so_far = wrote_none g.M.Medium.world g.M.Medium.block_count g.M.Medium.reaches g.M.Medium.takes g.M.MediumControl.arms g.M.MediumControl.armed_cut g.met.M.Medium.laws g.met.M.MediumControl.control_laws c.args.geometry.now c.args.medium.now (lists_of c.args.lists.now) c.args.workspace.now.buffer c.args.request.lba c.args.request.n c.args.from.now c.requires.on c.requires.inside c.requires.settled;
-  valid = c.requires.valid;
-  lawful = c.requires.lawful;
-  room = c.requires.room;
-  draft = c.requires.draft;
-  as_many = refl;
+  fit = c.requires.fit;
 }
 
-pub write_part-requires-clause-size : goal.write_part-requires-clause-size
-write_part-requires-clause-size g c = c.loop-k.invariant.as_many ∙ c.requires.size
+pub write_part-requires-clause-fit : goal.write_part-requires-clause-fit
+write_part-requires-clause-fit g c = c.loop-k.invariant.fit
 
 pub write_part-requires-clause-on : goal.write_part-requires-clause-on
 write_part-requires-clause-on g c = c.loop-k.invariant.so_far.blocks.wrote.ends.is_on
-
-pub write_part-requires-clause-valid : goal.write_part-requires-clause-valid
-write_part-requires-clause-valid g c = c.loop-k.invariant.valid
-
-pub write_part-requires-clause-lawful : goal.write_part-requires-clause-lawful
-write_part-requires-clause-lawful g c = c.loop-k.invariant.lawful
 
 pub write_part-requires-clause-settled : goal.write_part-requires-clause-settled
 write_part-requires-clause-settled g c = c.loop-k.invariant.so_far.blocks.settled
@@ -42,13 +32,7 @@ write_part-requires-clause-inside g c =
     subst (λ (block : ℕ). block < logical_count c.args.geometry.now (lists_of c.loop-k.lists)) (sym c.part-part.ensures.block)
     (part_within g.M.Medium.world g.M.Medium.block_count g.M.Medium.reaches g.M.Medium.takes g.M.MediumControl.arms g.M.MediumControl.armed_cut g.met.M.Medium.laws g.met.M.MediumControl.control_laws c.args.geometry.now
     c.args.medium.now c.loop-k.medium (lists_of c.args.lists.now) (lists_of c.loop-k.lists) c.args.workspace.now.buffer c.loop-k.workspace.buffer c.args.request.lba c.args.request.n c.args.from.now c.loop-k.k c.loop-k.invariant.so_far
-    c.requires.valid c.requires.inside c.requires.whole covered c.loop-k.medium)
-
-pub write_part-requires-clause-room : goal.write_part-requires-clause-room
-write_part-requires-clause-room g c = c.loop-k.invariant.room
-
-pub write_part-requires-clause-draft : goal.write_part-requires-clause-draft
-write_part-requires-clause-draft g c = c.loop-k.invariant.draft
+    c.requires.fit.valid c.requires.inside c.requires.whole covered c.loop-k.medium)
 
 pub returns-in_err-write_part-clause-rule : goal.returns-in_err-write_part-clause-rule
 returns-in_err-write_part-clause-rule g c =
@@ -59,10 +43,7 @@ returns-in_err-write_part-clause-rule g c =
     rw (p.1, p.2)
     (part_stopped g.M.Medium.world g.M.Medium.block_count g.M.Medium.reaches g.M.Medium.takes g.M.MediumControl.arms g.M.MediumControl.armed_cut g.met.M.Medium.laws g.met.M.MediumControl.control_laws c.args.geometry.now
     c.args.medium.now c.loop-k.medium (lists_of c.args.lists.now) (lists_of c.loop-k.lists) c.args.workspace.now.buffer c.loop-k.workspace.buffer c.args.request.lba c.args.request.n c.args.from.now c.loop-k.k c.loop-k.invariant.so_far
-    c.requires.valid c.requires.inside c.requires.whole covered c.write_part.new.medium c.in_err-write_part.field-0.0 did)
-
-pub returns-in_err-write_part-clause-as_many : goal.returns-in_err-write_part-clause-as_many
-returns-in_err-write_part-clause-as_many g c = c.write_part.ensures.as_many ∙ c.loop-k.invariant.as_many
+    c.requires.fit.valid c.requires.inside c.requires.whole covered c.write_part.new.medium c.in_err-write_part.field-0.0 did)
 
 pub home-requires-clause-inside : goal.home-requires-clause-inside
 home-requires-clause-inside g c =
@@ -74,7 +55,7 @@ home-requires-clause-inside g c =
     (subst (λ (block : ℕ). block < logical_count c.args.geometry.now (lists_of c.loop-k.lists)) (sym c.part-part.ensures.block)
     (part_within g.M.Medium.world g.M.Medium.block_count g.M.Medium.reaches g.M.Medium.takes g.M.MediumControl.arms g.M.MediumControl.armed_cut g.met.M.Medium.laws g.met.M.MediumControl.control_laws c.args.geometry.now
     c.args.medium.now c.loop-k.medium (lists_of c.args.lists.now) (lists_of c.loop-k.lists) c.args.workspace.now.buffer c.loop-k.workspace.buffer c.args.request.lba c.args.request.n c.args.from.now c.loop-k.k c.loop-k.invariant.so_far
-    c.requires.valid c.requires.inside c.requires.whole covered c.write_part.new.medium))
+    c.requires.fit.valid c.requires.inside c.requires.whole covered c.write_part.new.medium))
 
 pub returns-in-NoRest-clause-rule : goal.returns-in-NoRest-clause-rule
 returns-in-NoRest-clause-rule g c =
@@ -86,10 +67,7 @@ returns-in-NoRest-clause-rule g c =
     let here = in_block (λ lba n block. c.home.result ≡ home_of c.args.geometry.now (lists_of c.write_part.new.lists) block) c.part-part.result c.args.request c.loop-k.k c.part-part.ensures.request c.part-part.ensures.block c.home.ensures in
     part_unread g.M.Medium.world g.M.Medium.block_count g.M.Medium.reaches g.M.Medium.takes g.M.MediumControl.arms g.M.MediumControl.armed_cut g.met.M.Medium.laws g.met.M.MediumControl.control_laws c.args.geometry.now
     c.args.medium.now c.loop-k.medium (lists_of c.args.lists.now) (lists_of c.loop-k.lists) c.args.workspace.now.buffer c.loop-k.workspace.buffer c.args.request.lba c.args.request.n c.args.from.now c.loop-k.k c.loop-k.invariant.so_far
-    c.requires.valid c.requires.inside c.requires.whole covered c.write_part.new.medium (lists_of c.write_part.new.lists) c.write_part.new.workspace.buffer c.part-part.result.start named c.home.result here did
-
-pub returns-in-NoRest-clause-as_many : goal.returns-in-NoRest-clause-as_many
-returns-in-NoRest-clause-as_many g c = c.write_part.ensures.as_many ∙ c.loop-k.invariant.as_many
+    c.requires.fit.valid c.requires.inside c.requires.whole covered c.write_part.new.medium (lists_of c.write_part.new.lists) c.write_part.new.workspace.buffer c.part-part.result.start named c.home.result here did
 
 pub returns-in-NoSpare-clause-rule : goal.returns-in-NoSpare-clause-rule
 returns-in-NoSpare-clause-rule g c =
@@ -100,10 +78,7 @@ returns-in-NoSpare-clause-rule g c =
     let named = in_block (λ lba n block. c.part-part.result.start ≡ start_in lba block) c.part-part.result c.args.request c.loop-k.k c.part-part.ensures.request c.part-part.ensures.block c.part-part.result.start_is in
     part_spareless g.M.Medium.world g.M.Medium.block_count g.M.Medium.reaches g.M.Medium.takes g.M.MediumControl.arms g.M.MediumControl.armed_cut g.met.M.Medium.laws g.met.M.MediumControl.control_laws c.args.geometry.now
     c.args.medium.now c.loop-k.medium (lists_of c.args.lists.now) (lists_of c.loop-k.lists) c.args.workspace.now.buffer c.loop-k.workspace.buffer c.args.request.lba c.args.request.n c.args.from.now c.loop-k.k c.loop-k.invariant.so_far
-    c.requires.valid c.requires.inside c.requires.whole covered c.write_part.new.medium (lists_of c.write_part.new.lists) c.write_part.new.workspace.buffer c.part-part.result.start named did
-
-pub returns-in-NoSpare-clause-as_many : goal.returns-in-NoSpare-clause-as_many
-returns-in-NoSpare-clause-as_many g c = c.write_part.ensures.as_many ∙ c.loop-k.invariant.as_many
+    c.requires.fit.valid c.requires.inside c.requires.whole covered c.write_part.new.medium (lists_of c.write_part.new.lists) c.write_part.new.workspace.buffer c.part-part.result.start named did
 
 pub returns-in-NoUpdate-clause-rule : goal.returns-in-NoUpdate-clause-rule
 returns-in-NoUpdate-clause-rule g c =
@@ -113,10 +88,7 @@ returns-in-NoUpdate-clause-rule g c =
     (rw c.in-NoUpdate.is at c.in_ok-write_part.ensures.rule) in
     part_unlisted g.M.Medium.world g.M.Medium.block_count g.M.Medium.reaches g.M.Medium.takes g.M.MediumControl.arms g.M.MediumControl.armed_cut g.met.M.Medium.laws g.met.M.MediumControl.control_laws c.args.geometry.now
     c.args.medium.now c.loop-k.medium (lists_of c.args.lists.now) (lists_of c.loop-k.lists) c.args.workspace.now.buffer c.loop-k.workspace.buffer c.args.request.lba c.args.request.n c.args.from.now c.loop-k.k c.loop-k.invariant.so_far
-    c.requires.valid c.requires.inside c.requires.whole covered c.write_part.new.medium (lists_of c.write_part.new.lists) c.write_part.new.workspace.buffer c.in-NoUpdate.counter did
-
-pub returns-in-NoUpdate-clause-as_many : goal.returns-in-NoUpdate-clause-as_many
-returns-in-NoUpdate-clause-as_many g c = c.write_part.ensures.as_many ∙ c.loop-k.invariant.as_many
+    c.requires.fit.valid c.requires.inside c.requires.whole covered c.write_part.new.medium (lists_of c.write_part.new.lists) c.write_part.new.workspace.buffer c.in-NoUpdate.counter did
 
 pub loop-k-preserved : goal.loop-k-preserved
 loop-k-preserved g c =
@@ -127,31 +99,15 @@ loop-k-preserved g c =
     record {
       so_far = wrote_one_more g.M.Medium.world g.M.Medium.block_count g.M.Medium.reaches g.M.Medium.takes g.M.MediumControl.arms g.M.MediumControl.armed_cut g.met.M.Medium.laws g.met.M.MediumControl.control_laws c.args.geometry.now
           c.args.medium.now c.loop-k.medium (lists_of c.args.lists.now) (lists_of c.loop-k.lists) c.args.workspace.now.buffer c.loop-k.workspace.buffer c.args.request.lba c.args.request.n c.args.from.now c.loop-k.k c.loop-k.invariant.so_far
-          c.requires.valid c.requires.inside c.requires.whole covered c.write_part.new.medium (lists_of c.write_part.new.lists) c.write_part.new.workspace.buffer did;
-      valid = c.write_part.ensures.valid;
-      lawful = c.write_part.ensures.lawful;
-      room = c.write_part.ensures.room;
-      draft = c.write_part.ensures.draft;
-      as_many = c.write_part.ensures.as_many ∙ c.loop-k.invariant.as_many;
+          c.requires.fit.valid c.requires.inside c.requires.whole covered c.write_part.new.medium (lists_of c.write_part.new.lists) c.write_part.new.workspace.buffer did;
+      fit = c.write_part.ensures.fit;
     }
 
 pub returns-clause-rule : goal.returns-clause-rule
 returns-clause-rule g c =
     let all : c.loop-k.k ≡ blocks_covered c.args.request.lba c.args.request.n = omega (arith, c.loop-k-test.false, c.loop-k.auto.k-end, c.blocks-k-end.ensures) in
     wrote_all g.M.Medium.world g.M.Medium.block_count g.M.Medium.reaches g.M.Medium.takes g.M.MediumControl.arms g.M.MediumControl.armed_cut g.met.M.Medium.laws g.met.M.MediumControl.control_laws c.args.geometry.now
-    c.args.medium.now c.loop-k.medium (lists_of c.args.lists.now) (lists_of c.loop-k.lists) c.args.workspace.now.buffer c.loop-k.workspace.buffer c.args.request.lba c.args.request.n c.args.from.now c.loop-k.k c.loop-k.invariant.so_far c.loop-k.invariant.valid all
+    c.args.medium.now c.loop-k.medium (lists_of c.args.lists.now) (lists_of c.loop-k.lists) c.args.workspace.now.buffer c.loop-k.workspace.buffer c.args.request.lba c.args.request.n c.args.from.now c.loop-k.k c.loop-k.invariant.so_far c.loop-k.invariant.fit.valid all
 
-pub returns-clause-valid : goal.returns-clause-valid
-returns-clause-valid g c = c.loop-k.invariant.valid
-
-pub returns-clause-lawful : goal.returns-clause-lawful
-returns-clause-lawful g c = c.loop-k.invariant.lawful
-
-pub returns-clause-room : goal.returns-clause-room
-returns-clause-room g c = c.loop-k.invariant.room
-
-pub returns-clause-draft : goal.returns-clause-draft
-returns-clause-draft g c = c.loop-k.invariant.draft
-
-pub returns-clause-as_many : goal.returns-clause-as_many
-returns-clause-as_many g c = c.loop-k.invariant.as_many
+pub returns-clause-fit : goal.returns-clause-fit
+returns-clause-fit g c = c.loop-k.invariant.fit

@@ -16,60 +16,60 @@ pub kept_entries-requires : goal.kept_entries-requires
 kept_entries-requires g c =
     record { apart = are_apart c.args.self.geometry (lists_of c.args.self.lists) c.args.self.valid }
 
-pub full_format-requires-clause-kept : goal.full_format-requires-clause-kept
-full_format-requires-clause-kept g c =
+pub format_lists-requires-clause-kept : goal.format_lists-requires-clause-kept
+format_lists-requires-clause-kept g c =
     are_kept c.args.self.geometry (lists_of c.args.self.lists) c.args.self.valid c.args.drop_sdl c.deref.result.now (rw c.deref.ensures.value c.in-Ok.ensures)
 
-pub full_format-requires-clause-marked : goal.full_format-requires-clause-marked
-full_format-requires-clause-marked g c =
+pub format_lists-requires-clause-marked : goal.format_lists-requires-clause-marked
+format_lists-requires-clause-marked g c =
     settled_within c.args.self.geometry (g.M.Medium.world c.args.self.medium).cells (lists_of c.args.self.lists) c.args.self.settled c.args.self.valid.together.same_counter
 
-pub returns-in-Good-clause-cause : goal.returns-in-Good-clause-cause
-returns-in-Good-clause-cause g c =
+pub returns-in-Ok-format_lists-clause-cause : goal.returns-in-Ok-format_lists-clause-cause
+returns-in-Ok-format_lists-clause-cause g c =
     subst (λ (x : Shown). FormatCause (shown_ready c.args.self) x (kinds.Full c.args.drop_sdl) outs.Good) (sym c.over-ready.ensures)
-    (full_good g.M.Medium.world g.M.Medium.reaches g.M.Medium.takes g.M.MediumControl.arms g.M.MediumControl.armed_cut g.met.M.MediumControl.control_laws c.args.self.geometry c.args.self.medium c.full_format.new.medium (lists_of c.args.self.lists) c.args.self.workspace.buffer c.args.drop_sdl c.deref.result.now (rw c.deref.ensures.value c.in-Ok.ensures) (lists_of c.in-Good.lists) c.in-Good.ensures.rule)
+    (full_good g.M.Medium.world g.M.Medium.reaches g.M.Medium.takes g.M.MediumControl.arms g.M.MediumControl.armed_cut g.met.M.MediumControl.control_laws c.args.self.geometry c.args.self.medium c.format_lists.new.medium (lists_of c.args.self.lists) c.args.self.workspace.buffer c.args.drop_sdl c.deref.result.now (rw c.deref.ensures.value c.in-Ok.ensures) (lists_of c.in-Ok-format_lists.lists) c.in-Ok-format_lists.ensures.rule)
 
-pub returns-in-Good-clause-step : goal.returns-in-Good-clause-step
-returns-in-Good-clause-step g c =
+pub returns-in-Ok-format_lists-clause-step : goal.returns-in-Ok-format_lists-clause-step
+returns-in-Ok-format_lists-clause-step g c =
     subst (λ (x : Shown). FormatSteps (shown_ready c.args.self) x (kinds.Full c.args.drop_sdl) outs.Good) (sym c.over-ready.ensures)
-    (full_good_steps g.M.Medium.world g.M.Medium.reaches g.M.Medium.takes g.M.MediumControl.arms g.M.MediumControl.armed_cut g.met.M.MediumControl.control_laws c.args.self.geometry c.args.self.medium c.full_format.new.medium (lists_of c.args.self.lists) c.args.self.workspace.buffer c.args.drop_sdl c.deref.result.now (rw c.deref.ensures.value c.in-Ok.ensures) (lists_of c.in-Good.lists) c.in-Good.ensures.rule)
+    (full_good_steps g.M.Medium.world g.M.Medium.reaches g.M.Medium.takes g.M.MediumControl.arms g.M.MediumControl.armed_cut g.met.M.MediumControl.control_laws c.args.self.geometry c.args.self.medium c.format_lists.new.medium (lists_of c.args.self.lists) c.args.self.workspace.buffer c.args.drop_sdl c.deref.result.now (rw c.deref.ensures.value c.in-Ok.ensures) (lists_of c.in-Ok-format_lists.lists) c.in-Ok-format_lists.ensures.rule)
 
-pub returns-in-TooMany-clause-cause : goal.returns-in-TooMany-clause-cause
-returns-in-TooMany-clause-cause g c =
-    subst (λ (x : Shown). FormatCause (shown_ready c.args.self) x (kinds.Full c.args.drop_sdl) (outs.TooMany c.in-TooMany.found)) (sym c.over-bare.ensures)
-    (full_many g.M.Medium.world g.M.Medium.reaches g.M.Medium.takes g.M.MediumControl.arms g.M.MediumControl.armed_cut g.met.M.MediumControl.control_laws c.args.self.geometry c.args.self.medium c.full_format.new.medium (lists_of c.args.self.lists) c.args.self.workspace.buffer c.args.drop_sdl c.deref.result.now (rw c.deref.ensures.value c.in-Ok.ensures) c.in-TooMany.found c.in-TooMany.mark c.in-TooMany.ensures.rule)
+pub returns-in-Err-TooMany-clause-cause : goal.returns-in-Err-TooMany-clause-cause
+returns-in-Err-TooMany-clause-cause g c =
+    subst (λ (x : Shown). FormatCause (shown_ready c.args.self) x (kinds.Full c.args.drop_sdl) (outs.TooMany c.in-Err-TooMany.found)) (sym c.over-bare.ensures)
+    (full_many g.M.Medium.world g.M.Medium.reaches g.M.Medium.takes g.M.MediumControl.arms g.M.MediumControl.armed_cut g.met.M.MediumControl.control_laws c.args.self.geometry c.args.self.medium c.format_lists.new.medium (lists_of c.args.self.lists) c.args.self.workspace.buffer c.args.drop_sdl c.deref.result.now (rw c.deref.ensures.value c.in-Ok.ensures) c.in-Err-TooMany.found c.in-Err-TooMany.mark (rw c.in-Err-TooMany.field-0-is at c.in-Err-TooMany.ensures.rule))
 
-pub returns-in-NoCopy-clause-cause : goal.returns-in-NoCopy-clause-cause
-returns-in-NoCopy-clause-cause g c =
-    subst (λ (x : Shown). FormatCause (shown_ready c.args.self) x (kinds.Full c.args.drop_sdl) (outs.NoUpdate c.in-NoCopy.counter)) (sym c.over-bare-in-NoCopy.ensures)
-    (full_lost g.M.Medium.world g.M.Medium.reaches g.M.Medium.takes g.M.MediumControl.arms g.M.MediumControl.armed_cut g.met.M.MediumControl.control_laws c.args.self.geometry c.args.self.medium c.full_format.new.medium (lists_of c.args.self.lists) c.args.self.workspace.buffer c.args.drop_sdl c.deref.result.now (rw c.deref.ensures.value c.in-Ok.ensures) c.in-NoCopy.counter c.in-NoCopy.mark c.in-NoCopy.ensures.rule)
+pub returns-in-Err-NoCopy-clause-cause : goal.returns-in-Err-NoCopy-clause-cause
+returns-in-Err-NoCopy-clause-cause g c =
+    subst (λ (x : Shown). FormatCause (shown_ready c.args.self) x (kinds.Full c.args.drop_sdl) (outs.NoUpdate c.in-Err-NoCopy.counter)) (sym c.over-bare-in-Err-NoCopy.ensures)
+    (full_lost g.M.Medium.world g.M.Medium.reaches g.M.Medium.takes g.M.MediumControl.arms g.M.MediumControl.armed_cut g.met.M.MediumControl.control_laws c.args.self.geometry c.args.self.medium c.format_lists.new.medium (lists_of c.args.self.lists) c.args.self.workspace.buffer c.args.drop_sdl c.deref.result.now (rw c.deref.ensures.value c.in-Ok.ensures) c.in-Err-NoCopy.counter c.in-Err-NoCopy.mark (rw c.in-Err-NoCopy.field-0-is at c.in-Err-NoCopy.ensures.rule))
 
-pub returns-in-Cut-clause-cause : goal.returns-in-Cut-clause-cause
-returns-in-Cut-clause-cause g c =
-    full_cut g.M.Medium.world g.M.Medium.reaches g.M.Medium.takes g.M.MediumControl.arms g.M.MediumControl.armed_cut g.met.M.MediumControl.control_laws c.args.self.geometry c.args.self.medium c.full_format.new.medium (lists_of c.args.self.lists) c.args.self.workspace.buffer c.args.drop_sdl c.deref.result.now (rw c.deref.ensures.value c.in-Ok.ensures) c.in-Cut.ensures.rule
+pub returns-in-Err-Stopped-Cut-clause-cause : goal.returns-in-Err-Stopped-Cut-clause-cause
+returns-in-Err-Stopped-Cut-clause-cause g c =
+    full_cut g.M.Medium.world g.M.Medium.reaches g.M.Medium.takes g.M.MediumControl.arms g.M.MediumControl.armed_cut g.met.M.MediumControl.control_laws c.args.self.geometry c.args.self.medium c.format_lists.new.medium (lists_of c.args.self.lists) c.args.self.workspace.buffer c.args.drop_sdl c.deref.result.now (rw c.deref.ensures.value c.in-Ok.ensures) (rw (c.in-Err-Stopped-Cut.field-0-is, c.in-Err-Stopped-Cut.field-0-0-is) at c.in-Err-Stopped-Cut.ensures.rule)
 
-pub returns-in-Cut-clause-step : goal.returns-in-Cut-clause-step
-returns-in-Cut-clause-step g c =
-    full_cut_steps g.M.Medium.world g.M.Medium.reaches g.M.Medium.takes g.M.MediumControl.arms g.M.MediumControl.armed_cut g.met.M.MediumControl.control_laws c.args.self.geometry c.args.self.medium c.full_format.new.medium (lists_of c.args.self.lists) c.args.self.workspace.buffer c.args.drop_sdl c.deref.result.now (rw c.deref.ensures.value c.in-Ok.ensures) c.in-Cut.ensures.rule
+pub returns-in-Err-Stopped-Cut-clause-step : goal.returns-in-Err-Stopped-Cut-clause-step
+returns-in-Err-Stopped-Cut-clause-step g c =
+    full_cut_steps g.M.Medium.world g.M.Medium.reaches g.M.Medium.takes g.M.MediumControl.arms g.M.MediumControl.armed_cut g.met.M.MediumControl.control_laws c.args.self.geometry c.args.self.medium c.format_lists.new.medium (lists_of c.args.self.lists) c.args.self.workspace.buffer c.args.drop_sdl c.deref.result.now (rw c.deref.ensures.value c.in-Ok.ensures) (rw (c.in-Err-Stopped-Cut.field-0-is, c.in-Err-Stopped-Cut.field-0-0-is) at c.in-Err-Stopped-Cut.ensures.rule)
 
-pub returns-in-Fault-clause-cause : goal.returns-in-Fault-clause-cause
-returns-in-Fault-clause-cause g c =
-    full_fault g.M.Medium.world g.M.Medium.reaches g.M.Medium.takes g.M.MediumControl.arms g.M.MediumControl.armed_cut g.met.M.MediumControl.control_laws c.args.self.geometry c.args.self.medium c.full_format.new.medium (lists_of c.args.self.lists) c.args.self.workspace.buffer c.args.drop_sdl c.deref.result.now (rw c.deref.ensures.value c.in-Ok.ensures) c.in-Fault.ensures.rule
+pub returns-in-Err-Stopped-Fault-clause-cause : goal.returns-in-Err-Stopped-Fault-clause-cause
+returns-in-Err-Stopped-Fault-clause-cause g c =
+    full_fault g.M.Medium.world g.M.Medium.reaches g.M.Medium.takes g.M.MediumControl.arms g.M.MediumControl.armed_cut g.met.M.MediumControl.control_laws c.args.self.geometry c.args.self.medium c.format_lists.new.medium (lists_of c.args.self.lists) c.args.self.workspace.buffer c.args.drop_sdl c.deref.result.now (rw c.deref.ensures.value c.in-Ok.ensures) (rw (c.in-Err-Stopped-Fault.field-0-is, c.in-Err-Stopped-Fault.field-0-0-is) at c.in-Err-Stopped-Fault.ensures.rule)
 
-pub returns-in-Fault-clause-step : goal.returns-in-Fault-clause-step
-returns-in-Fault-clause-step g c =
-    full_fault_steps g.M.Medium.world g.M.Medium.reaches g.M.Medium.takes g.M.MediumControl.arms g.M.MediumControl.armed_cut g.met.M.MediumControl.control_laws c.args.self.geometry c.args.self.medium c.full_format.new.medium (lists_of c.args.self.lists) c.args.self.workspace.buffer c.args.drop_sdl c.deref.result.now (rw c.deref.ensures.value c.in-Ok.ensures) c.in-Fault.ensures.rule
+pub returns-in-Err-Stopped-Fault-clause-step : goal.returns-in-Err-Stopped-Fault-clause-step
+returns-in-Err-Stopped-Fault-clause-step g c =
+    full_fault_steps g.M.Medium.world g.M.Medium.reaches g.M.Medium.takes g.M.MediumControl.arms g.M.MediumControl.armed_cut g.met.M.MediumControl.control_laws c.args.self.geometry c.args.self.medium c.format_lists.new.medium (lists_of c.args.self.lists) c.args.self.workspace.buffer c.args.drop_sdl c.deref.result.now (rw c.deref.ensures.value c.in-Ok.ensures) (rw (c.in-Err-Stopped-Fault.field-0-is, c.in-Err-Stopped-Fault.field-0-0-is) at c.in-Err-Stopped-Fault.ensures.rule)
 
-pub returns-in-TooMany-clause-step : goal.returns-in-TooMany-clause-step
-returns-in-TooMany-clause-step g c =
-    subst (λ (x : Shown). FormatSteps (shown_ready c.args.self) x (kinds.Full c.args.drop_sdl) (outs.TooMany c.in-TooMany.found)) (sym c.over-bare.ensures)
-    (full_many_steps g.M.Medium.world g.M.Medium.reaches g.M.Medium.takes g.M.MediumControl.arms g.M.MediumControl.armed_cut g.met.M.MediumControl.control_laws c.args.self.geometry c.args.self.medium c.full_format.new.medium (lists_of c.args.self.lists) c.args.self.workspace.buffer c.args.drop_sdl c.deref.result.now (rw c.deref.ensures.value c.in-Ok.ensures) c.in-TooMany.found c.in-TooMany.mark c.in-TooMany.ensures.rule)
+pub returns-in-Err-TooMany-clause-step : goal.returns-in-Err-TooMany-clause-step
+returns-in-Err-TooMany-clause-step g c =
+    subst (λ (x : Shown). FormatSteps (shown_ready c.args.self) x (kinds.Full c.args.drop_sdl) (outs.TooMany c.in-Err-TooMany.found)) (sym c.over-bare.ensures)
+    (full_many_steps g.M.Medium.world g.M.Medium.reaches g.M.Medium.takes g.M.MediumControl.arms g.M.MediumControl.armed_cut g.met.M.MediumControl.control_laws c.args.self.geometry c.args.self.medium c.format_lists.new.medium (lists_of c.args.self.lists) c.args.self.workspace.buffer c.args.drop_sdl c.deref.result.now (rw c.deref.ensures.value c.in-Ok.ensures) c.in-Err-TooMany.found c.in-Err-TooMany.mark (rw c.in-Err-TooMany.field-0-is at c.in-Err-TooMany.ensures.rule))
 
-pub over-bare-requires-in-NoCopy-clause-bare : goal.over-bare-requires-in-NoCopy-clause-bare
-over-bare-requires-in-NoCopy-clause-bare g c =
-    (lost_leaves g.M.Medium.world g.M.Medium.reaches g.M.Medium.takes g.M.MediumControl.arms g.M.MediumControl.armed_cut g.met.M.MediumControl.control_laws c.args.self.geometry c.args.self.medium c.full_format.new.medium c.deref.result.now pdl_kinds.G1 (lists_of c.args.self.lists).dds.counter c.in-NoCopy.counter c.in-NoCopy.mark c.in-NoCopy.ensures.rule).gives_none
+pub over-bare-requires-in-Err-NoCopy-clause-bare : goal.over-bare-requires-in-Err-NoCopy-clause-bare
+over-bare-requires-in-Err-NoCopy-clause-bare g c =
+    (lost_leaves g.M.Medium.world g.M.Medium.reaches g.M.Medium.takes g.M.MediumControl.arms g.M.MediumControl.armed_cut g.met.M.MediumControl.control_laws c.args.self.geometry c.args.self.medium c.format_lists.new.medium c.deref.result.now pdl_kinds.G1 (lists_of c.args.self.lists).dds.counter c.in-Err-NoCopy.counter c.in-Err-NoCopy.mark (rw c.in-Err-NoCopy.field-0-is at c.in-Err-NoCopy.ensures.rule)).gives_none
 
-pub returns-in-NoCopy-clause-step : goal.returns-in-NoCopy-clause-step
-returns-in-NoCopy-clause-step g c =
-    subst (λ (x : Shown). FormatSteps (shown_ready c.args.self) x (kinds.Full c.args.drop_sdl) (outs.NoUpdate c.in-NoCopy.counter)) (sym c.over-bare-in-NoCopy.ensures)
-    (full_lost_steps g.M.Medium.world g.M.Medium.reaches g.M.Medium.takes g.M.MediumControl.arms g.M.MediumControl.armed_cut g.met.M.MediumControl.control_laws c.args.self.geometry c.args.self.medium c.full_format.new.medium (lists_of c.args.self.lists) c.args.self.workspace.buffer c.args.drop_sdl c.deref.result.now (rw c.deref.ensures.value c.in-Ok.ensures) c.in-NoCopy.counter c.in-NoCopy.mark c.in-NoCopy.ensures.rule)
+pub returns-in-Err-NoCopy-clause-step : goal.returns-in-Err-NoCopy-clause-step
+returns-in-Err-NoCopy-clause-step g c =
+    subst (λ (x : Shown). FormatSteps (shown_ready c.args.self) x (kinds.Full c.args.drop_sdl) (outs.NoUpdate c.in-Err-NoCopy.counter)) (sym c.over-bare-in-Err-NoCopy.ensures)
+    (full_lost_steps g.M.Medium.world g.M.Medium.reaches g.M.Medium.takes g.M.MediumControl.arms g.M.MediumControl.armed_cut g.met.M.MediumControl.control_laws c.args.self.geometry c.args.self.medium c.format_lists.new.medium (lists_of c.args.self.lists) c.args.self.workspace.buffer c.args.drop_sdl c.deref.result.now (rw c.deref.ensures.value c.in-Ok.ensures) c.in-Err-NoCopy.counter c.in-Err-NoCopy.mark (rw c.in-Err-NoCopy.field-0-is at c.in-Err-NoCopy.ensures.rule))
