@@ -10,6 +10,7 @@ use Rattle.model_medium.specs.declared.ReadEnd.TheVariants as reads
 use Rattle.model_medium.specs.declared.WriteEnd.{WriteEnd}
 use Rattle.model_medium.specs.declared.WriteEnd.TheVariants as writes
 use Rattle.model_image.specs.Writes.{with_state, dead_state, worn_bytes, bytes_left, StopsInBytes, IsBeforeOrAfter}
+use Rattle.ram_medium.specs.Control.{Told, Fails, Arms}
 use Rattle.ram_medium.specs.declared.control.FailEnd.{FailEnd}
 use Rattle.ram_medium.specs.declared.control.FailEnd.TheVariants as fails
 
@@ -64,3 +65,8 @@ FailBytes block before after fails.Done = WhereKnown before after (λ held held'
 FailBytes block before after (fails.NoBlock blocks) = after ≡ before
 FailBytes block before after fails.Failed =
     WhereKnown before after (λ held held'. IsBeforeOrAfter held (with_state block dead_state held) held')
+
+-- What is done to the medium beside its uses makes this of the bytes: where something is armed they stay.
+abbrev pub ToldBytes : Option (List ℕ) → Option (List ℕ) → Told → Type 0
+ToldBytes before after (Fails block end) = FailBytes block before after end
+ToldBytes before after Arms = after ≡ before

@@ -382,12 +382,14 @@ impl<I: Image> MediumControl for ImageMedium<I> {
     ghost use Rattle.model_geometry.specs.Geometry.{total};
     ghost use Rattle.ram_medium.specs.Countdown.{arms_of, armed_cut_of};
     ghost use Rattle.ram_medium.specs.Control.{FailRule, WearRule, with_armed_cut};
-    ghost use Rattle.ram_image.specs.EventBytes.{FailBytes};
+    ghost use Rattle.ram_image.specs.EventBytes.{FailBytes, ToldBytes};
     ghost use Rattle.ram_image.specs.Medium.{shape_of_medium, machine_in, bytes_in};
 
     ghost arms = { λ medium. arms_of medium.armed };
 
     ghost armed_cut = { λ medium. armed_cut_of medium.armed };
+
+    ghost was_told = { λ old new told. ToldBytes (bytes_in old) (bytes_in new) told };
 
     fn fail(&mut self, block: u32) -> FailEnd
         ensures rule { FailRule (total (shape_of_medium self.old)) (machine_in self.old) (machine_in self.new)

@@ -11,6 +11,12 @@ use Rattle.ram_medium.specs.declared.control.Arm.{Arm}
 use Rattle.ram_medium.specs.declared.control.Arm.TheVariants as arming
 use Rattle.ram_medium.specs.declared.countdown.TheConstants.{MOST_ARMS}
 
+-- What is done to a controllable medium beside its uses, with its answer: a block fails, or something is armed. (This
+-- project's own.)
+pub data Told : Type 0 where
+  Fails : ℕ → FailEnd → Told
+  Arms : Told
+
 -- the medium with a dead block more
 abbrev pub with_dead : ℕ → Machine → Machine
 with_dead block machine = record machine { world = record machine.world { cells = set machine.world.cells block Dead } }

@@ -4,7 +4,7 @@ ghost use Rattle.std.specs.Prelude.{◌≡◌, ℕ, ◌≤◌, Option, List};
 ghost use Rattle.model_medium.specs.declared.WornBlock.{WornBlock};
 ghost use Rattle.model_medium.specs.declared.ArmedCut.{ArmedCut};
 ghost use Rattle.ram_medium.specs.Laws.{ControlLaws, machine_shown};
-ghost use Rattle.ram_medium.specs.Control.{FailRule, WearRule, with_armed_cut};
+ghost use Rattle.ram_medium.specs.Control.{Told, Fails, Arms, FailRule, WearRule, with_armed_cut};
 
 use crate::blocks::Medium;
 use model_medium::Fate;
@@ -46,11 +46,15 @@ pub trait MediumControl: Medium {
     /// The armed cut, if there is one.
     ghost armed_cut: { Self → Option ArmedCut };
 
+    /// That it was told this in between. What that makes of what the medium lies on, the medium says.
+    ghost was_told: { Self → Self → Told → Type 0 };
+
     /// Makes the block of this number, counted from 0, dead, with the power on or off. It is no use: nothing is counted
     /// and no arm counts down.
     fn fail(&mut self, block: u32) -> FailEnd
         ensures rule { FailRule (Self.block_count self.old) (machine_shown Self.world arms armed_cut self.old)
             (machine_shown Self.world arms armed_cut self.new) block result }
+        ensures told { was_told self.old self.new (Fails block result) }
         ensures as_many { Self.block_count self.new ≡ Self.block_count self.old };
 
     /// Makes a block dead at its `n`-th use from now on: 1 is the next. At most [`MOST_ARMS`](crate::MOST_ARMS) arms
@@ -59,6 +63,7 @@ pub trait MediumControl: Medium {
         requires { 1 ≤ n }
         ensures rule { WearRule (Self.block_count self.old) (machine_shown Self.world arms armed_cut self.old)
             (machine_shown Self.world arms armed_cut self.new) (record { block = block; left = n }) result }
+        ensures told { was_told self.old self.new Arms }
         ensures as_many { Self.block_count self.new ≡ Self.block_count self.old };
 
     /// Cuts the power at the `n`-th use from now on, and a write that is then cut leaves its block by the fate. The
@@ -67,6 +72,7 @@ pub trait MediumControl: Medium {
         requires { 1 ≤ n }
         ensures rule { machine_shown Self.world arms armed_cut self.new
             ≡ with_armed_cut n fate (machine_shown Self.world arms armed_cut self.old) }
+        ensures told { was_told self.old self.new Arms }
         ensures as_many { Self.block_count self.new ≡ Self.block_count self.old };
 
     ghost control_laws: { ControlLaws Self.world Self.reaches Self.takes arms armed_cut };

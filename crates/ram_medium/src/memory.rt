@@ -212,6 +212,8 @@ impl MediumControl for MemMedium {
 
     ghost armed_cut = { λ medium. armed_cut_of medium.armed };
 
+    ghost was_told = { λ old new told. Unit {0} };
+
     fn fail(&mut self, block: u32) -> FailEnd
         ensures rule { FailRule (vec_len self.old.slots) (mem_machine self.old) (mem_machine self.new) block
             result }

@@ -14,7 +14,7 @@ use Rattle.model_sectors.specs.Discs.{Standing, On, Off}
 use Rattle.model_copies.specs.Copies.{Holds}
 use Rattle.model_places.specs.Places.{Lists}
 use Rattle.model_volume.specs.Given.{IsGiven, GivesNone}
-use Rattle.model_image.specs.Image.{IsDiscImage, blank_cells}
+use Rattle.model_image.specs.Image.{IsDiscImage, blank_cells, pressed_image}
 use Rattle.model_image.specs.Cells.{cells_of}
 use Rattle.model_drive.specs.Shown.{Shown, IsKnown, StandsFor}
 use Rattle.model_drive.specs.Sound.{IsSound}
@@ -140,16 +140,16 @@ no_text cell text v (inr dead) holds = subst (λ (c : Cell). Holds text c v) dea
 blank_gives_none : (shape : Shape) → GivesNone shape (blank_cells shape)
 blank_gives_none shape lists given = no_text (cell_at (blank_cells shape) (dds_block shape given.dds_area)) IsDdsText lists.dds (blank_or_dead (total shape) (dds_block shape given.dds_area)) given.dds_copy.holds
 
-opened_fair : (shape : Shape) (cells : List Cell) (s : Served) → IsInserted shape cells s → ((lists : Lists) → IsGiven shape cells lists → IsFair cells lists) → GivesUpDeadAlone s.disc.shown
-opened_fair shape cells s is fair = subst GivesUpDeadAlone (sym is.opened.shown_is) (record { given = fair; in_use = λ lists none. absurd (none_some lists None refl none) })
+opened_fair : (shape : Shape) (cells : List Cell) (bytes : List ℕ) (s : Served) → IsInserted shape cells bytes s → ((lists : Lists) → IsGiven shape cells lists → IsFair cells lists) → GivesUpDeadAlone s.disc.shown
+opened_fair shape cells bytes s is fair = subst GivesUpDeadAlone (sym is.opened.shown_is) (record { given = fair; in_use = λ lists none. absurd (none_some lists None refl none) })
 
 pub pressed_fair : (shape : Shape) (s : State) → IsPressedDisc shape s → FairNow s
 pressed_fair shape (Unopened image) is = tt
-pressed_fair shape (Disc s) is = opened_fair shape (blank_cells shape) s is (λ lists given. absurd (blank_gives_none shape lists given))
+pressed_fair shape (Disc s) is = opened_fair shape (blank_cells shape) (pressed_image shape) s is (λ lists given. absurd (blank_gives_none shape lists given))
 
 pub image_fair : (bytes : List ℕ) (s : State) → IsFirst bytes s → ((shape : Shape) → IsDiscImage shape bytes → (lists : Lists) → IsGiven shape (cells_of (total shape) bytes) lists → IsFair (cells_of (total shape) bytes) lists) → FairNow s
 image_fair bytes (Unopened image) is fair = tt
-image_fair bytes (Disc s) is fair = opened_fair is.0 (cells_of (total is.0) bytes) s is.2 (fair is.0 is.1)
+image_fair bytes (Disc s) is fair = opened_fair is.0 (cells_of (total is.0) bytes) bytes s is.2 (fair is.0 is.1)
 
 -- ---- a line, and a run
 

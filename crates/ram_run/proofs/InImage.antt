@@ -20,6 +20,7 @@ use Rattle.model_cdb.specs.declared.commands.Command.TheVariants as commands
 use Rattle.ram_run.specs.States.{State, Unopened, Disc, IsLeft}
 use Rattle.ram_run.specs.Run.{AnsweredLine, IsStep}
 use Rattle.ram_run.specs.Acknowledged.{bytes_of_sector, HasSector, StandsWithSector, HasNow, WasDone, IsAmong, HasInCells, HasInImage}
+use Rattle.ram_run.proofs.Images.{image_left}
 use Rattle.ram_run.proofs.DoneLines.{Done, line_done, line_written, write_good}
 
 -- a cell with whole bytes that agrees with a block has its bytes
@@ -114,5 +115,5 @@ line_in_image s t event lba n at fua image step done among left =
     by_states (Disc s) (Unopened first) is has left = absurd is
     by_states (Disc s) (Disc t) is has left =
         let good = write_good s.disc.shown t.disc.shown s.disc.standing t.disc.standing lba n event.payload event.data_in is.done in
-        left_in_cells t.disc.shown t.disc.standing good.cause.reached (cells_of (total t.disc.shown.shape) image) at (bytes_of_sector lba event.payload at) t.disc.stands left.cells_are good.cause.ends.now_in_use has
+        left_in_cells t.disc.shown t.disc.standing good.cause.reached (cells_of (total t.disc.shown.shape) image) at (bytes_of_sector lba event.payload at) t.disc.stands (image_left t image left).cells_are good.cause.ends.now_in_use has
         (home_good s.disc.shown t.disc.shown lba n at is.same_shape s.disc.sound (known_of s.disc.shown s.disc.standing s.disc.stands) good.cause among)

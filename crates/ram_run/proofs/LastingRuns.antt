@@ -46,6 +46,7 @@ use Rattle.ram_run.specs.States.{State, Served, Unopened, Disc, IsLeft, IsFirst}
 use Rattle.ram_run.specs.LineSteps.{DiscRule, OnDisc, Step}
 use Rattle.ram_run.specs.Run.{AnsweredLine, IsStep, Run}
 use Rattle.ram_run.specs.Survival.{KeepsAsAsked, KeepsAsDecoded, KeepsDisc, KeepDisc, AsksNoExpansion, LeavesCapacity, LeaveCapacity, HasInUse, HasTwoCopies, LastsNow, IsReadyOrCut}
+use Rattle.ram_run.proofs.Images.{image_left}
 use Rattle.ram_run.proofs.InImage.{known_of}
 use Rattle.ram_run.proofs.Decoded.{asks_for}
 use Rattle.ram_run.proofs.Acknowledged.{not_pressed}
@@ -311,15 +312,16 @@ now_begins (Disc s) lists is = begins s.disc.shown lists s.disc.sound (known_of 
 -- an image of these cells, opened
 same_cells : (s t : Served) (bytes : List ℕ) → IsLeft (Disc s) bytes → IsFirst bytes (Disc t) → (t.disc.shown.shape ≡ s.disc.shown.shape) × (cells_in t.disc.shown ≡ cells_in s.disc.shown) × ¬ IsOn t.disc.shown
 same_cells s t bytes left first =
-    let shape : first.0 ≡ s.disc.shown.shape = one_header first.0 s.disc.shown.shape bytes first.1.has_header left.disc.has_header in (
+    let image = image_left s bytes left in
+    let shape : first.0 ≡ s.disc.shown.shape = one_header first.0 s.disc.shown.shape bytes first.1.has_header image.disc.has_header in (
       ap (λ (x : Shown). x.shape) first.2.opened.shown_is ∙ shape,
-      ap cells_in first.2.opened.shown_is ∙ ap (λ (z : Shape). cells_of (total z) bytes) shape ∙ left.cells_are,
+      ap cells_in first.2.opened.shown_is ∙ ap (λ (z : Shape). cells_of (total z) bytes) shape ∙ image.cells_are,
       λ on. (let off : false ≡ true = subst IsOn first.2.opened.shown_is on in cc),
     )
 
 pub image_lasts : (s t : State) (bytes : List ℕ) (version : Version) (sizes : List ℕ) → LastsNow s version sizes → IsLeft s bytes → IsFirst bytes t → LastsNow t version sizes
 image_lasts (Unopened held) t bytes version sizes lasts left first = absurd lasts
-image_lasts (Disc s) (Unopened held) bytes version sizes lasts left first = absurd (first.1 s.disc.shown.shape left.disc)
+image_lasts (Disc s) (Unopened held) bytes version sizes lasts left first = absurd (first.1 s.disc.shown.shape (image_left s bytes left).disc)
 image_lasts (Disc s) (Disc t) bytes version sizes lasts left first =
     let same = same_cells s t bytes left first in
     dies_stays s.disc.shown t.disc.shown version sizes same.0 lasts (λ on. absurd (same.2 on)) (λ on. absurd (same.2 on)) (λ block. inl (ap (λ (cells : List Cell). cell_at cells block) same.1))

@@ -1,6 +1,7 @@
 pub mod StatesAfter
 pub mod LineCounts
 pub mod Labels
+pub mod Images
 pub mod Volumes
 pub mod Printing
 pub mod InsertedSteps

@@ -20,6 +20,7 @@ use Rattle.model_target.specs.Steps.{IsVerified}
 use Rattle.ram_run.specs.States.{State, Unopened, Disc, IsLeft}
 use Rattle.ram_run.specs.Run.{AnsweredLine, IsStep}
 use Rattle.ram_run.specs.Acknowledged.{KeepsSector, Acknowledged, StandsWithSector, WasDone, IsAmong, HasInImage}
+use Rattle.ram_run.proofs.Images.{image_left}
 use Rattle.ram_run.proofs.Acknowledged.{AllKeep}
 use Rattle.ram_run.proofs.DoneLines.{Done, line_done, good_read, sector_inside}
 use Rattle.ram_run.proofs.InImage.{known_of, in_covered, left_in_cells}
@@ -76,6 +77,6 @@ line_verified s t event lba n at bytes image step done among keeps left = by_sta
         let good = verify_good s.disc.shown t.disc.shown s.disc.standing t.disc.standing lba n event.data_in is.done in
         let lists = some_lists s.disc.shown.lists good.cause.inside.formatted in
         let in_use : t.disc.shown.lists ≡ Some lists.one = good.cause.keeps.same_lists ∙ lists.is in
-        left_in_cells t.disc.shown t.disc.standing lists.one (cells_of (total t.disc.shown.shape) image) at bytes t.disc.stands left.cells_are in_use
+        left_in_cells t.disc.shown t.disc.standing lists.one (cells_of (total t.disc.shown.shape) image) at bytes t.disc.stands (image_left t image left).cells_are in_use
         (verify_has s.disc.shown t.disc.shown t.disc.standing lba n at among bytes s.disc.standing s.disc.stands good keeps)
         (verified_home s.disc.shown t.disc.shown t.disc.standing lba n at among bytes s.disc.standing s.disc.stands good.cause lists.one in_use)

@@ -20,18 +20,25 @@ pub record IsOpenedBy (bytes : List ℕ) (shown : Shown) (stands : Standing → 
   pub shown_is : shown ≡ disc.shown
   pub standing_is : stands disc.standing
 
--- An image that has failed so often was opened as a disc, where its bytes are known, and it did not fail.
-pub record OpensDrive (image : Option (List ℕ)) (faults : ℕ) (shown : Shown) (stands : Standing → Type 0) : Type 0 where
+-- An image that has failed so often was opened as a disc, where its bytes are known, and it did not fail. The drive lies in
+-- the same bytes.
+pub record OpensDrive (image : Option (List ℕ)) (faults : ℕ) (shown : Shown) (stands : Standing → Type 0)
+    (image' : Option (List ℕ)) : Type 0 where
   pub opened : (bytes : List ℕ) → image ≡ Some bytes → IsOpenedBy bytes shown stands
+  pub same_bytes : image' ≡ image
   pub count : shown.medium.world.faults ≡ faults
 
 -- The same, with what is remembered for a host when the power just came on.
 pub record IsInsertedTarget (image : Option (List ℕ)) (faults : ℕ) (shown : Shown) (stands : Standing → Type 0)
-    (host : Host) : Type 0 where
-  pub opens : OpensDrive image faults shown stands
+    (image' : Option (List ℕ)) (host : Host) : Type 0 where
+  pub opens : OpensDrive image faults shown stands image'
   pub host_is : host ≡ powered_on
 
--- The image of a medium has its cells, where these are known, and the geometry that its label tells.
+-- The bytes that a medium lies in have its cells, where these are known, and the geometry that its label tells.
 abbrev pub HasCells : World → Option (List ℕ) → Type 0
 HasCells world image = MatchOption image (world.known ≡ false)
     (λ bytes. (shape : Shape) → world.label ≡ label_of shape → IsImageOf shape world.cells bytes)
+
+-- What holds of each drive: it lies in bytes that have the cells of its medium.
+pub record DriveLaws {D : Type 0} (shows : D → Shown) (lies_in : D → Option (List ℕ)) : Type 0 where
+  pub has_cells : (drive : D) → HasCells (shows drive).medium.world (lies_in drive)

@@ -10,14 +10,16 @@ use Rattle.ram_run.specs.Replies.{Outcome}
 use Rattle.ram_run.specs.States.{State, Unopened, Disc, IsIn, IsLeft}
 use Rattle.ram_run.specs.LineSteps.{PressStep, Step}
 
-module _ {D I : Type 0} (drives : Drives D) (images : Images I) where
+module _ {D I : Type 0} (drives : Drives D) (lies_in : D → Option (List ℕ)) (images : Images I) where
   -- the inserted disc stands for this state, and the bytes of its image are known (this project's own, as all here)
   abbrev pub Stands : Inserted D I → State → Type 0
   Stands (inserts.Image image) (Unopened bytes) = images.bytes image ≡ Some bytes
   Stands (inserts.Image image) (Disc s) = ⊥
   Stands (inserts.Disc target) (Unopened bytes) = ⊥
-  Stands (inserts.Disc target) (Disc s) = IsIn (drives.shows target.disc) (drives.stands target.disc) target.host s
+  Stands (inserts.Disc target) (Disc s) = IsIn (drives.shows target.disc) (drives.stands target.disc) target.host
+      (lies_in target.disc) s
 
+module _ {D I : Type 0} (drives : Drives D) (images : Images I) where
   -- how often the image of the inserted disc has failed
   abbrev pub faults_of : Inserted D I → ℕ
   faults_of (inserts.Image image) = images.faults image

@@ -5,6 +5,7 @@ pub mod States
 pub mod Kept
 pub mod LineSteps
 pub mod Drive
+pub mod Lying
 pub mod Inserted
 pub mod NextLines
 pub mod Run

@@ -1,5 +1,5 @@
 -- What one line does: the steps between the states of a run. For the run of a script, and the code that answers a line.
-use Rattle.std.specs.Prelude.{◌≡◌, ℕ, ◌⊎◌, Ok, Err, List, []}
+use Rattle.std.specs.Prelude.{◌≡◌, ℕ, ◌⊎◌, Ok, Err, Option, Some, List, []}
 use Rattle.model_geometry.specs.Geometry.{Shape, IsLawful, shape_of, total}
 use Rattle.model_medium.specs.declared.Fate.{Fate}
 use Rattle.model_sectors.specs.Discs.{Standing}
@@ -7,6 +7,7 @@ use Rattle.model_sectors.specs.declared.PowerOut.{PowerOut}
 use Rattle.model_drive.specs.Shown.{Shown}
 use Rattle.model_target.specs.declared.host.Host.{Host}
 use Rattle.model_target.specs.Steps.{IsPoweredAgain, IsStep}
+use Rattle.ram_image.specs.EventBytes.{FailBytes}
 use Rattle.ram_medium.specs.Control.{WearRule, with_armed_cut}
 use Rattle.ram_medium.specs.declared.control.FailEnd.{FailEnd}
 use Rattle.ram_medium.specs.declared.control.Arm.{Arm}
@@ -79,12 +80,22 @@ module _ (old new : Shown) (before after : Standing → Type 0) (host later : Ho
   DiscRule (lines.Command cdb) payload outcome data_in = CommandLine cdb payload outcome data_in
   DiscRule _ payload outcome data_in = ⊥
 
--- the same between two discs of one geometry
+-- What a line makes of the bytes of an image, also under cells that are not good, where it is no use of the medium: the
+-- failure of a block changes its state byte alone, and nothing that is armed changes any.
+abbrev pub LineBytes : Line → Outcome → Option (List ℕ) → Option (List ℕ) → Type 0
+LineBytes (lines.Fail block) outcome before after =
+    (end : FailEnd) × (outcome ≡ fail_outcome end) × FailBytes block before after end
+LineBytes (lines.Wear block n) outcome before after = after ≡ before
+LineBytes (lines.Cut n fate) outcome before after = after ≡ before
+LineBytes _ outcome before after = Unit {0}
+
+-- the same between two discs of one geometry, with the bytes of their images
 pub record DiscStep (s t : Served) (line : Line) (payload : List ℕ) (outcome : Outcome)
     (data_in : List ℕ) : Type 0 where
   pub same_shape : t.disc.shown.shape ≡ s.disc.shown.shape
   pub rule : DiscRule s.disc.shown t.disc.shown (λ x. x ≡ s.disc.standing) (λ x. x ≡ t.disc.standing) s.host t.host
       line payload outcome data_in
+  pub bytes : LineBytes line outcome (Some s.bytes) (Some t.bytes)
 
 -- the same in any state: without a disc the line cannot be answered
 abbrev pub OnDisc : State → Line → List ℕ → Outcome → List ℕ → State → Type 0

@@ -1,5 +1,5 @@
 -- What a run begins with. For the call that opens the image of a run.
-use Rattle.std.specs.Prelude.{◌≡◌, ℕ, Some, Result, Ok, Err, List}
+use Rattle.std.specs.Prelude.{◌≡◌, ℕ, Option, Some, Result, Ok, Err, List}
 use Rattle.model_counts.specs.Counts.{Rose}
 use Rattle.ram_outside.specs.declared.image.Image.{Ghosts as Images}
 use Rattle.ram_sectors.specs.declared.Sectors.{Ghosts as Drives}
@@ -21,11 +21,11 @@ StartCount faults faults' stopped.ImageFault = Rose faults faults'
 StartCount faults faults' stopped.NoMemory = faults' ≡ faults
 StartCount faults faults' _ = ⊥
 
-module _ {D I : Type 0} (drives : Drives D) (images : Images I) where
+module _ {D I : Type 0} (drives : Drives D) (lies_in : D → Option (List ℕ)) (images : Images I) where
   -- What a run begins with, or why it stops; then the image has the bytes that it had.
   abbrev pub StartRule : I → Result (Inserted D I) (I × Stopped) → Type 0
   StartRule image (Ok inserted) =
-      ((bytes : List ℕ) → images.bytes image ≡ Some bytes → StandsFirst bytes (Stands drives images inserted))
+      ((bytes : List ℕ) → images.bytes image ≡ Some bytes → StandsFirst bytes (Stands drives lies_in images inserted))
       × (faults_of drives images inserted ≡ images.faults image)
   StartRule image (Err refused) =
       (images.bytes refused.0 ≡ images.bytes image) × StartCount (images.faults image) (images.faults refused.0) refused.1

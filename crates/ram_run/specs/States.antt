@@ -1,9 +1,9 @@
 -- The states of a run: what lies in the drive. For the steps of a run, and for who says what a run leaves.
-use Rattle.std.specs.Prelude.{◌≡◌, ℕ, List}
+use Rattle.std.specs.Prelude.{◌≡◌, ℕ, Option, Some, List}
 use Rattle.model_geometry.specs.Geometry.{Shape, label_of, total}
 use Rattle.model_medium.specs.Cells.{Cell}
 use Rattle.model_image.specs.Cells.{cells_of}
-use Rattle.model_image.specs.Image.{IsDiscImage, IsImageOf, IsStoppedPress, blank_cells}
+use Rattle.model_image.specs.Image.{IsDiscImage, IsImageOf, IsStoppedPress, blank_cells, pressed_image}
 use Rattle.model_sectors.specs.Discs.{Standing}
 use Rattle.model_drive.specs.Shown.{Shown, cells_in}
 use Rattle.model_drive.specs.Runs.{Loaded, IsOpenedOn}
@@ -14,43 +14,49 @@ use Rattle.model_target.specs.Host.{powered_on}
 abbrev pub IsLabelled : Shown → Type 0
 IsLabelled shown = shown.medium.world.label ≡ label_of shown.shape
 
--- A disc in the drive: what the drive shows and one thing that it stands for, and what is remembered for its host.
+-- A disc in the drive: what the drive shows and one thing that it stands for, what is remembered for its host, and the
+-- bytes of its image, also those under cells that are not good.
 pub record Served : Type 0 where
   pub disc : Loaded
   pub host : Host
   pub labelled : IsLabelled disc.shown
+  pub bytes : List ℕ
+  pub image : IsImageOf disc.shown.shape (cells_in disc.shown) bytes
 
 -- What lies in the drive: an image of these bytes that was not opened as a disc, or a disc.
 pub data State : Type 0 where
   Unopened : List ℕ → State
   Disc : Served → State
 
--- a drive that shows and stands for these, and whose host has this remembered, is in this state
-pub record IsIn (shown : Shown) (stands : Standing → Type 0) (host : Host) (s : Served) : Type 0 where
+-- a drive that shows and stands for these, whose host has this remembered and whose image has these bytes, is in this
+-- state
+pub record IsIn (shown : Shown) (stands : Standing → Type 0) (host : Host) (image : Option (List ℕ)) (s : Served) : Type 0 where
   pub shown_is : shown ≡ s.disc.shown
   pub standing_is : stands s.disc.standing
   pub host_is : host ≡ s.host
+  pub bytes_are : image ≡ Some s.bytes
 
 -- an image that is left in this state
 abbrev pub IsLeft : State → List ℕ → Type 0
 IsLeft (Unopened first) bytes = bytes ≡ first
-IsLeft (Disc s) bytes = IsImageOf s.disc.shown.shape (cells_in s.disc.shown) bytes
+IsLeft (Disc s) bytes = bytes ≡ s.bytes
 
--- A disc of this geometry with these cells was just inserted: the drive is as when its image was opened, and its host
--- remembers a power that just came on.
-pub record IsInserted (shape : Shape) (cells : List Cell) (s : Served) : Type 0 where
+-- A disc of this geometry with these cells, in an image of these bytes, was just inserted: the drive is as when its image
+-- was opened, and its host remembers a power that just came on.
+pub record IsInserted (shape : Shape) (cells : List Cell) (bytes : List ℕ) (s : Served) : Type 0 where
   pub opened : IsOpenedOn shape cells s.disc
   pub host_is : s.host ≡ powered_on
+  pub bytes_are : s.bytes ≡ bytes
 
 -- what a run over an image of these bytes begins with: its disc, or the image where it is no disc's
 abbrev pub IsFirst : List ℕ → State → Type 0
 IsFirst bytes (Unopened held) = (held ≡ bytes) × ((shape : Shape) → ¬ IsDiscImage shape bytes)
-IsFirst bytes (Disc s) = (shape : Shape) × IsDiscImage shape bytes × IsInserted shape (cells_of (total shape) bytes) s
+IsFirst bytes (Disc s) = (shape : Shape) × IsDiscImage shape bytes × IsInserted shape (cells_of (total shape) bytes) bytes s
 
 -- a disc of this geometry was pressed, and inserted
 abbrev pub IsPressedDisc : Shape → State → Type 0
 IsPressedDisc shape (Unopened bytes) = ⊥
-IsPressedDisc shape (Disc s) = IsInserted shape (blank_cells shape) s
+IsPressedDisc shape (Disc s) = IsInserted shape (blank_cells shape) (pressed_image shape) s
 
 -- the image of a disc of this geometry, with blank cells, that was not opened
 abbrev pub IsPressedUnopened : Shape → State → Type 0

@@ -1,11 +1,12 @@
 //! A drive as the lines of a script work with it: a disc, and what a script does to the medium below it.
-ghost use Rattle.std.specs.Prelude.{◌≡◌, ◌≤◌, MatchResult};
+ghost use Rattle.std.specs.Prelude.{◌≡◌, ℕ, ◌≤◌, Option, List, MatchResult};
 ghost use Rattle.model_geometry.specs.Geometry.{total};
 ghost use Rattle.model_sectors.specs.Discs.{Standing};
+ghost use Rattle.ram_image.specs.EventBytes.{FailBytes};
 ghost use Rattle.ram_image.specs.Opening.{IsRefused};
 ghost use Rattle.ram_medium.specs.Control.{WearRule, with_armed_cut};
 ghost use Rattle.ram_volume.specs.Control.{KeepsMemory, FailOnDrive};
-ghost use Rattle.ram_run.specs.Drive.{OpensDrive, HasCells};
+ghost use Rattle.ram_run.specs.Drive.{OpensDrive, DriveLaws};
 ghost use Rattle.ram_run.specs.Control.{stands_after_fail};
 
 use ram_image::OpenFault;
@@ -19,24 +20,28 @@ pub trait Drive: Disc {
     /// The image.
     type Image: Image;
 
+    /// The bytes of the image, also those under cells that are not good, where they are known.
+    ghost lies_in: { Self → Option (List ℕ) };
+
     /// The drive over the disc that the image holds, with the power off. Else the image is handed back with the bytes
     /// that it had, and the reason: it has no disc's header or length, it failed, or there was no memory.
     fn open(alloc: Global, image: Self::Image) -> Result<Self, (Self::Image, OpenFault)>
         ensures { MatchResult result (λ drive. OpensDrive (Self.Image.bytes image)
-            (Self.Image.faults image) (Self.shows drive) (Self.stands drive))
+            (Self.Image.faults image) (Self.shows drive) (Self.stands drive) (lies_in drive))
             (λ refused. IsRefused (Self.Image.bytes image) (Self.Image.bytes refused.0)
             (Self.Image.faults image) (Self.Image.faults refused.0) refused.1) };
 
-    /// The image, as the drive leaves it.
+    /// The image, with the bytes in which the drive lay.
     fn into_image(self) -> Self::Image
         ensures count { Self.Image.faults result ≡ (Self.shows self).medium.world.faults }
-        ensures cells { HasCells (Self.shows self).medium.world (Self.Image.bytes result) };
+        ensures bytes { Self.Image.bytes result ≡ lies_in self };
 
     /// Makes block `block` of the medium dead, counted from 0, with the power on or off: `Done`. There is no such block:
     /// `NoBlock`, with how many there are. The image failed: `Failed`, and the power is off. What is kept in memory stays,
     /// unless the power goes off.
     fn fail(&mut self, block: u32) -> FailEnd
         ensures rule { FailOnDrive (Self.shows self.old) (Self.shows self.new) block result }
+        ensures bytes { FailBytes block (lies_in self.old) (lies_in self.new) result }
         ensures stands { (s : Standing) → Self.stands self.old s
             → Self.stands self.new (stands_after_fail s result) };
 
@@ -46,6 +51,7 @@ pub trait Drive: Disc {
         requires { 1 ≤ n }
         ensures rule { WearRule (total (Self.shows self.old).shape) (Self.shows self.old).medium
             (Self.shows self.new).medium (record { block = block; left = n }) result }
+        ensures bytes { lies_in self.new ≡ lies_in self.old }
         ensures keeps { KeepsMemory (Self.shows self.old) (Self.shows self.new) }
         ensures stands { (s : Standing) → Self.stands self.old s → Self.stands self.new s };
 
@@ -54,6 +60,9 @@ pub trait Drive: Disc {
     fn arm_cut(&mut self, n: u32, fate: Fate)
         requires { 1 ≤ n }
         ensures rule { (Self.shows self.new).medium ≡ with_armed_cut n fate (Self.shows self.old).medium }
+        ensures bytes { lies_in self.new ≡ lies_in self.old }
         ensures keeps { KeepsMemory (Self.shows self.old) (Self.shows self.new) }
         ensures stands { (s : Standing) → Self.stands self.old s → Self.stands self.new s };
+
+    ghost drive_laws: { DriveLaws Self.shows lies_in };
 }

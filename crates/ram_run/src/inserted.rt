@@ -37,7 +37,7 @@ impl<D: Drive> Inserted<D> {
     /// The image, as it is left.
     pub fn into_image(self) -> D::Image
         ensures count { D.Image.faults result ≡ faults_of D.Sectors D.Image.Image self }
-        ensures left { (s : State) → Stands D.Sectors D.Image.Image self s
+        ensures left { (s : State) → Stands D.Sectors D.lies_in D.Image.Image self s
             → LeavesImage s (D.Image.bytes result) }
     {
         match self {
@@ -57,9 +57,9 @@ impl<D: Drive> Inserted<D> {
     ) -> Result<Reply, Stopped>
         requires uses { CountsUses line }
         requires room { PAYLOAD_ROOM ≤ vec_capacity data_in.old }
-        ensures step { (s : State) → Stands D.Sectors D.Image.Image self.old s
+        ensures step { (s : State) → Stands D.Sectors D.lies_in D.Image.Image self.old s
             → IsAnswered s line payload.now data_in.new.items
-            (Stands D.Sectors D.Image.Image self.new) result }
+            (Stands D.Sectors D.lies_in D.Image.Image self.new) result }
         ensures printable { PrintsWhere result }
         ensures count { LineCount (faults_of D.Sectors D.Image.Image self.old)
             (faults_of D.Sectors D.Image.Image self.new) result }
@@ -142,7 +142,7 @@ fn command_outcome(cdb: Cdb, answer: Answer) -> Result<Reply, Stopped>
 pub fn insert<D: Drive>(alloc: Global, image: D::Image) -> Result<Target<D>, (D::Image, OpenFault)>
     ensures { MatchResult result
         (λ target. IsInsertedTarget (D.Image.bytes image) (D.Image.faults image)
-        (D.shows target.disc) (D.stands target.disc) target.host)
+        (D.shows target.disc) (D.stands target.disc) (D.lies_in target.disc) target.host)
         (λ refused. IsRefused (D.Image.bytes image) (D.Image.bytes refused.0)
         (D.Image.faults image) (D.Image.faults refused.0) refused.1) }
 {
@@ -161,9 +161,9 @@ fn press_disc<D: Drive>(
     inserted: Inserted<D>,
     wanted: (Global, u32, u32, u32),
 ) -> (Inserted<D>, Result<Reply, Stopped>)
-    ensures step { (s : State) → Stands D.Sectors D.Image.Image inserted s
+    ensures step { (s : State) → Stands D.Sectors D.lies_in D.Image.Image inserted s
         → IsPressAnswered s (shape_of wanted.1 wanted.2 wanted.3)
-        (Stands D.Sectors D.Image.Image result.0) result.1 }
+        (Stands D.Sectors D.lies_in D.Image.Image result.0) result.1 }
     ensures printable { PrintsWhere result.1 }
     ensures count { LineCount (faults_of D.Sectors D.Image.Image inserted)
         (faults_of D.Sectors D.Image.Image result.0) result.1 }

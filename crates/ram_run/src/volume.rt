@@ -1,5 +1,9 @@
 //! The drive that a run works on: a volume over the medium in an image.
 
+ghost use Rattle.ram_image.specs.Medium.{bytes_in};
+ghost use Rattle.ram_volume.specs.Drives.{shown_by, medium_by};
+ghost use Rattle.ram_run.specs.Lying.{has_cells, shown_medium};
+
 use crate::drive::Drive;
 use ram_image::{ImageMedium, OpenFault, open};
 use ram_medium::{Arm, FailEnd, Fate};
@@ -9,6 +13,8 @@ use std::alloc::Global;
 
 impl<I: Image> Drive for Volume<ImageMedium<I>> {
     type Image = I;
+
+    ghost lies_in = { λ volume. bytes_in (medium_by volume) };
 
     fn open(alloc: Global, image: I) -> Result<Self, (I, OpenFault)> {
         match open(alloc, image) {
@@ -32,4 +38,8 @@ impl<I: Image> Drive for Volume<ImageMedium<I>> {
     fn arm_cut(&mut self, n: u32, fate: Fate) {
         self.arm_cut(n, fate);
     }
+
+    ghost drive_laws = { record {
+      has_cells = λ volume. has_cells (medium_by volume) (shown_by volume).medium (shown_medium volume);
+    } };
 }

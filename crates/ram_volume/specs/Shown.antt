@@ -48,3 +48,9 @@ module _ {M : Type 0} {c : ControlGhosts M} {d : Ghosts M} where
   shown_state (states.Off off) = shown_off off
   shown_state (states.Ready ready) = shown_ready ready
   shown_state (states.NotFormatted bare) = shown_bare bare
+
+  -- the medium under each state
+  abbrev pub medium_under : State M c d → M
+  medium_under (states.Off off) = off.medium
+  medium_under (states.Ready ready) = ready.medium
+  medium_under (states.NotFormatted bare) = bare.medium

@@ -5,9 +5,9 @@ ghost use Rattle.std.specs.Prelude.{◌≡◌, ◌≤◌};
 ghost use Rattle.model_geometry.specs.Geometry.{total};
 ghost use Rattle.model_sectors.specs.Discs.{Standing};
 ghost use Rattle.model_drive.specs.Shown.{StandsFor};
-ghost use Rattle.ram_medium.specs.Control.{WearRule, with_armed_cut};
+ghost use Rattle.ram_medium.specs.Control.{Fails, Arms, WearRule, with_armed_cut};
 ghost use Rattle.ram_volume.specs.Control.{KeepsMemory, FailOnDrive, FailStands};
-ghost use Rattle.ram_volume.specs.Shown.{shown_off, shown_bare, shown_ready, shown_state};
+ghost use Rattle.ram_volume.specs.Shown.{shown_off, shown_bare, shown_ready, shown_state, medium_under};
 
 use crate::states::{NotFormatted, PoweredOff, Ready, State};
 use ram_medium::{Arm, FailEnd, Fate, MediumControl};
@@ -18,6 +18,7 @@ impl<M: MediumControl> PoweredOff<M> {
     /// project's own, as all here.)
     pub fn fail(&mut self, block: u32) -> FailEnd
         ensures rule { FailOnDrive (shown_off self.old) (shown_off self.new) block result }
+        ensures told { M.was_told self.old.medium self.new.medium (Fails block result) }
         ensures stands { (s : Standing) → StandsFor (shown_off self.old) s
             → FailStands (shown_off self.new) s result }
     {
@@ -34,6 +35,7 @@ impl<M: MediumControl> PoweredOff<M> {
         requires { 1 ≤ n }
         ensures rule { WearRule (total (shown_off self.old).shape) (shown_off self.old).medium
             (shown_off self.new).medium (record { block = block; left = n }) result }
+        ensures told { M.was_told self.old.medium self.new.medium Arms }
         ensures keeps { KeepsMemory (shown_off self.old) (shown_off self.new) }
         ensures stands { (s : Standing) → StandsFor (shown_off self.old) s
             → StandsFor (shown_off self.new) s }
@@ -46,6 +48,7 @@ impl<M: MediumControl> PoweredOff<M> {
     pub fn arm_cut(&mut self, n: u32, fate: Fate)
         requires { 1 ≤ n }
         ensures rule { (shown_off self.new).medium ≡ with_armed_cut n fate (shown_off self.old).medium }
+        ensures told { M.was_told self.old.medium self.new.medium Arms }
         ensures keeps { KeepsMemory (shown_off self.old) (shown_off self.new) }
         ensures stands { (s : Standing) → StandsFor (shown_off self.old) s
             → StandsFor (shown_off self.new) s }
@@ -60,6 +63,7 @@ impl<M: MediumControl> Ready<M> {
     /// `Failed`; then the power is off. It is no use of the medium.
     pub fn fail(mut self, block: u32) -> (State<M>, FailEnd)
         ensures rule { FailOnDrive (shown_ready self) (shown_state result.0) block result.1 }
+        ensures told { M.was_told self.medium (medium_under result.0) (Fails block result.1) }
         ensures stands { (s : Standing) → StandsFor (shown_ready self) s
             → FailStands (shown_state result.0) s result.1 }
     {
@@ -84,6 +88,7 @@ impl<M: MediumControl> Ready<M> {
         requires { 1 ≤ n }
         ensures rule { WearRule (total (shown_ready self.old).shape) (shown_ready self.old).medium
             (shown_ready self.new).medium (record { block = block; left = n }) result }
+        ensures told { M.was_told self.old.medium self.new.medium Arms }
         ensures keeps { KeepsMemory (shown_ready self.old) (shown_ready self.new) }
         ensures stands { (s : Standing) → StandsFor (shown_ready self.old) s
             → StandsFor (shown_ready self.new) s }
@@ -96,6 +101,7 @@ impl<M: MediumControl> Ready<M> {
     pub fn arm_cut(&mut self, n: u32, fate: Fate)
         requires { 1 ≤ n }
         ensures rule { (shown_ready self.new).medium ≡ with_armed_cut n fate (shown_ready self.old).medium }
+        ensures told { M.was_told self.old.medium self.new.medium Arms }
         ensures keeps { KeepsMemory (shown_ready self.old) (shown_ready self.new) }
         ensures stands { (s : Standing) → StandsFor (shown_ready self.old) s
             → StandsFor (shown_ready self.new) s }
@@ -110,6 +116,7 @@ impl<M: MediumControl> NotFormatted<M> {
     /// of the medium.
     pub fn fail(mut self, block: u32) -> (State<M>, FailEnd)
         ensures rule { FailOnDrive (shown_bare self) (shown_state result.0) block result.1 }
+        ensures told { M.was_told self.medium (medium_under result.0) (Fails block result.1) }
         ensures stands { (s : Standing) → StandsFor (shown_bare self) s
             → FailStands (shown_state result.0) s result.1 }
     {
@@ -137,6 +144,7 @@ impl<M: MediumControl> NotFormatted<M> {
         requires { 1 ≤ n }
         ensures rule { WearRule (total (shown_bare self.old).shape) (shown_bare self.old).medium
             (shown_bare self.new).medium (record { block = block; left = n }) result }
+        ensures told { M.was_told self.old.medium self.new.medium Arms }
         ensures keeps { KeepsMemory (shown_bare self.old) (shown_bare self.new) }
         ensures stands { (s : Standing) → StandsFor (shown_bare self.old) s
             → StandsFor (shown_bare self.new) s }
@@ -149,6 +157,7 @@ impl<M: MediumControl> NotFormatted<M> {
     pub fn arm_cut(&mut self, n: u32, fate: Fate)
         requires { 1 ≤ n }
         ensures rule { (shown_bare self.new).medium ≡ with_armed_cut n fate (shown_bare self.old).medium }
+        ensures told { M.was_told self.old.medium self.new.medium Arms }
         ensures keeps { KeepsMemory (shown_bare self.old) (shown_bare self.new) }
         ensures stands { (s : Standing) → StandsFor (shown_bare self.old) s
             → StandsFor (shown_bare self.new) s }
@@ -162,6 +171,7 @@ impl<M: MediumControl> NotFormatted<M> {
 /// is off. It is no use of the medium.
 pub fn fail_state<M: MediumControl>(state: State<M>, block: u32) -> (State<M>, FailEnd)
     ensures rule { FailOnDrive (shown_state state) (shown_state result.0) block result.1 }
+    ensures told { M.was_told (medium_under state) (medium_under result.0) (Fails block result.1) }
     ensures stands { (s : Standing) → StandsFor (shown_state state) s
         → FailStands (shown_state result.0) s result.1 }
 {
@@ -182,6 +192,7 @@ impl<M: MediumControl> State<M> {
         requires { 1 ≤ n }
         ensures rule { WearRule (total (shown_state self.old).shape) (shown_state self.old).medium
             (shown_state self.new).medium (record { block = block; left = n }) result }
+        ensures told { M.was_told (medium_under self.old) (medium_under self.new) Arms }
         ensures keeps { KeepsMemory (shown_state self.old) (shown_state self.new) }
         ensures stands { (s : Standing) → StandsFor (shown_state self.old) s
             → StandsFor (shown_state self.new) s }
@@ -198,6 +209,7 @@ impl<M: MediumControl> State<M> {
     pub fn arm_cut(&mut self, n: u32, fate: Fate)
         requires { 1 ≤ n }
         ensures rule { (shown_state self.new).medium ≡ with_armed_cut n fate (shown_state self.old).medium }
+        ensures told { M.was_told (medium_under self.old) (medium_under self.new) Arms }
         ensures keeps { KeepsMemory (shown_state self.old) (shown_state self.new) }
         ensures stands { (s : Standing) → StandsFor (shown_state self.old) s
             → StandsFor (shown_state self.new) s }

@@ -105,7 +105,8 @@ impl<M: MediumControl> PoweredOff<M> {
     pub fn new(medium: M, geometry: Geometry) -> PoweredOff<M>
         requires size { M.block_count medium ≡ total geometry }
         requires off { ¬ IsTrue (M.world medium).power }
-        ensures { shown_off result ≡ shown_without geometry (machine_shown M.world M.arms M.armed_cut medium) }
+        ensures shown { shown_off result ≡ shown_without geometry (machine_shown M.world M.arms M.armed_cut medium) }
+        ensures medium { result.medium ≡ medium }
     {
         PoweredOff { medium, geometry }
     }

@@ -33,16 +33,17 @@ impl<M: MediumControl> Volume<M> {
     ghost use Rattle.model_sectors.specs.Discs.{Standing};
     ghost use Rattle.model_drive.specs.Shown.{StandsFor};
     ghost use Rattle.ram_medium.specs.Laws.{machine_shown};
-    ghost use Rattle.ram_medium.specs.Control.{WearRule, with_armed_cut};
+    ghost use Rattle.ram_medium.specs.Control.{Fails, Arms, WearRule, with_armed_cut};
     ghost use Rattle.ram_volume.specs.Shown.{shown_without};
-    ghost use Rattle.ram_volume.specs.Drives.{shown_by};
+    ghost use Rattle.ram_volume.specs.Drives.{shown_by, medium_by};
     ghost use Rattle.ram_volume.specs.Control.{FailOnDrive, FailStands, KeepsMemory};
 
     /// A drive of this geometry over its medium, with its power off.
     pub fn new(medium: M, geometry: Geometry) -> Volume<M>
         requires size { M.block_count medium ≡ total geometry }
         requires off { ¬ IsTrue (M.world medium).power }
-        ensures { shown_by result ≡ shown_without geometry (machine_shown M.world M.arms M.armed_cut medium) }
+        ensures shown { shown_by result ≡ shown_without geometry (machine_shown M.world M.arms M.armed_cut medium) }
+        ensures medium { medium_by result ≡ medium }
     {
         Volume {
             state: Some(State::Off(PoweredOff::new(medium, geometry))),
@@ -53,6 +54,7 @@ impl<M: MediumControl> Volume<M> {
     /// lies on failed, the power is off, nothing is kept in memory, and the disc is a candidate.
     pub fn fail(&mut self, block: u32) -> FailEnd
         ensures rule { FailOnDrive (shown_by self.old) (shown_by self.new) block result }
+        ensures told { M.was_told (medium_by self.old) (medium_by self.new) (Fails block result) }
         ensures stands { (s : Standing) → StandsFor (shown_by self.old) s → FailStands (shown_by self.new) s result }
     {
         let state = take_out(&mut self.state);
@@ -66,6 +68,7 @@ impl<M: MediumControl> Volume<M> {
         requires { 1 ≤ n }
         ensures rule { WearRule (total (shown_by self.old).shape) (shown_by self.old).medium (shown_by self.new).medium
             (record { block = block; left = n }) result }
+        ensures told { M.was_told (medium_by self.old) (medium_by self.new) Arms }
         ensures keeps { KeepsMemory (shown_by self.old) (shown_by self.new) }
         ensures stands { (s : Standing) → StandsFor (shown_by self.old) s → StandsFor (shown_by self.new) s }
     {
@@ -79,6 +82,7 @@ impl<M: MediumControl> Volume<M> {
     pub fn arm_cut(&mut self, n: u32, fate: Fate)
         requires { 1 ≤ n }
         ensures rule { (shown_by self.new).medium ≡ with_armed_cut n fate (shown_by self.old).medium }
+        ensures told { M.was_told (medium_by self.old) (medium_by self.new) Arms }
         ensures keeps { KeepsMemory (shown_by self.old) (shown_by self.new) }
         ensures stands { (s : Standing) → StandsFor (shown_by self.old) s → StandsFor (shown_by self.new) s }
     {
@@ -89,7 +93,8 @@ impl<M: MediumControl> Volume<M> {
 
     /// The medium, as the drive leaves it.
     pub fn into_medium(self) -> M
-        ensures { machine_shown M.world M.arms M.armed_cut result ≡ (shown_by self).medium }
+        ensures medium { result ≡ medium_by self }
+        ensures machine { machine_shown M.world M.arms M.armed_cut result ≡ (shown_by self).medium }
     {
         let Volume { state } = self;
         match state {

@@ -13,7 +13,7 @@ pub returns-in-Err-clause-ends : goal.returns-in-Err-clause-ends
 returns-in-Err-clause-ends g c first b =
     let now = c.loop-stopped.invariant.between first b in
     let stops = c.in-Err.ensures.next first now.far now.at in
-    ends_between first (Stands g.D.Sectors g.D.Image.Image c.loop-stopped.inserted) now.far (run_view g.S.Source g.K.Sink c.take_line.new.dialogue c.take_line.new.state.tally) c.in-Err.stopped now.stands_now stops.0 stops.1
+    ends_between first (Stands g.D.Sectors g.D.Drive.lies_in g.D.Image.Image c.loop-stopped.inserted) now.far (run_view g.S.Source g.K.Sink c.take_line.new.dialogue c.take_line.new.state.tally) c.in-Err.stopped now.stands_now stops.0 stops.1
 
 pub returns-in-Err-clause-counts : goal.returns-in-Err-clause-counts
 returns-in-Err-clause-counts g c =
