@@ -1,0 +1,42 @@
+//! Steps that update no list, one after another.
+
+ghost use Rattle.std.specs.Prelude.{◌≡◌, ℕ, ◌<◌, length};
+ghost use Rattle.model_geometry.specs.Geometry.{total};
+ghost use Rattle.model_places.specs.Valid.{AreValid};
+ghost use Rattle.ram_lists.specs.Lists.{lists_of};
+ghost use Rattle.ram_quiet.specs.Steps.{IsLawfulStep, step_at, FollowsAll, GivesAlone, TellsAlone};
+
+use crate::steps::{Quiet, mount_again, take_step};
+use ram_bytes::Block;
+use ram_copies::Scratch;
+use ram_lists::{Lists, Mounted};
+use ram_medium::MediumControl;
+use ram_zones::Geometry;
+use std::alloc::Global;
+
+/// Makes the steps in their order, and mounts the disc once more. No answer of a step ends them. `lists` are the only ones that
+/// the disc gives: then they still are, and a mount that finds lists finds these.
+pub fn quiet<M: MediumControl>(
+    alloc: Global,
+    medium: &mut M,
+    geometry: &Geometry,
+    lists: &Lists,
+    steps: &[Quiet],
+    room: &mut Block,
+    scratch: &mut Scratch,
+) -> Mounted
+    requires size { M.block_count medium.old ≡ total geometry.now }
+    requires lawful { (k : ℕ) → k < length steps.now → IsLawfulStep geometry.now (step_at steps.now k) }
+    requires valid { AreValid geometry.now (lists_of lists.now) }
+    requires alone { GivesAlone geometry.now (M.world medium.old).cells (lists_of lists.now) }
+    ensures follows { FollowsAll M.world M.reaches M.takes M.arms M.armed_cut geometry.now steps.now
+        medium.old room.old medium.new room.new result }
+    ensures alone { GivesAlone geometry.now (M.world medium.new).cells (lists_of lists.now) }
+    ensures answer { TellsAlone (M.world medium.new) (lists_of lists.now) result }
+    ensures as_many { M.block_count medium.new ≡ M.block_count medium.old }
+{
+    for k in 0..steps.len() {
+        take_step(alloc, medium, geometry, steps[k], room, scratch);
+    }
+    mount_again(alloc, medium, geometry, scratch)
+}
