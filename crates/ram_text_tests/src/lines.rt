@@ -1,5 +1,6 @@
 //! Rows on the lines that a source gives.
 ghost use Rattle.std.specs.Prelude.{◌≡◌, []};
+ghost use Rattle.ram_text.specs.Reports.{gathered_in};
 
 use crate::escapes::{add_bytes, bytes_of};
 use crate::made::Made;
@@ -108,7 +109,7 @@ fn add_step<S: Source>(
     report: &ReportWriter,
     answer: &mut String,
 ) -> Result<bool, AllocError>
-    requires { report.now ≡ [] }
+    requires { gathered_in report.now ≡ [] }
 {
     let has_line = reader.has_line();
     let next = reader.next_line(source, report);
