@@ -1,7 +1,7 @@
 -- A header is that of one geometry.
 use Rattle.std.specs.Prelude.{◌≡◌, ℕ, ◌/◌, ◌%◌, ◌<◌, List, slice_index}
 use Rattle.std.proofs.Common.{arith, refl, sym, ap, ◌∙◌}
-use Rattle.model_geometry.specs.Geometry.{Layout, OneGroup, Shape, IsLawful}
+use Rattle.model_geometry.specs.Geometry.{LayoutKind, OneGroup, Shape, IsLawful}
 use Rattle.model_image.specs.Image.{header_of, HasHeader}
 
 -- a number below 65,536 by its two bytes
@@ -9,15 +9,15 @@ two_bytes : (m n : ℕ) → m < 65536 → n < 65536 → m / 256 % 256 ≡ n / 25
 two_bytes m n p q high low = omega arith
 
 -- a layout is of the one kind
-one_layout : (a b : Layout) → a ≡ b
-one_layout OneGroup OneGroup = refl
+one_kind : (a b : LayoutKind) → a ≡ b
+one_kind OneGroup OneGroup = refl
 
 pub same_shape : (a b : Shape) → IsLawful a → IsLawful b → header_of a ≡ header_of b → a ≡ b
 same_shape a b p q same =
     ap (λ (z : ℕ). record a { zones = z }) zones
     ∙ ap (λ (k : ℕ). record a { zones = b.zones; scale = k }) scale
     ∙ ap (λ (s : ℕ). record a { zones = b.zones; scale = b.scale; psa = s }) spares
-    ∙ ap (λ (l : Layout). record b { layout = l }) (one_layout a.layout b.layout)
+    ∙ ap (λ (l : LayoutKind). record b { layout = l }) (one_kind a.layout b.layout)
   where
     at : (k : ℕ) → slice_index (header_of a) k ≡ slice_index (header_of b) k
     at k = ap (λ l. slice_index l k) same
