@@ -10,3 +10,8 @@ pub record SectorsLaws {D : Type 0} (shows : D → Shown) (stands : D → Standi
   pub as_shown : (drive : D) (s : Standing) → stands drive s ↔ StandsFor (shows drive) s
   pub some : (drive : D) → IsKnown (shows drive) → ¬ ((s : Standing) → ¬ stands drive s)
   pub sound : (drive : D) → IsSound (shows drive)
+
+-- What holds of `underwent`: nothing happened to a drive that is as it was, and one thing after another happened too.
+pub record UnderwentLaws {D : Type 0} (underwent : D → D → Type 0) : Type 0 where
+  pub none : (drive : D) → underwent drive drive
+  pub adds_up : (a b c : D) → underwent a b → underwent b c → underwent a c
