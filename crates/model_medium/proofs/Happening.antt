@@ -1,5 +1,5 @@
 -- Events of a medium, one list after another.
-use Rattle.std.specs.Prelude.{◌≡◌, ℕ, List, [], ◌∷◌, ◌++◌}
+use Rattle.std.specs.Prelude.{List, [], ◌∷◌, ◌++◌}
 use Rattle.std.proofs.Common.{refl, subst, sym}
 use Rattle.model_medium.specs.World.{Span, ReadContinues, WriteContinues}
 use Rattle.model_medium.specs.Machine.{Machine}

@@ -1,5 +1,5 @@
 -- The data under a block stay where no event writes the block.
-use Rattle.std.specs.Prelude.{◌≡◌, ◌≢◌, ℕ, ◌+◌, ◌*◌, ◌<◌, ◌≤◌, ◌⊎◌, ◌==◌, Bool, true, false, if◌then◌else◌, Option, Some, None, List, [], ◌∷◌, length, slice_index}
+use Rattle.std.specs.Prelude.{◌≡◌, ◌≢◌, ℕ, ◌+◌, ◌<◌, ◌≤◌, ◌==◌, Bool, true, false, if◌then◌else◌, Option, Some, None, List, [], ◌∷◌, length, slice_index}
 use Rattle.std.proofs.Common.{arith, refl, sym, ap, ◌∙◌, inl, inr, subst}
 use Rattle.std.proofs.lemmas.Bool.{cases_lt}
 use Rattle.model_bytes.specs.Bytes.{put_at}
@@ -7,7 +7,7 @@ use Rattle.model_bytes.specs.Known.{WhereKnown}
 use Rattle.model_bytes.proofs.Laws.{length-put_at, get_or-put_at-below, get_or-put_at-past}
 use Rattle.model_medium.specs.Machine.{Machine, is_killed, fate_due}
 use Rattle.model_medium.specs.Exact.{Event, Read, Write, PowerOn, PowerOff}
-use Rattle.model_medium.specs.Happened.{IsEventOf, Happens}
+use Rattle.model_medium.specs.Happened.{Happens}
 use Rattle.model_medium.specs.declared.Fate.{Fate}
 use Rattle.model_medium.specs.declared.Fate.TheVariants as fates
 use Rattle.model_medium.specs.declared.ReadEnd.{ReadEnd}
@@ -15,9 +15,9 @@ use Rattle.model_medium.specs.declared.ReadEnd.TheVariants as reads
 use Rattle.model_medium.specs.declared.WriteEnd.{WriteEnd}
 use Rattle.model_medium.specs.declared.WriteEnd.TheVariants as writes
 use Rattle.model_image.specs.Cells.{state_place, data_place, data_in, image_len}
-use Rattle.model_image.specs.Writes.{with_state, dead_state, torn_state, good_state, worn_bytes, bytes_by, bytes_left, StopsInBytes, IsBeforeOrAfter}
+use Rattle.model_image.specs.Writes.{with_state, dead_state, torn_state, good_state, worn_bytes, bytes_by, bytes_left, StopsInBytes}
 use Rattle.model_image.proofs.Changes.{same_part}
-use Rattle.ram_image.specs.EventBytes.{BytesAt, ReadBytes, WriteBytes, WearsBytes, LeavesBytes, MayWearBytes, MayLeaveBytes}
+use Rattle.ram_image.specs.EventBytes.{ReadBytes, WriteBytes, WearsBytes, LeavesBytes, MayWearBytes, MayLeaveBytes}
 use Rattle.ram_run.specs.Underwent.{InImage, DoesInImage, UnderwentEvents, WritesNone}
 
 module _ (total block : ℕ) (inside : block < total) where

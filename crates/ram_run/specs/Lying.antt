@@ -3,7 +3,7 @@
 -- as all here.)
 use Rattle.std.specs.Prelude.{◌≡◌, ℕ, false, Option, None, Some, is_some, IsSome, MatchOption, List, [], ◌∷◌}
 use Rattle.std.specs.Option.{ForSome}
-use Rattle.std.proofs.Common.{refl, sym, ap, ◌∙◌, subst}
+use Rattle.std.proofs.Common.{refl, ap, ◌∙◌, subst}
 use Rattle.std.proofs.lemmas.Bool.{false≢true}
 use Rattle.model_geometry.specs.Geometry.{Shape, label_of, total}
 use Rattle.model_geometry.proofs.OneShape.{one_shape}

@@ -1,5 +1,5 @@
 -- Nothing but events happened to the medium of a drive, whatever a call of it came to.
-use Rattle.std.specs.Prelude.{◌≡◌, ℕ, IsTrue, Option, Some, None, Result, Ok, Err, List}
+use Rattle.std.specs.Prelude.{ℕ, IsTrue, Option, Some, None, Ok, List}
 use Rattle.std.proofs.Common.{inl, inr, sym, subst}
 use Rattle.model_geometry.specs.Geometry.{Shape}
 use Rattle.model_medium.specs.World.{World, Span}
@@ -8,7 +8,7 @@ use Rattle.model_medium.specs.Happened.{Happened}
 use Rattle.model_medium.proofs.Happening.{happened_one, happened_then}
 use Rattle.model_stops.specs.Stops.{Continues, Stops}
 use Rattle.model_stops.specs.declared.Stop.{Stop}
-use Rattle.model_places.specs.Places.{Lists, home_of}
+use Rattle.model_places.specs.Places.{Lists}
 use Rattle.ram_medium.proofs.Parts.{nothing_happened, part_happened, stop_happened}
 use Rattle.ram_volume.specs.Reading.{PartsEnd}
 use Rattle.ram_volume.specs.Verifying.{HomesEnd}
