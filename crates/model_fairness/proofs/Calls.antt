@@ -18,7 +18,8 @@ use Rattle.model_sectors.specs.Requests.{block_with}
 use Rattle.std.specs.Option.{option_map_or}
 use Rattle.std.specs.List.{Contains}
 use Rattle.model_lists.specs.Values.{defectives}
-use Rattle.model_places.specs.Places.{Lists, spares, replacements}
+use Rattle.model_pools.specs.Listed.{replacements}
+use Rattle.model_places.specs.Places.{Lists, spares}
 use Rattle.model_places.proofs.Free.{Contains-free_spares}
 use Rattle.model_volume.proofs.ValidDecided.{contains_decided}
 use Rattle.model_volume.proofs.Validity.{defective_member}

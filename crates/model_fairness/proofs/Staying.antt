@@ -8,8 +8,9 @@ use Rattle.model_geometry.specs.Geometry.{Shape}
 use Rattle.model_lists.specs.declared.sdl.SdlEntry.{SdlEntry}
 use Rattle.model_lists.specs.Values.{with_entry, pair, retired}
 use Rattle.model_medium.specs.Cells.{Cell, Dead, cell_at}
-use Rattle.model_places.specs.Places.{Lists, is_listed, unreplaced, logical_block, home_of, free_spares, spares}
-use Rattle.model_places.proofs.Homes.{Contains-first, Contains-later}
+use Rattle.model_pools.specs.Listed.{is_listed}
+use Rattle.model_places.specs.Places.{Lists, unreplaced, logical_block, home_of, free_spares, spares}
+use Rattle.model_pools.proofs.Replacements.{Contains-first, Contains-later}
 use Rattle.model_volume.specs.Moves.{with_retired, former, tried_of, lists_moved}
 use Rattle.model_volume.specs.Expansions.{entry_expanded, lists_expanded}
 use Rattle.model_volume.proofs.Validity.{put_members}

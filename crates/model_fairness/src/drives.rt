@@ -3,7 +3,8 @@
 
 ghost use Rattle.std.specs.Prelude.{◌≡◌, ℕ, Some, None, List};
 ghost use Rattle.std.specs.List.{Contains};
-ghost use Rattle.model_places.specs.Places.{Lists, spares, replacements};
+ghost use Rattle.model_pools.specs.Listed.{replacements};
+ghost use Rattle.model_places.specs.Places.{Lists, spares};
 ghost use Rattle.model_geometry.specs.Geometry.{Shape};
 ghost use Rattle.model_medium.specs.Cells.{Cell, Dead, cell_at};
 ghost use Rattle.model_sectors.specs.declared.ReadOut.{ReadOut};

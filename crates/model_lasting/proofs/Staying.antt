@@ -2,7 +2,7 @@
 use Rattle.std.specs.Prelude.{◌≡◌, ℕ, ◌+◌, ◌-◌, ◌*◌, ◌⊎◌, false, Option, Some, None, List, [], ◌∷◌, length}
 use Rattle.std.specs.Option.{option_map_or}
 use Rattle.std.specs.List.{Contains}
-use Rattle.model_places.proofs.Homes.{Contains-first, Contains-later}
+use Rattle.model_pools.proofs.Replacements.{Contains-first, Contains-later}
 use Rattle.std.proofs.Common.{refl, sym, ap, ◌∙◌, inl, inr, subst}
 use Rattle.model_geometry.specs.Geometry.{Shape, data_blocks, dds_block, sdl_block, sdl_second_block}
 use Rattle.model_stops.specs.declared.Stop.{Stop}

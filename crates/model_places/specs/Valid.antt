@@ -7,7 +7,8 @@ use Rattle.model_lists.specs.declared.dds.DdsState.TheVariants.{Formatted}
 use Rattle.model_lists.specs.declared.sdl.SdlEntry.{SdlEntry}
 use Rattle.model_lists.specs.declared.versions.Version.{Version}
 use Rattle.model_lists.specs.Values.{Dds, most_of, defectives}
-use Rattle.model_places.specs.Places.{Lists, AreListed, slipped, unslipped, logical_blocks, spares, replacements}
+use Rattle.model_pools.specs.Listed.{AreListed, replacements}
+use Rattle.model_places.specs.Places.{Lists, slipped, unslipped, logical_blocks, spares}
 
 -- A primary defect list is valid for a geometry: its structure names the geometry's primary spares, and its blocks
 -- are data blocks that rise, no more than those spares. (This project's own.)

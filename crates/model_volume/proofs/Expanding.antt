@@ -14,10 +14,11 @@ use Rattle.model_lists.specs.Texts.{IsDdsText}
 use Rattle.model_medium.specs.Cells.{Cell, cell_at}
 use Rattle.model_copies.specs.Copies.{Settled}
 use Rattle.model_copies.specs.Parts.{SdlIsBetween}
-use Rattle.model_places.specs.Places.{Lists, unreplaced, is_listed, unslipped, logical_block, logical_blocks, logical_count, primary_count, primary_spares, supplementary_spares, spares, home_of}
+use Rattle.model_pools.specs.Listed.{is_listed}
+use Rattle.model_places.specs.Places.{Lists, unreplaced, unslipped, logical_block, logical_blocks, logical_count, primary_count, primary_spares, supplementary_spares, spares, home_of}
 use Rattle.model_places.specs.Valid.{IsValidPdl, IsValidSsa, AreValid}
-use Rattle.model_places.proofs.Homes.{Contains-first, Contains-later}
-use Rattle.model_places.proofs.Listed.{Decides-is_listed}
+use Rattle.model_pools.proofs.Replacements.{Contains-first, Contains-later}
+use Rattle.model_pools.proofs.Listed.{Decides-is_listed}
 use Rattle.model_places.proofs.Pools.{logical_is_no_spare, Contains-logical_block}
 use Rattle.model_sectors.specs.Discs.{Agrees, block_of}
 use Rattle.model_volume.specs.Given.{OnlyLists}

@@ -16,7 +16,7 @@ use Rattle.model_copies.specs.Parts.{HasSdlParts, HasSdlCopy}
 use Rattle.model_copies.proofs.SdlParts.{one_sdl, sdl_two_decided}
 use Rattle.model_places.specs.Places.{Lists}
 use Rattle.model_places.specs.Valid.{AreValid}
-use Rattle.model_places.proofs.Homes.{Contains-first, Contains-later}
+use Rattle.model_pools.proofs.Replacements.{Contains-first, Contains-later}
 use Rattle.model_volume.specs.Given.{SomeWholePair, IsGiven}
 use Rattle.model_volume.specs.Starts.{Found, IsFound, Precedes, InOrder, disc_under, IsDiscStart}
 use Rattle.model_volume.proofs.DdsDecided.{dds_text_decided}

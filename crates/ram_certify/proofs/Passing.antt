@@ -12,7 +12,7 @@ use Rattle.model_geometry.proofs.DataBlocks.{data_blocks_rise}
 use Rattle.model_lists.specs.declared.dds.PdlEntry.{PdlEntry}
 use Rattle.model_lists.specs.declared.dds.PdlKind.TheVariants as kinds
 use Rattle.model_lists.specs.Values.{pdl_blocks}
-use Rattle.model_places.proofs.Listed.{same_index}
+use Rattle.model_pools.proofs.Listed.{same_index}
 use Rattle.model_formats.specs.Defects.{AreKept, IsCertified}
 use Rattle.ram_certify.specs.Blocks.{IsReached, ArePassed, IsNextKept}
 

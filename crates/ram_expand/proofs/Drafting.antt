@@ -5,7 +5,8 @@ use Rattle.std.proofs.lemmas.Bool.{cases_Bool, cond-true, cond-false}
 use Rattle.model_geometry.specs.Geometry.{Shape}
 use Rattle.model_lists.specs.declared.sdl.SdlEntry.{SdlEntry}
 use Rattle.model_lists.specs.Values.{Dds, Sdl, defectives, with_entry, retired}
-use Rattle.model_places.specs.Places.{Lists, unreplaced, is_listed, spares}
+use Rattle.model_pools.specs.Listed.{is_listed}
+use Rattle.model_places.specs.Places.{Lists, unreplaced, spares}
 use Rattle.model_volume.specs.Expansions.{entry_expanded, lists_expanded}
 use Rattle.ram_sdl.proofs.Gaps.{defective_at, set_there}
 

@@ -11,7 +11,7 @@ use Rattle.model_lists.specs.declared.sdl.SdlEntry.{SdlEntry}
 use Rattle.model_lists.specs.Values.{pdl_blocks, defectives}
 use Rattle.model_places.specs.Places.{Lists, slipped, unslipped}
 use Rattle.model_places.specs.Valid.{AreValid}
-use Rattle.model_places.proofs.Listed.{one_listed}
+use Rattle.model_pools.proofs.Listed.{one_listed}
 use Rattle.model_places.proofs.Pools.{unslipped_are_data}
 use Rattle.model_formats.specs.Defects.{IsKept, kept_count, AreKept}
 use Rattle.ram_slip.proofs.OnePlace.{not_slipped}

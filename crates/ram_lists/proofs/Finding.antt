@@ -9,7 +9,8 @@ use Rattle.std.proofs.lemmas.List.Kept.{AllPairs-from_increasing}
 use Rattle.model_geometry.specs.Geometry.{Shape}
 use Rattle.model_lists.specs.declared.sdl.SdlEntry.{SdlEntry}
 use Rattle.model_lists.specs.Values.{defectives, IsEntryOf}
-use Rattle.model_places.specs.Places.{Lists, unslipped, primary_count, logical_count, logical_block, replacement_of, home_of}
+use Rattle.model_pools.specs.Listed.{replacement_of}
+use Rattle.model_places.specs.Places.{Lists, unslipped, primary_count, logical_count, logical_block, home_of}
 use Rattle.model_places.specs.Valid.{AreValid}
 use Rattle.model_places.proofs.Pools.{pools_are_all}
 

@@ -13,10 +13,11 @@ use Rattle.std.proofs.lemmas.Option.{slice_get-get_or}
 use Rattle.model_geometry.specs.Geometry.{Shape}
 use Rattle.model_lists.specs.declared.sdl.SdlEntry.{SdlEntry}
 use Rattle.model_lists.specs.Values.{defectives}
-use Rattle.model_places.specs.Places.{Lists, unslipped, spares, replacements}
+use Rattle.model_pools.specs.Listed.{replacements}
+use Rattle.model_places.specs.Places.{Lists, unslipped, spares}
 use Rattle.model_places.specs.Valid.{IsValidSsa, IsValidSdl}
-use Rattle.model_places.proofs.Listed.{All-listed, listed-All}
-use Rattle.model_places.proofs.Homes.{Contains-cons_option, Contains-cons_option_first, IsDistinct-cons_option, alone_in_cons_option}
+use Rattle.model_pools.proofs.Listed.{All-listed, listed-All}
+use Rattle.model_pools.proofs.Replacements.{Contains-cons_option, Contains-cons_option_first, IsDistinct-cons_option, alone_in_cons_option}
 use Rattle.ram_lists.specs.Entries.{MayReplace, IsEntryValid, IsNamedWithin, replacement_at}
 
 long : (entries : List SdlEntry) → length (defectives entries) ≡ length entries

@@ -12,7 +12,7 @@ use Rattle.model_lists.specs.Values.{Sdl, IsBlockNumber, HasNumbers, IsLawfulSdl
 use Rattle.model_places.specs.Places.{Lists, logical_block, logical_count, home_of, free_spares, unslipped}
 use Rattle.model_places.specs.Valid.{AreValid}
 use Rattle.model_places.proofs.Entries.{length-entries_most}
-use Rattle.model_places.proofs.Homes.{Contains-later}
+use Rattle.model_pools.proofs.Replacements.{Contains-later}
 use Rattle.model_places.proofs.Pools.{unslipped_are_data, spare_is_unslipped}
 use Rattle.model_volume.specs.Moves.{with_retired, former, lists_moved, sdl_moved, tried_of, IsNextSpare}
 use Rattle.model_volume.proofs.Different.{free_apart}

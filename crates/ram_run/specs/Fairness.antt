@@ -3,7 +3,8 @@
 use Rattle.std.specs.Prelude.{◌≡◌, ℕ, Some, List}
 use Rattle.std.specs.List.{Contains}
 use Rattle.model_medium.specs.Cells.{Dead, cell_at}
-use Rattle.model_places.specs.Places.{Lists, spares, replacements}
+use Rattle.model_pools.specs.Listed.{replacements}
+use Rattle.model_places.specs.Places.{Lists, spares}
 use Rattle.model_drive.specs.Shown.{Shown, cells_in}
 use Rattle.model_fairness.specs.Fair.{GivesUpDeadAlone}
 use Rattle.model_sense.specs.Sense.{sense_at}

@@ -5,10 +5,11 @@ use Rattle.std.proofs.lemmas.Bool.{true≢false, not-true}
 use Rattle.std.proofs.lemmas.List.Elements.{Contains-append_left, Contains-append_right}
 use Rattle.model_geometry.specs.Geometry.{Shape, data_blocks}
 use Rattle.model_lists.specs.Values.{Dds}
-use Rattle.model_places.specs.Places.{unreplaced, is_listed, slipped, unslipped, primary_count, logical_blocks, primary_spares, supplementary_spares, spares}
+use Rattle.model_pools.specs.Listed.{is_listed}
+use Rattle.model_places.specs.Places.{unreplaced, slipped, unslipped, primary_count, logical_blocks, primary_spares, supplementary_spares, spares}
 use Rattle.model_lists.specs.declared.versions.Version.{Version}
 use Rattle.model_places.specs.Valid.{IsValidPdl, IsValidSsa}
-use Rattle.model_places.proofs.Listed.{Decides-is_listed, one_listed, Contains-from_filter, StandsWithin-take, StandsWithin-drop, parts_apart}
+use Rattle.model_pools.proofs.Listed.{Decides-is_listed, one_listed, Contains-from_filter, StandsWithin-take, StandsWithin-drop, parts_apart}
 use Rattle.model_places.proofs.Pools.{unslipped_rise, unslipped_are_data, pools_are_all, Contains-logical_block, logical_block_differs, logical_is_no_spare, logical_is_unslipped, spare_is_unslipped}
 use Rattle.ram_slip.specs.declared.place.Place.{Place}
 use Rattle.ram_slip.specs.declared.place.Place.TheVariants as places

@@ -9,7 +9,7 @@ use Rattle.model_geometry.specs.Geometry.{Shape, data_blocks}
 use Rattle.model_places.specs.Places.{Lists, slipped, unslipped, primary_count, logical_count, primary_spares, supplementary_spares, logical_blocks, spares}
 use Rattle.model_lists.specs.declared.versions.Version.{Version}
 use Rattle.model_places.specs.Valid.{IsValidPdl, IsValidSsa}
-use Rattle.model_places.proofs.Listed.{same_index}
+use Rattle.model_pools.proofs.Listed.{same_index}
 use Rattle.model_places.proofs.Pools.{unslipped_rise, unslipped_are_data, pools_are_all, length-spares, Contains-logical_block, logical_is_no_spare, spare_is_unslipped}
 use Rattle.ram_slip.proofs.OnePlace.{not_slipped}
 use Rattle.ram_slip.proofs.Slips.{logical_by_place}

@@ -10,9 +10,9 @@ use Rattle.model_geometry.specs.Geometry.{Shape, data_blocks}
 use Rattle.model_geometry.proofs.DataBlocks.{Contains-slice_get}
 use Rattle.model_lists.specs.declared.dds.PdlEntry.{PdlEntry}
 use Rattle.model_lists.specs.Values.{Dds, pdl_blocks}
-use Rattle.model_places.specs.Places.{AreListed}
+use Rattle.model_pools.specs.Listed.{AreListed}
 use Rattle.model_places.specs.Valid.{IsValidPdl}
-use Rattle.model_places.proofs.Listed.{All-listed, listed-All}
+use Rattle.model_pools.proofs.Listed.{All-listed, listed-All}
 use Rattle.ram_slip.proofs.Named.{block_at}
 
 long : (entries : List PdlEntry) → length (pdl_blocks entries) ≡ length entries

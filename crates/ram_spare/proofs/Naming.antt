@@ -3,8 +3,8 @@ use Rattle.std.proofs.Common.{◌≡◌, ℕ, suc, ◌+◌, ◌<◌, ◌≤◌, 
 use Rattle.std.specs.List.{Contains, cons_option}
 use Rattle.std.proofs.lemmas.Bool.{false_from_ne_true, eq-eqb, ne_eqb}
 use Rattle.model_lists.specs.declared.sdl.SdlEntry.{SdlEntry}
-use Rattle.model_places.specs.Places.{is_listed, replacements}
-use Rattle.model_places.proofs.Listed.{Decides-is_listed}
+use Rattle.model_pools.specs.Listed.{is_listed, replacements}
+use Rattle.model_pools.proofs.Listed.{Decides-is_listed}
 
 -- ---- as defective
 

@@ -11,8 +11,8 @@ use Rattle.model_geometry.proofs.DataBlocks.{Contains-slice_get}
 use Rattle.model_places.specs.Places.{Lists, unslipped, is_free, primary_count, primary_spares, supplementary_spares, spares, spares_down, free_spares, free_spare_after}
 use Rattle.model_lists.specs.declared.versions.Version.{Version}
 use Rattle.model_places.specs.Valid.{IsValidPdl, IsValidSsa, AreValid}
-use Rattle.model_places.proofs.Listed.{Contains-from_filter}
-use Rattle.model_places.proofs.Homes.{first_is_alone}
+use Rattle.model_pools.proofs.Listed.{Contains-from_filter}
+use Rattle.model_pools.proofs.Replacements.{first_is_alone}
 use Rattle.model_places.proofs.Pools.{pools_are_all, length-spares}
 use Rattle.ram_slip.proofs.Spares.{first_many, spare_differs}
 use Rattle.ram_spare.specs.Spares.{next_spare, spare_before}

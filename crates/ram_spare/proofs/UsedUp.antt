@@ -13,10 +13,11 @@ use Rattle.std.proofs.lemmas.Map.Made.{length-from_same_keys}
 use Rattle.model_geometry.specs.Geometry.{Shape}
 use Rattle.model_lists.specs.declared.sdl.SdlEntry.{SdlEntry}
 use Rattle.model_lists.specs.Values.{defectives}
-use Rattle.model_places.specs.Places.{Lists, is_listed, is_free, unslipped, replacements, primary_count, primary_spares, supplementary_spares, spares, free_primary_count, free_supplementary_count}
+use Rattle.model_pools.specs.Listed.{is_listed, replacements}
+use Rattle.model_places.specs.Places.{Lists, is_free, unslipped, primary_count, primary_spares, supplementary_spares, spares, free_primary_count, free_supplementary_count}
 use Rattle.model_places.specs.Valid.{IsValidSdl, AreValid}
-use Rattle.model_places.proofs.Listed.{Decides-is_listed, is_listed-filter, is_member_is, Contains-from_filter, IsDistinct-from_increasing}
-use Rattle.model_places.proofs.Homes.{Contains-later, Contains-cons_option, Contains-cons_option_first, first_is_alone, replacement_cases}
+use Rattle.model_pools.proofs.Listed.{Decides-is_listed, is_listed-filter, is_member_is, Contains-from_filter, IsDistinct-from_increasing}
+use Rattle.model_pools.proofs.Replacements.{Contains-later, Contains-cons_option, Contains-cons_option_first, first_is_alone, replacement_cases}
 use Rattle.model_places.proofs.Entries.{used, used_differ, differs_from_all}
 use Rattle.model_places.proofs.Free.{free_from_unnamed, unnamed_from_free}
 use Rattle.model_places.proofs.Pools.{unslipped_rise}

@@ -4,7 +4,8 @@ ghost use Rattle.std.specs.Prelude.{◌≡◌, ◌↔◌, ◌||◌, not, drop, S
 ghost use Rattle.std.specs.List.{Contains, find};
 ghost use Rattle.std.specs.List.Sorted.{IsStrictlyIncreasing};
 ghost use Rattle.model_lists.specs.Values.{defectives};
-ghost use Rattle.model_places.specs.Places.{is_listed, replacements, is_free, spares_down};
+ghost use Rattle.model_pools.specs.Listed.{is_listed, replacements};
+ghost use Rattle.model_places.specs.Places.{is_free, spares_down};
 ghost use Rattle.model_places.specs.Valid.{AreValid};
 ghost use Rattle.ram_spare.specs.Spares.{both_lists, next_spare};
 

@@ -9,7 +9,7 @@ use Rattle.model_buffer.specs.Buffer.{bytes_at, with_newest}
 use Rattle.model_buffer.specs.declared.TheConstants.{BUFFERED_BLOCKS}
 use Rattle.model_buffer.proofs.Touched.{filter-take}
 use Rattle.model_sectors.specs.Discs.{block_of}
-use Rattle.model_places.proofs.Homes.{Contains-first, Contains-later}
+use Rattle.model_pools.proofs.Replacements.{Contains-first, Contains-later}
 use Rattle.model_drive.specs.Shown.{HoldsBlocksOf}
 
 -- an element is the first, or one of the others

@@ -1,7 +1,8 @@
 use Rattle.std.proofs.Common.{sym}
 use Rattle.std.proofs.lemmas.Bool.{false_from_ne_true}
-use Rattle.model_places.specs.Places.{unreplaced, is_listed, spares}
-use Rattle.model_places.proofs.Listed.{Decides-is_listed}
+use Rattle.model_pools.specs.Listed.{is_listed}
+use Rattle.model_places.specs.Places.{unreplaced, spares}
+use Rattle.model_pools.proofs.Listed.{Decides-is_listed}
 use Rattle.ram_dds.specs.Dds.{dds_of}
 use Rattle.ram_expand.proofs.drafts.is_spare.Goals as goal
 

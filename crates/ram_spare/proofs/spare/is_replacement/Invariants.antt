@@ -1,5 +1,5 @@
 use Rattle.std.specs.Prelude.{◌≡◌, drop}
-use Rattle.model_places.specs.Places.{is_listed, replacements}
+use Rattle.model_pools.specs.Listed.{is_listed, replacements}
 use Rattle.ram_spare.proofs.spare.is_replacement.Given as goal
 
 abbrev pub invariant-loop-entry : goal.invariant-loop-entry

@@ -1,0 +1,4 @@
+pub mod Listed
+pub mod Replacements
+pub mod Pooled
+pub mod Cuts
