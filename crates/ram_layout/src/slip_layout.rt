@@ -1,0 +1,154 @@
+//! Slipping by a table of runs.
+
+ghost use Rattle.std.specs.Prelude.{◌≡◌, ◌+◌, ◌-◌, ◌≤◌, IfOk, length};
+ghost use Rattle.model_geometry.specs.Geometry.{data_blocks};
+ghost use Rattle.model_places.specs.Places.{unreplaced, logical_count};
+ghost use Rattle.model_places.specs.Valid.{IsValidPdl, IsValidOnSome};
+ghost use Rattle.ram_dds.specs.Dds.{dds_of};
+ghost use Rattle.ram_layout.specs.Slipping.{IsSlippingOf};
+ghost use Rattle.ram_runs.specs.Runs.{blocks_in};
+
+use crate::filling::fill;
+use crate::layout::Layout;
+use ram_dds::DdsPdl;
+use ram_runs::{Run, block_at, count_in, place_at};
+use ram_slip::Place;
+use ram_zones::Geometry;
+use std::alloc::{AllocError, Global};
+use std::marker::Model;
+
+/// The number of the one pool.
+const ONLY_POOL: u32 = 0;
+
+/// The layout of a disc with one group of spares: the primary ones come first, then the logical blocks, then the supplementary
+/// spares, and slipped blocks are passed over.
+#[derive(Drop)]
+pub struct SlipLayout {
+    geometry: Geometry,
+    runs: Vec<Run>,
+    primary: u32,
+    logical: u32,
+}
+
+impl Model for SlipLayout {
+    ghost use Rattle.ram_layout.specs.Slipping.{SlipTable, table_in, IsSlipTable};
+
+    ghost Value = { SlipTable };
+
+    ghost view = { table_in };
+
+    ghost invariant = { IsSlipTable };
+}
+
+impl SlipLayout {
+    /// The layout of a structure with so many supplementary spares.
+    pub fn new(
+        alloc: Global,
+        geometry: &Geometry,
+        dds: &DdsPdl,
+        ssa: u32,
+    ) -> Result<SlipLayout, AllocError>
+        requires valid { IsValidPdl geometry.now (dds_of dds.now) }
+        requires area { IsValidOnSome geometry.now ssa }
+        ensures { IfOk result (IsSlippingOf geometry.now (dds_of dds.now)
+            (logical_count geometry.now (unreplaced (dds_of dds.now) ssa))) }
+    {
+        let psa = geometry.psa();
+        let mut runs = Vec::with_capacity(alloc, geometry.zones() as usize + psa as usize)?;
+        let entries = dds.entries.as_slice();
+        fill(&mut runs, geometry, entries);
+        Ok(SlipLayout {
+            geometry: *geometry,
+            runs,
+            primary: psa - entries.len() as u32,
+            logical: geometry.data_blocks() - psa - ssa,
+        })
+    }
+
+    /// Makes it the layout of a structure with so many supplementary spares. It takes no memory.
+    pub fn rebuild(&mut self, geometry: &Geometry, dds: &DdsPdl, ssa: u32)
+        requires valid { IsValidPdl geometry.now (dds_of dds.now) }
+        requires area { IsValidOnSome geometry.now ssa }
+        requires room { geometry.now.zones + geometry.now.psa ≤ self.old.room }
+        ensures { IsSlippingOf geometry.now (dds_of dds.now)
+            (logical_count geometry.now (unreplaced (dds_of dds.now) ssa)) self.new }
+    {
+        let psa = geometry.psa();
+        let entries = dds.entries.as_slice();
+        fill(&mut self.runs, geometry, entries);
+        self.geometry = *geometry;
+        self.primary = psa - entries.len() as u32;
+        self.logical = geometry.data_blocks() - psa - ssa;
+    }
+
+    /// Changes the size of the supplementary spare area. It takes no memory.
+    pub fn set_ssa(&mut self, ssa: u32)
+        requires area { IsValidOnSome self.old.shape ssa }
+        requires fits { self.old.primary + (length (data_blocks self.old.shape) - self.old.shape.psa - ssa) ≤ length self.old.blocks }
+        ensures { self.new ≡ record self.old { logical = length (data_blocks self.old.shape) - self.old.shape.psa - ssa } }
+    {
+        self.logical = self.geometry.data_blocks() - self.geometry.psa() - ssa;
+    }
+
+    /// The longest runs of consecutive numbers among the data blocks that are not slipped.
+    pub fn runs(&self) -> &[Run]
+        ensures { blocks_in result.now ≡ self.now.blocks }
+    {
+        self.runs.as_slice()
+    }
+}
+
+impl Layout for SlipLayout {
+    ghost use Rattle.model_geometry.specs.Geometry.{data_blocks};
+    ghost use Rattle.ram_layout.specs.Slipping.{slip_pools};
+
+    ghost pools = { slip_pools };
+
+    ghost blocks = { λ table. data_blocks table.shape };
+
+    fn logical(&self) -> u32 {
+        self.logical
+    }
+
+    fn physical(&self, i: u32) -> u32 {
+        block_at(self.runs.as_slice(), self.primary + i)
+    }
+
+    fn pools(&self) -> u32 {
+        let _logical = self.logical;
+        1
+    }
+
+    fn pool_of(&self, i: u32) -> u32 {
+        ONLY_POOL
+    }
+
+    fn spare(&self, pool: u32, k: u32) -> Option<u32> {
+        let runs = self.runs.as_slice();
+        if k < self.primary {
+            return Some(block_at(runs, self.primary - 1 - k));
+        }
+        let count = count_in(runs);
+        if k - self.primary < count - self.primary - self.logical {
+            return Some(block_at(runs, count - 1 - (k - self.primary)));
+        }
+        None
+    }
+
+    fn place(&self, block: u32) -> Place {
+        let Some(n) = place_at(self.runs.as_slice(), block) else {
+            return match self.geometry.data_index(block) {
+                Some(_) => Place::Slipped,
+                None => Place::Outside,
+            };
+        };
+        if n < self.primary {
+            return Place::Primary;
+        }
+        let i = n - self.primary;
+        if i < self.logical {
+            return Place::Logical { i };
+        }
+        Place::Supplementary
+    }
+}
