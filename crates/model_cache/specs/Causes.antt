@@ -29,7 +29,7 @@ use Rattle.model_cache.specs.declared.TickOut.TheVariants as ticks
 use Rattle.model_places.specs.Places.{Lists}
 use Rattle.model_cache.specs.Values.{is_among}
 use Rattle.model_cache.specs.Shown.{CacheShown, dropped, pending_in, pending_below, goes_into_cache, pending_covered}
-use Rattle.model_cache.specs.Chains.{WritesBack, Flushes, FlushesAll, EndsFlushing, leaves_pending}
+use Rattle.model_cache.specs.Chains.{LeavesSound, WritesBack, Flushes, FlushesAll, EndsFlushing, leaves_pending}
 
 -- The power was off, and nothing changed.
 pub record CacheWasOff (old new : CacheShown) : Type 0 where
@@ -67,7 +67,7 @@ ReadsPart old new lba n k (Some bytes) out = (out ≡ reads.Good) × (new ≡ ol
 ReadsPart old new lba n k None out =
     ReadCause old.drive new.drive (start_in lba (block_with lba + k))
     (end_in lba n (block_with lba + k) - start_in lba (block_with lba + k)) out
-    × (new.pending ≡ leaves_after_read out old.pending) × (new.caches ≡ old.caches)
+    × LeavesSound old.drive new.drive × (new.pending ≡ leaves_after_read out old.pending) × (new.caches ≡ old.caches)
 
 -- the first so many blocks of a read were read, in rising order
 abbrev pub ReadsParts : CacheShown → CacheShown → (lba n : ℕ) → ℕ → Type 0
@@ -115,6 +115,7 @@ pub record WritesThrough (old new : CacheShown) (lba n : ℕ) (out : WriteOut) :
   pub mid : CacheShown
   pub flushed : FlushesAll old (pending_covered true old lba n) mid
   pub wrote : WriteCause mid.drive new.drive lba n out
+  pub leaves : LeavesSound mid.drive new.drive
   pub left : new.pending ≡ leaves_pending out mid.pending
   pub same_mode : new.caches ≡ old.caches
 
@@ -148,7 +149,7 @@ leaving shown lba n = take (leave_first shown lba n) (pending_covered false show
 -- the rests of the first so many blocks were read from the disc, where they are needed
 abbrev pub ReadsRest : CacheShown → CacheShown → (lba n k : ℕ) → (partly : Bool) → Option (List ℕ) → Type 0
 ReadsRest old new lba n k true None =
-    ReadCause old.drive new.drive (16 * (block_with lba + k)) 16 reads.Good × KeepsCache old new
+    ReadCause old.drive new.drive (16 * (block_with lba + k)) 16 reads.Good × LeavesSound old.drive new.drive × KeepsCache old new
 ReadsRest old new lba n k _ _ = new ≡ old
 
 abbrev pub ReadsRests : CacheShown → CacheShown → (lba n : ℕ) → ℕ → Type 0
@@ -208,6 +209,7 @@ pub record LacksRestInCache (old new : CacheShown) (lba n : ℕ) (out : WriteOut
   pub not_pending : bytes_at (block_with lba + before) late.pending ≡ None
   pub read_out : ReadOut
   pub ends : ReadCause late.drive new.drive (16 * (block_with lba + before)) 16 read_out
+  pub leaves : LeavesSound late.drive new.drive
   pub tells : EndsRest lba n before read_out out
   pub left : new.pending ≡ leaves_pending out late.pending
   pub same_mode : new.caches ≡ old.caches

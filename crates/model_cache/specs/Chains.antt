@@ -4,14 +4,22 @@ use Rattle.std.specs.Prelude.{◌≡◌, ◌≢◌, ℕ, ◌*◌, List, [], ◌�
 use Rattle.std.specs.List.{Contains}
 use Rattle.model_drive.specs.declared.WriteOut.{WriteOut}
 use Rattle.model_drive.specs.declared.WriteOut.TheVariants as writes
+use Rattle.model_drive.specs.Shown.{Shown}
+use Rattle.model_drive.specs.Sound.{IsSound}
 use Rattle.model_drive.specs.Writes.{WriteCause}
 use Rattle.model_cache.specs.Shown.{CacheShown, pending_but}
+
+-- A call of the disc left its geometry as it was, and what the disc shows is sound.
+pub record LeavesSound (old new : Shown) : Type 0 where
+  pub same_shape : new.shape ≡ old.shape
+  pub sound : IsSound new
 
 -- A pending block was written to the disc, whole, and it went so. The cache is as on as before.
 pub record WritesBack (old new : CacheShown) (i : ℕ) (out : WriteOut) : Type 0 where
   pub bytes : List ℕ
   pub was_pending : Contains old.pending (i, bytes)
   pub wrote : WriteCause old.drive new.drive (16 * i) 16 out
+  pub leaves : LeavesSound old.drive new.drive
   pub same_mode : new.caches ≡ old.caches
 
 -- It was written, and is not pending any more.
