@@ -2,10 +2,12 @@
 -- own, as all here.)
 use Rattle.std.specs.Prelude.{◌≡◌, ◌≢◌, ℕ, ◌*◌, List, [], ◌∷◌, ◌++◌}
 use Rattle.std.specs.List.{Contains}
+use Rattle.model_sectors.specs.declared.ReadOut.{ReadOut}
 use Rattle.model_drive.specs.declared.WriteOut.{WriteOut}
 use Rattle.model_drive.specs.declared.WriteOut.TheVariants as writes
 use Rattle.model_drive.specs.Shown.{Shown}
 use Rattle.model_drive.specs.Sound.{IsSound}
+use Rattle.model_drive.specs.Reads.{ReadCause, ReadIsQuiet}
 use Rattle.model_drive.specs.Writes.{WriteCause}
 use Rattle.model_cache.specs.Shown.{CacheShown, pending_but}
 
@@ -13,6 +15,12 @@ use Rattle.model_cache.specs.Shown.{CacheShown, pending_but}
 pub record LeavesSound (old new : Shown) : Type 0 where
   pub same_shape : new.shape ≡ old.shape
   pub sound : IsSound new
+
+-- The disc was read, and it went so; a read whose blocks were all buffered used none of the medium.
+pub record ReadsDisc (old new : Shown) (lba n : ℕ) (out : ReadOut) : Type 0 where
+  pub cause : ReadCause old new lba n out
+  pub quiet : ReadIsQuiet old new lba n out
+  pub leaves : LeavesSound old new
 
 -- A pending block was written to the disc, whole, and it went so. The cache is as on as before.
 pub record WritesBack (old new : CacheShown) (i : ℕ) (out : WriteOut) : Type 0 where
