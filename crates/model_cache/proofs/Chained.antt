@@ -110,7 +110,7 @@ module _ (P : (faulted : Bool) → Shown → Shown → Type 0) (holds : HoldsOfC
     stopped_through old new out (inside, inr wrote) = through old new out wrote
 
     through_of : (old new : CacheShown) (out : WriteOut) → ThroughCauseOf old new lba n out → P (write_faulted out) old.drive new.drive
-    through_of old new writes.Good p = through old new writes.Good p
+    through_of old new writes.Good p = through old new writes.Good p.1
     through_of old new writes.NotFormatted p = absurd p
     through_of old new (writes.Range known) p = same_but old new p.nothing
     through_of old new (writes.Unread named block) p = through old new (writes.Unread named block) p.1

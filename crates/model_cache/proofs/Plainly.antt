@@ -136,7 +136,7 @@ module _ (drive : Shown) (new : CacheShown) where
 
   pub plain_write_cause : (lba n : ℕ) (bytes : List ℕ) (out : WriteOut) → CacheWriteCause (uncached drive) new lba n bytes out
       → LeavesUncached new (WriteCause drive new.drive lba n out)
-  plain_write_cause lba n bytes writes.Good p = through lba n writes.Good p
+  plain_write_cause lba n bytes writes.Good p = through lba n writes.Good p.1
   plain_write_cause lba n bytes writes.NotFormatted p = (
     record { on = p.on; unformatted = p.unformatted; nothing = ap (λ (s : CacheShown). s.drive) p.nothing },
     is_uncached new (ap (λ (s : CacheShown). s.pending) p.nothing) (ap (λ (s : CacheShown). s.caches) p.nothing),

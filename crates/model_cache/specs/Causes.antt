@@ -126,7 +126,7 @@ StopsWritingThrough old new lba n out = IsInRange old.drive lba n
 
 -- The cause of each answer of a write through the cache of a disc that has all pending blocks.
 abbrev pub ThroughCauseOf : CacheShown → CacheShown → (lba n : ℕ) → WriteOut → Type 0
-ThroughCauseOf old new lba n writes.Good = WritesThrough old new lba n writes.Good
+ThroughCauseOf old new lba n writes.Good = IsInRange old.drive lba n × WritesThrough old new lba n writes.Good
 ThroughCauseOf old new lba n writes.NotFormatted = ⊥
 ThroughCauseOf old new lba n (writes.Range known) = CacheOutOfRange old new lba n known
 ThroughCauseOf old new lba n (writes.Unread named block) = IsInRange old.drive lba n × WritesThrough old new lba n (writes.Unread named block)
