@@ -52,7 +52,7 @@ module _ (P : (faulted : Bool) → Shown → Shown → Type 0) (holds : HoldsOfC
 
   -- ---- flushes
 
-  flushed : (due : List ℕ) (old new : CacheShown) → FlushesAll old due new → P false old.drive new.drive
+  pub flushed : (due : List ℕ) (old new : CacheShown) → FlushesAll old due new → P false old.drive new.drive
   flushed [] old new is = same old new is
   flushed (i ∷ due) old new is =
       holds.join false old.drive is.0.drive new.drive (holds.write old.drive is.0.drive (16 * i) 16 writes.Good is.1.back.leaves is.1.back.wrote) (flushed due is.0 new is.2)

@@ -31,3 +31,8 @@ pub mod ExpandedLines
 mod FairRuns
 mod NoSpares
 mod LastingRuns
+pub mod SoundChains
+pub mod KeptPower
+pub mod Synced
+pub mod FallenBack
+pub mod Alone

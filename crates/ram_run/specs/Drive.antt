@@ -4,32 +4,32 @@ use Rattle.model_geometry.specs.Geometry.{Shape, label_of, total}
 use Rattle.model_medium.specs.World.{World}
 use Rattle.model_image.specs.Cells.{cells_of}
 use Rattle.model_image.specs.Image.{IsDiscImage, IsImageOf}
-use Rattle.model_sectors.specs.Discs.{Standing}
-use Rattle.model_drive.specs.Shown.{Shown}
-use Rattle.model_drive.specs.Runs.{Loaded, IsOpenedOn}
+use Rattle.model_cache.specs.Values.{Contents}
+use Rattle.model_cache.specs.Shown.{CacheShown}
+use Rattle.model_cache.specs.Runs.{Loaded, IsOpenedOn}
 use Rattle.model_target.specs.declared.host.Host.{Host}
 use Rattle.model_target.specs.Host.{powered_on}
 
 -- An image of these bytes was opened: they are the image of a disc, in whose state the drive is. (This project's own, as all
 -- here.)
-pub record IsOpenedBy (bytes : List ℕ) (shown : Shown) (stands : Standing → Type 0) : Type 0 where
+pub record IsOpenedBy (bytes : List ℕ) (shown : CacheShown) (stands : Contents → Type 0) : Type 0 where
   pub shape : Shape
   pub image : IsDiscImage shape bytes
   pub disc : Loaded
   pub opened : IsOpenedOn shape (cells_of (total shape) bytes) disc
   pub shown_is : shown ≡ disc.shown
-  pub standing_is : stands disc.standing
+  pub contents_is : stands disc.contents
 
 -- An image that has failed so often was opened as a disc, where its bytes are known, and it did not fail. The drive lies in
 -- the same bytes.
-pub record OpensDrive (image : Option (List ℕ)) (faults : ℕ) (shown : Shown) (stands : Standing → Type 0)
+pub record OpensDrive (image : Option (List ℕ)) (faults : ℕ) (shown : CacheShown) (stands : Contents → Type 0)
     (image' : Option (List ℕ)) : Type 0 where
   pub opened : (bytes : List ℕ) → image ≡ Some bytes → IsOpenedBy bytes shown stands
   pub same_bytes : image' ≡ image
-  pub count : shown.medium.world.faults ≡ faults
+  pub count : shown.drive.medium.world.faults ≡ faults
 
 -- The same, with what is remembered for a host when the power just came on.
-pub record IsInsertedTarget (image : Option (List ℕ)) (faults : ℕ) (shown : Shown) (stands : Standing → Type 0)
+pub record IsInsertedTarget (image : Option (List ℕ)) (faults : ℕ) (shown : CacheShown) (stands : Contents → Type 0)
     (image' : Option (List ℕ)) (host : Host) : Type 0 where
   pub opens : OpensDrive image faults shown stands image'
   pub host_is : host ≡ powered_on
@@ -40,5 +40,5 @@ HasCells world image = MatchOption image (world.known ≡ false)
     (λ bytes. (shape : Shape) → world.label ≡ label_of shape → IsImageOf shape world.cells bytes)
 
 -- What holds of each drive: it lies in bytes that have the cells of its medium.
-pub record DriveLaws {D : Type 0} (shows : D → Shown) (lies_in : D → Option (List ℕ)) : Type 0 where
-  pub has_cells : (drive : D) → HasCells (shows drive).medium.world (lies_in drive)
+pub record DriveLaws {D : Type 0} (shows : D → CacheShown) (lies_in : D → Option (List ℕ)) : Type 0 where
+  pub has_cells : (drive : D) → HasCells (shows drive).drive.medium.world (lies_in drive)
