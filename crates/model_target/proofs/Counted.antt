@@ -30,7 +30,7 @@ use Rattle.model_target.specs.declared.host.Host.{Host}
 use Rattle.model_target.specs.Steps.{read_answer, write_answer, format_answer, expand_answer, sync_answer, WrittenCause, IsAnswered, TellsStructure, TellsSpares, IsDone, IsAnsweredBy, IsStep, AnswerFaults}
 
 -- a fault is counted where what the medium lies on failed, and none elsewhere
-abbrev CountsFaults : Bool → Shown → Shown → Type 0
+abbrev pub CountsFaults : Bool → Shown → Shown → Type 0
 CountsFaults true old new = Rose (faults old) (faults new)
 CountsFaults false old new = faults new ≡ faults old
 

@@ -254,13 +254,13 @@ module _ (at : ℕ) (bytes : List ℕ) where
       (All-head (λ (e : AnsweredLine). LeavesSector at e.line e.payload) event answered leaves)
       (run_shows s run.0 answered run.1 (All-tail (λ (e : AnsweredLine). KeepsPower e.line e.reply) event answered power) (All-tail (λ (e : AnsweredLine). LeavesSector at e.line e.payload) event answered leaves) keeps)
 
+  stands_keeps : (c : Contents) → StandsWithSector c at bytes → KeepsShown c
+  stands_keeps (Has v) is = λ within. is.bytes_are
+  stands_keeps (MayHave all) is = absurd is
+
   pub now_keeps : (s : State) → HasNow s at bytes → KeepsNow s
   now_keeps (Unopened image) has = absurd has
-  now_keeps (Disc s) has = by_contents s.disc.contents has
-    where
-      by_contents : (c : Contents) → StandsWithSector c at bytes → KeepsShown c
-      by_contents (Has v) is within = is.bytes_are
-      by_contents (MayHave all) is = absurd is
+  now_keeps (Disc s) has = stands_keeps s.disc.contents has
 
 -- so a read gives it
 pub read_on : (t u v : State) (read : AnsweredLine) (between : List AnsweredLine) (first count at : ℕ) (bytes : List ℕ) → HasNow t at bytes → Run t between u → KeepPower between → LeaveSector at between

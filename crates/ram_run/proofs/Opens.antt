@@ -91,6 +91,7 @@ module _ {I : Type 0} {d : Images I} (image : I) (medium : ImageMedium I d) (geo
 
     -- an image whose bytes are known was opened, and nothing is pending
     opened_by : (cached : CacheShown) → cached ≡ uncached shown → IsOpenedBy bytes cached (CacheStandsFor cached)
+    unfolding of_drive
     opened_by cached is = record {
       shape = geometry;
       image = disc_there;
