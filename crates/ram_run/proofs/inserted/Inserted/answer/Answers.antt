@@ -1,6 +1,7 @@
 use Rattle.std.proofs.Common.{refl}
 use Rattle.ram_text.specs.declared.script.Line.TheVariants as lines
 use Rattle.ram_run.proofs.InsertedSteps.{fail_shape, inserted_left}
+use Rattle.ram_run.proofs.LineCounts.{rule_counts}
 use Rattle.ram_run.proofs.Printing.{prints}
 use Rattle.ram_run.proofs.inserted.Inserted.answer.Goals as goal
 
@@ -38,3 +39,9 @@ pub returns-in-Disc-Command-clause-printable : goal.returns-in-Disc-Command-clau
 returns-in-Disc-Command-clause-printable g c = rw c.command_outcome.ensures
     (prints (g.D.Caching.shows c.in-Disc-Command.target.disc) (g.D.Caching.shows c.execute-answer.new.self.disc) (g.D.Caching.stands c.in-Disc-Command.target.disc) (g.D.Caching.stands c.execute-answer.new.self.disc)
     c.in-Disc-Command.target.host c.execute-answer.new.self.host c.in-Disc-Command.cdb c.args.payload.now c.execute-answer.new.data_in.items c.execute-answer.result c.execute-answer.ensures.step)
+
+pub returns-in-Disc-Command-clause-count : goal.returns-in-Disc-Command-clause-count
+returns-in-Disc-Command-clause-count g c = rw (c.in-Disc-Command.is-0, c.in-Disc-Command.is-1)
+    (rule_counts (g.D.Caching.shows c.in-Disc-Command.target.disc) (g.D.Caching.shows c.execute-answer.new.self.disc) (g.D.Caching.stands c.in-Disc-Command.target.disc) (g.D.Caching.stands c.execute-answer.new.self.disc)
+    c.in-Disc-Command.target.host c.execute-answer.new.self.host (lines.Command c.in-Disc-Command.cdb) c.args.payload.now c.command_outcome.result c.execute-answer.new.data_in.items
+    (record { answer = c.execute-answer.result; step = c.execute-answer.ensures.step; outcome_is = c.command_outcome.ensures }))
