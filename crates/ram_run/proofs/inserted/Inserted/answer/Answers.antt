@@ -41,7 +41,7 @@ returns-in-Disc-Command-clause-printable g c = rw c.command_outcome.ensures
     c.in-Disc-Command.target.host c.execute-answer.new.self.host c.in-Disc-Command.cdb c.args.payload.now c.execute-answer.new.data_in.items c.execute-answer.result c.execute-answer.ensures.step)
 
 pub returns-in-Disc-Command-clause-count : goal.returns-in-Disc-Command-clause-count
-returns-in-Disc-Command-clause-count g c = rw (c.in-Disc-Command.is-0, c.in-Disc-Command.is-1)
+returns-in-Disc-Command-clause-count g c = rw c.in-Disc-Command.is-0
     (rule_counts (g.D.Caching.shows c.in-Disc-Command.target.disc) (g.D.Caching.shows c.execute-answer.new.self.disc) (g.D.Caching.stands c.in-Disc-Command.target.disc) (g.D.Caching.stands c.execute-answer.new.self.disc)
     c.in-Disc-Command.target.host c.execute-answer.new.self.host (lines.Command c.in-Disc-Command.cdb) c.args.payload.now c.command_outcome.result c.execute-answer.new.data_in.items
     (record { answer = c.execute-answer.result; step = c.execute-answer.ensures.step; outcome_is = c.command_outcome.ensures }))
