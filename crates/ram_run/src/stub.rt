@@ -25,11 +25,6 @@ impl<D: Disc> Cached<D> {
     }
 
     /// The disc below.
-    pub fn disc_mut(&mut self) -> &mut D {
-        &mut self.disc
-    }
-
-    /// The disc below.
     pub fn into_disc(self) -> D
         ensures { result ≡ self.disc }
     {

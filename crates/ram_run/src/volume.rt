@@ -32,15 +32,15 @@ impl<I: Image> Drive for Cached<Volume<ImageMedium<I>>> {
     }
 
     fn fail(&mut self, block: u32) -> FailEnd {
-        self.disc_mut().fail(block)
+        self.disc.fail(block)
     }
 
     fn wear(&mut self, block: u32, n: u32) -> Arm {
-        self.disc_mut().wear(block, n)
+        self.disc.wear(block, n)
     }
 
     fn arm_cut(&mut self, n: u32, fate: Fate) {
-        self.disc_mut().arm_cut(n, fate);
+        self.disc.arm_cut(n, fate);
     }
 
     ghost drive_laws = { record {
