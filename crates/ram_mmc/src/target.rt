@@ -73,6 +73,7 @@ impl<D: Caching> Target<D> {
         ensures rule { IsPoweredAgain (D.shows self.old.disc) (D.shows self.new.disc)
             (D.stands self.old.disc) (D.stands self.new.disc) self.new.host result }
         ensures same_shape { (D.shows self.new.disc).drive.shape ≡ (D.shows self.old.disc).drive.shape }
+        ensures underwent { D.underwent self.old.disc self.new.disc }
     {
         self.host = just_powered();
         self.disc.write_cache(false);
@@ -101,6 +102,7 @@ impl<D: Caching> Target<D> {
             (D.stands self.old.disc) (D.stands self.new.disc)
             self.old.host self.new.host cdb.now payload.now result data_in.new.items }
         ensures same_shape { (D.shows self.new.disc).drive.shape ≡ (D.shows self.old.disc).drive.shape }
+        ensures underwent { D.underwent self.old.disc self.new.disc }
         ensures room { vec_capacity data_in.old ≤ vec_capacity data_in.new }
     {
         match look_at(&self.disc) {
@@ -130,6 +132,7 @@ impl<D: Caching> Target<D> {
             (D.stands self.old.disc) (D.stands self.new.disc)
             self.old.host self.new.host cdb.now payload.now result data_in.new.items }
         ensures same_shape { (D.shows self.new.disc).drive.shape ≡ (D.shows self.old.disc).drive.shape }
+        ensures underwent { D.underwent self.old.disc self.new.disc }
         ensures room { vec_capacity data_in.old ≤ vec_capacity data_in.new }
     {
         let operation = operation(cdb.operation_code());
@@ -165,6 +168,7 @@ impl<D: Caching> Target<D> {
             self.old.host payload.now judged result data_in.new.items }
         ensures same_host { self.new.host ≡ self.old.host }
         ensures same_shape { (D.shows self.new.disc).drive.shape ≡ (D.shows self.old.disc).drive.shape }
+        ensures underwent { D.underwent self.old.disc self.new.disc }
         ensures room { vec_capacity data_in.old ≤ vec_capacity data_in.new }
     {
         match judged {
@@ -195,6 +199,7 @@ impl<D: Caching> Target<D> {
             self.old.host payload.now command result data_in.new.items }
         ensures same_host { self.new.host ≡ self.old.host }
         ensures same_shape { (D.shows self.new.disc).drive.shape ≡ (D.shows self.old.disc).drive.shape }
+        ensures underwent { D.underwent self.old.disc self.new.disc }
         ensures room { vec_capacity data_in.old ≤ vec_capacity data_in.new }
     {
         if let Command::Read { lba, n } = command {

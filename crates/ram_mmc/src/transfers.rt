@@ -25,6 +25,7 @@ pub fn read<D: Caching>(disc: &mut D, lba: u32, n: u32, data_in: &mut Vec<u8>) -
     ensures rule { IsRead (D.shows disc.old) (D.shows disc.new) (D.stands disc.old) (D.stands disc.new)
         lba n result data_in.new.items }
     ensures same_shape { (D.shows disc.new).drive.shape ≡ (D.shows disc.old).drive.shape }
+    ensures underwent { D.underwent disc.old disc.new }
     ensures room { vec_capacity data_in.old ≤ vec_capacity data_in.new }
 {
     match data_in.resize(n as usize * SECTOR_BYTES, 0) {
@@ -45,6 +46,7 @@ pub fn write<D: Caching>(disc: &mut D, lba: u32, n: u32, fua: bool, payload: &[u
     ensures rule { IsWritten (D.shows disc.old) (D.shows disc.new) (D.stands disc.old) (D.stands disc.new)
         lba n fua payload.now result [] }
     ensures same_shape { (D.shows disc.new).drive.shape ≡ (D.shows disc.old).drive.shape }
+    ensures underwent { D.underwent disc.old disc.new }
 {
     let out = if fua {
         disc.write_through(lba, n, payload)
@@ -59,6 +61,7 @@ pub fn format<D: Caching>(disc: &mut D, alloc: Global, kind: Kind) -> Answer
     ensures rule { IsFormatted (D.shows disc.old) (D.shows disc.new) (D.stands disc.old) (D.stands disc.new)
         kind result [] }
     ensures same_shape { (D.shows disc.new).drive.shape ≡ (D.shows disc.old).drive.shape }
+    ensures underwent { D.underwent disc.old disc.new }
 {
     format_answer(disc.format(alloc, kind))
 }
@@ -68,6 +71,7 @@ pub fn expand<D: Caching>(disc: &mut D, capacity: u32) -> Answer
     ensures rule { IsExpanded (D.shows disc.old) (D.shows disc.new) (D.stands disc.old) (D.stands disc.new)
         capacity result [] }
     ensures same_shape { (D.shows disc.new).drive.shape ≡ (D.shows disc.old).drive.shape }
+    ensures underwent { D.underwent disc.old disc.new }
 {
     expand_answer(disc.expand(capacity))
 }
@@ -78,6 +82,7 @@ pub fn verify<D: Caching>(disc: &mut D, lba: u32, n: u32) -> Answer
     ensures rule { IsVerified (D.shows disc.old) (D.shows disc.new) (D.stands disc.old) (D.stands disc.new)
         lba n result [] }
     ensures same_shape { (D.shows disc.new).drive.shape ≡ (D.shows disc.old).drive.shape }
+    ensures underwent { D.underwent disc.old disc.new }
 {
     read_answer(disc.verify(lba, n))
 }
@@ -87,6 +92,7 @@ pub fn synchronize<D: Caching>(disc: &mut D) -> Answer
     ensures rule { IsSynchronised (D.shows disc.old) (D.shows disc.new) (D.stands disc.old) (D.stands disc.new)
         result [] }
     ensures same_shape { (D.shows disc.new).drive.shape ≡ (D.shows disc.old).drive.shape }
+    ensures underwent { D.underwent disc.old disc.new }
 {
     sync_answer(disc.synchronize())
 }
@@ -97,6 +103,7 @@ pub fn select<D: Caching>(disc: &mut D, payload: &[u8]) -> Answer
     ensures rule { IsSelected (D.shows disc.old) (D.shows disc.new) (D.stands disc.old) (D.stands disc.new)
         payload.now result [] }
     ensures same_shape { (D.shows disc.new).drive.shape ≡ (D.shows disc.old).drive.shape }
+    ensures underwent { D.underwent disc.old disc.new }
 {
     let mut modes = Modes::new(disc.caches());
     match modes.select(payload) {

@@ -70,5 +70,5 @@ pub trait Drive: Caching {
         ensures cache { KeepsCache (Self.shows self.old) (Self.shows self.new) }
         ensures stands { (s : Contents) → Self.stands self.old s → Self.stands self.new s };
 
-    ghost drive_laws: { DriveLaws Self.shows lies_in };
+    ghost drive_laws: { DriveLaws Self.shows Self.underwent lies_in };
 }

@@ -37,6 +37,7 @@ impl<D: Disc> Caching for Cached<D> {
     ghost use Rattle.model_cache.specs.Values.{StandsCached};
     ghost shows = { λ cached. record { drive = D.shows cached.disc; pending = []; caches = cached.on } };
     ghost stands = { λ cached. StandsCached (D.stands cached.disc) [] };
+    ghost underwent = { λ old new. D.underwent old.disc new.disc };
     fn capacity(&self) -> Option<u32> { self.disc.capacity() }
     fn caches(&self) -> bool { self.on }
     fn read(&mut self, lba: u32, n: u32, into: &mut [u8]) -> ReadOut { self.disc.read(lba, n, into) }
@@ -52,4 +53,5 @@ impl<D: Disc> Caching for Cached<D> {
     fn synchronize(&mut self) -> SyncOut { SyncOut::Good }
     fn tick(&mut self) -> TickOut { TickOut::Idle }
     ghost laws = { ? };
+    ghost underwent_laws = { ? };
 }

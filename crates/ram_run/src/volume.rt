@@ -2,7 +2,7 @@
 
 ghost use Rattle.ram_image.specs.Medium.{bytes_in};
 ghost use Rattle.ram_volume.specs.Drives.{shown_by, medium_by};
-ghost use Rattle.ram_run.specs.Lying.{has_cells, shown_medium};
+ghost use Rattle.ram_run.specs.Lying.{has_cells, by_events, shown_medium, has_blocks};
 
 use crate::drive::Drive;
 use crate::stub::Cached;
@@ -45,5 +45,7 @@ impl<I: Image> Drive for Cached<Volume<ImageMedium<I>>> {
 
     ghost drive_laws = { record {
       has_cells = λ cached. has_cells (medium_by cached.disc) (shown_by cached.disc).medium (shown_medium cached.disc);
+      by_events = λ old new happened. by_events (medium_by old.disc) (medium_by new.disc) (shown_by old.disc).medium
+          (shown_by new.disc).medium _ (shown_medium old.disc) (shown_medium new.disc) (has_blocks old.disc) happened;
     } };
 }
