@@ -19,7 +19,7 @@ SET_PIPE_SIZE = 1031  # of Linux
 HEX = "(?:[0-9a-fA-F]{2})"
 NUMBER = r"\d{1,10}"
 FORMS = re.compile(
-    rf"power|fail {NUMBER}|wear {NUMBER} {NUMBER}|cut {NUMBER} (?:old|new|torn)"
+    rf"power|tick|fail {NUMBER}|wear {NUMBER} {NUMBER}|cut {NUMBER} (?:old|new|torn)"
     rf"|cdb {HEX}{{1,16}}(?: (?:fill|count) {HEX}| hex {HEX}+)?", re.ASCII)
 
 

@@ -3,9 +3,10 @@ from __future__ import annotations
 
 from dataclasses import dataclass
 from enum import Enum
-from typing import Callable, Dict, NamedTuple, Optional
+from typing import Callable, Dict, List, NamedTuple, Optional
 
-from .drive import Check, Drive, Sense
+from .cache import CachedDrive
+from .drive import Check, Sense
 from .lists import number
 from .medium import SECTOR
 
@@ -13,7 +14,9 @@ MOST_SECTORS = 1_024
 ATTENTION = Sense(6, 0x29, 0x00)
 INQUIRY = bytes.fromhex("058000021f000000") + b"DVDRAM".ljust(8) + b"SECTOR DRIVE".ljust(16) + b"1.00"
 IN_FORCE = {0x01: bytes.fromhex("010a80000000000000000000"), 0x08: bytes.fromhex("080a00000000000000000000")}
-CHANGEABLE = {page: bytes([page, 0x0a]) + bytes(10) for page in IN_FORCE}
+CHANGEABLE = {0x01: bytes([0x01, 0x0a]) + bytes(10), 0x08: bytes([0x08, 0x0a, 0x04]) + bytes(9)}
+CACHING, WCE = 0x08, 0x04
+"""The caching page, and the bit of its byte 2 by which writes are cached."""
 ALL_PAGES = 0x3f
 
 
@@ -100,16 +103,25 @@ class Block(NamedTuple):
         return lawful.get(self.code, lambda: True)()
 
 
+def pages_of(data: bytes) -> List[bytes]:
+    """The pages of a list of mode pages, without the bit that is not looked at."""
+    return [bytes([data[at] & 0x7f]) + data[at + 1:at + 12] for at in range(8, len(data), 12)]
+
+
+def without_cache(page: bytes) -> bytes:
+    """The page with the write cache off."""
+    return page[:2] + bytes([page[2] & ~WCE]) + page[3:] if page[0] == CACHING else page
+
+
 def is_taken_by_mode_select(data: bytes) -> bool:
-    """Whether a list of mode pages changes nothing."""
-    pages = [bytes([data[at] & 0x7f]) + data[at + 1:at + 12] for at in range(8, len(data), 12)]
-    return not any(data[6:8]) and all(page in IN_FORCE.values() for page in pages)
+    """Whether a list of mode pages changes nothing but WCE."""
+    return not any(data[6:8]) and all(without_cache(page) in IN_FORCE.values() for page in pages_of(data))
 
 
 @dataclass
 class Target:
     """A drive with what is remembered for its host."""
-    drive: Drive
+    drive: CachedDrive
     attention: bool = False
     prevented: bool = False
     out: bool = False
@@ -117,6 +129,7 @@ class Target:
 
     def power(self) -> None:
         self.attention, self.prevented, self.out, self.kept = True, False, False, None
+        self.drive.caches = False
         self.drive.power()
 
     def command(self, block: Block, data: bytes) -> bytes:
@@ -169,9 +182,13 @@ class Target:
         if block.code in READS:
             return self.drive.read(block.first, block.sectors)
         if block.code in WRITES:
-            self.drive.write(block.first, data)
+            self.drive.write(block.first, data, block.code == Code.WRITE_AND_VERIFY or bool(block.bytes[1] & 0x08))
         elif block.code == Code.VERIFY:
             self.drive.verify(block.first, block.sectors)
+        elif block.code == Code.SYNCHRONIZE_CACHE:
+            self.drive.synchronize()
+        elif block.code == Code.MODE_SELECT:
+            self.mode_select(data)
         elif block.code == Code.FORMAT_UNIT:
             self.format_unit(block, data)
         elif block.code == Code.START_STOP_UNIT and block.bytes[4] & 0x02:
@@ -184,7 +201,7 @@ class Target:
             Code.READ_FORMAT_CAPACITIES: self.format_capacities,
             Code.READ_CAPACITY: lambda: (self.drive.sectors - 1).to_bytes(4, "big") + SECTOR.to_bytes(4, "big"),
             Code.GET_CONFIGURATION: lambda: self.configuration(number(block.bytes, 2, 2)),
-            Code.MODE_SENSE: lambda: mode_pages(block.bytes[2]),
+            Code.MODE_SENSE: lambda: mode_pages(block.bytes[2], self.drive.caches),
             Code.READ_DVD_STRUCTURE: lambda: self.structure(block.bytes[7]),
         }
         return replies.get(block.code, bytes)()
@@ -194,6 +211,12 @@ class Target:
             self.drive.expand(number(data, 4, 4))
         else:
             self.drive.format(rewriting=data[1] & 0xa0 == 0xa0, forgets=bool(block.bytes[1] & 0x08))
+
+    def mode_select(self, data: bytes) -> None:
+        """Sets WCE as the last caching page says."""
+        for page in pages_of(data):
+            if page[0] == CACHING:
+                self.drive.caches = bool(page[2] & WCE)
 
     def sense(self) -> bytes:
         told = self.kept or (ATTENTION if self.attention else Sense(0, 0x00, 0x00))
@@ -223,9 +246,11 @@ class Target:
         return bytes.fromhex("000e0000") + b"".join(count.to_bytes(4, "big") for count in numbers)
 
 
-def mode_pages(byte: int) -> bytes:
-    """The reply of MODE SENSE, by byte 2 of its command block."""
-    values = CHANGEABLE if byte >> 6 == 1 else IN_FORCE
+def mode_pages(byte: int, caches: bool) -> bytes:
+    """The reply of MODE SENSE, by byte 2 of its command block, and whether the write cache is on."""
+    values = dict(CHANGEABLE if byte >> 6 == 1 else IN_FORCE)
+    if byte >> 6 == 0 and caches:
+        values[CACHING] = CHANGEABLE[CACHING]
     wanted = byte & ALL_PAGES
     pages = b"".join(page for code, page in values.items() if wanted in (code, ALL_PAGES))
     return (6 + len(pages)).to_bytes(2, "big") + bytes(6) + pages

@@ -36,6 +36,7 @@ class Script(Lines):
         draws: Dict[Callable[[], List[str]], float] = {
             self.any_lines: 8, self.cut_scene: 4, self.lost_home: 4, self.lost_copies: 1.5, self.worn: 2, self.flood: 0.4,
             self.too_many_dead: 0.5, self.new_disc: 0.7, self.buffer_scene: 3, self.told: 1.5, self.ejected: 1,
+            self.cached: 6, self.full_cache: 0.7,
         }
         again = [self.on()] if self.random.random() < 0.3 else []
         return again + self.one_of(draws)()
@@ -113,6 +114,26 @@ class Script(Lines):
             dead = [f"fail {spare}" for spare in self.geometry.data_blocks[:self.geometry.spares]]
             return [*self.maybe_new(), self.read(), *dead[:8], f"wear {home} {self.random.choice([2, 3])}", part, read, read]
         return [*self.maybe_new(), self.random.choice([read, part]), f"fail {home}", between, read, self.read()]
+
+    def cached(self) -> List[str]:
+        """The write cache is on, and blocks are written into it, through it and out of it, while some die and the power is cut."""
+        draws: Dict[Callable[[], str], float] = {
+            self.write: 8, self.read: 4, self.tick: 4, self.synchronization: 2, self.fail: 1, self.wear: 1, self.cut: 0.7,
+            self.verify: 1, self.transfer: 2, self.cache: 0.3,
+        }
+        lines = [self.cache(), *(self.one_of(draws)() for _ in range(self.random.randint(1, 8)))]
+        lines += self.lost_home() if self.random.random() < 0.3 else []
+        lines += self.random.choice([[], [self.synchronization()], ["tick"] * 3, [self.cut(), self.synchronization()]])
+        return lines if self.random.random() < 0.5 else [*lines, self.on(), self.read()]
+
+    def full_cache(self) -> List[str]:
+        """So many blocks are written into the cache that older ones have to leave it."""
+        order = list(range(min(40, self.sectors // SECTORS_IN_BLOCK)))
+        if self.random.random() < 0.5:
+            self.random.shuffle(order)
+        data = f"fill {self.random.randrange(256):02x}"
+        writes = [self.request(Code.WRITE_10, SECTORS_IN_BLOCK * at, self.random.choice([16, 16, 16, 1]), data) for at in order]
+        return [*self.maybe_new(), self.cache(), *writes, *self.several(self.line, 0, 2), *self.several(self.read, 1, 2)]
 
     def told(self) -> List[str]:
         """The power comes on, and commands come that are told so, or that are not."""

@@ -30,14 +30,14 @@ class Lines:
         """Something that uses the medium."""
         draws: Dict[Callable[[], str], float] = {
             self.write: 8, self.read: 8, self.verify: 1, self.full_format: 1, self.rewriting_format: 1, self.expansion: 1,
-            self.on: 2,
+            self.on: 2, self.tick: 2, self.synchronization: 1,
         }
         return self.one_of(draws)()
 
     def line(self) -> str:
         draws: Dict[Callable[[], str], float] = {
             self.transfer: 20, self.fail: 2, self.wear: 2, self.cut: 0.5, self.query: 6, self.ejection: 1.5,
-            self.mode_select: 1, self.any_command: 1, self.spoiled_command: 1.5, self.no_answer: 0.5, self.press: 0.15,
+            self.mode_select: 1, self.cache: 1, self.any_command: 1, self.spoiled_command: 1.5, self.no_answer: 0.5, self.press: 0.15,
             self.no_disc: 0.15,
         }
         return self.one_of(draws)()
@@ -53,6 +53,9 @@ class Lines:
 
     def on(self) -> str:
         return "power" if self.random.random() < 0.1 else "power\ncdb 000000000000"
+
+    def tick(self) -> str:
+        return "tick"
 
     def block(self) -> int:
         """A block of the medium: of a list, one of the first or last data blocks, or any."""
@@ -77,7 +80,7 @@ class Lines:
 
     def no_form(self) -> str:
         long = self.random.choice(["#".ljust(70_001), "#".rjust(70_001), "#".ljust(70_002)])
-        return self.random.choice([" # a", "Power", "press 1 1", "wear 13 0", "cut 0 old", "fail 4294967296", "cut 1 New", "cdb 0",
+        return self.random.choice([" # a", "Power", "tick 1", "Tick", "press 1 1", "wear 13 0", "cut 0 old", "fail 4294967296", "cut 1 New", "cdb 0",
                                    "cdb " + "00" * 17, "cdb 00 fill", "cdb 00 hex 0", "cdb\t00", "power\t", "\tpower", long, long])
 
     # Commands.
@@ -115,6 +118,14 @@ class Lines:
         if 0 < count <= 2 and self.random.random() < 0.5:
             data = f"hex {self.random.getrandbits(8 * SECTOR * count):0{2 * SECTOR * count}x}"
         return self.request(code, first, count, data)
+
+    def synchronization(self) -> str:
+        return self.cdb(Code.SYNCHRONIZE_CACHE, *bytes(9))
+
+    def cache(self) -> str:
+        """The write cache is turned on, or off."""
+        byte = self.random.choice([0x04, 0x04, 0x04, 0x00])
+        return self.cdb(Code.MODE_SELECT, 0x10, *bytes(5), 0, 20, 0, data=f"hex {'00' * 8}080a{byte:02x}{'00' * 9}")
 
     def full_format(self) -> str:
         forgets = self.random.choice([0x11, 0x19])
@@ -161,7 +172,7 @@ class Lines:
     def mode_select(self) -> str:
         choices: List[List[int]] = [[], [0x01], [0x08], [0x01, 0x08], [0x08, 0x81], [0x88, 0x88], [0x09], [0x01, 0x08, 0x01]]
         pages = self.random.choice(choices)
-        in_force = {0x01: b"\x0a\x80", 0x08: b"\x0a"}
+        in_force = {0x01: b"\x0a\x80", 0x08: bytes([0x0a, self.random.choice([0, 4])])}
         data = bytearray(8) + b"".join(bytes([page]) + in_force.get(page & 0x7f, b"").ljust(11, b"\0") for page in pages)
         if self.random.random() < 0.3:
             data[self.random.randrange(len(data))] ^= 1 << self.random.randrange(8)

@@ -5,8 +5,9 @@ import re
 from enum import IntEnum
 from typing import Iterator, List, NamedTuple, Optional, Tuple
 
+from .cache import CachedDrive
 from .commands import READS, Block, Target
-from .drive import Check, Drive
+from .drive import Check
 from .medium import MOST_WEARS, SECTOR, Cut, Fate, Geometry, Medium, PowerCut, State, Wear
 
 LONGEST_LINE = 70_000
@@ -14,7 +15,7 @@ LONGEST_SCRIPT = 67_108_864
 LONGEST_BLOCK = 16
 LARGEST_NUMBER = 4_294_967_295
 WORDS = {"NUMBER": "([0-9]{1,10})", "HEX": "((?:[0-9a-fA-F]{2})+)", "XX": "([0-9a-fA-F]{2})"}
-FORMS = ("(press) NUMBER NUMBER NUMBER", "(power)", "(fail) NUMBER", "(wear) NUMBER NUMBER", "(cut) NUMBER (old|new|torn)",
+FORMS = ("(press) NUMBER NUMBER NUMBER", "(power)", "(tick)", "(fail) NUMBER", "(wear) NUMBER NUMBER", "(cut) NUMBER (old|new|torn)",
          "(cdb) HEX", "(cdb) HEX (fill|count) XX", "(cdb) HEX (hex) HEX")
 PATTERNS = [re.compile(re.sub("NUMBER|HEX|XX", lambda word: WORDS[str(word.group())], form)) for form in FORMS]
 
@@ -111,7 +112,7 @@ class Run:
     def insert(self) -> None:
         """Serves the image, with its power off, if it is a disc's."""
         geometry = Geometry.of(self.image)
-        self.target = Target(Drive(Medium(self.image, geometry))) if geometry else None
+        self.target = Target(CachedDrive(Medium(self.image, geometry))) if geometry else None
 
     def answer(self, line: Line) -> List[str]:
         """Does what a line says: its answer, and the lines after it."""
@@ -122,6 +123,8 @@ class Run:
         try:
             if line.name == "power":
                 return [self.power(self.target)]
+            if line.name == "tick":
+                return [self.target.drive.tick()]
             if line.name == "cdb":
                 return self.command(self.target, line)
         except PowerCut:

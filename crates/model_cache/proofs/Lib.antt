@@ -4,3 +4,6 @@ pub mod Members
 pub mod ReplacedBlocks
 pub mod Falls
 pub mod OneProof
+pub mod Chained
+pub mod Lacking
+pub mod Found

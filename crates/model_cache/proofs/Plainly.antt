@@ -16,7 +16,7 @@ use Rattle.model_drive.specs.declared.ExpandOut.TheVariants as expands
 use Rattle.model_drive.specs.declared.Kind.{Kind}
 use Rattle.model_drive.specs.declared.Kind.TheVariants as kinds
 use Rattle.model_drive.specs.Shown.{Shown, IsFirstUnder, cells_in}
-use Rattle.model_drive.specs.Reads.{ReadCause, ReadStep, VerifyCause, VerifyStep}
+use Rattle.model_drive.specs.Reads.{ReadCause, ReadStep, VerifyCause, VerifyStep, ReadIsQuiet}
 use Rattle.model_drive.specs.Writes.{WriteCause, WriteStep}
 use Rattle.model_drive.specs.Formats.{FormatCause, FormatStep, FormatStepBy}
 use Rattle.model_drive.specs.FullFormats.{FullStep}
@@ -103,12 +103,21 @@ module _ (drive : Shown) (new : CacheShown) where
     record { off = p.off; nothing = ap (λ (s : CacheShown). s.drive) p.nothing },
     is_uncached new (ap (λ (s : CacheShown). s.pending) p.nothing) (ap (λ (s : CacheShown). s.caches) p.nothing),
   )
-  plain_read_cause lba n reads.Good p = (p.0, is_uncached new (p.1.0) (p.1.1))
-  plain_read_cause lba n reads.NotFormatted p = (p.0, is_uncached new (p.1.0) (p.1.1))
-  plain_read_cause lba n (reads.Range known) p = (p.0, is_uncached new (p.1.0) (p.1.1))
-  plain_read_cause lba n (reads.Unread named block) p = (p.0, is_uncached new (p.1.0) (p.1.1))
-  plain_read_cause lba n reads.Cut p = (p.0, is_uncached new (p.1.0) (p.1.1))
-  plain_read_cause lba n reads.Fault p = (p.0, is_uncached new (p.1.0) (p.1.1))
+  plain_read_cause lba n reads.Good p = (p.0.cause, is_uncached new (p.1.0) (p.1.1))
+  plain_read_cause lba n reads.NotFormatted p = (p.0.cause, is_uncached new (p.1.0) (p.1.1))
+  plain_read_cause lba n (reads.Range known) p = (p.0.cause, is_uncached new (p.1.0) (p.1.1))
+  plain_read_cause lba n (reads.Unread named block) p = (p.0.cause, is_uncached new (p.1.0) (p.1.1))
+  plain_read_cause lba n reads.Cut p = (p.0.cause, is_uncached new (p.1.0) (p.1.1))
+  plain_read_cause lba n reads.Fault p = (p.0.cause, is_uncached new (p.1.0) (p.1.1))
+
+  pub plain_read_quiet : (lba n : ℕ) (out : ReadOut) → CacheReadCause (uncached drive) new lba n out → ReadIsQuiet drive new.drive lba n out
+  plain_read_quiet lba n reads.Off p = λ inside buffered. absurd (p.off inside.on)
+  plain_read_quiet lba n reads.Good p = p.0.quiet
+  plain_read_quiet lba n reads.NotFormatted p = p.0.quiet
+  plain_read_quiet lba n (reads.Range known) p = p.0.quiet
+  plain_read_quiet lba n (reads.Unread named block) p = p.0.quiet
+  plain_read_quiet lba n reads.Cut p = p.0.quiet
+  plain_read_quiet lba n reads.Fault p = p.0.quiet
 
   -- a verification
   pub plain_verify_cause : (lba n : ℕ) (out : ReadOut) → CacheVerifyCause (uncached drive) new lba n out
@@ -127,7 +136,7 @@ module _ (drive : Shown) (new : CacheShown) where
 
   pub plain_write_cause : (lba n : ℕ) (bytes : List ℕ) (out : WriteOut) → CacheWriteCause (uncached drive) new lba n bytes out
       → LeavesUncached new (WriteCause drive new.drive lba n out)
-  plain_write_cause lba n bytes writes.Good p = through lba n writes.Good p
+  plain_write_cause lba n bytes writes.Good p = through lba n writes.Good p.1
   plain_write_cause lba n bytes writes.NotFormatted p = (
     record { on = p.on; unformatted = p.unformatted; nothing = ap (λ (s : CacheShown). s.drive) p.nothing },
     is_uncached new (ap (λ (s : CacheShown). s.pending) p.nothing) (ap (λ (s : CacheShown). s.caches) p.nothing),

@@ -16,7 +16,7 @@ use Rattle.model_drive.specs.declared.Kind.{Kind}
 use Rattle.model_drive.specs.declared.Kind.TheVariants as kinds
 use Rattle.model_drive.specs.Shown.{IsOn, IsFormatted, block_count}
 use Rattle.model_drive.specs.Parts.{IsOutOfRange, IsInRange}
-use Rattle.model_drive.specs.Reads.{ReadCause, VerifyCause}
+use Rattle.model_drive.specs.Reads.{VerifyCause}
 use Rattle.model_drive.specs.Writes.{WriteCause}
 use Rattle.model_drive.specs.Formats.{FormatCause}
 use Rattle.model_drive.specs.Expands.{ExpandCause}
@@ -29,7 +29,7 @@ use Rattle.model_cache.specs.declared.TickOut.TheVariants as ticks
 use Rattle.model_places.specs.Places.{Lists}
 use Rattle.model_cache.specs.Values.{is_among}
 use Rattle.model_cache.specs.Shown.{CacheShown, dropped, pending_in, pending_below, goes_into_cache, pending_covered}
-use Rattle.model_cache.specs.Chains.{WritesBack, Flushes, FlushesAll, EndsFlushing, leaves_pending}
+use Rattle.model_cache.specs.Chains.{LeavesSound, ReadsDisc, WritesBack, Flushes, FlushesAll, EndsFlushing, leaves_pending}
 
 -- The power was off, and nothing changed.
 pub record CacheWasOff (old new : CacheShown) : Type 0 where
@@ -65,7 +65,7 @@ leaves_after_read _ pending = pending
 abbrev pub ReadsPart : CacheShown → CacheShown → (lba n k : ℕ) → Option (List ℕ) → ReadOut → Type 0
 ReadsPart old new lba n k (Some bytes) out = (out ≡ reads.Good) × (new ≡ old)
 ReadsPart old new lba n k None out =
-    ReadCause old.drive new.drive (start_in lba (block_with lba + k))
+    ReadsDisc old.drive new.drive (start_in lba (block_with lba + k))
     (end_in lba n (block_with lba + k) - start_in lba (block_with lba + k)) out
     × (new.pending ≡ leaves_after_read out old.pending) × (new.caches ≡ old.caches)
 
@@ -97,7 +97,7 @@ ReadPartsCause old new lba n reads.Fault = EndsReading old new lba n reads.Fault
 
 -- A read: one of the disc where nothing is pending.
 abbrev pub CacheReadBy : List (ℕ × List ℕ) → CacheShown → CacheShown → (lba n : ℕ) → ReadOut → Type 0
-CacheReadBy [] old new lba n out = ReadCause old.drive new.drive lba n out × DropsCache old new
+CacheReadBy [] old new lba n out = ReadsDisc old.drive new.drive lba n out × DropsCache old new
 CacheReadBy (held ∷ pending) old new lba n out = ReadPartsCause old new lba n out
 
 -- The cause of each answer of a read of so many sectors from this one on, and what the drive shows then.
@@ -115,6 +115,7 @@ pub record WritesThrough (old new : CacheShown) (lba n : ℕ) (out : WriteOut) :
   pub mid : CacheShown
   pub flushed : FlushesAll old (pending_covered true old lba n) mid
   pub wrote : WriteCause mid.drive new.drive lba n out
+  pub leaves : LeavesSound mid.drive new.drive
   pub left : new.pending ≡ leaves_pending out mid.pending
   pub same_mode : new.caches ≡ old.caches
 
@@ -125,7 +126,7 @@ StopsWritingThrough old new lba n out = IsInRange old.drive lba n
 
 -- The cause of each answer of a write through the cache of a disc that has all pending blocks.
 abbrev pub ThroughCauseOf : CacheShown → CacheShown → (lba n : ℕ) → WriteOut → Type 0
-ThroughCauseOf old new lba n writes.Good = WritesThrough old new lba n writes.Good
+ThroughCauseOf old new lba n writes.Good = IsInRange old.drive lba n × WritesThrough old new lba n writes.Good
 ThroughCauseOf old new lba n writes.NotFormatted = ⊥
 ThroughCauseOf old new lba n (writes.Range known) = CacheOutOfRange old new lba n known
 ThroughCauseOf old new lba n (writes.Unread named block) = IsInRange old.drive lba n × WritesThrough old new lba n (writes.Unread named block)
@@ -148,7 +149,7 @@ leaving shown lba n = take (leave_first shown lba n) (pending_covered false show
 -- the rests of the first so many blocks were read from the disc, where they are needed
 abbrev pub ReadsRest : CacheShown → CacheShown → (lba n k : ℕ) → (partly : Bool) → Option (List ℕ) → Type 0
 ReadsRest old new lba n k true None =
-    ReadCause old.drive new.drive (16 * (block_with lba + k)) 16 reads.Good × KeepsCache old new
+    ReadsDisc old.drive new.drive (16 * (block_with lba + k)) 16 reads.Good × KeepsCache old new
 ReadsRest old new lba n k _ _ = new ≡ old
 
 abbrev pub ReadsRests : CacheShown → CacheShown → (lba n : ℕ) → ℕ → Type 0
@@ -207,7 +208,7 @@ pub record LacksRestInCache (old new : CacheShown) (lba n : ℕ) (out : WriteOut
   pub partly : is_partly lba n (block_with lba + before) ≡ true
   pub not_pending : bytes_at (block_with lba + before) late.pending ≡ None
   pub read_out : ReadOut
-  pub ends : ReadCause late.drive new.drive (16 * (block_with lba + before)) 16 read_out
+  pub ends : ReadsDisc late.drive new.drive (16 * (block_with lba + before)) 16 read_out
   pub tells : EndsRest lba n before read_out out
   pub left : new.pending ≡ leaves_pending out late.pending
   pub same_mode : new.caches ≡ old.caches

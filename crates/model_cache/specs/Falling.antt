@@ -5,14 +5,22 @@ use Rattle.std.specs.List.{All, Contains}
 use Rattle.model_sectors.specs.Discs.{block_of, replaced}
 use Rattle.model_cache.specs.Values.{Values, Contents, Has, HasBlock, HasValue, candidates_of, settled_values}
 
+-- if the disc has the block, this is so of each of the block's values
+abbrev pub EachValue : (List ℕ → Type 0) → ℕ → Values → Type 0
+EachValue so i v = HasBlock v.disc i → (bytes : List ℕ) → HasValue v i bytes → so bytes
+
+-- Whichever disc is found when the power goes off and on again, this is so of the block's value, or it has no block of this
+-- number.
+abbrev pub FallsTo : (List ℕ → Type 0) → ℕ → Contents → Type 0
+FallsTo so i s = All (EachValue so i) (candidates_of s)
+
 -- if the disc has the block, each of the block's values is one of these
 abbrev pub IsWithin : List (List ℕ) → ℕ → Values → Type 0
-IsWithin choices i v = HasBlock v.disc i → (bytes : List ℕ) → HasValue v i bytes → Contains choices bytes
+IsWithin choices i v = EachValue (Contains choices) i v
 
--- Whichever disc is found when the power goes off and on again, it has one of these as the block's value, or has no block
--- of this number.
+-- whichever disc is found, it has one of these as the block's value, or has no block of this number
 abbrev pub FallsWithin : List (List ℕ) → ℕ → Contents → Type 0
-FallsWithin choices i s = All (IsWithin choices i) (candidates_of s)
+FallsWithin choices i s = FallsTo (Contains choices) i s
 
 -- the value that a write of these bytes gives a block
 abbrev pub value_written : Values → (lba : ℕ) → List ℕ → ℕ → List ℕ

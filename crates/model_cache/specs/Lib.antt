@@ -4,4 +4,5 @@ pub mod Chains
 pub mod Steps
 pub mod Causes
 pub mod Plain
+pub mod Runs
 pub mod Falling

@@ -2,9 +2,11 @@
 //! laws.
 #![tactic(auto)]
 
-ghost use Rattle.std.specs.Prelude.{◌≡◌, ◌≤◌, ℕ, ◌++◌, ◌∷◌, [], true, length, replicate};
+ghost use Rattle.std.specs.Prelude.{◌≡◌, ◌≤◌, ℕ, Bool, List, ◌++◌, ◌∷◌, [], true, false, length, replicate};
 ghost use Rattle.model_modes.specs.declared.Page.{Page as ModePage};
+ghost use Rattle.model_modes.specs.declared.Page.TheVariants.{ErrorRecovery, Caching};
 ghost use Rattle.model_modes.specs.Pages.{code, pages_with, all_pages, pages, page_by, is_page_code, mode_data, current_page, changeable_page};
+ghost use Rattle.model_modes.specs.ParameterLists.{caches_after};
 
 /// The mode pages of the drive, under the names of INCITS MMC and SPC.
 #[derive(Clone, Copy, Debug, PartialEq, Eq)]
@@ -24,15 +26,30 @@ pub fn each_page_has_its_own_code()
 
 /// A page has 12 bytes, whatever is asked of it.
 pub fn pages_have_twelve_bytes()
-    ensures { (control : ℕ) (page : ModePage) → length (page_by control page) ≡ 12 }
+    ensures { (control : ℕ) (caches : Bool) (page : ModePage) → length (page_by control caches page) ≡ 12 }
 {}
 
-/// What is replied where the values in force are asked for, of one page and of both; and where the changeable ones are.
+/// What is replied where the values in force are asked for, of one page and of both, where the default ones are, and where the
+/// changeable ones are.
 pub fn worked_replies()
-    ensures recovery { mode_data 0 0x01 ≡ 0x00 ∷ 0x12 ∷ replicate 6 0 ++ 0x01 ∷ 0x0a ∷ 0x80 ∷ replicate 9 0 }
-    ensures caching { mode_data 2 0x08 ≡ 0x00 ∷ 0x12 ∷ replicate 6 0 ++ 0x08 ∷ 0x0a ∷ replicate 10 0 }
-    ensures both { mode_data 0 0x3f ≡ 0x00 ∷ 0x1e ∷ replicate 6 0 ++ 0x01 ∷ 0x0a ∷ 0x80 ∷ replicate 9 0
+    ensures recovery { (caches : Bool) → mode_data 0 caches 0x01
+        ≡ 0x00 ∷ 0x12 ∷ replicate 6 0 ++ 0x01 ∷ 0x0a ∷ 0x80 ∷ replicate 9 0 }
+    ensures caching { mode_data 0 true 0x08 ≡ 0x00 ∷ 0x12 ∷ replicate 6 0 ++ 0x08 ∷ 0x0a ∷ 0x04 ∷ replicate 9 0 }
+    ensures default { (caches : Bool) → mode_data 2 caches 0x08
+        ≡ 0x00 ∷ 0x12 ∷ replicate 6 0 ++ 0x08 ∷ 0x0a ∷ replicate 10 0 }
+    ensures both { mode_data 0 false 0x3f ≡ 0x00 ∷ 0x1e ∷ replicate 6 0 ++ 0x01 ∷ 0x0a ∷ 0x80 ∷ replicate 9 0
         ++ 0x08 ∷ 0x0a ∷ replicate 10 0 }
-    ensures changeable { mode_data 1 0x3f ≡ 0x00 ∷ 0x1e ∷ replicate 6 0 ++ 0x01 ∷ 0x0a ∷ replicate 10 0
-        ++ 0x08 ∷ 0x0a ∷ replicate 10 0 }
+    ensures changeable { (caches : Bool) → mode_data 1 caches 0x3f
+        ≡ 0x00 ∷ 0x1e ∷ replicate 6 0 ++ 0x01 ∷ 0x0a ∷ replicate 10 0 ++ 0x08 ∷ 0x0a ∷ 0x04 ∷ replicate 9 0 }
+{}
+
+/// Whether the write cache is on after some lists: after none and after one without a caching page as before; after one that
+/// sets WCE, in a page whose first bit is set or not, on; after one that sets it and then clears it, off.
+pub fn worked_lists()
+    ensures empty { (was : Bool) → caches_after [] was ≡ was }
+    ensures recovery { (was : Bool) → caches_after (replicate 8 0 ++ current_page true ErrorRecovery) was ≡ was }
+    ensures on { (was : Bool) → caches_after (replicate 8 0 ++ current_page true Caching) was ≡ true }
+    ensures reserved { (was : Bool) → caches_after (replicate 8 0 ++ 0x88 ∷ 0x0a ∷ 0x04 ∷ replicate 9 0) was ≡ true }
+    ensures last { (was : Bool)
+        → caches_after (replicate 8 0 ++ current_page true Caching ++ current_page false Caching) was ≡ false }
 {}

@@ -2,25 +2,23 @@
 use Rattle.std.specs.Prelude.{◌≡◌, ℕ, ◌==◌, Bool, true, false, Result, Ok, Err, List}
 use Rattle.std.specs.Bool.{MatchBool}
 use Rattle.std.proofs.Common.{sym, inl, inr, subst}
-use Rattle.model_sectors.specs.Discs.{Standing}
-use Rattle.model_drive.specs.Shown.{Shown}
-use Rattle.model_drive.specs.Reads.{ReadStep, VerifyStep}
-use Rattle.model_drive.specs.Writes.{WriteStep}
-use Rattle.model_drive.specs.Formats.{FormatStep}
-use Rattle.model_drive.specs.Expands.{ExpandStep}
-use Rattle.model_drive.proofs.Found.{read_found, verify_found, write_found, expand_found, format_found}
+use Rattle.model_drive.specs.declared.WriteOut.{WriteOut}
+use Rattle.model_cache.specs.Values.{Contents}
+use Rattle.model_cache.specs.Shown.{CacheShown}
+use Rattle.model_cache.specs.Steps.{ReadContents, VerifyContents, FormatContents, ExpandContents, SyncContents}
+use Rattle.model_cache.proofs.Found.{read_found, verify_found, write_found, through_found, expand_found, format_found, sync_found}
 use Rattle.model_sense.specs.declared.sense.Sense.{Sense}
 use Rattle.model_sense.specs.declared.answer.Answer.{Answer}
 use Rattle.model_sense.specs.declared.answer.Answer.TheVariants as answers
 use Rattle.model_cdb.specs.declared.commands.Command.{Command}
 use Rattle.model_cdb.specs.declared.commands.Command.TheVariants as commands
 use Rattle.model_target.specs.declared.host.Host.{Host}
-use Rattle.model_target.specs.Steps.{IsAnswered, TellsStructure, TellsSpares, IsDone, IsAnsweredBy, IsStep}
+use Rattle.model_target.specs.Steps.{WrittenContents, IsAnswered, TellsStructure, TellsSpares, IsDone, IsAnsweredBy, IsStep}
 
-module _ (old new : Shown) (before after : Standing → Type 0) (s : Standing) (stood : before s) where
+module _ (old new : CacheShown) (before after : Contents → Type 0) (s : Contents) (stood : before s) where
   -- what the drive stands for afterwards
-  abbrev FindsBy : ((Standing → Type 0) → (Standing → Type 0) → Type 0) → Type 0
-  FindsBy Rule = (t : Standing) × after t × Rule (λ x. x ≡ s) (λ x. x ≡ t)
+  abbrev FindsBy : ((Contents → Type 0) → (Contents → Type 0) → Type 0) → Type 0
+  FindsBy Rule = (t : Contents) × after t × Rule (λ x. x ≡ s) (λ x. x ≡ t)
 
   answered_found : (answer due : Answer) (data_in reply : List ℕ) → IsAnswered old new before after answer due data_in reply
       → FindsBy (λ was is. IsAnswered old new was is answer due data_in reply)
@@ -38,18 +36,23 @@ module _ (old new : Shown) (before after : Standing → Type 0) (s : Standing) (
       (found.0, found.1, record { text = p.text; is_text = p.is_text; is_answered = found.2 })
   structure_found false alloc answer data_in p = answered_found answer _ data_in _ p
 
+  written_found : (lba n : ℕ) (payload : List ℕ) (fua : Bool) (out : WriteOut) → WrittenContents old new lba n payload after s fua out
+      → (t : Contents) × after t × WrittenContents old new lba n payload (λ x. x ≡ t) s fua out
+  written_found lba n payload true out step = through_found after old new lba n payload s out step
+  written_found lba n payload false out step = write_found after old new lba n payload s out step
+
   done_found : (host : Host) (payload : List ℕ) (command : Command) (answer : Answer) (data_in : List ℕ) → IsDone old new before after host payload command answer data_in
       → FindsBy (λ was is. IsDone old new was is host payload command answer data_in)
   done_found host payload commands.TestUnitReady answer data_in p = answered_found answer _ data_in _ p
   done_found host payload (commands.RequestSense alloc) answer data_in p = answered_found answer _ data_in _ p
   done_found host payload (commands.Format kind) answer data_in p =
-      let found = format_found after old new s kind p.out (p.step s stood) in (
+      let found = format_found after old.drive new.drive s kind p.out (p.step s stood) in (
         found.0,
         found.1,
         record {
           out = p.out;
           cause = p.cause;
-          step = λ x e. subst (λ y. FormatStep old new (λ z. z ≡ found.0) y kind p.out) (sym e) found.2;
+          step = λ x e. subst (λ y. FormatContents old.drive new.drive (λ z. z ≡ found.0) y kind p.out) (sym e) found.2;
           answer_is = p.answer_is;
           no_data = p.no_data;
         },
@@ -61,7 +64,7 @@ module _ (old new : Shown) (before after : Standing → Type 0) (s : Standing) (
         record {
           out = p.out;
           cause = p.cause;
-          step = λ x e. subst (λ y. ExpandStep (λ z. z ≡ found.0) y sectors p.out) (sym e) found.2;
+          step = λ x e. subst (λ y. ExpandContents (λ z. z ≡ found.0) y sectors p.out) (sym e) found.2;
           answer_is = p.answer_is;
           no_data = p.no_data;
         },
@@ -79,20 +82,19 @@ module _ (old new : Shown) (before after : Standing → Type 0) (s : Standing) (
           out = p.out;
           bytes = p.bytes;
           cause = p.cause;
-          step = λ x e. subst (λ y. ReadStep (λ z. z ≡ found.0) y lba n p.bytes p.out) (sym e) found.2;
-          quiet = p.quiet;
+          step = λ x e. subst (λ y. ReadContents (λ z. z ≡ found.0) y lba n p.bytes p.out) (sym e) found.2;
           answer_is = p.answer_is;
           data_is = p.data_is;
         },
       )
   done_found host payload (commands.Write lba n fua) answer data_in p =
-      let found = write_found after new s lba n payload p.out (p.step s stood) in (
+      let found = written_found lba n payload fua p.out (p.step s stood) in (
         found.0,
         found.1,
         record {
           out = p.out;
           cause = p.cause;
-          step = λ x e. subst (λ y. WriteStep new (λ z. z ≡ found.0) y lba n payload p.out) (sym e) found.2;
+          step = λ x e. subst (λ y. WrittenContents old new lba n payload (λ z. z ≡ found.0) y fua p.out) (sym e) found.2;
           answer_is = p.answer_is;
           no_data = p.no_data;
         },
@@ -104,14 +106,26 @@ module _ (old new : Shown) (before after : Standing → Type 0) (s : Standing) (
         record {
           out = p.out;
           cause = p.cause;
-          step = λ x e. subst (λ y. VerifyStep (λ z. z ≡ found.0) y p.out) (sym e) found.2;
+          step = λ x e. subst (λ y. VerifyContents (λ z. z ≡ found.0) y p.out) (sym e) found.2;
           answer_is = p.answer_is;
           no_data = p.no_data;
         },
       )
-  done_found host payload commands.Synchronize answer data_in p = answered_found answer _ data_in _ p
+  done_found host payload commands.Synchronize answer data_in p =
+      let found = sync_found after s p.out (p.step s stood) in (
+        found.0,
+        found.1,
+        record {
+          out = p.out;
+          cause = p.cause;
+          step = λ x e. subst (λ y. SyncContents (λ z. z ≡ found.0) y p.out) (sym e) found.2;
+          answer_is = p.answer_is;
+          no_data = p.no_data;
+        },
+      )
   done_found host payload (commands.Configuration rt start alloc) answer data_in p = answered_found answer _ data_in _ p
-  done_found host payload commands.ModeSelect answer data_in p = answered_found answer _ data_in _ p
+  done_found host payload commands.ModeSelect answer data_in p =
+      (s, p.stands s stood, record { mode = p.mode; stands = λ x e. e; answer_is = p.answer_is; no_data = p.no_data })
   done_found host payload (commands.ModeSense control page alloc) answer data_in p = answered_found answer _ data_in _ p
   done_found host payload (commands.Structure format alloc) answer data_in p = structure_found (format == 0x08) alloc answer data_in p
 

@@ -3,7 +3,6 @@ use Rattle.std.specs.Prelude.{◌≡◌, ℕ, ◌==◌, ◌||◌, ◌&&◌, not,
 use Rattle.std.specs.Bool.{MatchBool}
 use Rattle.std.specs.List.{find}
 use Rattle.std.proofs.Common.{refl, sym, ap, inl, inr, subst, arith}
-use Rattle.model_sectors.specs.Discs.{Standing}
 use Rattle.model_sectors.specs.declared.ReadOut.{ReadOut}
 use Rattle.model_sectors.specs.declared.ReadOut.TheVariants as reads
 use Rattle.model_commands.specs.declared.Operation.{Operation}
@@ -15,7 +14,12 @@ use Rattle.model_drive.specs.declared.FormatOut.TheVariants as formats
 use Rattle.model_drive.specs.declared.ExpandOut.{ExpandOut}
 use Rattle.model_drive.specs.declared.ExpandOut.TheVariants as expands
 use Rattle.model_drive.specs.Shown.{Shown}
-use Rattle.model_drive.specs.Writes.{LacksSpare, WriteCause}
+use Rattle.model_cache.specs.declared.SyncOut.{SyncOut}
+use Rattle.model_cache.specs.declared.SyncOut.TheVariants as syncs
+use Rattle.model_cache.specs.Values.{Contents}
+use Rattle.model_cache.specs.Shown.{CacheShown}
+use Rattle.model_cache.specs.Causes.{SyncCause}
+use Rattle.model_cache.proofs.Lacking.{LacksOne, through_lacks, write_lacks, sync_lacks}
 use Rattle.model_sense.specs.Sense.{sense, sense_at}
 use Rattle.model_sense.specs.declared.sense.Sense.{Sense}
 use Rattle.model_sense.specs.declared.answer.Answer.TheVariants as answers
@@ -26,21 +30,15 @@ use Rattle.model_target.specs.declared.host.Host.{Host}
 use Rattle.model_target.specs.Host.{is_told}
 use Rattle.model_target.specs.Judging.{asked_in, asked_by, asked, ejects, needs_disc, needs_format, hindrances, IsAllowed, IsJudgedBy, IsJudged}
 use Rattle.model_target.specs.Senses.{IsKnownSense}
-use Rattle.model_target.specs.Steps.{read_answer, write_answer, format_answer, expand_answer, IsAnswered, TellsStructure, TellsSpares, IsDone, IsAnsweredBy, IsStep}
-
--- some write lacks a spare for the block of this sector
-pub record LacksOne (old new : Shown) (named : ℕ) : Type 0 where
-  pub lba : ℕ
-  pub n : ℕ
-  pub lacks : LacksSpare old new lba n named
+use Rattle.model_target.specs.Steps.{read_answer, write_answer, format_answer, expand_answer, sync_answer, WrittenCause, IsAnswered, TellsStructure, TellsSpares, IsDone, IsAnsweredBy, IsStep}
 
 -- This holds of each sense that a command may be checked with: of the one that no spare is left, where a write lacks one.
-pub record HoldsOfSenses (old new : Shown) (P : Sense → Type 0) : Type 0 where
+pub record HoldsOfSenses (new : Shown) (P : Sense → Type 0) : Type 0 where
   pub not_present : P (sense 0x2 0x3a 0x00)
   pub unread : (lba : ℕ) → P (sense_at 0x3 0x11 0x00 lba)
   pub unformatted : P (sense 0x3 0x31 0x00)
   pub format_failed : P (sense 0x3 0x31 0x01)
-  pub no_spare : (named : ℕ) → LacksOne old new named → P (sense_at 0x3 0x32 0x00 named)
+  pub no_spare : (named : ℕ) → LacksOne new named → P (sense_at 0x3 0x32 0x00 named)
   pub no_update : P (sense 0x3 0x32 0x01)
   pub wrong_length : P (sense 0x5 0x1a 0x00)
   pub unknown_code : P (sense 0x5 0x20 0x00)
@@ -51,7 +49,7 @@ pub record HoldsOfSenses (old new : Shown) (P : Sense → Type 0) : Type 0 where
   pub prevented : P (sense 0x5 0x53 0x02)
   pub powered : P (sense 0x6 0x29 0x00)
 
-module _ (P : Sense → Type 0) (old new : Shown) (all : HoldsOfSenses old new P) where
+module _ (P : Sense → Type 0) (old new : CacheShown) (all : HoldsOfSenses new.drive P) where
   -- ---- of an answer that is a check
 
   same_known : (a b : Sense) → a ≡ b → P a → P b
@@ -69,16 +67,29 @@ module _ (P : Sense → Type 0) (old new : Shown) (all : HoldsOfSenses old new P
   read_check why reads.Off is = absurd cc
   read_check why reads.Fault is = absurd cc
 
-  write_check : (lba n : ℕ) (why : Sense) (out : WriteOut) → answers.Check why ≡ write_answer out → WriteCause old new lba n out → P why
-  write_check lba n why writes.Good is cause = absurd cc
-  write_check lba n why writes.NotFormatted is cause = same_check why _ is all.unformatted
-  write_check lba n why (writes.Range known) is cause = same_check why _ is all.out_of_range
-  write_check lba n why (writes.Unread named block) is cause = same_check why _ is (all.unread named)
-  write_check lba n why (writes.NoSpare named) is cause = same_check why _ is (all.no_spare named (record { lba = lba; n = n; lacks = cause }))
-  write_check lba n why (writes.NoUpdate counter) is cause = same_check why _ is all.no_update
-  write_check lba n why writes.Cut is cause = absurd cc
-  write_check lba n why writes.Off is cause = absurd cc
-  write_check lba n why writes.Fault is cause = absurd cc
+  written_lacks : (lba n : ℕ) (payload : List ℕ) (fua : Bool) (named : ℕ) → WrittenCause old new lba n payload fua (writes.NoSpare named) → LacksOne new.drive named
+  written_lacks lba n payload true named cause = through_lacks old new lba n named cause
+  written_lacks lba n payload false named cause = write_lacks old new lba n named payload cause
+
+  write_check : (lba n : ℕ) (payload : List ℕ) (fua : Bool) (why : Sense) (out : WriteOut) → answers.Check why ≡ write_answer out → WrittenCause old new lba n payload fua out → P why
+  write_check lba n payload fua why writes.Good is cause = absurd cc
+  write_check lba n payload fua why writes.NotFormatted is cause = same_check why _ is all.unformatted
+  write_check lba n payload fua why (writes.Range known) is cause = same_check why _ is all.out_of_range
+  write_check lba n payload fua why (writes.Unread named block) is cause = same_check why _ is (all.unread named)
+  write_check lba n payload fua why (writes.NoSpare named) is cause = same_check why _ is (all.no_spare named (written_lacks lba n payload fua named cause))
+  write_check lba n payload fua why (writes.NoUpdate counter) is cause = same_check why _ is all.no_update
+  write_check lba n payload fua why writes.Cut is cause = absurd cc
+  write_check lba n payload fua why writes.Off is cause = absurd cc
+  write_check lba n payload fua why writes.Fault is cause = absurd cc
+
+  sync_check : (why : Sense) (out : SyncOut) → answers.Check why ≡ sync_answer out → SyncCause old new out → P why
+  sync_check why syncs.Good is cause = absurd cc
+  sync_check why syncs.NotFormatted is cause = same_check why _ is all.unformatted
+  sync_check why (syncs.NoSpare named) is cause = same_check why _ is (all.no_spare named (sync_lacks old new named cause))
+  sync_check why (syncs.NoUpdate counter) is cause = same_check why _ is all.no_update
+  sync_check why syncs.Cut is cause = absurd cc
+  sync_check why syncs.Off is cause = absurd cc
+  sync_check why syncs.Fault is cause = absurd cc
 
   format_check : (why : Sense) (out : FormatOut) → answers.Check why ≡ format_answer out → P why
   format_check why formats.Good is = absurd cc
@@ -159,7 +170,7 @@ module _ (P : Sense → Type 0) (old new : Shown) (all : HoldsOfSenses old new P
 
   -- ---- of a command
 
-  module _ (before after : Standing → Type 0) (why : Sense) where
+  module _ (before after : Contents → Type 0) (why : Sense) where
     not_good : (data_in reply : List ℕ) → IsAnswered old new before after (answers.Check why) answers.Good data_in reply → P why
     not_good data_in reply p = absurd (let e : answers.Check why ≡ answers.Good = p.answer_is in cc)
 
@@ -179,17 +190,17 @@ module _ (P : Sense → Type 0) (old new : Shown) (all : HoldsOfSenses old new P
     done_sensed host payload (commands.FormatCapacities alloc) data_in p = not_good data_in _ p
     done_sensed host payload commands.ReadCapacity data_in p = not_good data_in _ p
     done_sensed host payload (commands.Read lba n) data_in p = read_check why p.out p.answer_is
-    done_sensed host payload (commands.Write lba n fua) data_in p = write_check lba n why p.out p.answer_is p.cause
+    done_sensed host payload (commands.Write lba n fua) data_in p = write_check lba n payload fua why p.out p.answer_is p.cause
     done_sensed host payload (commands.Verify lba n) data_in p = read_check why p.out p.answer_is
-    done_sensed host payload commands.Synchronize data_in p = not_good data_in _ p
+    done_sensed host payload commands.Synchronize data_in p = sync_check why p.out p.answer_is p.cause
     done_sensed host payload (commands.Configuration rt start alloc) data_in p = not_good data_in _ p
-    done_sensed host payload commands.ModeSelect data_in p = not_good data_in _ p
+    done_sensed host payload commands.ModeSelect data_in p = absurd (let e : answers.Check why ≡ answers.Good = p.answer_is in cc)
     done_sensed host payload (commands.ModeSense control page alloc) data_in p = not_good data_in _ p
     done_sensed host payload (commands.Structure format alloc) data_in p = not_told (format == 0x08) alloc data_in p
 
-    by_sensed : (host : Host) (cdb payload : List ℕ) (judged : Result Command Sense) (data_in : List ℕ) → IsJudged host (is_some old.lists) cdb payload judged
+    by_sensed : (host : Host) (cdb payload : List ℕ) (judged : Result Command Sense) (data_in : List ℕ) → IsJudged host (is_some old.drive.lists) cdb payload judged
         → IsAnsweredBy old new before after host payload judged (answers.Check why) data_in → P why
-    by_sensed host cdb payload (Err first) data_in judged p = same_check why first p.answer_is (judged_sensed host (is_some old.lists) payload first cdb (asked host cdb payload) refl judged)
+    by_sensed host cdb payload (Err first) data_in judged p = same_check why first p.answer_is (judged_sensed host (is_some old.drive.lists) payload first cdb (asked host cdb payload) refl judged)
     by_sensed host cdb payload (Ok command) data_in judged p = done_sensed host payload command data_in p
 
     pub step_sensed : (host later : Host) (cdb payload data_in : List ℕ) → IsStep old new before after host later cdb payload (answers.Check why) data_in → P why
@@ -197,8 +208,8 @@ module _ (P : Sense → Type 0) (old new : Shown) (all : HoldsOfSenses old new P
     step_sensed host later cdb payload data_in (inr on) = by_sensed host cdb payload on.1.judged data_in on.1.is_judged on.1.is_answered
 
 -- it is one of those that are known
-known : (old new : Shown) → HoldsOfSenses old new IsKnownSense
-known old new = record {
+known : (new : Shown) → HoldsOfSenses new IsKnownSense
+known new = record {
   not_present = (0, search arith, refl);
   unread = λ lba. (1, search arith, refl);
   unformatted = (2, search arith, refl);
@@ -215,20 +226,20 @@ known old new = record {
   powered = (13, search arith, refl);
 }
 
-pub step_known : (old new : Shown) (before after : Standing → Type 0) (why : Sense) (host later : Host) (cdb payload data_in : List ℕ) → IsStep old new before after host later cdb payload (answers.Check why) data_in → IsKnownSense why
-step_known old new = step_sensed IsKnownSense old new (known old new)
+pub step_known : (old new : CacheShown) (before after : Contents → Type 0) (why : Sense) (host later : Host) (cdb payload data_in : List ℕ) → IsStep old new before after host later cdb payload (answers.Check why) data_in → IsKnownSense why
+step_known old new = step_sensed IsKnownSense old new (known new.drive)
 
 -- it says that no spare is left only where a write lacks one
 without_sector : (key asc ascq named : ℕ) → sense key asc ascq ≡ sense_at 0x3 0x32 0x00 named → ⊥
 without_sector key asc ascq named is = (let e : None ≡ Some named = ap (λ (why : Sense). why.info) is in cc)
 
-lacking : (old new : Shown) → HoldsOfSenses old new (λ why. (named : ℕ) → why ≡ sense_at 0x3 0x32 0x00 named → LacksOne old new named)
-lacking old new = record {
+lacking : (new : Shown) → HoldsOfSenses new (λ why. (named : ℕ) → why ≡ sense_at 0x3 0x32 0x00 named → LacksOne new named)
+lacking new = record {
   not_present = λ named is. absurd (without_sector 0x2 0x3a 0x00 named is);
   unread = λ lba named is. absurd (let code : 0x11 ≡ 0x32 = ap (λ (why : Sense). why.asc) is in omega (arith, code));
   unformatted = λ named is. absurd (without_sector 0x3 0x31 0x00 named is);
   format_failed = λ named is. absurd (without_sector 0x3 0x31 0x01 named is);
-  no_spare = λ found lacks named is. subst (LacksOne old new) (same_named found named is) lacks;
+  no_spare = λ found lacks named is. subst (LacksOne new) (same_named found named is) lacks;
   no_update = λ named is. absurd (without_sector 0x3 0x32 0x01 named is);
   wrong_length = λ named is. absurd (without_sector 0x5 0x1a 0x00 named is);
   unknown_code = λ named is. absurd (without_sector 0x5 0x20 0x00 named is);
@@ -243,6 +254,6 @@ lacking old new = record {
     same_named : (found named : ℕ) → sense_at 0x3 0x32 0x00 found ≡ sense_at 0x3 0x32 0x00 named → found ≡ named
     same_named found named is = (let e : Some found ≡ Some named = ap (λ (why : Sense). why.info) is in cc)
 
-pub step_lacks : (old new : Shown) (before after : Standing → Type 0) (host later : Host) (cdb payload data_in : List ℕ) (named : ℕ) → IsStep old new before after host later cdb payload (answers.Check (sense_at 0x3 0x32 0x00 named)) data_in → LacksOne old new named
+pub step_lacks : (old new : CacheShown) (before after : Contents → Type 0) (host later : Host) (cdb payload data_in : List ℕ) (named : ℕ) → IsStep old new before after host later cdb payload (answers.Check (sense_at 0x3 0x32 0x00 named)) data_in → LacksOne new.drive named
 step_lacks old new before after host later cdb payload data_in named step =
-    step_sensed (λ why. (at : ℕ) → why ≡ sense_at 0x3 0x32 0x00 at → LacksOne old new at) old new (lacking old new) before after (sense_at 0x3 0x32 0x00 named) host later cdb payload data_in step named refl
+    step_sensed (λ why. (at : ℕ) → why ≡ sense_at 0x3 0x32 0x00 at → LacksOne new.drive at) old new (lacking new.drive) before after (sense_at 0x3 0x32 0x00 named) host later cdb payload data_in step named refl

@@ -2,8 +2,8 @@
 use Rattle.std.specs.Prelude.{◌≡◌, ◌≤◌, ◌||◌, ℕ, Bool, true, false, nat_lt, is_some, Option, Some, Result, Ok, Err, List, ◌∷◌, length, drop}
 use Rattle.std.specs.List.{find}
 use Rattle.std.proofs.Common.{refl, sym, inl, inr, ap, arith}
-use Rattle.model_sectors.specs.Discs.{Standing}
-use Rattle.model_drive.specs.Shown.{Shown}
+use Rattle.model_cache.specs.Values.{Contents}
+use Rattle.model_cache.specs.Shown.{CacheShown}
 use Rattle.model_commands.specs.declared.Operation.{Operation}
 use Rattle.model_commands.specs.Commands.{command, operation_of}
 use Rattle.model_sense.specs.Sense.{sense}
@@ -42,11 +42,11 @@ judged_whole host formatted payload cdb operation (Err why) done wanted_is judge
 judged_whole host formatted payload cdb operation (Ok asked) done wanted_is judged =
     asked_whole (is_told host operation) operation cdb payload asked (sym wanted_is)
 
-module _ (old new : Shown) (before after : Standing → Type 0) (host later : Host) (cdb payload data_in : List ℕ) (operation : Operation) (is : operation_of cdb ≡ Some operation) where
-  by_judged : (judged : Result Command Sense) → IsJudged host (is_some old.lists) cdb payload judged → IsAnsweredBy old new before after host payload judged answers.Good data_in → (command operation).bytes ≤ length cdb
+module _ (old new : CacheShown) (before after : Contents → Type 0) (host later : Host) (cdb payload data_in : List ℕ) (operation : Operation) (is : operation_of cdb ≡ Some operation) where
+  by_judged : (judged : Result Command Sense) → IsJudged host (is_some old.drive.lists) cdb payload judged → IsAnsweredBy old new before after host payload judged answers.Good data_in → (command operation).bytes ≤ length cdb
   by_judged (Err why) judged p = absurd (let e : answers.Good ≡ answers.Check why = p.answer_is in cc)
   by_judged (Ok done) judged p =
-      judged_whole host (is_some old.lists) payload cdb operation (asked host cdb payload) done
+      judged_whole host (is_some old.drive.lists) payload cdb operation (asked host cdb payload) done
       (ap (λ (o : Option Operation). asked_by host o cdb payload) is) judged
 
   pub done_whole : IsStep old new before after host later cdb payload answers.Good data_in → (command operation).bytes ≤ length cdb

@@ -1,6 +1,5 @@
--- What one command does on a drive with defect management, and how it is answered: the first reason against it, else its
--- reply. (After INCITS MMC and SPC; the causes are this project's own.)
-use Rattle.std.specs.Prelude.{◌≡◌, ℕ, ◌==◌, ◌⊎◌, Bool, is_some, Option, Result, Ok, Err, List, [], take}
+-- What one command does on a drive with a write cache, and how it is answered: the first reason against it, else its reply. (After INCITS MMC and SPC; the causes are this project's own.)
+use Rattle.std.specs.Prelude.{◌≡◌, ℕ, ◌==◌, ◌⊎◌, Bool, false, is_some, Option, Result, Ok, Err, List, [], take}
 use Rattle.std.specs.Bool.{MatchBool}
 use Rattle.std.specs.Option.{option_map_or}
 use Rattle.model_geometry.specs.Geometry.{formattable}
@@ -9,7 +8,7 @@ use Rattle.model_commands.specs.declared.Operation.{Operation}
 use Rattle.model_commands.specs.Commands.{operation_of}
 use Rattle.model_counts.specs.Counts.{Rose}
 use Rattle.model_modes.specs.Pages.{mode_data}
-use Rattle.model_sectors.specs.Discs.{Standing}
+use Rattle.model_modes.specs.ParameterLists.{caches_after}
 use Rattle.model_sectors.specs.declared.ReadOut.{ReadOut}
 use Rattle.model_sectors.specs.declared.ReadOut.TheVariants as reads
 use Rattle.model_sectors.specs.declared.PowerOut.{PowerOut}
@@ -22,12 +21,13 @@ use Rattle.model_drive.specs.declared.ExpandOut.{ExpandOut}
 use Rattle.model_drive.specs.declared.ExpandOut.TheVariants as expands
 use Rattle.model_drive.specs.Shown.{Shown, IsOn, capacity}
 use Rattle.model_drive.specs.Tells.{GivesDds}
-use Rattle.model_drive.specs.Reads.{ReadCause, ReadStep, ReadIsQuiet, VerifyCause, VerifyStep}
-use Rattle.model_drive.specs.Writes.{WriteCause, WriteStep}
-use Rattle.model_drive.specs.Formats.{FormatCause, FormatStep}
-use Rattle.model_drive.specs.Expands.{ExpandCause, ExpandStep}
-use Rattle.model_drive.specs.Power.{PowerCause, PowerStep}
 use Rattle.model_drive.specs.Faults.{faults}
+use Rattle.model_cache.specs.declared.SyncOut.{SyncOut}
+use Rattle.model_cache.specs.declared.SyncOut.TheVariants as syncs
+use Rattle.model_cache.specs.Values.{Contents}
+use Rattle.model_cache.specs.Shown.{CacheShown}
+use Rattle.model_cache.specs.Causes.{CacheReadCause, CacheVerifyCause, CacheWriteCause, ThroughCause, CacheFormatCause, CacheExpandCause, CachePowerCause, SyncCause}
+use Rattle.model_cache.specs.Steps.{ReadContents, VerifyContents, WriteContents, ThroughContents, FormatContents, ExpandContents, PowerContents, SyncContents}
 use Rattle.model_sense.specs.Sense.{sense, sense_at}
 use Rattle.model_sense.specs.declared.sense.Sense.{Sense}
 use Rattle.model_sense.specs.declared.answer.Answer.{Answer}
@@ -81,6 +81,16 @@ expand_answer expands.Cut = answers.Cut
 expand_answer expands.Off = answers.Off
 expand_answer expands.Fault = answers.Fault
 
+-- how each end of a synchronisation is answered: as that of a write (after INCITS MMC)
+abbrev pub sync_answer : SyncOut → Answer
+sync_answer syncs.Good = answers.Good
+sync_answer syncs.NotFormatted = answers.Check (sense 0x3 0x31 0x00)
+sync_answer (syncs.NoSpare lba) = answers.Check (sense_at 0x3 0x32 0x00 lba)
+sync_answer (syncs.NoUpdate counter) = answers.Check (sense 0x3 0x32 0x01)
+sync_answer syncs.Cut = answers.Cut
+sync_answer syncs.Off = answers.Off
+sync_answer syncs.Fault = answers.Fault
+
 -- the data of a read: the sectors, where all were read
 abbrev pub data_read : ReadOut → List ℕ → List ℕ
 data_read reads.Good bytes = bytes
@@ -103,52 +113,76 @@ host_after host operation (Err why) answer =
     with_kept_sense (record host { attention = attention_after host operation }) answer
 host_after host operation (Ok asked) answer = with_kept_sense (done_by asked host) answer
 
-module _ (old new : Shown) (before after : Standing → Type 0) where
+module _ (old new : CacheShown) (lba n : ℕ) (bytes : List ℕ) where
+  -- Why a write is answered so: with FUA it goes through the cache, and else into it where that is on and few blocks are covered.
+  abbrev pub WrittenCause : (fua : Bool) → WriteOut → Type 0
+  WrittenCause fua out = MatchBool fua (ThroughCause old new lba n out) (CacheWriteCause old new lba n bytes out)
+
+  -- the same of what it makes of what the drive stands for
+  abbrev pub WrittenContents : (Contents → Type 0) → Contents → (fua : Bool) → WriteOut → Type 0
+  WrittenContents after s fua out = MatchBool fua
+      (ThroughContents old new after s lba n bytes out) (WriteContents old new after s lba n bytes out)
+
+module _ (old new : CacheShown) (before after : Contents → Type 0) where
   -- nothing was done on the disc
   pub record Untouched : Type 0 where
     pub same : new ≡ old
-    pub stands : (s : Standing) → before s → after s
+    pub stands : (s : Contents) → before s → after s
 
   -- a read of so many sectors was answered so, with these data
   pub record IsRead (lba n : ℕ) (answer : Answer) (data_in : List ℕ) : Type 0 where
     pub out : ReadOut
     pub bytes : List ℕ
-    pub cause : ReadCause old new lba n out
-    pub step : (s : Standing) → before s → ReadStep after s lba n bytes out
-    pub quiet : ReadIsQuiet old new lba n out
+    pub cause : CacheReadCause old new lba n out
+    pub step : (s : Contents) → before s → ReadContents after s lba n bytes out
     pub answer_is : answer ≡ read_answer out
     pub data_is : data_in ≡ data_read out bytes
 
-  -- a write of these bytes was answered so
-  pub record IsWritten (lba n : ℕ) (payload : List ℕ) (answer : Answer) (data_in : List ℕ) : Type 0 where
+  -- a write of these bytes, with or without FUA, was answered so
+  pub record IsWritten (lba n : ℕ) (fua : Bool) (payload : List ℕ) (answer : Answer) (data_in : List ℕ) : Type 0 where
     pub out : WriteOut
-    pub cause : WriteCause old new lba n out
-    pub step : (s : Standing) → before s → WriteStep new after s lba n payload out
+    pub cause : WrittenCause old new lba n payload fua out
+    pub step : (s : Contents) → before s → WrittenContents old new lba n payload after s fua out
     pub answer_is : answer ≡ write_answer out
     pub no_data : data_in ≡ []
 
   -- a format was answered so
   pub record IsFormatted (kind : Kind) (answer : Answer) (data_in : List ℕ) : Type 0 where
     pub out : FormatOut
-    pub cause : FormatCause old new kind out
-    pub step : (s : Standing) → before s → FormatStep old new after s kind out
+    pub cause : CacheFormatCause old new kind out
+    pub step : (s : Contents) → before s → FormatContents old.drive new.drive after s kind out
     pub answer_is : answer ≡ format_answer out
     pub no_data : data_in ≡ []
 
   -- an expansion that leaves so many sectors was answered so
   pub record IsExpanded (sectors : ℕ) (answer : Answer) (data_in : List ℕ) : Type 0 where
     pub out : ExpandOut
-    pub cause : ExpandCause old new sectors out
-    pub step : (s : Standing) → before s → ExpandStep after s sectors out
+    pub cause : CacheExpandCause old new sectors out
+    pub step : (s : Contents) → before s → ExpandContents after s sectors out
     pub answer_is : answer ≡ expand_answer out
     pub no_data : data_in ≡ []
 
   -- a verification of so many sectors was answered so
   pub record IsVerified (lba n : ℕ) (answer : Answer) (data_in : List ℕ) : Type 0 where
     pub out : ReadOut
-    pub cause : VerifyCause old new lba n out
-    pub step : (s : Standing) → before s → VerifyStep after s out
+    pub cause : CacheVerifyCause old new lba n out
+    pub step : (s : Contents) → before s → VerifyContents after s out
     pub answer_is : answer ≡ read_answer out
+    pub no_data : data_in ≡ []
+
+  -- a synchronisation was answered so
+  pub record IsSynchronised (answer : Answer) (data_in : List ℕ) : Type 0 where
+    pub out : SyncOut
+    pub cause : SyncCause old new out
+    pub step : (s : Contents) → before s → SyncContents after s out
+    pub answer_is : answer ≡ sync_answer out
+    pub no_data : data_in ≡ []
+
+  -- A list of mode pages that is taken turns the cache on or off, as its last caching page says. What is pending stays so.
+  pub record IsSelected (payload : List ℕ) (answer : Answer) (data_in : List ℕ) : Type 0 where
+    pub mode : new ≡ record old { caches = caches_after payload old.caches }
+    pub stands : (s : Contents) → before s → after s
+    pub answer_is : answer ≡ answers.Good
     pub no_data : data_in ≡ []
 
   -- nothing was done on the disc, and this is the answer, with this reply
@@ -160,12 +194,12 @@ module _ (old new : Shown) (before after : Standing → Type 0) where
   -- the structure in use is told
   pub record TellsStructure (alloc : ℕ) (answer : Answer) (data_in : List ℕ) : Type 0 where
     pub text : List ℕ
-    pub is_text : GivesDds old.lists text
+    pub is_text : GivesDds old.drive.lists text
     pub is_answered : IsAnswered answer answers.Good data_in (take alloc (structure_reply text))
 
   -- the spares are told
   abbrev pub TellsSpares : (alloc : ℕ) → Answer → List ℕ → Type 0
-  TellsSpares alloc answer data_in = IsAnswered answer answers.Good data_in (take alloc (spares_told old))
+  TellsSpares alloc answer data_in = IsAnswered answer answers.Good data_in (take alloc (spares_told old.drive))
 
   -- What a command does that is to be done, and what it replies, cut to the allocation length.
   abbrev pub IsDone : Host → (payload : List ℕ) → Command → Answer → List ℕ → Type 0
@@ -179,18 +213,18 @@ module _ (old new : Shown) (before after : Standing → Type 0) where
   IsDone host payload (commands.StartStop start eject) answer data_in = IsAnswered answer answers.Good data_in []
   IsDone host payload (commands.Prevent on) answer data_in = IsAnswered answer answers.Good data_in []
   IsDone host payload (commands.FormatCapacities alloc) answer data_in =
-      IsAnswered answer answers.Good data_in (take alloc (capacities_told host.out old))
+      IsAnswered answer answers.Good data_in (take alloc (capacities_told host.out old.drive))
   IsDone host payload commands.ReadCapacity answer data_in =
-      IsAnswered answer answers.Good data_in (capacity_reply (capacity old))
+      IsAnswered answer answers.Good data_in (capacity_reply (capacity old.drive))
   IsDone host payload (commands.Read lba n) answer data_in = IsRead lba n answer data_in
-  IsDone host payload (commands.Write lba n fua) answer data_in = IsWritten lba n payload answer data_in
+  IsDone host payload (commands.Write lba n fua) answer data_in = IsWritten lba n fua payload answer data_in
   IsDone host payload (commands.Verify lba n) answer data_in = IsVerified lba n answer data_in
-  IsDone host payload commands.Synchronize answer data_in = IsAnswered answer answers.Good data_in []
+  IsDone host payload commands.Synchronize answer data_in = IsSynchronised answer data_in
   IsDone host payload (commands.Configuration rt start alloc) answer data_in =
       IsAnswered answer answers.Good data_in (take alloc (configuration_reply host.out start))
-  IsDone host payload commands.ModeSelect answer data_in = IsAnswered answer answers.Good data_in []
+  IsDone host payload commands.ModeSelect answer data_in = IsSelected payload answer data_in
   IsDone host payload (commands.ModeSense control page alloc) answer data_in =
-      IsAnswered answer answers.Good data_in (take alloc (mode_data control page))
+      IsAnswered answer answers.Good data_in (take alloc (mode_data control old.caches page))
   IsDone host payload (commands.Structure format alloc) answer data_in =
       MatchBool (format == 0x08) (TellsStructure alloc answer data_in) (TellsSpares alloc answer data_in)
 
@@ -202,14 +236,15 @@ module _ (old new : Shown) (before after : Standing → Type 0) where
   -- a command with the power on
   pub record IsExecuted (host later : Host) (cdb payload : List ℕ) (answer : Answer) (data_in : List ℕ) : Type 0 where
     pub judged : Result Command Sense
-    pub is_judged : IsJudged host (is_some old.lists) cdb payload judged
+    pub is_judged : IsJudged host (is_some old.drive.lists) cdb payload judged
     pub is_answered : IsAnsweredBy host payload judged answer data_in
     pub later_is : later ≡ host_after host (operation_of cdb) judged answer
 
-  -- The power was turned off and on again. Then the host's four things are those of a target that was just turned on.
+  -- The power was turned off and on again, and the cache was turned off first. Then the host's four things are those of a
+  -- target that was just turned on.
   pub record IsPoweredAgain (later : Host) (out : PowerOut) : Type 0 where
-    pub cause : PowerCause old new out
-    pub step : (s : Standing) → before s → PowerStep new after s out
+    pub cause : CachePowerCause (record old { caches = false }) new out
+    pub step : (s : Contents) → before s → PowerContents new.drive after s out
     pub later_is : later ≡ powered_on
 
   -- a command with the power off: nothing is done
@@ -220,7 +255,7 @@ module _ (old new : Shown) (before after : Standing → Type 0) where
   -- One command: what the drive shows and stands for, the four things, the answer and the data.
   abbrev pub IsStep : (host later : Host) (cdb payload : List ℕ) → Answer → List ℕ → Type 0
   IsStep host later cdb payload answer data_in =
-      (¬ IsOn old × IsOffFor host later answer data_in) ⊎ (IsOn old × IsExecuted host later cdb payload answer data_in)
+      (¬ IsOn old.drive × IsOffFor host later answer data_in) ⊎ (IsOn old.drive × IsExecuted host later cdb payload answer data_in)
 
 -- What a command leaves of the count of faults of what the medium lies on: one more where it answers Fault, and the same
 -- with any other answer.

@@ -9,10 +9,11 @@ ghost use Rattle.model_target.specs.declared.host.Host.{Host};
 ghost use Rattle.model_target.specs.Host.{powered_on, sense_told, attention_after};
 ghost use Rattle.model_sense.specs.declared.answer.Answer.{Answer as Answered};
 ghost use Rattle.model_sense.specs.declared.answer.Answer.TheVariants as answers;
-ghost use Rattle.model_drive.specs.Shown.{Shown, IsOn, StandsFor};
+ghost use Rattle.model_drive.specs.Shown.{Shown, IsOn};
 ghost use Rattle.model_drive.specs.Writes.{LacksSpare};
+ghost use Rattle.model_cache.specs.Values.{Contents};
+ghost use Rattle.model_cache.specs.Shown.{CacheShown, CacheStandsFor};
 ghost use Rattle.model_target.specs.Steps.{IsStep, AnswerFaults};
-ghost use Rattle.model_sectors.specs.Discs.{Standing};
 ghost use Rattle.model_commands.specs.declared.Operation.{Operation};
 ghost use Rattle.model_commands.specs.Commands.{command, operation_of};
 ghost use Rattle.model_target.specs.Senses.{IsKnownSense};
@@ -33,47 +34,50 @@ pub fn a_power_on_is_told()
 
 /// With the power off nothing is done, and the four things stay.
 pub fn nothing_is_done_with_the_power_off()
-    ensures { (old new : Shown) (host later : Host) (cdb payload : List ℕ) (answer : Answered) (data_in : List ℕ)
-        → ¬ IsOn old → IsStep old new (StandsFor old) (StandsFor new) host later cdb payload answer data_in
+    ensures { (old new : CacheShown) (host later : Host) (cdb payload : List ℕ) (answer : Answered) (data_in : List ℕ)
+        → ¬ IsOn old.drive → IsStep old new (CacheStandsFor old) (CacheStandsFor new) host later cdb payload answer data_in
         → (answer ≡ answers.Off) × (later ≡ host) × (new ≡ old) × (data_in ≡ []) }
 {}
 
 /// What a drive stands for after a command is one thing: a caller that needs it finds it in the step.
 pub fn commands_leave_a_state()
-    ensures { (old new : Shown) (host later : Host) (cdb payload : List ℕ) (answer : Answered) (data_in : List ℕ)
-        (s : Standing) → StandsFor old s
-        → IsStep old new (StandsFor old) (StandsFor new) host later cdb payload answer data_in
-        → (t : Standing) × StandsFor new t
+    ensures { (old new : CacheShown) (host later : Host) (cdb payload : List ℕ)
+        (answer : Answered) (data_in : List ℕ) (s : Contents) → CacheStandsFor old s
+        → IsStep old new (CacheStandsFor old) (CacheStandsFor new) host later cdb payload answer data_in
+        → (t : Contents) × CacheStandsFor new t
         × IsStep old new (λ x. x ≡ s) (λ x. x ≡ t) host later cdb payload answer data_in }
 {}
 
 /// A command that answers Fault counts it, and no other command counts a fault.
 pub fn a_command_that_fails_counts_it()
-    ensures { (old new : Shown) (host later : Host) (cdb payload : List ℕ) (answer : Answered) (data_in : List ℕ)
-        → IsStep old new (StandsFor old) (StandsFor new) host later cdb payload answer data_in
-        → AnswerFaults old new answer }
+    ensures { (old new : CacheShown) (host later : Host) (cdb payload : List ℕ)
+        (answer : Answered) (data_in : List ℕ)
+        → IsStep old new (CacheStandsFor old) (CacheStandsFor new) host later cdb payload answer data_in
+        → AnswerFaults old.drive new.drive answer }
 {}
 
 /// A command that is done has as many bytes as the table says at least.
 pub fn a_command_that_is_done_is_whole()
-    ensures { (old new : Shown) (host later : Host) (cdb payload data_in : List ℕ) (operation : Operation)
-        → operation_of cdb ≡ Some operation
-        → IsStep old new (StandsFor old) (StandsFor new) host later cdb payload answers.Good data_in
+    ensures { (old new : CacheShown) (host later : Host) (cdb payload data_in : List ℕ)
+        (operation : Operation) → operation_of cdb ≡ Some operation
+        → IsStep old new (CacheStandsFor old) (CacheStandsFor new) host later cdb payload answers.Good data_in
         → (command operation).bytes ≤ length cdb }
 {}
 
 /// A command that is checked has one of fourteen senses, which rise by their numbers.
 pub fn a_command_that_is_checked_has_a_known_sense()
-    ensures { (old new : Shown) (host later : Host) (cdb payload data_in : List ℕ) (why : AnySense)
-        → IsStep old new (StandsFor old) (StandsFor new) host later cdb payload (answers.Check why) data_in
+    ensures { (old new : CacheShown) (host later : Host) (cdb payload data_in : List ℕ)
+        (why : AnySense) → IsStep old new (CacheStandsFor old) (CacheStandsFor new) host later cdb payload (answers.Check why) data_in
         → IsKnownSense why }
 {}
 
-/// A command that is told that no spare is left (3/32/00) is a write that found none for a block.
+/// A command that is told that no spare is left (3/32/00) made a write that found none for a block, of a disc that showed
+/// something then: one of its own, or one of a pending block.
 pub fn a_command_lacks_a_spare_where_a_write_does()
-    ensures { (old new : Shown) (host later : Host) (cdb payload data_in : List ℕ) (named : ℕ)
-        → IsStep old new (StandsFor old) (StandsFor new) host later cdb payload
-        (answers.Check (sense_at 0x3 0x32 0x00 named)) data_in → (lba n : ℕ) × LacksSpare old new lba n named }
+    ensures { (old new : CacheShown) (host later : Host) (cdb payload data_in : List ℕ)
+        (named : ℕ) → IsStep old new (CacheStandsFor old) (CacheStandsFor new) host later cdb payload
+        (answers.Check (sense_at 0x3 0x32 0x00 named)) data_in
+        → (then : Shown) × (lba : ℕ) × (n : ℕ) × LacksSpare then new.drive lba n named }
 {}
 
 /// The replies of INQUIRY, of READ CAPACITY with 304 sectors, of GET CONFIGURATION with the disc in and out, of READ FORMAT

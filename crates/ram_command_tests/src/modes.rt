@@ -8,30 +8,31 @@ use std::alloc::{AllocError, Global};
 use std::fmt::Write;
 
 /// Adds the reply of a page behind the bytes that are there.
-fn put_page(control: u8, page: u8, length: u32, out: &mut Vec<u8>)
+fn put_page(caches: bool, control: u8, page: u8, length: u32, out: &mut Vec<u8>)
     requires page { IsTrue (is_page_code page) }
     requires room { vec_len out.old + 32 ≤ vec_capacity out.old }
 {
     if control < 3 {
-        Modes::new().sense_within(control, page, length, out);
+        Modes::new(caches).sense_within(control, page, length, out);
     }
 }
 
 /// Adds the reply of the page with this code, if there is one, behind the bytes that are there.
-fn put_reply(control: u8, page: u8, length: u32, out: &mut Vec<u8>)
+fn put_reply(caches: bool, control: u8, page: u8, length: u32, out: &mut Vec<u8>)
     requires room { vec_len out.old + 32 ≤ vec_capacity out.old }
 {
     match page {
-        0x01 => put_page(control, 0x01, length, out),
-        0x08 => put_page(control, 0x08, length, out),
-        0x3f => put_page(control, 0x3f, length, out),
+        0x01 => put_page(caches, control, 0x01, length, out),
+        0x08 => put_page(caches, control, 0x08, length, out),
+        0x3f => put_page(caches, control, 0x3f, length, out),
         _ => {}
     }
 }
 
-/// `BYTES CONTROL PAGE LENGTH`: the bytes, and behind them the reply of this page, cut to the allocation length.
+/// `BYTES CONTROL PAGE LENGTH`, and `on` behind it: the bytes, and behind them the reply of this page, cut to the allocation length,
+/// where the write cache is off, or on.
 pub fn answer_sense(alloc: Global, words: &[&str], answer: &mut String) -> Result<(), AllocError> {
-    let [before, control, page, length] = words else {
+    let [before, control, page, length, caches @ ..] = words else {
         return Ok(());
     };
     let before = bytes_of(alloc, before);
@@ -40,20 +41,20 @@ pub fn answer_sense(alloc: Global, words: &[&str], answer: &mut String) -> Resul
     let control: u8 = control.parse().unwrap_or(0);
     let page = u8::from_str_radix(page, 16).unwrap_or(0);
     if out.capacity() - out.len() >= 32 {
-        put_reply(control, page, number_of(length), &mut out);
+        put_reply(!caches.is_empty(), control, page, number_of(length), &mut out);
     }
     add_bytes(answer, &out)
 }
 
-/// `LIST`: whether this list is taken, and whether writes are cached then.
+/// `LIST`, and `on` behind it: whether this list is taken where the write cache is off, or on, and whether writes are cached then.
 pub fn answer_select(alloc: Global, words: &[&str], answer: &mut String) -> Result<(), AllocError> {
-    let [list] = words else {
+    let [list, caches @ ..] = words else {
         return Ok(());
     };
-    let mut modes = Modes::new();
+    let mut modes = Modes::new(!caches.is_empty());
     match modes.select(&bytes_of(alloc, list)) {
         Ok(()) => answer.push_str("taken")?,
         Err(sense) => add_sense(answer, &sense)?,
     }
-    write!(answer, ", write cache {}", modes.write_cache())
+    write!(answer, ", write cache {}", modes.caches)
 }

@@ -9,7 +9,7 @@ use Rattle.model_cdb.specs.declared.commands.Command.TheVariants as commands
 use Rattle.model_cdb.specs.Decoding.{Refusal, refusal, unless}
 use Rattle.model_target.specs.declared.host.Host.{Host}
 use Rattle.model_target.specs.Judging.{hindrances, IsAllowed}
-use Rattle.ram_mmc.specs.Looks.{HasItsFormat}
+use Rattle.ram_mmc.specs.Looks.{CanBeDone}
 
 -- what holds of a command holds of it where it is not refused
 unless_holds : (P : Command → Type 0) (reason : Option Refusal) (command : Command) → P command → IfOk (unless reason command) P
@@ -54,14 +54,16 @@ refused_unformatted false ejected false first second third command P = tt
 
 module _ (host : Host) (payload : List ℕ) where
   structure_formatted : (formatted : Bool) (format alloc : ℕ) (result : Result Command Sense)
-      → IsAllowed host formatted payload (commands.Structure format alloc) result → IfOk result (HasItsFormat formatted)
+      → IsAllowed host formatted payload (commands.Structure format alloc) result → IfOk result (CanBeDone formatted payload)
   structure_formatted true format alloc result allowed =
-      allowed_holds host true payload (HasItsFormat true) (commands.Structure format alloc) result allowed refl
+      allowed_holds host true payload (CanBeDone true payload) (commands.Structure format alloc) result allowed refl
   structure_formatted false format alloc result allowed =
-      subst (λ (r : Result Command Sense). IfOk r (HasItsFormat false)) (sym allowed)
-      (refused_unformatted host.prevented false host.out (sense 0x5 0x53 0x02) (sense 0x2 0x3a 0x00) (sense 0x3 0x31 0x00) (commands.Structure format alloc) (HasItsFormat false))
+      subst (λ (r : Result Command Sense). IfOk r (CanBeDone false payload)) (sym allowed)
+      (refused_unformatted host.prevented false host.out (sense 0x5 0x53 0x02) (sense 0x2 0x3a 0x00) (sense 0x3 0x31 0x00) (commands.Structure format alloc) (CanBeDone false payload))
 
-  -- a command that gives what the disc says of itself is done on a formatted disc alone
-  pub allowed_formatted : (formatted : Bool) (command : Command) (result : Result Command Sense) → IsAllowed host formatted payload command result → IfOk result (HasItsFormat formatted)
-  allowed_formatted formatted (commands.Structure format alloc) result allowed = structure_formatted formatted format alloc result allowed
-  allowed_formatted formatted command result allowed = allowed_holds host formatted payload (HasItsFormat formatted) command result allowed tt
+  -- a command that gives what the disc says of itself is done on a formatted disc alone, and a list of mode pages is taken
+  pub allowed_can : (formatted : Bool) (command : Command) (result : Result Command Sense) → IsAllowed host formatted payload command result → IfOk result (CanBeDone formatted payload)
+  allowed_can formatted (commands.Structure format alloc) result allowed = structure_formatted formatted format alloc result allowed
+  allowed_can formatted commands.ModeSelect (Ok command) allowed = subst (CanBeDone formatted payload) (sym allowed.0) allowed.1
+  allowed_can formatted commands.ModeSelect (Err why) allowed = tt
+  allowed_can formatted command result allowed = allowed_holds host formatted payload (CanBeDone formatted payload) command result allowed tt

@@ -4,7 +4,7 @@ ghost use Rattle.std.specs.Prelude.{◌≡◌, IfOk};
 ghost use Rattle.model_cdb.specs.Decoding.{IsWithinLimits};
 ghost use Rattle.model_target.specs.Host.{is_told, passes_attention};
 ghost use Rattle.model_target.specs.Judging.{ejects, needs_disc, needs_format, asked_by, IsAllowed, IsJudgedBy};
-ghost use Rattle.ram_mmc.specs.Looks.{HasItsFormat};
+ghost use Rattle.ram_mmc.specs.Looks.{CanBeDone};
 
 use model_commands::Operation;
 use model_target::Host;
@@ -28,7 +28,7 @@ pub fn judge(
     ensures judged { IsJudgedBy host.now formatted payload.now
         (asked_by host.now operation cdb.now payload.now) result }
     ensures limits { IfOk result (IsWithinLimits payload.now) }
-    ensures formatted { IfOk result (HasItsFormat formatted) }
+    ensures can { IfOk result (CanBeDone formatted payload.now) }
 {
     match asked_by(host, operation, cdb, payload) {
         Ok(command) => allowed(host, formatted, payload, command),
@@ -60,7 +60,7 @@ fn allowed(host: &Host, formatted: bool, payload: &[u8], command: Command) -> Re
     ensures { IsAllowed host.now formatted payload.now command result }
 {
     if matches!(command, Command::ModeSelect) {
-        return match Modes::new().select(payload) {
+        return match Modes::new(false).select(payload) {
             Ok(()) => Ok(command),
             Err(why) => Err(why),
         };

@@ -7,26 +7,26 @@ ghost use Rattle.model_drive.specs.Shown.{IsOn, capacity};
 ghost use Rattle.model_cdb.specs.Decoding.{IsWithinLimits};
 ghost use Rattle.model_target.specs.Host.{powered_on, done_by, kept_after, attention_after};
 ghost use Rattle.model_target.specs.Steps.{IsDone, IsAnsweredBy, IsExecuted, IsStep, IsPoweredAgain, host_after};
-ghost use Rattle.ram_mmc.specs.Looks.{HasItsFormat, LookRule, IsFormattedAs};
+ghost use Rattle.ram_mmc.specs.Looks.{CanBeDone, LookRule, IsFormattedAs};
 
 use crate::judging::{is_told, judge};
 use crate::replies::{
     INQUIRY, capacity_reply, no_features_reply, profiles_reply, reply, sense_told,
 };
 use crate::telling::{tell_capacities, tell_structure};
-use crate::transfers::{expand, format, read, verify, write};
+use crate::transfers::{expand, format, read, select, synchronize, verify, write};
 use model_commands::Operation;
 use model_target::Host;
 use ram_bytes::{Block, Cdb};
 use ram_cdb::{Command, operation};
 use ram_modes::Modes;
-use ram_sectors::{Disc, PowerOut, ReadOut, Sectors};
+use ram_sectors::{Caching, PowerOut};
 use ram_sense::{Answer, Sense};
 use std::alloc::Global;
 
 /// A disc that is a target of commands, and what it remembers for its host.
 #[derive(Drop)]
-pub struct Target<D: Disc> {
+pub struct Target<D: Caching> {
     /// The disc, which may be worked on beside its host's commands: what is remembered for the host stays.
     pub disc: D,
     host: Host,
@@ -44,7 +44,7 @@ pub enum Look {
     Formatted(u32),
 }
 
-impl<D: Disc> Target<D> {
+impl<D: Caching> Target<D> {
     /// A target over this disc, in the state of one whose power just came on, with one block for the text of the disc's
     /// structure. What the block holds does not matter. It takes no memory of its own: replies are put straight where the
     /// caller wants them.
@@ -67,14 +67,16 @@ impl<D: Disc> Target<D> {
         disc
     }
 
-    /// Turns the power off and on again. Then the disc is in, its removal is allowed, and the host is to be told.
+    /// Turns the power off and on again, and the write cache off. Then the disc is in, its removal is allowed, and the host is to
+    /// be told.
     pub fn power(&mut self, alloc: Global) -> PowerOut
         ensures rule { IsPoweredAgain (D.shows self.old.disc) (D.shows self.new.disc)
             (D.stands self.old.disc) (D.stands self.new.disc) self.new.host result }
-        ensures same_shape { (D.shows self.new.disc).shape ≡ (D.shows self.old.disc).shape }
+        ensures same_shape { (D.shows self.new.disc).drive.shape ≡ (D.shows self.old.disc).drive.shape }
         ensures underwent { D.underwent self.old.disc self.new.disc }
     {
         self.host = just_powered();
+        self.disc.write_cache(false);
         self.disc.power(alloc)
     }
 
@@ -99,11 +101,11 @@ impl<D: Disc> Target<D> {
         ensures step { IsStep (D.shows self.old.disc) (D.shows self.new.disc)
             (D.stands self.old.disc) (D.stands self.new.disc)
             self.old.host self.new.host cdb.now payload.now result data_in.new.items }
-        ensures same_shape { (D.shows self.new.disc).shape ≡ (D.shows self.old.disc).shape }
+        ensures same_shape { (D.shows self.new.disc).drive.shape ≡ (D.shows self.old.disc).drive.shape }
         ensures underwent { D.underwent self.old.disc self.new.disc }
         ensures room { vec_capacity data_in.old ≤ vec_capacity data_in.new }
     {
-        match look_at(&mut self.disc) {
+        match look_at(&self.disc) {
             Look::Off => {
                 data_in.clear();
                 Answer::Off
@@ -124,12 +126,12 @@ impl<D: Disc> Target<D> {
         payload: &[u8],
         data_in: &mut Vec<u8>,
     ) -> Answer
-        requires formatted { IsFormattedAs (D.shows self.old.disc) formatted }
+        requires formatted { IsFormattedAs (D.shows self.old.disc).drive formatted }
         requires room { 2048 * TRANSFER_LIMIT ≤ vec_capacity data_in.old }
         ensures step { IsExecuted (D.shows self.old.disc) (D.shows self.new.disc)
             (D.stands self.old.disc) (D.stands self.new.disc)
             self.old.host self.new.host cdb.now payload.now result data_in.new.items }
-        ensures same_shape { (D.shows self.new.disc).shape ≡ (D.shows self.old.disc).shape }
+        ensures same_shape { (D.shows self.new.disc).drive.shape ≡ (D.shows self.old.disc).drive.shape }
         ensures underwent { D.underwent self.old.disc self.new.disc }
         ensures room { vec_capacity data_in.old ≤ vec_capacity data_in.new }
     {
@@ -157,15 +159,15 @@ impl<D: Disc> Target<D> {
         data_in: &mut Vec<u8>,
     ) -> Answer
         requires limits { IfOk judged (IsWithinLimits payload.now) }
-        requires on { IsOn (D.shows self.old.disc) }
-        requires formatted { IfOk judged (HasItsFormat (is_some (D.shows self.old.disc).lists)) }
-        requires sectors { sectors ≡ capacity (D.shows self.old.disc) }
+        requires on { IsOn (D.shows self.old.disc).drive }
+        requires can { IfOk judged (CanBeDone (is_some (D.shows self.old.disc).drive.lists) payload.now) }
+        requires sectors { sectors ≡ capacity (D.shows self.old.disc).drive }
         requires room { 2048 * TRANSFER_LIMIT ≤ vec_capacity data_in.old }
         ensures rule { IsAnsweredBy (D.shows self.old.disc) (D.shows self.new.disc)
             (D.stands self.old.disc) (D.stands self.new.disc)
             self.old.host payload.now judged result data_in.new.items }
         ensures same_host { self.new.host ≡ self.old.host }
-        ensures same_shape { (D.shows self.new.disc).shape ≡ (D.shows self.old.disc).shape }
+        ensures same_shape { (D.shows self.new.disc).drive.shape ≡ (D.shows self.old.disc).drive.shape }
         ensures underwent { D.underwent self.old.disc self.new.disc }
         ensures room { vec_capacity data_in.old ≤ vec_capacity data_in.new }
     {
@@ -188,15 +190,15 @@ impl<D: Disc> Target<D> {
         data_in: &mut Vec<u8>,
     ) -> Answer
         requires limits { IsWithinLimits payload.now command }
-        requires on { IsOn (D.shows self.old.disc) }
-        requires formatted { HasItsFormat (is_some (D.shows self.old.disc).lists) command }
-        requires sectors { sectors ≡ capacity (D.shows self.old.disc) }
+        requires on { IsOn (D.shows self.old.disc).drive }
+        requires can { CanBeDone (is_some (D.shows self.old.disc).drive.lists) payload.now command }
+        requires sectors { sectors ≡ capacity (D.shows self.old.disc).drive }
         requires room { 2048 * TRANSFER_LIMIT ≤ vec_capacity data_in.old }
         ensures rule { IsDone (D.shows self.old.disc) (D.shows self.new.disc)
             (D.stands self.old.disc) (D.stands self.new.disc)
             self.old.host payload.now command result data_in.new.items }
         ensures same_host { self.new.host ≡ self.old.host }
-        ensures same_shape { (D.shows self.new.disc).shape ≡ (D.shows self.old.disc).shape }
+        ensures same_shape { (D.shows self.new.disc).drive.shape ≡ (D.shows self.old.disc).drive.shape }
         ensures underwent { D.underwent self.old.disc self.new.disc }
         ensures room { vec_capacity data_in.old ≤ vec_capacity data_in.new }
     {
@@ -206,10 +208,14 @@ impl<D: Disc> Target<D> {
         data_in.clear();
         match command {
             Command::Read { .. } => unreachable!(),
-            Command::Write { lba, n, .. } => return write(&mut self.disc, lba, n, payload),
+            Command::Write { lba, n, fua } => {
+                return write(&mut self.disc, lba, n, fua, payload);
+            }
             Command::Verify { lba, n } => return verify(&mut self.disc, lba, n),
             Command::Format { kind } => return format(&mut self.disc, allocator, kind),
             Command::Expand { capacity } => return expand(&mut self.disc, capacity),
+            Command::Synchronize => return synchronize(&mut self.disc),
+            Command::ModeSelect => return select(&mut self.disc, payload),
             Command::RequestSense { alloc } => {
                 reply(data_in, &sense_told(&self.host).to_bytes(), alloc)
             }
@@ -233,12 +239,10 @@ impl<D: Disc> Target<D> {
                 control,
                 page,
                 alloc,
-            } => Modes::new().sense_within(control, page, alloc, data_in),
+            } => Modes::new(self.disc.caches()).sense_within(control, page, alloc, data_in),
             Command::TestUnitReady
             | Command::StartStop { .. }
-            | Command::Prevent { .. }
-            | Command::Synchronize
-            | Command::ModeSelect => {}
+            | Command::Prevent { .. } => {}
         }
         Answer::Good
     }
@@ -256,18 +260,17 @@ fn just_powered() -> Host
     }
 }
 
-/// Looks at a disc. A disc that has no capacity is not formatted, or off: a read of no sectors tells which, and does nothing.
-fn look_at<D: Sectors>(disc: &mut D) -> Look
-    ensures rule { LookRule (D.shows disc.old) (D.shows disc.new) (D.stands disc.old) (D.stands disc.new) result }
-    ensures underwent { D.underwent disc.old disc.new }
+/// Looks at a disc. One that has no capacity is not formatted, or off.
+fn look_at<D: Caching>(disc: &D) -> Look
+    ensures rule { LookRule (D.shows disc.now).drive result }
 {
     if let Some(capacity) = disc.capacity() {
         return Look::Formatted(capacity);
     }
-    let mut nothing = [0u8; 0];
-    match disc.read(0, 0, &mut nothing) {
-        ReadOut::Off => Look::Off,
-        _ => Look::NotFormatted,
+    if disc.counts().powered {
+        Look::NotFormatted
+    } else {
+        Look::Off
     }
 }
 

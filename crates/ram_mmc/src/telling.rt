@@ -10,14 +10,14 @@ ghost use Rattle.model_target.specs.Steps.{TellsStructure, TellsSpares, capaciti
 
 use crate::replies::{format_capacities_reply, reply, reply_structure, spares_reply};
 use ram_bytes::Block;
-use ram_sectors::Disc;
+use ram_sectors::Caching;
 
 /// Tells in `data_in` the capacity that the disc has, or that a format gives it, cut to the allocation length.
-pub fn tell_capacities<D: Disc>(disc: &D, out: bool, allocation: u32, data_in: &mut Vec<u8>)
-    requires on { IsOn (D.shows disc.now) }
+pub fn tell_capacities<D: Caching>(disc: &D, out: bool, allocation: u32, data_in: &mut Vec<u8>)
+    requires on { IsOn (D.shows disc.now).drive }
     requires empty { data_in.old.items ≡ [] }
     requires room { 2048 * TRANSFER_LIMIT ≤ vec_capacity data_in.old }
-    ensures given { data_in.new.items ≡ take allocation (capacities_told out (D.shows disc.now)) }
+    ensures given { data_in.new.items ≡ take allocation (capacities_told out (D.shows disc.now).drive) }
     ensures room { vec_capacity data_in.old ≤ vec_capacity data_in.new }
 {
     let counts = disc.counts();
@@ -27,14 +27,14 @@ pub fn tell_capacities<D: Disc>(disc: &D, out: bool, allocation: u32, data_in: &
 
 /// Tells in `data_in` what the disc says of itself, cut to the allocation length: the structure in use by format 08h, else its
 /// spares. What the block then holds does not matter.
-pub fn tell_structure<D: Disc>(
+pub fn tell_structure<D: Caching>(
     disc: &D,
     block: &mut Block,
     format: u8,
     allocation: u32,
     data_in: &mut Vec<u8>,
 )
-    requires has_disc { HasDisc (D.shows disc.now) }
+    requires has_disc { HasDisc (D.shows disc.now).drive }
     requires empty { data_in.old.items ≡ [] }
     requires room { 2048 * TRANSFER_LIMIT ≤ vec_capacity data_in.old }
     ensures rule { MatchBool (format == 0x08)
@@ -52,8 +52,8 @@ pub fn tell_structure<D: Disc>(
 }
 
 /// Tells in `data_in` the text of the structure in use, which is put into the block first.
-fn tell_text<D: Disc>(disc: &D, block: &mut Block, allocation: u32, data_in: &mut Vec<u8>)
-    requires has_disc { HasDisc (D.shows disc.now) }
+fn tell_text<D: Caching>(disc: &D, block: &mut Block, allocation: u32, data_in: &mut Vec<u8>)
+    requires has_disc { HasDisc (D.shows disc.now).drive }
     requires empty { data_in.old.items ≡ [] }
     requires room { 2048 * TRANSFER_LIMIT ≤ vec_capacity data_in.old }
     ensures rule { TellsStructure (D.shows disc.now) (D.shows disc.now) (D.stands disc.now) (D.stands disc.now)
@@ -67,10 +67,10 @@ fn tell_text<D: Disc>(disc: &D, block: &mut Block, allocation: u32, data_in: &mu
 }
 
 /// Tells in `data_in` how many spares are free, and how many supplementary ones there are.
-fn tell_spares<D: Disc>(disc: &D, allocation: u32, data_in: &mut Vec<u8>)
+fn tell_spares<D: Caching>(disc: &D, allocation: u32, data_in: &mut Vec<u8>)
     requires empty { data_in.old.items ≡ [] }
     requires room { 2048 * TRANSFER_LIMIT ≤ vec_capacity data_in.old }
-    ensures given { data_in.new.items ≡ take allocation (spares_told (D.shows disc.now)) }
+    ensures given { data_in.new.items ≡ take allocation (spares_told (D.shows disc.now).drive) }
     ensures room { vec_capacity data_in.old ≤ vec_capacity data_in.new }
 {
     let counts = disc.counts();

@@ -3,10 +3,12 @@
 ghost use Rattle.std.specs.Prelude.{◌≡◌, ◌*◌, ◌≤◌, [], length, vec_capacity};
 ghost use Rattle.model_commands.specs.declared.TheConstants.{TRANSFER_LIMIT};
 ghost use Rattle.ram_sectors.specs.declared.TheConstants.{VERIFY_LIMIT};
-ghost use Rattle.model_target.specs.Steps.{read_answer, write_answer, format_answer, expand_answer, IsRead, IsWritten, IsFormatted, IsExpanded, IsVerified};
+ghost use Rattle.model_modes.specs.ParameterLists.{IsTaken};
+ghost use Rattle.model_target.specs.Steps.{read_answer, write_answer, format_answer, expand_answer, sync_answer, IsRead, IsWritten, IsFormatted, IsExpanded, IsVerified, IsSynchronised, IsSelected};
 
 use ram_bytes::SECTOR_BYTES;
-use ram_sectors::{Disc, ExpandOut, FormatOut, Kind, ReadOut, Sectors, WriteOut};
+use ram_modes::Modes;
+use ram_sectors::{Caching, ExpandOut, FormatOut, Kind, ReadOut, SyncOut, WriteOut};
 use ram_sense::Answer;
 use ram_sense::codes::{
     ADDRESS_OUT_OF_RANGE, DEFECT_LIST_UPDATE_FAILURE, FORMAT_COMMAND_FAILED,
@@ -17,12 +19,12 @@ use std::alloc::Global;
 
 /// Reads sectors into `data_in`, which is empty where they are not all read. The room of one read is the next one's: what it
 /// held is written over, and zeros are put in only where it grows.
-pub fn read<D: Sectors>(disc: &mut D, lba: u32, n: u32, data_in: &mut Vec<u8>) -> Answer
+pub fn read<D: Caching>(disc: &mut D, lba: u32, n: u32, data_in: &mut Vec<u8>) -> Answer
     requires few { n ≤ TRANSFER_LIMIT }
     requires room { 2048 * TRANSFER_LIMIT ≤ vec_capacity data_in.old }
     ensures rule { IsRead (D.shows disc.old) (D.shows disc.new) (D.stands disc.old) (D.stands disc.new)
         lba n result data_in.new.items }
-    ensures same_shape { (D.shows disc.new).shape ≡ (D.shows disc.old).shape }
+    ensures same_shape { (D.shows disc.new).drive.shape ≡ (D.shows disc.old).drive.shape }
     ensures underwent { D.underwent disc.old disc.new }
     ensures room { vec_capacity data_in.old ≤ vec_capacity data_in.new }
 {
@@ -37,47 +39,78 @@ pub fn read<D: Sectors>(disc: &mut D, lba: u32, n: u32, data_in: &mut Vec<u8>) -
     read_answer(out)
 }
 
-/// Writes sectors.
-pub fn write<D: Sectors>(disc: &mut D, lba: u32, n: u32, payload: &[u8]) -> Answer
+/// Writes sectors: with FUA through the write cache, and else as the cache does it.
+pub fn write<D: Caching>(disc: &mut D, lba: u32, n: u32, fua: bool, payload: &[u8]) -> Answer
     requires few { n ≤ TRANSFER_LIMIT }
     requires whole { length payload.now ≡ 2048 * n }
     ensures rule { IsWritten (D.shows disc.old) (D.shows disc.new) (D.stands disc.old) (D.stands disc.new)
-        lba n payload.now result [] }
-    ensures same_shape { (D.shows disc.new).shape ≡ (D.shows disc.old).shape }
+        lba n fua payload.now result [] }
+    ensures same_shape { (D.shows disc.new).drive.shape ≡ (D.shows disc.old).drive.shape }
     ensures underwent { D.underwent disc.old disc.new }
 {
-    write_answer(disc.write(lba, n, payload))
+    let out = if fua {
+        disc.write_through(lba, n, payload)
+    } else {
+        disc.write(lba, n, payload)
+    };
+    write_answer(out)
 }
 
 /// Formats the disc.
-pub fn format<D: Disc>(disc: &mut D, alloc: Global, kind: Kind) -> Answer
+pub fn format<D: Caching>(disc: &mut D, alloc: Global, kind: Kind) -> Answer
     ensures rule { IsFormatted (D.shows disc.old) (D.shows disc.new) (D.stands disc.old) (D.stands disc.new)
         kind result [] }
-    ensures same_shape { (D.shows disc.new).shape ≡ (D.shows disc.old).shape }
+    ensures same_shape { (D.shows disc.new).drive.shape ≡ (D.shows disc.old).drive.shape }
     ensures underwent { D.underwent disc.old disc.new }
 {
     format_answer(disc.format(alloc, kind))
 }
 
 /// Gives the disc a smaller capacity, in sectors: its last blocks become supplementary spares.
-pub fn expand<D: Disc>(disc: &mut D, capacity: u32) -> Answer
+pub fn expand<D: Caching>(disc: &mut D, capacity: u32) -> Answer
     ensures rule { IsExpanded (D.shows disc.old) (D.shows disc.new) (D.stands disc.old) (D.stands disc.new)
         capacity result [] }
-    ensures same_shape { (D.shows disc.new).shape ≡ (D.shows disc.old).shape }
+    ensures same_shape { (D.shows disc.new).drive.shape ≡ (D.shows disc.old).drive.shape }
     ensures underwent { D.underwent disc.old disc.new }
 {
     expand_answer(disc.expand(capacity))
 }
 
 /// Verifies sectors: each block in which some of them lie is read from its home. No data come with it.
-pub fn verify<D: Disc>(disc: &mut D, lba: u32, n: u32) -> Answer
+pub fn verify<D: Caching>(disc: &mut D, lba: u32, n: u32) -> Answer
     requires few { n ≤ VERIFY_LIMIT }
     ensures rule { IsVerified (D.shows disc.old) (D.shows disc.new) (D.stands disc.old) (D.stands disc.new)
         lba n result [] }
-    ensures same_shape { (D.shows disc.new).shape ≡ (D.shows disc.old).shape }
+    ensures same_shape { (D.shows disc.new).drive.shape ≡ (D.shows disc.old).drive.shape }
     ensures underwent { D.underwent disc.old disc.new }
 {
     read_answer(disc.verify(lba, n))
+}
+
+/// Writes all blocks that are pending in the write cache to the disc.
+pub fn synchronize<D: Caching>(disc: &mut D) -> Answer
+    ensures rule { IsSynchronised (D.shows disc.old) (D.shows disc.new) (D.stands disc.old) (D.stands disc.new)
+        result [] }
+    ensures same_shape { (D.shows disc.new).drive.shape ≡ (D.shows disc.old).drive.shape }
+    ensures underwent { D.underwent disc.old disc.new }
+{
+    sync_answer(disc.synchronize())
+}
+
+/// Turns the write cache on or off, as a list of mode pages says that is taken.
+pub fn select<D: Caching>(disc: &mut D, payload: &[u8]) -> Answer
+    requires taken { IsTaken payload.now }
+    ensures rule { IsSelected (D.shows disc.old) (D.shows disc.new) (D.stands disc.old) (D.stands disc.new)
+        payload.now result [] }
+    ensures same_shape { (D.shows disc.new).drive.shape ≡ (D.shows disc.old).drive.shape }
+    ensures underwent { D.underwent disc.old disc.new }
+{
+    let mut modes = Modes::new(disc.caches());
+    match modes.select(payload) {
+        Ok(()) => disc.write_cache(modes.caches),
+        Err(_) => unreachable!(),
+    }
+    Answer::Good
 }
 
 /// How the end of a read is answered, or of a verification.
@@ -109,6 +142,21 @@ fn write_answer(out: WriteOut) -> Answer
         WriteOut::Cut => Answer::Cut,
         WriteOut::Off => Answer::Off,
         WriteOut::Fault => Answer::Fault,
+    }
+}
+
+/// How the end of a synchronisation is answered.
+fn sync_answer(out: SyncOut) -> Answer
+    ensures { result ≡ sync_answer out }
+{
+    match out {
+        SyncOut::Good => Answer::Good,
+        SyncOut::NotFormatted => Answer::Check(MEDIUM_FORMAT_CORRUPTED),
+        SyncOut::NoSpare { lba } => Answer::Check(no_spare_location(lba)),
+        SyncOut::NoUpdate { .. } => Answer::Check(DEFECT_LIST_UPDATE_FAILURE),
+        SyncOut::Cut => Answer::Cut,
+        SyncOut::Off => Answer::Off,
+        SyncOut::Fault => Answer::Fault,
     }
 }
 

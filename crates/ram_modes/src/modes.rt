@@ -1,22 +1,27 @@
 //! The mode pages as a host sees them.
-ghost use Rattle.std.specs.Prelude.{◌≡◌, ◌+◌, ◌≤◌, ◌<◌, ◌++◌, false, length, replicate, take, vec_len, vec_capacity, IsTrue};
+ghost use Rattle.std.specs.Prelude.{◌≡◌, ◌+◌, ◌≤◌, ◌<◌, ◌++◌, length, replicate, take, vec_len, vec_capacity, IsTrue};
 ghost use Rattle.byteorder.specs.Endian.{big_bytes};
-ghost use Rattle.model_modes.specs.Pages.{page_by, is_page_code, mode_data};
+ghost use Rattle.model_modes.specs.Pages.{is_page_code, mode_data};
 ghost use Rattle.ram_modes.specs.Selects.{Selects};
 
-use crate::pages::{has_current_pages, header, page_by, page_with};
+use crate::pages::{caches_after, has_current_pages, header, page_by, page_with};
 use model_modes::Page;
 use ram_sense::Sense;
 use ram_sense::codes::INVALID_FIELD_IN_PARAMETERS;
 
-/// The mode pages of the drive. No value of them may be changed, so there is nothing to remember.
+/// The mode pages of the drive: the one value of them that may be changed.
 #[derive(Clone, Copy, Debug, PartialEq, Eq)]
-pub struct Modes {}
+pub struct Modes {
+    /// Whether writes are cached (WCE).
+    pub caches: bool,
+}
 
 impl Modes {
-    /// The pages with their default values.
-    pub fn new() -> Modes {
-        Modes {}
+    /// The pages of a drive whose write cache is on or off.
+    pub fn new(caches: bool) -> Modes
+        ensures { result.caches ≡ caches }
+    {
+        Modes { caches }
     }
 
     /// Appends the data of MODE SENSE(10): of the page with this code, or of all of them, with the values for which this
@@ -25,15 +30,15 @@ impl Modes {
         requires control { control < 3 }
         requires page { IsTrue (is_page_code page) }
         requires room { vec_len out.old + 32 ≤ vec_capacity out.old }
-        ensures appended { out.new.items ≡ out.old.items ++ mode_data control page }
+        ensures appended { out.new.items ≡ out.old.items ++ mode_data control self.now.caches page }
         ensures room { vec_capacity out.old ≤ vec_capacity out.new }
     {
         match page_with(page) {
-            Some(page) => put_page(out, control, page),
+            Some(page) => put_page(out, &page_by(control, self.caches, page)),
             None => {
                 put(out, &header(24));
-                put(out, &page_by(control, Page::ErrorRecovery));
-                put(out, &page_by(control, Page::Caching));
+                put(out, &page_by(control, self.caches, Page::ErrorRecovery));
+                put(out, &page_by(control, self.caches, Page::Caching));
             }
         }
     }
@@ -43,7 +48,7 @@ impl Modes {
         requires control { control < 3 }
         requires page { IsTrue (is_page_code page) }
         requires room { vec_len out.old + 32 ≤ vec_capacity out.old }
-        ensures appended { out.new.items ≡ out.old.items ++ take allocation (mode_data control page) }
+        ensures appended { out.new.items ≡ out.old.items ++ take allocation (mode_data control self.now.caches page) }
         ensures room { vec_capacity out.old ≤ vec_capacity out.new }
     {
         let start = out.len();
@@ -51,35 +56,30 @@ impl Modes {
         out.truncate(start.saturating_add(allocation as usize));
     }
 
-    /// Takes the parameter list of MODE SELECT(10). A list that is empty, or names no value that is not in force, is taken;
-    /// every other one is refused with 5/26/00. (After INCITS SPC.)
+    /// Takes the parameter list of MODE SELECT(10). A list that is empty, or names no other value than one in force but that of
+    /// WCE, is taken, and its last caching page sets WCE; every other one is refused with 5/26/00, and changes nothing. (After
+    /// INCITS SPC.)
     pub fn select(&mut self, payload: &[u8]) -> Result<(), Sense>
-        ensures cases { Selects payload.now result }
-        ensures unchanged { self.new ≡ self.old }
+        ensures cases { Selects payload.now self.old.caches self.new.caches result }
     {
         if payload.is_empty() || has_current_pages(payload) {
+            self.caches = caches_after(payload, self.caches);
             Ok(())
         } else {
             Err(INVALID_FIELD_IN_PARAMETERS)
         }
     }
-
-    /// Whether writes are cached: they are not, and each reaches the medium before its answer.
-    pub fn write_cache(&self) -> bool
-        ensures { result ≡ false }
-    {
-        false
-    }
 }
 
 // Appends the header and one page.
-fn put_page(out: &mut Vec<u8>, control: u8, page: Page)
+fn put_page(out: &mut Vec<u8>, page: &[u8])
+    requires length { length page.now ≡ 12 }
     requires room { vec_len out.old + 32 ≤ vec_capacity out.old }
-    ensures appended { out.new.items ≡ out.old.items ++ big_bytes 2 18 ++ replicate 6 0 ++ page_by control page }
+    ensures appended { out.new.items ≡ out.old.items ++ big_bytes 2 18 ++ replicate 6 0 ++ page.now }
     ensures room { vec_capacity out.old ≤ vec_capacity out.new }
 {
     put(out, &header(12));
-    put(out, &page_by(control, page));
+    put(out, page);
 }
 
 // Appends these bytes.

@@ -1,8 +1,8 @@
 //! The bytes of the mode pages, and of the header before them.
-ghost use Rattle.std.specs.Prelude.{◌≡◌, ◌+◌, ◌*◌, ◌<◌, ◌≤◌, ◌↔◌, ◌++◌, length, take, drop, replicate, IsTrue};
+ghost use Rattle.std.specs.Prelude.{◌≡◌, ◌+◌, ◌*◌, ◌<◌, ◌≤◌, ◌↔◌, ◌++◌, length, replicate, IsTrue};
 ghost use Rattle.byteorder.specs.Endian.{big_bytes};
 ghost use Rattle.model_modes.specs.Pages.{code, current_page, changeable_page, is_page_code, page_by, page_with};
-ghost use Rattle.model_modes.specs.ParameterLists.{HasCurrentPages, IsCurrentPage, is_no_list_length};
+ghost use Rattle.model_modes.specs.ParameterLists.{HasCurrentPages, IsCurrentPage, is_no_list_length, page_at, is_caching, caches_after};
 
 use model_modes::Page;
 
@@ -15,28 +15,28 @@ pub const HEADER_BYTES: usize = 8;
 /// The code that asks for all pages.
 const ALL_PAGES: u8 = 0x3f;
 
-/// A row of the table of pages: its bytes with the values in force, of which the first is its code and the second the
-/// number of those that follow, and with ones in place of the bits that may be changed.
-#[derive(Clone, Copy)]
-struct Row {
-    current: [u8; PAGE_BYTES],
-    changeable: [u8; PAGE_BYTES],
+/// Bit 2 of byte 2 of the caching page: the write cache is on.
+const WCE: u8 = 0x04;
+
+/// A page with the values in force, where the write cache is on or off. Its first byte is its code, and the second the number
+/// of those that follow.
+fn current_page(caches: bool, page: Page) -> [u8; PAGE_BYTES]
+    ensures { result ≡ current_page caches page }
+{
+    match (page, caches) {
+        (Page::ErrorRecovery, _) => [0x01, 0x0a, 0x80, 0, 0, 0, 0, 0, 0, 0, 0, 0],
+        (Page::Caching, true) => [0x08, 0x0a, WCE, 0, 0, 0, 0, 0, 0, 0, 0, 0],
+        (Page::Caching, false) => [0x08, 0x0a, 0, 0, 0, 0, 0, 0, 0, 0, 0, 0],
+    }
 }
 
-/// The table of pages.
-fn row_of(page: Page) -> Row
-    ensures current { result.current ≡ current_page page }
-    ensures changeable { result.changeable ≡ changeable_page page }
+/// A page with ones in place of the bits that may be changed.
+fn changeable_page(page: Page) -> [u8; PAGE_BYTES]
+    ensures { result ≡ changeable_page page }
 {
     match page {
-        Page::ErrorRecovery => Row {
-            current: [0x01, 0x0a, 0x80, 0, 0, 0, 0, 0, 0, 0, 0, 0],
-            changeable: [0x01, 0x0a, 0, 0, 0, 0, 0, 0, 0, 0, 0, 0],
-        },
-        Page::Caching => Row {
-            current: [0x08, 0x0a, 0, 0, 0, 0, 0, 0, 0, 0, 0, 0],
-            changeable: [0x08, 0x0a, 0, 0, 0, 0, 0, 0, 0, 0, 0, 0],
-        },
+        Page::ErrorRecovery => [0x01, 0x0a, 0, 0, 0, 0, 0, 0, 0, 0, 0, 0],
+        Page::Caching => [0x08, 0x0a, WCE, 0, 0, 0, 0, 0, 0, 0, 0, 0],
     }
 }
 
@@ -44,7 +44,7 @@ fn row_of(page: Page) -> Row
 fn code_of(page: Page) -> u8
     ensures { result ≡ code page }
 {
-    row_of(page).current[0]
+    current_page(false, page)[0]
 }
 
 /// The page with this code.
@@ -67,15 +67,15 @@ pub fn is_page_code(wanted: u8) -> bool
     wanted == ALL_PAGES || page_with(wanted).is_some()
 }
 
-/// A page as this page control asks for it, from 0 to 2: 1 asks for what may be changed.
-pub fn page_by(control: u8, page: Page) -> [u8; PAGE_BYTES]
-    ensures { result ≡ page_by control page }
+/// A page as this page control asks for it, from 0 to 2, where the write cache is on or off: 0 asks for the values in force,
+/// 1 for what may be changed, 2 for the default values.
+pub fn page_by(control: u8, caches: bool, page: Page) -> [u8; PAGE_BYTES]
+    ensures { result ≡ page_by control caches page }
 {
-    let row = row_of(page);
     if control == 1 {
-        row.changeable
+        changeable_page(page)
     } else {
-        row.current
+        current_page(control == 0 && caches, page)
     }
 }
 
@@ -97,7 +97,7 @@ pub fn is_no_list_length(bytes: usize) -> bool
         && bytes != HEADER_BYTES + 2 * PAGE_BYTES
 }
 
-/// Whether these bytes are a header with no block descriptors, and then whole pages with the values in force.
+/// Whether these bytes are a header with no block descriptors, and then whole pages with values that they may have.
 pub fn has_current_pages(list: &[u8]) -> bool
     ensures { IsTrue result ↔ HasCurrentPages list.now }
 {
@@ -118,13 +118,34 @@ pub fn has_current_pages(list: &[u8]) -> bool
 /// The page with this number, from 0 on, after the header.
 fn page_at(list: &[u8], k: usize) -> &[u8]
     requires { 8 + 12 * k + 12 ≤ length list.now }
-    ensures { result.now ≡ take 12 (drop (8 + 12 * k) list.now) }
+    ensures { result.now ≡ page_at list.now k }
 {
     let at = HEADER_BYTES + PAGE_BYTES * k;
     &list[at..at + PAGE_BYTES]
 }
 
-/// Whether these bytes are a page with the values in force; bit 7 of its first byte is not looked at.
+/// Whether the write cache is on after a list that was taken, where it was on or off before: as its last caching page says.
+pub fn caches_after(list: &[u8], was: bool) -> bool
+    ensures { result ≡ caches_after list.now was }
+{
+    let mut caches = was;
+    for k in 0..list.len().saturating_sub(HEADER_BYTES) / PAGE_BYTES {
+        let page = page_at(list, k);
+        if is_caching(page) {
+            caches = page[2] == WCE;
+        }
+    }
+    caches
+}
+
+fn is_caching(page: &[u8]) -> bool
+    requires { length page.now ≡ 12 }
+    ensures { result ≡ is_caching page.now }
+{
+    page[0] % 128 == code_of(Page::Caching)
+}
+
+/// Whether these bytes are a page with values that it may have; bit 7 of its first byte is not looked at.
 fn is_current(page: &[u8]) -> bool
     ensures { IsTrue result ↔ IsCurrentPage page.now }
 {
@@ -132,7 +153,9 @@ fn is_current(page: &[u8]) -> bool
         return false;
     };
     match page_with(*first % 128) {
-        Some(page) => values == &row_of(page).current[1..],
+        Some(page) => {
+            values == &current_page(false, page)[1..] || values == &current_page(true, page)[1..]
+        }
         None => false,
     }
 }

@@ -1,7 +1,9 @@
 -- Which lines lack a disc: none where there is one.
 use Rattle.std.specs.Prelude.{◌≡◌, ℕ, Ok, Err, List}
-use Rattle.model_sectors.specs.Discs.{Standing}
-use Rattle.model_drive.specs.Shown.{Shown}
+use Rattle.model_cache.specs.Values.{Contents}
+use Rattle.model_cache.specs.Shown.{CacheShown}
+use Rattle.model_cache.specs.declared.TickOut.{TickOut}
+use Rattle.model_cache.specs.declared.TickOut.TheVariants as ticks
 use Rattle.model_target.specs.declared.host.Host.{Host}
 use Rattle.model_sectors.specs.declared.PowerOut.{PowerOut}
 use Rattle.model_sectors.specs.declared.PowerOut.TheVariants as powers
@@ -17,7 +19,7 @@ use Rattle.ram_text.specs.declared.script.Line.TheVariants as lines
 use Rattle.ram_run.specs.declared.reply.Reply.{Reply}
 use Rattle.ram_run.specs.declared.reply.Reply.TheVariants as replies
 use Rattle.ram_run.specs.declared.stopped.Stopped.TheVariants as stopped
-use Rattle.ram_run.specs.Replies.{Outcome, power_outcome, fail_outcome, wear_outcome, command_outcome}
+use Rattle.ram_run.specs.Replies.{Outcome, power_outcome, fail_outcome, wear_outcome, tick_outcome, command_outcome}
 use Rattle.ram_run.specs.States.{State, Served, Unopened, Disc}
 use Rattle.ram_run.specs.LineSteps.{DiscRule, OnDisc, Step}
 
@@ -43,6 +45,15 @@ wear_answers arming.Set same = cc
 wear_answers (arming.NoBlock blocks) same = cc
 wear_answers arming.Full same = cc
 
+tick_answers : (out : TickOut) → lacks ≡ tick_outcome out → ⊥
+tick_answers ticks.Idle same = cc
+tick_answers (ticks.Written lba) same = cc
+tick_answers (ticks.NoSpare lba) same = cc
+tick_answers (ticks.NoUpdate counter) same = cc
+tick_answers ticks.Cut same = cc
+tick_answers ticks.Off same = cc
+tick_answers ticks.Fault same = cc
+
 command_answers : (cdb : List ℕ) (answer : Answer) → lacks ≡ command_outcome cdb answer → ⊥
 command_answers cdb answers.Good same = cc
 command_answers cdb (answers.Check sense) same = cc
@@ -54,17 +65,18 @@ command_answers cdb answers.NoMemory same = cc
 pub distinct : (reply : Reply) → lacks ≡ Ok reply → ⊥
 distinct reply same = cc
 
-rule_answers : (old new : Shown) (before after : Standing → Type 0) (host later : Host) (line : Line) (payload data_in : List ℕ) → DiscRule old new before after host later line payload lacks data_in → ⊥
+rule_answers : (old new : CacheShown) (before after : Contents → Type 0) (host later : Host) (line : Line) (payload data_in : List ℕ) → DiscRule old new before after host later line payload lacks data_in → ⊥
 rule_answers old new before after host later lines.Power payload data_in rule = power_answers rule.0.out rule.0.outcome_is
 rule_answers old new before after host later (lines.Fail block) payload data_in rule = fail_answers rule.0.end rule.0.outcome_is
 rule_answers old new before after host later (lines.Wear block n) payload data_in rule = wear_answers rule.0.end rule.0.outcome_is
 rule_answers old new before after host later (lines.Cut n fate) payload data_in rule = distinct (replies.Event events.Armed) rule.0.outcome_is
+rule_answers old new before after host later lines.Tick payload data_in rule = tick_answers rule.0.out rule.0.outcome_is
 rule_answers old new before after host later (lines.Command cdb) payload data_in rule = command_answers cdb rule.answer rule.outcome_is
 rule_answers old new before after host later _ payload data_in rule = rule
 
 on_disc_answers : (s : Served) (line : Line) (payload data_in : List ℕ) (t : State) → OnDisc (Disc s) line payload lacks data_in t → ⊥
 on_disc_answers s line payload data_in (Unopened bytes) on = on
-on_disc_answers s line payload data_in (Disc t) on = rule_answers s.disc.shown t.disc.shown (λ x. x ≡ s.disc.standing) (λ x. x ≡ t.disc.standing) s.host t.host line payload data_in on.rule
+on_disc_answers s line payload data_in (Disc t) on = rule_answers s.disc.shown t.disc.shown (λ x. x ≡ s.disc.contents) (λ x. x ≡ t.disc.contents) s.host t.host line payload data_in on.rule
 
 -- no line lacks a disc where there is one
 pub disc_answers : (s : Served) (line : Line) (payload data_in : List ℕ) (t : State) → Step (Disc s) line payload (Err stopped.NotADisc) data_in t → ⊥

@@ -158,6 +158,7 @@ module _ (bytes script : List ℕ) (press : BeginsWithPress script) where
   first_leaves (lines.Fail block) raw payload reply data_in now step reads is = absurd (needs_none (lines.Fail block) tt is)
   first_leaves (lines.Wear block n) raw payload reply data_in now step reads is = absurd (needs_none (lines.Wear block n) tt is)
   first_leaves (lines.Cut n fate) raw payload reply data_in now step reads is = absurd (needs_none (lines.Cut n fate) tt is)
+  first_leaves lines.Tick raw payload reply data_in now step reads is = absurd (needs_none lines.Tick tt is)
   first_leaves (lines.Command cdb) raw payload reply data_in now step reads is = absurd (needs_none (lines.Command cdb) tt is)
 
   -- a line after silent ones says nothing, or is that press
@@ -199,6 +200,7 @@ module _ (bytes script : List ℕ) (press : BeginsWithPress script) where
   first_answers (lines.Fail block) payload data_in t step is = needs_none (lines.Fail block) tt is
   first_answers (lines.Wear block n) payload data_in t step is = needs_none (lines.Wear block n) tt is
   first_answers (lines.Cut n fate) payload data_in t step is = needs_none (lines.Cut n fate) tt is
+  first_answers lines.Tick payload data_in t step is = needs_none lines.Tick tt is
   first_answers (lines.Command cdb) payload data_in t step is = needs_none (lines.Command cdb) tt is
 
   -- no line lacks a disc

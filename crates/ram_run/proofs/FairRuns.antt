@@ -10,13 +10,17 @@ use Rattle.model_medium.specs.Cells.{Cell, Blank, Dead, cell_at}
 use Rattle.model_medium.specs.World.{World}
 use Rattle.model_medium.specs.Machine.{Machine}
 use Rattle.model_medium.specs.declared.WornBlock.{WornBlock}
-use Rattle.model_sectors.specs.Discs.{Standing, On, Off}
+use Rattle.model_drive.specs.declared.WriteOut.{WriteOut}
+use Rattle.model_cache.specs.Values.{Contents}
+use Rattle.model_cache.specs.Shown.{CacheShown}
+use Rattle.model_cache.proofs.Chained.{HoldsOfChains, of_read, of_write, of_through, of_sync, of_tick}
+use Rattle.model_drive.proofs.Kept.{read_kept, write_kept}
 use Rattle.model_copies.specs.Copies.{Holds}
 use Rattle.model_places.specs.Places.{Lists}
 use Rattle.model_volume.specs.Given.{IsGiven, GivesNone}
 use Rattle.model_image.specs.Image.{IsDiscImage, blank_cells, pressed_image}
 use Rattle.model_image.specs.Cells.{cells_of}
-use Rattle.model_drive.specs.Shown.{Shown, IsKnown, StandsFor}
+use Rattle.model_drive.specs.Shown.{Shown, IsKnown}
 use Rattle.model_drive.specs.Sound.{IsSound}
 use Rattle.model_drive.specs.Parts.{AreSameOrDead}
 use Rattle.model_fairness.specs.Fair.{IsFair, GivesUpDeadAlone}
@@ -26,7 +30,7 @@ use Rattle.model_sense.specs.declared.answer.Answer.{Answer}
 use Rattle.model_cdb.specs.declared.commands.Command.{Command}
 use Rattle.model_cdb.specs.declared.commands.Command.TheVariants as commands
 use Rattle.model_target.specs.declared.host.Host.{Host}
-use Rattle.model_target.specs.Steps.{Untouched, TellsStructure, TellsSpares, IsDone, IsAnsweredBy, IsStep}
+use Rattle.model_target.specs.Steps.{WrittenCause, Untouched, TellsStructure, TellsSpares, IsDone, IsAnsweredBy, IsStep}
 use Rattle.ram_medium.specs.declared.control.FailEnd.{FailEnd}
 use Rattle.ram_medium.specs.declared.control.FailEnd.TheVariants as fails
 use Rattle.ram_volume.specs.Control.{FailOnDrive}
@@ -44,10 +48,7 @@ use Rattle.ram_run.specs.States.{State, Served, Unopened, Disc, IsFirst, IsInser
 use Rattle.ram_run.specs.LineSteps.{PressStep, DiscRule, OnDisc, Step}
 use Rattle.ram_run.specs.Run.{AnsweredLine, Run}
 use Rattle.ram_run.specs.Fairness.{FairNow}
-
-known_of : (shown : Shown) (s : Standing) → StandsFor shown s → IsKnown shown
-known_of shown (On disc) stands = stands.0
-known_of shown (Off discs) stands = stands.0
+use Rattle.ram_run.proofs.SoundChains.{contents_known}
 
 one_cell : (old new : List Cell) (at : ℕ) → ((other : ℕ) → other ≢ at → cell_at new other ≡ cell_at old other) → (cell_at new at ≡ cell_at old at) ⊎ (cell_at new at ≡ Dead) → AreSameOrDead old new
 one_cell old new at others left block = elim (cases_eq block at) [
@@ -70,7 +71,7 @@ worn_world total old new worn arming.Set rule = ap (λ (m : Machine). m.world) r
 worn_world total old new worn (arming.NoBlock blocks) rule = ap (λ (m : Machine). m.world) rule.2
 worn_world total old new worn arming.Full rule = ap (λ (m : Machine). m.world) rule.2
 
-module _ (old new : Shown) (same : new.shape ≡ old.shape) (sound : IsSound new) (was_known : IsKnown old) (is_known : IsKnown new) (fair : GivesUpDeadAlone old) where
+module _ (old new : Shown) (same : new.shape ≡ old.shape) (fair : GivesUpDeadAlone old) where
   fail_fair : (block : ℕ) (end : FailEnd) → FailOnDrive old new block end → GivesUpDeadAlone new
   fail_fair block fails.Done p = dies_fair old new same p.1.same_lists (cells_die (total old.shape) old.medium new.medium block fails.Done p.0) fair
   fail_fair block (fails.NoBlock blocks) p = dies_fair old new same p.1.same_lists (cells_die (total old.shape) old.medium new.medium block (fails.NoBlock blocks) p.0) fair
@@ -81,49 +82,69 @@ module _ (old new : Shown) (same : new.shape ≡ old.shape) (sound : IsSound new
   still_fair : new.lists ≡ old.lists → new.medium.world ≡ old.medium.world → GivesUpDeadAlone new
   still_fair kept world = dies_fair old new same kept (λ block. inl (ap (λ (w : World). cell_at w.cells block) world)) fair
 
-  module _ (before after : Standing → Type 0) where
-    untouched_fair : Untouched old new before after → GivesUpDeadAlone new
-    untouched_fair p = subst GivesUpDeadAlone (sym p.same) fair
+-- over calls of the disc, one after another
+abbrev StaysFair : Bool → Shown → Shown → Type 0
+StaysFair faulted a b = IsKnown a × GivesUpDeadAlone a → IsKnown b × GivesUpDeadAlone b
 
-    told_fair : (structure : Bool) (alloc : ℕ) (answer : Answer) (data_in : List ℕ)
-        → MatchBool structure (TellsStructure old new before after alloc answer data_in) (TellsSpares old new before after alloc answer data_in) → GivesUpDeadAlone new
-    told_fair true alloc answer data_in p = untouched_fair p.is_answered.untouched
-    told_fair false alloc answer data_in p = untouched_fair p.untouched
+stays_fair : HoldsOfChains StaysFair
+stays_fair = record {
+  none = λ s fair. fair;
+  join = λ faulted a b c first then fair. then (first fair);
+  read = λ a b lba n out leaves cause fair.
+      let known = (read_kept a b lba n out cause).as_known ∙ fair.0 in (known, read_fair a b leaves.same_shape leaves.sound known lba n out fair.1 cause);
+  write = λ a b lba n out leaves cause fair.
+      let known = (write_kept a b lba n out cause).as_known ∙ fair.0 in (known, write_fair a b leaves.same_shape leaves.sound known fair.0 fair.1 lba n out cause);
+}
 
-    done_fair : (host : Host) (payload : List ℕ) (command : Command) (answer : Answer) (data_in : List ℕ) → IsDone old new before after host payload command answer data_in → GivesUpDeadAlone new
-    done_fair host payload commands.TestUnitReady answer data_in p = untouched_fair p.untouched
-    done_fair host payload (commands.RequestSense alloc) answer data_in p = untouched_fair p.untouched
-    done_fair host payload (commands.Format kind) answer data_in p = format_fair old new same sound is_known was_known fair kind p.out p.cause
-    done_fair host payload (commands.Expand sectors) answer data_in p = expand_fair old new same sound is_known was_known fair sectors p.out p.cause
-    done_fair host payload (commands.Inquiry alloc) answer data_in p = untouched_fair p.untouched
-    done_fair host payload (commands.StartStop start eject) answer data_in p = untouched_fair p.untouched
-    done_fair host payload (commands.Prevent on) answer data_in p = untouched_fair p.untouched
-    done_fair host payload (commands.FormatCapacities alloc) answer data_in p = untouched_fair p.untouched
-    done_fair host payload commands.ReadCapacity answer data_in p = untouched_fair p.untouched
-    done_fair host payload (commands.Read lba n) answer data_in p = read_fair old new same sound is_known lba n p.out fair p.cause
-    done_fair host payload (commands.Write lba n fua) answer data_in p = write_fair old new same sound is_known was_known fair lba n p.out p.cause
-    done_fair host payload (commands.Verify lba n) answer data_in p = verify_fair old new same sound is_known lba n p.out fair p.cause
-    done_fair host payload commands.Synchronize answer data_in p = untouched_fair p.untouched
-    done_fair host payload (commands.Configuration rt start alloc) answer data_in p = untouched_fair p.untouched
-    done_fair host payload commands.ModeSelect answer data_in p = untouched_fair p.untouched
-    done_fair host payload (commands.ModeSense control page alloc) answer data_in p = untouched_fair p.untouched
-    done_fair host payload (commands.Structure format alloc) answer data_in p = told_fair (format == 0x08) alloc answer data_in p
+module _ (old new : CacheShown) (same : new.drive.shape ≡ old.drive.shape) (sound : IsSound new.drive) (was_known : IsKnown old.drive) (is_known : IsKnown new.drive) (fair : GivesUpDeadAlone old.drive)
+    (before after : Contents → Type 0) where
+  untouched_fair : Untouched old new before after → GivesUpDeadAlone new.drive
+  untouched_fair p = subst (λ (s : CacheShown). GivesUpDeadAlone s.drive) (sym p.same) fair
 
-    judged_fair : (host : Host) (payload : List ℕ) (judged : Result Command Sense) (answer : Answer) (data_in : List ℕ) → IsAnsweredBy old new before after host payload judged answer data_in → GivesUpDeadAlone new
-    judged_fair host payload (Err why) answer data_in p = untouched_fair p.untouched
-    judged_fair host payload (Ok command) answer data_in p = done_fair host payload command answer data_in p
+  told_fair : (structure : Bool) (alloc : ℕ) (answer : Answer) (data_in : List ℕ)
+      → MatchBool structure (TellsStructure old new before after alloc answer data_in) (TellsSpares old new before after alloc answer data_in) → GivesUpDeadAlone new.drive
+  told_fair true alloc answer data_in p = untouched_fair p.is_answered.untouched
+  told_fair false alloc answer data_in p = untouched_fair p.untouched
 
-    command_fair : (host later : Host) (cdb payload : List ℕ) (answer : Answer) (data_in : List ℕ) → IsStep old new before after host later cdb payload answer data_in → GivesUpDeadAlone new
-    command_fair host later cdb payload answer data_in (inl off) = untouched_fair off.1.is_answered.untouched
-    command_fair host later cdb payload answer data_in (inr on) = judged_fair host payload on.1.judged answer data_in on.1.is_answered
+  written_fair : (lba n : ℕ) (payload : List ℕ) (fua : Bool) (out : WriteOut) → WrittenCause old new lba n payload fua out → GivesUpDeadAlone new.drive
+  written_fair lba n payload true out cause = (of_through StaysFair stays_fair lba n old new out cause (was_known, fair)).1
+  written_fair lba n payload false out cause = (of_write StaysFair stays_fair lba n payload old new out cause (was_known, fair)).1
 
-    line_fair : (host later : Host) (line : Line) (payload : List ℕ) (outcome : Outcome) (data_in : List ℕ) → DiscRule old new before after host later line payload outcome data_in → GivesUpDeadAlone new
-    line_fair host later lines.Power payload outcome data_in p = power_fair old new same sound is_known was_known fair p.0.out p.0.powered.cause
-    line_fair host later (lines.Fail block) payload outcome data_in p = fail_fair block p.0.end p.0.rule
-    line_fair host later (lines.Wear block n) payload outcome data_in p = still_fair p.0.keeps.memory.same_lists (worn_world _ old.medium new.medium (record { block = block; left = n }) p.0.end p.0.rule)
-    line_fair host later (lines.Cut n fate) payload outcome data_in p = still_fair p.0.keeps.memory.same_lists (ap (λ (m : Machine). m.world) p.0.armed)
-    line_fair host later (lines.Command cdb) payload outcome data_in p = command_fair host later cdb payload p.answer data_in p.step
-    line_fair host later _ payload outcome data_in p = absurd p
+  done_fair : (host : Host) (payload : List ℕ) (command : Command) (answer : Answer) (data_in : List ℕ) → IsDone old new before after host payload command answer data_in → GivesUpDeadAlone new.drive
+  done_fair host payload commands.TestUnitReady answer data_in p = untouched_fair p.untouched
+  done_fair host payload (commands.RequestSense alloc) answer data_in p = untouched_fair p.untouched
+  done_fair host payload (commands.Format kind) answer data_in p = format_fair old.drive new.drive same sound is_known was_known fair kind p.out p.cause.0
+  done_fair host payload (commands.Expand sectors) answer data_in p = expand_fair old.drive new.drive same sound is_known was_known fair sectors p.out p.cause.0
+  done_fair host payload (commands.Inquiry alloc) answer data_in p = untouched_fair p.untouched
+  done_fair host payload (commands.StartStop start eject) answer data_in p = untouched_fair p.untouched
+  done_fair host payload (commands.Prevent on) answer data_in p = untouched_fair p.untouched
+  done_fair host payload (commands.FormatCapacities alloc) answer data_in p = untouched_fair p.untouched
+  done_fair host payload commands.ReadCapacity answer data_in p = untouched_fair p.untouched
+  done_fair host payload (commands.Read lba n) answer data_in p = (of_read StaysFair stays_fair lba n old new p.out p.cause (was_known, fair)).1
+  done_fair host payload (commands.Write lba n fua) answer data_in p = written_fair lba n payload fua p.out p.cause
+  done_fair host payload (commands.Verify lba n) answer data_in p = verify_fair old.drive new.drive same sound is_known lba n p.out fair p.cause.0
+  done_fair host payload commands.Synchronize answer data_in p = (of_sync StaysFair stays_fair old new p.out p.cause (was_known, fair)).1
+  done_fair host payload (commands.Configuration rt start alloc) answer data_in p = untouched_fair p.untouched
+  done_fair host payload commands.ModeSelect answer data_in p = subst (λ (s : CacheShown). GivesUpDeadAlone s.drive) (sym p.mode) fair
+  done_fair host payload (commands.ModeSense control page alloc) answer data_in p = untouched_fair p.untouched
+  done_fair host payload (commands.Structure format alloc) answer data_in p = told_fair (format == 0x08) alloc answer data_in p
+
+  judged_fair : (host : Host) (payload : List ℕ) (judged : Result Command Sense) (answer : Answer) (data_in : List ℕ) → IsAnsweredBy old new before after host payload judged answer data_in → GivesUpDeadAlone new.drive
+  judged_fair host payload (Err why) answer data_in p = untouched_fair p.untouched
+  judged_fair host payload (Ok command) answer data_in p = done_fair host payload command answer data_in p
+
+  command_fair : (host later : Host) (cdb payload : List ℕ) (answer : Answer) (data_in : List ℕ) → IsStep old new before after host later cdb payload answer data_in → GivesUpDeadAlone new.drive
+  command_fair host later cdb payload answer data_in (inl off) = untouched_fair off.1.is_answered.untouched
+  command_fair host later cdb payload answer data_in (inr on) = judged_fair host payload on.1.judged answer data_in on.1.is_answered
+
+  line_fair : (host later : Host) (line : Line) (payload : List ℕ) (outcome : Outcome) (data_in : List ℕ) → DiscRule old new before after host later line payload outcome data_in → GivesUpDeadAlone new.drive
+  line_fair host later lines.Power payload outcome data_in p = power_fair old.drive new.drive same sound is_known was_known fair p.0.out p.0.powered.cause.0
+  line_fair host later (lines.Fail block) payload outcome data_in p = fail_fair old.drive new.drive same fair block p.0.end p.0.rule
+  line_fair host later (lines.Wear block n) payload outcome data_in p = still_fair old.drive new.drive same fair p.0.keeps.memory.same_lists (worn_world _ old.drive.medium new.drive.medium (record { block = block; left = n }) p.0.end p.0.rule)
+  line_fair host later (lines.Cut n fate) payload outcome data_in p = still_fair old.drive new.drive same fair p.0.keeps.memory.same_lists (ap (λ (m : Machine). m.world) p.0.armed)
+  line_fair host later lines.Tick payload outcome data_in p = (of_tick StaysFair stays_fair old new p.0.out p.0.cause (was_known, fair)).1
+  line_fair host later (lines.Command cdb) payload outcome data_in p = command_fair host later cdb payload p.answer data_in p.step
+  line_fair host later _ payload outcome data_in p = absurd p
 
 -- ---- what a run begins with
 
@@ -140,8 +161,8 @@ no_text cell text v (inr dead) holds = subst (λ (c : Cell). Holds text c v) dea
 blank_gives_none : (shape : Shape) → GivesNone shape (blank_cells shape)
 blank_gives_none shape lists given = no_text (cell_at (blank_cells shape) (dds_block shape given.dds_area)) IsDdsText lists.dds (blank_or_dead (total shape) (dds_block shape given.dds_area)) given.dds_copy.holds
 
-opened_fair : (shape : Shape) (cells : List Cell) (bytes : List ℕ) (s : Served) → IsInserted shape cells bytes s → ((lists : Lists) → IsGiven shape cells lists → IsFair cells lists) → GivesUpDeadAlone s.disc.shown
-opened_fair shape cells bytes s is fair = subst GivesUpDeadAlone (sym is.opened.shown_is) (record { given = fair; in_use = λ lists none. absurd (none_some lists None refl none) })
+opened_fair : (shape : Shape) (cells : List Cell) (bytes : List ℕ) (s : Served) → IsInserted shape cells bytes s → ((lists : Lists) → IsGiven shape cells lists → IsFair cells lists) → GivesUpDeadAlone s.disc.shown.drive
+opened_fair shape cells bytes s is fair = subst (λ (x : CacheShown). GivesUpDeadAlone x.drive) (sym is.opened.shown_is) (record { given = fair; in_use = λ lists none. absurd (none_some lists None refl none) })
 
 pub pressed_fair : (shape : Shape) (s : State) → IsPressedDisc shape s → FairNow s
 pressed_fair shape (Unopened image) is = tt
@@ -173,8 +194,8 @@ on_disc_fair : (s t : State) (line : Line) (payload : List ℕ) (outcome : Outco
 on_disc_fair (Unopened bytes) t line payload outcome data_in step fair = subst FairNow (sym step.2) tt
 on_disc_fair (Disc s) (Unopened bytes) line payload outcome data_in step fair = absurd step
 on_disc_fair (Disc s) (Disc t) line payload outcome data_in step fair =
-    line_fair s.disc.shown t.disc.shown step.same_shape t.disc.sound (known_of s.disc.shown s.disc.standing s.disc.stands) (known_of t.disc.shown t.disc.standing t.disc.stands) fair
-    (λ x. x ≡ s.disc.standing) (λ x. x ≡ t.disc.standing) s.host t.host line payload outcome data_in step.rule
+    line_fair s.disc.shown t.disc.shown step.same_shape t.disc.sound (contents_known s.disc.shown s.disc.contents s.disc.stands) (contents_known t.disc.shown t.disc.contents t.disc.stands) fair
+    (λ x. x ≡ s.disc.contents) (λ x. x ≡ t.disc.contents) s.host t.host line payload outcome data_in step.rule
 
 pub step_fair : (s t : State) (line : Line) (payload data_in : List ℕ) (outcome : Outcome) → Step s line payload outcome data_in t → FairNow s → FairNow t
 step_fair s t lines.Empty payload data_in outcome step fair = subst FairNow (sym step.2) fair

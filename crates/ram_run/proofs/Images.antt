@@ -7,8 +7,8 @@ use Rattle.ram_run.specs.Drive.{HasCells}
 use Rattle.ram_run.specs.States.{Served, Disc, IsLabelled, IsLeft}
 
 -- the image that a disc leaves has its cells
-pub image_left : (s : Served) (bytes : List ℕ) → IsLeft (Disc s) bytes → IsImageOf s.disc.shown.shape (cells_in s.disc.shown) bytes
-image_left s bytes left = subst (λ b. IsImageOf s.disc.shown.shape (cells_in s.disc.shown) b) (sym left) s.image
+pub image_left : (s : Served) (bytes : List ℕ) → IsLeft (Disc s) bytes → IsImageOf s.disc.shown.drive.shape (cells_in s.disc.shown.drive) bytes
+image_left s bytes left = subst (λ b. IsImageOf s.disc.shown.drive.shape (cells_in s.disc.shown.drive) b) (sym left) s.image
 
 -- a drive whose cells are known lies in bytes that are known, and that have these cells
 pub record LiesThere (shown : Shown) (image : Option (List ℕ)) : Type 0 where

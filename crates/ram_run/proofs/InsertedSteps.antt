@@ -4,8 +4,10 @@ use Rattle.std.proofs.Common.{refl, sym, ap, ◌∙◌, subst}
 use Rattle.model_drive.specs.Shown.{Shown}
 use Rattle.model_target.specs.declared.host.Host.{Host}
 use Rattle.ram_outside.specs.declared.image.Image.{Ghosts as Images}
-use Rattle.ram_sectors.specs.Laws.{SectorsLaws}
-use Rattle.ram_sectors.specs.declared.Sectors.{Ghosts as Drives}
+use Rattle.ram_sectors.specs.Laws.{CachingLaws}
+use Rattle.model_cache.specs.Values.{Contents}
+use Rattle.model_cache.specs.Shown.{CacheShown}
+use Rattle.ram_sectors.specs.declared.caching.Caching.{Ghosts as Drives}
 use Rattle.ram_medium.specs.declared.control.FailEnd.{FailEnd}
 use Rattle.ram_medium.specs.declared.control.FailEnd.TheVariants as fails
 use Rattle.ram_mmc.specs.declared.target.Target.{Target}
@@ -19,7 +21,7 @@ use Rattle.ram_run.specs.Drive.{DriveLaws}
 use Rattle.ram_run.specs.LineSteps.{DiscRule, DiscStep, LineBytes, Step}
 use Rattle.ram_run.specs.Inserted.{Stands, IsAnswered}
 use Rattle.ram_run.proofs.Images.{lies_there}
-use Rattle.ram_run.proofs.InImage.{known_of}
+use Rattle.ram_run.proofs.SoundChains.{contents_known}
 use Rattle.ram_run.proofs.StatesAfter.{rule_found}
 use Rattle.ram_run.proofs.Labels.{stays_labelled}
 
@@ -35,21 +37,21 @@ disc_step s t lines.Empty payload outcome data_in step = absurd step.rule
 disc_step s t (lines.Press zones scale psa) payload outcome data_in step = absurd step.rule
 disc_step s t _ payload outcome data_in step = step
 
-module _ {D I : Type 0} (drives : Drives D) (lies_in : D → Option (List ℕ)) (images : Images I) (laws : SectorsLaws drives.shows drives.stands) (lying : DriveLaws drives.shows drives.underwent lies_in) (old new : Target D) (line : Line) (payload : List ℕ) (outcome : Outcome) (data_in : List ℕ)
+module _ {D I : Type 0} (drives : Drives D) (lies_in : D → Option (List ℕ)) (images : Images I) (laws : CachingLaws drives.shows drives.stands) (lying : DriveLaws drives.shows drives.underwent lies_in) (old new : Target D) (line : Line) (payload : List ℕ) (outcome : Outcome) (data_in : List ℕ)
     (rule : DiscRule (drives.shows old.disc) (drives.shows new.disc) (drives.stands old.disc) (drives.stands new.disc) old.host new.host line payload outcome data_in)
-    (same_shape : (drives.shows new.disc).shape ≡ (drives.shows old.disc).shape) (bytes : LineBytes line outcome (drives.shows old.disc) (lies_in old.disc) (drives.shows new.disc) (lies_in new.disc)) where
+    (same_shape : (drives.shows new.disc).drive.shape ≡ (drives.shows old.disc).drive.shape) (bytes : LineBytes line outcome (drives.shows old.disc).drive (lies_in old.disc) (drives.shows new.disc).drive (lies_in new.disc)) where
   -- the disc that a line leaves
   disc_left : (s : Served) → IsIn (drives.shows old.disc) (drives.stands old.disc) old.host (lies_in old.disc) s
       → (t : Served) × DiscStep s t line payload outcome data_in × IsIn (drives.shows new.disc) (drives.stands new.disc) new.host (lies_in new.disc) t
   disc_left s is =
-      let found = rule_found (drives.shows old.disc) (drives.shows new.disc) (drives.stands old.disc) (drives.stands new.disc) old.host new.host s.disc.standing is.standing_is line payload outcome data_in rule in
-      let labelled : IsLabelled (drives.shows new.disc) =
+      let found = rule_found (drives.shows old.disc) (drives.shows new.disc) (drives.stands old.disc) (drives.stands new.disc) old.host new.host s.disc.contents is.contents_is line payload outcome data_in rule in
+      let labelled : IsLabelled (drives.shows new.disc).drive =
       stays_labelled (drives.shows old.disc) (drives.shows new.disc) (drives.stands old.disc) (drives.stands new.disc) old.host new.host line payload outcome data_in rule same_shape
-      (subst IsLabelled (sym is.shown_is) s.labelled) in
+      (subst (λ (shown : CacheShown). IsLabelled shown.drive) (sym is.shown_is) s.labelled) in
       let stands = (laws.as_shown new.disc found.0).0 found.1 in
-      let there = lies_there (drives.shows new.disc) (lies_in new.disc) (known_of (drives.shows new.disc) found.0 stands) labelled (lying.has_cells new.disc) in
+      let there = lies_there (drives.shows new.disc).drive (lies_in new.disc) (contents_known (drives.shows new.disc) found.0 stands) labelled (lying.has_cells new.disc) in
       let t : Served = record {
-        disc = record { shown = drives.shows new.disc; standing = found.0; sound = laws.sound new.disc; stands = stands };
+        disc = record { shown = drives.shows new.disc; contents = found.0; sound = laws.drive_sound new.disc; cache_sound = laws.sound new.disc; stands = stands };
         host = new.host;
         labelled = labelled;
         bytes = there.bytes;
@@ -57,14 +59,14 @@ module _ {D I : Type 0} (drives : Drives D) (lies_in : D → Option (List ℕ)) 
       } in (
         t,
         record {
-          same_shape = same_shape ∙ ap (λ (shown : Shown). shown.shape) is.shown_is;
-          rule = subst (λ (host : Host). DiscRule s.disc.shown (drives.shows new.disc) (λ x. x ≡ s.disc.standing) (λ x. x ≡ found.0) host new.host line payload outcome data_in) is.host_is
-              (subst (λ (shown : Shown). DiscRule shown (drives.shows new.disc) (λ x. x ≡ s.disc.standing) (λ x. x ≡ found.0) old.host new.host line payload outcome data_in) is.shown_is found.2);
-          bytes = subst (λ (shown : Shown). LineBytes line outcome shown (Some s.bytes) (drives.shows new.disc) (Some there.bytes)) is.shown_is
-              (subst (λ (o : Option (List ℕ)). LineBytes line outcome (drives.shows old.disc) o (drives.shows new.disc) (Some there.bytes)) is.bytes_are
-              (subst (LineBytes line outcome (drives.shows old.disc) (lies_in old.disc) (drives.shows new.disc)) there.known bytes));
+          same_shape = same_shape ∙ ap (λ (shown : CacheShown). shown.drive.shape) is.shown_is;
+          rule = subst (λ (host : Host). DiscRule s.disc.shown (drives.shows new.disc) (λ x. x ≡ s.disc.contents) (λ x. x ≡ found.0) host new.host line payload outcome data_in) is.host_is
+              (subst (λ (shown : CacheShown). DiscRule shown (drives.shows new.disc) (λ x. x ≡ s.disc.contents) (λ x. x ≡ found.0) old.host new.host line payload outcome data_in) is.shown_is found.2);
+          bytes = subst (λ (shown : CacheShown). LineBytes line outcome shown.drive (Some s.bytes) (drives.shows new.disc).drive (Some there.bytes)) is.shown_is
+              (subst (λ (o : Option (List ℕ)). LineBytes line outcome (drives.shows old.disc).drive o (drives.shows new.disc).drive (Some there.bytes)) is.bytes_are
+              (subst (LineBytes line outcome (drives.shows old.disc).drive (lies_in old.disc) (drives.shows new.disc).drive) there.known bytes));
         },
-        record { shown_is = refl; standing_is = found.1; host_is = refl; bytes_are = there.known },
+        record { shown_is = refl; contents_is = found.1; host_is = refl; bytes_are = there.known },
       )
 
   -- the same of the inserted disc

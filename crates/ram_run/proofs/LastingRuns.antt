@@ -9,7 +9,11 @@ use Rattle.model_lists.specs.declared.versions.Version.{Version}
 use Rattle.model_medium.specs.Cells.{Cell, Dead, cell_at}
 use Rattle.model_medium.specs.World.{World}
 use Rattle.model_medium.specs.Machine.{Machine}
-use Rattle.model_sectors.specs.Discs.{Standing}
+use Rattle.model_drive.specs.declared.WriteOut.{WriteOut}
+use Rattle.model_cache.specs.Values.{Contents}
+use Rattle.model_cache.specs.Shown.{CacheShown}
+use Rattle.model_cache.proofs.Chained.{HoldsOfChains, of_read, of_write, of_through, of_sync, of_tick}
+use Rattle.model_drive.proofs.Kept.{read_kept, write_kept}
 use Rattle.model_sectors.specs.declared.PowerOut.{PowerOut}
 use Rattle.model_sectors.specs.declared.PowerOut.TheVariants as powers
 use Rattle.model_places.specs.Places.{Lists, capacity_of}
@@ -32,7 +36,7 @@ use Rattle.model_cdb.specs.declared.commands.Command.TheVariants as commands
 use Rattle.model_cdb.specs.Decoding.{decoded}
 use Rattle.model_target.specs.declared.host.Host.{Host}
 use Rattle.model_target.specs.Judging.{IsJudged}
-use Rattle.model_target.specs.Steps.{Untouched, TellsStructure, TellsSpares, IsDone, IsAnsweredBy, IsStep as ExecutesTo}
+use Rattle.model_target.specs.Steps.{WrittenCause, Untouched, TellsStructure, TellsSpares, IsDone, IsAnsweredBy, IsStep as ExecutesTo}
 use Rattle.ram_medium.specs.declared.control.FailEnd.{FailEnd}
 use Rattle.ram_medium.specs.declared.control.FailEnd.TheVariants as fails
 use Rattle.ram_volume.specs.Control.{FailOnDrive}
@@ -47,7 +51,7 @@ use Rattle.ram_run.specs.LineSteps.{DiscRule, OnDisc, Step}
 use Rattle.ram_run.specs.Run.{AnsweredLine, IsStep, Run}
 use Rattle.ram_run.specs.Survival.{KeepsAsAsked, KeepsAsDecoded, KeepsDisc, KeepDisc, AsksNoExpansion, LeavesCapacity, LeaveCapacity, HasInUse, HasTwoCopies, LastsNow, IsReadyOrCut}
 use Rattle.ram_run.proofs.Images.{image_left}
-use Rattle.ram_run.proofs.InImage.{known_of}
+use Rattle.ram_run.proofs.SoundChains.{contents_known, IsWell}
 use Rattle.ram_run.proofs.Decoded.{asks_for}
 use Rattle.ram_run.proofs.Acknowledged.{not_pressed}
 use Rattle.ram_run.proofs.FairRuns.{cells_die, worn_world}
@@ -69,46 +73,63 @@ module _ (old new : Shown) where
   fail_dead block (fails.NoBlock blocks) p = die_dead (cells_in old) (cells_in new) (cells_die (total old.shape) old.medium new.medium block (fails.NoBlock blocks) p.0)
   fail_dead block fails.Failed p = die_dead (cells_in old) (cells_in new) (cells_die (total old.shape) old.medium new.medium block fails.Failed p.0)
 
-  module _ (before after : Standing → Type 0) where
-    told_dead : (structure : Bool) (alloc : ℕ) (answer : Answer) (data_in : List ℕ)
-        → MatchBool structure (TellsStructure old new before after alloc answer data_in) (TellsSpares old new before after alloc answer data_in) → DeadStay old new
-    told_dead true alloc answer data_in p = same_dead p.is_answered.untouched.same
-    told_dead false alloc answer data_in p = same_dead p.untouched.same
+-- over calls of the disc, one after another
+stays_dead : HoldsOfChains (λ faulted a b. DeadStay a b)
+stays_dead = record {
+  none = λ s block dead. dead;
+  join = λ faulted a b c first then block dead. then block (first block dead);
+  read = λ a b lba n out leaves cause. read_dead a b lba n out cause;
+  write = λ a b lba n out leaves cause. write_dead a b lba n out cause;
+}
 
-    done_dead : (host : Host) (payload : List ℕ) (command : Command) (answer : Answer) (data_in : List ℕ) → IsDone old new before after host payload command answer data_in → DeadStay old new
-    done_dead host payload commands.TestUnitReady answer data_in p = same_dead p.untouched.same
-    done_dead host payload (commands.RequestSense alloc) answer data_in p = same_dead p.untouched.same
-    done_dead host payload (commands.Format kind) answer data_in p = format_dead old new kind p.out p.cause
-    done_dead host payload (commands.Expand sectors) answer data_in p = expand_dead old new sectors p.out p.cause
-    done_dead host payload (commands.Inquiry alloc) answer data_in p = same_dead p.untouched.same
-    done_dead host payload (commands.StartStop start eject) answer data_in p = same_dead p.untouched.same
-    done_dead host payload (commands.Prevent on) answer data_in p = same_dead p.untouched.same
-    done_dead host payload (commands.FormatCapacities alloc) answer data_in p = same_dead p.untouched.same
-    done_dead host payload commands.ReadCapacity answer data_in p = same_dead p.untouched.same
-    done_dead host payload (commands.Read lba n) answer data_in p = read_dead old new lba n p.out p.cause
-    done_dead host payload (commands.Write lba n fua) answer data_in p = write_dead old new lba n p.out p.cause
-    done_dead host payload (commands.Verify lba n) answer data_in p = verify_dead old new lba n p.out p.cause
-    done_dead host payload commands.Synchronize answer data_in p = same_dead p.untouched.same
-    done_dead host payload (commands.Configuration rt start alloc) answer data_in p = same_dead p.untouched.same
-    done_dead host payload commands.ModeSelect answer data_in p = same_dead p.untouched.same
-    done_dead host payload (commands.ModeSense control page alloc) answer data_in p = same_dead p.untouched.same
-    done_dead host payload (commands.Structure format alloc) answer data_in p = told_dead (format == 0x08) alloc answer data_in p
+module _ (old new : CacheShown) (before after : Contents → Type 0) where
+  cache_dead : new ≡ old → DeadStay old.drive new.drive
+  cache_dead is block dead = ap (λ (s : CacheShown). cell_at (cells_in s.drive) block) is ∙ dead
 
-    judged_dead : (host : Host) (payload : List ℕ) (judged : Result Command Sense) (answer : Answer) (data_in : List ℕ) → IsAnsweredBy old new before after host payload judged answer data_in → DeadStay old new
-    judged_dead host payload (Err why) answer data_in p = same_dead p.untouched.same
-    judged_dead host payload (Ok command) answer data_in p = done_dead host payload command answer data_in p
+  written_dead : (lba n : ℕ) (payload : List ℕ) (fua : Bool) (out : WriteOut) → WrittenCause old new lba n payload fua out → DeadStay old.drive new.drive
+  written_dead lba n payload true out cause = of_through (λ faulted a b. DeadStay a b) stays_dead lba n old new out cause
+  written_dead lba n payload false out cause = of_write (λ faulted a b. DeadStay a b) stays_dead lba n payload old new out cause
 
-    command_dead : (host later : Host) (cdb payload : List ℕ) (answer : Answer) (data_in : List ℕ) → ExecutesTo old new before after host later cdb payload answer data_in → DeadStay old new
-    command_dead host later cdb payload answer data_in (inl off) = same_dead off.1.is_answered.untouched.same
-    command_dead host later cdb payload answer data_in (inr on) = judged_dead host payload on.1.judged answer data_in on.1.is_answered
+  told_dead : (structure : Bool) (alloc : ℕ) (answer : Answer) (data_in : List ℕ)
+      → MatchBool structure (TellsStructure old new before after alloc answer data_in) (TellsSpares old new before after alloc answer data_in) → DeadStay old.drive new.drive
+  told_dead true alloc answer data_in p = cache_dead p.is_answered.untouched.same
+  told_dead false alloc answer data_in p = cache_dead p.untouched.same
 
-    line_dead : (host later : Host) (line : Line) (payload : List ℕ) (outcome : Outcome) (data_in : List ℕ) → DiscRule old new before after host later line payload outcome data_in → DeadStay old new
-    line_dead host later lines.Power payload outcome data_in p = power_dead old new p.0.out p.0.powered.cause
-    line_dead host later (lines.Fail block) payload outcome data_in p = fail_dead block p.0.end p.0.rule
-    line_dead host later (lines.Wear block n) payload outcome data_in p = world_dead (worn_world _ old.medium new.medium (record { block = block; left = n }) p.0.end p.0.rule)
-    line_dead host later (lines.Cut n fate) payload outcome data_in p = world_dead (ap (λ (m : Machine). m.world) p.0.armed)
-    line_dead host later (lines.Command cdb) payload outcome data_in p = command_dead host later cdb payload p.answer data_in p.step
-    line_dead host later _ payload outcome data_in p = absurd p
+  done_dead : (host : Host) (payload : List ℕ) (command : Command) (answer : Answer) (data_in : List ℕ) → IsDone old new before after host payload command answer data_in → DeadStay old.drive new.drive
+  done_dead host payload commands.TestUnitReady answer data_in p = cache_dead p.untouched.same
+  done_dead host payload (commands.RequestSense alloc) answer data_in p = cache_dead p.untouched.same
+  done_dead host payload (commands.Format kind) answer data_in p = format_dead old.drive new.drive kind p.out p.cause.0
+  done_dead host payload (commands.Expand sectors) answer data_in p = expand_dead old.drive new.drive sectors p.out p.cause.0
+  done_dead host payload (commands.Inquiry alloc) answer data_in p = cache_dead p.untouched.same
+  done_dead host payload (commands.StartStop start eject) answer data_in p = cache_dead p.untouched.same
+  done_dead host payload (commands.Prevent on) answer data_in p = cache_dead p.untouched.same
+  done_dead host payload (commands.FormatCapacities alloc) answer data_in p = cache_dead p.untouched.same
+  done_dead host payload commands.ReadCapacity answer data_in p = cache_dead p.untouched.same
+  done_dead host payload (commands.Read lba n) answer data_in p = of_read (λ faulted a b. DeadStay a b) stays_dead lba n old new p.out p.cause
+  done_dead host payload (commands.Write lba n fua) answer data_in p = written_dead lba n payload fua p.out p.cause
+  done_dead host payload (commands.Verify lba n) answer data_in p = verify_dead old.drive new.drive lba n p.out p.cause.0
+  done_dead host payload commands.Synchronize answer data_in p = of_sync (λ faulted a b. DeadStay a b) stays_dead old new p.out p.cause
+  done_dead host payload (commands.Configuration rt start alloc) answer data_in p = cache_dead p.untouched.same
+  done_dead host payload commands.ModeSelect answer data_in p = λ block dead. ap (λ (s : CacheShown). cell_at (cells_in s.drive) block) p.mode ∙ dead
+  done_dead host payload (commands.ModeSense control page alloc) answer data_in p = cache_dead p.untouched.same
+  done_dead host payload (commands.Structure format alloc) answer data_in p = told_dead (format == 0x08) alloc answer data_in p
+
+  judged_dead : (host : Host) (payload : List ℕ) (judged : Result Command Sense) (answer : Answer) (data_in : List ℕ) → IsAnsweredBy old new before after host payload judged answer data_in → DeadStay old.drive new.drive
+  judged_dead host payload (Err why) answer data_in p = cache_dead p.untouched.same
+  judged_dead host payload (Ok command) answer data_in p = done_dead host payload command answer data_in p
+
+  command_dead : (host later : Host) (cdb payload : List ℕ) (answer : Answer) (data_in : List ℕ) → ExecutesTo old new before after host later cdb payload answer data_in → DeadStay old.drive new.drive
+  command_dead host later cdb payload answer data_in (inl off) = cache_dead off.1.is_answered.untouched.same
+  command_dead host later cdb payload answer data_in (inr on) = judged_dead host payload on.1.judged answer data_in on.1.is_answered
+
+  line_dead : (host later : Host) (line : Line) (payload : List ℕ) (outcome : Outcome) (data_in : List ℕ) → DiscRule old new before after host later line payload outcome data_in → DeadStay old.drive new.drive
+  line_dead host later lines.Power payload outcome data_in p = power_dead old.drive new.drive p.0.out p.0.powered.cause.0
+  line_dead host later (lines.Fail block) payload outcome data_in p = fail_dead old.drive new.drive block p.0.end p.0.rule
+  line_dead host later (lines.Wear block n) payload outcome data_in p = world_dead old.drive new.drive (worn_world _ old.drive.medium new.drive.medium (record { block = block; left = n }) p.0.end p.0.rule)
+  line_dead host later (lines.Cut n fate) payload outcome data_in p = world_dead old.drive new.drive (ap (λ (m : Machine). m.world) p.0.armed)
+  line_dead host later lines.Tick payload outcome data_in p = of_tick (λ faulted a b. DeadStay a b) stays_dead old new p.0.out p.0.cause
+  line_dead host later (lines.Command cdb) payload outcome data_in p = command_dead host later cdb payload p.answer data_in p.step
+  line_dead host later _ payload outcome data_in p = absurd p
 
 -- so what has two copies had them before
 two_before : (old new : Shown) (version : Version) → new.shape ≡ old.shape → DeadStay old new → KeepsTwoCopies new version → KeepsTwoCopies old version
@@ -148,14 +169,7 @@ two_before old new version same stay two = by_shape (subst (λ (s : Shape). Have
 abbrev pub LastsOn : Shown → Version → List ℕ → Type 0 → Type 0
 LastsOn new version sizes leaves = (later : List ℕ) × StaysFormatted new version later × (leaves → later ≡ sizes)
 
-module _ (old new : Shown) (same : new.shape ≡ old.shape) (was_sound : IsSound old) (sound : IsSound new) (was_known : IsKnown old) (is_known : IsKnown new)
-    (version : Version) (sizes : List ℕ) (s : StaysFormatted old version sizes) where
-  as_sized : {leaves : Type 0} → StaysFormatted new version sizes → LastsOn new version sizes leaves
-  as_sized stays = (sizes, stays, λ _. refl)
-
-  untouched_lasts : {leaves : Type 0} → new ≡ old → LastsOn new version sizes leaves
-  untouched_lasts is = as_sized (subst (λ (x : Shown). StaysFormatted x version sizes) (sym is) s)
-
+module _ (old new : Shown) (same : new.shape ≡ old.shape) (version : Version) (sizes : List ℕ) (s : StaysFormatted old version sizes) where
   fail_lasts : (block : ℕ) (end : FailEnd) → FailOnDrive old new block end → StaysFormatted new version sizes
   fail_lasts block fails.Done p = dies_stays old new version sizes same s (λ on. subst (λ (m : Machine). IsTrue m.world.power) p.0.1 on) (λ on. p.1.same_lists) (cells_die (total old.shape) old.medium new.medium block fails.Done p.0)
   fail_lasts block (fails.NoBlock blocks) p = dies_stays old new version sizes same s (λ on. subst (λ (m : Machine). IsTrue m.world.power) p.0.2 on) (λ on. p.1.same_lists) (cells_die (total old.shape) old.medium new.medium block (fails.NoBlock blocks) p.0)
@@ -164,56 +178,91 @@ module _ (old new : Shown) (same : new.shape ≡ old.shape) (was_sound : IsSound
   still_lasts : new.lists ≡ old.lists → new.medium.world ≡ old.medium.world → StaysFormatted new version sizes
   still_lasts kept world = dies_stays old new version sizes same s (λ on. subst (λ (w : World). IsTrue w.power) world on) (λ on. kept) (λ block. inl (ap (λ (w : World). cell_at w.cells block) world))
 
-  module _ (before after : Standing → Type 0) where
-    told_lasts : (structure : Bool) (alloc : ℕ) (answer : Answer) (data_in : List ℕ) {leaves : Type 0}
-        → MatchBool structure (TellsStructure old new before after alloc answer data_in) (TellsSpares old new before after alloc answer data_in) → LastsOn new version sizes leaves
-    told_lasts true alloc answer data_in p = untouched_lasts p.is_answered.untouched.same
-    told_lasts false alloc answer data_in p = untouched_lasts p.untouched.same
+-- over calls of the disc, one after another
+abbrev StaysOn : Version → List ℕ → Bool → Shown → Shown → Type 0
+StaysOn version sizes faulted a b = (shape : Shape) → IsWell shape a × StaysFormatted a version sizes → IsWell shape b × StaysFormatted b version sizes
 
-    done_lasts : (host : Host) (payload : List ℕ) (command : Command) (answer : Answer) (data_in : List ℕ) → KeepsAsAsked command → IsDone old new before after host payload command answer data_in
-        → LastsOn new version sizes (AsksNoExpansion (Ok command))
-    done_lasts host payload commands.TestUnitReady answer data_in keeps p = untouched_lasts p.untouched.same
-    done_lasts host payload (commands.RequestSense alloc) answer data_in keeps p = untouched_lasts p.untouched.same
-    done_lasts host payload (commands.Format (kinds.Full drop_sdl)) answer data_in keeps p = absurd keeps
-    done_lasts host payload (commands.Format kinds.Rewrite) answer data_in keeps p = as_sized (format_stays old new version sizes same s sound is_known was_sound was_known p.out p.cause)
-    done_lasts host payload (commands.Expand sectors) answer data_in keeps p = (ssa_for old.shape sectors ∷ sizes, expand_stays old new version sizes same s sound is_known was_sound was_known sectors p.out p.cause, λ none. absurd none)
-    done_lasts host payload (commands.Inquiry alloc) answer data_in keeps p = untouched_lasts p.untouched.same
-    done_lasts host payload (commands.StartStop start eject) answer data_in keeps p = untouched_lasts p.untouched.same
-    done_lasts host payload (commands.Prevent on) answer data_in keeps p = untouched_lasts p.untouched.same
-    done_lasts host payload (commands.FormatCapacities alloc) answer data_in keeps p = untouched_lasts p.untouched.same
-    done_lasts host payload commands.ReadCapacity answer data_in keeps p = untouched_lasts p.untouched.same
-    done_lasts host payload (commands.Read lba n) answer data_in keeps p = as_sized (read_stays old new version sizes same s sound is_known lba n p.out p.cause)
-    done_lasts host payload (commands.Write lba n fua) answer data_in keeps p = as_sized (write_stays old new version sizes same s sound is_known was_sound was_known lba n p.out p.cause)
-    done_lasts host payload (commands.Verify lba n) answer data_in keeps p = as_sized (verify_stays old new version sizes same s sound is_known lba n p.out p.cause)
-    done_lasts host payload commands.Synchronize answer data_in keeps p = untouched_lasts p.untouched.same
-    done_lasts host payload (commands.Configuration rt start alloc) answer data_in keeps p = untouched_lasts p.untouched.same
-    done_lasts host payload commands.ModeSelect answer data_in keeps p = untouched_lasts p.untouched.same
-    done_lasts host payload (commands.ModeSense control page alloc) answer data_in keeps p = untouched_lasts p.untouched.same
-    done_lasts host payload (commands.Structure format alloc) answer data_in keeps p = told_lasts (format == 0x08) alloc answer data_in p
+stays_on : (version : Version) (sizes : List ℕ) → HoldsOfChains (StaysOn version sizes)
+stays_on version sizes = record {
+  none = λ s shape on. on;
+  join = λ faulted a b c first then shape on. then shape (first shape on);
+  read = λ a b lba n out leaves cause shape on.
+      let known = (read_kept a b lba n out cause).as_known ∙ on.0.known in (
+        record { sound = leaves.sound; known = known; same_shape = leaves.same_shape ∙ on.0.same_shape },
+        read_stays a b version sizes leaves.same_shape on.1 leaves.sound known lba n out cause,
+      );
+  write = λ a b lba n out leaves cause shape on.
+      let known = (write_kept a b lba n out cause).as_known ∙ on.0.known in (
+        record { sound = leaves.sound; known = known; same_shape = leaves.same_shape ∙ on.0.same_shape },
+        write_stays a b version sizes leaves.same_shape on.1 leaves.sound known on.0.sound on.0.known lba n out cause,
+      );
+}
 
-    judged_lasts : (host : Host) (formatted : Bool) (cdb payload : List ℕ) (judged : Result Command Sense) (answer : Answer) (data_in : List ℕ) → IsJudged host formatted cdb payload judged
-        → IsAnsweredBy old new before after host payload judged answer data_in → KeepsAsDecoded (decoded cdb payload) → LastsOn new version sizes (AsksNoExpansion (decoded cdb payload))
-    judged_lasts host formatted cdb payload (Err why) answer data_in judged p keeps = untouched_lasts p.untouched.same
-    judged_lasts host formatted cdb payload (Ok command) answer data_in judged p keeps =
-        let asks : decoded cdb payload ≡ Ok command = asks_for host formatted cdb payload command judged in
-        subst (λ (d : Result Command Sense). LastsOn new version sizes (AsksNoExpansion d)) (sym asks)
-        (done_lasts host payload command answer data_in (subst KeepsAsDecoded asks keeps) p)
+module _ (old new : CacheShown) (same : new.drive.shape ≡ old.drive.shape) (was_sound : IsSound old.drive) (sound : IsSound new.drive) (was_known : IsKnown old.drive) (is_known : IsKnown new.drive)
+    (version : Version) (sizes : List ℕ) (s : StaysFormatted old.drive version sizes) (before after : Contents → Type 0) where
+  was_on : IsWell old.drive.shape old.drive × StaysFormatted old.drive version sizes
+  was_on = (record { sound = was_sound; known = was_known; same_shape = refl }, s)
 
-    command_lasts : (host later : Host) (cdb payload : List ℕ) (answer : Answer) (data_in : List ℕ) → ExecutesTo old new before after host later cdb payload answer data_in
-        → KeepsAsDecoded (decoded cdb payload) → LastsOn new version sizes (AsksNoExpansion (decoded cdb payload))
-    command_lasts host later cdb payload answer data_in (inl off) keeps = untouched_lasts off.1.is_answered.untouched.same
-    command_lasts host later cdb payload answer data_in (inr on) keeps =
-        judged_lasts host (is_some old.lists) cdb payload on.1.judged answer data_in on.1.is_judged on.1.is_answered keeps
+  as_sized : {leaves : Type 0} → StaysFormatted new.drive version sizes → LastsOn new.drive version sizes leaves
+  as_sized stays = (sizes, stays, λ _. refl)
 
-    line_lasts : (host later : Host) (line : Line) (payload : List ℕ) (outcome : Outcome) (data_in : List ℕ) → DiscRule old new before after host later line payload outcome data_in
-        → KeepsDisc line payload → KeepsTwoCopies new version → LastsOn new version sizes (LeavesCapacity line payload)
-    line_lasts host later lines.Power payload outcome data_in p keeps two = as_sized (power_stays old new version sizes same s sound is_known was_known p.0.out p.0.powered.cause two).0
-    line_lasts host later (lines.Fail block) payload outcome data_in p keeps two = as_sized (fail_lasts block p.0.end p.0.rule)
-    line_lasts host later (lines.Wear block n) payload outcome data_in p keeps two =
-        as_sized (still_lasts p.0.keeps.memory.same_lists (worn_world _ old.medium new.medium (record { block = block; left = n }) p.0.end p.0.rule))
-    line_lasts host later (lines.Cut n fate) payload outcome data_in p keeps two = as_sized (still_lasts p.0.keeps.memory.same_lists (ap (λ (m : Machine). m.world) p.0.armed))
-    line_lasts host later (lines.Command cdb) payload outcome data_in p keeps two = command_lasts host later cdb payload p.answer data_in p.step keeps
-    line_lasts host later _ payload outcome data_in p keeps two = absurd p
+  untouched_lasts : {leaves : Type 0} → new ≡ old → LastsOn new.drive version sizes leaves
+  untouched_lasts is = as_sized (subst (λ (x : CacheShown). StaysFormatted x.drive version sizes) (sym is) s)
+
+  written_lasts : (lba n : ℕ) (payload : List ℕ) (fua : Bool) (out : WriteOut) → WrittenCause old new lba n payload fua out → StaysFormatted new.drive version sizes
+  written_lasts lba n payload true out cause = (of_through (StaysOn version sizes) (stays_on version sizes) lba n old new out cause old.drive.shape was_on).1
+  written_lasts lba n payload false out cause = (of_write (StaysOn version sizes) (stays_on version sizes) lba n payload old new out cause old.drive.shape was_on).1
+
+  told_lasts : (structure : Bool) (alloc : ℕ) (answer : Answer) (data_in : List ℕ) {leaves : Type 0}
+      → MatchBool structure (TellsStructure old new before after alloc answer data_in) (TellsSpares old new before after alloc answer data_in) → LastsOn new.drive version sizes leaves
+  told_lasts true alloc answer data_in p = untouched_lasts p.is_answered.untouched.same
+  told_lasts false alloc answer data_in p = untouched_lasts p.untouched.same
+
+  done_lasts : (host : Host) (payload : List ℕ) (command : Command) (answer : Answer) (data_in : List ℕ) → KeepsAsAsked command → IsDone old new before after host payload command answer data_in
+      → LastsOn new.drive version sizes (AsksNoExpansion (Ok command))
+  done_lasts host payload commands.TestUnitReady answer data_in keeps p = untouched_lasts p.untouched.same
+  done_lasts host payload (commands.RequestSense alloc) answer data_in keeps p = untouched_lasts p.untouched.same
+  done_lasts host payload (commands.Format (kinds.Full drop_sdl)) answer data_in keeps p = absurd keeps
+  done_lasts host payload (commands.Format kinds.Rewrite) answer data_in keeps p = as_sized (format_stays old.drive new.drive version sizes same s sound is_known was_sound was_known p.out p.cause.0)
+  done_lasts host payload (commands.Expand sectors) answer data_in keeps p = (ssa_for old.drive.shape sectors ∷ sizes, expand_stays old.drive new.drive version sizes same s sound is_known was_sound was_known sectors p.out p.cause.0, λ none. absurd none)
+  done_lasts host payload (commands.Inquiry alloc) answer data_in keeps p = untouched_lasts p.untouched.same
+  done_lasts host payload (commands.StartStop start eject) answer data_in keeps p = untouched_lasts p.untouched.same
+  done_lasts host payload (commands.Prevent on) answer data_in keeps p = untouched_lasts p.untouched.same
+  done_lasts host payload (commands.FormatCapacities alloc) answer data_in keeps p = untouched_lasts p.untouched.same
+  done_lasts host payload commands.ReadCapacity answer data_in keeps p = untouched_lasts p.untouched.same
+  done_lasts host payload (commands.Read lba n) answer data_in keeps p = as_sized (of_read (StaysOn version sizes) (stays_on version sizes) lba n old new p.out p.cause old.drive.shape was_on).1
+  done_lasts host payload (commands.Write lba n fua) answer data_in keeps p = as_sized (written_lasts lba n payload fua p.out p.cause)
+  done_lasts host payload (commands.Verify lba n) answer data_in keeps p = as_sized (verify_stays old.drive new.drive version sizes same s sound is_known lba n p.out p.cause.0)
+  done_lasts host payload commands.Synchronize answer data_in keeps p = as_sized (of_sync (StaysOn version sizes) (stays_on version sizes) old new p.out p.cause old.drive.shape was_on).1
+  done_lasts host payload (commands.Configuration rt start alloc) answer data_in keeps p = untouched_lasts p.untouched.same
+  done_lasts host payload commands.ModeSelect answer data_in keeps p = as_sized (subst (λ (x : CacheShown). StaysFormatted x.drive version sizes) (sym p.mode) s)
+  done_lasts host payload (commands.ModeSense control page alloc) answer data_in keeps p = untouched_lasts p.untouched.same
+  done_lasts host payload (commands.Structure format alloc) answer data_in keeps p = told_lasts (format == 0x08) alloc answer data_in p
+
+  judged_lasts : (host : Host) (formatted : Bool) (cdb payload : List ℕ) (judged : Result Command Sense) (answer : Answer) (data_in : List ℕ) → IsJudged host formatted cdb payload judged
+      → IsAnsweredBy old new before after host payload judged answer data_in → KeepsAsDecoded (decoded cdb payload) → LastsOn new.drive version sizes (AsksNoExpansion (decoded cdb payload))
+  judged_lasts host formatted cdb payload (Err why) answer data_in judged p keeps = untouched_lasts p.untouched.same
+  judged_lasts host formatted cdb payload (Ok command) answer data_in judged p keeps =
+      let asks : decoded cdb payload ≡ Ok command = asks_for host formatted cdb payload command judged in
+      subst (λ (d : Result Command Sense). LastsOn new.drive version sizes (AsksNoExpansion d)) (sym asks)
+      (done_lasts host payload command answer data_in (subst KeepsAsDecoded asks keeps) p)
+
+  command_lasts : (host later : Host) (cdb payload : List ℕ) (answer : Answer) (data_in : List ℕ) → ExecutesTo old new before after host later cdb payload answer data_in
+      → KeepsAsDecoded (decoded cdb payload) → LastsOn new.drive version sizes (AsksNoExpansion (decoded cdb payload))
+  command_lasts host later cdb payload answer data_in (inl off) keeps = untouched_lasts off.1.is_answered.untouched.same
+  command_lasts host later cdb payload answer data_in (inr on) keeps =
+      judged_lasts host (is_some old.drive.lists) cdb payload on.1.judged answer data_in on.1.is_judged on.1.is_answered keeps
+
+  line_lasts : (host later : Host) (line : Line) (payload : List ℕ) (outcome : Outcome) (data_in : List ℕ) → DiscRule old new before after host later line payload outcome data_in
+      → KeepsDisc line payload → KeepsTwoCopies new.drive version → LastsOn new.drive version sizes (LeavesCapacity line payload)
+  line_lasts host later lines.Power payload outcome data_in p keeps two = as_sized (power_stays old.drive new.drive version sizes same s sound is_known was_known p.0.out p.0.powered.cause.0 two).0
+  line_lasts host later (lines.Fail block) payload outcome data_in p keeps two = as_sized (fail_lasts old.drive new.drive same version sizes s block p.0.end p.0.rule)
+  line_lasts host later (lines.Wear block n) payload outcome data_in p keeps two =
+      as_sized (still_lasts old.drive new.drive same version sizes s p.0.keeps.memory.same_lists (worn_world _ old.drive.medium new.drive.medium (record { block = block; left = n }) p.0.end p.0.rule))
+  line_lasts host later (lines.Cut n fate) payload outcome data_in p keeps two = as_sized (still_lasts old.drive new.drive same version sizes s p.0.keeps.memory.same_lists (ap (λ (m : Machine). m.world) p.0.armed))
+  line_lasts host later lines.Tick payload outcome data_in p keeps two = as_sized (of_tick (StaysOn version sizes) (stays_on version sizes) old new p.0.out p.0.cause old.drive.shape was_on).1
+  line_lasts host later (lines.Command cdb) payload outcome data_in p keeps two = command_lasts host later cdb payload p.answer data_in p.step keeps
+  line_lasts host later _ payload outcome data_in p keeps two = absurd p
 
 -- ---- states
 
@@ -227,8 +276,8 @@ on_disc_lasts : (s : Served) (t : State) (line : Line) (payload : List ℕ) (out
     → KeepsDisc line payload → HasTwoCopies t version → LastsNow (Disc s) version sizes → Lasts t version sizes (LeavesCapacity line payload)
 on_disc_lasts s (Unopened bytes) line payload outcome data_in version sizes step keeps two lasts = absurd step
 on_disc_lasts s (Disc t) line payload outcome data_in version sizes step keeps two lasts =
-    line_lasts s.disc.shown t.disc.shown step.same_shape s.disc.sound t.disc.sound (known_of s.disc.shown s.disc.standing s.disc.stands) (known_of t.disc.shown t.disc.standing t.disc.stands) version sizes lasts
-    (λ x. x ≡ s.disc.standing) (λ x. x ≡ t.disc.standing) s.host t.host line payload outcome data_in step.rule keeps two
+    line_lasts s.disc.shown t.disc.shown step.same_shape s.disc.sound t.disc.sound (contents_known s.disc.shown s.disc.contents s.disc.stands) (contents_known t.disc.shown t.disc.contents t.disc.stands) version sizes lasts
+    (λ x. x ≡ s.disc.contents) (λ x. x ≡ t.disc.contents) s.host t.host line payload outcome data_in step.rule keeps two
 
 pub step_lasts : (s t : State) (line : Line) (payload data_in : List ℕ) (outcome : Outcome) (version : Version) (sizes : List ℕ) → Step s line payload outcome data_in t
     → KeepsDisc line payload → HasTwoCopies t version → LastsNow s version sizes → Lasts t version sizes (LeavesCapacity line payload)
@@ -242,8 +291,8 @@ on_disc_two : (s t : State) (line : Line) (payload : List ℕ) (outcome : Outcom
     → HasTwoCopies t version → HasTwoCopies s version
 on_disc_two (Unopened bytes) t line payload outcome data_in version step two = subst (λ (x : State). HasTwoCopies x version) step.2 two
 on_disc_two (Disc s) (Unopened bytes) line payload outcome data_in version step two = absurd two
-on_disc_two (Disc s) (Disc t) line payload outcome data_in version step two = two_before s.disc.shown t.disc.shown version step.same_shape
-    (line_dead s.disc.shown t.disc.shown (λ x. x ≡ s.disc.standing) (λ x. x ≡ t.disc.standing) s.host t.host line payload outcome data_in step.rule) two
+on_disc_two (Disc s) (Disc t) line payload outcome data_in version step two = two_before s.disc.shown.drive t.disc.shown.drive version step.same_shape
+    (line_dead s.disc.shown t.disc.shown (λ x. x ≡ s.disc.contents) (λ x. x ≡ t.disc.contents) s.host t.host line payload outcome data_in step.rule) two
 
 -- what has two copies after a line had them before it
 step_two : (s t : State) (line : Line) (payload data_in : List ℕ) (outcome : Outcome) (version : Version) → Step s line payload outcome data_in t → KeepsDisc line payload
@@ -281,14 +330,14 @@ run_lasts s t (event ∷ events) version sizes run keeps two lasts =
 
 abbrev HasShape : Shape → State → Type 0
 HasShape shape (Unopened bytes) = ⊥
-HasShape shape (Disc s) = s.disc.shown.shape ≡ shape
+HasShape shape (Disc s) = s.disc.shown.drive.shape ≡ shape
 
 in_use_shape : (s : State) (lists : Lists) → HasInUse s lists → (shape : Shape) × HasShape shape s
 in_use_shape (Unopened bytes) lists is = absurd is
-in_use_shape (Disc s) lists is = (s.disc.shown.shape, refl)
+in_use_shape (Disc s) lists is = (s.disc.shown.drive.shape, refl)
 
 module _ (shape : Shape) where
-  on_disc_shape : (s : Served) (t : State) (line : Line) (payload : List ℕ) (outcome : Outcome) (data_in : List ℕ) → OnDisc (Disc s) line payload outcome data_in t → s.disc.shown.shape ≡ shape → HasShape shape t
+  on_disc_shape : (s : Served) (t : State) (line : Line) (payload : List ℕ) (outcome : Outcome) (data_in : List ℕ) → OnDisc (Disc s) line payload outcome data_in t → s.disc.shown.drive.shape ≡ shape → HasShape shape t
   on_disc_shape s (Unopened bytes) line payload outcome data_in step has = absurd step
   on_disc_shape s (Disc t) line payload outcome data_in step has = step.same_shape ∙ has
 
@@ -307,31 +356,31 @@ module _ (shape : Shape) where
 
 pub now_begins : (s : State) (lists : Lists) → HasInUse s lists → LastsNow s lists.sdl.version (lists.sdl.ssa ∷ [])
 now_begins (Unopened bytes) lists is = absurd is
-now_begins (Disc s) lists is = begins s.disc.shown lists s.disc.sound (known_of s.disc.shown s.disc.standing s.disc.stands) is
+now_begins (Disc s) lists is = begins s.disc.shown.drive lists s.disc.sound (contents_known s.disc.shown s.disc.contents s.disc.stands) is
 
 -- an image of these cells, opened
-same_cells : (s t : Served) (bytes : List ℕ) → IsLeft (Disc s) bytes → IsFirst bytes (Disc t) → (t.disc.shown.shape ≡ s.disc.shown.shape) × (cells_in t.disc.shown ≡ cells_in s.disc.shown) × ¬ IsOn t.disc.shown
+same_cells : (s t : Served) (bytes : List ℕ) → IsLeft (Disc s) bytes → IsFirst bytes (Disc t) → (t.disc.shown.drive.shape ≡ s.disc.shown.drive.shape) × (cells_in t.disc.shown.drive ≡ cells_in s.disc.shown.drive) × ¬ IsOn t.disc.shown.drive
 same_cells s t bytes left first =
     let image = image_left s bytes left in
-    let shape : first.0 ≡ s.disc.shown.shape = one_header first.0 s.disc.shown.shape bytes first.1.has_header image.disc.has_header in (
-      ap (λ (x : Shown). x.shape) first.2.opened.shown_is ∙ shape,
-      ap cells_in first.2.opened.shown_is ∙ ap (λ (z : Shape). cells_of (total z) bytes) shape ∙ image.cells_are,
-      λ on. (let off : false ≡ true = subst IsOn first.2.opened.shown_is on in cc),
+    let shape : first.0 ≡ s.disc.shown.drive.shape = one_header first.0 s.disc.shown.drive.shape bytes first.1.has_header image.disc.has_header in (
+      ap (λ (x : CacheShown). x.drive.shape) first.2.opened.shown_is ∙ shape,
+      ap (λ (x : CacheShown). cells_in x.drive) first.2.opened.shown_is ∙ ap (λ (z : Shape). cells_of (total z) bytes) shape ∙ image.cells_are,
+      λ on. (let off : false ≡ true = subst (λ (x : CacheShown). IsOn x.drive) first.2.opened.shown_is on in cc),
     )
 
 pub image_lasts : (s t : State) (bytes : List ℕ) (version : Version) (sizes : List ℕ) → LastsNow s version sizes → IsLeft s bytes → IsFirst bytes t → LastsNow t version sizes
 image_lasts (Unopened held) t bytes version sizes lasts left first = absurd lasts
-image_lasts (Disc s) (Unopened held) bytes version sizes lasts left first = absurd (first.1 s.disc.shown.shape (image_left s bytes left).disc)
+image_lasts (Disc s) (Unopened held) bytes version sizes lasts left first = absurd (first.1 s.disc.shown.drive.shape (image_left s bytes left).disc)
 image_lasts (Disc s) (Disc t) bytes version sizes lasts left first =
     let same = same_cells s t bytes left first in
-    dies_stays s.disc.shown t.disc.shown version sizes same.0 lasts (λ on. absurd (same.2 on)) (λ on. absurd (same.2 on)) (λ block. inl (ap (λ (cells : List Cell). cell_at cells block) same.1))
+    dies_stays s.disc.shown.drive t.disc.shown.drive version sizes same.0 lasts (λ on. absurd (same.2 on)) (λ on. absurd (same.2 on)) (λ block. inl (ap (λ (cells : List Cell). cell_at cells block) same.1))
 
 image_two : (shape : Shape) (s t : State) (bytes : List ℕ) (version : Version) → HasShape shape s → IsLeft s bytes → IsFirst bytes t → HasTwoCopies t version → HasTwoCopies s version
 image_two shape (Unopened held) t bytes version has left first two = absurd has
 image_two shape (Disc s) (Unopened held) bytes version has left first two = absurd two
 image_two shape (Disc s) (Disc t) bytes version has left first two =
     let same = same_cells s t bytes left first in
-    two_before s.disc.shown t.disc.shown version same.0 (λ block dead. ap (λ (cells : List Cell). cell_at cells block) same.1 ∙ dead) two
+    two_before s.disc.shown.drive t.disc.shown.drive version same.0 (λ block dead. ap (λ (cells : List Cell). cell_at cells block) same.1 ∙ dead) two
 
 -- ---- a `power` line
 
@@ -349,17 +398,17 @@ pub record PowersOn (shape : Shape) (sizes : List ℕ) (reply : Reply) : Type 0 
   pub outcome_is : Ok reply ≡ power_outcome out
 
 power_on_disc : (s : Served) (t : State) (reply : Reply) (payload data_in : List ℕ) (version : Version) (sizes : List ℕ) → OnDisc (Disc s) lines.Power payload (Ok reply) data_in t
-    → HasTwoCopies t version → StaysFormatted s.disc.shown version sizes → PowersOn s.disc.shown.shape sizes reply
+    → HasTwoCopies t version → StaysFormatted s.disc.shown.drive version sizes → PowersOn s.disc.shown.drive.shape sizes reply
 power_on_disc s (Unopened bytes) reply payload data_in version sizes step two lasts = absurd step
 power_on_disc s (Disc t) reply payload data_in version sizes step two lasts = record {
   out = step.rule.0.out;
-  tells = (power_stays s.disc.shown t.disc.shown version sizes step.same_shape lasts t.disc.sound (known_of t.disc.shown t.disc.standing t.disc.stands)
-      (known_of s.disc.shown s.disc.standing s.disc.stands) step.rule.0.out step.rule.0.powered.cause two).1;
+  tells = (power_stays s.disc.shown.drive t.disc.shown.drive version sizes step.same_shape lasts t.disc.sound (contents_known t.disc.shown t.disc.contents t.disc.stands)
+      (contents_known s.disc.shown s.disc.contents s.disc.stands) step.rule.0.out step.rule.0.powered.cause.0 two).1;
   outcome_is = step.rule.0.outcome_is;
 }
 
-power_line : (s : Served) (t : State) (event : AnsweredLine) (version : Version) (sizes : List ℕ) → StaysFormatted s.disc.shown version sizes → IsStep (Disc s) event t → event.line ≡ lines.Power
-    → HasTwoCopies t version → PowersOn s.disc.shown.shape sizes event.reply
+power_line : (s : Served) (t : State) (event : AnsweredLine) (version : Version) (sizes : List ℕ) → StaysFormatted s.disc.shown.drive version sizes → IsStep (Disc s) event t → event.line ≡ lines.Power
+    → HasTwoCopies t version → PowersOn s.disc.shown.drive.shape sizes event.reply
 power_line s t event version sizes lasts step is two =
     power_on_disc s t event.reply event.payload event.data_in version sizes (subst (λ (line : Line). Step (Disc s) line event.payload (Ok event.reply) event.data_in t) is step.step) two lasts
 
@@ -367,7 +416,7 @@ pub power_lasts : (s t : State) (event : AnsweredLine) (version : Version) (size
 power_lasts (Unopened bytes) t event version sizes lasts step is two = absurd lasts
 power_lasts (Disc s) t event version sizes lasts step is two =
     let on = power_line s t event version sizes lasts step is two in
-    ready_or_cut s.disc.shown.shape sizes on.out event.reply on.tells on.outcome_is
+    ready_or_cut s.disc.shown.drive.shape sizes on.out event.reply on.tells on.outcome_is
 
 -- ---- whole runs
 
@@ -418,8 +467,8 @@ power_size shape (Disc s) u event version ssa known has lasts step is two told =
 
 pub capacity_at_the_end : (s : Served) (t u : State) (lists : Lists) (earlier : List AnsweredLine) (event : AnsweredLine) (known : ℕ) → HasInUse (Disc s) lists → Run (Disc s) earlier t → KeepDisc earlier
     → LeaveCapacity earlier → IsStep t event u → event.line ≡ lines.Power → HasTwoCopies u lists.sdl.version → event.reply ≡ replies.Event (events.Ready known)
-    → known ≡ capacity_of s.disc.shown.shape lists
+    → known ≡ capacity_of s.disc.shown.drive.shape lists
 capacity_at_the_end s t u lists earlier event known in_use run keeps leaves step is two told =
     let lasts = before_power (Disc s) t u earlier event lists.sdl.version (lists.sdl.ssa ∷ []) (now_begins (Disc s) lists in_use) run keeps step is two in
-    power_size s.disc.shown.shape t u event lists.sdl.version lists.sdl.ssa known (run_shape s.disc.shown.shape (Disc s) t earlier run keeps refl)
+    power_size s.disc.shown.drive.shape t u event lists.sdl.version lists.sdl.ssa known (run_shape s.disc.shown.drive.shape (Disc s) t earlier run keeps refl)
     (subst (LastsNow t lists.sdl.version) (lasts.2 leaves) lasts.1) step is two told

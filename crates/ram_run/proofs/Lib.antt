@@ -32,3 +32,8 @@ mod DataStays
 mod FairRuns
 mod NoSpares
 mod LastingRuns
+pub mod SoundChains
+pub mod KeptPower
+pub mod Synced
+pub mod FallenBack
+pub mod Alone

@@ -13,7 +13,15 @@ use Rattle.model_image.specs.Image.{HasHeader, IsDiscImage, IsImageOf, IsStopped
 use Rattle.model_image.proofs.Headers.{one_header}
 use Rattle.model_image.proofs.WholeCells.{cells_of-whole}
 use Rattle.model_drive.specs.Shown.{Shown, StandsFor, cells_in}
-use Rattle.model_drive.specs.Runs.{Loaded, opened_drive, IsOpenedOn}
+use Rattle.model_drive.specs.Sound.{IsSound}
+use Rattle.model_drive.specs.Runs.{opened_drive}
+use Rattle.model_drive.specs.Runs.{Loaded as LoadedDrive, IsOpenedOn as OpensDriveOn}
+use Rattle.model_cache.specs.Values.{Contents, plain, StandsCached}
+use Rattle.model_cache.specs.Shown.{CacheShown, CacheStandsFor, IsCacheSound}
+use Rattle.model_cache.specs.Plain.{uncached}
+use Rattle.model_cache.specs.Runs.{Loaded, IsOpenedOn}
+use Rattle.model_cache.proofs.SameBlocks.{stands_plainly}
+use Rattle.model_cache.proofs.Members.{Contains-none}
 use Rattle.model_drive.proofs.Opening.{opened_disc}
 use Rattle.model_target.specs.Host.{powered_on}
 use Rattle.ram_outside.specs.declared.image.Image.{Ghosts as Images}
@@ -23,7 +31,7 @@ use Rattle.ram_image.specs.declared.medium.ImageMedium.{ImageMedium}
 use Rattle.ram_image.specs.declared.opening.OpenFault.{OpenFault}
 use Rattle.ram_image.specs.declared.opening.OpenFault.TheVariants as faulty
 use Rattle.ram_mmc.specs.declared.target.Target.{Target}
-use Rattle.ram_sectors.specs.declared.Sectors.{Ghosts as Drives}
+use Rattle.ram_sectors.specs.declared.caching.Caching.{Ghosts as Drives}
 use Rattle.ram_text.specs.declared.printing.Event.TheVariants as events
 use Rattle.ram_volume.specs.Shown.{shown_without}
 use Rattle.ram_run.specs.declared.inserted.Inserted.TheVariants as inserts
@@ -47,6 +55,19 @@ same_machine : (label label' : List ℕ) (known known' : Bool) (cells cells' : L
     → machine_by label known cells power uses cuts faults arms cut ≡ machine_by label' known' cells' power' uses' cuts' faults' arms' cut'
 same_machine label label' known known' cells cells' power power' uses uses' cuts cuts' faults faults' arms arms' cut cut' a b c d e f g h i = cc
 
+-- a drive whose cache is off and empty is sound, and stands for what its disc does
+none_sound : (drive : Shown) → IsCacheSound (uncached drive)
+none_sound drive = record { few = search arith; apart = tt; whole = λ i bytes has. absurd (Contains-none (i, bytes) has) }
+
+of_drive : LoadedDrive → Loaded
+of_drive s = record {
+  shown = uncached s.shown;
+  contents = plain s.standing;
+  sound = s.sound;
+  cache_sound = none_sound s.shown;
+  stands = stands_plainly (StandsFor s.shown) s.standing s.stands;
+}
+
 module _ {I : Type 0} {d : Images I} (image : I) (medium : ImageMedium I d) (geometry : Shape) (opened : IsOpened image medium geometry) (shown : Shown) (made : shown ≡ shown_without geometry (machine_in medium)) where
   module _ (bytes : List ℕ) (known : d.bytes image ≡ Some bytes) where
     disc_there : IsDiscImage geometry bytes
@@ -62,38 +83,39 @@ module _ {I : Type 0} {d : Images I} (image : I) (medium : ImageMedium I d) (geo
         same_machine m.world.label (label_of geometry) m.world.known true m.world.cells disc_cells m.world.power false m.world.uses 0 m.world.cuts 0 m.world.faults (d.faults image) m.arms [] m.cut None
         opened.label_is (opened.as_known ∙ ap is_some known) (opened.cells_are ∙ ap (cells_known (total geometry)) known) opened.off opened.no_uses opened.no_cuts opened.count opened.no_arms opened.no_cut
 
-    loaded : (s : Loaded) × IsOpenedOn geometry disc_cells s × (s.shown ≡ opened_drive geometry disc_cells (d.faults image))
+    loaded : (s : LoadedDrive) × OpensDriveOn geometry disc_cells s × (s.shown ≡ opened_drive geometry disc_cells (d.faults image))
     loaded = opened_disc geometry disc_cells (d.faults image) (length-map-range_with_len (cell_in (total geometry) bytes) 0 (total geometry)) (cells_of-whole (total geometry) bytes disc_there.as_long)
 
     drive_is : shown ≡ loaded.0.shown
     drive_is = made ∙ ap (shown_without geometry) machine_is ∙ sym loaded.2
 
-    -- an image whose bytes are known was opened
-    opened_by : IsOpenedBy bytes shown (StandsFor shown)
-    opened_by = record {
+    -- an image whose bytes are known was opened, and nothing is pending
+    opened_by : (cached : CacheShown) → cached ≡ uncached shown → IsOpenedBy bytes cached (CacheStandsFor cached)
+    unfolding of_drive
+    opened_by cached is = record {
       shape = geometry;
       image = disc_there;
-      disc = loaded.0;
-      opened = loaded.1;
-      shown_is = drive_is;
-      standing_is = subst (λ (x : Shown). StandsFor x loaded.0.standing) (sym drive_is) loaded.0.stands;
+      disc = of_drive loaded.0;
+      opened = record { faults = loaded.1.faults; shown_is = ap uncached loaded.1.shown_is; all = loaded.1.all; standing = loaded.0.standing; starts = loaded.1.starts; contents_is = refl };
+      shown_is = is ∙ ap uncached drive_is;
+      contents_is = subst (λ (x : CacheShown). CacheStandsFor x (plain loaded.0.standing)) (sym (is ∙ ap uncached drive_is)) (of_drive loaded.0).stands;
     }
 
   -- the same, nothing failed, and the drive lies in the same bytes
-  pub opens : (kept : ImageMedium I d) → kept ≡ medium → OpensDrive (d.bytes image) (d.faults image) shown (StandsFor shown) (bytes_in kept)
-  opens kept is = record {
-    opened = opened_by;
-    same_bytes = ap (λ (m : ImageMedium I d). bytes_in m) is ∙ opened.same_image;
-    count = ap (λ (x : Shown). x.medium.world.faults) made ∙ opened.count;
+  pub opens : (cached : CacheShown) → cached ≡ uncached shown → (kept : ImageMedium I d) → kept ≡ medium → OpensDrive (d.bytes image) (d.faults image) cached (CacheStandsFor cached) (bytes_in kept)
+  opens cached is kept same = record {
+    opened = λ bytes known. opened_by bytes known cached is;
+    same_bytes = ap (λ (m : ImageMedium I d). bytes_in m) same ∙ opened.same_image;
+    count = ap (λ (x : CacheShown). x.drive.medium.world.faults) is ∙ ap (λ (x : Shown). x.medium.world.faults) made ∙ opened.count;
   }
 
 -- a disc that was just opened has the label of its geometry
-opened_labelled : (shape : Shape) (cells : List Cell) (s : Loaded) → IsOpenedOn shape cells s → IsLabelled s.shown
-opened_labelled shape cells s opened = ap (λ (x : Shown). x.medium.world.label) opened.shown_is ∙ ap label_of (sym (ap (λ (x : Shown). x.shape) opened.shown_is))
+opened_labelled : (shape : Shape) (cells : List Cell) (s : Loaded) → IsOpenedOn shape cells s → IsLabelled s.shown.drive
+opened_labelled shape cells s opened = ap (λ (x : CacheShown). x.drive.medium.world.label) opened.shown_is ∙ ap label_of (sym (ap (λ (x : CacheShown). x.drive.shape) opened.shown_is))
 
 -- the image that was opened has its cells
-opened_image : (shape : Shape) (bytes : List ℕ) (s : Loaded) → IsDiscImage shape bytes → IsOpenedOn shape (cells_of (total shape) bytes) s → IsImageOf s.shown.shape (cells_in s.shown) bytes
-opened_image shape bytes s disc opened = subst (λ (x : Shown). IsImageOf x.shape (cells_in x) bytes) (sym opened.shown_is) (record { disc = disc; cells_are = refl })
+opened_image : (shape : Shape) (bytes : List ℕ) (s : Loaded) → IsDiscImage shape bytes → IsOpenedOn shape (cells_of (total shape) bytes) s → IsImageOf s.shown.drive.shape (cells_in s.shown.drive) bytes
+opened_image shape bytes s disc opened = subst (λ (x : CacheShown). IsImageOf x.drive.shape (cells_in x.drive) bytes) (sym opened.shown_is) (record { disc = disc; cells_are = refl })
 
 -- a target over a disc that was just opened
 module _ {D I : Type 0} (drives : Drives D) (lies_in : D → Option (List ℕ)) (images : Images I) (bytes : List ℕ) (target : Target D) (by : IsOpenedBy bytes (drives.shows target.disc) (drives.stands target.disc)) (host_is : target.host ≡ powered_on) (lies : lies_in target.disc ≡ Some bytes) where
@@ -107,7 +129,7 @@ module _ {D I : Type 0} (drives : Drives D) (lies_in : D → Option (List ℕ)) 
   }
 
   is_in : IsIn (drives.shows target.disc) (drives.stands target.disc) target.host (lies_in target.disc) served
-  is_in = record { shown_is = by.shown_is; standing_is = by.standing_is; host_is = host_is; bytes_are = lies }
+  is_in = record { shown_is = by.shown_is; contents_is = by.contents_is; host_is = host_is; bytes_are = lies }
 
   inserted : IsInserted by.shape (cells_of (total by.shape) bytes) bytes served
   inserted = record { opened = by.opened; host_is = refl; bytes_are = refl }

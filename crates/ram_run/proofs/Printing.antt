@@ -5,8 +5,8 @@ use Rattle.std.proofs.lemmas.Bool.{false≢true}
 use Rattle.model_commands.specs.Commands.{command, operation_of}
 use Rattle.model_commands.specs.declared.Operation.{Operation}
 use Rattle.model_commands.specs.declared.Operation.TheVariants as operations
-use Rattle.model_sectors.specs.Discs.{Standing}
-use Rattle.model_drive.specs.Shown.{Shown}
+use Rattle.model_cache.specs.Values.{Contents}
+use Rattle.model_cache.specs.Shown.{CacheShown}
 use Rattle.model_target.specs.declared.host.Host.{Host}
 use Rattle.model_target.specs.Steps.{IsStep}
 use Rattle.model_target.proofs.Whole.{done_whole}
@@ -21,7 +21,7 @@ read_long operations.Read10 reads n long = omega (arith, long)
 read_long operations.Read12 reads n long = omega (arith, long)
 read_long _ reads n long = absurd (false≢true reads)
 
-module _ (old new : Shown) (before after : Standing → Type 0) (host later : Host) (cdb payload data_in : List ℕ) where
+module _ (old new : CacheShown) (before after : Contents → Type 0) (host later : Host) (cdb payload data_in : List ℕ) where
   addressed : (found : Option Operation) → operation_of cdb ≡ found → IsStep old new before after host later cdb payload answers.Good data_in → is_read found ≡ true → 6 ≤ length cdb
   addressed None is step reads = absurd (false≢true reads)
   addressed (Some operation) is step reads = read_long operation reads (length cdb) (done_whole old new before after host later cdb payload data_in operation is step)

@@ -1,13 +1,26 @@
--- What a volume over the medium in an image is as a drive of a run.
-use Rattle.model_sectors.specs.Discs.{Standing}
+-- What a write cache over a volume over the medium in an image is as a drive of a run.
+use Rattle.std.specs.Prelude.{ℕ, List, [], ◌∷◌}
+use Rattle.std.proofs.Common.{refl}
+use Rattle.model_sectors.specs.Discs.{Standing, On, Off}
 use Rattle.model_drive.specs.Shown.{Shown, StandsFor}
+use Rattle.model_cache.specs.Values.{Contents, Has, MayHave, StandsCached}
 use Rattle.ram_medium.specs.declared.control.FailEnd.{FailEnd}
 use Rattle.ram_medium.specs.declared.control.FailEnd.TheVariants as fails
 use Rattle.ram_volume.specs.Control.{FailStands}
-use Rattle.ram_run.specs.Control.{stands_after_fail}
+use Rattle.ram_run.specs.Control.{contents_after_fail}
 
--- what a drive stands for after a block was made dead
-pub fail_stands : (new : Shown) (s : Standing) (end : FailEnd) → FailStands new s end → StandsFor new (stands_after_fail s end)
-fail_stands new s fails.Done stands = stands
-fail_stands new s (fails.NoBlock blocks) stands = stands
-fail_stands new s fails.Failed stands = stands
+module _ (old new : Shown) (pending : List (ℕ × List ℕ)) where
+  -- what the disc stands for stays, so what the drive with the cache stands for does
+  pub cached_stays : (s : Contents) → ((t : Standing) → StandsFor old t → StandsFor new t) → StandsCached (StandsFor old) pending s → StandsCached (StandsFor new) pending s
+  cached_stays (Has v) keeps stands = (stands.0, keeps (On stands.0) stands.1, stands.2)
+  cached_stays (MayHave all) keeps stands = (stands.0, keeps (Off stands.0) stands.1, stands.2)
+
+  -- a block was made dead: the same, and where the power went off the disc below is one that is taken from the values
+  pub cached_fails : (s : Contents) (end : FailEnd) → ((t : Standing) → StandsFor old t → FailStands new t end) → StandsCached (StandsFor old) pending s
+      → StandsCached (StandsFor new) pending (contents_after_fail s end)
+  cached_fails (Has v) fails.Done falls stands = (stands.0, falls (On stands.0) stands.1, stands.2)
+  cached_fails (Has v) (fails.NoBlock blocks) falls stands = (stands.0, falls (On stands.0) stands.1, stands.2)
+  cached_fails (Has v) fails.Failed falls stands = (stands.0 ∷ [], falls (On stands.0) stands.1, (stands.2.taken, refl))
+  cached_fails (MayHave all) fails.Done falls stands = (stands.0, falls (Off stands.0) stands.1, stands.2)
+  cached_fails (MayHave all) (fails.NoBlock blocks) falls stands = (stands.0, falls (Off stands.0) stands.1, stands.2)
+  cached_fails (MayHave all) fails.Failed falls stands = (stands.0, falls (Off stands.0) stands.1, stands.2)

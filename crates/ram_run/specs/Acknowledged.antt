@@ -1,13 +1,17 @@
 -- What a user may rely on over a run: the bytes of sectors that the drive acknowledged, and the lines that
 -- leave them. For the laws of runs. (This project's own, as all here.)
-use Rattle.std.specs.Prelude.{◌≡◌, ℕ, ◌+◌, ◌-◌, ◌*◌, ◌<◌, ◌≤◌, ◌⊎◌, Result, Ok, Err, Some, List, length, take, drop, All}
+use Rattle.std.specs.Prelude.{◌≡◌, ℕ, ◌+◌, ◌-◌, ◌*◌, ◌<◌, ◌≤◌, ◌⊎◌, Bool, true, false, ◌&&◌, not, nat_lt, if◌then◌else◌, Result, Ok, Err, Some, List, [], ◌∷◌, length, take, drop, All}
+use Rattle.std.specs.List.{Contains}
 use Rattle.model_geometry.specs.Geometry.{IsLawful, shape_of, total}
 use Rattle.model_medium.specs.Cells.{Cell, Good, cell_at}
 use Rattle.model_image.specs.Cells.{cells_of}
-use Rattle.model_sectors.specs.Discs.{Standing, On, Off, candidates, sectors_of}
+use Rattle.model_sectors.specs.Discs.{sectors_of}
 use Rattle.model_sectors.specs.Requests.{block_with}
 use Rattle.model_places.specs.Places.{Lists, home_of}
 use Rattle.model_drive.specs.Shown.{Shown}
+use Rattle.model_cache.specs.Values.{Contents, Has, MayHave}
+use Rattle.model_cache.specs.Shown.{goes_into_cache}
+use Rattle.model_cache.specs.Falling.{FallsTo}
 use Rattle.model_sense.specs.declared.sense.Sense.{Sense}
 use Rattle.model_sense.specs.declared.answer.Answer.TheVariants as answers
 use Rattle.model_cdb.specs.declared.commands.Command.{Command}
@@ -15,6 +19,8 @@ use Rattle.model_cdb.specs.declared.commands.Command.TheVariants as commands
 use Rattle.model_cdb.specs.Decoding.{decoded}
 use Rattle.ram_text.specs.declared.script.Line.TheVariants as lines
 use Rattle.ram_text.specs.declared.script.Line.{Line}
+use Rattle.ram_text.specs.declared.printing.Event.TheVariants as events
+use Rattle.ram_run.specs.declared.reply.Reply.{Reply}
 use Rattle.ram_run.specs.declared.reply.Reply.TheVariants as replies
 use Rattle.ram_run.specs.States.{State, Unopened, Disc}
 use Rattle.ram_run.specs.Run.{AnsweredLine}
@@ -28,35 +34,46 @@ pub record HasSector (disc : List ℕ) (at : ℕ) (bytes : List ℕ) : Type 0 wh
   pub inside : 2048 * (at + 1) ≤ length disc
   pub bytes_are : sectors_of disc at 1 ≡ bytes
 
--- if the disc has a sector of this number, it has these bytes
-abbrev pub KeepsSector : (at : ℕ) → (bytes disc : List ℕ) → Type 0
-KeepsSector at bytes disc = 2048 * (at + 1) ≤ length disc → sectors_of disc at 1 ≡ bytes
+-- these bytes of a logical block have those of the sector
+abbrev pub HasInBlock : (at : ℕ) → (bytes held : List ℕ) → Type 0
+HasInBlock at bytes held = bytes_of_sector (16 * block_with at) held at ≡ bytes
 
--- The drive acknowledged these bytes of the sector, and gives no others: whichever disc is found when the
--- power goes off and on again has them there, or has no sector of this number.
+-- The drive acknowledged these bytes of the sector, and gives no others: whichever disc is found when the power goes off and
+-- on again has them there, or has no block of this number. So each value to which the sector's block may fall back has them.
 abbrev pub Acknowledged : State → (at : ℕ) → List ℕ → Type 0
 Acknowledged (Unopened image) at bytes = ⊥
-Acknowledged (Disc s) at bytes = All (KeepsSector at bytes) (candidates s.disc.standing)
+Acknowledged (Disc s) at bytes = FallsTo (HasInBlock at bytes) (block_with at) s.disc.contents
 
--- if the disc has a sector of this number, it has the old bytes or the new ones
-abbrev pub IsOldOrNew : (at : ℕ) → (old new disc : List ℕ) → Type 0
-IsOldOrNew at old new disc = KeepsSector at old disc ⊎ KeepsSector at new disc
+-- these bytes of a block have the old ones of the sector, or the new ones
+abbrev pub IsOldOrNew : (at : ℕ) → (old new held : List ℕ) → Type 0
+IsOldOrNew at old new held = HasInBlock at old held ⊎ HasInBlock at new held
 
 -- Whichever disc is found when the power goes off and on again has the old bytes of the sector or the new
--- ones, or has no sector of this number.
+-- ones, or has no block of this number.
 abbrev pub HoldsOldOrNew : State → (at : ℕ) → (old new : List ℕ) → Type 0
 HoldsOldOrNew (Unopened image) at old new = ⊥
-HoldsOldOrNew (Disc s) at old new = All (IsOldOrNew at old new) (candidates s.disc.standing)
+HoldsOldOrNew (Disc s) at old new = FallsTo (IsOldOrNew at old new) (block_with at) s.disc.contents
 
--- what a drive stands for is one disc that has these bytes in the sector
-abbrev pub StandsWithSector : Standing → (at : ℕ) → List ℕ → Type 0
-StandsWithSector (On disc) at bytes = HasSector disc at bytes
-StandsWithSector (Off discs) at bytes = ⊥
+-- Whichever disc is found when the power goes off and on again has one of these in the sector, or has no block of this number.
+abbrev pub FallsBackTo : State → (at : ℕ) → List (List ℕ) → Type 0
+FallsBackTo (Unopened image) at choices = ⊥
+FallsBackTo (Disc s) at choices =
+    FallsTo (λ held. Contains choices (bytes_of_sector (16 * block_with at) held at)) (block_with at) s.disc.contents
+
+-- what a drive stands for is one disc that shows these bytes in the sector
+abbrev pub StandsWithSector : Contents → (at : ℕ) → List ℕ → Type 0
+StandsWithSector (Has v) at bytes = HasSector v.disc at bytes
+StandsWithSector (MayHave all) at bytes = ⊥
 
 -- The power is on, and the disc has these bytes in the sector.
 abbrev pub HasNow : State → (at : ℕ) → List ℕ → Type 0
 HasNow (Unopened image) at bytes = ⊥
-HasNow (Disc s) at bytes = StandsWithSector s.disc.standing at bytes
+HasNow (Disc s) at bytes = StandsWithSector s.disc.contents at bytes
+
+-- A write goes through the write cache: with FUA, and where the cache is off or many blocks are covered.
+abbrev pub GoesThrough : State → (lba n : ℕ) → (fua : Bool) → Type 0
+GoesThrough (Unopened image) lba n fua = ⊥
+GoesThrough (Disc s) lba n fua = (fua ≡ true) ⊎ (goes_into_cache s.disc.shown lba n ≡ false)
 
 -- The line was a command that asks for this, and it was answered Good.
 pub record WasDone (event : AnsweredLine) (asked : Command) : Type 0 where
@@ -87,10 +104,62 @@ LeavesSector at (lines.Press zones scale psa) payload = ¬ IsLawful (shape_of zo
 LeavesSector at (lines.Command cdb) payload = LeavesAsDecoded at (decoded cdb payload)
 LeavesSector at _ payload = Unit {0}
 
+-- With a line's answer no power was lost: it was no `power` line, and was not answered that the power was cut.
+abbrev pub KeepsPower : Line → Reply → Type 0
+KeepsPower lines.Power reply = ⊥
+KeepsPower line (replies.Command cdb answers.Cut) = ⊥
+KeepsPower line (replies.Event events.Cut) = ⊥
+KeepsPower line reply = Unit {0}
+
+-- no power was lost with these lines
+abbrev pub KeepPower : List AnsweredLine → Type 0
+KeepPower events = All (λ (event : AnsweredLine). KeepsPower event.line event.reply) events
+
 -- none of these lines writes the sector
 abbrev pub LeaveSector : (at : ℕ) → List AnsweredLine → Type 0
 LeaveSector at events =
     All (λ (event : AnsweredLine). LeavesSector at event.line event.payload) events
+
+-- A command writes sectors at most: it formats nothing.
+abbrev pub WritesAsAsked : Command → Type 0
+WritesAsAsked (commands.Format kind) = ⊥
+WritesAsAsked _ = Unit {0}
+
+-- the same of a command block; one that is refused writes nothing
+abbrev pub WritesAsDecoded : Result Command Sense → Type 0
+WritesAsDecoded (Ok asked) = WritesAsAsked asked
+WritesAsDecoded (Err why) = Unit {0}
+
+-- The same of a line, with its data: it is no press of a lawful geometry, and formats nothing.
+abbrev pub WritesAtMost : Line → (payload : List ℕ) → Type 0
+WritesAtMost (lines.Press zones scale psa) payload = ¬ IsLawful (shape_of zones scale psa)
+WritesAtMost (lines.Command cdb) payload = WritesAsDecoded (decoded cdb payload)
+WritesAtMost _ payload = Unit {0}
+
+-- so it is of each of these lines
+abbrev pub WriteAtMost : List AnsweredLine → Type 0
+WriteAtMost events = All (λ (event : AnsweredLine). WritesAtMost event.line event.payload) events
+
+-- whether the sector is one of so many from this one on
+abbrev pub is_sector_among : (lba n at : ℕ) → Bool
+is_sector_among lba n at = not (nat_lt at lba) && nat_lt at (lba + n)
+
+-- what a sector may fall back to after a command that may have sent other bytes of it
+abbrev pub choices_asked : (at : ℕ) → Result Command Sense → (payload : List ℕ) → List (List ℕ) → List (List ℕ)
+choices_asked at (Ok (commands.Write lba n fua)) payload choices =
+    if is_sector_among lba n at then bytes_of_sector lba payload at ∷ choices else choices
+choices_asked at _ payload choices = choices
+
+-- the same of a line, with its data
+abbrev pub choices_with : (at : ℕ) → Line → (payload : List ℕ) → List (List ℕ) → List (List ℕ)
+choices_with at (lines.Command cdb) payload choices = choices_asked at (decoded cdb payload) payload choices
+choices_with at _ payload choices = choices
+
+-- the same of a run, whose newest line comes first
+abbrev pub choices_after : (at : ℕ) → List AnsweredLine → List (List ℕ) → List (List ℕ)
+choices_after at [] choices = choices
+choices_after at (event ∷ events) choices =
+    choices_with at event.line event.payload (choices_after at events choices)
 
 -- With these cells the home of the sector's logical block, by the lists in use, has whole bytes, and these in
 -- the sector.
@@ -105,4 +174,4 @@ pub record HasInCells (shown : Shown) (cells : List Cell) (at : ℕ) (bytes : Li
 abbrev pub HasInImage : State → (image : List ℕ) → (at : ℕ) → List ℕ → Type 0
 HasInImage (Unopened first) image at bytes = ⊥
 HasInImage (Disc s) image at bytes =
-    HasInCells s.disc.shown (cells_of (total s.disc.shown.shape) image) at bytes
+    HasInCells s.disc.shown.drive (cells_of (total s.disc.shown.drive.shape) image) at bytes

@@ -4,33 +4,33 @@ use Rattle.model_geometry.specs.Geometry.{Shape, label_of, total}
 use Rattle.model_medium.specs.World.{World}
 use Rattle.model_image.specs.Cells.{cells_of}
 use Rattle.model_image.specs.Image.{IsDiscImage, IsImageOf}
-use Rattle.model_sectors.specs.Discs.{Standing}
-use Rattle.model_drive.specs.Shown.{Shown}
-use Rattle.model_drive.specs.Runs.{Loaded, IsOpenedOn}
+use Rattle.model_cache.specs.Values.{Contents}
+use Rattle.model_cache.specs.Shown.{CacheShown}
+use Rattle.model_cache.specs.Runs.{Loaded, IsOpenedOn}
 use Rattle.model_target.specs.declared.host.Host.{Host}
 use Rattle.model_target.specs.Host.{powered_on}
 use Rattle.ram_run.specs.Underwent.{UnderwentEvents}
 
 -- An image of these bytes was opened: they are the image of a disc, in whose state the drive is. (This project's own, as all
 -- here.)
-pub record IsOpenedBy (bytes : List ℕ) (shown : Shown) (stands : Standing → Type 0) : Type 0 where
+pub record IsOpenedBy (bytes : List ℕ) (shown : CacheShown) (stands : Contents → Type 0) : Type 0 where
   pub shape : Shape
   pub image : IsDiscImage shape bytes
   pub disc : Loaded
   pub opened : IsOpenedOn shape (cells_of (total shape) bytes) disc
   pub shown_is : shown ≡ disc.shown
-  pub standing_is : stands disc.standing
+  pub contents_is : stands disc.contents
 
 -- An image that has failed so often was opened as a disc, where its bytes are known, and it did not fail. The drive lies in
 -- the same bytes.
-pub record OpensDrive (image : Option (List ℕ)) (faults : ℕ) (shown : Shown) (stands : Standing → Type 0)
+pub record OpensDrive (image : Option (List ℕ)) (faults : ℕ) (shown : CacheShown) (stands : Contents → Type 0)
     (image' : Option (List ℕ)) : Type 0 where
   pub opened : (bytes : List ℕ) → image ≡ Some bytes → IsOpenedBy bytes shown stands
   pub same_bytes : image' ≡ image
-  pub count : shown.medium.world.faults ≡ faults
+  pub count : shown.drive.medium.world.faults ≡ faults
 
 -- The same, with what is remembered for a host when the power just came on.
-pub record IsInsertedTarget (image : Option (List ℕ)) (faults : ℕ) (shown : Shown) (stands : Standing → Type 0)
+pub record IsInsertedTarget (image : Option (List ℕ)) (faults : ℕ) (shown : CacheShown) (stands : Contents → Type 0)
     (image' : Option (List ℕ)) (host : Host) : Type 0 where
   pub opens : OpensDrive image faults shown stands image'
   pub host_is : host ≡ powered_on
@@ -42,7 +42,8 @@ HasCells world image = MatchOption image (world.known ≡ false)
 
 -- What holds of each drive: it lies in bytes that have the cells of its medium, and where it underwent nothing but events,
 -- each of them did to the medium that it shows, and to these bytes, what the medium's rule says.
-pub record DriveLaws {D : Type 0} (shows : D → Shown) (underwent : D → D → Type 0) (lies_in : D → Option (List ℕ)) : Type 0 where
-  pub has_cells : (drive : D) → HasCells (shows drive).medium.world (lies_in drive)
+pub record DriveLaws {D : Type 0} (shows : D → CacheShown) (underwent : D → D → Type 0) (lies_in : D → Option (List ℕ)) : Type 0 where
+  pub has_cells : (drive : D) → HasCells (shows drive).drive.medium.world (lies_in drive)
   pub by_events : (old new : D) → underwent old new
-      → UnderwentEvents (total (shows old).shape) (shows old).medium (lies_in old) (shows new).medium (lies_in new)
+      → UnderwentEvents (total (shows old).drive.shape) (shows old).drive.medium (lies_in old)
+      (shows new).drive.medium (lies_in new)

@@ -1,6 +1,6 @@
 -- That a run gives up no block that is not dead, and says that no spare is left only where none is. For laws of runs. (This
 -- project's own, as all here.)
-use Rattle.std.specs.Prelude.{◌≡◌, ℕ, Some, List}
+use Rattle.std.specs.Prelude.{◌≡◌, ℕ, ◌⊎◌, Some, List}
 use Rattle.std.specs.List.{Contains}
 use Rattle.model_medium.specs.Cells.{Dead, cell_at}
 use Rattle.model_pools.specs.Listed.{replacements}
@@ -9,6 +9,7 @@ use Rattle.model_drive.specs.Shown.{Shown, cells_in}
 use Rattle.model_fairness.specs.Fair.{GivesUpDeadAlone}
 use Rattle.model_sense.specs.Sense.{sense_at}
 use Rattle.model_sense.specs.declared.answer.Answer.TheVariants as answers
+use Rattle.ram_text.specs.declared.printing.Event.TheVariants as events
 use Rattle.ram_text.specs.declared.script.Line.TheVariants as lines
 use Rattle.ram_run.specs.declared.reply.Reply.TheVariants as replies
 use Rattle.ram_run.specs.States.{State, Unopened, Disc}
@@ -18,14 +19,24 @@ use Rattle.ram_run.specs.Run.{AnsweredLine}
 -- none.
 abbrev pub FairNow : State → Type 0
 FairNow (Unopened image) = Unit {0}
-FairNow (Disc s) = GivesUpDeadAlone s.disc.shown
+FairNow (Disc s) = GivesUpDeadAlone s.disc.shown.drive
 
 -- The line was a command, and was answered that no spare is left for the block of this sector (3/32/00).
-pub record WasToldNoSpare (event : AnsweredLine) : Type 0 where
+pub record CommandWasToldNoSpare (event : AnsweredLine) : Type 0 where
   pub cdb : List ℕ
   pub named : ℕ
   pub line_is : event.line ≡ lines.Command cdb
   pub reply_is : event.reply ≡ replies.Command cdb (answers.Check (sense_at 0x3 0x32 0x00 named))
+
+-- the same of a tick
+pub record TickWasToldNoSpare (event : AnsweredLine) : Type 0 where
+  pub named : ℕ
+  pub line_is : event.line ≡ lines.Tick
+  pub reply_is : event.reply ≡ replies.Event (events.NoSpare named)
+
+-- The line was answered that no spare is left for a block.
+abbrev pub WasToldNoSpare : AnsweredLine → Type 0
+WasToldNoSpare event = CommandWasToldNoSpare event ⊎ TickWasToldNoSpare event
 
 -- each spare of the disc that replaces no block is dead, also those that the lists in use gave up
 abbrev pub HasNoSpare : Shown → Type 0
@@ -35,4 +46,4 @@ HasNoSpare shown = (lists : Lists) → shown.lists ≡ Some lists → (spare : �
 -- No spare is left.
 abbrev pub HasNoSpareLeft : State → Type 0
 HasNoSpareLeft (Unopened image) = ⊥
-HasNoSpareLeft (Disc s) = HasNoSpare s.disc.shown
+HasNoSpareLeft (Disc s) = HasNoSpare s.disc.shown.drive

@@ -2,7 +2,7 @@
 use Rattle.std.specs.Prelude.{◌≡◌, ℕ, Option, None, Some, List}
 use Rattle.model_geometry.specs.Geometry.{Shape}
 use Rattle.ram_outside.specs.declared.image.Image.{Ghosts as Images}
-use Rattle.ram_sectors.specs.declared.Sectors.{Ghosts as Drives}
+use Rattle.ram_sectors.specs.declared.caching.Caching.{Ghosts as Drives}
 use Rattle.ram_run.specs.declared.inserted.Inserted.{Inserted}
 use Rattle.ram_run.specs.declared.inserted.Inserted.TheVariants as inserts
 use Rattle.ram_text.specs.declared.script.Line.{Line}
@@ -23,7 +23,7 @@ module _ {D I : Type 0} (drives : Drives D) (images : Images I) where
   -- how often the image of the inserted disc has failed
   abbrev pub faults_of : Inserted D I → ℕ
   faults_of (inserts.Image image) = images.faults image
-  faults_of (inserts.Disc target) = (drives.shows target.disc).medium.world.faults
+  faults_of (inserts.Disc target) = (drives.shows target.disc).drive.medium.world.faults
 
 -- the bytes of the image that is left are known, and they are those of the state
 abbrev pub LeavesImage : State → Option (List ℕ) → Type 0

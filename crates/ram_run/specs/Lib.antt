@@ -23,3 +23,4 @@ pub mod Statuses
 pub mod Acknowledged
 pub mod Fairness
 pub mod Survival
+pub mod Alone

@@ -2,9 +2,13 @@
 use Rattle.std.specs.Prelude.{◌≡◌, ℕ, ◌⊎◌, Ok, Err, Option, Some, List, []}
 use Rattle.model_geometry.specs.Geometry.{Shape, IsLawful, shape_of, total}
 use Rattle.model_medium.specs.declared.Fate.{Fate}
-use Rattle.model_sectors.specs.Discs.{Standing}
 use Rattle.model_sectors.specs.declared.PowerOut.{PowerOut}
 use Rattle.model_drive.specs.Shown.{Shown}
+use Rattle.model_cache.specs.declared.TickOut.{TickOut}
+use Rattle.model_cache.specs.Values.{Contents}
+use Rattle.model_cache.specs.Shown.{CacheShown}
+use Rattle.model_cache.specs.Causes.{TickCause, KeepsCache}
+use Rattle.model_cache.specs.Steps.{TickContents}
 use Rattle.model_target.specs.declared.host.Host.{Host}
 use Rattle.model_target.specs.Steps.{IsPoweredAgain, IsStep}
 use Rattle.ram_image.specs.EventBytes.{FailBytes}
@@ -18,8 +22,8 @@ use Rattle.ram_text.specs.declared.script.Line.{Line}
 use Rattle.ram_text.specs.declared.script.Line.TheVariants as lines
 use Rattle.ram_run.specs.declared.reply.Reply.TheVariants as replies
 use Rattle.ram_run.specs.declared.stopped.Stopped.TheVariants as stopped
-use Rattle.ram_run.specs.Control.{stands_after_fail}
-use Rattle.ram_run.specs.Replies.{Outcome, event, power_outcome, fail_outcome, wear_outcome, command_outcome}
+use Rattle.ram_run.specs.Control.{contents_after_fail}
+use Rattle.ram_run.specs.Replies.{Outcome, event, power_outcome, fail_outcome, wear_outcome, tick_outcome, command_outcome}
 use Rattle.ram_run.specs.Underwent.{UnderwentEvents}
 use Rattle.ram_run.specs.States.{Served, State, Unopened, Disc, IsPressedDisc, IsPressedUnopened, IsHalfPressed}
 
@@ -32,11 +36,12 @@ PressStep s shape (Err stopped.NoMemory) t = IsLawful shape × IsPressedUnopened
 PressStep s shape _ t = ⊥
 
 -- What a line does on a disc: what the drive shows, may stand for, and remembers for its host, before and after.
-module _ (old new : Shown) (before after : Standing → Type 0) (host later : Host) where
+module _ (old new : CacheShown) (before after : Contents → Type 0) (host later : Host) where
   -- nothing changed but the medium: what it stood for it still stands for
   pub record KeepsRest : Type 0 where
-    pub memory : KeepsMemory old new
-    pub stands : (s : Standing) → before s → after s
+    pub memory : KeepsMemory old.drive new.drive
+    pub cache : KeepsCache old new
+    pub stands : (s : Contents) → before s → after s
     pub same_host : later ≡ host
 
   -- the power went off and on again, and it ended so
@@ -48,23 +53,32 @@ module _ (old new : Shown) (before after : Standing → Type 0) (host later : Ho
   -- a block was to fail, and it ended so
   pub record FailLine (block : ℕ) (outcome : Outcome) : Type 0 where
     pub end : FailEnd
-    pub rule : FailOnDrive old new block end
-    pub stands : (s : Standing) → before s → after (stands_after_fail s end)
+    pub rule : FailOnDrive old.drive new.drive block end
+    pub cache : KeepsCache old new
+    pub stands : (s : Contents) → before s → after (contents_after_fail s end)
     pub same_host : later ≡ host
     pub outcome_is : outcome ≡ fail_outcome end
 
   -- a block was to be armed, and it ended so
   pub record WearLine (block n : ℕ) (outcome : Outcome) : Type 0 where
     pub end : Arm
-    pub rule : WearRule (total old.shape) old.medium new.medium (record { block = block; left = n }) end
+    pub rule : WearRule (total old.drive.shape) old.drive.medium new.drive.medium (record { block = block; left = n }) end
     pub keeps : KeepsRest
     pub outcome_is : outcome ≡ wear_outcome end
 
   -- a cut was armed
   pub record CutLine (n : ℕ) (fate : Fate) (outcome : Outcome) : Type 0 where
-    pub armed : new.medium ≡ with_armed_cut n fate old.medium
+    pub armed : new.drive.medium ≡ with_armed_cut n fate old.drive.medium
     pub keeps : KeepsRest
     pub outcome_is : outcome ≡ event events.Armed
+
+  -- the oldest pending block was to be written to the disc, and it ended so
+  pub record TickLine (outcome : Outcome) : Type 0 where
+    pub out : TickOut
+    pub cause : TickCause old new out
+    pub step : (s : Contents) → before s → TickContents after s out
+    pub same_host : later ≡ host
+    pub outcome_is : outcome ≡ tick_outcome out
 
   -- a command was executed, and answered so
   pub record CommandLine (cdb payload : List ℕ) (outcome : Outcome) (data_in : List ℕ) : Type 0 where
@@ -78,16 +92,19 @@ module _ (old new : Shown) (before after : Standing → Type 0) (host later : Ho
   DiscRule (lines.Fail block) payload outcome data_in = FailLine block outcome × (data_in ≡ [])
   DiscRule (lines.Wear block n) payload outcome data_in = WearLine block n outcome × (data_in ≡ [])
   DiscRule (lines.Cut n fate) payload outcome data_in = CutLine n fate outcome × (data_in ≡ [])
+  DiscRule lines.Tick payload outcome data_in = TickLine outcome × (data_in ≡ [])
   DiscRule (lines.Command cdb) payload outcome data_in = CommandLine cdb payload outcome data_in
   DiscRule _ payload outcome data_in = ⊥
 
--- What a line makes of the bytes of an image, also under cells that are not good. A command and a power line change them by
+-- What a line makes of the bytes of an image, also under cells that are not good. A command, a tick and a power line change them by
 -- events of the medium alone, each by the medium's rule, however the line ended; the failure of a block changes its state
 -- byte alone, and nothing that is armed changes any.
 abbrev pub LineBytes : Line → Outcome → Shown → Option (List ℕ) → Shown → Option (List ℕ) → Type 0
 LineBytes lines.Power outcome old before new after =
     UnderwentEvents (total old.shape) old.medium before new.medium after
 LineBytes (lines.Command cdb) outcome old before new after =
+    UnderwentEvents (total old.shape) old.medium before new.medium after
+LineBytes lines.Tick outcome old before new after =
     UnderwentEvents (total old.shape) old.medium before new.medium after
 LineBytes (lines.Fail block) outcome old before new after =
     (end : FailEnd) × (outcome ≡ fail_outcome end) × FailBytes block before after end
@@ -98,10 +115,11 @@ LineBytes _ outcome old before new after = ⊥
 -- the same between two discs of one geometry, with the bytes of their images
 pub record DiscStep (s t : Served) (line : Line) (payload : List ℕ) (outcome : Outcome)
     (data_in : List ℕ) : Type 0 where
-  pub same_shape : t.disc.shown.shape ≡ s.disc.shown.shape
-  pub rule : DiscRule s.disc.shown t.disc.shown (λ x. x ≡ s.disc.standing) (λ x. x ≡ t.disc.standing) s.host t.host
+  pub same_shape : t.disc.shown.drive.shape ≡ s.disc.shown.drive.shape
+  pub rule : DiscRule s.disc.shown t.disc.shown (λ x. x ≡ s.disc.contents) (λ x. x ≡ t.disc.contents) s.host t.host
       line payload outcome data_in
-  pub bytes : LineBytes line outcome s.disc.shown (Some s.bytes) t.disc.shown (Some t.bytes)
+  pub bytes : LineBytes line outcome s.disc.shown.drive (Some s.bytes)
+      t.disc.shown.drive (Some t.bytes)
 
 -- the same in any state: without a disc the line cannot be answered
 abbrev pub OnDisc : State → Line → List ℕ → Outcome → List ℕ → State → Type 0

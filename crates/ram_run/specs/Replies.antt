@@ -2,6 +2,8 @@
 use Rattle.std.specs.Prelude.{Result, Ok, Err, List, ℕ}
 use Rattle.ram_image.specs.declared.opening.OpenFault.{OpenFault}
 use Rattle.ram_image.specs.declared.opening.OpenFault.TheVariants as opens
+use Rattle.model_cache.specs.declared.TickOut.{TickOut}
+use Rattle.model_cache.specs.declared.TickOut.TheVariants as ticks
 use Rattle.model_sectors.specs.declared.PowerOut.{PowerOut}
 use Rattle.model_sectors.specs.declared.PowerOut.TheVariants as powers
 use Rattle.ram_medium.specs.declared.control.FailEnd.{FailEnd}
@@ -47,6 +49,16 @@ abbrev pub wear_outcome : Arm → Outcome
 wear_outcome arming.Set = event events.Armed
 wear_outcome (arming.NoBlock blocks) = event events.NoSuchBlock
 wear_outcome arming.Full = event events.Full
+
+-- how each end of the write of the oldest pending block comes out
+abbrev pub tick_outcome : TickOut → Outcome
+tick_outcome ticks.Idle = event events.Idle
+tick_outcome (ticks.Written lba) = event (events.Written lba)
+tick_outcome (ticks.NoSpare lba) = event (events.NoSpare lba)
+tick_outcome (ticks.NoUpdate counter) = event events.NoUpdate
+tick_outcome ticks.Cut = event events.Cut
+tick_outcome ticks.Off = event events.Off
+tick_outcome ticks.Fault = Err stopped.ImageFault
 
 -- how each answer of a command comes out: a failure of the image and lack of memory end the run
 abbrev pub command_outcome : List ℕ → Answer → Outcome

@@ -2,7 +2,7 @@
 use Rattle.std.specs.Prelude.{◌≡◌, ℕ, Option, Some, Result, Ok, Err, List}
 use Rattle.model_counts.specs.Counts.{Rose}
 use Rattle.ram_outside.specs.declared.image.Image.{Ghosts as Images}
-use Rattle.ram_sectors.specs.declared.Sectors.{Ghosts as Drives}
+use Rattle.ram_sectors.specs.declared.caching.Caching.{Ghosts as Drives}
 use Rattle.ram_run.specs.declared.inserted.Inserted.{Inserted}
 use Rattle.ram_run.specs.declared.stopped.Stopped.{Stopped}
 use Rattle.ram_run.specs.declared.stopped.Stopped.TheVariants as stopped

@@ -4,9 +4,10 @@ use Rattle.model_geometry.specs.Geometry.{Shape, label_of, total}
 use Rattle.model_medium.specs.Cells.{Cell}
 use Rattle.model_image.specs.Cells.{cells_of}
 use Rattle.model_image.specs.Image.{IsDiscImage, IsImageOf, IsStoppedPress, blank_cells, pressed_image}
-use Rattle.model_sectors.specs.Discs.{Standing}
 use Rattle.model_drive.specs.Shown.{Shown, cells_in}
-use Rattle.model_drive.specs.Runs.{Loaded, IsOpenedOn}
+use Rattle.model_cache.specs.Values.{Contents}
+use Rattle.model_cache.specs.Shown.{CacheShown}
+use Rattle.model_cache.specs.Runs.{Loaded, IsOpenedOn}
 use Rattle.model_target.specs.declared.host.Host.{Host}
 use Rattle.model_target.specs.Host.{powered_on}
 
@@ -19,9 +20,9 @@ IsLabelled shown = shown.medium.world.label ≡ label_of shown.shape
 pub record Served : Type 0 where
   pub disc : Loaded
   pub host : Host
-  pub labelled : IsLabelled disc.shown
+  pub labelled : IsLabelled disc.shown.drive
   pub bytes : List ℕ
-  pub image : IsImageOf disc.shown.shape (cells_in disc.shown) bytes
+  pub image : IsImageOf disc.shown.drive.shape (cells_in disc.shown.drive) bytes
 
 -- What lies in the drive: an image of these bytes that was not opened as a disc, or a disc.
 pub data State : Type 0 where
@@ -30,9 +31,9 @@ pub data State : Type 0 where
 
 -- a drive that shows and stands for these, whose host has this remembered and whose image has these bytes, is in this
 -- state
-pub record IsIn (shown : Shown) (stands : Standing → Type 0) (host : Host) (image : Option (List ℕ)) (s : Served) : Type 0 where
+pub record IsIn (shown : CacheShown) (stands : Contents → Type 0) (host : Host) (image : Option (List ℕ)) (s : Served) : Type 0 where
   pub shown_is : shown ≡ s.disc.shown
-  pub standing_is : stands s.disc.standing
+  pub contents_is : stands s.disc.contents
   pub host_is : host ≡ s.host
   pub bytes_are : image ≡ Some s.bytes
 

@@ -55,18 +55,18 @@ LeaveCapacity events = All (λ (event : AnsweredLine). LeavesCapacity event.line
 -- the power is on, the disc is formatted, and these lists are in use
 abbrev pub HasInUse : State → Lists → Type 0
 HasInUse (Unopened image) lists = ⊥
-HasInUse (Disc s) lists = s.disc.shown.lists ≡ Some lists
+HasInUse (Disc s) lists = s.disc.shown.drive.lists ≡ Some lists
 
 -- at least two copies of each list have no dead cell, where the secondary list is of this version
 abbrev pub HasTwoCopies : State → Version → Type 0
 HasTwoCopies (Unopened image) version = ⊥
-HasTwoCopies (Disc s) version = KeepsTwoCopies s.disc.shown version
+HasTwoCopies (Disc s) version = KeepsTwoCopies s.disc.shown.drive version
 
 -- The disc in the drive stays formatted, with a supplementary area of one of these sizes: its lists can be found, by its cells alone
 -- with the power off.
 abbrev pub LastsNow : State → Version → (sizes : List ℕ) → Type 0
 LastsNow (Unopened image) version sizes = ⊥
-LastsNow (Disc s) version sizes = StaysFormatted s.disc.shown version sizes
+LastsNow (Disc s) version sizes = StaysFormatted s.disc.shown.drive version sizes
 
 -- the answer to a `power` line: ready, or cut
 abbrev pub IsReadyOrCut : Reply → Type 0

@@ -1,22 +1,24 @@
 //! A drive as the lines of a script work with it: a disc, and what a script does to the medium below it.
 ghost use Rattle.std.specs.Prelude.{◌≡◌, ℕ, ◌≤◌, Option, List, MatchResult};
 ghost use Rattle.model_geometry.specs.Geometry.{total};
-ghost use Rattle.model_sectors.specs.Discs.{Standing};
+ghost use Rattle.model_cache.specs.Values.{Contents};
+ghost use Rattle.model_cache.specs.Causes.{KeepsCache};
 ghost use Rattle.ram_image.specs.EventBytes.{FailBytes};
 ghost use Rattle.ram_image.specs.Opening.{IsRefused};
 ghost use Rattle.ram_medium.specs.Control.{WearRule, with_armed_cut};
 ghost use Rattle.ram_volume.specs.Control.{KeepsMemory, FailOnDrive};
 ghost use Rattle.ram_run.specs.Drive.{OpensDrive, DriveLaws};
-ghost use Rattle.ram_run.specs.Control.{stands_after_fail};
+ghost use Rattle.ram_run.specs.Control.{contents_after_fail};
 
 use ram_image::OpenFault;
 use ram_medium::{Arm, FailEnd, Fate};
 use ram_outside::Image;
-use ram_sectors::Disc;
+use ram_sectors::Caching;
 use std::alloc::Global;
 
-/// A drive over a medium that lies in an image, and that can be made to fail.
-pub trait Drive: Disc {
+/// A drive with a write cache over a medium that lies in an image, and that can be made to fail. What is done to the medium
+/// leaves the cache as it is.
+pub trait Drive: Caching {
     /// The image.
     type Image: Image;
 
@@ -33,36 +35,40 @@ pub trait Drive: Disc {
 
     /// The image, with the bytes in which the drive lay.
     fn into_image(self) -> Self::Image
-        ensures count { Self.Image.faults result ≡ (Self.shows self).medium.world.faults }
+        ensures count { Self.Image.faults result ≡ (Self.shows self).drive.medium.world.faults }
         ensures bytes { Self.Image.bytes result ≡ lies_in self };
 
     /// Makes block `block` of the medium dead, counted from 0, with the power on or off: `Done`. There is no such block:
     /// `NoBlock`, with how many there are. The image failed: `Failed`, and the power is off. What is kept in memory stays,
     /// unless the power goes off.
     fn fail(&mut self, block: u32) -> FailEnd
-        ensures rule { FailOnDrive (Self.shows self.old) (Self.shows self.new) block result }
+        ensures rule { FailOnDrive (Self.shows self.old).drive (Self.shows self.new).drive block result }
+        ensures cache { KeepsCache (Self.shows self.old) (Self.shows self.new) }
         ensures bytes { FailBytes block (lies_in self.old) (lies_in self.new) result }
-        ensures stands { (s : Standing) → Self.stands self.old s
-            → Self.stands self.new (stands_after_fail s result) };
+        ensures stands { (s : Contents) → Self.stands self.old s
+            → Self.stands self.new (contents_after_fail s result) };
 
     /// Makes block `block` of the medium dead at its `n`-th use from now on, the next one being the first: `Set`. There
     /// is no such block: `NoBlock`. As many arms stand as can, 64: `Full`.
     fn wear(&mut self, block: u32, n: u32) -> Arm
         requires { 1 ≤ n }
-        ensures rule { WearRule (total (Self.shows self.old).shape) (Self.shows self.old).medium
-            (Self.shows self.new).medium (record { block = block; left = n }) result }
+        ensures rule { WearRule (total (Self.shows self.old).drive.shape) (Self.shows self.old).drive.medium
+            (Self.shows self.new).drive.medium (record { block = block; left = n }) result }
         ensures bytes { lies_in self.new ≡ lies_in self.old }
-        ensures keeps { KeepsMemory (Self.shows self.old) (Self.shows self.new) }
-        ensures stands { (s : Standing) → Self.stands self.old s → Self.stands self.new s };
+        ensures keeps { KeepsMemory (Self.shows self.old).drive (Self.shows self.new).drive }
+        ensures cache { KeepsCache (Self.shows self.old) (Self.shows self.new) }
+        ensures stands { (s : Contents) → Self.stands self.old s → Self.stands self.new s };
 
     /// Cuts the power at the `n`-th use of any block from now on, the next one being the first, with this fate of a write
     /// that is cut. The cut takes the place of one that was armed.
     fn arm_cut(&mut self, n: u32, fate: Fate)
         requires { 1 ≤ n }
-        ensures rule { (Self.shows self.new).medium ≡ with_armed_cut n fate (Self.shows self.old).medium }
+        ensures rule { (Self.shows self.new).drive.medium
+            ≡ with_armed_cut n fate (Self.shows self.old).drive.medium }
         ensures bytes { lies_in self.new ≡ lies_in self.old }
-        ensures keeps { KeepsMemory (Self.shows self.old) (Self.shows self.new) }
-        ensures stands { (s : Standing) → Self.stands self.old s → Self.stands self.new s };
+        ensures keeps { KeepsMemory (Self.shows self.old).drive (Self.shows self.new).drive }
+        ensures cache { KeepsCache (Self.shows self.old) (Self.shows self.new) }
+        ensures stands { (s : Contents) → Self.stands self.old s → Self.stands self.new s };
 
     ghost drive_laws: { DriveLaws Self.shows Self.underwent lies_in };
 }

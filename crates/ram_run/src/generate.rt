@@ -21,6 +21,7 @@ use ram_generate::generated;
 use ram_image::ImageMedium;
 use ram_outside::{Image, MemSink, Opened, Opener, Sink};
 use ram_text::{Dialogue, DialogueRoom};
+use crate::stub::Cached;
 use ram_volume::Volume;
 use std::alloc::Global;
 
@@ -90,7 +91,7 @@ fn answer_script<I: Image>(
     let mut script = KeptScript::new(script);
     let mut aside = MemSink::new(alloc, usize::MAX, Vec::new(alloc));
     let mut dialogue = Dialogue::new(&mut script, &mut aside, room);
-    let (image, ending) = answer_lines::<Volume<ImageMedium<I>>, KeptScript, MemSink>(
+    let (image, ending) = answer_lines::<Cached<Volume<ImageMedium<I>>>, KeptScript, MemSink>(
         alloc,
         image,
         state,

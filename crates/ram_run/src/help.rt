@@ -22,6 +22,8 @@ The script has one of these a line; words are parted by spaces, # is a comment:
   power                  turn the power off and on again
   fail BLOCK             this block is dead from now on
   wear BLOCK N           this block is dead at its N-th use from now on
+  tick                   the drive is idle: it writes the block that has waited
+                         longest in its write cache
   cut N FATE             cut the power at the N-th use of any block from now on;
                          a block being written then is left old, new or torn
   cdb HEX                a command block of 1 to 16 bytes, without data

@@ -6,7 +6,7 @@ ghost use Rattle.ram_text.specs.declared.payload.TheConstants.{PAYLOAD_ROOM};
 ghost use Rattle.ram_image.specs.Opening.{IsRefused};
 ghost use Rattle.ram_run.specs.Drive.{IsInsertedTarget};
 ghost use Rattle.ram_run.specs.NextLines.{CountsUses};
-ghost use Rattle.ram_run.specs.Replies.{PrintsWhere, power_outcome, fail_outcome, wear_outcome, command_outcome};
+ghost use Rattle.ram_run.specs.Replies.{PrintsWhere, power_outcome, fail_outcome, wear_outcome, tick_outcome, command_outcome};
 ghost use Rattle.ram_run.specs.States.{State};
 ghost use Rattle.ram_run.specs.Inserted.{Stands, LeavesImage, faults_of, IsAnswered, IsPressAnswered};
 ghost use Rattle.ram_run.specs.RunCounts.{LineCount};
@@ -20,7 +20,7 @@ use ram_image::{OpenFault, PressOut, press};
 use ram_medium::{Arm, FailEnd};
 use ram_mmc::{Answer, Target};
 use ram_outside::Image;
-use ram_sectors::PowerOut;
+use ram_sectors::{PowerOut, TickOut};
 use ram_text::{Event, Line};
 use ram_zones::Geometry;
 use std::alloc::Global;
@@ -36,8 +36,8 @@ pub enum Inserted<D: Drive> {
 impl<D: Drive> Inserted<D> {
     /// The image, as it is left.
     pub fn into_image(self) -> D::Image
-        ensures count { D.Image.faults result ≡ faults_of D.Sectors D.Image.Image self }
-        ensures left { (s : State) → Stands D.Sectors D.lies_in D.Image.Image self s
+        ensures count { D.Image.faults result ≡ faults_of D.Caching D.Image.Image self }
+        ensures left { (s : State) → Stands D.Caching D.lies_in D.Image.Image self s
             → LeavesImage s (D.Image.bytes result) }
     {
         match self {
@@ -57,12 +57,12 @@ impl<D: Drive> Inserted<D> {
     ) -> Result<Reply, Stopped>
         requires uses { CountsUses line }
         requires room { PAYLOAD_ROOM ≤ vec_capacity data_in.old }
-        ensures step { (s : State) → Stands D.Sectors D.lies_in D.Image.Image self.old s
+        ensures step { (s : State) → Stands D.Caching D.lies_in D.Image.Image self.old s
             → IsAnswered s line payload.now data_in.new.items
-            (Stands D.Sectors D.lies_in D.Image.Image self.new) result }
+            (Stands D.Caching D.lies_in D.Image.Image self.new) result }
         ensures printable { PrintsWhere result }
-        ensures count { LineCount (faults_of D.Sectors D.Image.Image self.old)
-            (faults_of D.Sectors D.Image.Image self.new) result }
+        ensures count { LineCount (faults_of D.Caching D.Image.Image self.old)
+            (faults_of D.Caching D.Image.Image self.new) result }
         ensures room { vec_capacity data_in.old ≤ vec_capacity data_in.new }
     {
         data_in.clear();
@@ -80,6 +80,7 @@ impl<D: Drive> Inserted<D> {
                 target.disc.arm_cut(n, fate);
                 Ok(Reply::Event(Event::Armed))
             }
+            (Inserted::Disc(target), Line::Tick) => tick_outcome(target.disc.tick()),
             (Inserted::Disc(target), Line::Command { cdb }) => {
                 let answer = target.execute(alloc, &cdb, payload, data_in);
                 command_outcome(cdb, answer)
@@ -124,6 +125,21 @@ fn wear_outcome(end: Arm) -> Result<Reply, Stopped>
     }
 }
 
+/// How the write of the oldest pending block comes out.
+fn tick_outcome(out: TickOut) -> Result<Reply, Stopped>
+    ensures { result ≡ tick_outcome out }
+{
+    match out {
+        TickOut::Idle => Ok(Reply::Event(Event::Idle)),
+        TickOut::Written { lba } => Ok(Reply::Event(Event::Written { lba })),
+        TickOut::NoSpare { lba } => Ok(Reply::Event(Event::NoSpare { lba })),
+        TickOut::NoUpdate { .. } => Ok(Reply::Event(Event::NoUpdate)),
+        TickOut::Cut => Ok(Reply::Event(Event::Cut)),
+        TickOut::Off => Ok(Reply::Event(Event::Off)),
+        TickOut::Fault => Err(Stopped::ImageFault),
+    }
+}
+
 /// How the answer of a command comes out.
 fn command_outcome(cdb: Cdb, answer: Answer) -> Result<Reply, Stopped>
     ensures { result ≡ command_outcome cdb answer }
@@ -161,12 +177,12 @@ fn press_disc<D: Drive>(
     inserted: Inserted<D>,
     wanted: (Global, u32, u32, u32),
 ) -> (Inserted<D>, Result<Reply, Stopped>)
-    ensures step { (s : State) → Stands D.Sectors D.lies_in D.Image.Image inserted s
+    ensures step { (s : State) → Stands D.Caching D.lies_in D.Image.Image inserted s
         → IsPressAnswered s (shape_of wanted.1 wanted.2 wanted.3)
-        (Stands D.Sectors D.lies_in D.Image.Image result.0) result.1 }
+        (Stands D.Caching D.lies_in D.Image.Image result.0) result.1 }
     ensures printable { PrintsWhere result.1 }
-    ensures count { LineCount (faults_of D.Sectors D.Image.Image inserted)
-        (faults_of D.Sectors D.Image.Image result.0) result.1 }
+    ensures count { LineCount (faults_of D.Caching D.Image.Image inserted)
+        (faults_of D.Caching D.Image.Image result.0) result.1 }
 {
     let (alloc, zones, scale, psa) = wanted;
     let Ok(geometry) = Geometry::new(zones, scale, psa) else {

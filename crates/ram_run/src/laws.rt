@@ -1,5 +1,6 @@
 //! Laws of runs, for whoever relies on a drive: what it acknowledged stays, and is read back.
-ghost use Rattle.std.specs.Prelude.{◌≡◌, ◌<◌, ◌≤◌, ℕ, Bool, Ok, Some, List, length};
+ghost use Rattle.std.specs.Prelude.{◌≡◌, ◌<◌, ◌≤◌, ℕ, Bool, Ok, Some, List, [], ◌∷◌, length};
+ghost use Rattle.std.specs.List.{Contains};
 ghost use Rattle.model_geometry.specs.Geometry.{Shape, total};
 ghost use Rattle.model_places.specs.Places.{Lists};
 ghost use Rattle.model_volume.specs.Given.{IsGiven};
@@ -16,7 +17,8 @@ ghost use Rattle.ram_run.specs.States.{State, IsFirst, IsLeft, IsPressedDisc};
 ghost use Rattle.ram_run.specs.LineSteps.{Step};
 ghost use Rattle.ram_run.specs.Underwent.{UnderwentEvents, WritesNone};
 ghost use Rattle.ram_run.specs.Run.{AnsweredLine, IsStep, Run};
-ghost use Rattle.ram_run.specs.Acknowledged.{bytes_of_sector, Acknowledged, HasNow, WasDone, IsAmong, LeavesSector, LeaveSector, HoldsOldOrNew, HasInImage};
+ghost use Rattle.ram_run.specs.Acknowledged.{bytes_of_sector, Acknowledged, HasNow, GoesThrough, WasDone, IsAmong, LeavesSector, LeaveSector, KeepPower, HoldsOldOrNew, FallsBackTo, choices_with, choices_after, WritesAtMost, WriteAtMost, HasInImage};
+ghost use Rattle.ram_run.specs.Alone.{IsAlone, LeavesAlone, LeaveAlone};
 ghost use Rattle.ram_run.specs.Fairness.{FairNow, WasToldNoSpare, HasNoSpareLeft};
 
 /// What was acknowledged of a sector stays so while no line writes it, through every failure of a block and
@@ -30,21 +32,26 @@ pub fn acknowledged_bytes_stay()
         → Run s events t → LeaveSector at events → Acknowledged s at bytes → Acknowledged t at bytes }
 {}
 
-/// After a write that is answered Good the disc has each sector that was sent, and that is acknowledged.
+/// After a write that is answered Good the disc has each sector that was sent. That is acknowledged where the write went through
+/// the write cache: with FUA, and where the cache is off or many blocks are covered.
 pub fn a_write_that_is_done_is_acknowledged()
     ensures has { (s t : State) (event : AnsweredLine) (lba n at : ℕ) (fua : Bool)
         → IsStep s event t → WasDone event (commands.Write lba n fua) → IsAmong lba n at
         → HasNow t at (bytes_of_sector lba event.payload at) }
     ensures acknowledged { (s t : State) (event : AnsweredLine) (lba n at : ℕ) (fua : Bool)
-        → IsStep s event t → WasDone event (commands.Write lba n fua) → IsAmong lba n at
+        → IsStep s event t → WasDone event (commands.Write lba n fua) → IsAmong lba n at → GoesThrough s lba n fua
         → Acknowledged t at (bytes_of_sector lba event.payload at) }
 {}
 
-/// A read that is answered Good gives of each sector what was acknowledged of it. What it gives the disc has.
+/// A read that is answered Good gives of each sector what was acknowledged of it, and what the disc has of it. What it gives the
+/// disc has.
 pub fn a_read_that_is_done_shows_what_was_acknowledged()
     ensures shown { (s t : State) (event : AnsweredLine) (lba n at : ℕ) (bytes : List ℕ)
         → IsStep s event t → WasDone event (commands.Read lba n) → IsAmong lba n at
         → Acknowledged s at bytes → bytes_of_sector lba event.data_in at ≡ bytes }
+    ensures now { (s t : State) (event : AnsweredLine) (lba n at : ℕ) (bytes : List ℕ)
+        → IsStep s event t → WasDone event (commands.Read lba n) → IsAmong lba n at
+        → HasNow s at bytes → bytes_of_sector lba event.data_in at ≡ bytes }
     ensures has { (s t : State) (event : AnsweredLine) (lba n at : ℕ)
         → IsStep s event t → WasDone event (commands.Read lba n) → IsAmong lba n at
         → HasNow t at (bytes_of_sector lba event.data_in at) }
@@ -59,32 +66,39 @@ pub fn a_sector_that_is_written_is_old_or_new()
         → Acknowledged s at bytes → HoldsOldOrNew t at bytes (bytes_of_sector lba payload at) }
 {}
 
-/// A write and then a read, both answered Good, with any lines between them that do not write the sector: the
-/// read gives the bytes that were sent.
+/// A write and then a read, both answered Good, with any lines between them that do not write the sector: the read gives the
+/// bytes that were sent, where the write went through the write cache, and else where no power was lost between them, neither
+/// by a `power` line nor by a cut.
 pub fn what_was_written_is_read_back()
-    ensures { (s t u v : State) (written read : AnsweredLine) (between : List AnsweredLine)
+    ensures through { (s t u v : State) (written read : AnsweredLine) (between : List AnsweredLine)
+        (lba n first count at : ℕ) (fua : Bool)
+        → IsStep s written t → WasDone written (commands.Write lba n fua) → IsAmong lba n at → GoesThrough s lba n fua
+        → Run t between u → LeaveSector at between
+        → IsStep u read v → WasDone read (commands.Read first count) → IsAmong first count at
+        → bytes_of_sector first read.data_in at ≡ bytes_of_sector lba written.payload at }
+    ensures powered { (s t u v : State) (written read : AnsweredLine) (between : List AnsweredLine)
         (lba n first count at : ℕ) (fua : Bool)
         → IsStep s written t → WasDone written (commands.Write lba n fua) → IsAmong lba n at
-        → Run t between u → LeaveSector at between
+        → Run t between u → KeepPower between → LeaveSector at between
         → IsStep u read v → WasDone read (commands.Read first count) → IsAmong first count at
         → bytes_of_sector first read.data_in at ≡ bytes_of_sector lba written.payload at }
 {}
 
-/// Two reads of a sector, both answered Good, with any lines between them that do not write it, give the same
-/// bytes.
+/// Two reads of a sector, both answered Good, with any lines between them that do not write it and by which no power is lost, give
+/// the same bytes. (What is acknowledged each read gives, whatever comes between.)
 pub fn two_reads_agree()
     ensures { (s t u v : State) (one two : AnsweredLine) (between : List AnsweredLine)
         (lba n first count at : ℕ)
         → IsStep s one t → WasDone one (commands.Read lba n) → IsAmong lba n at
-        → Run t between u → LeaveSector at between
+        → Run t between u → KeepPower between → LeaveSector at between
         → IsStep u two v → WasDone two (commands.Read first count) → IsAmong first count at
         → bytes_of_sector first two.data_in at ≡ bytes_of_sector lba one.data_in at }
 {}
 
-/// After a write that is answered Good the image has each sector that was sent, in the home of its block.
+/// After a write through the write cache that is answered Good the image has each sector that was sent, in the home of its block.
 pub fn a_write_told_good_is_in_the_image()
     ensures { (s t : State) (event : AnsweredLine) (lba n at : ℕ) (fua : Bool) (image : List ℕ)
-        → IsStep s event t → WasDone event (commands.Write lba n fua) → IsAmong lba n at
+        → IsStep s event t → WasDone event (commands.Write lba n fua) → IsAmong lba n at → GoesThrough s lba n fua
         → IsLeft t image → HasInImage t image at (bytes_of_sector lba event.payload at) }
 {}
 
@@ -107,6 +121,39 @@ pub fn an_expansion_keeps_what_it_leaves()
         → ¬ HasNow t at bytes }
 {}
 
+/// After SYNCHRONIZE CACHE that is answered Good the disc has each sector as before, and that is acknowledged.
+pub fn a_synchronised_sector_is_acknowledged()
+    ensures has { (s t : State) (event : AnsweredLine) (at : ℕ) (bytes : List ℕ) → IsStep s event t
+        → WasDone event commands.Synchronize → HasNow s at bytes → HasNow t at bytes }
+    ensures acknowledged { (s t : State) (event : AnsweredLine) (at : ℕ) (bytes : List ℕ) → IsStep s event t
+        → WasDone event commands.Synchronize → HasNow s at bytes → Acknowledged t at bytes }
+{}
+
+/// After a power loss a sector has what was acknowledged of it, or what a later write sent, and nothing older or other: however
+/// lines end, whatever blocks die, wherever the power is cut. What is acknowledged is the one thing to which it may fall back;
+/// each write of it adds what it sends, and no line but a write and a format adds anything.
+pub fn after_a_power_loss_a_sector_has_one_of_its_values()
+    ensures begins { (s : State) (at : ℕ) (bytes : List ℕ) → Acknowledged s at bytes → FallsBackTo s at (bytes ∷ []) }
+    ensures step { (s t : State) (line : Line) (payload data_in : List ℕ) (outcome : Outcome) (at : ℕ)
+        (choices : List (List ℕ)) → Step s line payload outcome data_in t → WritesAtMost line payload
+        → FallsBackTo s at choices → FallsBackTo t at (choices_with at line payload choices) }
+    ensures run { (s t : State) (events : List AnsweredLine) (at : ℕ) (choices : List (List ℕ)) → Run s events t
+        → WriteAtMost events → FallsBackTo s at choices → FallsBackTo t at (choices_after at events choices) }
+    ensures found { (s : State) (at : ℕ) (choices : List (List ℕ)) (bytes : List ℕ) → FallsBackTo s at choices
+        → HasNow s at bytes → Contains choices bytes }
+{}
+
+/// While the write cache is never turned on a drive is one without a cache: nothing is ever pending, no tick writes anything, and
+/// it stands for one value of each block. So its answers have the causes, and what its calls make of the disc are the steps, of
+/// the disc without a cache (`without_the_cache_answers_have_the_causes_of_the_disc` and its neighbour in `model_cache`).
+pub fn without_the_cache_a_run_is_that_of_the_disc()
+    ensures begins { (bytes : List ℕ) (s : State) → IsFirst bytes s → IsAlone s }
+    ensures pressed { (shape : Shape) (s : State) → IsPressedDisc shape s → IsAlone s }
+    ensures step { (s t : State) (line : Line) (payload data_in : List ℕ) (outcome : Outcome)
+        → Step s line payload outcome data_in t → LeavesAlone line payload → IsAlone s → IsAlone t }
+    ensures run { (s t : State) (events : List AnsweredLine) → Run s events t → LeaveAlone events → IsAlone s → IsAlone t }
+{}
+
 /// A run gives up dead blocks alone: so where a write finds no spare, each spare that replaces no block is dead. It begins so
 /// with a disc that was just pressed, and with an image of which each pair of lists that it may give names dead blocks alone;
 /// no line changes it.
@@ -121,8 +168,8 @@ pub fn dead_blocks_alone_are_given_up()
         → FairNow s }
 {}
 
-/// A run that gives up dead blocks alone says that no spare is left only where none is: each spare that replaces no block is
-/// dead then.
+/// A run that gives up dead blocks alone says that no spare is left, to a command or a tick, only where none is: each spare that
+/// replaces no block is dead then.
 pub fn no_spare_is_told_where_none_is_left()
     ensures { (s t : State) (event : AnsweredLine) → FairNow s → IsStep s event t → WasToldNoSpare event
         → HasNoSpareLeft t }

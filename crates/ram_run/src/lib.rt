@@ -19,4 +19,5 @@ mod stopped;
 mod summary;
 pub mod survival;
 mod telling;
+mod stub;
 mod volume;

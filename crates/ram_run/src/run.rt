@@ -17,6 +17,7 @@ use crate::telling::write_text;
 use ram_image::ImageMedium;
 use ram_outside::{Opened, Opener, Sink, Source};
 use ram_text::{Dialogue, DialogueRoom};
+use crate::stub::Cached;
 use ram_volume::Volume;
 use std::alloc::Global;
 
@@ -151,7 +152,7 @@ fn run_image<S: Source, K: Sink, O: Opener>(
         Opened::Failed => Status::ImageFault,
         Opened::Image(image) => {
             let mut dialogue = Dialogue::new(script, report, &mut room);
-            let (image, status) = serve::<Volume<ImageMedium<O::Image>>, S, K>(
+            let (image, status) = serve::<Cached<Volume<ImageMedium<O::Image>>>, S, K>(
                 alloc,
                 image,
                 &mut state,

@@ -38,13 +38,13 @@ fn answer_line<D: Drive, S: Source, K: Sink>(
     requires room { HasRoom state.old }
     ensures ends { HasSameEnds dialogue.old dialogue.new }
     ensures turn { (first : Beginning) (far : SoFar first)
-        → Stands D.Sectors D.lies_in D.Image.Image inserted.old far.now
+        → Stands D.Caching D.lies_in D.Image.Image inserted.old far.now
         → Taken far (run_view S.Source K.Sink dialogue.old state.old.tally) line state.old.payload.items
-        → TurnsTo first (Stands D.Sectors D.lies_in D.Image.Image inserted.new)
+        → TurnsTo first (Stands D.Caching D.lies_in D.Image.Image inserted.new)
         (run_view S.Source K.Sink dialogue.new state.new.tally) result }
     ensures counts { StopCounts
-        (counts_with S.Source K.Sink dialogue.old (faults_of D.Sectors D.Image.Image inserted.old))
-        (counts_with S.Source K.Sink dialogue.new (faults_of D.Sectors D.Image.Image inserted.new)) result }
+        (counts_with S.Source K.Sink dialogue.old (faults_of D.Caching D.Image.Image inserted.old))
+        (counts_with S.Source K.Sink dialogue.new (faults_of D.Caching D.Image.Image inserted.new)) result }
     ensures tally { TallyRule state.old.tally state.new.tally result }
     ensures same_reading { reading_of dialogue.new ≡ reading_of dialogue.old }
     ensures room { HasRoom state.new }
@@ -65,13 +65,13 @@ pub fn serve_lines<D: Drive, S: Source, K: Sink>(
     requires room { HasRoom state.old }
     ensures same { HasSameEnds dialogue.old dialogue.new }
     ensures ends { (first : Beginning)
-        → Between first (Stands D.Sectors D.lies_in D.Image.Image inserted)
+        → Between first (Stands D.Caching D.lies_in D.Image.Image inserted)
         (run_view S.Source K.Sink dialogue.old state.old.tally)
-        → Ends first (Stands D.Sectors D.lies_in D.Image.Image result.0)
+        → Ends first (Stands D.Caching D.lies_in D.Image.Image result.0)
         (run_view S.Source K.Sink dialogue.new state.new.tally) result.1 }
     ensures counts { StopCounts
-        (counts_with S.Source K.Sink dialogue.old (faults_of D.Sectors D.Image.Image inserted))
-        (counts_with S.Source K.Sink dialogue.new (faults_of D.Sectors D.Image.Image result.0)) result.1 }
+        (counts_with S.Source K.Sink dialogue.old (faults_of D.Caching D.Image.Image inserted))
+        (counts_with S.Source K.Sink dialogue.new (faults_of D.Caching D.Image.Image result.0)) result.1 }
     ensures few { state.new.tally.lines < 2 ^ 63 }
 {
     let mut inserted = inserted;
@@ -90,7 +90,7 @@ pub fn serve_lines<D: Drive, S: Source, K: Sink>(
 /// What lies in the drive when a run begins: a disc where the image holds one. Where the image failed, or there is no
 /// memory, it is handed back with the reason.
 fn begin<D: Drive>(alloc: Global, image: D::Image) -> Result<Inserted<D>, (D::Image, Stopped)>
-    ensures { StartRule D.Sectors D.lies_in D.Image.Image image result }
+    ensures { StartRule D.Caching D.lies_in D.Image.Image image result }
 {
     match insert::<D>(alloc, image) {
         Ok(target) => Ok(Inserted::Disc(target)),

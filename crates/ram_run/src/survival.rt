@@ -41,7 +41,7 @@ pub fn no_cut_loses_the_disc()
     ensures capacity { (s : Served) (t u : State) (lists : Lists) (events : List AnsweredLine) (event : AnsweredLine) (known : ℕ)
         → HasInUse (Disc s) lists → Run (Disc s) events t → KeepDisc events → LeaveCapacity events
         → IsStep t event u → event.line ≡ lines.Power → HasTwoCopies u lists.sdl.version
-        → event.reply ≡ replies.Event (told.Ready known) → known ≡ capacity_of s.disc.shown.shape lists }
+        → event.reply ≡ replies.Event (told.Ready known) → known ≡ capacity_of s.disc.shown.drive.shape lists }
     ensures opened_again { (s t u v w : State) (lists : Lists) (earlier later : List AnsweredLine) (event : AnsweredLine)
         (image : List ℕ) → HasInUse s lists → Run s earlier t → KeepDisc earlier → IsLeft t image
         → IsFirst image u → Run u later v → KeepDisc later → IsStep v event w → event.line ≡ lines.Power

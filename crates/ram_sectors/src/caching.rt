@@ -8,7 +8,7 @@ ghost use Rattle.model_cache.specs.Shown.{CacheShown};
 ghost use Rattle.model_cache.specs.Steps.{ReadContents, WriteContents, ThroughContents, PowerContents, FormatContents, ExpandContents, VerifyContents, SyncContents, TickContents};
 ghost use Rattle.model_cache.specs.Causes.{CacheReadCause, CacheWriteCause, ThroughCause, CachePowerCause, CacheFormatCause, CacheExpandCause, CacheVerifyCause, SyncCause, TickCause};
 ghost use Rattle.ram_sectors.specs.declared.TheConstants.{VERIFY_LIMIT};
-ghost use Rattle.ram_sectors.specs.Laws.{CachingLaws};
+ghost use Rattle.ram_sectors.specs.Laws.{CachingLaws, UnderwentLaws};
 
 use model_cache::{SyncOut, TickOut};
 use model_drive::{DriveCounts, ExpandOut, FormatOut, Kind, WriteOut};
@@ -32,6 +32,9 @@ pub trait Caching {
     /// What it stands for.
     ghost stands: { Self → Contents → Type 0 };
 
+    /// That nothing but events happened to the medium of its disc in between, as `underwent` of `Sectors` says it.
+    ghost underwent: { Self → Self → Type 0 };
+
     /// How many sectors the disc has, a multiple of 16. None exactly where the power is off or the disc is not formatted.
     fn capacity(&self) -> Option<u32>
         ensures { CapacityRule (shows self.now).drive result };
@@ -48,7 +51,8 @@ pub trait Caching {
         ensures cause { CacheReadCause (shows self.old) (shows self.new) lba n result }
         ensures step { (s : Contents) → stands self.old s
             → ReadContents (stands self.new) s lba n into.new result }
-        ensures same_shape { (shows self.new).drive.shape ≡ (shows self.old).drive.shape };
+        ensures same_shape { (shows self.new).drive.shape ≡ (shows self.old).drive.shape }
+        ensures underwent { underwent self.old self.new };
 
     /// Writes `n` sectors from sector `lba` on: into the cache where that is on and few blocks are covered, and else through it.
     /// A write into the cache makes room first, by writing the oldest pending blocks that it does not cover to the disc; then it
@@ -59,34 +63,39 @@ pub trait Caching {
         ensures cause { CacheWriteCause (shows self.old) (shows self.new) lba n from.now result }
         ensures step { (s : Contents) → stands self.old s
             → WriteContents (shows self.old) (shows self.new) (stands self.new) s lba n from.now result }
-        ensures same_shape { (shows self.new).drive.shape ≡ (shows self.old).drive.shape };
+        ensures same_shape { (shows self.new).drive.shape ≡ (shows self.old).drive.shape }
+        ensures underwent { underwent self.old self.new };
 
     /// Turns the power off and on again. Pending blocks are lost.
     fn power(&mut self, alloc: Global) -> PowerOut
         ensures cause { CachePowerCause (shows self.old) (shows self.new) result }
         ensures step { (s : Contents) → stands self.old s
             → PowerContents (shows self.new).drive (stands self.new) s result }
-        ensures same_shape { (shows self.new).drive.shape ≡ (shows self.old).drive.shape };
+        ensures same_shape { (shows self.new).drive.shape ≡ (shows self.old).drive.shape }
+        ensures underwent { underwent self.old self.new };
 
     /// Formats the disc. After a full format that is done nothing is pending, nor where the disc is not formatted afterwards.
     fn format(&mut self, alloc: Global, kind: Kind) -> FormatOut
         ensures cause { CacheFormatCause (shows self.old) (shows self.new) kind result }
         ensures step { (s : Contents) → stands self.old s
             → FormatContents (shows self.old).drive (shows self.new).drive (stands self.new) s kind result }
-        ensures same_shape { (shows self.new).drive.shape ≡ (shows self.old).drive.shape };
+        ensures same_shape { (shows self.new).drive.shape ≡ (shows self.old).drive.shape }
+        ensures underwent { underwent self.old self.new };
 
     /// Gives the disc a smaller capacity, in sectors. The blocks that it loses are not pending then.
     fn expand(&mut self, capacity: u32) -> ExpandOut
         ensures cause { CacheExpandCause (shows self.old) (shows self.new) capacity result }
         ensures step { (s : Contents) → stands self.old s → ExpandContents (stands self.new) s capacity result }
-        ensures same_shape { (shows self.new).drive.shape ≡ (shows self.old).drive.shape };
+        ensures same_shape { (shows self.new).drive.shape ≡ (shows self.old).drive.shape }
+        ensures underwent { underwent self.old self.new };
 
     /// Verifies sectors: the disc alone is asked.
     fn verify(&mut self, lba: u32, n: u32) -> ReadOut
         requires few { n ≤ VERIFY_LIMIT }
         ensures cause { CacheVerifyCause (shows self.old) (shows self.new) lba n result }
         ensures step { (s : Contents) → stands self.old s → VerifyContents (stands self.new) s result }
-        ensures same_shape { (shows self.new).drive.shape ≡ (shows self.old).drive.shape };
+        ensures same_shape { (shows self.new).drive.shape ≡ (shows self.old).drive.shape }
+        ensures underwent { underwent self.old self.new };
 
     /// What the disc is, and how many of its spares are free.
     fn counts(&self) -> DriveCounts
@@ -100,7 +109,8 @@ pub trait Caching {
     /// Turns the cache on or off. What is pending stays so.
     fn write_cache(&mut self, on: bool)
         ensures mode { shows self.new ≡ record (shows self.old) { caches = on } }
-        ensures stands { (s : Contents) → stands self.old s → stands self.new s };
+        ensures stands { (s : Contents) → stands self.old s → stands self.new s }
+        ensures underwent { underwent self.old self.new };
 
     /// Writes sectors through the cache: the covered blocks that are pending are written back first, the oldest first.
     fn write_through(&mut self, lba: u32, n: u32, from: &[u8]) -> WriteOut
@@ -109,19 +119,25 @@ pub trait Caching {
         ensures cause { ThroughCause (shows self.old) (shows self.new) lba n result }
         ensures step { (s : Contents) → stands self.old s
             → ThroughContents (shows self.old) (shows self.new) (stands self.new) s lba n from.now result }
-        ensures same_shape { (shows self.new).drive.shape ≡ (shows self.old).drive.shape };
+        ensures same_shape { (shows self.new).drive.shape ≡ (shows self.old).drive.shape }
+        ensures underwent { underwent self.old self.new };
 
     /// Writes all pending blocks to the disc, the oldest first, up to the first that is refused.
     fn synchronize(&mut self) -> SyncOut
         ensures cause { SyncCause (shows self.old) (shows self.new) result }
         ensures step { (s : Contents) → stands self.old s → SyncContents (stands self.new) s result }
-        ensures same_shape { (shows self.new).drive.shape ≡ (shows self.old).drive.shape };
+        ensures same_shape { (shows self.new).drive.shape ≡ (shows self.old).drive.shape }
+        ensures underwent { underwent self.old self.new };
 
     /// Writes the oldest pending block to the disc.
     fn tick(&mut self) -> TickOut
         ensures cause { TickCause (shows self.old) (shows self.new) result }
         ensures step { (s : Contents) → stands self.old s → TickContents (stands self.new) s result }
-        ensures same_shape { (shows self.new).drive.shape ≡ (shows self.old).drive.shape };
+        ensures same_shape { (shows self.new).drive.shape ≡ (shows self.old).drive.shape }
+        ensures underwent { underwent self.old self.new };
 
     ghost laws: { CachingLaws shows stands };
+
+    /// One call after another, or none, is nothing but events too.
+    ghost underwent_laws: { UnderwentLaws underwent };
 }

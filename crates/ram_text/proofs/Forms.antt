@@ -11,10 +11,10 @@ use Rattle.model_medium.specs.declared.Fate.{Fate}
 use Rattle.model_medium.specs.declared.Fate.TheVariants.{Old, New, Torn}
 use Rattle.ram_text.specs.ScriptWords.{words_of, without_return, IsNumber}
 use Rattle.ram_text.specs.Script.{Reads, IsForm, IsCommandBlock, IsFilled, IsCountedUp, IsSpelled, fate_word, filled, counted_up}
-use Rattle.ram_text.specs.ScriptReading.{◌>>=◌, number_of, hex_byte_of, command_block_of, only_word, first_number, only_number, fate_of, kind_of, form_of, press_of, power_of, fail_of, wear_of, cut_of, payload_by, payload_of, command_of, alone, line_by, line_of, reading_of, Puts}
+use Rattle.ram_text.specs.ScriptReading.{◌>>=◌, number_of, hex_byte_of, command_block_of, only_word, first_number, only_number, fate_of, kind_of, form_of, press_of, power_of, fail_of, wear_of, cut_of, tick_of, payload_by, payload_of, command_of, alone, line_by, line_of, reading_of, Puts}
 use Rattle.ram_text.specs.declared.script.Unread.{Unread}
 use Rattle.ram_text.specs.declared.script.Line.{Line}
-use Rattle.ram_text.specs.declared.script.Line.TheVariants.{Empty, Press, Power, Fail, Wear, Cut, Command}
+use Rattle.ram_text.specs.declared.script.Line.TheVariants.{Empty, Press, Power, Fail, Wear, Cut, Tick, Command}
 use Rattle.ram_text.specs.declared.script.Form.{Form}
 use Rattle.ram_text.specs.declared.script.Form.TheVariants as forms
 use Rattle.ram_text.specs.declared.payload.Kind.{Kind}
@@ -28,6 +28,7 @@ form_word forms.Power = codes "power"
 form_word forms.Fail = codes "fail"
 form_word forms.Wear = codes "wear"
 form_word forms.Cut = codes "cut"
+form_word forms.Tick = codes "tick"
 form_word forms.Command = codes "cdb"
 
 -- the words that name the kinds of data
@@ -52,8 +53,11 @@ form_named word f h =
             | inl t ↦ named form_word word (codes "wear") forms.Wear f t.0 refl t.1
             | inr t ↦ elim (chosen (bytes_eq word (codes "cut")) forms.Cut _ f t.1) [
               | inl t ↦ named form_word word (codes "cut") forms.Cut f t.0 refl t.1
-              | inr t ↦ let l = tested_some (bytes_eq word (codes "cdb")) forms.Command f t.1 in
-                  named form_word word (codes "cdb") forms.Command f l.0 refl l.1
+              | inr t ↦ elim (chosen (bytes_eq word (codes "tick")) forms.Tick _ f t.1) [
+                | inl t ↦ named form_word word (codes "tick") forms.Tick f t.0 refl t.1
+                | inr t ↦ let l = tested_some (bytes_eq word (codes "cdb")) forms.Command f t.1 in
+                    named form_word word (codes "cdb") forms.Command f l.0 refl l.1
+              ]
             ]
           ]
         ]
@@ -156,6 +160,11 @@ cut_found words line h =
     let some : 0 < n.0.0 = let e = t.0 in grind (arith, nat_tests) in
     moved (codes "cut") words (a.0 ∷ word.0 ∷ []) line (Cut n.0.0 fate.0) (a.1 ∙ ap (λ ws. a.0 ∷ ws) b) (ap Some t.1) (refl, a.2, some, fate_named word.0 fate.0 fate.1, refl)
 
+tick_found : (words : List (List ℕ)) (line : Line) → tick_of words ≡ Some line → IsForm (codes "tick" ∷ words) line []
+unfolding tick_of
+tick_found [] line h = moved (codes "tick") [] [] line Tick refl h (refl, refl)
+tick_found (w ∷ words) line h = cc
+
 -- the data of each kind
 payload_found : (cdb word digits : List ℕ) (k : Kind) (payload : List ℕ) → word ≡ kind_word k → payload_by cdb digits k ≡ Some payload → IsFilled cdb word digits payload ⊎ IsCountedUp cdb word digits payload ⊎ IsSpelled word digits payload
 payload_found cdb word digits kinds.Fill payload is h =
@@ -215,6 +224,7 @@ by_form forms.Power words line payload h = let a = alone_found (power_of words) 
 by_form forms.Fail words line payload h = let a = alone_found (fail_of words) line payload h in without (codes "fail") words line payload a.1 (fail_found words line a.0)
 by_form forms.Wear words line payload h = let a = alone_found (wear_of words) line payload h in without (codes "wear") words line payload a.1 (wear_found words line a.0)
 by_form forms.Cut words line payload h = let a = alone_found (cut_of words) line payload h in without (codes "cut") words line payload a.1 (cut_found words line a.0)
+by_form forms.Tick words line payload h = let a = alone_found (tick_of words) line payload h in without (codes "tick") words line payload a.1 (tick_found words line a.0)
 by_form forms.Command words line payload h = command_found words line payload h
 
 -- what is read is a form
@@ -264,9 +274,10 @@ behind : (word text : List ℕ) (words : List (List ℕ)) → word ≡ text → 
 behind word text words is = ap (λ w. line_of (w ∷ words)) is
 
 form_given : (words : List (List ℕ)) (line : Line) (payload : List ℕ) → IsForm words line payload → line_of words ≡ Some (line, payload)
-unfolding line_of power_of command_of payload_of
+unfolding line_of power_of tick_of command_of payload_of
 form_given [] Empty payload h = ap (λ p. Some (Empty, p)) (sym h)
 form_given (word ∷ []) Power payload h = behind word (codes "power") [] h.0 ∙ ap (λ p. Some (Power, p)) (sym h.1)
+form_given (word ∷ []) Tick payload h = behind word (codes "tick") [] h.0 ∙ ap (λ p. Some (Tick, p)) (sym h.1)
 form_given (word ∷ a ∷ []) (Fail block) payload h =
     behind word (codes "fail") (a ∷ []) h.0 ∙ ap alone (fail_given a block h.1) ∙ ap (λ p. Some (Fail block, p)) (sym h.2)
 form_given (word ∷ a ∷ []) (Command cdb) payload h =

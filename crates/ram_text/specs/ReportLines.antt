@@ -28,6 +28,11 @@ event_words events.Failed = codes "failed"
 event_words events.NoSuchBlock = codes "no such block"
 event_words events.Armed = codes "armed"
 event_words events.Full = codes "full"
+event_words events.Idle = codes "idle"
+event_words (events.Written lba) = codes "written " ++ decimal lba
+event_words (events.NoSpare lba) = codes "check 3/32/00 info " ++ decimal lba
+event_words events.NoUpdate = codes "check 3/32/01"
+event_words events.Off = codes "off"
 
 -- K/AA/QQ: the sense key, which is its low four bits, as one hexadecimal digit, and the code and its qualifier as two
 -- each, in lower case (this project's own, of the numbers of INCITS MMC)

@@ -6,7 +6,7 @@ use Rattle.model_medium.specs.declared.Fate.{Fate}
 use Rattle.model_medium.specs.declared.Fate.TheVariants.{Old, New, Torn}
 use Rattle.ram_text.specs.ScriptWords.{words_of, without_return, number_sign, IsNumber, IsHex}
 use Rattle.ram_text.specs.declared.script.Line.{Line}
-use Rattle.ram_text.specs.declared.script.Line.TheVariants.{Empty, Press, Power, Fail, Wear, Cut, Command}
+use Rattle.ram_text.specs.declared.script.Line.TheVariants.{Empty, Press, Power, Fail, Wear, Cut, Tick, Command}
 
 -- the word for what a cut leaves of the block in progress (this project's own)
 abbrev pub fate_word : Fate → List ℕ
@@ -60,6 +60,7 @@ IsForm (word ∷ a ∷ b ∷ []) (Wear block n) payload =
     (word ≡ codes "wear") × IsNumber a block × IsNumber b n × (0 < n) × (payload ≡ [])
 IsForm (word ∷ a ∷ b ∷ []) (Cut n fate) payload =
     (word ≡ codes "cut") × IsNumber a n × (0 < n) × (b ≡ fate_word fate) × (payload ≡ [])
+IsForm (word ∷ []) Tick payload = (word ≡ codes "tick") × (payload ≡ [])
 IsForm (word ∷ a ∷ []) (Command cdb) payload = (word ≡ codes "cdb") × IsCommandBlock a cdb × (payload ≡ [])
 IsForm (word ∷ a ∷ b ∷ c ∷ []) (Command cdb) payload =
     (word ≡ codes "cdb") × IsCommandBlock a cdb

@@ -11,7 +11,7 @@ use Rattle.model_medium.specs.declared.Fate.TheVariants.{Old, New, Torn}
 use Rattle.ram_text.specs.ScriptWords.{words_of, number_sign, decimal_value}
 use Rattle.ram_text.specs.Script.{filled, counted_up}
 use Rattle.ram_text.specs.declared.script.Line.{Line}
-use Rattle.ram_text.specs.declared.script.Line.TheVariants.{Empty, Press, Power, Fail, Wear, Cut, Command}
+use Rattle.ram_text.specs.declared.script.Line.TheVariants.{Empty, Press, Power, Fail, Wear, Cut, Tick, Command}
 use Rattle.ram_text.specs.declared.script.Form.{Form}
 use Rattle.ram_text.specs.declared.script.Form.TheVariants as forms
 use Rattle.ram_text.specs.declared.payload.Kind.{Kind}
@@ -86,6 +86,7 @@ form_of word =
     else if bytes_eq word (codes "fail") then Some forms.Fail
     else if bytes_eq word (codes "wear") then Some forms.Wear
     else if bytes_eq word (codes "cut") then Some forms.Cut
+    else if bytes_eq word (codes "tick") then Some forms.Tick
     else if bytes_eq word (codes "cdb") then Some forms.Command
     else None
 
@@ -123,6 +124,11 @@ cut_of words = do
   fate ← fate_of word
   if nat_lt 0 n.0 then Some (Cut n.0 fate) else None
 
+-- the line that the words behind `tick` make (this project's own)
+unfoldable pub tick_of : List (List ℕ) → Option Line
+tick_of [] = Some Tick
+tick_of (word ∷ words) = None
+
 -- the data of each kind (this project's own)
 abbrev pub payload_by : List ℕ → List ℕ → Kind → Option (List ℕ)
 payload_by cdb digits kinds.Fill = hex_byte_of digits >>= λ byte. Some (filled byte (out_length_of cdb))
@@ -156,6 +162,7 @@ line_by words forms.Power = alone (power_of words)
 line_by words forms.Fail = alone (fail_of words)
 line_by words forms.Wear = alone (wear_of words)
 line_by words forms.Cut = alone (cut_of words)
+line_by words forms.Tick = alone (tick_of words)
 line_by words forms.Command = command_of words
 
 -- the line of these words, with its data (this project's own)

@@ -35,6 +35,22 @@ pub enum Event {
     Armed,
     /// As many blocks wear already as can.
     Full,
+    /// No block is pending in the write cache.
+    Idle,
+    /// The oldest pending block was written.
+    Written {
+        /// Its first sector.
+        lba: u32,
+    },
+    /// The oldest pending block could not be written: its home is dead, and so are all spares that are free for it.
+    NoSpare {
+        /// Its first sector.
+        lba: u32,
+    },
+    /// The oldest pending block could not be written: its home is dead, and the secondary list could not be updated.
+    NoUpdate,
+    /// The power is off.
+    Off,
 }
 
 /// The last line of a report, by how the run ended.

@@ -2,7 +2,7 @@
 ghost use Rattle.std.specs.Prelude.{◌≡◌, ◌≤◌, [], ℕ, List, MatchResult, length, vec_capacity};
 ghost use Rattle.ram_text.specs.ScriptWords.{words_of};
 ghost use Rattle.ram_text.specs.Script.{Reads};
-ghost use Rattle.ram_text.specs.ScriptReading.{press_of, power_of, fail_of, wear_of, cut_of, command_of, fate_of, form_of, line_by, line_of, reading_of, Puts};
+ghost use Rattle.ram_text.specs.ScriptReading.{press_of, power_of, fail_of, wear_of, cut_of, tick_of, command_of, fate_of, form_of, line_by, line_of, reading_of, Puts};
 ghost use Rattle.ram_text.specs.declared.lines.TheConstants.{LINE_LIMIT};
 ghost use Rattle.ram_text.specs.declared.payload.TheConstants.{PAYLOAD_ROOM};
 ghost use Rattle.ram_text.specs.declared.script.Line.{Line as Read};
@@ -48,6 +48,8 @@ pub enum Line {
         /// What the cut leaves of a block that is being written.
         fate: Fate,
     },
+    /// The drive writes the oldest block that is pending in its write cache.
+    Tick,
     /// A command for the drive. Its data are put beside the line.
     Command {
         /// The command block.
@@ -67,6 +69,7 @@ enum Form {
     Fail,
     Wear,
     Cut,
+    Tick,
     Command,
 }
 
@@ -127,6 +130,7 @@ fn read_form(form: Form, rest: &[u8], payload: &mut Vec<u8>) -> Option<Line>
         Form::Fail => fail(rest),
         Form::Wear => wear(rest),
         Form::Cut => cut(rest),
+        Form::Tick => tick(rest),
         Form::Command => command(rest, payload),
     }
 }
@@ -148,6 +152,9 @@ fn form_named(word: &[u8]) -> Option<Form>
     }
     if word == b"cut".as_slice() {
         return Some(Form::Cut);
+    }
+    if word == b"tick".as_slice() {
+        return Some(Form::Tick);
     }
     if word == b"cdb".as_slice() {
         return Some(Form::Command);
@@ -207,6 +214,16 @@ fn cut(rest: &[u8]) -> Option<Line>
         Some(Line::Cut { n, fate })
     } else {
         None
+    }
+}
+
+#[tactic(auto, unfolding(crate::specs::ScriptReading::tick_of))]
+fn tick(rest: &[u8]) -> Option<Line>
+    ensures { result ≡ tick_of (words_of rest.now) }
+{
+    match next_word(rest) {
+        None => Some(Line::Tick),
+        Some(_) => None,
     }
 }
 

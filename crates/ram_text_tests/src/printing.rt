@@ -28,10 +28,28 @@ fn event_of(words: &str) -> Option<Event> {
         "no such block" => Some(Event::NoSuchBlock),
         "armed" => Some(Event::Armed),
         "full" => Some(Event::Full),
-        _ => Some(Event::Ready {
-            capacity: words.strip_prefix("ready ")?.parse().ok()?,
-        }),
+        "idle" => Some(Event::Idle),
+        "off" => Some(Event::Off),
+        "check 3/32/01" => Some(Event::NoUpdate),
+        _ => numbered_of(words),
     }
+}
+
+/// The event of these words, which end with a number.
+fn numbered_of(words: &str) -> Option<Event> {
+    if let Some(lba) = words.strip_prefix("written ") {
+        return Some(Event::Written {
+            lba: lba.parse().ok()?,
+        });
+    }
+    if let Some(lba) = words.strip_prefix("check 3/32/00 info ") {
+        return Some(Event::NoSpare {
+            lba: lba.parse().ok()?,
+        });
+    }
+    Some(Event::Ready {
+        capacity: words.strip_prefix("ready ")?.parse().ok()?,
+    })
 }
 
 /// The last line of this kind.

@@ -55,5 +55,12 @@ fn print_event_words<K: Sink>(
         Event::NoSuchBlock => writer.put(sink, b" no such block\n"),
         Event::Armed => writer.put(sink, b" armed\n"),
         Event::Full => writer.put(sink, b" full\n"),
+        Event::Idle => writer.put(sink, b" idle\n"),
+        Event::Written { lba } => print_counted(writer, sink, b" written ", *lba as u64),
+        Event::NoSpare { lba } => {
+            print_counted(writer, sink, b" check 3/32/00 info ", *lba as u64)
+        }
+        Event::NoUpdate => writer.put(sink, b" check 3/32/01\n"),
+        Event::Off => writer.put(sink, b" off\n"),
     }
 }

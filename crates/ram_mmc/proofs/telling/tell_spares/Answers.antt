@@ -6,4 +6,4 @@ use Rattle.ram_mmc.proofs.telling.tell_spares.Goals as goal
 pub returns-clause-given : goal.returns-clause-given
 returns-clause-given g c = c.reply.ensures.given
     ∙ ap (λ (whole : List ℕ). take c.args.allocation whole)
-    (c.spares_reply-whole.ensures ∙ counted_spares (g.D.Sectors.shows c.args.disc.now) c.counts-counts.result c.counts-counts.ensures)
+    (c.spares_reply-whole.ensures ∙ counted_spares (g.D.Caching.shows c.args.disc.now).drive c.counts-counts.result c.counts-counts.ensures)

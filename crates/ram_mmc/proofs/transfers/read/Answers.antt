@@ -15,7 +15,6 @@ returns-clause-rule g c = record {
   bytes = c.read-out.new.into;
   cause = c.read-out.ensures.cause;
   step = c.read-out.ensures.step;
-  quiet = c.read-out.ensures.quiet;
   answer_is = c.read_answer.ensures;
   data_is = elim c.if-not-matches.branch [
     | then-not-matches w ↦ elim c.match-matches.branch [ in-Good m ↦ search rules | in_default m ↦ search rules ]

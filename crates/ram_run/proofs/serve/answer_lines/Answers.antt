@@ -16,10 +16,10 @@ returns-in-Err-clause-counts g c =
 
 pub returns-clause-leaves : goal.returns-clause-leaves
 returns-clause-leaves g c first b =
-    leaves_by first (Stands g.D.Sectors g.D.Drive.lies_in g.D.Image.Image c.serve_lines-inserted.result.0) (g.D.Image.Image.bytes c.into_image.result) c.into_image.ensures.left
+    leaves_by first (Stands g.D.Caching g.D.Drive.lies_in g.D.Image.Image c.serve_lines-inserted.result.0) (g.D.Image.Image.bytes c.into_image.result) c.into_image.ensures.left
     (run_view g.S.Source g.K.Sink c.serve_lines-inserted.new.dialogue c.serve_lines-inserted.new.state.tally) c.serve_lines-inserted.result.1
     (c.serve_lines-inserted.ensures.ends first
-    (begins g.S.Source g.K.Sink first (Stands g.D.Sectors g.D.Drive.lies_in g.D.Image.Image c.in-Ok.inserted) c.args.dialogue.now c.args.state.now c.requires.fresh c.requires.empty b.left_is b.written_is
+    (begins g.S.Source g.K.Sink first (Stands g.D.Caching g.D.Drive.lies_in g.D.Image.Image c.in-Ok.inserted) c.args.dialogue.now c.args.state.now c.requires.fresh c.requires.empty b.left_is b.written_is
     (c.in-Ok.ensures.0 first.image b.image_is)))
 
 pub returns-clause-counts : goal.returns-clause-counts

@@ -13,13 +13,13 @@ pub returns-in-Err-clause-ends : goal.returns-in-Err-clause-ends
 returns-in-Err-clause-ends g c first b =
     let now = c.loop-stopped.invariant.between first b in
     let stops = c.in-Err.ensures.next first now.far now.at in
-    ends_between first (Stands g.D.Sectors g.D.Drive.lies_in g.D.Image.Image c.loop-stopped.inserted) now.far (run_view g.S.Source g.K.Sink c.take_line.new.dialogue c.take_line.new.state.tally) c.in-Err.stopped now.stands_now stops.0 stops.1
+    ends_between first (Stands g.D.Caching g.D.Drive.lies_in g.D.Image.Image c.loop-stopped.inserted) now.far (run_view g.S.Source g.K.Sink c.take_line.new.dialogue c.take_line.new.state.tally) c.in-Err.stopped now.stands_now stops.0 stops.1
 
 pub returns-in-Err-clause-counts : goal.returns-in-Err-clause-counts
 returns-in-Err-clause-counts g c =
-    why_counts (counts_with g.S.Source g.K.Sink c.args.dialogue.now (faults_of g.D.Sectors g.D.Image.Image c.args.inserted)) (counts_with g.S.Source g.K.Sink c.loop-stopped.dialogue (faults_of g.D.Sectors g.D.Image.Image c.loop-stopped.inserted))
-    (counts_with g.S.Source g.K.Sink c.take_line.new.dialogue (faults_of g.D.Sectors g.D.Image.Image c.loop-stopped.inserted))
-    c.in-Err.stopped c.loop-stopped.invariant.counts (c.in-Err.ensures.counts (faults_of g.D.Sectors g.D.Image.Image c.loop-stopped.inserted))
+    why_counts (counts_with g.S.Source g.K.Sink c.args.dialogue.now (faults_of g.D.Caching g.D.Image.Image c.args.inserted)) (counts_with g.S.Source g.K.Sink c.loop-stopped.dialogue (faults_of g.D.Caching g.D.Image.Image c.loop-stopped.inserted))
+    (counts_with g.S.Source g.K.Sink c.take_line.new.dialogue (faults_of g.D.Caching g.D.Image.Image c.loop-stopped.inserted))
+    c.in-Err.stopped c.loop-stopped.invariant.counts (c.in-Err.ensures.counts (faults_of g.D.Caching g.D.Image.Image c.loop-stopped.inserted))
 
 pub returns-in-Ok-None-clause-ends : goal.returns-in-Ok-None-clause-ends
 returns-in-Ok-None-clause-ends g c first b =
@@ -27,9 +27,9 @@ returns-in-Ok-None-clause-ends g c first b =
 
 pub returns-in-Ok-None-clause-counts : goal.returns-in-Ok-None-clause-counts
 returns-in-Ok-None-clause-counts g c =
-    none_rose (counts_with g.S.Source g.K.Sink c.args.dialogue.now (faults_of g.D.Sectors g.D.Image.Image c.args.inserted)) (counts_with g.S.Source g.K.Sink c.loop-stopped.dialogue (faults_of g.D.Sectors g.D.Image.Image c.loop-stopped.inserted))
-    (counts_with g.S.Source g.K.Sink c.take_line.new.dialogue (faults_of g.D.Sectors g.D.Image.Image c.loop-stopped.inserted))
-    c.loop-stopped.invariant.counts (rw c.in-Ok-None.is at (c.take_line.ensures.counts (faults_of g.D.Sectors g.D.Image.Image c.loop-stopped.inserted)))
+    none_rose (counts_with g.S.Source g.K.Sink c.args.dialogue.now (faults_of g.D.Caching g.D.Image.Image c.args.inserted)) (counts_with g.S.Source g.K.Sink c.loop-stopped.dialogue (faults_of g.D.Caching g.D.Image.Image c.loop-stopped.inserted))
+    (counts_with g.S.Source g.K.Sink c.take_line.new.dialogue (faults_of g.D.Caching g.D.Image.Image c.loop-stopped.inserted))
+    c.loop-stopped.invariant.counts (rw c.in-Ok-None.is at (c.take_line.ensures.counts (faults_of g.D.Caching g.D.Image.Image c.loop-stopped.inserted)))
 
 pub loop-stopped-preserved : goal.loop-stopped-preserved
 loop-stopped-preserved g c =
@@ -44,11 +44,11 @@ loop-stopped-preserved g c =
         room = c.answer_line.ensures.ends.room ∙ c.take_line.ensures.ends.room ∙ c.loop-stopped.invariant.same.room;
       };
       between = λ first b. let now = c.loop-stopped.invariant.between first b in c.in-Ok.ensures.turn first now.far now.stands_now (rw (c.in-Ok-Some.is, c.in-Ok-Some.field-0-is) at (c.take_line.ensures.next first now.far now.at));
-      counts = none_rose (counts_with g.S.Source g.K.Sink c.args.dialogue.now (faults_of g.D.Sectors g.D.Image.Image c.args.inserted)) (counts_with g.S.Source g.K.Sink c.take_line.new.dialogue (faults_of g.D.Sectors g.D.Image.Image c.loop-stopped.inserted))
-          (counts_with g.S.Source g.K.Sink c.answer_line.new.dialogue (faults_of g.D.Sectors g.D.Image.Image c.answer_line.new.inserted))
-          (none_rose (counts_with g.S.Source g.K.Sink c.args.dialogue.now (faults_of g.D.Sectors g.D.Image.Image c.args.inserted)) (counts_with g.S.Source g.K.Sink c.loop-stopped.dialogue (faults_of g.D.Sectors g.D.Image.Image c.loop-stopped.inserted))
-          (counts_with g.S.Source g.K.Sink c.take_line.new.dialogue (faults_of g.D.Sectors g.D.Image.Image c.loop-stopped.inserted))
-          c.loop-stopped.invariant.counts (rw c.in-Ok-Some.is at (c.take_line.ensures.counts (faults_of g.D.Sectors g.D.Image.Image c.loop-stopped.inserted)))) c.in-Ok.ensures.counts;
+      counts = none_rose (counts_with g.S.Source g.K.Sink c.args.dialogue.now (faults_of g.D.Caching g.D.Image.Image c.args.inserted)) (counts_with g.S.Source g.K.Sink c.take_line.new.dialogue (faults_of g.D.Caching g.D.Image.Image c.loop-stopped.inserted))
+          (counts_with g.S.Source g.K.Sink c.answer_line.new.dialogue (faults_of g.D.Caching g.D.Image.Image c.answer_line.new.inserted))
+          (none_rose (counts_with g.S.Source g.K.Sink c.args.dialogue.now (faults_of g.D.Caching g.D.Image.Image c.args.inserted)) (counts_with g.S.Source g.K.Sink c.loop-stopped.dialogue (faults_of g.D.Caching g.D.Image.Image c.loop-stopped.inserted))
+          (counts_with g.S.Source g.K.Sink c.take_line.new.dialogue (faults_of g.D.Caching g.D.Image.Image c.loop-stopped.inserted))
+          c.loop-stopped.invariant.counts (rw c.in-Ok-Some.is at (c.take_line.ensures.counts (faults_of g.D.Caching g.D.Image.Image c.loop-stopped.inserted)))) c.in-Ok.ensures.counts;
       room = c.answer_line.ensures.room;
       few = few_more c.loop-stopped.state.tally c.take_line.new.state.tally c.answer_line.new.state.tally (reading_of c.loop-stopped.dialogue).taken (reading_of c.take_line.new.dialogue).taken (reading_of c.answer_line.new.dialogue).taken c.loop-stopped.invariant.few takes.0 reader tally more;
       within = omega (arith, takes.1, reader);
@@ -61,12 +61,12 @@ returns-in-Err-answer_line-clause-ends g c first b =
 
 pub returns-in-Err-answer_line-clause-counts : goal.returns-in-Err-answer_line-clause-counts
 returns-in-Err-answer_line-clause-counts g c =
-    why_counts (counts_with g.S.Source g.K.Sink c.args.dialogue.now (faults_of g.D.Sectors g.D.Image.Image c.args.inserted)) (counts_with g.S.Source g.K.Sink c.take_line.new.dialogue (faults_of g.D.Sectors g.D.Image.Image c.loop-stopped.inserted))
-    (counts_with g.S.Source g.K.Sink c.answer_line.new.dialogue (faults_of g.D.Sectors g.D.Image.Image c.answer_line.new.inserted))
+    why_counts (counts_with g.S.Source g.K.Sink c.args.dialogue.now (faults_of g.D.Caching g.D.Image.Image c.args.inserted)) (counts_with g.S.Source g.K.Sink c.take_line.new.dialogue (faults_of g.D.Caching g.D.Image.Image c.loop-stopped.inserted))
+    (counts_with g.S.Source g.K.Sink c.answer_line.new.dialogue (faults_of g.D.Caching g.D.Image.Image c.answer_line.new.inserted))
     c.in-Err-answer_line.stopped
-    (none_rose (counts_with g.S.Source g.K.Sink c.args.dialogue.now (faults_of g.D.Sectors g.D.Image.Image c.args.inserted)) (counts_with g.S.Source g.K.Sink c.loop-stopped.dialogue (faults_of g.D.Sectors g.D.Image.Image c.loop-stopped.inserted))
-    (counts_with g.S.Source g.K.Sink c.take_line.new.dialogue (faults_of g.D.Sectors g.D.Image.Image c.loop-stopped.inserted))
-    c.loop-stopped.invariant.counts (rw c.in-Ok-Some.is at (c.take_line.ensures.counts (faults_of g.D.Sectors g.D.Image.Image c.loop-stopped.inserted)))) c.in-Err-answer_line.ensures.counts
+    (none_rose (counts_with g.S.Source g.K.Sink c.args.dialogue.now (faults_of g.D.Caching g.D.Image.Image c.args.inserted)) (counts_with g.S.Source g.K.Sink c.loop-stopped.dialogue (faults_of g.D.Caching g.D.Image.Image c.loop-stopped.inserted))
+    (counts_with g.S.Source g.K.Sink c.take_line.new.dialogue (faults_of g.D.Caching g.D.Image.Image c.loop-stopped.inserted))
+    c.loop-stopped.invariant.counts (rw c.in-Ok-Some.is at (c.take_line.ensures.counts (faults_of g.D.Caching g.D.Image.Image c.loop-stopped.inserted)))) c.in-Err-answer_line.ensures.counts
 
 pub returns-in-Err-answer_line-clause-few : goal.returns-in-Err-answer_line-clause-few
 returns-in-Err-answer_line-clause-few g c =

@@ -10,10 +10,10 @@ use Rattle.ram_run.proofs.serve.serve_lines.Given as goal
 abbrev pub invariant-loop-stopped : goal.invariant-loop-stopped
 invariant-loop-stopped g l = record {
   same : HasSameEnds l.fn.dialogue l.dialogue;
-  between : (first : Beginning) → Between first (Stands g.D.Sectors g.D.Drive.lies_in g.D.Image.Image l.fn.inserted) (run_view g.S.Source g.K.Sink l.fn.dialogue l.fn.state.tally)
-      → Between first (Stands g.D.Sectors g.D.Drive.lies_in g.D.Image.Image l.inserted) (run_view g.S.Source g.K.Sink l.dialogue l.state.tally);
-  counts : SameCounts (counts_with g.S.Source g.K.Sink l.fn.dialogue (faults_of g.D.Sectors g.D.Image.Image l.fn.inserted))
-      (counts_with g.S.Source g.K.Sink l.dialogue (faults_of g.D.Sectors g.D.Image.Image l.inserted));
+  between : (first : Beginning) → Between first (Stands g.D.Caching g.D.Drive.lies_in g.D.Image.Image l.fn.inserted) (run_view g.S.Source g.K.Sink l.fn.dialogue l.fn.state.tally)
+      → Between first (Stands g.D.Caching g.D.Drive.lies_in g.D.Image.Image l.inserted) (run_view g.S.Source g.K.Sink l.dialogue l.state.tally);
+  counts : SameCounts (counts_with g.S.Source g.K.Sink l.fn.dialogue (faults_of g.D.Caching g.D.Image.Image l.fn.inserted))
+      (counts_with g.S.Source g.K.Sink l.dialogue (faults_of g.D.Caching g.D.Image.Image l.inserted));
   room : HasRoom l.state;
   few : IsFewLines l.state.tally (reading_of l.dialogue).taken;
   within : (reading_of l.dialogue).taken ≤ 67108864;

@@ -9,3 +9,9 @@ returns-in-NotFormatted g c = rw c.in-NotFormatted.is c.put-in-NotFormatted.ensu
 
 pub returns-in-NoSuchBlock : goal.returns-in-NoSuchBlock
 returns-in-NoSuchBlock g c = rw c.in-NoSuchBlock.is c.put-in-NoSuchBlock.ensures
+
+pub returns-in-NoUpdate : goal.returns-in-NoUpdate
+returns-in-NoUpdate g c = rw c.in-NoUpdate.is c.put-in-NoUpdate.ensures
+
+pub returns-in-NoSpare : goal.returns-in-NoSpare
+returns-in-NoSpare g c = rw c.in-NoSpare.is c.print_counted-in-NoSpare.ensures

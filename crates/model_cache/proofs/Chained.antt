@@ -1,0 +1,239 @@
+-- What holds of each call of the disc, and of one after another, holds of each call of a drive with a write cache.
+use Rattle.std.specs.Prelude.{◌≡◌, ℕ, zero, suc, ◌+◌, ◌*◌, ◌⊎◌, Bool, true, false, MatchBool, Option, Some, None, List, [], ◌∷◌}
+use Rattle.std.proofs.Common.{sym, inl, inr, subst}
+use Rattle.model_buffer.specs.Buffer.{bytes_at}
+use Rattle.model_sectors.specs.Requests.{block_with, blocks_covered, is_partly}
+use Rattle.model_sectors.specs.declared.ReadOut.{ReadOut}
+use Rattle.model_sectors.specs.declared.ReadOut.TheVariants as reads
+use Rattle.model_drive.specs.declared.WriteOut.{WriteOut}
+use Rattle.model_drive.specs.declared.WriteOut.TheVariants as writes
+use Rattle.model_drive.specs.Shown.{Shown}
+use Rattle.model_drive.specs.Reads.{ReadCause}
+use Rattle.model_drive.specs.Writes.{WriteCause}
+use Rattle.model_cache.specs.declared.SyncOut.{SyncOut}
+use Rattle.model_cache.specs.declared.SyncOut.TheVariants as syncs
+use Rattle.model_cache.specs.declared.TickOut.{TickOut}
+use Rattle.model_cache.specs.declared.TickOut.TheVariants as ticks
+use Rattle.model_cache.specs.Shown.{CacheShown, dropped, pending_in, pending_covered, goes_into_cache}
+use Rattle.model_cache.specs.Chains.{LeavesSound, WritesBack, FlushesAll, EndsFlushing}
+use Rattle.model_cache.specs.Causes.{ReadsPart, ReadsParts, EndsReading, ReadPartsCause, CacheReadBy, CacheReadCause, WritesThrough, StopsWritingThrough, ThroughCauseOf, ThroughCause, leaving, ReadsRest, ReadsRests, GoesIntoCache, EndsRest, LacksRestInCache, CachedCauseOf, CachedCause, CacheWriteCause, SyncCauseOf, SyncCause, TickCauseOf, TickCause}
+
+-- whether what the medium lies on failed
+abbrev pub read_faulted : ReadOut → Bool
+read_faulted reads.Fault = true
+read_faulted _ = false
+
+abbrev pub write_faulted : WriteOut → Bool
+write_faulted writes.Fault = true
+write_faulted _ = false
+
+abbrev pub sync_faulted : SyncOut → Bool
+sync_faulted syncs.Fault = true
+sync_faulted _ = false
+
+abbrev pub tick_faulted : TickOut → Bool
+tick_faulted ticks.Fault = true
+tick_faulted _ = false
+
+-- It holds of no call, of one call after others of which none failed so, and of each read and each write of the disc.
+pub record HoldsOfChains (P : (faulted : Bool) → Shown → Shown → Type 0) : Type 0 where
+  pub none : (s : Shown) → P false s s
+  pub join : (faulted : Bool) (a b c : Shown) → P false a b → P faulted b c → P faulted a c
+  pub read : (a b : Shown) (lba n : ℕ) (out : ReadOut) → LeavesSound a b → ReadCause a b lba n out → P (read_faulted out) a b
+  pub write : (a b : Shown) (lba n : ℕ) (out : WriteOut) → LeavesSound a b → WriteCause a b lba n out → P (write_faulted out) a b
+
+module _ (P : (faulted : Bool) → Shown → Shown → Type 0) (holds : HoldsOfChains P) where
+  -- the disc is as it was
+  same : (old new : CacheShown) → new ≡ old → P false old.drive new.drive
+  same old new is = subst (λ (s : CacheShown). P false old.drive s.drive) (sym is) (holds.none old.drive)
+
+  same_but : (old new : CacheShown) → new ≡ dropped old → P false old.drive new.drive
+  same_but old new is = subst (λ (s : CacheShown). P false old.drive s.drive) (sym is) (holds.none old.drive)
+
+  -- ---- flushes
+
+  pub flushed : (due : List ℕ) (old new : CacheShown) → FlushesAll old due new → P false old.drive new.drive
+  flushed [] old new is = same old new is
+  flushed (i ∷ due) old new is =
+      holds.join false old.drive is.0.drive new.drive (holds.write old.drive is.0.drive (16 * i) 16 writes.Good is.1.back.leaves is.1.back.wrote) (flushed due is.0 new is.2)
+
+  ended : (due : List ℕ) (old new : CacheShown) (out : WriteOut) → EndsFlushing old new due out → P (write_faulted out) old.drive new.drive
+  ended due old new out p =
+      holds.join (write_faulted out) old.drive p.mid.drive new.drive (flushed p.done old p.mid p.flushed) (holds.write p.mid.drive new.drive (16 * p.block) 16 out p.ends.leaves p.ends.wrote)
+
+  -- ---- a read
+
+  module _ (lba n : ℕ) where
+    part : (k : ℕ) (old new : CacheShown) (held : Option (List ℕ)) (out : ReadOut) → ReadsPart old new lba n k held out → P (read_faulted out) old.drive new.drive
+    part k old new (Some bytes) out p = subst (λ (o : ReadOut). P (read_faulted o) old.drive new.drive) (sym p.0) (same old new p.1)
+    part k old new None out p = holds.read old.drive new.drive _ _ out p.0.leaves p.0.cause
+
+    parts : (k : ℕ) (old new : CacheShown) → ReadsParts old new lba n k → P false old.drive new.drive
+    parts zero old new is = same old new is
+    parts (suc k) old new is =
+        holds.join false old.drive is.0.drive new.drive (parts k old is.0 is.1) (part k is.0 new (bytes_at (block_with lba + k) old.pending) reads.Good is.2)
+
+    ended_reading : (old new : CacheShown) (out : ReadOut) → EndsReading old new lba n out → P (read_faulted out) old.drive new.drive
+    ended_reading old new out p =
+        holds.join (read_faulted out) old.drive p.mid.drive new.drive (parts p.before old p.mid p.parts) (part p.before p.mid new None out p.ends)
+
+    parts_cause : (old new : CacheShown) (out : ReadOut) → ReadPartsCause old new lba n out → P (read_faulted out) old.drive new.drive
+    parts_cause old new reads.Good p = parts (blocks_covered lba n) old new p.1
+    parts_cause old new reads.NotFormatted p = absurd p
+    parts_cause old new (reads.Range known) p = same_but old new p.nothing
+    parts_cause old new (reads.Unread named block) p = ended_reading old new (reads.Unread named block) p
+    parts_cause old new reads.Cut p = ended_reading old new reads.Cut p
+    parts_cause old new reads.Off p = absurd p
+    parts_cause old new reads.Fault p = ended_reading old new reads.Fault p
+
+    read_by : (pending : List (ℕ × List ℕ)) (old new : CacheShown) (out : ReadOut) → CacheReadBy pending old new lba n out → P (read_faulted out) old.drive new.drive
+    read_by [] old new out p = holds.read old.drive new.drive lba n out p.0.leaves p.0.cause
+    read_by (held ∷ pending) old new out p = parts_cause old new out p
+
+    pub of_read : (old new : CacheShown) (out : ReadOut) → CacheReadCause old new lba n out → P (read_faulted out) old.drive new.drive
+    of_read old new reads.Good p = read_by (dropped old).pending (dropped old) new reads.Good p
+    of_read old new reads.NotFormatted p = read_by (dropped old).pending (dropped old) new reads.NotFormatted p
+    of_read old new (reads.Range known) p = read_by (dropped old).pending (dropped old) new (reads.Range known) p
+    of_read old new (reads.Unread named block) p = read_by (dropped old).pending (dropped old) new (reads.Unread named block) p
+    of_read old new reads.Cut p = read_by (dropped old).pending (dropped old) new reads.Cut p
+    of_read old new reads.Off p = same old new p.nothing
+    of_read old new reads.Fault p = read_by (dropped old).pending (dropped old) new reads.Fault p
+
+    -- ---- a write through the cache
+
+    through : (old new : CacheShown) (out : WriteOut) → WritesThrough old new lba n out → P (write_faulted out) old.drive new.drive
+    through old new out p =
+        holds.join (write_faulted out) old.drive p.mid.drive new.drive (flushed (pending_covered true old lba n) old p.mid p.flushed) (holds.write p.mid.drive new.drive lba n out p.leaves p.wrote)
+
+    stopped_through : (old new : CacheShown) (out : WriteOut) → StopsWritingThrough old new lba n out → P (write_faulted out) old.drive new.drive
+    stopped_through old new out (inside, inl ends) = ended (pending_covered true old lba n) old new out ends
+    stopped_through old new out (inside, inr wrote) = through old new out wrote
+
+    through_of : (old new : CacheShown) (out : WriteOut) → ThroughCauseOf old new lba n out → P (write_faulted out) old.drive new.drive
+    through_of old new writes.Good p = through old new writes.Good p.1
+    through_of old new writes.NotFormatted p = absurd p
+    through_of old new (writes.Range known) p = same_but old new p.nothing
+    through_of old new (writes.Unread named block) p = through old new (writes.Unread named block) p.1
+    through_of old new (writes.NoSpare named) p = stopped_through old new (writes.NoSpare named) p
+    through_of old new (writes.NoUpdate counter) p = stopped_through old new (writes.NoUpdate counter) p
+    through_of old new writes.Cut p = stopped_through old new writes.Cut p
+    through_of old new writes.Off p = absurd p
+    through_of old new writes.Fault p = stopped_through old new writes.Fault p
+
+    pub of_through : (old new : CacheShown) (out : WriteOut) → ThroughCause old new lba n out → P (write_faulted out) old.drive new.drive
+    of_through old new writes.Good p = through_of (dropped old) new writes.Good p
+    of_through old new writes.NotFormatted p = same_but old new p.nothing
+    of_through old new (writes.Range known) p = through_of (dropped old) new (writes.Range known) p
+    of_through old new (writes.Unread named block) p = through_of (dropped old) new (writes.Unread named block) p
+    of_through old new (writes.NoSpare named) p = through_of (dropped old) new (writes.NoSpare named) p
+    of_through old new (writes.NoUpdate counter) p = through_of (dropped old) new (writes.NoUpdate counter) p
+    of_through old new writes.Cut p = through_of (dropped old) new writes.Cut p
+    of_through old new writes.Off p = same old new p.nothing
+    of_through old new writes.Fault p = through_of (dropped old) new writes.Fault p
+
+    -- ---- a write into the cache
+
+    rest : (k : ℕ) (old new : CacheShown) (partly : Bool) (held : Option (List ℕ)) → ReadsRest old new lba n k partly held → P false old.drive new.drive
+    rest k old new true None p = holds.read old.drive new.drive (16 * (block_with lba + k)) 16 reads.Good p.0.leaves p.0.cause
+    rest k old new true (Some bytes) p = same old new p
+    rest k old new false held p = same old new p
+
+    rests : (k : ℕ) (old new : CacheShown) → ReadsRests old new lba n k → P false old.drive new.drive
+    rests zero old new is = same old new is
+    rests (suc k) old new is =
+        holds.join false old.drive is.0.drive new.drive (rests k old is.0 is.1)
+        (rest k is.0 new (is_partly lba n (block_with lba + k)) (bytes_at (block_with lba + k) is.0.pending) is.2)
+
+    told : (k : ℕ) (a b : Shown) (read_out : ReadOut) (out : WriteOut) → EndsRest lba n k read_out out → P (read_faulted read_out) a b → P (write_faulted out) a b
+    told k a b reads.Good out tells p = absurd tells
+    told k a b reads.NotFormatted out tells p = absurd tells
+    told k a b (reads.Range known) out tells p = absurd tells
+    told k a b (reads.Unread named block) out tells p = subst (λ (o : WriteOut). P (write_faulted o) a b) (sym tells) p
+    told k a b reads.Cut out tells p = subst (λ (o : WriteOut). P (write_faulted o) a b) (sym tells) p
+    told k a b reads.Off out tells p = absurd tells
+    told k a b reads.Fault out tells p = subst (λ (o : WriteOut). P (write_faulted o) a b) (sym tells) p
+
+    lacking : (old new : CacheShown) (out : WriteOut) → LacksRestInCache old new lba n out → P (write_faulted out) old.drive new.drive
+    lacking old new out p =
+        holds.join (write_faulted out) old.drive p.mid.drive new.drive (flushed (leaving old lba n) old p.mid p.flushed)
+        (holds.join (write_faulted out) p.mid.drive p.late.drive new.drive (rests p.before p.mid p.late p.rests)
+        (told p.before p.late.drive new.drive p.read_out out p.tells (holds.read p.late.drive new.drive (16 * (block_with lba + p.before)) 16 p.read_out p.ends.leaves p.ends.cause)))
+
+    went_in : (bytes : List ℕ) (old new : CacheShown) → GoesIntoCache old new lba n bytes → P false old.drive new.drive
+    went_in bytes old new p =
+        holds.join false old.drive p.mid.drive new.drive (flushed (leaving old lba n) old p.mid p.flushed)
+        (subst (P false p.mid.drive) (sym p.comes.same_drive) (rests (blocks_covered lba n) p.mid p.late p.rests))
+
+    stopped_cached : (old new : CacheShown) (out : WriteOut) → EndsFlushing old new (leaving old lba n) out ⊎ LacksRestInCache old new lba n out → P (write_faulted out) old.drive new.drive
+    stopped_cached old new out (inl ends) = ended (leaving old lba n) old new out ends
+    stopped_cached old new out (inr lacks) = lacking old new out lacks
+
+    cached_of : (bytes : List ℕ) (old new : CacheShown) (out : WriteOut) → CachedCauseOf old new lba n bytes out → P (write_faulted out) old.drive new.drive
+    cached_of bytes old new writes.Good p = went_in bytes old new p
+    cached_of bytes old new writes.NotFormatted p = absurd p
+    cached_of bytes old new (writes.Range known) p = same_but old new p.nothing
+    cached_of bytes old new (writes.Unread named block) p = lacking old new (writes.Unread named block) p.1
+    cached_of bytes old new (writes.NoSpare named) p = ended (leaving old lba n) old new (writes.NoSpare named) p.1
+    cached_of bytes old new (writes.NoUpdate counter) p = ended (leaving old lba n) old new (writes.NoUpdate counter) p.1
+    cached_of bytes old new writes.Cut p = stopped_cached old new writes.Cut p.1
+    cached_of bytes old new writes.Off p = absurd p
+    cached_of bytes old new writes.Fault p = stopped_cached old new writes.Fault p.1
+
+    of_cached : (bytes : List ℕ) (old new : CacheShown) (out : WriteOut) → CachedCause old new lba n bytes out → P (write_faulted out) old.drive new.drive
+    of_cached bytes old new writes.Good p = cached_of bytes (dropped old) new writes.Good p
+    of_cached bytes old new writes.NotFormatted p = same_but old new p.nothing
+    of_cached bytes old new (writes.Range known) p = cached_of bytes (dropped old) new (writes.Range known) p
+    of_cached bytes old new (writes.Unread named block) p = cached_of bytes (dropped old) new (writes.Unread named block) p
+    of_cached bytes old new (writes.NoSpare named) p = cached_of bytes (dropped old) new (writes.NoSpare named) p
+    of_cached bytes old new (writes.NoUpdate counter) p = cached_of bytes (dropped old) new (writes.NoUpdate counter) p
+    of_cached bytes old new writes.Cut p = cached_of bytes (dropped old) new writes.Cut p
+    of_cached bytes old new writes.Off p = same old new p.nothing
+    of_cached bytes old new writes.Fault p = cached_of bytes (dropped old) new writes.Fault p
+
+    write_by : (into_cache : Bool) (bytes : List ℕ) (old new : CacheShown) (out : WriteOut) → MatchBool into_cache (CachedCause old new lba n bytes out) (ThroughCause old new lba n out) → P (write_faulted out) old.drive new.drive
+    write_by true bytes old new out p = of_cached bytes old new out p
+    write_by false bytes old new out p = of_through old new out p
+
+    pub of_write : (bytes : List ℕ) (old new : CacheShown) (out : WriteOut) → CacheWriteCause old new lba n bytes out → P (write_faulted out) old.drive new.drive
+    of_write bytes old new out p = write_by (goes_into_cache old lba n) bytes old new out p
+
+  -- ---- a synchronisation, and the write of the oldest pending block
+
+  sync_of : (old new : CacheShown) (out : SyncOut) → SyncCauseOf old new out → P (sync_faulted out) old.drive new.drive
+  sync_of old new syncs.Good p = flushed (pending_in old) old new p.flushed
+  sync_of old new syncs.NotFormatted p = absurd p
+  sync_of old new (syncs.NoSpare lba) p = ended (pending_in old) old new (writes.NoSpare lba) p.ends
+  sync_of old new (syncs.NoUpdate counter) p = ended (pending_in old) old new (writes.NoUpdate counter) p.ends
+  sync_of old new syncs.Cut p = ended (pending_in old) old new writes.Cut p.ends
+  sync_of old new syncs.Off p = absurd p
+  sync_of old new syncs.Fault p = ended (pending_in old) old new writes.Fault p.ends
+
+  pub of_sync : (old new : CacheShown) (out : SyncOut) → SyncCause old new out → P (sync_faulted out) old.drive new.drive
+  of_sync old new syncs.Good p = sync_of (dropped old) new syncs.Good p
+  of_sync old new syncs.NotFormatted p = same_but old new p.nothing
+  of_sync old new (syncs.NoSpare lba) p = sync_of (dropped old) new (syncs.NoSpare lba) p
+  of_sync old new (syncs.NoUpdate counter) p = sync_of (dropped old) new (syncs.NoUpdate counter) p
+  of_sync old new syncs.Cut p = sync_of (dropped old) new syncs.Cut p
+  of_sync old new syncs.Off p = same old new p.nothing
+  of_sync old new syncs.Fault p = sync_of (dropped old) new syncs.Fault p
+
+  written_back : (i : ℕ) (old new : CacheShown) (out : WriteOut) → WritesBack old new i out → P (write_faulted out) old.drive new.drive
+  written_back i old new out p = holds.write old.drive new.drive (16 * i) 16 out p.leaves p.wrote
+
+  tick_of : (old new : CacheShown) (out : TickOut) → TickCauseOf old new out → P (tick_faulted out) old.drive new.drive
+  tick_of old new ticks.Idle p = same old new p.nothing
+  tick_of old new (ticks.Written lba) p = written_back p.block old new writes.Good p.flushed.back
+  tick_of old new (ticks.NoSpare lba) p = written_back p.block old new (writes.NoSpare lba) p.ends
+  tick_of old new (ticks.NoUpdate counter) p = written_back p.block old new (writes.NoUpdate counter) p.ends
+  tick_of old new ticks.Cut p = written_back p.block old new writes.Cut p.ends
+  tick_of old new ticks.Off p = absurd p
+  tick_of old new ticks.Fault p = written_back p.block old new writes.Fault p.ends
+
+  pub of_tick : (old new : CacheShown) (out : TickOut) → TickCause old new out → P (tick_faulted out) old.drive new.drive
+  of_tick old new ticks.Idle p = tick_of (dropped old) new ticks.Idle p
+  of_tick old new (ticks.Written lba) p = tick_of (dropped old) new (ticks.Written lba) p
+  of_tick old new (ticks.NoSpare lba) p = tick_of (dropped old) new (ticks.NoSpare lba) p
+  of_tick old new (ticks.NoUpdate counter) p = tick_of (dropped old) new (ticks.NoUpdate counter) p
+  of_tick old new ticks.Cut p = tick_of (dropped old) new ticks.Cut p
+  of_tick old new ticks.Off p = same old new p.nothing
+  of_tick old new ticks.Fault p = tick_of (dropped old) new ticks.Fault p

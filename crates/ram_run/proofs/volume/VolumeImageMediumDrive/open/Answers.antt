@@ -1,6 +1,0 @@
-use Rattle.ram_volume.specs.Drives.{shown_by, medium_by}
-use Rattle.ram_run.proofs.Opens.{opens}
-use Rattle.ram_run.proofs.volume.VolumeImageMediumDrive.open.Goals as goal
-
-pub returns-in-Ok : goal.returns-in-Ok
-returns-in-Ok g c = opens c.args.image c.in-Ok.medium c.in-Ok.geometry c.in-Ok.ensures (shown_by c.new.result) c.new.ensures.shown (medium_by c.new.result) c.new.ensures.medium
