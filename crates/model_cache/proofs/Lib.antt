@@ -4,3 +4,4 @@ pub mod Members
 pub mod ReplacedBlocks
 pub mod Falls
 pub mod OneProof
+pub mod Standing
