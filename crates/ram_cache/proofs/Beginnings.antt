@@ -17,6 +17,7 @@ use Rattle.model_cache.specs.declared.TickOut.TheVariants as ticks
 use Rattle.model_cache.specs.Values.{Values, Contents, Has, MayHave, IsPending, IsUnder, AreTaken, StandsCached}
 use Rattle.model_cache.specs.Shown.{CacheShown, pending_below, dropped}
 use Rattle.model_cache.specs.Steps.{ReadContents, SyncContents, TickContents}
+use Rattle.model_cache.specs.Chains.{ReadsDisc}
 use Rattle.model_cache.specs.Causes.{CacheReadCause, CacheReadBy, CacheOutOfRange, SyncCause, SyncCauseOf, TickCause, TickCauseOf}
 use Rattle.model_cache.proofs.Members.{Contains-none}
 use Rattle.model_cache.proofs.SameBlocks.{same_blocks}
@@ -67,16 +68,16 @@ plain_read before after p lba n into out none step s so =
     subst (λ (l : List (ℕ × List ℕ)). ReadContents (StandsCached after l) s lba n into out) (sym none)
     (plain_both before after lba n into out step s (subst (λ (l : List (ℕ × List ℕ)). StandsCached before l s) none so))
 
-by_nothing : (old new : Shown) (caches : Bool) (lba n : ℕ) (out : ReadOut) → ReadCause old new lba n out → CacheReadCause (cache_of old [] caches) (cache_of new [] caches) lba n out
+by_nothing : (old new : Shown) (caches : Bool) (lba n : ℕ) (out : ReadOut) → ReadsDisc old new lba n out → CacheReadCause (cache_of old [] caches) (cache_of new [] caches) lba n out
 by_nothing old new caches lba n reads.Good cause = (cause, (refl, refl))
 by_nothing old new caches lba n reads.NotFormatted cause = (cause, (refl, refl))
 by_nothing old new caches lba n (reads.Range known) cause = (cause, (refl, refl))
 by_nothing old new caches lba n (reads.Unread named home) cause = (cause, (refl, refl))
 by_nothing old new caches lba n reads.Cut cause = (cause, (refl, refl))
-by_nothing old new caches lba n reads.Off cause = record { off = cause.off; nothing = ap (λ (s : Shown). cache_of s [] caches) cause.nothing }
+by_nothing old new caches lba n reads.Off cause = record { off = cause.cause.off; nothing = ap (λ (s : Shown). cache_of s [] caches) cause.cause.nothing }
 by_nothing old new caches lba n reads.Fault cause = (cause, (refl, refl))
 
-pub plain_read_cause : (old new : Shown) (p : List (ℕ × List ℕ)) (caches : Bool) (lba n : ℕ) (out : ReadOut) → p ≡ [] → ReadCause old new lba n out
+pub plain_read_cause : (old new : Shown) (p : List (ℕ × List ℕ)) (caches : Bool) (lba n : ℕ) (out : ReadOut) → p ≡ [] → ReadsDisc old new lba n out
     → CacheReadCause (cache_of old p caches) (cache_of new p caches) lba n out
 plain_read_cause old new p caches lba n out none cause =
     subst (λ (l : List (ℕ × List ℕ)). CacheReadCause (cache_of old l caches) (cache_of new l caches) lba n out) (sym none) (by_nothing old new caches lba n out cause)

@@ -83,7 +83,8 @@ pub back : (mid new : CacheShown) (k : ℕ) (out : WriteOut) → k < length mid.
 back mid new k out within (wrote, left, mode) = record {
   bytes = (held_at mid.pending k).1;
   was_pending = Contains-held mid.pending k within;
-  wrote = wrote;
+  wrote = wrote.0;
+  leaves = wrote.1;
   same_mode = mode;
 }
 
@@ -109,7 +110,7 @@ module _ (start : CacheShown) (among : Bool) (first count : ℕ) (before : Conte
         → ((s : Contents) → amid s → FlushContents after s writes.Good) → FlushedSoFar start new among first count (turns + 1) before after
     flushed_more apart flushes same step =
         let i : ℕ = (held_at mid.pending k).0 in
-        let same_blocks = good_count mid.drive new.drive (16 * i) 16 (flushes.0) same in
+        let same_blocks = good_count mid.drive new.drive (16 * i) 16 (flushes.0.0) same in
         let many = far.many in
         record {
           done = far.done ++ i ∷ [];
@@ -121,8 +122,8 @@ module _ (start : CacheShown) (among : Bool) (first count : ℕ) (before : Conte
             left = flushes.1 ∙ sym (but_removed mid.pending k apart (is_first.0));
           });
           can = record {
-            on = flushes.0.ends.ends.is_on;
-            formatted = good_formatted mid.drive new.drive i (flushes.0);
+            on = flushes.0.0.ends.ends.is_on;
+            formatted = good_formatted mid.drive new.drive i (flushes.0.0);
             inside = subst (λ (l : List (ℕ × List ℕ)). All (λ (x : ℕ × List ℕ). x.0 < block_count new.drive) l) (sym (flushes.1))
                 (subst (λ (n : ℕ). All (λ (x : ℕ × List ℕ). x.0 < n) (remove mid.pending k)) (sym same_blocks)
                 (All-removed (λ (x : ℕ × List ℕ). x.0 < block_count mid.drive) mid.pending k far.can.inside));
@@ -165,14 +166,14 @@ module _ (start : CacheShown) (among : Bool) (first count : ℕ) (before : Conte
 
       pub refused : (out : WriteOut) → FlushesAt mid new k out → out ≢ writes.Good → FlushesDue start new among first count most out
       refused writes.Good flushes not_good = absurd (not_good refl)
-      refused writes.NotFormatted flushes not_good = flushes.0.unformatted far.can.formatted
-      refused (writes.Range known) flushes not_good = let past = flushes.0.past in let here = inside in absurd (omega (arith, here, past))
+      refused writes.NotFormatted flushes not_good = flushes.0.0.unformatted far.can.formatted
+      refused (writes.Range known) flushes not_good = let past = flushes.0.0.past in let here = inside in absurd (omega (arith, here, past))
       refused (writes.Unread named block) flushes not_good =
-          not_partly ((held_at mid.pending k).0) (length flushes.0.course) (buffered mid.drive) flushes.0.is_named.covered flushes.0.partly
+          not_partly ((held_at mid.pending k).0) (length flushes.0.0.course) (buffered mid.drive) flushes.0.0.is_named.covered flushes.0.0.partly
       refused (writes.NoSpare named) flushes not_good = ends (writes.NoSpare named) flushes not_good refl
       refused (writes.NoUpdate counter) flushes not_good = ends (writes.NoUpdate counter) flushes not_good refl
       refused writes.Cut flushes not_good = ends writes.Cut flushes not_good refl
-      refused writes.Off flushes not_good = flushes.0.off far.can.on
+      refused writes.Off flushes not_good = flushes.0.0.off far.can.on
       refused writes.Fault flushes not_good = ends writes.Fault flushes not_good refl
 
   module _ (now : CacheShown) (anow : Contents → Type 0) (turns most : ℕ) (far : FlushedSoFar start now among first count turns before anow) (within : turns ≤ most) where

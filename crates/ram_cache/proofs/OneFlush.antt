@@ -16,6 +16,7 @@ use Rattle.model_drive.specs.declared.WriteOut.{WriteOut}
 use Rattle.model_drive.specs.declared.WriteOut.TheVariants as writes
 use Rattle.model_drive.specs.Shown.{Shown, IsOn, StandsFor, StandsBy, block_count, cells_in, buffered}
 use Rattle.model_drive.specs.Writes.{WriteCause, WriteStep, StopsInBlock}
+use Rattle.model_cache.specs.Chains.{LeavesSound}
 use Rattle.model_cache.specs.Values.{Values, Contents, Has, MayHave, HasValue, IsTaken, IsPending, IsUnder, StandsCached}
 use Rattle.model_cache.specs.Falling.{LiesIn}
 use Rattle.model_cache.specs.Shown.{AreApart, pending_but}
@@ -204,6 +205,6 @@ pub left_stopped : (out : WriteOut) (k : ℕ) (p : List (ℕ × List ℕ)) → (
 left_stopped out k p (inl e) = ap (λ o. left_at o k p) (sym e)
 left_stopped out k p (inr e) = ap (λ o. left_at o k p) (sym e)
 
-pub flush_rule : (old new : Shown) (p : List (ℕ × List ℕ)) (k number : ℕ) (out : WriteOut) → number ≡ (held_at p k).0 → WriteCause old new (16 * number) 16 out
-    → WriteCause old new (16 * (held_at p k).0) 16 out
-flush_rule old new p k number out is cause = subst (λ (n : ℕ). WriteCause old new (16 * n) 16 out) is cause
+pub flush_rule : (old new : Shown) (p : List (ℕ × List ℕ)) (k number : ℕ) (out : WriteOut) → number ≡ (held_at p k).0 → LeavesSound old new → WriteCause old new (16 * number) 16 out
+    → WriteCause old new (16 * (held_at p k).0) 16 out × LeavesSound old new
+flush_rule old new p k number out is leaves cause = (subst (λ (n : ℕ). WriteCause old new (16 * n) 16 out) is cause, leaves)

@@ -12,7 +12,7 @@ use Rattle.model_drive.specs.Writes.{WriteCause, WriteStep}
 use Rattle.model_cache.specs.declared.TheConstants.{CACHED_BLOCKS}
 use Rattle.model_cache.specs.Values.{Values, Contents, Has, MayHave, IsUnder, StandsCached}
 use Rattle.model_cache.specs.Shown.{CacheShown, goes_into_cache}
-use Rattle.model_cache.specs.Chains.{leaves_pending}
+use Rattle.model_cache.specs.Chains.{LeavesSound, leaves_pending}
 use Rattle.model_cache.specs.Steps.{ThroughContents, CachedContents}
 use Rattle.model_cache.specs.Causes.{ThroughCause, CachedCause, WritesThrough}
 use Rattle.ram_cache.specs.Caches.{cache_of}
@@ -27,8 +27,8 @@ module _ (old new : Shown) (caches : Bool) (lba n : ℕ) where
   abbrev now : CacheShown
   now = cache_of new [] caches
 
-  direct : (out : WriteOut) → WriteCause old new lba n out → WritesThrough start now lba n out
-  direct out wrote = record { mid = start; flushed = refl; wrote = wrote; left = none_left out; same_mode = refl }
+  direct : LeavesSound old new → (out : WriteOut) → WriteCause old new lba n out → WritesThrough start now lba n out
+  direct leaves out wrote = record { mid = start; flushed = refl; wrote = wrote; leaves = leaves; left = none_left out; same_mode = refl }
     where
       none_left : (out : WriteOut) → now.pending ≡ leaves_pending out start.pending
       none_left writes.Good = refl
@@ -41,16 +41,16 @@ module _ (old new : Shown) (caches : Bool) (lba n : ℕ) where
       none_left writes.Off = refl
       none_left writes.Fault = refl
 
-  by_nothing : (out : WriteOut) → WriteCause old new lba n out → ThroughCause start now lba n out
-  by_nothing writes.Good wrote = direct writes.Good wrote
-  by_nothing writes.NotFormatted wrote = record { on = wrote.on; unformatted = wrote.unformatted; nothing = ap (λ (s : Shown). cache_of s [] caches) wrote.nothing }
-  by_nothing (writes.Range known) wrote = record { past = wrote; nothing = ap (λ (s : Shown). cache_of s [] caches) wrote.nothing }
-  by_nothing (writes.Unread named home) wrote = (wrote.ends.wrote.inside, direct (writes.Unread named home) wrote)
-  by_nothing (writes.NoSpare named) wrote = (wrote.ends.wrote.inside, inr (direct (writes.NoSpare named) wrote))
-  by_nothing (writes.NoUpdate counter) wrote = (wrote.ends.wrote.inside, inr (direct (writes.NoUpdate counter) wrote))
-  by_nothing writes.Cut wrote = (wrote.wrote.inside, inr (direct writes.Cut wrote))
-  by_nothing writes.Off wrote = record { off = wrote.off; nothing = ap (λ (s : Shown). cache_of s [] caches) wrote.nothing }
-  by_nothing writes.Fault wrote = (wrote.wrote.inside, inr (direct writes.Fault wrote))
+  by_nothing : LeavesSound old new → (out : WriteOut) → WriteCause old new lba n out → ThroughCause start now lba n out
+  by_nothing leaves writes.Good wrote = (wrote.ends.wrote.inside, direct leaves writes.Good wrote)
+  by_nothing leaves writes.NotFormatted wrote = record { on = wrote.on; unformatted = wrote.unformatted; nothing = ap (λ (s : Shown). cache_of s [] caches) wrote.nothing }
+  by_nothing leaves (writes.Range known) wrote = record { past = wrote; nothing = ap (λ (s : Shown). cache_of s [] caches) wrote.nothing }
+  by_nothing leaves (writes.Unread named home) wrote = (wrote.ends.wrote.inside, direct leaves (writes.Unread named home) wrote)
+  by_nothing leaves (writes.NoSpare named) wrote = (wrote.ends.wrote.inside, inr (direct leaves (writes.NoSpare named) wrote))
+  by_nothing leaves (writes.NoUpdate counter) wrote = (wrote.ends.wrote.inside, inr (direct leaves (writes.NoUpdate counter) wrote))
+  by_nothing leaves writes.Cut wrote = (wrote.wrote.inside, inr (direct leaves writes.Cut wrote))
+  by_nothing leaves writes.Off wrote = record { off = wrote.off; nothing = ap (λ (s : Shown). cache_of s [] caches) wrote.nothing }
+  by_nothing leaves writes.Fault wrote = (wrote.wrote.inside, inr (direct leaves writes.Fault wrote))
 
   module _ (before after : Standing → Type 0) (shown : (s : Standing) → before s → StandsFor old s) (bytes : List ℕ) (whole : length bytes ≡ 2048 * n) where
     can : IsInRange old lba n → CanFlush start
@@ -83,10 +83,10 @@ module _ (old new : Shown) (caches : Bool) (lba n : ℕ) where
     plainly (MayHave all) writes.Off wrote step (ds, so, taken) = (ds, step (Off ds) so, taken)
     plainly s writes.Fault wrote step so = in_range wrote.wrote.inside s writes.Fault wrote step refl so
 
-pub plain_write_cause : (old new : Shown) (p : List (ℕ × List ℕ)) (caches : Bool) (lba n : ℕ) (out : WriteOut) → p ≡ [] → WriteCause old new lba n out
+pub plain_write_cause : (old new : Shown) (p : List (ℕ × List ℕ)) (caches : Bool) (lba n : ℕ) (out : WriteOut) → p ≡ [] → LeavesSound old new → WriteCause old new lba n out
     → ThroughCause (cache_of old p caches) (cache_of new p caches) lba n out
-plain_write_cause old new p caches lba n out none wrote =
-    subst (λ (l : List (ℕ × List ℕ)). ThroughCause (cache_of old l caches) (cache_of new l caches) lba n out) (sym none) (by_nothing old new caches lba n out wrote)
+plain_write_cause old new p caches lba n out none leaves wrote =
+    subst (λ (l : List (ℕ × List ℕ)). ThroughCause (cache_of old l caches) (cache_of new l caches) lba n out) (sym none) (by_nothing old new caches lba n leaves out wrote)
 
 pub plain_write : (old new : Shown) (p : List (ℕ × List ℕ)) (caches : Bool) (lba n : ℕ) (before after : Standing → Type 0) → ((s : Standing) → before s → StandsFor old s) → (bytes : List ℕ)
     → length bytes ≡ 2048 * n → (out : WriteOut) → p ≡ [] → WriteCause old new lba n out → ((t : Standing) → before t → WriteStep new after t lba n bytes out)

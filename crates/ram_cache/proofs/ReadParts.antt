@@ -17,6 +17,7 @@ use Rattle.model_sectors.proofs.Covering.{covered_part}
 use Rattle.model_drive.specs.Shown.{Shown, IsOn, IsFormatted, StandsFor, block_count, capacity, cells_in}
 use Rattle.model_drive.specs.Parts.{IsInRange}
 use Rattle.model_drive.specs.Reads.{ReadCause, ReadStep}
+use Rattle.model_cache.specs.Chains.{ReadsDisc}
 use Rattle.model_cache.specs.Values.{Values, Contents, Has, MayHave, IsPending, IsUnder, IsTaken, StandsCached, is_among}
 use Rattle.model_cache.specs.Shown.{CacheShown}
 use Rattle.model_cache.specs.Steps.{ReadContents}
@@ -179,9 +180,9 @@ keeps_most old new lba n i (Some bytes) on formatted same part = record {
 }
 keeps_most old new lba n i None on formatted same part = record {
   same_pending = part.1;
-  on = part.0.ends.is_on;
-  formatted = subst (λ l. IsSome l) (sym part.0.keeps.same_lists) formatted;
-  same_count = rw (same, part.0.keeps.same_lists) refl;
+  on = part.0.cause.ends.is_on;
+  formatted = subst (λ l. IsSome l) (sym part.0.cause.keeps.same_lists) formatted;
+  same_count = rw (same, part.0.cause.keeps.same_lists) refl;
 }
 
 module _ (start : CacheShown) (lba n : ℕ) (before : Contents → Type 0) (range : IsInRange start.drive lba n)
@@ -238,16 +239,16 @@ module _ (start : CacheShown) (lba n : ℕ) (before : Contents → Type 0) (rang
     not_these : (held : Option (List ℕ)) (out : ReadOut) → ReadsPart mid new lba n (block_with lba + k) held out → out ≢ reads.Good → ReadOutIsLate out
     not_these (Some bytes) out part not_good = absurd (not_good (part.0))
     not_these None reads.Good part not_good = absurd (not_good refl)
-    not_these None reads.NotFormatted part not_good = part.0.unformatted far.formatted
+    not_these None reads.NotFormatted part not_good = part.0.cause.unformatted far.formatted
     not_these None (reads.Range known) part not_good =
-        let past = part.0.past in
+        let past = part.0.cause.past in
         let some = covered_part lba n k covered in
         let inside = range.inside in
         let same = far.same_count in
         absurd (omega (arith, past, some, inside, same))
     not_these None (reads.Unread named home) part not_good = tt
     not_these None reads.Cut part not_good = tt
-    not_these None reads.Off part not_good = part.0.off far.on
+    not_these None reads.Off part not_good = part.0.cause.off far.on
     not_these None reads.Fault part not_good = tt
 
     pub part_ends : (out : ReadOut) → ReadsPart mid new lba n (block_with lba + k) (bytes_at (block_with lba + k) mid.pending) out → out ≢ reads.Good → ReadPartsCause start new lba n out
@@ -289,3 +290,9 @@ module _ (start : CacheShown) (lba n : ℕ) (before : Contents → Type 0) (rang
         let gave = far.gives v so in
         (prefix_all lba n v.disc into far.long (subst (λ (m : ℕ). take (2048 * done lba n m) into ≡ sectors_of v.disc lba (done lba n m)) all (gave.1)), gave.0)
     all_contents (MayHave every) so = absurd (only every so)
+
+-- a read of the disc is the part of a request in a block
+pub below_cause : (old new : CacheShown) (lba n i start end : ℕ) (out : ReadOut) → start ≡ start_in lba i → end ≡ end_in lba n i → ReadsDisc old.drive new.drive start (end - start) out
+    → new.pending ≡ leaves_after_read out old.pending → new.caches ≡ old.caches → ReadsPart old new lba n i None out
+below_cause old new lba n i start end out start_is end_is reads left mode =
+    (subst (λ (s : ℕ). ReadsDisc old.drive new.drive s (end_in lba n i - s) out) start_is (subst (λ (e : ℕ). ReadsDisc old.drive new.drive start (e - start) out) end_is reads), left, mode)

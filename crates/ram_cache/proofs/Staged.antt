@@ -39,9 +39,9 @@ rest_keeps : (old new : CacheShown) (block : ℕ) (partly : Bool) (held : Option
     → ReadsRest old new block partly held → KeepsAll old new
 rest_keeps old new block true None on formatted same rest = record {
   same_mode = rest.1.1;
-  on = rest.0.ends.is_on;
-  formatted = subst (λ l. IsSome l) (sym rest.0.keeps.same_lists) formatted;
-  same_count = rw (same, rest.0.keeps.same_lists) refl;
+  on = rest.0.cause.ends.is_on;
+  formatted = subst (λ l. IsSome l) (sym rest.0.cause.keeps.same_lists) formatted;
+  same_count = rw (same, rest.0.cause.keeps.same_lists) refl;
 }
 rest_keeps old new block true (Some held) on formatted same rest = keeps_itself old new on formatted rest
 rest_keeps old new block false None on formatted same rest = keeps_itself old new on formatted rest

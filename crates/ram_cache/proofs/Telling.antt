@@ -125,14 +125,14 @@ module _ (old new : CacheShown) (can : CanFlush old) (apart : AreApart old.pendi
     lba_is = is;
     flushed = record { back = back old new 0 writes.Good some flushes; left = flushes.1 ∙ sym (but_removed old.pending 0 apart some) };
   }
-  tick_cause lba writes.NotFormatted is flushes = absurd (flushes.0.unformatted can.formatted)
-  tick_cause lba (writes.Range known) is flushes = let past = flushes.0.past in let here = inside in absurd (omega (arith, here, past))
+  tick_cause lba writes.NotFormatted is flushes = absurd (flushes.0.0.unformatted can.formatted)
+  tick_cause lba (writes.Range known) is flushes = let past = flushes.0.0.past in let here = inside in absurd (omega (arith, here, past))
   tick_cause lba (writes.Unread named block) is flushes =
-      absurd (not_partly ((held_at old.pending 0).0) (length flushes.0.course) (buffered old.drive) flushes.0.is_named.covered flushes.0.partly)
+      absurd (not_partly ((held_at old.pending 0).0) (length flushes.0.0.course) (buffered old.drive) flushes.0.0.is_named.covered flushes.0.0.partly)
   tick_cause lba (writes.NoSpare named) is flushes = stops (writes.NoSpare named) flushes refl
   tick_cause lba (writes.NoUpdate counter) is flushes = stops (writes.NoUpdate counter) flushes refl
   tick_cause lba writes.Cut is flushes = stops writes.Cut flushes refl
-  tick_cause lba writes.Off is flushes = absurd (flushes.0.off can.on)
+  tick_cause lba writes.Off is flushes = absurd (flushes.0.0.off can.on)
   tick_cause lba writes.Fault is flushes = stops writes.Fault flushes refl
 
 -- a list that is not empty

@@ -15,7 +15,7 @@ use Rattle.model_cache.specs.declared.TheConstants.{CACHED_BLOCKS}
 use Rattle.model_cache.specs.Values.{Values, Contents, Has, MayHave, IsPending, IsUnder, IsTaken, StandsCached, is_among, written}
 use Rattle.model_cache.specs.Shown.{CacheShown, pending_in}
 use Rattle.model_cache.specs.Steps.{ThroughContents, ThroughValues, SomePending}
-use Rattle.model_cache.specs.Chains.{Flushes, FlushesAll, EndsFlushing, leaves_pending}
+use Rattle.model_cache.specs.Chains.{LeavesSound, Flushes, FlushesAll, EndsFlushing, leaves_pending}
 use Rattle.model_cache.specs.Causes.{ThroughCauseOf, WritesThrough, StopsWritingThrough}
 use Rattle.model_cache.specs.Falling.{LiesIn}
 use Rattle.model_cache.proofs.Members.{Contains-none, Contains-first, Contains-kept, Contains-passed}
@@ -103,18 +103,19 @@ module _ (lba n : ℕ) where
       in_range : lba + n ≤ 16 * block_count mid.drive
       in_range = let same = rule.same_count in let inside = range.inside in omega (arith, same, inside)
 
-      module _ (mode : new.caches ≡ mid.caches) where
+      module _ (mode : new.caches ≡ mid.caches) (leaves : LeavesSound mid.drive new.drive) where
         through : (out : WriteOut) → WriteCause mid.drive new.drive lba n out → new.pending ≡ leaves_pending out mid.pending → WritesThrough old new lba n out
         through out wrote left = record {
           mid = mid;
           flushed = subst (λ (l : List ℕ). FlushesAll old l mid) all_due rule.flushed;
           wrote = wrote;
+          leaves = leaves;
           left = left;
           same_mode = mode ∙ flushes_mode old (take CACHED_BLOCKS (due_of true first count old)) mid rule.flushed;
         }
 
         pub written_cause : (out : WriteOut) → WriteCause mid.drive new.drive lba n out → new.pending ≡ leaves_pending out mid.pending → ThroughCauseOf old new lba n out
-        written_cause writes.Good wrote left = through writes.Good wrote left
+        written_cause writes.Good wrote left = (range, through writes.Good wrote left)
         written_cause writes.NotFormatted wrote left = wrote.unformatted rule.can.formatted
         written_cause (writes.Range known) wrote left = let past = wrote.past in let inside = in_range in absurd (omega (arith, past, inside))
         written_cause (writes.Unread named block) wrote left = (range, through (writes.Unread named block) wrote left)

@@ -10,10 +10,9 @@ use Rattle.model_drive.specs.declared.WriteOut.{WriteOut}
 use Rattle.model_drive.specs.declared.WriteOut.TheVariants as writes
 use Rattle.model_drive.specs.Shown.{IsOn, IsFormatted, block_count}
 use Rattle.model_drive.specs.Parts.{IsInRange}
-use Rattle.model_drive.specs.Reads.{ReadCause}
 use Rattle.model_cache.specs.Values.{Values, Contents, Has, MayHave}
 use Rattle.model_cache.specs.Shown.{CacheShown, AreApart}
-use Rattle.model_cache.specs.Chains.{leaves_pending}
+use Rattle.model_cache.specs.Chains.{ReadsDisc, leaves_pending}
 use Rattle.model_cache.specs.Causes.{ReadsRest, ReadsRests, EndsRest, ComesIn, fresh_blocks}
 
 -- A block that is not pending is the next of those to come, with the bytes of the request over some whole ones.
@@ -32,7 +31,7 @@ pub record IsStaged (old new : CacheShown) (lba n block : ℕ) (bytes : List ℕ
 pub record LacksRestOf (old new : CacheShown) (lba n block : ℕ) (out : WriteOut) : Type 0 where
   pub partly : is_partly lba n block ≡ true
   pub read_out : ReadOut
-  pub ends : ReadCause old.drive new.drive (16 * block) 16 read_out
+  pub ends : ReadsDisc old.drive new.drive (16 * block) 16 read_out
   pub tells : EndsRest lba block read_out out
   pub left : new.pending ≡ leaves_pending out old.pending
   pub same_mode : new.caches ≡ old.caches

@@ -8,7 +8,8 @@ ghost use Rattle.model_cache.specs.Values.{is_among};
 ghost use Rattle.model_sectors.specs.Discs.{Standing};
 ghost use Rattle.model_sectors.specs.Requests.{merged_in};
 ghost use Rattle.model_buffer.specs.Buffer.{numbers_in};
-ghost use Rattle.model_drive.specs.Reads.{ReadCause, ReadStep};
+ghost use Rattle.model_drive.specs.Reads.{ReadStep};
+ghost use Rattle.model_cache.specs.Chains.{ReadsDisc};
 ghost use Rattle.model_cache.specs.Causes.{put_over};
 ghost use Rattle.model_cache.proofs.OneProof.{apart-prop};
 
@@ -142,7 +143,7 @@ impl PendingBlocks {
         requires fits { 16 * i < 2 ^ 32 }
         ensures pending { pending_of self.new ≡ pending_of self.old }
         ensures staged { staged_of self.new staged ≡ staged_of self.old staged }
-        ensures cause { ReadCause (D.shows disc.old) (D.shows disc.new) (16 * i) 16 result }
+        ensures cause { ReadsDisc (D.shows disc.old) (D.shows disc.new) (16 * i) 16 result }
         ensures step { (s : Standing) → D.stands disc.old s
             → ReadStep (D.stands disc.new) s (16 * i) 16 (room_of self.new staged) result }
         ensures same_shape { (D.shows disc.new).shape ≡ (D.shows disc.old).shape }
@@ -211,7 +212,7 @@ impl PendingBlocks {
 /// Reads a logical block of a disc whole.
 fn read_whole<D: Disc>(disc: &mut D, i: u32, room: &mut Block) -> ReadOut
     requires { 16 * i < 2 ^ 32 }
-    ensures cause { ReadCause (D.shows disc.old) (D.shows disc.new) (16 * i) 16 result }
+    ensures cause { ReadsDisc (D.shows disc.old) (D.shows disc.new) (16 * i) 16 result }
     ensures step { (s : Standing) → D.stands disc.old s → ReadStep (D.stands disc.new) s (16 * i) 16 room.new result }
     ensures same_shape { (D.shows disc.new).shape ≡ (D.shows disc.old).shape }
 {

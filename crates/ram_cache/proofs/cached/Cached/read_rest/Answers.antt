@@ -15,7 +15,7 @@ returns-clause-step g c = λ v not_pending so.
     (room_of c.read_rest-out.new.self c.args.staged) (room_of c.after_read.new.self.pending c.args.staged) v not_pending
     (pending_of c.after_read.new.self.pending) c.read_rest-out.result c.told_of_rest.result c.told_of_rest.ensures
     (c.after_read.ensures.left ∙ ap (leaves_after_read c.read_rest-out.result) c.read_rest-out.ensures.pending)
-    (subst (λ (x : g.row.D.Denot). ReadCause (drives.shows c.args.self.now.disc) (drives.shows x) (16 * c.args.part.block) 16 c.read_rest-out.result) (sym c.after_read.ensures.same_disc) c.read_rest-out.ensures.cause)
+    (subst (λ (x : g.row.D.Denot). ReadCause (drives.shows c.args.self.now.disc) (drives.shows x) (16 * c.args.part.block) 16 c.read_rest-out.result) (sym c.after_read.ensures.same_disc) c.read_rest-out.ensures.cause.cause)
     (λ t b. subst (λ (x : g.row.D.Denot). ReadStep (drives.stands x) t (16 * c.args.part.block) 16 (room_of c.read_rest-out.new.self c.args.staged) c.read_rest-out.result) (sym c.after_read.ensures.same_disc)
     (c.read_rest-out.ensures.step t b))
     (λ good. ap (λ (q : PendingBlocks). room_of q c.args.staged) (c.after_read.ensures.kept good)) so

@@ -19,7 +19,8 @@ returns-in-Good-clause-cause g c =
     subst (λ (m : ℕ). FlushesDue old mid true (block_with c.args.request.lba) m CACHED_BLOCKS writes.Good) c.blocks-2.ensures
     (subst (λ (m : ℕ). FlushesDue old mid true m c.blocks-2.result CACHED_BLOCKS writes.Good) c.first.ensures c.in-Good.ensures.rule) in
     written_cause c.args.request.lba c.args.request.n old mid new (few_pending c.args.self.now.pending.rooms.items c.args.self.now.pending.count c.args.self.now.pending.few) c.requires.inside rule
-    c.write_below.ensures.same_mode c.write_below.result c.write_below.ensures.cause c.write_below.ensures.left
+    c.write_below.ensures.same_mode (record { same_shape = c.write_below.ensures.same_shape; sound = g.met.D.Sectors.laws.sound c.write_below.new.self.disc })
+    c.write_below.result c.write_below.ensures.cause c.write_below.ensures.left
 
 pub returns-in-Good-clause-step : goal.returns-in-Good-clause-step
 returns-in-Good-clause-step g c = λ s so.
