@@ -8,7 +8,7 @@ use std::alloc::{AllocError, Global};
 #[derive(Drop)]
 pub struct Cached<D: Disc> {
     /// The disc below.
-    pub(crate) disc: D,
+    pub disc: D,
     /// The blocks whose last acknowledged bytes are not on it.
     pub(crate) pending: PendingBlocks,
     /// Whether writes go into the cache.

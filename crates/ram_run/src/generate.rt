@@ -21,7 +21,7 @@ use ram_generate::generated;
 use ram_image::ImageMedium;
 use ram_outside::{Image, MemSink, Opened, Opener, Sink};
 use ram_text::{Dialogue, DialogueRoom};
-use crate::stub::Cached;
+use ram_cache::Cached;
 use ram_volume::Volume;
 use std::alloc::Global;
 
