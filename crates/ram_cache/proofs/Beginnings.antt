@@ -1,21 +1,16 @@
 -- How calls begin: with nothing pending, with the power off, and on a disc that is not formatted.
-use Rattle.std.proofs.Common.{◌≡◌, ◌≢◌, ℕ, zero, suc, ◌+◌, ◌*◌, ◌<◌, ◌≤◌, Bool, true, false, not, ◌&&◌, List, [], ◌∷◌, Option, Some, None, length, refl, sym, ap, ◌∙◌, subst, inl, inr, arith}
-use Rattle.std.specs.Prelude.{nat_lt, MatchBool}
-use Rattle.std.specs.List.{All, Contains, filter}
-use Rattle.std.proofs.lemmas.Bool.{lt-ltb}
-use Rattle.model_sectors.specs.Discs.{Standing, On, Off, block_of, sectors_of}
+use Rattle.std.proofs.Common.{◌≡◌, ℕ, ◌+◌, ◌<◌, Bool, not, List, [], ◌∷◌, length, refl, sym, ap, ◌∙◌, subst, arith}
+use Rattle.model_sectors.specs.Discs.{Standing, On, Off, sectors_of}
 use Rattle.model_sectors.specs.declared.ReadOut.{ReadOut}
 use Rattle.model_sectors.specs.declared.ReadOut.TheVariants as reads
-use Rattle.model_drive.specs.declared.WriteOut.{WriteOut}
-use Rattle.model_drive.specs.declared.WriteOut.TheVariants as writes
-use Rattle.model_drive.specs.Shown.{Shown, IsOn, IsFormatted, StandsFor, block_count, capacity, cells_in}
+use Rattle.model_drive.specs.Shown.{Shown, IsOn, IsFormatted, StandsFor, block_count, cells_in}
 use Rattle.model_drive.specs.Reads.{ReadCause, ReadStep}
 use Rattle.model_cache.specs.declared.SyncOut.{SyncOut}
 use Rattle.model_cache.specs.declared.SyncOut.TheVariants as syncs
 use Rattle.model_cache.specs.declared.TickOut.{TickOut}
 use Rattle.model_cache.specs.declared.TickOut.TheVariants as ticks
 use Rattle.model_cache.specs.Values.{Values, Contents, Has, MayHave, IsPending, IsUnder, AreTaken, StandsCached}
-use Rattle.model_cache.specs.Shown.{CacheShown, pending_below, dropped}
+use Rattle.model_cache.specs.Shown.{CacheShown, dropped}
 use Rattle.model_cache.specs.Steps.{ReadContents, SyncContents, TickContents}
 use Rattle.model_cache.specs.Chains.{ReadsDisc}
 use Rattle.model_cache.specs.Causes.{CacheReadCause, CacheReadBy, CacheOutOfRange, SyncCause, SyncCauseOf, TickCause, TickCauseOf}
@@ -25,7 +20,7 @@ use Rattle.ram_cache.specs.Caches.{cache_of}
 use Rattle.ram_cache.specs.Flushes.{IsReady, CanFlush, EnterRule}
 use Rattle.ram_cache.specs.Reading.{CacheReadOn}
 use Rattle.ram_cache.specs.declared.flushing.Entered.TheVariants as entered
-use Rattle.ram_cache.proofs.Places.{all_kept, all_kept_by}
+use Rattle.ram_cache.proofs.Places.{all_kept_by}
 use Rattle.ram_cache.proofs.Entering.{none_count, long_by, empty}
 
 -- ---- nothing is pending

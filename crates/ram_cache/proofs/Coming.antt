@@ -1,20 +1,14 @@
 -- All covered blocks come into the cache: what the drive stands for then.
-use Rattle.std.proofs.Common.{◌≡◌, ◌≢◌, ℕ, zero, suc, ◌+◌, ◌-◌, ◌*◌, ◌<◌, ◌≤◌, ◌⊎◌, inl, inr, Bool, true, false, not, List, [], ◌∷◌, ◌++◌, Option, Some, None, length, map, refl, sym, ap, ◌∙◌, subst, arith}
-use Rattle.std.specs.Prelude.{if◌then◌else◌}
+use Rattle.std.proofs.Common.{◌≡◌, ℕ, zero, suc, ◌+◌, ◌-◌, ◌*◌, ◌<◌, ◌≤◌, ◌⊎◌, inl, inr, true, false, List, [], ◌∷◌, ◌++◌, Option, Some, None, length, map, refl, sym, ap, ◌∙◌, subst, arith}
 use Rattle.std.specs.List.{Contains}
 use Rattle.std.proofs.lemmas.Bool.{cases_Bool, cases_lt, cond-true, cond-false}
 use Rattle.std.proofs.lemmas.List.Elements.{Contains-append_left, Contains-append_right, Contains-append_cases}
 use Rattle.model_buffer.specs.Buffer.{bytes_at, numbers_in}
-use Rattle.model_sectors.specs.Discs.{Standing, On, Off, block_of, replaced}
+use Rattle.model_sectors.specs.Discs.{Standing, On, block_of, replaced}
 use Rattle.model_sectors.specs.Requests.{block_with, blocks_covered, merged_in, IsCovered}
 use Rattle.model_sectors.proofs.Covering.{covered_inside}
-use Rattle.model_drive.specs.declared.WriteOut.{WriteOut}
-use Rattle.model_drive.specs.declared.WriteOut.TheVariants as writes
-use Rattle.model_drive.specs.Shown.{Shown, IsOn, StandsFor, block_count, cells_in}
-use Rattle.model_drive.specs.Parts.{IsInRange}
-use Rattle.model_cache.specs.Values.{Values, Contents, Has, MayHave, HasBlock, HasValue, IsPending, IsTaken, IsUnder, StandsCached, is_among, cached, values_now}
-use Rattle.model_cache.specs.Shown.{CacheShown}
-use Rattle.model_cache.specs.Steps.{CachedContents}
+use Rattle.model_drive.specs.Shown.{Shown, StandsFor, block_count, cells_in}
+use Rattle.model_cache.specs.Values.{Values, Has, HasBlock, HasValue, IsPending, IsTaken, IsUnder, StandsCached, is_among, cached, values_now}
 use Rattle.model_cache.specs.Causes.{put_over, fresh_blocks}
 use Rattle.model_cache.specs.Falling.{LiesIn}
 use Rattle.model_cache.proofs.Members.{Contains-none, Contains-first, Contains-later, Contains-cases}
@@ -71,7 +65,7 @@ module _ (d : List ℕ) (v : Values) (p fresh : List (ℕ × List ℕ)) (under :
   covered_or : (i : ℕ) → IsCovered lba n i ⊎ ((i < first) ⊎ (end ≤ i))
   covered_or i = elim (cases_lt i first) [
     | inl low ↦ inr (inl low)
-    | inr from ↦ elim (cases_lt i end) [ | inl below ↦ inl (from, below) | inr high ↦ inr (inr high) ]
+    | inr from ↦ elim (cases_lt i end) [ inl below ↦ inl (from, below) | inr high ↦ inr (inr high) ]
   ]
 
   among_covered : (i : ℕ) → IsCovered lba n i → is_among first count i ≡ true
@@ -137,12 +131,14 @@ module _ (d : List ℕ) (v : Values) (p fresh : List (ℕ × List ℕ)) (under :
           let within : i < lies.blocks = subst (λ (m : ℕ). m < lies.blocks) at (covered_inside lba n k lies.blocks lies.inside (omega (arith, low, high))) in
           let long = lies.as_long in
           omega (arith, within, long)
+
       out : (i : ℕ) → is_among first count i ≡ false → IsCovered lba n i ⊎ ((i < first) ⊎ (end ≤ i)) → (i < first) ⊎ (end ≤ i)
       out i other (inl covered) = absurd (differ (sym (among_covered i covered) ∙ other))
         where
           differ : true ≡ false → ⊥
           differ e = cc
       out i other (inr past) = past
+
       last_of : (i : ℕ) (held : List ℕ) → Contains (map f p) (i, held) ⊎ Contains fresh (i, held) → block_of (replaced v.disc lba bytes end) i ≡ held
       last_of i held (inr new) =
           let covered = fresh_below p first count i (subst (λ (l : List ℕ). Contains l i) fresh_are (has_number fresh i held new)) in
@@ -163,6 +159,7 @@ module _ (d : List ℕ) (v : Values) (p fresh : List (ℕ × List ℕ)) (under :
                 ∙ under.last x.0 x.1 (found.1)
                 ∙ ap (λ (y : ℕ × List ℕ). y.1) (sym (over_other x.0 x.1 other) ∙ found.2)
           ])
+
       others_of : (i : ℕ) → ¬ IsPending (map f p ++ fresh) i → IsCovered lba n i ⊎ ((i < first) ⊎ (end ≤ i)) → block_of (replaced v.disc lba bytes end) i ≡ block_of d i
       others_of i none (inl covered) = absurd (none (covered_pending i covered))
       others_of i none (inr past) = other_written v.disc lba n bytes lies' end i past ∙ under.others i (λ was. none (pending_still i was))

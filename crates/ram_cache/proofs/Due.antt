@@ -1,5 +1,5 @@
 -- The loop over the pending blocks that are due: its turns, and its ends.
-use Rattle.std.proofs.Common.{◌≡◌, ◌≢◌, ℕ, zero, suc, ◌+◌, ◌-◌, ◌*◌, ◌<◌, ◌≤◌, inl, inr, Bool, true, false, not, List, [], ◌∷◌, ◌++◌, Option, Some, None, length, take, drop, map, refl, sym, ap, ◌∙◌, subst, arith, append_assoc, length-append}
+use Rattle.std.proofs.Common.{◌≡◌, ◌≢◌, ℕ, suc, ◌+◌, ◌-◌, ◌*◌, ◌<◌, ◌≤◌, Bool, true, false, not, List, [], ◌∷◌, ◌++◌, Option, Some, None, length, take, drop, refl, sym, ap, ◌∙◌, subst, arith, append_assoc, length-append}
 use Rattle.std.specs.Option.{option_map_or}
 use Rattle.std.specs.List.{All, remove, filter}
 use Rattle.std.proofs.lemmas.List.{append-nil, take_all, take_at, drop_all, drop_at}
@@ -7,7 +7,7 @@ use Rattle.std.proofs.lemmas.List.Elements.{All-append, All-take, All-drop}
 use Rattle.model_geometry.specs.Geometry.{Shape}
 use Rattle.model_buffer.specs.Buffer.{numbers_in}
 use Rattle.model_places.specs.Places.{Lists, logical_count}
-use Rattle.model_sectors.specs.Discs.{Standing, On, Off}
+use Rattle.model_sectors.specs.Discs.{Standing, Off}
 use Rattle.model_sectors.specs.Requests.{block_with}
 use Rattle.model_drive.specs.declared.WriteOut.{WriteOut}
 use Rattle.model_drive.specs.declared.WriteOut.TheVariants as writes
@@ -15,8 +15,8 @@ use Rattle.model_drive.specs.Shown.{Shown, IsOn, IsFormatted, StandsFor, block_c
 use Rattle.model_drive.specs.Course.{Placing, lists_reached}
 use Rattle.model_drive.specs.Writes.{WriteCause}
 use Rattle.model_drive.proofs.Courses.{placed_total}
-use Rattle.model_cache.specs.Values.{Values, Contents, Has, MayHave, StandsCached, is_among}
-use Rattle.model_cache.specs.Shown.{CacheShown, AreApart, pending_in}
+use Rattle.model_cache.specs.Values.{Contents, Has, MayHave, StandsCached, is_among}
+use Rattle.model_cache.specs.Shown.{CacheShown, AreApart}
 use Rattle.model_cache.specs.Chains.{WritesBack, Flushes, FlushesAll, EndsFlushing, leaves_pending}
 use Rattle.ram_cache.specs.Rooms.{held_at, FirstOf}
 use Rattle.ram_cache.specs.Flushes.{CanFlush, FlushesAt, FlushContents, FlushedDue, FlushesDue, FlushedSoFar, due_of, left_at}

@@ -1,20 +1,20 @@
 -- The entry of a call: pending blocks that the disc has not are dropped first.
-use Rattle.std.proofs.Common.{◌≡◌, ℕ, zero, suc, ◌+◌, ◌*◌, ◌<◌, ◌≤◌, Bool, true, false, not, List, [], ◌∷◌, Option, Some, None, length, ◌/◌, inl, inr, refl, sym, ap, ◌∙◌, subst, cond, arith}
+use Rattle.std.proofs.Common.{◌≡◌, ℕ, ◌*◌, ◌<◌, Bool, true, false, not, List, [], ◌∷◌, Option, Some, None, length, ◌/◌, refl, sym, ap, ◌∙◌, subst, arith}
 use Rattle.std.specs.Prelude.{IsSome, nat_lt}
 use Rattle.std.specs.Option.{option_map_or}
-use Rattle.std.specs.List.{All, Contains, filter}
+use Rattle.std.specs.List.{All, Contains}
 use Rattle.std.proofs.lemmas.Bool.{cond-false, lt-ltb, le-ltb, ltb-true}
 use Rattle.std.proofs.lemmas.List.Elements.{filter_passes}
 use Rattle.model_geometry.specs.Geometry.{Shape}
 use Rattle.model_medium.specs.Cells.{Cell}
 use Rattle.model_places.specs.Places.{Lists, logical_count}
-use Rattle.model_sectors.specs.Discs.{Standing, On, Off}
-use Rattle.model_drive.specs.Shown.{Shown, IsOn, IsFormatted, StandsFor, StandsBy, block_count, capacity, cells_in}
-use Rattle.model_cache.specs.Values.{Values, Contents, Has, MayHave, HasBlock, IsPending, IsUnder, StandsCached}
-use Rattle.model_cache.specs.Shown.{CacheShown, pending_below, dropped}
+use Rattle.model_sectors.specs.Discs.{Standing, On}
+use Rattle.model_drive.specs.Shown.{Shown, IsOn, IsFormatted, StandsFor, StandsBy, block_count, cells_in}
+use Rattle.model_cache.specs.Values.{Values, Contents, Has, MayHave, HasBlock, IsUnder, StandsCached}
+use Rattle.model_cache.specs.Shown.{pending_below}
 use Rattle.model_drive.specs.Tells.{HasDisc, CapacityRule}
 use Rattle.ram_cache.specs.Caches.{cache_of}
-use Rattle.ram_cache.specs.Flushes.{EnterRule, CanFlush}
+use Rattle.ram_cache.specs.Flushes.{EnterRule}
 use Rattle.ram_cache.specs.declared.flushing.Entered.TheVariants as entered
 use Rattle.model_cache.proofs.Members.{Contains-kept, Contains-passed}
 
@@ -38,6 +38,7 @@ under_below n p d v long under = record {
   where
     was : (i : ℕ) (bytes : List ℕ) → Contains (pending_below n p) (i, bytes) → Contains p (i, bytes)
     was i bytes has = (Contains-passed (λ (x : ℕ × List ℕ). nat_lt x.0 n) p (i, bytes) has).1
+
     stays : (i : ℕ) (bytes : List ℕ) → Contains p (i, bytes) → Contains (pending_below n p) (i, bytes)
     stays i bytes has =
         let inside : HasBlock d i = under.inside i bytes has in
@@ -77,15 +78,18 @@ module _ (drive : Shown) (p left : List (ℕ × List ℕ)) where
 
   pub ready : (caches : Bool) (sectors : ℕ) → CapacityRule drive (Some sectors) → left ≡ pending_below (sectors / 16) p
       → EnterRule (cache_of drive p caches) (cache_of drive left caches) (entered.Formatted sectors)
-  ready caches sectors rule e = (record {
-    can = record {
-      on = rule.0.0;
-      formatted = rule.0.1;
-      inside = subst (λ (l : List (ℕ × List ℕ)). All (λ (x : ℕ × List ℕ). x.0 < block_count drive) l) (sym (kept_is sectors rule e)) (all_below (block_count drive) p);
-    };
-    sectors_are = rule.1;
-    most = rule.2;
-  }, ap (λ (l : List (ℕ × List ℕ)). cache_of drive l caches) (kept_is sectors rule e))
+  ready caches sectors rule e = (
+    record {
+      can = record {
+        on = rule.0.0;
+        formatted = rule.0.1;
+        inside = subst (λ (l : List (ℕ × List ℕ)). All (λ (x : ℕ × List ℕ). x.0 < block_count drive) l) (sym (kept_is sectors rule e)) (all_below (block_count drive) p);
+      };
+      sectors_are = rule.1;
+      most = rule.2;
+    },
+    ap (λ (l : List (ℕ × List ℕ)). cache_of drive l caches) (kept_is sectors rule e),
+  )
 
   pub unformatted : (caches : Bool) → IsOn drive → ¬ HasDisc drive → left ≡ [] → EnterRule (cache_of drive p caches) (cache_of drive left caches) entered.NotFormatted
   unformatted caches on not e = (on, λ formatted. not (on, formatted), ap (λ (l : List (ℕ × List ℕ)). cache_of drive l caches) (e ∙ sym (all_left (λ formatted. not (on, formatted)))), e)

@@ -1,9 +1,9 @@
 -- The covered blocks that are not pending: how many, and which they are.
-use Rattle.std.proofs.Common.{◌≡◌, ◌≢◌, ℕ, zero, suc, ◌+◌, ◌-◌, ◌*◌, ◌<◌, ◌≤◌, ◌⊎◌, inl, inr, Bool, true, false, not, ◌&&◌, ◌||◌, ◌==◌, List, [], ◌∷◌, ◌++◌, Option, Some, None, length, take, drop, map, refl, sym, ap, ◌∙◌, subst, arith, length-append}
+use Rattle.std.proofs.Common.{◌≡◌, ℕ, zero, suc, ◌+◌, ◌<◌, ◌≤◌, ◌⊎◌, inl, inr, Bool, true, false, not, ◌&&◌, ◌==◌, List, [], ◌∷◌, ◌++◌, Option, Some, None, length, refl, sym, ap, ◌∙◌, subst, arith, length-append}
 use Rattle.std.specs.Prelude.{is_some, cond, if◌then◌else◌, nat_lt}
 use Rattle.std.specs.Option.{option_map}
 use Rattle.std.specs.List.{Contains, filter, find}
-use Rattle.std.proofs.lemmas.Bool.{cases_Bool, cases_lt, cases_eq, cond_both, cond-true, cond-false, eqb-true, eq-eqb, ne_eqb, lt-ltb, le-ltb}
+use Rattle.std.proofs.lemmas.Bool.{cases_Bool, cases_lt, cases_eq, cond-true, cond-false, eqb-true, eq-eqb, ne_eqb, lt-ltb, le-ltb}
 use Rattle.std.proofs.lemmas.List.{append-nil}
 use Rattle.std.proofs.lemmas.List.Elements.{Contains-append_left, Contains-append_right, Contains-append_cases}
 use Rattle.model_buffer.specs.Buffer.{bytes_at, numbers_in}
@@ -11,7 +11,6 @@ use Rattle.model_cache.specs.Values.{IsPending, is_among}
 use Rattle.model_cache.specs.Shown.{AreApart}
 use Rattle.model_cache.specs.Causes.{fresh_blocks}
 use Rattle.model_cache.proofs.Members.{Contains-none, Contains-first, Contains-later, Contains-cases}
-use Rattle.ram_cache.proofs.Numbers.{has_number}
 
 -- ---- the block of a number
 
@@ -27,6 +26,7 @@ none_at (held ∷ p) i none (bytes, has) = elim (cases_Bool (held.0 == i)) [
   where
     some_none : {x : List ℕ} → Some x ≡ None → ⊥
     some_none e = cc
+
     differ : false ≡ true → ⊥
     differ e = cc
 
@@ -71,7 +71,7 @@ module _ (p : List (ℕ × List ℕ)) (first : ℕ) where
     where
       one : (b : Bool) → Contains (if b then [] else (first + k) ∷ []) j → (first ≤ j) × (j < first + suc k)
       one true has = absurd (Contains-none j has)
-      one false has = elim (Contains-cases (first + k) [] j has) [ | inl e ↦ (omega (arith, e), omega (arith, e)) | inr none ↦ absurd (Contains-none j none) ]
+      one false has = elim (Contains-cases (first + k) [] j has) [ inl e ↦ (omega (arith, e), omega (arith, e)) | inr none ↦ absurd (Contains-none j none) ]
 
   pub fresh_has : (k j : ℕ) → j < k → bytes_at (first + j) p ≡ None → Contains (fresh_blocks p first k) (first + j)
   fresh_has zero j below none = absurd (omega arith)
@@ -133,12 +133,15 @@ among_more first k (x ∷ xs) = three (among_more first k xs) (cases_lt x first)
         by_cases false true false sum rest = absurd (omega (arith, sum))
         by_cases false false true sum rest = absurd (omega (arith, sum))
         by_cases false false false sum rest = rest
+
     low : (a b : Bool) → a ≡ true → not a && b ≡ false
     low true b e = refl
     low false b e = absurd (let w = e in cc)
+
     in_or_out : (a b c : Bool) → a ≡ false → b ≡ c → not a && b ≡ c
     in_or_out true b c e f = absurd (let w = e in cc)
     in_or_out false b c e f = f
+
     three : length (filter (is_among first (suc k)) xs) ≡ length (filter (is_among first k) xs) + length (filter (λ i. i == first + k) xs) → (x < first) ⊎ (first ≤ x) → length (filter (is_among first (suc k)) (x ∷ xs)) ≡ length (filter (is_among first k) (x ∷ xs)) + length (filter (λ i. i == first + k) (x ∷ xs))
     three rest (inl below) =
         count rest false false false (low (nat_lt x first) (nat_lt x (first + suc k)) (lt-ltb x first below)) (low (nat_lt x first) (nat_lt x (first + k)) (lt-ltb x first below))
@@ -161,9 +164,11 @@ none_among first (x ∷ xs) = ap length (cond-false (is_among first 0 x) (x ∷ 
     low : (a b : Bool) → a ≡ true → not a && b ≡ false
     low true b e = refl
     low false b e = absurd (let w = e in cc)
+
     high : (a b : Bool) → b ≡ false → not a && b ≡ false
     high true b e = refl
     high false b e = e
+
     out : (x < first) ⊎ (first ≤ x) → is_among first 0 x ≡ false
     out (inl below) = low (nat_lt x first) (nat_lt x (first + 0)) (lt-ltb x first below)
     out (inr from) = high (nat_lt x first) (nat_lt x (first + 0)) (le-ltb x (first + 0) (omega (arith, from)))

@@ -1,9 +1,9 @@
 -- The calls that are one call of the disc: what is left pending, and what the drive stands for then.
-use Rattle.std.proofs.Common.{◌≡◌, ◌≢◌, ℕ, zero, suc, ◌+◌, ◌-◌, ◌*◌, ◌/◌, ◌%◌, ◌<◌, ◌≤◌, ◌⊎◌, inl, inr, Bool, true, false, not, List, [], ◌∷◌, ◌++◌, Option, Some, None, length, take, drop, map, refl, sym, ap, ◌∙◌, subst, arith, length-take}
+use Rattle.std.proofs.Common.{◌≡◌, ℕ, ◌+◌, ◌*◌, ◌/◌, ◌%◌, ◌<◌, ◌≤◌, ◌⊎◌, inl, inr, Bool, true, false, not, List, [], ◌∷◌, Option, Some, None, length, take, drop, refl, sym, ap, ◌∙◌, subst, arith, length-take}
 use Rattle.std.specs.Prelude.{IsTrue, IsSome, ◌↔◌, if◌then◌else◌, min, nat_lt}
 use Rattle.std.specs.List.{Contains}
 use Rattle.std.proofs.lemmas.Bool.{cases_lt, lt-ltb, ltb-true, false≢true}
-use Rattle.std.proofs.lemmas.List.{drop_all, take-take}
+use Rattle.std.proofs.lemmas.List.{drop_all}
 use Rattle.model_sectors.specs.Discs.{Standing, On, Off, block_of, candidates}
 use Rattle.model_sectors.specs.declared.ReadOut.{ReadOut}
 use Rattle.model_sectors.specs.declared.ReadOut.TheVariants as reads
@@ -17,7 +17,7 @@ use Rattle.model_drive.specs.declared.Kind.{Kind}
 use Rattle.model_drive.specs.declared.Kind.TheVariants as kinds
 use Rattle.model_drive.specs.declared.ExpandOut.{ExpandOut}
 use Rattle.model_drive.specs.declared.ExpandOut.TheVariants as expands
-use Rattle.model_drive.specs.Shown.{Shown, IsOn, IsFormatted, StandsFor, block_count, capacity, cells_in}
+use Rattle.model_drive.specs.Shown.{Shown, IsOn, StandsFor, block_count, capacity, cells_in}
 use Rattle.model_drive.specs.Tells.{HasDisc}
 use Rattle.model_drive.specs.Reads.{VerifyStep}
 use Rattle.model_drive.specs.Power.{PowerStep}
@@ -26,16 +26,14 @@ use Rattle.model_drive.specs.Rewriting.{RewriteCause, RewriteStep}
 use Rattle.model_drive.specs.Formats.{FormatCause, FormatCauseBy, FormatStep, FormatStepBy}
 use Rattle.model_drive.specs.Expands.{ExpandCause, ExpandStep, shortened}
 use Rattle.model_formats.specs.Stopped.{zero_disc}
-use Rattle.model_cache.specs.Values.{Values, Contents, Has, MayHave, HasBlock, HasValue, IsPending, IsTaken, AreTaken, IsUnder, StandsCached, with_older, lifted, plain, settled_values, no_values, candidates_of}
-use Rattle.model_cache.specs.Shown.{CacheShown, pending_below, dropped}
+use Rattle.model_cache.specs.Values.{Values, Contents, Has, MayHave, HasValue, IsTaken, IsUnder, StandsCached, with_older, lifted, settled_values, no_values, candidates_of}
+use Rattle.model_cache.specs.Shown.{CacheShown, pending_below}
 use Rattle.model_cache.specs.Steps.{VerifyContents, PowerContents, FormatContents, FormatValues, FullValues, ExpandContents}
-use Rattle.model_cache.specs.Causes.{leaves_after_read, leaves_after_full, leaves_after_rewrite, leaves_after_format, leaves_after_expansion, CacheExpandCause}
-use Rattle.model_cache.proofs.Members.{Contains-none, Contains-kept, Contains-passed}
-use Rattle.model_cache.proofs.SameBlocks.{stands_plainly, same_blocks, takes_itself}
-use Rattle.ram_cache.specs.Caches.{cache_of}
+use Rattle.model_cache.specs.Causes.{leaves_after_read, leaves_after_full, leaves_after_rewrite, leaves_after_format, leaves_after_expansion}
+use Rattle.model_cache.proofs.Members.{Contains-kept, Contains-passed}
+use Rattle.model_cache.proofs.SameBlocks.{stands_plainly, takes_itself}
 use Rattle.ram_cache.specs.Calls.{drops_all, kept_by_lists, LeftByLists, LeftAfter, LeftExpanded}
-use Rattle.ram_cache.proofs.Entering.{long_by, enters, all_dropped, none_count, empty}
-use Rattle.ram_cache.proofs.Beginnings.{plain_disc}
+use Rattle.ram_cache.proofs.Entering.{long_by, enters, all_dropped, empty}
 
 -- ---- a verification
 
@@ -307,9 +305,12 @@ module _ (old new : Shown) (before after : Standing → Type 0) (was : (s : Stan
   expand_contents sectors expands.Good cause left step (Has v) (d, so, under) =
       let now = step (On d) so in
       let there = shown (On (shortened sectors d)) now in
-      let long = long_by new.shape (cells_in new) new.lists new.buffer (shortened sectors d) (there.2) in
-      (shortened sectors d, now, subst (λ (l : List (ℕ × List ℕ)). IsUnder l (shortened sectors d) (with_older v.older (shortened sectors v.disc))) (sym (left (there.1)))
-      (short_under d v p under sectors (block_count new) long))
+      let long = long_by new.shape (cells_in new) new.lists new.buffer (shortened sectors d) (there.2) in (
+        shortened sectors d,
+        now,
+        subst (λ (l : List (ℕ × List ℕ)). IsUnder l (shortened sectors d) (with_older v.older (shortened sectors v.disc))) (sym (left (there.1)))
+            (short_under d v p under sectors (block_count new) long),
+      )
   expand_contents sectors expands.NotFormatted cause left step (Has v) (d, so, under) =
       let now = step (On d) so in
       let same = under.taken.as_long in

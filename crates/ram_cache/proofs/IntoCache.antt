@@ -1,27 +1,24 @@
 -- A write into the cache: its causes, and what it makes of what the drive stands for.
-use Rattle.std.proofs.Common.{◌≡◌, ◌≢◌, ℕ, zero, suc, ◌+◌, ◌-◌, ◌*◌, ◌<◌, ◌≤◌, ◌⊎◌, inl, inr, Bool, true, false, not, ◌&&◌, List, [], ◌∷◌, ◌++◌, Option, Some, None, Result, Ok, Err, length, take, drop, map, refl, sym, ap, ◌∙◌, subst, arith, length-drop}
+use Rattle.std.proofs.Common.{◌≡◌, ◌≢◌, ℕ, ◌+◌, ◌-◌, ◌≤◌, inl, inr, Bool, true, false, not, List, length, take, refl, sym, ap, ◌∙◌, subst, arith, length-drop}
 use Rattle.std.specs.Prelude.{MatchBool, nat_lt}
 use Rattle.std.specs.List.{Contains, filter}
 use Rattle.std.proofs.lemmas.List.{length-map}
-use Rattle.std.proofs.lemmas.Bool.{cases_Bool}
-use Rattle.model_buffer.specs.Buffer.{bytes_at, numbers_in}
-use Rattle.model_sectors.specs.Discs.{Standing, On, Off, block_of}
-use Rattle.model_sectors.specs.Requests.{block_with, blocks_covered, merged_in, start_in}
+use Rattle.model_buffer.specs.Buffer.{numbers_in}
+use Rattle.model_sectors.specs.Requests.{block_with, blocks_covered}
 use Rattle.model_sectors.specs.declared.ReadOut.{ReadOut}
 use Rattle.model_sectors.specs.declared.ReadOut.TheVariants as reads
 use Rattle.model_drive.specs.declared.WriteOut.{WriteOut}
 use Rattle.model_drive.specs.declared.WriteOut.TheVariants as writes
-use Rattle.model_drive.specs.Shown.{Shown, IsOn, StandsFor, block_count}
+use Rattle.model_drive.specs.Shown.{block_count}
 use Rattle.model_drive.specs.Parts.{IsInRange}
-use Rattle.model_cache.specs.declared.TheConstants.{CACHED_BLOCKS}
-use Rattle.model_cache.specs.Values.{Values, Contents, Has, MayHave, StandsCached, is_among, cached}
-use Rattle.model_cache.specs.Shown.{CacheShown, AreApart, pending_in, pending_covered, dropped}
-use Rattle.model_cache.specs.Steps.{CachedContents, CachedValues, ThroughContents, ThroughValues, SomePending}
+use Rattle.model_cache.specs.Values.{Values, Contents, Has, MayHave, is_among, cached}
+use Rattle.model_cache.specs.Shown.{CacheShown, AreApart, dropped}
+use Rattle.model_cache.specs.Steps.{CachedContents, ThroughContents, ThroughValues, SomePending}
 use Rattle.model_cache.specs.Chains.{FlushesAll, EndsFlushing}
-use Rattle.model_cache.specs.Causes.{CachedCause, CachedCauseOf, GoesIntoCache, LacksRestInCache, ThroughCause, ThroughCauseOf, EndsRest, leaving, leave_first, fresh_blocks}
+use Rattle.model_cache.specs.Causes.{CachedCause, CachedCauseOf, LacksRestInCache, ThroughCause, ThroughCauseOf, EndsRest, leaving, leave_first, fresh_blocks}
 use Rattle.model_cache.proofs.Members.{Contains-passed}
 use Rattle.ram_cache.specs.Flushes.{FlushContents, FlushesDue, due_of}
-use Rattle.ram_cache.specs.Staging.{TakesIn, ComesAll, EndsComing, LacksRestOf, StoppedContents, HasRoomFor}
+use Rattle.ram_cache.specs.Staging.{TakesIn, EndsComing, StoppedContents, HasRoomFor}
 use Rattle.ram_cache.specs.Calls.{goes_in, WritesOn, WritesBy, WritesContents}
 use Rattle.ram_cache.proofs.Fresh.{fresh_total}
 use Rattle.ram_cache.proofs.Through.{flushes_mode}
@@ -202,8 +199,11 @@ module _ (old mid new : CacheShown) (is : mid ≡ dropped old) (lba n : ℕ) (by
   some_old some = record {
     block = some.block;
     covered = some.covered;
-    pending = (some.pending.0, (Contains-passed (λ (x : ℕ × List ℕ). nat_lt x.0 (block_count old.drive)) old.pending (some.block, some.pending.0)
-        (subst (λ (m : CacheShown). Contains m.pending (some.block, some.pending.0)) is (some.pending.1))).1);
+    pending = (
+      some.pending.0,
+      (Contains-passed (λ (x : ℕ × List ℕ). nat_lt x.0 (block_count old.drive)) old.pending (some.block, some.pending.0)
+          (subst (λ (m : CacheShown). Contains m.pending (some.block, some.pending.0)) is (some.pending.1))).1,
+    );
   }
 
   module _ (after : Contents → Type 0) where

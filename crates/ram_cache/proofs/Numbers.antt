@@ -1,9 +1,8 @@
 -- The numbers of pending blocks: that they are apart, how many are among some, and changes of the bytes alone.
-use Rattle.std.proofs.Common.{◌≡◌, ◌≢◌, ℕ, zero, suc, ◌+◌, ◌-◌, ◌*◌, ◌<◌, ◌≤◌, Bool, true, false, not, ◌&&◌, ◌==◌, List, [], ◌∷◌, ◌++◌, length, take, drop, get_or, set, map, refl, sym, ap, ◌∙◌, subst, inl, inr, arith, length-take, length-append}
-use Rattle.std.specs.Prelude.{cond, nat_lt, if◌then◌else◌, ◌⊎◌}
-use Rattle.std.specs.List.{All, Contains, filter}
-use Rattle.std.proofs.lemmas.Bool.{cond_both, cond-true, cond-false, cases_lt, cases_eq}
-use Rattle.std.proofs.lemmas.List.{take-set-le, drop-set-add, take-set, take_more_set, drop-set-lt, get_or_read, get_or_default, get_or-take, length-drop, map-append, take_more, length-map, take_all, drop_all, append-nil}
+use Rattle.std.proofs.Common.{◌≡◌, ℕ, zero, suc, ◌+◌, ◌-◌, ◌*◌, ◌<◌, ◌≤◌, Bool, true, false, List, [], ◌∷◌, ◌++◌, length, take, drop, get_or, set, map, refl, sym, ap, ◌∙◌, subst, inl, inr, arith, length-take, length-append}
+use Rattle.std.specs.Prelude.{cond, ◌⊎◌}
+use Rattle.std.specs.List.{Contains, filter}
+use Rattle.std.proofs.lemmas.List.{take-set-le, drop-set-add, take-set, take_more_set, get_or_read, get_or_default, get_or-take, length-drop, map-append, take_more, length-map, take_all, drop_all, append-nil}
 use Rattle.std.proofs.lemmas.List.Edits.{map_over_more}
 use Rattle.std.proofs.Math.Seq.{take-add}
 use Rattle.std.proofs.lemmas.List.Elements.{filter-append, Contains-append_cases}
@@ -38,8 +37,7 @@ apart_numbers [] (held ∷ q) same apart = absurd (let w = same in cc)
 apart_numbers (held ∷ p) [] same apart = absurd (let w = same in cc)
 apart_numbers (held ∷ p) (other ∷ q) same apart =
     let first : held.0 ≡ other.0 = cc in
-    let rest : numbers_in p ≡ numbers_in q = cc in
-    (
+    let rest : numbers_in p ≡ numbers_in q = cc in (
       λ bytes has.
           let found = number_held p held.0 (subst (λ (l : List ℕ). Contains l held.0) (sym rest) (subst (Contains (numbers_in q)) (sym first) (has_number q other.0 bytes has))) in
           apart.0 (found.0) (found.1),
@@ -72,10 +70,10 @@ module _ {X : Type 0} where
 
   pub Contains-set : (xs : List X) (k : ℕ) (y q : X) → Contains (set xs k y) q → (y ≡ q) ⊎ Contains xs q
   Contains-set [] k y q has = absurd (Contains-none q has)
-  Contains-set (x ∷ xs) zero y q has = elim (Contains-cases y xs q has) [ | inl is ↦ inl is | inr more ↦ inr (Contains-later x xs q more) ]
+  Contains-set (x ∷ xs) zero y q has = elim (Contains-cases y xs q has) [ inl is ↦ inl is | inr more ↦ inr (Contains-later x xs q more) ]
   Contains-set (x ∷ xs) (suc k) y q has = elim (Contains-cases x (set xs k y) q has) [
     | inl is ↦ inr (subst (Contains (x ∷ xs)) is (Contains-first x xs))
-    | inr more ↦ elim (Contains-set xs k y q more) [ | inl is ↦ inl is | inr there ↦ inr (Contains-later x xs q there) ]
+    | inr more ↦ elim (Contains-set xs k y q more) [ inl is ↦ inl is | inr there ↦ inr (Contains-later x xs q there) ]
   ]
 
 -- a room behind the pending blocks
@@ -150,7 +148,7 @@ module _ (f : (ℕ × List ℕ) → (ℕ × List ℕ)) (same : (x : ℕ × List 
   apart_taken apart =
       subst AreApart (sym all_taken)
       (apart_numbers (p ++ fresh) (map f p ++ fresh) (
-        map-append (λ (x : ℕ × List ℕ). x.0) p fresh ∙ ap (λ (l : List ℕ). l ++ numbers_in fresh) (sym (numbers_over f same p)) ∙ sym (map-append (λ (x : ℕ × List ℕ). x.0) (map f p) fresh)) apart)
+      map-append (λ (x : ℕ × List ℕ). x.0) p fresh ∙ ap (λ (l : List ℕ). l ++ numbers_in fresh) (sym (numbers_over f same p)) ∙ sym (map-append (λ (x : ℕ × List ℕ). x.0) (map f p) fresh)) apart)
 
   pub whole_taken : ((i : ℕ) (bytes : List ℕ) → Contains (take count items) (i, bytes) → length bytes ≡ 32768)
       → ((i : ℕ) (bytes : List ℕ) → Contains fresh (i, bytes) → length bytes ≡ 32768)

@@ -1,11 +1,11 @@
 -- The write of a pending block to the disc.
-use Rattle.std.proofs.Common.{◌≡◌, ◌≢◌, ℕ, zero, suc, ◌+◌, ◌-◌, ◌*◌, ◌/◌, ◌<◌, ◌≤◌, ◌⊎◌, inl, inr, Bool, true, false, not, eqb, ◌==◌, List, [], ◌∷◌, ◌++◌, Option, Some, None, length, take, drop, min, max, refl, sym, ap, ◌∙◌, subst, arith}
+use Rattle.std.proofs.Common.{◌≡◌, ◌≢◌, ℕ, ◌+◌, ◌-◌, ◌*◌, ◌<◌, ◌≤◌, ◌⊎◌, inl, inr, not, ◌==◌, List, [], ◌∷◌, Option, Some, None, length, take, drop, refl, sym, ap, ◌∙◌, subst, arith}
 use Rattle.std.specs.List.{Contains}
 use Rattle.std.specs.Prelude.{IsSome, IsTrue}
 use Rattle.std.specs.Option.{option_map_or}
 use Rattle.std.proofs.lemmas.Bool.{cases_eq, cases_lt, and_parts, ltb-true, ne_eqb}
 use Rattle.std.proofs.lemmas.List.{take_all}
-use Rattle.model_sectors.specs.Discs.{Standing, On, Off, block_of, sectors_of, replaced}
+use Rattle.model_sectors.specs.Discs.{Standing, On, Off, block_of, replaced}
 use Rattle.model_sectors.specs.Requests.{block_with, blocks_covered, start_in, end_in, is_partly, NamesBlock}
 use Rattle.model_sectors.specs.Uses.{is_at_hand, reads_rest}
 use Rattle.model_geometry.specs.Geometry.{Shape}
@@ -104,6 +104,7 @@ named_is i named k names =
   where
     add_none : (i : ℕ) → i + 0 ≡ i
     add_none i = omega arith
+
     starts : (i : ℕ) → block_with (start_in (16 * i) i) ≡ i
     starts i = omega arith
 
@@ -157,19 +158,25 @@ module _ (old new : Shown) (before after : Standing → Type 0) (p : List (ℕ �
   stays d v at is under step = (d, subst (λ (x : List ℕ). after (On x)) (none_put d at is) step, under)
 
   stopped : (d : List ℕ) (v : Values) → LiesIn d (16 * i) 16 b → IsUnder p d v → StopsInBlock d (16 * i) 16 b after → StandsCached after [] (MayHave (v ∷ v ∷ []))
-  stopped d v lies under step =
-      (replaced d (16 * i) b (block_with (16 * i) + step.block) ∷ replaced d (16 * i) b (block_with (16 * i) + (step.block + 1)) ∷ [], step.either,
-      (subst (IsTaken v) (sym (none_put d (block_with (16 * i) + step.block) (first_at step.block step.covered))) under.taken,
-      (subst (λ (m : ℕ). IsTaken v (replaced d (16 * i) b m)) (sym (then_at step.block step.covered)) (put_taken d i b lies v p is_held under), refl)))
+  stopped d v lies under step = (
+    replaced d (16 * i) b (block_with (16 * i) + step.block) ∷ replaced d (16 * i) b (block_with (16 * i) + (step.block + 1)) ∷ [],
+    step.either,
+    (
+      subst (IsTaken v) (sym (none_put d (block_with (16 * i) + step.block) (first_at step.block step.covered))) under.taken,
+      (subst (λ (m : ℕ). IsTaken v (replaced d (16 * i) b m)) (sym (then_at step.block step.covered)) (put_taken d i b lies v p is_held under), refl),
+    ),
+  )
 
   flush_on : (d : List ℕ) (v : Values) → StandsFor old (On d) → IsUnder p d v → (out : WriteOut) → WriteCause old new (16 * i) 16 out
       → WriteStep new after (On d) (16 * i) 16 b out → FlushContents (StandsCached after (left_at out k p)) (Has v) out
   flush_on d v stands under writes.Good cause step =
       let lies : LiesIn d (16 * i) 16 b = lies_in d stands in
       let count = one_covered i in
-      let end : block_with (16 * i) + blocks_covered (16 * i) 16 ≡ i + 1 = omega (arith, count) in
-      (replaced d (16 * i) b (i + 1), subst (λ (m : ℕ). after (On (replaced d (16 * i) b m))) end step,
-      subst (λ (l : List (ℕ × List ℕ)). IsUnder l (replaced d (16 * i) b (i + 1)) v) (but_removed p k apart there) (flushed_under d i b lies v p is_held under))
+      let end : block_with (16 * i) + blocks_covered (16 * i) 16 ≡ i + 1 = omega (arith, count) in (
+        replaced d (16 * i) b (i + 1),
+        subst (λ (m : ℕ). after (On (replaced d (16 * i) b m))) end step,
+        subst (λ (l : List (ℕ × List ℕ)). IsUnder l (replaced d (16 * i) b (i + 1)) v) (but_removed p k apart there) (flushed_under d i b lies v p is_held under),
+      )
   flush_on d v stands under writes.NotFormatted cause step = absurd (cause.unformatted (formatted_by old.shape old.lists i inside))
   flush_on d v stands under (writes.Range known) cause step = let past = cause.past in absurd (omega (arith, past, inside))
   flush_on d v stands under (writes.Unread named block) cause step = absurd (not_partly i (length cause.course) (buffered old) cause.is_named.covered cause.partly)

@@ -1,9 +1,9 @@
 -- Pending blocks as a list: what is at its places, and the list without one of them.
-use Rattle.std.proofs.Common.{◌≡◌, ◌≢◌, ℕ, zero, suc, ◌+◌, ◌-◌, ◌<◌, ◌≤◌, Bool, true, false, not, ◌==◌, List, [], ◌∷◌, ◌++◌, length, take, drop, get_or, map, refl, sym, ap, ◌∙◌, subst, inl, inr, arith, length-take, length-append}
+use Rattle.std.proofs.Common.{◌≡◌, ℕ, zero, suc, ◌+◌, ◌-◌, ◌<◌, ◌≤◌, Bool, true, false, not, ◌==◌, List, [], ◌∷◌, ◌++◌, length, take, drop, get_or, refl, sym, ap, ◌∙◌, subst, inl, inr, arith, length-take, length-append}
 use Rattle.std.specs.Prelude.{cond, nat_lt}
 use Rattle.std.specs.List.{All, Contains, filter, remove}
-use Rattle.std.proofs.lemmas.Bool.{cond_both, cond-true, cond-false, cases_lt, cases_eq, eqb-true, eq-eqb, ne_eqb, lt-ltb, le-ltb}
-use Rattle.std.proofs.lemmas.List.{ext_get_or, get_or-take, get_or_append_left, length-take-le, take_at, get_or_default}
+use Rattle.std.proofs.lemmas.Bool.{cond_both, cond-true, cond-false, cases_lt, eqb-true, eq-eqb, ne_eqb, lt-ltb, le-ltb}
+use Rattle.std.proofs.lemmas.List.{ext_get_or, get_or-take, get_or_append_left, length-take-le, take_at}
 use Rattle.std.proofs.lemmas.List.Edits.{length-remove, get_or-remove_below, get_or-remove_above}
 use Rattle.std.proofs.lemmas.List.Elements.{Contains-get_or}
 use Rattle.std.proofs.lemmas.Slice.{put_mid-rotated}
@@ -28,6 +28,7 @@ module _ {X : Type 0} where
     where
       long_enough : (xs : List X) (k n : ℕ) (d : X) → k < n → n ≤ length xs → n - 1 ≤ length (remove xs k ++ get_or xs k d ∷ [])
       long_enough xs k n d within long = let short = length-remove xs k (omega arith) in omega (arith, short, length-append (remove xs k) (get_or xs k d ∷ []))
+
       at : (j : ℕ) → j < n - 1 → get_or (take (n - 1) (remove xs k ++ get_or xs k d ∷ [])) j d ≡ get_or (remove (take n xs) k) j d
       at j below =
           let short = length-remove xs k (omega arith) in

@@ -1,22 +1,22 @@
 -- A write of the disc while nothing is pending is a write through the cache.
-use Rattle.std.proofs.Common.{◌≡◌, ◌≢◌, ℕ, ◌+◌, ◌*◌, ◌<◌, ◌≤◌, inl, inr, Bool, true, false, not, ◌&&◌, List, [], ◌∷◌, length, refl, sym, ap, ◌∙◌, subst, arith}
+use Rattle.std.proofs.Common.{◌≡◌, ℕ, ◌*◌, ◌<◌, inr, Bool, true, false, ◌&&◌, List, [], length, refl, sym, ap, ◌∙◌, subst, arith}
 use Rattle.std.specs.Prelude.{MatchBool}
 use Rattle.std.proofs.lemmas.List.Elements.{All-nil}
 use Rattle.model_sectors.specs.Discs.{Standing, On, Off}
 use Rattle.model_sectors.specs.Requests.{block_with, blocks_covered}
 use Rattle.model_drive.specs.declared.WriteOut.{WriteOut}
 use Rattle.model_drive.specs.declared.WriteOut.TheVariants as writes
-use Rattle.model_drive.specs.Shown.{Shown, IsOn, StandsFor, block_count}
+use Rattle.model_drive.specs.Shown.{Shown, StandsFor, block_count}
 use Rattle.model_drive.specs.Parts.{IsInRange}
 use Rattle.model_drive.specs.Writes.{WriteCause, WriteStep}
 use Rattle.model_cache.specs.declared.TheConstants.{CACHED_BLOCKS}
-use Rattle.model_cache.specs.Values.{Values, Contents, Has, MayHave, IsUnder, StandsCached}
-use Rattle.model_cache.specs.Shown.{CacheShown, goes_into_cache}
+use Rattle.model_cache.specs.Values.{Contents, Has, MayHave, StandsCached}
+use Rattle.model_cache.specs.Shown.{CacheShown}
 use Rattle.model_cache.specs.Chains.{LeavesSound, leaves_pending}
-use Rattle.model_cache.specs.Steps.{ThroughContents, CachedContents}
-use Rattle.model_cache.specs.Causes.{ThroughCause, CachedCause, WritesThrough}
+use Rattle.model_cache.specs.Steps.{ThroughContents}
+use Rattle.model_cache.specs.Causes.{ThroughCause, WritesThrough}
 use Rattle.ram_cache.specs.Caches.{cache_of}
-use Rattle.ram_cache.specs.Flushes.{CanFlush, FlushContents, FlushesDue, FlushedDue}
+use Rattle.ram_cache.specs.Flushes.{CanFlush, FlushContents, FlushesDue}
 use Rattle.ram_cache.proofs.Beginnings.{plain_disc}
 use Rattle.ram_cache.proofs.Through.{written_contents}
 

@@ -1,8 +1,8 @@
 -- A read block after block: the part of one block, and the turns of the loop.
-use Rattle.std.proofs.Common.{◌≡◌, ◌≢◌, ℕ, zero, suc, ◌+◌, ◌-◌, ◌*◌, ◌<◌, ◌≤◌, Bool, true, false, not, ◌&&◌, ◌==◌, List, [], ◌∷◌, ◌++◌, Option, Some, None, length, take, drop, refl, sym, ap, ◌∙◌, subst, inl, inr, arith, append_assoc}
-use Rattle.std.specs.Prelude.{nat_lt, cond, IsSome}
-use Rattle.std.specs.Option.{option_map, option_map_or}
-use Rattle.std.specs.List.{Contains, find, filter}
+use Rattle.std.proofs.Common.{◌≡◌, ◌≢◌, ℕ, zero, suc, ◌+◌, ◌-◌, ◌*◌, ◌<◌, Bool, true, false, not, ◌&&◌, ◌==◌, List, [], ◌∷◌, ◌++◌, Option, Some, None, length, take, drop, refl, sym, ap, ◌∙◌, subst, inl, inr, arith, append_assoc}
+use Rattle.std.specs.Prelude.{nat_lt, IsSome}
+use Rattle.std.specs.Option.{option_map}
+use Rattle.std.specs.List.{Contains, find}
 use Rattle.std.proofs.lemmas.Bool.{cases_eq, cases_lt, cond-true, cond-false, eq-eqb, ne_eqb, eqb-true, lt-ltb, le-ltb}
 use Rattle.std.proofs.lemmas.List.{drop-drop}
 use borrow.Rule.Slice.PartMut.{post_of}
@@ -14,15 +14,15 @@ use Rattle.model_sectors.specs.declared.ReadOut.{ReadOut}
 use Rattle.model_sectors.specs.declared.ReadOut.TheVariants as reads
 use Rattle.model_sectors.proofs.Pieces.{sectors_in_block, length_sectors}
 use Rattle.model_sectors.proofs.Covering.{covered_part}
-use Rattle.model_drive.specs.Shown.{Shown, IsOn, IsFormatted, StandsFor, block_count, capacity, cells_in}
+use Rattle.model_drive.specs.Shown.{Shown, IsOn, IsFormatted, StandsFor, block_count, cells_in}
 use Rattle.model_drive.specs.Parts.{IsInRange}
 use Rattle.model_drive.specs.Reads.{ReadCause, ReadStep}
 use Rattle.model_cache.specs.Chains.{ReadsDisc}
-use Rattle.model_cache.specs.Values.{Values, Contents, Has, MayHave, IsPending, IsUnder, IsTaken, StandsCached, is_among}
+use Rattle.model_cache.specs.Values.{Values, Contents, Has, MayHave, IsPending, IsUnder, StandsCached, is_among}
 use Rattle.model_cache.specs.Shown.{CacheShown}
 use Rattle.model_cache.specs.Steps.{ReadContents}
 use Rattle.model_cache.specs.Causes.{ReadsPart, ReadsParts, EndsReading, ReadPartsCause, leaves_after_read}
-use Rattle.model_cache.proofs.Members.{Contains-none, Contains-first, Contains-cases}
+use Rattle.model_cache.proofs.Members.{Contains-none, Contains-cases}
 use Rattle.ram_requests.proofs.ReadBytes.{done, prefix_none, prefix_more, prefix_all}
 use Rattle.ram_cache.specs.Rooms.{held_at, FirstOf}
 use Rattle.ram_cache.specs.Reading.{PartContents, ReadSoFar}
@@ -65,7 +65,7 @@ module _ (old new : Shown) (before after : Standing → Type 0) (p : List (ℕ �
         let there : start ≡ 16 * i + place = omega (arith, start_is) in
         let many : end - start ≡ count = omega (arith, start_is, end_is) in
         let long = length_sectors d (block_count old) start (end - start) (omega (arith, some, inside, start_is, end_is))
-            (long_by old.shape (cells_in old) old.lists old.buffer d (stands.2)) in
+        (long_by old.shape (cells_in old) old.lists old.buffer d (stands.2)) in
         filled_part lba n i at (2048 * (end - start)) (block_of v.disc i) written into (at_is ∙ ap (λ (s : ℕ). 2048 * (s - lba)) start_is) (ap (λ (m : ℕ). 2048 * m) many)
         (ap length is ∙ long)
         (is ∙ ap (λ (s : ℕ). sectors_of d s (end - start)) there
@@ -104,9 +104,11 @@ among_one i x = elim (cases_eq x i) [
     both : (a b : Bool) → a ≡ false → b ≡ true → not a && b ≡ true
     both true b e f = absurd (let w = e in cc)
     both false b e f = f
+
     first : (a b : Bool) → a ≡ true → not a && b ≡ false
     first true b e = refl
     first false b e = absurd (let w = e in cc)
+
     second : (a b : Bool) → b ≡ false → not a && b ≡ false
     second true b e = refl
     second false b e = e

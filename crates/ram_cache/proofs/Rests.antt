@@ -1,30 +1,24 @@
 -- The blocks of a write come into the cache: the rest of one, one after another, and all at once.
-use Rattle.std.proofs.Common.{◌≡◌, ◌≢◌, ℕ, zero, suc, ◌+◌, ◌-◌, ◌*◌, ◌<◌, ◌≤◌, ◌⊎◌, inl, inr, Bool, true, false, not, ◌&&◌, ◌==◌, List, [], ◌∷◌, ◌++◌, Option, Some, None, Result, Ok, Err, length, take, drop, map, refl, sym, ap, ◌∙◌, subst, arith, append_assoc, length-append}
-use Rattle.std.specs.Prelude.{IsTrue, IsOk, IsSome, is_some, cond, if◌then◌else◌}
-use Rattle.std.specs.List.{Contains, filter}
-use Rattle.std.proofs.lemmas.Bool.{cases_Bool, cases_lt, cases_eq, cond_both, false≢true}
-use Rattle.std.proofs.lemmas.List.Elements.{Contains-append_left, Contains-append_right, Contains-append_cases}
-use Rattle.std.proofs.lemmas.List.{map-append, append-nil, length-map}
-use Rattle.model_buffer.specs.Buffer.{bytes_at, numbers_in}
-use Rattle.model_sectors.specs.Discs.{Standing, On, Off, block_of, sectors_of, replaced}
-use Rattle.model_sectors.specs.Requests.{block_with, blocks_covered, start_in, end_in, is_partly, merged_in, IsCovered}
+use Rattle.std.proofs.Common.{◌≡◌, ℕ, ◌+◌, ◌-◌, ◌*◌, ◌<◌, inl, inr, Bool, true, false, List, [], ◌∷◌, Option, Some, Result, length, refl, sym, ap, ◌∙◌, subst, arith}
+use Rattle.std.specs.Prelude.{IsOk}
+use Rattle.std.proofs.lemmas.Bool.{cases_Bool, false≢true}
+use Rattle.model_buffer.specs.Buffer.{bytes_at}
+use Rattle.model_sectors.specs.Discs.{Standing, On, block_of}
+use Rattle.model_sectors.specs.Requests.{block_with, is_partly, merged_in, IsCovered}
 use Rattle.model_sectors.specs.declared.ReadOut.{ReadOut}
 use Rattle.model_sectors.specs.declared.ReadOut.TheVariants as reads
 use Rattle.model_sectors.proofs.Pieces.{length_block}
 use Rattle.model_sectors.proofs.Covering.{covered_inside}
 use Rattle.model_sectors.proofs.Merges.{merged_whole}
 use Rattle.model_drive.specs.declared.WriteOut.{WriteOut}
-use Rattle.model_drive.specs.declared.WriteOut.TheVariants as writes
-use Rattle.model_drive.specs.Shown.{Shown, IsOn, IsFormatted, StandsFor, block_count, capacity, cells_in}
+use Rattle.model_drive.specs.Shown.{Shown, StandsFor, block_count, cells_in}
 use Rattle.model_drive.specs.Parts.{IsInRange}
 use Rattle.model_drive.specs.Reads.{ReadCause, ReadStep}
-use Rattle.model_cache.specs.Values.{Values, Contents, Has, MayHave, IsPending, IsUnder, IsTaken, HasBlock, HasValue, StandsCached, is_among, cached, values_now}
-use Rattle.model_cache.specs.Shown.{CacheShown, AreApart}
-use Rattle.model_cache.specs.Causes.{ReadsRest, ReadsRests, ComesIn, leaves_after_read, fresh_blocks, put_over}
-use Rattle.model_cache.specs.Falling.{LiesIn}
-use Rattle.model_cache.proofs.Members.{Contains-none, Contains-first, Contains-later, Contains-cases}
-use Rattle.model_cache.proofs.ReplacedBlocks.{as_sectors, as_long_as}
-use Rattle.ram_cache.specs.Staging.{IsFresh, IsStaged, LacksRestOf, StagesNext, RestOf, RestContents, StagedContents, StagedSoFar, rest_out}
+use Rattle.model_cache.specs.Values.{Values, Has, IsPending, IsUnder, StandsCached}
+use Rattle.model_cache.specs.Shown.{CacheShown}
+use Rattle.model_cache.specs.Causes.{ReadsRest, leaves_after_read}
+use Rattle.model_cache.proofs.ReplacedBlocks.{as_sectors}
+use Rattle.ram_cache.specs.Staging.{IsFresh, IsStaged, RestContents, rest_out}
 use Rattle.ram_cache.proofs.Entering.{long_by}
 
 -- ---- the rest of one block

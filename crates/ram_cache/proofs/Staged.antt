@@ -1,5 +1,5 @@
 -- The turns by which all blocks of a write are made ready for the cache.
-use Rattle.std.proofs.Common.{◌≡◌, ◌≢◌, ℕ, zero, suc, ◌+◌, ◌-◌, ◌*◌, ◌<◌, ◌≤◌, ◌⊎◌, inl, inr, Bool, true, false, not, List, [], ◌∷◌, ◌++◌, Option, Some, None, Result, Ok, Err, length, map, refl, sym, ap, ◌∙◌, subst, arith, append_assoc, length-append}
+use Rattle.std.proofs.Common.{◌≡◌, ℕ, suc, ◌+◌, ◌-◌, ◌*◌, ◌<◌, ◌⊎◌, inl, inr, Bool, true, false, List, [], ◌∷◌, ◌++◌, Option, Some, None, Ok, Err, length, refl, sym, ap, ◌∙◌, subst, arith, append_assoc, length-append}
 use Rattle.std.specs.Prelude.{IsSome}
 use Rattle.std.specs.List.{Contains}
 use Rattle.std.proofs.lemmas.List.{map-append, length-map, append-nil}
@@ -8,15 +8,14 @@ use Rattle.model_buffer.specs.Buffer.{bytes_at, numbers_in}
 use Rattle.model_sectors.specs.Discs.{block_of}
 use Rattle.model_sectors.specs.Requests.{block_with, blocks_covered, start_in, end_in, is_partly, merged_in}
 use Rattle.model_sectors.proofs.Covering.{covered_part}
-use Rattle.model_sectors.specs.declared.ReadOut.TheVariants as reads
 use Rattle.model_drive.specs.declared.WriteOut.{WriteOut}
 use Rattle.model_drive.specs.Shown.{IsOn, IsFormatted, block_count}
 use Rattle.model_drive.specs.Parts.{IsInRange}
-use Rattle.model_cache.specs.Values.{Values, Contents, Has, MayHave, IsPending}
+use Rattle.model_cache.specs.Values.{Values, Contents, Has, IsPending}
 use Rattle.model_cache.specs.Shown.{CacheShown, AreApart}
-use Rattle.model_cache.specs.Causes.{ReadsRest, ReadsRests, fresh_blocks}
+use Rattle.model_cache.specs.Causes.{ReadsRest, fresh_blocks}
 use Rattle.model_cache.proofs.Members.{Contains-none, Contains-first, Contains-later, Contains-cases}
-use Rattle.ram_cache.specs.Staging.{IsFresh, IsStaged, LacksRestOf, StagesNext, StagedContents, StoppedContents, StagedSoFar, EndsComing, HasRoomFor}
+use Rattle.ram_cache.specs.Staging.{IsFresh, IsStaged, LacksRestOf, StagedContents, StoppedContents, StagedSoFar, EndsComing, HasRoomFor}
 use Rattle.ram_cache.proofs.Numbers.{has_number, merged_long}
 use Rattle.ram_cache.proofs.Fresh.{none_at, fresh_some, fresh_none, fresh_rise, fresh_below}
 
@@ -50,9 +49,10 @@ rest_keeps old new block false (Some held) on formatted same rest = keeps_itself
 -- one block more that is apart from the others
 apart_snoc : (xs : List (ℕ × List ℕ)) (i : ℕ) (b : List ℕ) → AreApart xs → ¬ IsPending xs i → AreApart (xs ++ (i, b) ∷ [])
 apart_snoc [] i b apart none = (λ bytes has. Contains-none (i, bytes) has, tt)
-apart_snoc (x ∷ xs) i b apart none =
-    (λ bytes has. first_apart bytes (Contains-append_cases xs ((i, b) ∷ []) (x.0, bytes) has),
-    apart_snoc xs i b (apart.1) (λ (held : IsPending xs i). none (held.0, Contains-later x xs (i, held.0) (held.1))))
+apart_snoc (x ∷ xs) i b apart none = (
+  λ bytes has. first_apart bytes (Contains-append_cases xs ((i, b) ∷ []) (x.0, bytes) has),
+  apart_snoc xs i b (apart.1) (λ (held : IsPending xs i). none (held.0, Contains-later x xs (i, held.0) (held.1))),
+)
   where
     first_apart : (bytes : List ℕ) → Contains xs (x.0, bytes) ⊎ Contains {X = ℕ × List ℕ} ((i, b) ∷ []) (x.0, bytes) → ⊥
     first_apart bytes (inl there) = apart.0 bytes there
@@ -119,6 +119,7 @@ module _ (start : CacheShown) (lba n : ℕ) (bytes : List ℕ) (before : Content
         where
           keeps : KeepsAll mid new
           keeps = rest_keeps mid new i (is_partly lba n i) (bytes_at i mid.pending) far.on far.formatted same one.rest
+
           by_held : (o : Option (List ℕ)) → bytes_at i mid.pending ≡ o → IsFresh lba n bytes i o list list' staged more
               → ((v : Values) → amid (Has v) → StagedContents after v lba n i bytes o list now (Ok more)) → StagedSoFar start new lba n (suc k) bytes list' more before after
           by_held (Some held) is fresh gave = record {
@@ -172,6 +173,7 @@ module _ (start : CacheShown) (lba n : ℕ) (bytes : List ℕ) (before : Content
                 | inl e ↦ (rest, long, sym (ap (λ (x : ℕ × List ℕ). x.1) e) ∙ ap (λ (m : ℕ). merged_in lba n bytes m rest) (ap (λ (x : ℕ × List ℕ). x.0) e))
                 | inr no' ↦ absurd (Contains-none (j, b) no')
               ]
+
               right_one : (v : Values) → ((j : ℕ) (b : List ℕ) → Contains list (j, b) → b ≡ merged_in lba n bytes j (block_of v.disc j)) → (j : ℕ) (b : List ℕ)
                   → Contains list (j, b) ⊎ Contains {X = ℕ × List ℕ} ((i, merged_in lba n bytes i (block_of v.disc i)) ∷ []) (j, b) → b ≡ merged_in lba n bytes j (block_of v.disc j)
               right_one v was j b (inl there) = was j b there

@@ -1,24 +1,20 @@
 -- What the write of pending blocks is for a synchronisation, and for a tick.
-use Rattle.std.proofs.Common.{◌≡◌, ◌≢◌, ℕ, zero, suc, ◌+◌, ◌*◌, ◌<◌, ◌≤◌, Bool, true, false, not, ◌&&◌, List, [], ◌∷◌, ◌++◌, Option, Some, None, length, take, drop, map, refl, sym, ap, ◌∙◌, subst, inl, arith}
+use Rattle.std.proofs.Common.{◌≡◌, ℕ, ◌*◌, ◌<◌, ◌≤◌, Bool, true, false, not, ◌&&◌, List, [], ◌∷◌, length, take, drop, refl, sym, ap, ◌∙◌, subst, inl, arith}
 use Rattle.std.specs.Prelude.{nat_lt, IsTrue, ◌↔◌}
-use Rattle.std.specs.List.{All, Contains, filter, remove}
+use Rattle.std.specs.List.{Contains, filter, remove}
 use Rattle.std.proofs.lemmas.Bool.{cond-true, le-ltb}
 use Rattle.std.proofs.lemmas.List.{take_all, drop_all, length-map}
-use Rattle.model_sectors.specs.Discs.{Standing, On, Off, block_of}
+use Rattle.model_sectors.specs.Discs.{Standing}
 use Rattle.model_buffer.specs.Buffer.{numbers_in}
 use Rattle.model_drive.specs.declared.WriteOut.{WriteOut}
 use Rattle.model_drive.specs.declared.WriteOut.TheVariants as writes
-use Rattle.model_drive.specs.Shown.{Shown, IsOn, StandsFor, block_count, buffered}
-use Rattle.model_cache.specs.declared.SyncOut.{SyncOut}
-use Rattle.model_cache.specs.declared.SyncOut.TheVariants as syncs
-use Rattle.model_cache.specs.declared.TickOut.{TickOut}
-use Rattle.model_cache.specs.declared.TickOut.TheVariants as ticks
+use Rattle.model_drive.specs.Shown.{block_count, buffered}
 use Rattle.model_cache.specs.declared.TheConstants.{CACHED_BLOCKS}
-use Rattle.model_cache.specs.Values.{Values, Contents, Has, MayHave, IsPending, IsUnder, StandsCached, settled_values, is_among}
-use Rattle.model_cache.specs.Shown.{CacheShown, AreApart, pending_in, dropped}
-use Rattle.model_cache.specs.Steps.{SyncContents, TickContents}
-use Rattle.model_cache.specs.Chains.{WritesBack, FlushesAll, EndsFlushing, leaves_pending}
-use Rattle.model_cache.specs.Causes.{SyncCause, SyncCauseOf, TickCause, TickCauseOf, StopsTick, sync_out}
+use Rattle.model_cache.specs.Values.{Values, Contents, Has, MayHave, IsPending, StandsCached, settled_values, is_among}
+use Rattle.model_cache.specs.Shown.{CacheShown, AreApart, pending_in}
+use Rattle.model_cache.specs.Steps.{SyncContents}
+use Rattle.model_cache.specs.Chains.{FlushesAll, EndsFlushing, leaves_pending}
+use Rattle.model_cache.specs.Causes.{SyncCauseOf, TickCauseOf, StopsTick, sync_out}
 use Rattle.model_cache.proofs.Members.{Contains-none}
 use Rattle.ram_cache.specs.Rooms.{held_at}
 use Rattle.ram_cache.specs.Flushes.{CanFlush, FlushesAt, FlushContents, FlushesDue, due_of, left_at, tick_out}
@@ -63,19 +59,23 @@ module _ (old new : CacheShown) (few : length old.pending ≤ CACHED_BLOCKS) whe
   -- nothing is pending after all were written
   none_left : FlushesDue old new false 0 0 CACHED_BLOCKS writes.Good → new.pending ≡ []
   none_left rule = none_numbered new.pending (
-    sym (all_due (pending_in new))
-        ∙ rule.left
-        ∙ ap (drop CACHED_BLOCKS) (all_due (pending_in old))
-        ∙ drop_all CACHED_BLOCKS (pending_in old) (omega (arith, few, length-map old.pending (λ (x : ℕ × List ℕ). x.0))))
+      sym (all_due (pending_in new))
+      ∙ rule.left
+      ∙ ap (drop CACHED_BLOCKS) (all_due (pending_in old))
+      ∙ drop_all CACHED_BLOCKS (pending_in old) (omega (arith, few, length-map old.pending (λ (x : ℕ × List ℕ). x.0))))
 
   -- then each block has its last value on the disc
   settles : (stands : Standing → Type 0) (p : List (ℕ × List ℕ)) (v : Values) → p ≡ [] → StandsCached stands p (Has v) → StandsCached stands p (Has (settled_values v.disc))
-  settles stands p v none (d, so, under) = (d, so, record {
-    taken = record { as_long = under.taken.as_long; each = λ i. inl (sym (under.others i (not_one i))) };
-    inside = under.inside;
-    last = under.last;
-    others = under.others;
-  })
+  settles stands p v none (d, so, under) = (
+    d,
+    so,
+    record {
+      taken = record { as_long = under.taken.as_long; each = λ i. inl (sym (under.others i (not_one i))) };
+      inside = under.inside;
+      last = under.last;
+      others = under.others;
+    },
+  )
     where
       not_one : (i : ℕ) → ¬ IsPending p i
       not_one i (bytes, has) = Contains-none (i, bytes) (subst (λ (l : List (ℕ × List ℕ)). Contains l (i, bytes)) none has)

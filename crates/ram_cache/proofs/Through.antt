@@ -1,25 +1,25 @@
 -- A write through the cache: its causes, and what it makes of what the drive stands for.
-use Rattle.std.proofs.Common.{◌≡◌, ◌≢◌, ℕ, zero, suc, ◌+◌, ◌-◌, ◌*◌, ◌<◌, ◌≤◌, ◌⊎◌, inl, inr, Bool, true, false, not, List, [], ◌∷◌, ◌++◌, length, take, drop, refl, sym, ap, ◌∙◌, subst, arith, length-append, length-take}
-use Rattle.std.specs.List.{Contains, filter, All}
+use Rattle.std.proofs.Common.{◌≡◌, ◌≢◌, ℕ, ◌+◌, ◌*◌, ◌≤◌, inl, inr, true, List, [], ◌∷◌, length, take, refl, sym, ap, ◌∙◌, subst, arith}
+use Rattle.std.specs.List.{Contains}
 use Rattle.std.proofs.lemmas.List.{length-map, drop_all, take_all}
 use Rattle.std.proofs.lemmas.List.Elements.{Contains-append_right}
-use Rattle.model_sectors.specs.Discs.{Standing, On, Off, replaced}
-use Rattle.model_sectors.specs.Requests.{block_with, blocks_covered, start_in, IsCovered, NamesBlock}
+use Rattle.model_sectors.specs.Discs.{Standing, On, replaced}
+use Rattle.model_sectors.specs.Requests.{block_with, blocks_covered, IsCovered, NamesBlock}
 use Rattle.model_sectors.proofs.Covering.{block_with_start, length-filter-le}
 use Rattle.model_drive.specs.declared.WriteOut.{WriteOut}
 use Rattle.model_drive.specs.declared.WriteOut.TheVariants as writes
-use Rattle.model_drive.specs.Shown.{Shown, IsOn, StandsFor, block_count, capacity, cells_in}
+use Rattle.model_drive.specs.Shown.{StandsFor, block_count, cells_in}
 use Rattle.model_drive.specs.Parts.{IsInRange}
 use Rattle.model_drive.specs.Writes.{WriteCause, WriteStep}
 use Rattle.model_cache.specs.declared.TheConstants.{CACHED_BLOCKS}
 use Rattle.model_cache.specs.Values.{Values, Contents, Has, MayHave, IsPending, IsUnder, IsTaken, StandsCached, is_among, written}
 use Rattle.model_cache.specs.Shown.{CacheShown, pending_in}
 use Rattle.model_cache.specs.Steps.{ThroughContents, ThroughValues, SomePending}
-use Rattle.model_cache.specs.Chains.{LeavesSound, Flushes, FlushesAll, EndsFlushing, leaves_pending}
-use Rattle.model_cache.specs.Causes.{ThroughCauseOf, WritesThrough, StopsWritingThrough}
+use Rattle.model_cache.specs.Chains.{LeavesSound, FlushesAll, EndsFlushing, leaves_pending}
+use Rattle.model_cache.specs.Causes.{ThroughCauseOf, WritesThrough}
 use Rattle.model_cache.specs.Falling.{LiesIn}
 use Rattle.model_cache.proofs.Members.{Contains-none, Contains-first, Contains-kept, Contains-passed}
-use Rattle.ram_cache.specs.Flushes.{CanFlush, FlushContents, FlushesDue, due_of}
+use Rattle.ram_cache.specs.Flushes.{FlushContents, FlushesDue, due_of}
 use Rattle.ram_cache.proofs.Entering.{long_by}
 use Rattle.ram_cache.proofs.Numbers.{has_number, number_held}
 use Rattle.ram_cache.proofs.Written.{among_parts, among_from, written_taken, written_under}
@@ -136,9 +136,12 @@ module _ (lba n : ℕ) where
 
         keeps : (v : Values) (d : List ℕ) (p : List (ℕ × List ℕ)) (b : ℕ) → amid (On d) → IsUnder mid.pending d v → b ≤ first + count → p ≡ mid.pending → after (On (replaced d lba bytes b))
             → StandsCached after p (Has (written v lba bytes b))
-        keeps v d p b so under few' same step =
-            (replaced d lba bytes b, step, subst (λ (l : List (ℕ × List ℕ)). IsUnder l (replaced d lba bytes b) (written v lba bytes b)) (sym same)
-            (written_under d v mid.pending under lba n bytes (lies_in d so) none_left b few'))
+        keeps v d p b so under few' same step = (
+          replaced d lba bytes b,
+          step,
+          subst (λ (l : List (ℕ × List ℕ)). IsUnder l (replaced d lba bytes b) (written v lba bytes b)) (sym same)
+              (written_under d v mid.pending under lba n bytes (lies_in d so) none_left b few'),
+        )
 
         named_few : (named k : ℕ) → NamesBlock lba n named k → block_with named ≤ first + count
         named_few named k names =
@@ -161,26 +164,34 @@ module _ (lba n : ℕ) where
         written_values v (writes.Unread named block) wrote left step (d, so, under) =
             keeps v d new.pending (block_with named) so under (named_few named (length wrote.course) wrote.is_named) left (step (On d) so)
         written_values v (writes.NoSpare named) wrote left step (d, so, under) =
-            inr (λ some. none_after new.pending left some.block some.covered some.pending,
-            keeps v d new.pending (block_with named) so under (named_few named (length wrote.course) wrote.is_named) left (step (On d) so))
+            inr (
+              λ some. none_after new.pending left some.block some.covered some.pending,
+              keeps v d new.pending (block_with named) so under (named_few named (length wrote.course) wrote.is_named) left (step (On d) so),
+            )
         written_values v (writes.NoUpdate counter) wrote left step (d, so, under) =
             let ended = step (On d) so in
             let covered = ended.covered in
-            inr (λ some. none_after new.pending left some.block some.covered some.pending, record {
-              block = ended.block;
-              covered = ended.covered;
-              dead = ended.dead;
-              first = ended.first;
-              before = keeps v d new.pending (first + ended.block) so under (omega (arith, covered)) left ended.before;
-            })
+            inr (
+              λ some. none_after new.pending left some.block some.covered some.pending,
+              record {
+                block = ended.block;
+                covered = ended.covered;
+                dead = ended.dead;
+                first = ended.first;
+                before = keeps v d new.pending (first + ended.block) so under (omega (arith, covered)) left ended.before;
+              },
+            )
         written_values v writes.Cut wrote left step (d, so, under) =
             let stopped = step (On d) so in
             let covered = stopped.covered in
             inr (record {
               block = stopped.block;
               covered = stopped.covered;
-              either = (replaced d lba bytes (first + stopped.block) ∷ replaced d lba bytes (first + (stopped.block + 1)) ∷ [], stopped.either,
-                  (taken_at v d (first + stopped.block) so under (omega (arith, covered)), (taken_at v d (first + (stopped.block + 1)) so under (omega (arith, covered)), refl)));
+              either = (
+                replaced d lba bytes (first + stopped.block) ∷ replaced d lba bytes (first + (stopped.block + 1)) ∷ [],
+                stopped.either,
+                (taken_at v d (first + stopped.block) so under (omega (arith, covered)), (taken_at v d (first + (stopped.block + 1)) so under (omega (arith, covered)), refl)),
+              );
             })
         written_values v writes.Off wrote left step (d, so, under) = absurd (wrote.off rule.can.on)
         written_values v writes.Fault wrote left step (d, so, under) =
@@ -189,8 +200,11 @@ module _ (lba n : ℕ) where
             inr (record {
               block = stopped.block;
               covered = stopped.covered;
-              either = (replaced d lba bytes (first + stopped.block) ∷ replaced d lba bytes (first + (stopped.block + 1)) ∷ [], stopped.either,
-                  (taken_at v d (first + stopped.block) so under (omega (arith, covered)), (taken_at v d (first + (stopped.block + 1)) so under (omega (arith, covered)), refl)));
+              either = (
+                replaced d lba bytes (first + stopped.block) ∷ replaced d lba bytes (first + (stopped.block + 1)) ∷ [],
+                stopped.either,
+                (taken_at v d (first + stopped.block) so under (omega (arith, covered)), (taken_at v d (first + (stopped.block + 1)) so under (omega (arith, covered)), refl)),
+              );
             })
 
         -- from what stood before the flushes

@@ -1,13 +1,13 @@
 -- What a write makes of a disc below and of the values of the disc that is shown.
-use Rattle.std.proofs.Common.{◌≡◌, ◌≢◌, ℕ, zero, suc, ◌+◌, ◌-◌, ◌*◌, ◌<◌, ◌≤◌, ◌⊎◌, inl, inr, Bool, true, false, not, ◌&&◌, List, [], ◌∷◌, ◌++◌, length, refl, sym, ap, ◌∙◌, subst, arith}
+use Rattle.std.proofs.Common.{◌≡◌, ℕ, ◌+◌, ◌-◌, ◌<◌, ◌≤◌, ◌⊎◌, inl, inr, Bool, true, false, not, List, length, refl, sym, ap, ◌∙◌, subst, arith}
 use Rattle.std.specs.Prelude.{nat_lt}
-use Rattle.std.specs.List.{Contains, filter}
+use Rattle.std.specs.List.{Contains}
 use Rattle.std.proofs.lemmas.Bool.{cases_lt, cases_Bool, and_from, and_parts, not_from_false, lt-ltb, le-ltb, ltb-true, ltb-false}
 use Rattle.model_sectors.specs.Discs.{block_of, replaced}
 use Rattle.model_sectors.specs.Requests.{block_with, blocks_covered, start_in, end_in, merged_in, IsCovered}
-use Rattle.model_sectors.proofs.Merges.{with_part, block_of-with_part, replaced-with_part}
+use Rattle.model_sectors.proofs.Merges.{block_of-with_part, replaced-with_part}
 use Rattle.model_sectors.proofs.Covering.{covered_part}
-use Rattle.model_cache.specs.Values.{Values, HasValue, HasBlock, IsPending, IsTaken, IsUnder, is_among, older_but, written}
+use Rattle.model_cache.specs.Values.{Values, HasValue, IsPending, IsTaken, IsUnder, is_among, older_but, written}
 use Rattle.model_cache.specs.Falling.{LiesIn}
 use Rattle.model_cache.proofs.Members.{Contains-kept}
 use Rattle.model_cache.proofs.ReplacedBlocks.{unreached_block, reached_block, missed_block, as_long_as}
@@ -72,7 +72,7 @@ module _ (d : List ℕ) (v : Values) (p : List (ℕ × List ℕ)) (under : IsUnd
   reached_or : (i : ℕ) → ((block_with lba ≤ i) × (i < b)) ⊎ past i
   reached_or i = elim (cases_lt i (block_with lba)) [
     | inl low ↦ inr (inl low)
-    | inr from ↦ elim (cases_lt i b) [ | inl below ↦ inl (from, below) | inr high ↦ inr (inr high) ]
+    | inr from ↦ elim (cases_lt i b) [ inl below ↦ inl (from, below) | inr high ↦ inr (inr high) ]
   ]
 
   covered_by : (i : ℕ) → block_with lba ≤ i → i < b → IsCovered lba n i
@@ -92,7 +92,7 @@ module _ (d : List ℕ) (v : Values) (p : List (ℕ × List ℕ)) (under : IsUnd
     where
       away : past i → (i < block_with lba) ⊎ (block_with lba + (b - block_with lba) ≤ i)
       away (inl low) = inl low
-      away (inr high) = elim (cases_lt i (block_with lba)) [ | inl low ↦ inl low | inr from ↦ inr (omega (arith, high, from)) ]
+      away (inr high) = elim (cases_lt i (block_with lba)) [ inl low ↦ inl low | inr from ↦ inr (omega (arith, high, from)) ]
 
   pub written_taken : IsTaken (written v lba bytes b) (replaced d lba bytes b)
   written_taken = record {

@@ -1,6 +1,5 @@
 -- What a drive with a write cache shows and stands for, by its disc and its cache. (This project's own.)
 use Rattle.std.specs.Prelude.{ℕ, Bool, List}
-use Rattle.model_sectors.specs.Discs.{Standing}
 use Rattle.model_drive.specs.Shown.{Shown}
 use Rattle.model_cache.specs.Values.{Contents, StandsCached}
 use Rattle.model_cache.specs.Shown.{CacheShown}

@@ -1,5 +1,5 @@
 -- The write of pending blocks to the disc, step by step: for the code of a drive with a write cache. (This project's own.)
-use Rattle.std.specs.Prelude.{◌≡◌, ◌≢◌, ℕ, ◌+◌, ◌*◌, ◌<◌, ◌≤◌, Bool, true, false, not, List, [], ◌∷◌, ◌++◌, length, take, drop}
+use Rattle.std.specs.Prelude.{◌≡◌, ℕ, ◌*◌, ◌<◌, ◌≤◌, Bool, true, false, not, List, [], ◌∷◌, ◌++◌, length, take, drop}
 use Rattle.std.specs.List.{All, remove, filter}
 use Rattle.model_sectors.specs.declared.TheConstants.{MOST_SECTORS}
 use Rattle.model_drive.specs.declared.WriteOut.{WriteOut}

@@ -1,5 +1,5 @@
 -- A read while blocks are pending, block after block: for the code of a drive with a write cache. (This project's own.)
-use Rattle.std.specs.Prelude.{◌≡◌, ℕ, ◌+◌, ◌*◌, List, [], ◌∷◌, length, take}
+use Rattle.std.specs.Prelude.{◌≡◌, ℕ, ◌*◌, List, [], ◌∷◌, length, take}
 use Rattle.model_sectors.specs.Discs.{block_of, sectors_of}
 use Rattle.model_sectors.specs.Requests.{filled_by}
 use Rattle.model_sectors.specs.declared.ReadOut.{ReadOut}

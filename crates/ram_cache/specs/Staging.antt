@@ -1,5 +1,5 @@
 -- How the blocks of a write come into the cache: for the code of a drive with a write cache. (This project's own.)
-use Rattle.std.specs.Prelude.{◌≡◌, ◌≢◌, ℕ, ◌+◌, ◌*◌, ◌<◌, ◌≤◌, true, Option, Some, None, Result, Ok, Err, List, [], ◌∷◌, ◌++◌, length}
+use Rattle.std.specs.Prelude.{◌≡◌, ℕ, ◌+◌, ◌*◌, ◌<◌, ◌≤◌, true, Option, Some, None, Result, Ok, Err, List, [], ◌∷◌, ◌++◌, length}
 use Rattle.std.specs.List.{Contains}
 use Rattle.model_buffer.specs.Buffer.{bytes_at, numbers_in}
 use Rattle.model_sectors.specs.Discs.{block_of}
@@ -9,7 +9,6 @@ use Rattle.model_sectors.specs.declared.ReadOut.TheVariants as reads
 use Rattle.model_drive.specs.declared.WriteOut.{WriteOut}
 use Rattle.model_drive.specs.declared.WriteOut.TheVariants as writes
 use Rattle.model_drive.specs.Shown.{IsOn, IsFormatted, block_count}
-use Rattle.model_drive.specs.Parts.{IsInRange}
 use Rattle.model_cache.specs.Values.{Values, Contents, Has, MayHave}
 use Rattle.model_cache.specs.Shown.{CacheShown, AreApart}
 use Rattle.model_cache.specs.Chains.{ReadsDisc, leaves_pending}

@@ -7,7 +7,7 @@ use std::alloc::{AllocError, Global};
 /// A disc with a write cache. It keeps no fact about its disc, so that the disc may be lent.
 #[derive(Drop)]
 pub struct Cached<D: Disc> {
-    /// The disc below.
+    /// The disc below. It may be worked on beside the drive's calls: what is pending and whether the cache is on stay.
     pub disc: D,
     /// The blocks whose last acknowledged bytes are not on it.
     pub(crate) pending: PendingBlocks,
@@ -34,18 +34,6 @@ impl<D: Disc> Cached<D> {
             }),
             Err(refused) => Err((disc, refused)),
         }
-    }
-
-    /// The disc below.
-    pub fn disc(&self) -> &D
-        ensures { result.now ≡ self.now.disc }
-    {
-        &self.disc
-    }
-
-    /// The disc below, to be worked on beside the drive's calls. What is pending and whether the cache is on stay.
-    pub fn disc_mut(&mut self) -> &mut D {
-        &mut self.disc
     }
 
     /// The disc below. What is pending is lost.

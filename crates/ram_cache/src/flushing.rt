@@ -48,10 +48,8 @@ fn told_of_tick(out: WriteOut, lba: u32) -> TickOut
         WriteOut::NoUpdate { counter } => TickOut::NoUpdate { counter },
         WriteOut::Cut => TickOut::Cut,
         WriteOut::Fault => TickOut::Fault,
-        WriteOut::NotFormatted
-        | WriteOut::Range { .. }
-        | WriteOut::Unread { .. }
-        | WriteOut::Off => TickOut::Off,
+        WriteOut::NotFormatted | WriteOut::Range { .. } | WriteOut::Unread { .. } | WriteOut::Off =>
+            TickOut::Off,
     }
 }
 
@@ -114,7 +112,9 @@ impl<D: Disc> Cached<D> {
         ensures same_shape { (D.shows self.new.disc).shape ≡ (D.shows self.old.disc).shape }
     {
         let number = self.pending.number(k);
-        let out = self.disc.write(16 * number, 16, self.pending.block(k).bytes());
+        let out = self
+            .disc
+            .write(16 * number, 16, self.pending.block(k).bytes());
         match out {
             WriteOut::Good => self.pending.remove(k),
             WriteOut::Cut | WriteOut::Fault => self.pending.drop_all(),
@@ -125,7 +125,14 @@ impl<D: Disc> Cached<D> {
 
     /// Writes pending blocks to the disc, the oldest first, up to the first that is refused, and so many at most: those that are
     /// among `count` blocks from block `first` on, or those that are not.
-    pub(crate) fn flush_due(&mut self, among: bool, first: u32, count: u32, most: usize, sectors: u32) -> WriteOut
+    pub(crate) fn flush_due(
+        &mut self,
+        among: bool,
+        first: u32,
+        count: u32,
+        most: usize,
+        sectors: u32,
+    ) -> WriteOut
         requires can { CanFlush (shown_by D.Sectors self.old) }
         requires sectors { sectors ≡ capacity (D.shows self.old.disc) }
         ensures rule { FlushesDue (shown_by D.Sectors self.old) (shown_by D.Sectors self.new) among first count most result }

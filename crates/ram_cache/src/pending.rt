@@ -170,8 +170,10 @@ impl PendingBlocks {
     fn put_over(&mut self, k: usize, part: Part, from: &[u8])
         requires there { k < length (pending_of self.old) }
         requires whole { length from.now ≡ 2048 * part.request.n }
-        ensures pending { pending_of self.new ≡ slice_set (pending_of self.old) k ((held_at (pending_of self.old) k).0,
-            merged_in part.request.lba part.request.n from.now part.block ((held_at (pending_of self.old) k).1)) }
+        ensures pending { pending_of self.new ≡ slice_set (pending_of self.old) k (
+          (held_at (pending_of self.old) k).0,
+          merged_in part.request.lba part.request.n from.now part.block ((held_at (pending_of self.old) k).1),
+        ) }
         ensures rest { (staged : ℕ) → staged_of self.new staged ≡ staged_of self.old staged }
     {
         let room = &mut self.rooms[k];

@@ -34,7 +34,9 @@ impl<D: Disc> Cached<D> {
     {
         let at = part.skipped();
         let len = SECTOR_BYTES * (part.end - part.start) as usize;
-        let out = self.disc.read(part.start, part.end - part.start, &mut into[at..at + len]);
+        let out = self
+            .disc
+            .read(part.start, part.end - part.start, &mut into[at..at + len]);
         self.after_read(out);
         out
     }

@@ -52,10 +52,16 @@ impl<D: Disc> Cached<D> {
         ensures cause { ThroughCauseOf (shown_by D.Sectors self.old) (shown_by D.Sectors self.new) request.lba request.n result }
         ensures step { (s : Contents) → stands_by D.Sectors self.old s
             → ThroughContents (shown_by D.Sectors self.old) (shown_by D.Sectors self.new) (stands_by D.Sectors self.new) s
-                request.lba request.n from.now result }
+            request.lba request.n from.now result }
         ensures same_shape { (D.shows self.new.disc).shape ≡ (D.shows self.old.disc).shape }
     {
-        match self.flush_due(true, request.first(), request.blocks(), CACHED_BLOCKS as usize, sectors) {
+        match self.flush_due(
+            true,
+            request.first(),
+            request.blocks(),
+            CACHED_BLOCKS as usize,
+            sectors,
+        ) {
             WriteOut::Good => self.write_below(request, from),
             refused => refused,
         }
@@ -106,7 +112,7 @@ impl<D: Disc> Cached<D> {
             (staged_of self.old.pending staged) (staged_of self.new.pending) staged result }
         ensures step { (v : Values) → ¬ IsPending (pending_of self.old.pending) part.block → stands_by D.Sectors self.old (Has v)
             → StagedContents (stands_by D.Sectors self.new) v part.request.lba part.request.n part.block from.now None
-                (staged_of self.old.pending staged) (staged_of self.new.pending) result }
+            (staged_of self.old.pending staged) (staged_of self.new.pending) result }
         ensures same_shape { (D.shows self.new.disc).shape ≡ (D.shows self.old.disc).shape }
     {
         match self.rest_of(part, staged) {
@@ -119,7 +125,13 @@ impl<D: Disc> Cached<D> {
     }
 
     /// Makes the block after `k` others of a request one of those to come, if it is not pending.
-    fn stage_next(&mut self, request: Request, k: u32, staged: usize, from: &[u8]) -> Result<usize, WriteOut>
+    fn stage_next(
+        &mut self,
+        request: Request,
+        k: u32,
+        staged: usize,
+        from: &[u8],
+    ) -> Result<usize, WriteOut>
         requires covered { k < blocks_covered request.lba request.n }
         requires inside { IsInRange (D.shows self.old.disc) request.lba request.n }
         requires room { bytes_at (block_with request.lba + k) (pending_of self.old.pending) ≡ None
@@ -129,8 +141,8 @@ impl<D: Disc> Cached<D> {
             (staged_of self.old.pending staged) (staged_of self.new.pending) staged result }
         ensures step { (v : Values) → stands_by D.Sectors self.old (Has v)
             → StagedContents (stands_by D.Sectors self.new) v request.lba request.n (block_with request.lba + k) from.now
-                (bytes_at (block_with request.lba + k) (pending_of self.old.pending))
-                (staged_of self.old.pending staged) (staged_of self.new.pending) result }
+            (bytes_at (block_with request.lba + k) (pending_of self.old.pending))
+            (staged_of self.old.pending staged) (staged_of self.new.pending) result }
         ensures same_shape { (D.shows self.new.disc).shape ≡ (D.shows self.old.disc).shape }
     {
         let part = request.part(k);
@@ -202,7 +214,14 @@ impl<D: Disc> Cached<D> {
 
     /// Writes sectors of a disc that has so many, and all pending blocks: into the cache where that is asked and few blocks are
     /// covered, and else through it.
-    fn write_on(&mut self, into_cache: bool, sectors: u32, lba: u32, n: u32, from: &[u8]) -> WriteOut
+    fn write_on(
+        &mut self,
+        into_cache: bool,
+        sectors: u32,
+        lba: u32,
+        n: u32,
+        from: &[u8],
+    ) -> WriteOut
         requires few { n ≤ TRANSFER_LIMIT }
         requires whole { length from.now ≡ 2048 * n }
         requires ready { IsReady (shown_by D.Sectors self.old) sectors }
@@ -222,7 +241,13 @@ impl<D: Disc> Cached<D> {
     }
 
     /// Writes sectors while blocks are pending, or while the cache is on.
-    pub(crate) fn write_entering(&mut self, into_cache: bool, lba: u32, n: u32, from: &[u8]) -> WriteOut
+    pub(crate) fn write_entering(
+        &mut self,
+        into_cache: bool,
+        lba: u32,
+        n: u32,
+        from: &[u8],
+    ) -> WriteOut
         requires few { n ≤ TRANSFER_LIMIT }
         requires whole { length from.now ≡ 2048 * n }
         ensures cause { WritesBy (shown_by D.Sectors self.old) (shown_by D.Sectors self.new) into_cache lba n from.now result }

@@ -1,4 +1,3 @@
-use Rattle.std.proofs.Common.{refl}
 use Rattle.ram_cache.specs.Rooms.{pending_of}
 use Rattle.ram_cache.proofs.Entering.{ready, unformatted, stands_ready, stands_unformatted, not_false}
 use Rattle.ram_cache.proofs.cached.Cached.enter.Goals as goal

@@ -1,5 +1,4 @@
-use Rattle.std.proofs.Common.{Option, ℕ, subst, refl, ◌∙◌, arith}
-use Rattle.ram_cache.specs.Rooms.{pending_of, FirstOf}
+use Rattle.std.proofs.Common.{◌∙◌, arith}
 use Rattle.ram_cache.specs.Caches.{shown_by, stands_by}
 use Rattle.ram_cache.proofs.Due.{flushed_more, refused, flushed_all}
 use Rattle.ram_cache.proofs.cached.Cached.flush_due.Goals as goal

@@ -1,5 +1,4 @@
-use Rattle.std.proofs.Common.{sym}
-use Rattle.ram_cache.specs.Caches.{shown_by, stands_by}
+use Rattle.ram_cache.specs.Caches.{shown_by}
 use Rattle.ram_cache.specs.Rooms.{pending_of}
 use Rattle.ram_cache.proofs.Beginnings.{plain_read, out_of_range, read_past}
 use Rattle.ram_cache.proofs.Telling.{not_empty}

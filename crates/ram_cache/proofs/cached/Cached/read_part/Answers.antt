@@ -1,11 +1,10 @@
 use Rattle.std.proofs.Common.{ℕ, List, Option, Some, None, refl, sym, ap, ◌∙◌, ◌+◌, subst, true}
-use Rattle.model_buffer.specs.Buffer.{bytes_at}
 use Rattle.model_sectors.specs.Requests.{block_with, filled_by}
 use Rattle.model_sectors.specs.declared.ReadOut.TheVariants as reads
 use Rattle.model_cache.specs.Causes.{ReadsPart}
 use Rattle.ram_requests.specs.declared.requests.Request.{Request}
 use Rattle.ram_cache.specs.Caches.{shown_by, stands_by}
-use Rattle.ram_cache.specs.Rooms.{pending_of, held_at, FirstOf}
+use Rattle.ram_cache.specs.Rooms.{pending_of, FirstOf}
 use Rattle.ram_cache.specs.Reading.{PartContents}
 use Rattle.ram_cache.proofs.ReadParts.{found_at, found_none, found_block, none_pending}
 use Rattle.ram_cache.proofs.cached.Cached.read_part.Goals as goal
@@ -22,8 +21,7 @@ pub returns-in-Some-clause-step : goal.returns-in-Some-clause-step
 returns-in-Some-clause-step g c = λ v (d, so, under).
     let p = pending_of c.args.self.now.pending in
     let i = block_with c.args.request.lba + c.args.k in
-    let first : FirstOf p true i 1 (Some c.in-Some.place) = subst (λ (j : ℕ). FirstOf p true j 1 (Some c.in-Some.place)) c.part-part.ensures.block c.in-Some.ensures in
-    (
+    let first : FirstOf p true i 1 (Some c.in-Some.place) = subst (λ (j : ℕ). FirstOf p true j 1 (Some c.in-Some.place)) c.part-part.ensures.block c.in-Some.ensures in (
       (d, so, under),
       c.copy_out.ensures
           ∙ ap (λ (r : Request). filled_by r.lba r.n c.part-part.result.block c.block.result.now c.args.into.now) c.part-part.ensures.request

@@ -1,4 +1,4 @@
-use Rattle.std.proofs.Common.{◌∙◌, sym, arith}
+use Rattle.std.proofs.Common.{◌∙◌, arith}
 use Rattle.ram_cache.specs.Caches.{shown_by, stands_by}
 use Rattle.ram_cache.specs.Rooms.{pending_of}
 use Rattle.ram_cache.proofs.ReadParts.{long_values, never_off, read_none, read_more, part_ends, part_stops, all_contents}

@@ -1,7 +1,6 @@
-use Rattle.std.proofs.Common.{ℕ, List, ◌*◌, refl, sym, ap, ◌∙◌, subst}
+use Rattle.std.proofs.Common.{◌*◌, sym, ap, ◌∙◌, subst}
 use Rattle.model_drive.specs.Reads.{ReadCause, ReadStep}
 use Rattle.model_cache.specs.Causes.{leaves_after_read}
-use Rattle.model_cache.specs.Values.{IsPending, StandsCached, Has}
 use Rattle.ram_cache.specs.declared.pending.PendingBlocks.{PendingBlocks}
 use Rattle.ram_cache.specs.Rooms.{pending_of, staged_of, room_of}
 use Rattle.ram_cache.proofs.Rests.{ok_good, rest_contents}

@@ -1,6 +1,6 @@
 use Rattle.std.proofs.Common.{arith}
 use Rattle.ram_cache.specs.Caches.{shown_by, stands_by}
-use Rattle.ram_cache.specs.Rooms.{pending_of, staged_of}
+use Rattle.ram_cache.specs.Rooms.{staged_of}
 use Rattle.ram_cache.proofs.Staged.{room_next, staged_more, staged_ends, stopped_contents}
 use Rattle.ram_cache.proofs.cached.Cached.stage_all.Goals as goal
 

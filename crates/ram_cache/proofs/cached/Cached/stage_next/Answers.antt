@@ -1,11 +1,9 @@
-use Rattle.std.proofs.Common.{ℕ, List, Option, Some, None, Ok, refl, sym, ap, ◌∙◌, ◌+◌, subst, true}
-use Rattle.model_buffer.specs.Buffer.{bytes_at}
-use Rattle.model_sectors.specs.Requests.{block_with, is_partly}
-use Rattle.model_cache.specs.Causes.{ReadsRest}
+use Rattle.std.proofs.Common.{ℕ, List, Option, Some, None, Ok, sym, ◌+◌, subst, true}
+use Rattle.model_sectors.specs.Requests.{block_with}
 use Rattle.ram_requests.specs.declared.requests.Request.{Request}
 use Rattle.ram_cache.specs.Caches.{shown_by, stands_by}
 use Rattle.ram_cache.specs.Rooms.{pending_of, staged_of, held_at, FirstOf}
-use Rattle.ram_cache.specs.Staging.{IsFresh, StagedContents, StagesNext}
+use Rattle.ram_cache.specs.Staging.{StagedContents}
 use Rattle.ram_cache.proofs.ReadParts.{found_at, found_none, none_pending}
 use Rattle.ram_cache.proofs.Rests.{staged_already}
 use Rattle.ram_cache.proofs.cached.Cached.stage_next.Goals as goal

@@ -1,5 +1,4 @@
-use Rattle.std.proofs.Common.{ℕ, List, ap, sym, subst, ◌∙◌, arith}
-use Rattle.model_buffer.specs.Buffer.{numbers_in}
+use Rattle.std.proofs.Common.{ℕ, List, ap, sym, ◌∙◌, arith}
 use Rattle.model_cache.specs.Causes.{fresh_blocks}
 use Rattle.model_sectors.specs.Requests.{block_with, blocks_covered}
 use Rattle.ram_cache.specs.Caches.{shown_by, stands_by}

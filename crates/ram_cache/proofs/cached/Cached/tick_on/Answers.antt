@@ -1,7 +1,7 @@
-use Rattle.std.proofs.Common.{ℕ, ◌*◌, ap, subst, sym, arith}
+use Rattle.std.proofs.Common.{ℕ, ◌*◌, ap, subst, sym}
 use Rattle.model_cache.specs.declared.TickOut.{TickOut}
 use Rattle.model_cache.specs.Causes.{TickCauseOf}
-use Rattle.ram_cache.specs.Caches.{shown_by, stands_by}
+use Rattle.ram_cache.specs.Caches.{shown_by}
 use Rattle.ram_cache.specs.Rooms.{pending_of}
 use Rattle.ram_cache.proofs.Telling.{tick_cause, not_empty}
 use Rattle.ram_cache.proofs.cached.Cached.tick_on.Goals as goal

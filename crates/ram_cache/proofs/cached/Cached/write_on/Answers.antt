@@ -1,4 +1,4 @@
-use Rattle.ram_cache.specs.Caches.{shown_by, stands_by}
+use Rattle.ram_cache.specs.Caches.{shown_by}
 use Rattle.ram_cache.specs.Calls.{goes_in}
 use Rattle.ram_cache.proofs.Beginnings.{out_of_range}
 use Rattle.ram_cache.proofs.IntoCache.{either_way}

@@ -1,10 +1,8 @@
-use Rattle.std.proofs.Common.{ℕ, refl, subst, sym, ◌∙◌, true}
-use Rattle.model_drive.specs.declared.WriteOut.{WriteOut}
+use Rattle.std.proofs.Common.{ℕ, subst, true}
 use Rattle.model_drive.specs.declared.WriteOut.TheVariants as writes
 use Rattle.model_sectors.specs.Requests.{block_with, blocks_covered}
 use Rattle.model_cache.specs.declared.TheConstants.{CACHED_BLOCKS}
 use Rattle.ram_cache.specs.Caches.{shown_by, stands_by}
-use Rattle.ram_cache.specs.Rooms.{pending_of}
 use Rattle.ram_cache.specs.Flushes.{FlushesDue}
 use Rattle.model_cache.proofs.Standing.{few_pending}
 use Rattle.ram_cache.proofs.Through.{refused_cause, refused_contents, written_cause, written_contents}

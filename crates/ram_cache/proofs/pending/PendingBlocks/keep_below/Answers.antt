@@ -1,4 +1,4 @@
-use Rattle.std.proofs.Common.{◌∙◌, ap, subst, sym, ℕ, ◌<◌, ◌≤◌, length, arith}
+use Rattle.std.proofs.Common.{◌∙◌, subst, ℕ, ◌<◌, ◌≤◌, length, arith}
 use Rattle.ram_cache.specs.Rooms.{pending_of}
 use Rattle.ram_cache.proofs.Places.{below_removed, before_removed, shorter_removed, all_kept}
 use Rattle.ram_cache.proofs.pending.PendingBlocks.keep_below.Goals as goal

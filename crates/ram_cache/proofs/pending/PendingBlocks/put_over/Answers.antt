@@ -1,6 +1,5 @@
-use Rattle.std.proofs.Common.{ℕ, ◌+◌, ◌<◌, List, [], ◌∷◌, take, length, set, refl, subst, sym, ap, ◌∙◌, arith}
+use Rattle.std.proofs.Common.{ℕ, ◌<◌, List, take, length, set, refl, subst, sym, ap, ◌∙◌}
 use Rattle.model_sectors.specs.Requests.{start_in, end_in, merged_in}
-use Rattle.ram_cache.specs.Rooms.{held_at}
 use Rattle.ram_cache.proofs.Numbers.{take_set, held_there, apart_set, whole_set, merged_long}
 use Rattle.ram_cache.proofs.pending.PendingBlocks.put_over.Goals as goal
 
@@ -10,7 +9,7 @@ invariant_of-self c =
     let was = c.index_mut-room.result.now in
     let part = c.args.part in
     let some : start_in part.request.lba part.block < end_in part.request.lba part.request.n part.block = subst (λ (e : ℕ). start_in part.request.lba part.block < e) part.end_is
-        (subst (λ (s : ℕ). s < part.end) part.start_is part.some) in
+    (subst (λ (s : ℕ). s < part.end) part.start_is part.some) in
     record {
       many = c.args.self.now.many;
       few = c.args.self.now.few;

@@ -1,6 +1,5 @@
-use Rattle.std.proofs.Common.{[], take, subst, sym, ap, ◌∙◌, List, ℕ, length, arith}
-use Rattle.model_cache.specs.Shown.{AreApart}
-use Rattle.ram_cache.proofs.Places.{front_removed, left_removed, apart_left, whole_left}
+use Rattle.std.proofs.Common.{sym, ◌∙◌, arith}
+use Rattle.ram_cache.proofs.Places.{left_removed, apart_left, whole_left}
 use Rattle.ram_cache.proofs.pending.PendingBlocks.remove.Goals as goal
 
 pub invariant_of-self : goal.invariant_of-self

@@ -1,4 +1,4 @@
-use Rattle.std.proofs.Common.{ℕ, ◌+◌, ◌<◌, ◌≤◌, ◌≡◌, List, map, take, drop, length, refl, subst, sym, ap, ◌∙◌, arith, length-take}
+use Rattle.std.proofs.Common.{◌≡◌, map, take, length, refl, ap, ◌∙◌, arith, length-take}
 use Rattle.std.proofs.lemmas.List.{length-map}
 use Rattle.model_cache.specs.Causes.{put_over}
 use Rattle.ram_cache.specs.Rooms.{pending_of, staged_of}
