@@ -4,6 +4,7 @@ use Rattle.model_sectors.specs.Discs.{Standing, On, Off, sectors_of}
 use Rattle.model_sectors.specs.declared.ReadOut.{ReadOut}
 use Rattle.model_sectors.specs.declared.ReadOut.TheVariants as reads
 use Rattle.model_drive.specs.Shown.{Shown, IsOn, IsFormatted, StandsFor, block_count, cells_in}
+use Rattle.model_drive.specs.Sound.{IsSound}
 use Rattle.model_drive.specs.Reads.{ReadCause, ReadStep}
 use Rattle.model_cache.specs.declared.SyncOut.{SyncOut}
 use Rattle.model_cache.specs.declared.SyncOut.TheVariants as syncs
@@ -110,12 +111,16 @@ module _ (old : CacheShown) where
   read_entered mid new lba n reads.Off is cause = absurd cause
   read_entered mid new lba n reads.Fault is cause = subst (λ (m : CacheShown). CacheReadBy m.pending m new lba n reads.Fault) is cause
 
-  pub read_unformatted : (new : CacheShown) (lba n : ℕ) → EnterRule old new entered.NotFormatted → CacheReadCause old new lba n reads.NotFormatted
-  read_unformatted new lba n (on, bare, is, none) =
+  pub read_unformatted : (new : CacheShown) (lba n : ℕ) → IsSound old.drive → EnterRule old new entered.NotFormatted → CacheReadCause old new lba n reads.NotFormatted
+  read_unformatted new lba n sound (on, bare, is, none) =
       by_list ((dropped old).pending) (sym (ap (λ (s : CacheShown). s.pending) is) ∙ none)
     where
       by_list : (p : List (ℕ × List ℕ)) → p ≡ [] → CacheReadBy p (dropped old) new lba n reads.NotFormatted
-      by_list [] e = (record { on = on; unformatted = bare; nothing = ap (λ (s : CacheShown). s.drive) is }, (none, ap (λ (s : CacheShown). s.caches) is))
+      by_list [] e = (record {
+        cause = record { on = on; unformatted = bare; nothing = ap (λ (s : CacheShown). s.drive) is };
+        quiet = λ inside at. absurd (bare inside.formatted);
+        leaves = record { same_shape = ap (λ (s : CacheShown). s.drive.shape) is; sound = subst (λ (s : CacheShown). IsSound s.drive) (sym is) sound };
+      }, (none, ap (λ (s : CacheShown). s.caches) is))
       by_list (held ∷ p) e = absurd (let w = e in cc)
 
   pub sync_entered : (mid new : CacheShown) (out : SyncOut) → mid ≡ dropped old → SyncCauseOf mid new out → SyncCause old new out
