@@ -1,6 +1,8 @@
 -- A write into the cache: its causes, and what it makes of what the drive stands for.
 use Rattle.std.proofs.Common.{◌≡◌, ◌≢◌, ℕ, ◌+◌, ◌-◌, ◌≤◌, inl, inr, Bool, true, false, not, List, length, take, refl, sym, ap, ◌∙◌, subst, arith, length-drop}
-use Rattle.std.specs.Prelude.{MatchBool, nat_lt}
+use Rattle.std.specs.Prelude.{MatchBool, nat_lt, ◌&&◌, ◌<◌}
+use Rattle.std.proofs.lemmas.Bool.{le-ltb}
+use Rattle.model_cache.specs.declared.TheConstants.{CACHED_AT_ONCE}
 use Rattle.std.specs.List.{Contains, filter}
 use Rattle.std.proofs.lemmas.List.{length-map}
 use Rattle.model_buffer.specs.Buffer.{numbers_in}
@@ -164,6 +166,26 @@ refused_cached_contents after lba n bytes (MayHave all) out not_good p = absurd 
 pub either_way : (b : Bool) (P : Type 0) → P → MatchBool b P P
 either_way true P p = p
 either_way false P p = p
+
+-- a write that does not go in goes through
+not_both : (a b : Bool) → b ≡ false → a && b ≡ false
+not_both true b e = e
+not_both false b e = refl
+
+pub off_not : (into_cache : Bool) (lba n : ℕ) → into_cache ≡ false → goes_in into_cache lba n ≡ false
+off_not true lba n e = absurd (let w = e in cc)
+off_not false lba n e = refl
+
+pub many_not : (into_cache : Bool) (lba n lba' n' blocks : ℕ) → blocks ≡ blocks_covered lba' n' → lba' ≡ lba → n' ≡ n → 16 < blocks → goes_in into_cache lba n ≡ false
+many_not into_cache lba n lba' n' blocks is lba_is n_is many =
+    let same : blocks ≡ blocks_covered lba n = is ∙ ap (λ (l : ℕ). blocks_covered l n') lba_is ∙ ap (blocks_covered lba) n_is in
+    not_both into_cache (nat_lt (blocks_covered lba n) (CACHED_AT_ONCE + 1)) (le-ltb (blocks_covered lba n) (CACHED_AT_ONCE + 1) (omega (arith, same, many)))
+
+pub through_on : (old new : CacheShown) (into_cache : Bool) (lba n lba' n' : ℕ) (bytes : List ℕ) (out : WriteOut) → lba' ≡ lba → n' ≡ n → goes_in into_cache lba n ≡ false → ThroughCauseOf old new lba' n' out
+    → WritesOn old new into_cache lba n bytes out
+through_on old new into_cache lba n lba' n' bytes out lba_is n_is not_in cause =
+    subst (λ (b : Bool). MatchBool b (CachedCauseOf old new lba n bytes out) (ThroughCauseOf old new lba n out)) (sym not_in)
+    (subst (λ (m : ℕ). ThroughCauseOf old new lba m out) n_is (subst (λ (l : ℕ). ThroughCauseOf old new l n' out) lba_is cause))
 
 module _ (old mid new : CacheShown) (is : mid ≡ dropped old) (lba n : ℕ) (bytes : List ℕ) where
   cached_entered : (out : WriteOut) → CachedCauseOf mid new lba n bytes out → CachedCause old new lba n bytes out
