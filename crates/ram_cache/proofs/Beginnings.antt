@@ -116,11 +116,14 @@ module _ (old : CacheShown) where
       by_list ((dropped old).pending) (sym (ap (λ (s : CacheShown). s.pending) is) ∙ none)
     where
       by_list : (p : List (ℕ × List ℕ)) → p ≡ [] → CacheReadBy p (dropped old) new lba n reads.NotFormatted
-      by_list [] e = (record {
-        cause = record { on = on; unformatted = bare; nothing = ap (λ (s : CacheShown). s.drive) is };
-        quiet = λ inside at. absurd (bare inside.formatted);
-        leaves = record { same_shape = ap (λ (s : CacheShown). s.drive.shape) is; sound = subst (λ (s : CacheShown). IsSound s.drive) (sym is) sound };
-      }, (none, ap (λ (s : CacheShown). s.caches) is))
+      by_list [] e = (
+        record {
+          cause = record { on = on; unformatted = bare; nothing = ap (λ (s : CacheShown). s.drive) is };
+          quiet = λ inside at. absurd (bare inside.formatted);
+          leaves = record { same_shape = ap (λ (s : CacheShown). s.drive.shape) is; sound = subst (λ (s : CacheShown). IsSound s.drive) (sym is) sound };
+        },
+        (none, ap (λ (s : CacheShown). s.caches) is),
+      )
       by_list (held ∷ p) e = absurd (let w = e in cc)
 
   pub sync_entered : (mid new : CacheShown) (out : SyncOut) → mid ≡ dropped old → SyncCauseOf mid new out → SyncCause old new out
