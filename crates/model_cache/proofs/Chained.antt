@@ -64,18 +64,18 @@ module _ (P : (faulted : Bool) → Shown → Shown → Type 0) (holds : HoldsOfC
   -- ---- a read
 
   module _ (lba n : ℕ) where
-    part : (k : ℕ) (old new : CacheShown) (held : Option (List ℕ)) (out : ReadOut) → ReadsPart old new lba n k held out → P (read_faulted out) old.drive new.drive
-    part k old new (Some bytes) out p = subst (λ (o : ReadOut). P (read_faulted o) old.drive new.drive) (sym p.0) (same old new p.1)
-    part k old new None out p = holds.read old.drive new.drive _ _ out p.0.leaves p.0.cause
+    part : (i : ℕ) (old new : CacheShown) (held : Option (List ℕ)) (out : ReadOut) → ReadsPart old new lba n i held out → P (read_faulted out) old.drive new.drive
+    part i old new (Some bytes) out p = subst (λ (o : ReadOut). P (read_faulted o) old.drive new.drive) (sym p.0) (same old new p.1)
+    part i old new None out p = holds.read old.drive new.drive _ _ out p.0.leaves p.0.cause
 
     parts : (k : ℕ) (old new : CacheShown) → ReadsParts old new lba n k → P false old.drive new.drive
     parts zero old new is = same old new is
     parts (suc k) old new is =
-        holds.join false old.drive is.0.drive new.drive (parts k old is.0 is.1) (part k is.0 new (bytes_at (block_with lba + k) old.pending) reads.Good is.2)
+        holds.join false old.drive is.0.drive new.drive (parts k old is.0 is.1) (part (block_with lba + k) is.0 new (bytes_at (block_with lba + k) old.pending) reads.Good is.2)
 
     ended_reading : (old new : CacheShown) (out : ReadOut) → EndsReading old new lba n out → P (read_faulted out) old.drive new.drive
     ended_reading old new out p =
-        holds.join (read_faulted out) old.drive p.mid.drive new.drive (parts p.before old p.mid p.parts) (part p.before p.mid new None out p.ends)
+        holds.join (read_faulted out) old.drive p.mid.drive new.drive (parts p.before old p.mid p.parts) (part (block_with lba + p.before) p.mid new None out p.ends)
 
     parts_cause : (old new : CacheShown) (out : ReadOut) → ReadPartsCause old new lba n out → P (read_faulted out) old.drive new.drive
     parts_cause old new reads.Good p = parts (blocks_covered lba n) old new p.1
@@ -133,31 +133,31 @@ module _ (P : (faulted : Bool) → Shown → Shown → Type 0) (holds : HoldsOfC
 
     -- ---- a write into the cache
 
-    rest : (k : ℕ) (old new : CacheShown) (partly : Bool) (held : Option (List ℕ)) → ReadsRest old new lba n k partly held → P false old.drive new.drive
-    rest k old new true None p = holds.read old.drive new.drive (16 * (block_with lba + k)) 16 reads.Good p.0.leaves p.0.cause
-    rest k old new true (Some bytes) p = same old new p
-    rest k old new false held p = same old new p
+    rest : (i : ℕ) (old new : CacheShown) (partly : Bool) (held : Option (List ℕ)) → ReadsRest old new i partly held → P false old.drive new.drive
+    rest i old new true None p = holds.read old.drive new.drive (16 * i) 16 reads.Good p.0.leaves p.0.cause
+    rest i old new true (Some bytes) p = same old new p
+    rest i old new false held p = same old new p
 
     rests : (k : ℕ) (old new : CacheShown) → ReadsRests old new lba n k → P false old.drive new.drive
     rests zero old new is = same old new is
     rests (suc k) old new is =
         holds.join false old.drive is.0.drive new.drive (rests k old is.0 is.1)
-        (rest k is.0 new (is_partly lba n (block_with lba + k)) (bytes_at (block_with lba + k) is.0.pending) is.2)
+        (rest (block_with lba + k) is.0 new (is_partly lba n (block_with lba + k)) (bytes_at (block_with lba + k) is.0.pending) is.2)
 
-    told : (k : ℕ) (a b : Shown) (read_out : ReadOut) (out : WriteOut) → EndsRest lba n k read_out out → P (read_faulted read_out) a b → P (write_faulted out) a b
-    told k a b reads.Good out tells p = absurd tells
-    told k a b reads.NotFormatted out tells p = absurd tells
-    told k a b (reads.Range known) out tells p = absurd tells
-    told k a b (reads.Unread named block) out tells p = subst (λ (o : WriteOut). P (write_faulted o) a b) (sym tells) p
-    told k a b reads.Cut out tells p = subst (λ (o : WriteOut). P (write_faulted o) a b) (sym tells) p
-    told k a b reads.Off out tells p = absurd tells
-    told k a b reads.Fault out tells p = subst (λ (o : WriteOut). P (write_faulted o) a b) (sym tells) p
+    told : (i : ℕ) (a b : Shown) (read_out : ReadOut) (out : WriteOut) → EndsRest lba i read_out out → P (read_faulted read_out) a b → P (write_faulted out) a b
+    told i a b reads.Good out tells p = absurd tells
+    told i a b reads.NotFormatted out tells p = absurd tells
+    told i a b (reads.Range known) out tells p = absurd tells
+    told i a b (reads.Unread named block) out tells p = subst (λ (o : WriteOut). P (write_faulted o) a b) (sym tells) p
+    told i a b reads.Cut out tells p = subst (λ (o : WriteOut). P (write_faulted o) a b) (sym tells) p
+    told i a b reads.Off out tells p = absurd tells
+    told i a b reads.Fault out tells p = subst (λ (o : WriteOut). P (write_faulted o) a b) (sym tells) p
 
     lacking : (old new : CacheShown) (out : WriteOut) → LacksRestInCache old new lba n out → P (write_faulted out) old.drive new.drive
     lacking old new out p =
         holds.join (write_faulted out) old.drive p.mid.drive new.drive (flushed (leaving old lba n) old p.mid p.flushed)
         (holds.join (write_faulted out) p.mid.drive p.late.drive new.drive (rests p.before p.mid p.late p.rests)
-        (told p.before p.late.drive new.drive p.read_out out p.tells (holds.read p.late.drive new.drive (16 * (block_with lba + p.before)) 16 p.read_out p.ends.leaves p.ends.cause)))
+        (told (block_with lba + p.before) p.late.drive new.drive p.read_out out p.tells (holds.read p.late.drive new.drive (16 * (block_with lba + p.before)) 16 p.read_out p.ends.leaves p.ends.cause)))
 
     went_in : (bytes : List ℕ) (old new : CacheShown) → GoesIntoCache old new lba n bytes → P false old.drive new.drive
     went_in bytes old new p =

@@ -7,3 +7,4 @@ pub mod OneProof
 pub mod Chained
 pub mod Lacking
 pub mod Found
+pub mod Standing

@@ -62,18 +62,17 @@ leaves_after_read reads.Fault pending = []
 leaves_after_read _ pending = pending
 
 -- One block of a read was taken from the cache, or its sectors were read from the disc.
-abbrev pub ReadsPart : CacheShown → CacheShown → (lba n k : ℕ) → Option (List ℕ) → ReadOut → Type 0
-ReadsPart old new lba n k (Some bytes) out = (out ≡ reads.Good) × (new ≡ old)
-ReadsPart old new lba n k None out =
-    ReadsDisc old.drive new.drive (start_in lba (block_with lba + k))
-    (end_in lba n (block_with lba + k) - start_in lba (block_with lba + k)) out
+abbrev pub ReadsPart : CacheShown → CacheShown → (lba n block : ℕ) → Option (List ℕ) → ReadOut → Type 0
+ReadsPart old new lba n block (Some bytes) out = (out ≡ reads.Good) × (new ≡ old)
+ReadsPart old new lba n block None out =
+    ReadsDisc old.drive new.drive (start_in lba block) (end_in lba n block - start_in lba block) out
     × (new.pending ≡ leaves_after_read out old.pending) × (new.caches ≡ old.caches)
 
 -- the first so many blocks of a read were read, in rising order
 abbrev pub ReadsParts : CacheShown → CacheShown → (lba n : ℕ) → ℕ → Type 0
 ReadsParts old new lba n zero = new ≡ old
 ReadsParts old new lba n (suc k) = (mid : CacheShown) × ReadsParts old mid lba n k
-    × ReadsPart mid new lba n k (bytes_at (block_with lba + k) old.pending) reads.Good
+    × ReadsPart mid new lba n (block_with lba + k) (bytes_at (block_with lba + k) old.pending) reads.Good
 
 -- the read ended at a block that was not pending
 pub record EndsReading (old new : CacheShown) (lba n : ℕ) (out : ReadOut) : Type 0 where
@@ -83,7 +82,7 @@ pub record EndsReading (old new : CacheShown) (lba n : ℕ) (out : ReadOut) : Ty
   pub mid : CacheShown
   pub parts : ReadsParts old mid lba n before
   pub not_pending : bytes_at (block_with lba + before) old.pending ≡ None
-  pub ends : ReadsPart mid new lba n before None out
+  pub ends : ReadsPart mid new lba n (block_with lba + before) None out
 
 -- A read while blocks are pending: block after block.
 abbrev pub ReadPartsCause : CacheShown → CacheShown → (lba n : ℕ) → ReadOut → Type 0
@@ -147,15 +146,14 @@ abbrev pub leaving : CacheShown → (lba n : ℕ) → List ℕ
 leaving shown lba n = take (leave_first shown lba n) (pending_covered false shown lba n)
 
 -- the rests of the first so many blocks were read from the disc, where they are needed
-abbrev pub ReadsRest : CacheShown → CacheShown → (lba n k : ℕ) → (partly : Bool) → Option (List ℕ) → Type 0
-ReadsRest old new lba n k true None =
-    ReadsDisc old.drive new.drive (16 * (block_with lba + k)) 16 reads.Good × KeepsCache old new
-ReadsRest old new lba n k _ _ = new ≡ old
+abbrev pub ReadsRest : CacheShown → CacheShown → (block : ℕ) → (partly : Bool) → Option (List ℕ) → Type 0
+ReadsRest old new block true None = ReadsDisc old.drive new.drive (16 * block) 16 reads.Good × KeepsCache old new
+ReadsRest old new block _ _ = new ≡ old
 
 abbrev pub ReadsRests : CacheShown → CacheShown → (lba n : ℕ) → ℕ → Type 0
 ReadsRests old new lba n zero = new ≡ old
 ReadsRests old new lba n (suc k) = (mid : CacheShown) × ReadsRests old mid lba n k
-    × ReadsRest mid new lba n k (is_partly lba n (block_with lba + k)) (bytes_at (block_with lba + k) mid.pending)
+    × ReadsRest mid new (block_with lba + k) (is_partly lba n (block_with lba + k)) (bytes_at (block_with lba + k) mid.pending)
 
 -- the bytes of a pending block with those of a request over them, where it is covered
 abbrev pub put_over : (lba n : ℕ) → List ℕ → (ℕ × List ℕ) → (ℕ × List ℕ)
@@ -191,11 +189,11 @@ pub record GoesIntoCache (old new : CacheShown) (lba n : ℕ) (bytes : List ℕ)
   pub comes : ComesIn late new lba n bytes
 
 -- how a read of a rest ends a write
-abbrev pub EndsRest : (lba n k : ℕ) → ReadOut → WriteOut → Type 0
-EndsRest lba n k (reads.Unread named block) out = out ≡ writes.Unread (start_in lba (block_with lba + k)) block
-EndsRest lba n k reads.Cut out = out ≡ writes.Cut
-EndsRest lba n k reads.Fault out = out ≡ writes.Fault
-EndsRest lba n k _ out = ⊥
+abbrev pub EndsRest : (lba block : ℕ) → ReadOut → WriteOut → Type 0
+EndsRest lba block (reads.Unread named home) out = out ≡ writes.Unread (start_in lba block) home
+EndsRest lba block reads.Cut out = out ≡ writes.Cut
+EndsRest lba block reads.Fault out = out ≡ writes.Fault
+EndsRest lba block _ out = ⊥
 
 -- The rest of a block could not be read.
 pub record LacksRestInCache (old new : CacheShown) (lba n : ℕ) (out : WriteOut) : Type 0 where
@@ -209,7 +207,7 @@ pub record LacksRestInCache (old new : CacheShown) (lba n : ℕ) (out : WriteOut
   pub not_pending : bytes_at (block_with lba + before) late.pending ≡ None
   pub read_out : ReadOut
   pub ends : ReadsDisc late.drive new.drive (16 * (block_with lba + before)) 16 read_out
-  pub tells : EndsRest lba n before read_out out
+  pub tells : EndsRest lba (block_with lba + before) read_out out
   pub left : new.pending ≡ leaves_pending out late.pending
   pub same_mode : new.caches ≡ old.caches
 

@@ -41,7 +41,13 @@ pub fn answer_sense(alloc: Global, words: &[&str], answer: &mut String) -> Resul
     let control: u8 = control.parse().unwrap_or(0);
     let page = u8::from_str_radix(page, 16).unwrap_or(0);
     if out.capacity() - out.len() >= 32 {
-        put_reply(!caches.is_empty(), control, page, number_of(length), &mut out);
+        put_reply(
+            !caches.is_empty(),
+            control,
+            page,
+            number_of(length),
+            &mut out,
+        );
     }
     add_bytes(answer, &out)
 }

@@ -240,9 +240,7 @@ impl<D: Caching> Target<D> {
                 page,
                 alloc,
             } => Modes::new(self.disc.caches()).sense_within(control, page, alloc, data_in),
-            Command::TestUnitReady
-            | Command::StartStop { .. }
-            | Command::Prevent { .. } => {}
+            Command::TestUnitReady | Command::StartStop { .. } | Command::Prevent { .. } => {}
         }
         Answer::Good
     }

@@ -1,8 +1,10 @@
 -- What a write cache over a volume over the medium in an image is as a drive of a run.
-use Rattle.std.specs.Prelude.{ℕ, List, [], ◌∷◌}
+use Rattle.std.specs.Prelude.{◌≡◌, ℕ, Bool, false, List, [], ◌∷◌}
 use Rattle.std.proofs.Common.{refl}
 use Rattle.model_sectors.specs.Discs.{Standing, On, Off}
 use Rattle.model_drive.specs.Shown.{Shown, StandsFor}
+use Rattle.model_cache.specs.Plain.{uncached}
+use Rattle.model_cache.specs.Shown.{CacheShown}
 use Rattle.model_cache.specs.Values.{Contents, Has, MayHave, StandsCached}
 use Rattle.ram_medium.specs.declared.control.FailEnd.{FailEnd}
 use Rattle.ram_medium.specs.declared.control.FailEnd.TheVariants as fails
@@ -24,3 +26,7 @@ module _ (old new : Shown) (pending : List (ℕ × List ℕ)) where
   cached_fails (MayHave all) fails.Done falls stands = (stands.0, falls (Off stands.0) stands.1, stands.2)
   cached_fails (MayHave all) (fails.NoBlock blocks) falls stands = (stands.0, falls (Off stands.0) stands.1, stands.2)
   cached_fails (MayHave all) fails.Failed falls stands = (stands.0, falls (Off stands.0) stands.1, stands.2)
+
+-- a cache that was just made over a drive is off, and nothing is pending
+pub fresh_cache : (drive shown : Shown) (p : List (ℕ × List ℕ)) (on : Bool) → drive ≡ shown → p ≡ [] → on ≡ false → (let cached : CacheShown = record { drive = drive; pending = p; caches = on } in cached) ≡ uncached shown
+fresh_cache drive shown p on is none off = rw (is, none, off) refl

@@ -17,11 +17,11 @@ use crate::status::Status;
 use crate::stopped::Stopped;
 use crate::summary::summary;
 use crate::telling::write_text;
+use ram_cache::Cached;
 use ram_generate::generated;
 use ram_image::ImageMedium;
 use ram_outside::{Image, MemSink, Opened, Opener, Sink};
 use ram_text::{Dialogue, DialogueRoom};
-use crate::stub::Cached;
 use ram_volume::Volume;
 use std::alloc::Global;
 

@@ -19,5 +19,4 @@ mod stopped;
 mod summary;
 pub mod survival;
 mod telling;
-mod stub;
 mod volume;

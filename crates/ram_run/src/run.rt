@@ -14,10 +14,10 @@ use crate::serve::serve;
 use crate::state::RunState;
 use crate::status::Status;
 use crate::telling::write_text;
+use ram_cache::Cached;
 use ram_image::ImageMedium;
 use ram_outside::{Opened, Opener, Sink, Source};
 use ram_text::{Dialogue, DialogueRoom};
-use crate::stub::Cached;
 use ram_volume::Volume;
 use std::alloc::Global;
 

@@ -5,7 +5,7 @@ ghost use Rattle.ram_volume.specs.Drives.{shown_by, medium_by};
 ghost use Rattle.ram_run.specs.Lying.{has_cells, by_events, shown_medium, has_blocks};
 
 use crate::drive::Drive;
-use crate::stub::Cached;
+use ram_cache::Cached;
 use ram_image::{ImageMedium, OpenFault, open};
 use ram_medium::{Arm, FailEnd, Fate};
 use ram_outside::Image;

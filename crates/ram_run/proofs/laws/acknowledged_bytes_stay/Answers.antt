@@ -3,7 +3,7 @@ use Rattle.ram_run.proofs.Acknowledged.{step_keeps, run_keeps, as_so, so_acknowl
 use Rattle.ram_run.proofs.laws.acknowledged_bytes_stay.Goals as goal
 
 pub returns-clause-step : goal.returns-clause-step
-returns-clause-step c  = λ s t line payload data_in outcome at bytes step leaves keeps.
+returns-clause-step c = λ s t line payload data_in outcome at bytes step leaves keeps.
     so_acknowledged t at bytes (step_keeps (λ found. found ≡ bytes) at s t line payload data_in outcome step leaves (as_so s at bytes keeps))
 
 pub returns-clause-run : goal.returns-clause-run

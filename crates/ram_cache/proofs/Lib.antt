@@ -1,0 +1,17 @@
+pub mod Beginnings
+pub mod Coming
+pub mod Due
+pub mod Entering
+pub mod Fresh
+pub mod HostCalls
+pub mod IntoCache
+pub mod Numbers
+pub mod OneFlush
+pub mod Places
+pub mod PlainWrites
+pub mod ReadParts
+pub mod Rests
+pub mod Staged
+pub mod Telling
+pub mod Through
+pub mod Written

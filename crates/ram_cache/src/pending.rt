@@ -1,0 +1,241 @@
+//! The pending blocks of a write cache, in the order in which they became pending, and the rooms of those to come.
+
+ghost use Rattle.std.specs.Prelude.{◌≡◌, ℕ, ◌+◌, ◌≤◌, ◌<◌, List, [], ◌∷◌, ◌++◌, take, length, slice_index_or, vec_len, map, not, ◌*◌, ◌^◌, slice_set};
+ghost use Rattle.std.specs.List.{Contains, filter, remove};
+ghost use Rattle.std.proofs.Props.{props};
+ghost use Rattle.model_cache.specs.Shown.{AreApart};
+ghost use Rattle.model_cache.specs.Values.{is_among};
+ghost use Rattle.model_sectors.specs.Discs.{Standing};
+ghost use Rattle.model_sectors.specs.Requests.{merged_in};
+ghost use Rattle.model_buffer.specs.Buffer.{numbers_in};
+ghost use Rattle.model_drive.specs.Reads.{ReadStep};
+ghost use Rattle.model_cache.specs.Chains.{ReadsDisc};
+ghost use Rattle.model_cache.specs.Causes.{put_over};
+ghost use Rattle.model_cache.proofs.OneProof.{apart-prop};
+
+use ram_bytes::Block;
+use ram_requests::{Part, Request};
+use ram_sectors::{Disc, ReadOut, Sectors};
+use std::alloc::{AllocError, Global};
+
+/// How many rooms there are: as many as blocks are pending at most.
+const ROOMS: usize = 32;
+
+/// The pending blocks, each a number and its bytes, the oldest first. All room is taken when they are made: a block that is not
+/// pending any more leaves its room behind the others, and no block's bytes move.
+#[derive(Drop)]
+pub struct PendingBlocks {
+    /// The pending blocks, and behind them the rooms for more, which have any number and bytes.
+    rooms: Vec<(u32, Block)>,
+    /// How many blocks are pending.
+    count: usize,
+    ghost many: { vec_len rooms ≡ 32 },
+    ghost few: { count ≤ 32 },
+    ghost apart: { AreApart (take count rooms.items) } by { apart-prop (take count rooms.items) },
+    ghost whole: { (i : ℕ) (bytes : List ℕ) → Contains (take count rooms.items) (i, bytes) → length bytes ≡ 32768 } by { Prim.hlevel props },
+}
+
+impl PendingBlocks {
+    ghost use Rattle.std.specs.Prelude.{IfOk, IsTrue, ◌↔◌};
+    ghost use Rattle.model_cache.specs.Shown.{pending_below};
+    ghost use Rattle.ram_cache.specs.Rooms.{pending_of, staged_of, room_of, held_at, FirstOf};
+
+    /// No pending blocks, and the rooms of as many as there may be.
+    pub fn new(alloc: Global) -> Result<PendingBlocks, AllocError>
+        ensures { IfOk result (λ pending. pending_of pending ≡ []) }
+    {
+        let mut rooms = Vec::with_capacity(alloc, ROOMS)?;
+        for k in 0..ROOMS {
+            rooms.push((k as u32, Block::zeros(alloc)?))?;
+        }
+        Ok(PendingBlocks { rooms, count: 0 })
+    }
+
+    /// How many there are.
+    pub fn len(&self) -> usize
+        ensures { result ≡ length (pending_of self.now) }
+    {
+        self.count
+    }
+
+    /// Whether there are none.
+    pub fn is_empty(&self) -> bool
+        ensures { IsTrue result ↔ (pending_of self.now ≡ []) }
+    {
+        self.count == 0
+    }
+
+    /// The number of the one at this place.
+    pub fn number(&self, k: usize) -> u32
+        requires { k < length (pending_of self.now) }
+        ensures { result ≡ (held_at (pending_of self.now) k).0 }
+    {
+        self.rooms[k].0
+    }
+
+    /// The bytes of the one at this place.
+    pub fn block(&self, k: usize) -> &Block
+        requires { k < length (pending_of self.now) }
+        ensures { result.now ≡ (held_at (pending_of self.now) k).1 }
+    {
+        &self.rooms[k].1
+    }
+
+    /// The place of the oldest one that is one of `count` logical blocks from block `first` on, or of the oldest that is none of
+    /// them.
+    pub fn first_of(&self, among: bool, first: u32, count: u32) -> Option<usize>
+        ensures { FirstOf (pending_of self.now) among first count result }
+    {
+        for k in 0..self.count {
+            if is_among(self.rooms[k].0, first, count) == among {
+                return Some(k);
+            }
+        }
+        None
+    }
+
+    /// How many are none of `count` logical blocks from block `first` on.
+    pub fn count_others(&self, first: u32, count: u32) -> usize
+        ensures { result ≡ length (filter (λ i. not (is_among first count i)) (numbers_in (pending_of self.now))) }
+    {
+        let mut others = 0;
+        for k in 0..self.len() {
+            if !is_among(self.number(k), first, count) {
+                others += 1;
+            }
+        }
+        others
+    }
+
+    /// Drops the one at this place. Its room stays.
+    pub fn remove(&mut self, k: usize)
+        requires { k < length (pending_of self.old) }
+        ensures { pending_of self.new ≡ remove (pending_of self.old) k }
+    {
+        to_end(&mut self.rooms, k);
+        self.count -= 1;
+    }
+
+    /// Drops all.
+    pub fn drop_all(&mut self)
+        ensures { pending_of self.new ≡ [] }
+    {
+        self.count = 0;
+    }
+
+    /// Drops those from this number on.
+    pub fn keep_below(&mut self, blocks: u32)
+        ensures { pending_of self.new ≡ pending_below blocks (pending_of self.old) }
+    {
+        let mut k = 0;
+        while k < self.len() {
+            if self.number(k) < blocks {
+                k += 1;
+            } else {
+                self.remove(k);
+            }
+        }
+    }
+
+    /// Reads the whole of a logical block from the disc into the room behind `staged` others of those to come.
+    pub(crate) fn read_rest<D: Disc>(&mut self, staged: usize, disc: &mut D, i: u32) -> ReadOut
+        requires room { length (pending_of self.old) + staged < 32 }
+        requires fits { 16 * i < 2 ^ 32 }
+        ensures pending { pending_of self.new ≡ pending_of self.old }
+        ensures staged { staged_of self.new staged ≡ staged_of self.old staged }
+        ensures cause { ReadsDisc (D.shows disc.old) (D.shows disc.new) (16 * i) 16 result }
+        ensures step { (s : Standing) → D.stands disc.old s
+            → ReadStep (D.stands disc.new) s (16 * i) 16 (room_of self.new staged) result }
+        ensures same_shape { (D.shows disc.new).shape ≡ (D.shows disc.old).shape }
+    {
+        let room = &mut self.rooms[self.count + staged];
+        read_whole(disc, i, &mut room.1)
+    }
+
+    /// Puts the part of a request over the room behind `staged` others of those to come, which is that of its block then.
+    pub(crate) fn stage(&mut self, staged: usize, part: Part, from: &[u8])
+        requires room { length (pending_of self.old) + staged < 32 }
+        requires whole { length from.now ≡ 2048 * part.request.n }
+        ensures pending { pending_of self.new ≡ pending_of self.old }
+        ensures staged { staged_of self.new (staged + 1) ≡ staged_of self.old staged
+            ++ (part.block, merged_in part.request.lba part.request.n from.now part.block (room_of self.old staged)) ∷ [] }
+        ensures len { length (room_of self.old staged) ≡ 32768 }
+    {
+        let room = &mut self.rooms[self.count + staged];
+        room.0 = part.block;
+        part.merge(from, &mut room.1);
+    }
+
+    /// Puts the part of a request over the pending block at this place, which is its block.
+    fn put_over(&mut self, k: usize, part: Part, from: &[u8])
+        requires there { k < length (pending_of self.old) }
+        requires whole { length from.now ≡ 2048 * part.request.n }
+        ensures pending { pending_of self.new ≡ slice_set (pending_of self.old) k (
+          (held_at (pending_of self.old) k).0,
+          merged_in part.request.lba part.request.n from.now part.block ((held_at (pending_of self.old) k).1),
+        ) }
+        ensures rest { (staged : ℕ) → staged_of self.new staged ≡ staged_of self.old staged }
+    {
+        let room = &mut self.rooms[k];
+        part.merge(from, &mut room.1);
+    }
+
+    /// Puts what a request covers of the pending block at this place over it.
+    fn cover(&mut self, k: usize, request: Request, from: &[u8])
+        requires there { k < length (pending_of self.old) }
+        requires whole { length from.now ≡ 2048 * request.n }
+        ensures pending { pending_of self.new
+            ≡ slice_set (pending_of self.old) k (put_over request.lba request.n from.now (held_at (pending_of self.old) k)) }
+        ensures rest { (staged : ℕ) → staged_of self.new staged ≡ staged_of self.old staged }
+    {
+        let number = self.number(k);
+        let first = request.first();
+        if !is_among(number, first, request.blocks()) {
+            return;
+        }
+        self.put_over(k, request.part(number - first), from);
+    }
+
+    /// Puts the parts of a request over the pending blocks that it covers, and makes the `staged` blocks to come pending.
+    pub(crate) fn take_in(&mut self, request: Request, staged: usize, from: &[u8])
+        requires whole { length from.now ≡ 2048 * request.n }
+        requires room { length (pending_of self.old) + staged ≤ 32 }
+        requires apart { AreApart (pending_of self.old ++ staged_of self.old staged) }
+        requires long { (i : ℕ) (bytes : List ℕ) → Contains (staged_of self.old staged) (i, bytes) → length bytes ≡ 32768 }
+        ensures { pending_of self.new ≡ map (put_over request.lba request.n from.now) (pending_of self.old) ++ staged_of self.old staged }
+    {
+        for k in 0..self.len() {
+            self.cover(k, request, from);
+        }
+        self.count += staged;
+    }
+}
+
+/// Reads a logical block of a disc whole.
+fn read_whole<D: Disc>(disc: &mut D, i: u32, room: &mut Block) -> ReadOut
+    requires { 16 * i < 2 ^ 32 }
+    ensures cause { ReadsDisc (D.shows disc.old) (D.shows disc.new) (16 * i) 16 result }
+    ensures step { (s : Standing) → D.stands disc.old s → ReadStep (D.stands disc.new) s (16 * i) 16 room.new result }
+    ensures same_shape { (D.shows disc.new).shape ≡ (D.shows disc.old).shape }
+{
+    let bytes = room.bytes_mut();
+    let out = disc.read(16 * i, 16, bytes);
+    out
+}
+
+/// Puts the room at this place behind the others.
+fn to_end(rooms: &mut Vec<(u32, Block)>, k: usize)
+    requires { k < vec_len rooms.old }
+    ensures items { rooms.new.items ≡ remove rooms.old.items k ++ slice_index_or rooms.old.items k (0, []) ∷ [] }
+    ensures len { vec_len rooms.new ≡ vec_len rooms.old }
+{
+    let rooms = rooms.as_mut_slice();
+    rooms[k..].rotate_left(1);
+}
+
+/// Whether a number is one of `count` from `first` on.
+fn is_among(number: u32, first: u32, count: u32) -> bool
+    ensures { result ≡ is_among first count number }
+{
+    first <= number && number - first < count
+}
