@@ -74,4 +74,3 @@ replaced_block_same (e ∷ es) a b r apart is is' =
 pub replacement_cases : (o : Option ℕ) → ((r : ℕ) × (o ≡ Some r)) ⊎ (o ≡ None)
 replacement_cases None = inr refl
 replacement_cases (Some r) = inl (r, refl)
-

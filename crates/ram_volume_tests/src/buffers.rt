@@ -88,14 +88,20 @@ impl Plain {
 
 /// A random request that covers so many blocks, each whole or the first and the last in part.
 fn random_request(random: &mut Pcg32, count: u32) -> Request {
-    let first = below(random, BLOCKS.saturating_sub(count).saturating_add(1).max(1));
+    let first = below(
+        random,
+        BLOCKS.saturating_sub(count).saturating_add(1).max(1),
+    );
     let (from, to) = match below(random, 2) {
         0 => (0, 0),
         _ => (below(random, 8), below(random, 8)),
     };
     Request {
         lba: first.saturating_mul(16).saturating_add(from),
-        n: count.saturating_mul(16).saturating_sub(from).saturating_sub(to),
+        n: count
+            .saturating_mul(16)
+            .saturating_sub(from)
+            .saturating_sub(to),
         is_write: below(random, 2) == 1,
     }
 }
@@ -105,9 +111,14 @@ impl<D: Rig> Run<D> {
     fn fill_buffer(&mut self, alloc: Global, request: Request) -> Result<(), AllocError> {
         power(alloc, &mut self.disc);
         self.plain.used.clear();
-        let near = request.end().saturating_sub(request.first()).saturating_add(8);
+        let near = request
+            .end()
+            .saturating_sub(request.first())
+            .saturating_add(8);
         for _ in 0..below(&mut self.random, 9) {
-            let block = request.first().saturating_add(below(&mut self.random, near.max(1)));
+            let block = request
+                .first()
+                .saturating_add(below(&mut self.random, near.max(1)));
             let block = block.saturating_sub(4).min(BLOCKS.saturating_sub(1));
             read(alloc, &mut self.disc, block.saturating_mul(16), 1)?;
             self.plain.touch(block)?;
