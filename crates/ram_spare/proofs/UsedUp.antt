@@ -15,18 +15,23 @@ use Rattle.model_lists.specs.declared.sdl.SdlEntry.{SdlEntry}
 use Rattle.model_lists.specs.Values.{defectives}
 use Rattle.model_pools.specs.Listed.{is_listed, replacements}
 use Rattle.model_places.specs.Places.{Lists, is_free, unslipped, primary_count, primary_spares, supplementary_spares, spares, free_primary_count, free_supplementary_count}
-use Rattle.model_places.specs.Valid.{IsValidSdl, AreValid}
+use Rattle.model_lists.specs.declared.versions.Version.{Version}
+use Rattle.model_places.specs.Valid.{IsValidPdl, IsValidSsa, IsValidSdl, AreValid}
 use Rattle.model_pools.proofs.Listed.{Decides-is_listed, is_listed-filter, is_member_is, Contains-from_filter, IsDistinct-from_increasing}
 use Rattle.model_pools.proofs.Replacements.{Contains-later, Contains-cons_option, Contains-cons_option_first, first_is_alone, replacement_cases}
 use Rattle.model_places.proofs.Entries.{used, used_differ, differs_from_all}
 use Rattle.model_places.proofs.Free.{free_from_unnamed, unnamed_from_free}
-use Rattle.model_places.proofs.Pools.{unslipped_rise}
+use Rattle.model_places.proofs.Pools.{unslipped_rise, pools_are_all}
 use Rattle.ram_slip.specs.declared.place.Place.{Place}
 use Rattle.ram_slip.specs.declared.place.Place.TheVariants as places
 use Rattle.ram_slip.specs.Place.{IsAtPlace}
 use Rattle.ram_slip.proofs.OnePlace.{one_place}
 use Rattle.ram_slip.proofs.Spares.{first_many}
-use Rattle.ram_spare.proofs.Order.{last_many}
+
+-- ---- how many supplementary spares there are
+
+last_many : (shape : Shape) (lists : Lists) (valid : IsValidPdl shape lists.dds) {version : Version} (area : IsValidSsa shape version lists.sdl.ssa) → length (supplementary_spares shape lists) ≡ lists.sdl.ssa
+last_many shape lists valid area = let all = pools_are_all shape lists valid area in omega (arith, length-drop (length (unslipped shape lists.dds) - lists.sdl.ssa) (unslipped shape lists.dds), all)
 
 -- ---- numbers that differ
 

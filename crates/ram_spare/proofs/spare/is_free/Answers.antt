@@ -2,8 +2,8 @@ use Rattle.std.proofs.Common.{◌||◌, not, sym, ap, ◌∙◌}
 use Rattle.model_lists.specs.Values.{defectives}
 use Rattle.model_pools.specs.Listed.{is_listed, replacements}
 use Rattle.ram_spare.proofs.Naming.{listed_by}
-use Rattle.ram_spare.proofs.spare.is_unnamed.Goals as goal
-use Rattle.ram_spare.proofs.spare.is_unnamed.Goals.{then-is_defective, else-is_defective}
+use Rattle.ram_spare.proofs.spare.is_free.Goals as goal
+use Rattle.ram_spare.proofs.spare.is_free.Goals.{then-is_defective, else-is_defective}
 
 pub returns : goal.returns
 returns c =
