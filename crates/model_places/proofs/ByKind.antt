@@ -1,14 +1,16 @@
 -- What is said by the kind of the layout, for the one kind that there is. Where a second kind comes, the laws of this file are
 -- those that take a premise.
-use Rattle.std.proofs.Common.{◌≡◌, ℕ, ◌+◌, ◌-◌, ◌≤◌, List, [], ◌∷◌, length, refl, ap, ◌∙◌, subst, arith}
+use Rattle.std.proofs.Common.{◌≡◌, ℕ, ◌+◌, ◌-◌, ◌≤◌, ◌⊎◌, inl, inr, ⊎_elim, List, [], ◌∷◌, length, refl, ap, ◌∙◌, subst, arith}
 use Rattle.std.specs.List.{count_by}
+use Rattle.std.proofs.lemmas.Bool.{cases_lt}
 use Rattle.std.proofs.lemmas.List.{length-map}
-use Rattle.model_geometry.specs.Geometry.{Shape, LayoutKind, OneGroup, data_blocks}
+use Rattle.model_geometry.specs.Geometry.{Shape, LayoutKind, OneGroup, IsLawful, data_blocks}
 use Rattle.model_lists.specs.declared.dds.PdlEntry.{PdlEntry}
+use Rattle.model_lists.specs.declared.versions.Version.TheVariants.{Two}
 use Rattle.model_lists.specs.Values.{Dds}
 use Rattle.model_pools.specs.Pools.{Pool}
 use Rattle.model_places.specs.Places.{Lists, slipped, one_group, pools_by, pools_of, room_by_kind, spare_room, count_of, is_free, primary_spares, primary_by_kind, supplementary_spares, supplementary_by_kind, free_primary_count, free_supplementary_count}
-use Rattle.model_places.specs.Valid.{IsValidPdl, SlipsFew, slips_few_by}
+use Rattle.model_places.specs.Valid.{IsValidPdl, IsValidSsa, SlipsFew, slips_few_by}
 
 one_kind : (kind : LayoutKind) → kind ≡ OneGroup
 one_kind OneGroup = refl
@@ -23,6 +25,13 @@ slip_room shape ssa = ap (λ (kind : LayoutKind). room_by_kind kind shape ssa) (
 
 pub slip_counts : (shape : Shape) (ssa : ℕ) → count_of shape ssa ≡ length (data_blocks shape) - shape.psa - ssa
 slip_counts shape ssa = omega (arith, slip_room shape ssa)
+
+-- a lawful geometry has room for no supplementary spare
+pub no_area : (shape : Shape) → IsLawful shape → IsValidSsa shape Two 0
+no_area shape lawful = record {
+  most = omega (arith, slip_room shape 0, lawful.most_spares);
+  some_logical = omega (arith, slip_room shape 0, lawful.spares_within);
+}
 
 -- as many blocks are slipped as there are entries
 pub length-slipped : (dds : Dds) → length (slipped dds) ≡ length dds.entries
@@ -41,6 +50,10 @@ slips_few_from shape blocks few = by_kind shape.layout
   where
     by_kind : (kind : LayoutKind) → slips_few_by kind shape blocks
     by_kind OneGroup = few
+
+pub slips_few_decided : (shape : Shape) (blocks : List ℕ) → SlipsFew shape blocks ⊎ ¬ SlipsFew shape blocks
+slips_few_decided shape blocks = ⊎_elim (λ many. inr (λ few. let most = slips_few shape blocks few in omega (arith, many, most))) (λ few. inl (slips_few_from shape blocks (omega (arith, few))))
+    (cases_lt shape.psa (length blocks))
 
 pub few_slipped : (shape : Shape) (dds : Dds) → IsValidPdl shape dds → length dds.entries ≤ shape.psa
 few_slipped shape dds valid = let few = slips_few shape (slipped dds) valid.few in omega (arith, few, length-slipped dds)
