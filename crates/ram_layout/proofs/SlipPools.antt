@@ -115,3 +115,24 @@ few_by inside whole (suc pool) = omega arith
 
 pub few_in : (inside : Inside) (table : SlipTable) → table_in inside ≡ table → IsSlipTable inside → (pool : ℕ) → length (spares_at (slip_pools table) pool) < 2 ^ 32
 few_in inside table view whole pool = subst (λ (t : SlipTable). length (spares_at (slip_pools t) pool) < 2 ^ 32) view (few_by inside whole pool)
+
+-- ---- another size of the supplementary spare area
+
+module _ (inside : Inside) (table : SlipTable) (view : table_in inside ≡ table) (ssa : ℕ) (area : IsValidOnSome table.shape ssa) where
+  area_inside : IsValidOnSome inside.geometry ssa
+  area_inside = subst (λ (t : SlipTable). IsValidOnSome t.shape ssa) (sym view) area
+
+  module _ (count psa : ℕ) (count_is : count ≡ length (data_blocks inside.geometry)) (psa_is : psa ≡ inside.geometry.psa) where
+    pub room_to_resize : ssa ≤ count - psa
+    room_to_resize = let some = area_inside.1.some_logical in omega (arith, some, count_is, psa_is, by_kind.slip_room inside.geometry ssa)
+
+    new_count : count - psa - ssa ≡ count_of inside.geometry ssa
+    new_count = omega (arith, count_is, psa_is, by_kind.slip_counts inside.geometry ssa)
+
+    pub resized_by : table_in (record inside { logical = count - psa - ssa }) ≡ record table { logical = count_of table.shape ssa }
+    resized_by = ap (λ (n : ℕ). record (table_in inside) { logical = n }) new_count ∙ ap (λ (t : SlipTable). record t { logical = count_of t.shape ssa }) view
+
+    pub still_whole : IsSlipTable inside → table.primary + count_of table.shape ssa ≤ length table.blocks → IsSlipTable (record inside { logical = count - psa - ssa })
+    still_whole whole room =
+        let room' : inside.primary + count_of inside.geometry ssa ≤ length (blocks_in inside.runs.items) = subst (λ (t : SlipTable). t.primary + count_of t.shape ssa ≤ length t.blocks) (sym view) room in
+        record { table = whole.table; small = whole.small; rise = whole.rise; fits = omega (arith, room', new_count) }
