@@ -10,9 +10,10 @@ use Rattle.model_geometry.specs.Geometry.{Shape}
 use Rattle.model_lists.specs.declared.sdl.SdlEntry.{SdlEntry}
 use Rattle.model_lists.specs.Values.{defectives, IsEntryOf}
 use Rattle.model_pools.specs.Listed.{replacement_of}
-use Rattle.model_places.specs.Places.{Lists, unslipped, primary_count, logical_count, logical_block, home_of}
+use Rattle.model_places.specs.Places.{Lists, unslipped, primary_count, slip_block, logical_count, logical_block, home_of}
 use Rattle.model_places.specs.Valid.{AreValid}
-use Rattle.model_places.proofs.Pools.{pools_are_all}
+use Rattle.model_places.proofs.Layouts.{one_block}
+use Rattle.model_places.proofs.Pools.{slips_are_all}
 
 later_rise : (f : SdlEntry) (fs : List SdlEntry) → IsStrictlyIncreasing (defectives (f ∷ fs)) → IsStrictlyIncreasing (defectives fs)
 later_rise f fs rise j inside = AllPairs-from_increasing (defectives (f ∷ fs)) rise (suc j) (suc (j + 1)) 0 (omega arith) (omega (arith, inside))
@@ -40,9 +41,13 @@ none_is (f ∷ fs) b none = elim (cases_Bool (eqb f.defective b)) [
 
 -- the logical block has a place among the blocks that are not slipped
 pub inside_unslipped : (shape : Shape) (lists : Lists) → AreValid shape lists → (i : ℕ) → i < logical_count shape lists → primary_count shape lists.dds + i < length (unslipped shape lists.dds)
-inside_unslipped shape lists valid i below = let all = pools_are_all shape lists valid.primary valid.together.secondary.area in omega (arith, all, below)
+inside_unslipped shape lists valid i below = let all = slips_are_all shape lists.dds lists.sdl.ssa valid.primary valid.together.secondary.area in omega (arith, all, below)
 
-module _ (shape : Shape) (lists : Lists) (i own : ℕ) (own_is : own ≡ logical_block shape lists.dds i) where
+-- its block, by slipping
+pub own_block : (shape : Shape) (lists : Lists) → AreValid shape lists → (i own : ℕ) → i < logical_count shape lists → own ≡ slip_block shape lists.dds i → own ≡ logical_block shape lists i
+own_block shape lists valid i own inside is = is ∙ sym (one_block shape lists.dds lists.sdl.ssa valid.primary valid.together.secondary.area i inside)
+
+module _ (shape : Shape) (lists : Lists) (i own : ℕ) (own_is : own ≡ logical_block shape lists i) where
   by_found : (o : Option SdlEntry) → find (λ (x : SdlEntry). eqb x.defective own) lists.sdl.entries ≡ o → home_of shape lists i ≡ unwrap_or (option_and_then (λ (e : SdlEntry). e.replacement) o) own
   by_found o is = subst (λ (b : ℕ). unwrap_or (replacement_of lists.sdl.entries b) b ≡ unwrap_or (option_and_then (λ (e : SdlEntry). e.replacement) o) own) own_is
       (ap (λ (x : Option SdlEntry). unwrap_or (option_and_then (λ (e : SdlEntry). e.replacement) x) own) is)

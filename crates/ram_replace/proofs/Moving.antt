@@ -3,22 +3,27 @@ use Rattle.std.specs.Prelude.{◌≡◌, ◌≢◌, ℕ, suc, ◌+◌, ◌≤◌
 use Rattle.std.proofs.Common.{refl, sym, ap, ◌∙◌, inl, inr, subst, arith, eqb, filter, length-append}
 use Rattle.std.specs.List.{Contains}
 use Rattle.std.proofs.lemmas.Bool.{cond-true, cond-false, lt-ltb, le-ltb, ne_eqb, cases_order}
-use Rattle.std.proofs.lemmas.List.Elements.{All-contains}
+use Rattle.std.proofs.lemmas.List.Elements.{Contains-append_right}
 use Rattle.model_geometry.specs.Geometry.{Shape, IsLawful, lead_out, data_blocks}
 use Rattle.model_geometry.proofs.DataBlocks.{data_blocks_bounds}
 use Rattle.model_geometry.proofs.Zones.{total_most}
 use Rattle.model_lists.specs.declared.sdl.SdlEntry.{SdlEntry}
 use Rattle.model_lists.specs.Values.{Sdl, IsBlockNumber, HasNumbers, IsLawfulSdl, most_of, defectives, with_entry, pair, retired}
-use Rattle.model_places.specs.Places.{Lists, logical_block, logical_count, home_of, free_spares, unslipped}
-use Rattle.model_places.specs.Valid.{AreValid}
-use Rattle.model_places.proofs.Entries.{length-entries_most}
+use Rattle.model_pools.specs.Pools.{logical_in, spares_in, all_in}
+use Rattle.model_pools.specs.Moves.{with_retired, former, tried_of}
+use Rattle.model_pools.proofs.Members.{all_from, ByMembers, by_members, from_members}
+use Rattle.model_pools.proofs.NewEntries.{retire_all, with_pair}
 use Rattle.model_pools.proofs.Replacements.{Contains-later}
-use Rattle.model_places.proofs.Pools.{unslipped_are_data, spare_is_unslipped}
-use Rattle.model_volume.specs.Moves.{with_retired, former, lists_moved, sdl_moved, tried_of, IsNextSpare}
-use Rattle.model_volume.proofs.Different.{free_apart}
+use Rattle.model_places.specs.Places.{Lists, pools_under, logical_block, logical_count, home_of, free_spares}
+use Rattle.model_places.specs.Valid.{AreValid}
+use Rattle.model_places.proofs.ByKind.{area_most}
+use Rattle.model_places.proofs.Entries.{length-entries_most}
+use Rattle.model_places.proofs.Layouts.{pooled_inside, some_logical}
+use Rattle.model_volume.specs.Moves.{lists_moved, sdl_moved, IsNextSpare}
+use Rattle.model_volume.proofs.Moved.{are_pools, are_valid, is_logical, moved_valid}
 use Rattle.model_volume.proofs.ValidDecided.{contains_decided}
-use Rattle.model_volume.proofs.Validity.{all_from, ByMembers, by_members, from_members}
-use Rattle.model_volume.proofs.NewLists.{retire_all, with_pair, moved_valid}
+use Rattle.ram_spare.specs.Spares.{free_all}
+use Rattle.ram_replace.proofs.FreeSpares.{its_free}
 use Rattle.ram_sdl.specs.EntriesAndRoom.{EntriesAndRoom, HasRoomFor}
 use Rattle.ram_replace.specs.declared.spares.Found.{Found}
 use Rattle.ram_replace.specs.Spares.{StandsAt}
@@ -61,31 +66,38 @@ one_more_entry a b c es e was is = is ∙ ap (λ (x : Sdl). record x { entries =
 
 -- ---- the entries at each step are few, and rise
 
-few_of : (shape : Shape) (lists : Lists) (es : List SdlEntry) → AreValid shape lists → ByMembers shape lists.dds lists.sdl.ssa es → length es ≤ most_of lists.sdl.version
+few_of : (shape : Shape) (lists : Lists) (es : List SdlEntry) → AreValid shape lists → ByMembers (pools_under shape lists) es → length es ≤ most_of lists.sdl.version
 few_of shape lists es valid members =
     let step : Lists = record lists { sdl = record lists.sdl { entries = es } } in
-    length-entries_most shape step valid.primary (from_members shape step valid.together.secondary.area members)
+    length-entries_most shape step valid.primary (record { area = valid.together.secondary.area; entries = from_members (pools_under shape lists) es members })
 
 module _ (shape : Shape) (lists : Lists) (valid : AreValid shape lists) where
-  module _ (k : ℕ) (few : k ≤ length (free_spares shape lists)) where
-    pub retired_few : length (with_retired (tried_of (free_spares shape lists) k) lists.sdl.entries) ≤ most_of lists.sdl.version
-    retired_few = few_of shape lists (with_retired (tried_of (free_spares shape lists) k) lists.sdl.entries) valid (retire_all shape lists valid (free_apart shape lists valid) k few).es_valid
+  some_block : 0 < logical_count shape lists
+  some_block = some_logical shape lists.dds lists.sdl.ssa valid.primary valid.together.secondary.area
 
-  module _ (i : ℕ) (inside : i < logical_count shape lists) (found : Found) (at : StandsAt (free_spares shape lists) found) where
-    next : IsNextSpare shape lists (tried_of (free_spares shape lists) found.tried) found.spare
+  module _ (k : ℕ) (few : k ≤ length (free_all shape lists)) where
+    pub retired_few : length (with_retired (tried_of (free_all shape lists) k) lists.sdl.entries) ≤ most_of lists.sdl.version
+    retired_few =
+        let same = its_free shape lists valid 0 some_block in
+        subst (λ (free : List ℕ). length (with_retired (tried_of free k) lists.sdl.entries) ≤ most_of lists.sdl.version) same
+        (few_of shape lists (with_retired (tried_of (free_spares shape lists 0) k) lists.sdl.entries) valid
+        (retire_all (pools_under shape lists) lists.sdl.entries (are_pools shape lists valid) (are_valid shape lists valid) 0 k (subst (λ (free : List ℕ). k ≤ length free) (sym same) few)).es_valid)
+
+  module _ (i : ℕ) (inside : i < logical_count shape lists) (found : Found) (at : StandsAt (free_spares shape lists i) found) where
+    next : IsNextSpare shape lists i (tried_of (free_spares shape lists i) found.tried) found.spare
     next = record { tried = found.tried; failed_are = refl; inside = at.inside; spare_is = at.spare_is }
 
-    pub pair_few : length (with_entry (pair (logical_block shape lists.dds i) found.spare) (with_retired (tried_of (free_spares shape lists) found.tried) lists.sdl.entries)) ≤ most_of lists.sdl.version
+    pub pair_few : length (with_entry (pair (logical_block shape lists i) found.spare) (with_retired (tried_of (free_spares shape lists i) found.tried) lists.sdl.entries)) ≤ most_of lists.sdl.version
     unfolding next
-    pair_few = few_of shape lists (with_entry (pair (logical_block shape lists.dds i) found.spare) (with_retired (tried_of (free_spares shape lists) found.tried) lists.sdl.entries)) valid
-        (with_pair shape lists valid (free_apart shape lists valid) i inside (tried_of (free_spares shape lists) found.tried) found.spare next)
+    pair_few = few_of shape lists (with_entry (pair (logical_block shape lists i) found.spare) (with_retired (tried_of (free_spares shape lists i) found.tried) lists.sdl.entries)) valid
+        (with_pair (pools_under shape lists) lists.sdl.entries (are_pools shape lists valid) (are_valid shape lists valid) i (is_logical shape lists valid i inside) (tried_of (free_spares shape lists i) found.tried) found.spare next)
 
     -- the lists of the move are valid
-    pub lists_valid : AreValid shape (lists_moved shape lists i (tried_of (free_spares shape lists) found.tried) found.spare)
-    lists_valid = moved_valid shape lists valid (free_apart shape lists valid) i inside (tried_of (free_spares shape lists) found.tried) found.spare next
+    pub lists_valid : AreValid shape (lists_moved shape lists i (tried_of (free_spares shape lists i) found.tried) found.spare)
+    lists_valid = moved_valid shape lists valid i inside (tried_of (free_spares shape lists i) found.tried) found.spare next
 
-    pub moved_few : length (sdl_moved shape lists i (tried_of (free_spares shape lists) found.tried) found.spare).entries ≤ most_of lists.sdl.version
-    moved_few = length-entries_most shape (lists_moved shape lists i (tried_of (free_spares shape lists) found.tried) found.spare) valid.primary lists_valid.together.secondary
+    pub moved_few : length (sdl_moved shape lists i (tried_of (free_spares shape lists i) found.tried) found.spare).entries ≤ most_of lists.sdl.version
+    moved_few = length-entries_most shape (lists_moved shape lists i (tried_of (free_spares shape lists i) found.tried) found.spare) valid.primary lists_valid.together.secondary
 
 -- ---- room for each step
 
@@ -101,64 +113,69 @@ room_for_other own home held apart fits =
     room_for (retired home) held (subst (λ (ss : List ℕ). length (with_retired ss held.list) ≤ held.room) one fits)
 
 module _ (shape : Shape) (lists : Lists) (valid : AreValid shape lists) (held : EntriesAndRoom) (room : most_of lists.sdl.version ≤ held.room) where
-  pub room_for_spare : (found : Found) → StandsAt (free_spares shape lists) found → held.list ≡ with_retired (tried_of (free_spares shape lists) found.tried) lists.sdl.entries → HasRoomFor found.spare held
+  pub room_for_spare : (found : Found) → StandsAt (free_all shape lists) found → held.list ≡ with_retired (tried_of (free_all shape lists) found.tried) lists.sdl.entries → HasRoomFor found.spare held
   room_for_spare found at list_is =
-      let after : with_entry (retired found.spare) held.list ≡ with_retired (tried_of (free_spares shape lists) (found.tried + 1)) lists.sdl.entries =
-      ap (with_entry (retired found.spare)) list_is ∙ retired_next (free_spares shape lists) lists.sdl.entries found.tried found.spare at.spare_is in
+      let after : with_entry (retired found.spare) held.list ≡ with_retired (tried_of (free_all shape lists) (found.tried + 1)) lists.sdl.entries =
+      ap (with_entry (retired found.spare)) list_is ∙ retired_next (free_all shape lists) lists.sdl.entries found.tried found.spare at.spare_is in
       let few = retired_few shape lists valid (found.tried + 1) (let inside = at.inside in omega (arith, inside)) in
       let fits = subst (λ (es : List SdlEntry). length es ≤ most_of lists.sdl.version) (sym after) few in
       room_for (retired found.spare) held (omega (arith, fits, room))
 
-  module _ (i : ℕ) (inside : i < logical_count shape lists) (found : Found) (at : StandsAt (free_spares shape lists) found) (own : ℕ) (own_is : own ≡ logical_block shape lists.dds i) where
-    pub room_for_pair : held.list ≡ with_retired (tried_of (free_spares shape lists) found.tried) lists.sdl.entries → HasRoomFor own held
+  module _ (i : ℕ) (inside : i < logical_count shape lists) (found : Found) (at : StandsAt (free_spares shape lists i) found) (own : ℕ) (own_is : own ≡ logical_block shape lists i) where
+    pub room_for_pair : held.list ≡ with_retired (tried_of (free_spares shape lists i) found.tried) lists.sdl.entries → HasRoomFor own held
     room_for_pair list_is =
-        let after : with_entry (pair own found.spare) held.list ≡ with_entry (pair (logical_block shape lists.dds i) found.spare) (with_retired (tried_of (free_spares shape lists) found.tried) lists.sdl.entries) =
+        let after : with_entry (pair own found.spare) held.list ≡ with_entry (pair (logical_block shape lists i) found.spare) (with_retired (tried_of (free_spares shape lists i) found.tried) lists.sdl.entries) =
         ap (with_entry (pair own found.spare)) list_is
-        ∙ ap (λ (o : ℕ). with_entry (pair o found.spare) (with_retired (tried_of (free_spares shape lists) found.tried) lists.sdl.entries)) own_is in
+        ∙ ap (λ (o : ℕ). with_entry (pair o found.spare) (with_retired (tried_of (free_spares shape lists i) found.tried) lists.sdl.entries)) own_is in
         let fits = subst (λ (es : List SdlEntry). length es ≤ most_of lists.sdl.version) (sym after) (pair_few shape lists valid i inside found at) in
         room_for (pair own found.spare) held (omega (arith, fits, room))
 
-    pub room_for_former : (home : ℕ) → home ≡ home_of shape lists i → held.list ≡ with_entry (pair own found.spare) (with_retired (tried_of (free_spares shape lists) found.tried) lists.sdl.entries)
+    pub room_for_former : (home : ℕ) → home ≡ home_of shape lists i → held.list ≡ with_entry (pair own found.spare) (with_retired (tried_of (free_spares shape lists i) found.tried) lists.sdl.entries)
         → length (with_retired (former own home) held.list) ≤ held.room
     room_for_former home home_is list_is =
-        let after : with_retired (former own home) held.list ≡ (sdl_moved shape lists i (tried_of (free_spares shape lists) found.tried) found.spare).entries =
+        let after : with_retired (former own home) held.list ≡ (sdl_moved shape lists i (tried_of (free_spares shape lists i) found.tried) found.spare).entries =
         ap (with_retired (former own home)) list_is
-        ∙ ap (λ (h : ℕ). with_retired (former own h) (with_entry (pair own found.spare) (with_retired (tried_of (free_spares shape lists) found.tried) lists.sdl.entries))) home_is
-        ∙ ap (λ (o : ℕ). with_retired (former o (home_of shape lists i)) (with_entry (pair o found.spare) (with_retired (tried_of (free_spares shape lists) found.tried) lists.sdl.entries))) own_is in
+        ∙ ap (λ (h : ℕ). with_retired (former own h) (with_entry (pair own found.spare) (with_retired (tried_of (free_spares shape lists i) found.tried) lists.sdl.entries))) home_is
+        ∙ ap (λ (o : ℕ). with_retired (former o (home_of shape lists i)) (with_entry (pair o found.spare) (with_retired (tried_of (free_spares shape lists i) found.tried) lists.sdl.entries))) own_is in
         let fits = subst (λ (es : List SdlEntry). length es ≤ most_of lists.sdl.version) (sym after) (moved_few shape lists valid i inside found at) in
         omega (arith, fits, room)
 
 -- ---- the list of the move
 
 pub draft_is : (shape : Shape) (lists : Lists) (i : ℕ) (found : Found) (a b c d : Sdl) (own home : ℕ) → a ≡ lists.sdl
-    → b ≡ record a { counter = a.counter + 1; entries = with_retired (tried_of (free_spares shape lists) found.tried) lists.sdl.entries }
+    → b ≡ record a { counter = a.counter + 1; entries = with_retired (tried_of (free_spares shape lists i) found.tried) lists.sdl.entries }
     → c ≡ record b { entries = with_entry (pair own found.spare) b.entries } → d ≡ record c { entries = with_retired (former own home) c.entries }
-    → own ≡ logical_block shape lists.dds i → home ≡ home_of shape lists i → d ≡ sdl_moved shape lists i (tried_of (free_spares shape lists) found.tried) found.spare
+    → own ≡ logical_block shape lists i → home ≡ home_of shape lists i → d ≡ sdl_moved shape lists i (tried_of (free_spares shape lists i) found.tried) found.spare
 draft_is shape lists i found a b c d own home copied retired_is paired former_is own_is home_is =
     former_is
     ∙ ap (λ (x : Sdl). record x { entries = with_retired (former own home) x.entries }) (paired
     ∙ ap (λ (x : Sdl). record x { entries = with_entry (pair own found.spare) x.entries }) (retired_is
-    ∙ ap (λ (x : Sdl). record x { counter = x.counter + 1; entries = with_retired (tried_of (free_spares shape lists) found.tried) lists.sdl.entries }) copied))
-    ∙ ap (λ (h : ℕ). record lists.sdl { counter = lists.sdl.counter + 1; entries = with_retired (former own h) (with_entry (pair own found.spare) (with_retired (tried_of (free_spares shape lists) found.tried) lists.sdl.entries)) }) home_is
-    ∙ ap (λ (o : ℕ). record lists.sdl { counter = lists.sdl.counter + 1; entries = with_retired (former o (home_of shape lists i)) (with_entry (pair o found.spare) (with_retired (tried_of (free_spares shape lists) found.tried) lists.sdl.entries)) }) own_is
+    ∙ ap (λ (x : Sdl). record x { counter = x.counter + 1; entries = with_retired (tried_of (free_spares shape lists i) found.tried) lists.sdl.entries }) copied))
+    ∙ ap (λ (h : ℕ). record lists.sdl { counter = lists.sdl.counter + 1; entries = with_retired (former own h) (with_entry (pair own found.spare) (with_retired (tried_of (free_spares shape lists i) found.tried) lists.sdl.entries)) }) home_is
+    ∙ ap (λ (o : ℕ). record lists.sdl { counter = lists.sdl.counter + 1; entries = with_retired (former o (home_of shape lists i)) (with_entry (pair o found.spare) (with_retired (tried_of (free_spares shape lists i) found.tried) lists.sdl.entries)) }) own_is
+
+-- the same for the free spares of a logical block
+pub tried_by : (a b : Sdl) (es : List SdlEntry) (n : ℕ) (free its : List ℕ) → free ≡ its → b ≡ record a { counter = a.counter + 1; entries = with_retired (tried_of free n) es }
+    → b ≡ record a { counter = a.counter + 1; entries = with_retired (tried_of its n) es }
+tried_by a b es n free its same is = subst (λ (f : List ℕ). b ≡ record a { counter = a.counter + 1; entries = with_retired (tried_of f n) es }) same is
 
 -- ---- a valid list is lawful where its counters are
 
 module _ (shape : Shape) (lawful : IsLawful shape) (lists : Lists) (valid : AreValid shape lists) where
-  data_number : (b : ℕ) → Contains (unslipped shape lists.dds) b → IsBlockNumber b
+  data_number : (b : ℕ) → Contains (all_in (pools_under shape lists)) b → IsBlockNumber b
   data_number b has =
-      let bounds = All-contains (λ b. (7 < b) × (b < lead_out shape)) (data_blocks shape) b (data_blocks_bounds shape) (unslipped_are_data shape lists.dds b has) in
+      let inside = pooled_inside shape lists.dds lists.sdl.ssa b has in
       let most = total_most shape lawful in
-      omega (arith, bounds, most)
+      omega (arith, inside, most)
 
-  members : ByMembers shape lists.dds lists.sdl.ssa lists.sdl.entries
-  members = by_members shape lists valid.together.secondary
+  members : ByMembers (pools_under shape lists) lists.sdl.entries
+  members = by_members (pools_under shape lists) lists.sdl.entries valid.together.secondary.entries
 
   numbers : (d : ℕ) (o : Option ℕ) → Contains lists.sdl.entries (record { defective = d; replacement = o }) → HasNumbers (record { defective = d; replacement = o })
   numbers d None has = record { defective_fits = data_number d (members.within (record { defective = d; replacement = None }) has); replacement_fits = tt }
   numbers d (Some r) has = record {
     defective_fits = data_number d (members.within (record { defective = d; replacement = Some r }) has);
-    replacement_fits = data_number r (spare_is_unslipped shape lists r (members.from d r has));
+    replacement_fits = data_number r (Contains-append_right (logical_in (pools_under shape lists)) (spares_in (pools_under shape lists)) r (members.from d r has));
   }
 
   pub valid_lawful : lists.sdl.counter < 2 ^ 32 → lists.sdl.dds_counter < 2 ^ 32 → IsLawfulSdl lists.sdl
@@ -166,8 +183,8 @@ module _ (shape : Shape) (lawful : IsLawful shape) (lists : Lists) (valid : AreV
     counted = counted;
     dds_counted = dds_counted;
     limits = record {
-      most = (let most = valid.together.secondary.area.most in omega (arith, most));
+      most = area_most shape lists.sdl.ssa valid.together.secondary.area;
       few = length-entries_most shape lists valid.primary valid.together.secondary;
     };
-    list = record { rise = valid.together.secondary.rising; numbers = all_from HasNumbers lists.sdl.entries (λ e has. numbers e.defective e.replacement has) };
+    list = record { rise = valid.together.secondary.entries.rising; numbers = all_from HasNumbers lists.sdl.entries (λ e has. numbers e.defective e.replacement has) };
   }

@@ -7,11 +7,13 @@ ghost use Rattle.model_geometry.specs.Geometry.{IsLawful};
 ghost use Rattle.model_lists.specs.Values.{IsLawfulSdl, most_of, defectives, with_entry, retired};
 ghost use Rattle.model_places.specs.Places.{free_spares, logical_count};
 ghost use Rattle.model_places.specs.Valid.{AreValid};
-ghost use Rattle.model_volume.specs.Moves.{with_retired, tried_of, former, sdl_moved};
+ghost use Rattle.model_pools.specs.Moves.{with_retired, tried_of, former};
+ghost use Rattle.model_volume.specs.Moves.{sdl_moved};
 ghost use Rattle.model_drive.specs.declared.TheConstants.{LAST_COUNTER};
 ghost use Rattle.ram_sdl.specs.Sdl.{sdl_of};
 ghost use Rattle.ram_sdl.specs.EntriesAndRoom.{HasRoomFor};
 ghost use Rattle.ram_lists.specs.Lists.{lists_of};
+ghost use Rattle.ram_spare.specs.Spares.{free_all};
 ghost use Rattle.ram_replace.specs.Spares.{StandsAt};
 
 use crate::spares::Found;
@@ -40,11 +42,11 @@ fn retire(list: &mut Sdl, spare: u32)
 /// Retires the first so many of the free spares.
 fn retire_tried(geometry: &Geometry, lists: &Lists, draft: &mut Sdl, tried: u32)
     requires valid { AreValid geometry.now (lists_of lists.now) }
-    requires few { tried ≤ length (free_spares geometry.now (lists_of lists.now)) }
+    requires few { tried ≤ length (free_all geometry.now (lists_of lists.now)) }
     requires same { draft.old.entries.list ≡ lists.now.sdl.entries.list }
     requires room { most_of lists.now.sdl.version ≤ draft.old.entries.room }
     ensures value { sdl_of draft.new ≡ record (sdl_of draft.old) {
-      entries = with_retired (tried_of (free_spares geometry.now (lists_of lists.now)) tried)
+      entries = with_retired (tried_of (free_all geometry.now (lists_of lists.now)) tried)
           lists.now.sdl.entries.list;
     } }
     ensures rise { IsStrictlyIncreasing (defectives draft.new.entries.list) }
@@ -82,11 +84,11 @@ pub fn draft_moved(geometry: &Geometry, lists: &Lists, draft: &mut Sdl, i: u32, 
     requires valid { AreValid geometry.now (lists_of lists.now) }
     requires lawful { IsLawfulSdl (sdl_of lists.now.sdl) }
     requires inside { i < logical_count geometry.now (lists_of lists.now) }
-    requires stands { StandsAt (free_spares geometry.now (lists_of lists.now)) found }
+    requires stands { StandsAt (free_spares geometry.now (lists_of lists.now) i) found }
     requires counter { lists.now.sdl.counter < LAST_COUNTER }
     requires room { SDL_LIMIT ≤ draft.old.entries.room }
     ensures value { sdl_of draft.new ≡ sdl_moved geometry.now (lists_of lists.now) i
-        (tried_of (free_spares geometry.now (lists_of lists.now)) found.tried) found.spare }
+        (tried_of (free_spares geometry.now (lists_of lists.now) i) found.tried) found.spare }
     ensures lawful { IsLawfulSdl (sdl_of draft.new) }
     ensures room { SDL_LIMIT ≤ draft.new.entries.room }
 {

@@ -2,7 +2,7 @@
 
 ghost use Rattle.std.specs.Prelude.{◌≡◌, IsTrue, MatchResult, length};
 ghost use Rattle.model_geometry.specs.Geometry.{IsLawful, total};
-ghost use Rattle.model_places.specs.Places.{free_spares};
+ghost use Rattle.ram_spare.specs.Spares.{free_all};
 ghost use Rattle.model_places.specs.Valid.{AreValid};
 ghost use Rattle.ram_bytes.specs.declared.block.TheConstants.{BLOCK_BYTES};
 ghost use Rattle.ram_lists.specs.Lists.{lists_of};
@@ -38,9 +38,9 @@ pub fn find_spare<M: Medium>(
     requires whole { length from.now ≡ BLOCK_BYTES }
     ensures rule { MatchResult result
         (FindsSpare M.world M.reaches medium.old medium.new
-        (free_spares geometry.now (lists_of lists.now)) from.now)
+        (free_all geometry.now (lists_of lists.now)) from.now)
         (StopsTrying M.world M.reaches medium.old medium.new
-        (free_spares geometry.now (lists_of lists.now)) from.now) }
+        (free_all geometry.now (lists_of lists.now)) from.now) }
     ensures as_many { M.block_count medium.new ≡ M.block_count medium.old }
     ensures lawful { IsLawful geometry.now }
 {

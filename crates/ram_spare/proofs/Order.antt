@@ -5,17 +5,16 @@ use Rattle.std.proofs.lemmas.Bool.{cases_Bool, cases_lt, cond-true, cond-false, 
 use Rattle.std.proofs.lemmas.List.{get_or_append_left, get_or-append_right, get_or-reverse, get_or_default, length-drop, length-append, length-reverse}
 use Rattle.std.proofs.lemmas.List.Sums.{position_or_len_is}
 use Rattle.std.proofs.lemmas.Map.Keys.{IsDistinct-from_apart, IsDistinct-tail}
-use Rattle.std.proofs.lemmas.Option.{slice_get-get_or}
+use Rattle.std.proofs.lemmas.Option.{slice_get-get_or, slice_get_within, get_or_from_slice_get}
 use Rattle.model_geometry.specs.Geometry.{Shape}
 use Rattle.model_geometry.proofs.DataBlocks.{Contains-slice_get}
-use Rattle.model_places.specs.Places.{Lists, unslipped, is_free, primary_count, primary_spares, supplementary_spares, spares, spares_down, free_spares, free_spare_after}
+use Rattle.model_places.specs.Places.{Lists, is_free, spares}
 use Rattle.model_lists.specs.declared.versions.Version.{Version}
 use Rattle.model_places.specs.Valid.{IsValidPdl, IsValidSsa, AreValid}
 use Rattle.model_pools.proofs.Listed.{Contains-from_filter}
 use Rattle.model_pools.proofs.Replacements.{first_is_alone}
-use Rattle.model_places.proofs.Pools.{pools_are_all, length-spares}
-use Rattle.ram_slip.proofs.Spares.{first_many, spare_differs}
-use Rattle.ram_spare.specs.Spares.{next_spare, spare_before}
+use Rattle.model_places.proofs.Layouts.{pools_are_lawful}
+use Rattle.ram_spare.specs.Spares.{free_all, next_spare, spare_before}
 
 -- ---- what a filter keeps, one after another
 
@@ -77,142 +76,80 @@ past_end xs k none =
     (λ past. past)
     (cases_lt k (length xs))
 
--- ---- the number of each turn
+-- ---- the turns
 
 module _ (shape : Shape) (lists : Lists) (valid : IsValidPdl shape lists.dds) {version : Version} (area : IsValidSsa shape version lists.sdl.ssa) where
-  pub last_many : length (supplementary_spares shape lists) ≡ lists.sdl.ssa
-  last_many = let all = pools_are_all shape lists valid area in omega (arith, length-drop (length (unslipped shape lists.dds) - lists.sdl.ssa) (unslipped shape lists.dds), all)
-
-  pub length-spares_down : length (spares_down shape lists) ≡ primary_count shape lists.dds + lists.sdl.ssa
-  length-spares_down =
-      omega (arith, length-append (reverse (primary_spares shape lists.dds)) (reverse (supplementary_spares shape lists)), length-reverse (primary_spares shape lists.dds), length-reverse (supplementary_spares shape lists), first_many shape lists valid area, last_many)
-
-  -- the first turns are those of the primary spares
-  pub down_first : (turn number : ℕ) → turn < primary_count shape lists.dds → number ≡ primary_count shape lists.dds - 1 - turn → slice_index (spares_down shape lists) turn ≡ slice_index (spares shape lists) number
-  down_first turn number less is =
-      let first = primary_spares shape lists.dds in
-      let last = supplementary_spares shape lists in
-      let there : length first - 1 - turn ≡ number = omega (arith, first_many shape lists valid area, is) in
-      get_or_append_left (reverse first) (reverse last) 0 turn (omega (arith, length-reverse first, first_many shape lists valid area, less))
-      ∙ get_or-reverse first turn 0 (omega (arith, first_many shape lists valid area, less))
-      ∙ ap (slice_index first) there
-      ∙ sym (get_or_append_left first last 0 number (omega (arith, first_many shape lists valid area, less, is)))
-
-  -- the others are those of the supplementary ones
-  pub down_last : (turn number : ℕ) → primary_count shape lists.dds ≤ turn → turn < primary_count shape lists.dds + lists.sdl.ssa → number + turn + 1 ≡ primary_count shape lists.dds + primary_count shape lists.dds + lists.sdl.ssa
-      → slice_index (spares_down shape lists) turn ≡ slice_index (spares shape lists) number
-  down_last turn number from less is =
-      let first = primary_spares shape lists.dds in
-      let last = supplementary_spares shape lists in
-      let n = primary_count shape lists.dds in
-      let there : length last - 1 - (turn - n) ≡ number - n = omega (arith, last_many, from, less, is) in
-      get_or-append_right (reverse first) (reverse last) n turn 0 (omega (arith, length-reverse first, first_many shape lists valid area)) from
-      ∙ get_or-reverse last (turn - n) 0 (omega (arith, last_many, from, less))
-      ∙ ap (slice_index last) there
-      ∙ sym (get_or-append_right first last n number 0 (first_many shape lists valid area) (omega (arith, less, is)))
-
-  -- the number of the spare whose turn it is
-  record HasNumber (turn : ℕ) : Type 0 where
-    number : ℕ
-    inside : number < length (spares shape lists)
-    is : slice_index (spares_down shape lists) turn ≡ slice_index (spares shape lists) number
-    where_is : ((turn < primary_count shape lists.dds) × (number + turn + 1 ≡ primary_count shape lists.dds))
-        ⊎ ((primary_count shape lists.dds ≤ turn) × (number + turn + 1 ≡ primary_count shape lists.dds + primary_count shape lists.dds + lists.sdl.ssa))
-
-  number_of_turn : (turn : ℕ) → turn < primary_count shape lists.dds + lists.sdl.ssa → HasNumber turn
-  number_of_turn turn less =
-      let n = primary_count shape lists.dds in
-      let many = length-spares shape lists valid area in
-      ⊎_elim
-      (λ first. record {
-        number = n - 1 - turn;
-        inside = omega (arith, many, first);
-        is = down_first turn (n - 1 - turn) first refl;
-        where_is = inl (first, omega (arith, first));
-      })
-      (λ last. record {
-        number = n + (n + lists.sdl.ssa - 1 - turn);
-        inside = omega (arith, many, last, less);
-        is = down_last turn (n + (n + lists.sdl.ssa - 1 - turn)) last less (omega (arith, last, less));
-        where_is = inr (last, omega (arith, last, less));
-      })
-      (cases_lt turn n)
-
   -- two turns are two spares
-  pub turn_differs : (t u : ℕ) → t < length (spares_down shape lists) → u < length (spares_down shape lists) → slice_index (spares_down shape lists) t ≡ slice_index (spares_down shape lists) u → t ≡ u
+  turn_differs : (t u : ℕ) → t < length (spares shape lists) → u < length (spares shape lists) → slice_index (spares shape lists) t ≡ slice_index (spares shape lists) u → t ≡ u
   turn_differs t u within within' same =
-      let many = length-spares_down in
-      let a = number_of_turn t (omega (arith, many, within)) in
-      let b = number_of_turn u (omega (arith, many, within')) in
-      let e = spare_differs shape lists valid area a.number b.number a.inside b.inside (sym a.is ∙ same ∙ b.is) in
-      ⊎_elim
-      (λ x. ⊎_elim (λ y. omega (arith, e, x.1, y.1)) (λ y. omega (arith, e, x.0, x.1, y.0, y.1, many, within')) b.where_is)
-      (λ x. ⊎_elim (λ y. omega (arith, e, x.0, x.1, y.0, y.1, many, within)) (λ y. omega (arith, e, x.1, y.1)) b.where_is)
-      a.where_is
+      (pools_are_lawful shape lists.dds lists.sdl.ssa valid area).spares t u (slice_index (spares shape lists) u)
+      (slice_get-get_or (spares shape lists) t 0 within ∙ ap Some same) (slice_get-get_or (spares shape lists) u 0 within')
 
-  pub spares_down_differ : IsDistinct eqb (spares_down shape lists)
-  spares_down_differ =
-      let xs = spares_down shape lists in
+  pub spares_differ : IsDistinct eqb (spares shape lists)
+  spares_differ =
+      let xs = spares shape lists in
       IsDistinct-from_apart eqb xs
       (λ i j d less within. ne_eqb (get_or xs i d) (get_or xs j d)
       (λ e. let same = turn_differs i j (omega (arith, less, within)) within (get_or_default xs i 0 d (omega (arith, less, within)) ∙ e ∙ get_or_default xs j d 0 within) in omega (arith, same, less)))
 
   -- what comes after a spare is what comes from the next turn on
-  pub after_turn : (turn spare : ℕ) → turn < length (spares_down shape lists) → slice_index (spares_down shape lists) turn ≡ spare → after_first (λ b. eqb b spare) (spares_down shape lists) ≡ drop (turn + 1) (spares_down shape lists)
-  after_turn turn spare within is =
-      let xs = spares_down shape lists in
-      let at : position_or_len (λ b. eqb b spare) xs ≡ turn =
+  pub after_turn : (turn spare : ℕ) → slice_get (spares shape lists) turn ≡ Some spare → after_first (λ b. eqb b spare) (spares shape lists) ≡ drop (turn + 1) (spares shape lists)
+  after_turn turn spare at =
+      let xs = spares shape lists in
+      let within = slice_get_within xs turn spare at in
+      let is = get_or_from_slice_get xs turn spare 0 at in
+      let there : position_or_len (λ b. eqb b spare) xs ≡ turn =
       position_or_len_is (λ b. eqb b spare) xs turn 0 (omega (arith, within))
       (λ k less. ne_eqb (slice_index xs k) spare (λ e. let same = turn_differs k turn (omega (arith, less, within)) within (e ∙ sym is) in omega (arith, same, less)))
       (λ _. eq-eqb (slice_index xs turn) spare is) in
-      ap (λ n. drop (n + 1) xs) at
+      ap (λ n. drop (n + 1) xs) there
 
 -- ---- the walk through the free spares
 
 module _ (shape : Shape) (lists : Lists) (valid : AreValid shape lists) where
   -- what comes after a free spare is the next one
-  pub free_follows : (k last : ℕ) → slice_get (free_spares shape lists) k ≡ Some last → free_spare_after shape lists last ≡ slice_get (free_spares shape lists) (k + 1)
+  pub free_follows : (k last : ℕ) → slice_get (free_all shape lists) k ≡ Some last → next_spare shape lists (Some last) ≡ slice_get (free_all shape lists) (k + 1)
   free_follows k last at =
       let next : suc k ≡ k + 1 = omega arith in
-      find_next (is_free lists) (spares_down shape lists) (spares_down_differ shape lists valid.primary valid.together.secondary.area) k last at
-      ∙ ap (slice_get (free_spares shape lists)) next
+      find_next (is_free lists) (spares shape lists) (spares_differ shape lists valid.primary valid.together.secondary.area) k last at
+      ∙ ap (slice_get (free_all shape lists)) next
 
-  pub free_follows_at : (k : ℕ) → k < length (free_spares shape lists) → slice_get (free_spares shape lists) (k + 1) ≡ free_spare_after shape lists (slice_index (free_spares shape lists) k)
-  free_follows_at k within = sym (free_follows k (slice_index (free_spares shape lists) k) (slice_get-get_or (free_spares shape lists) k 0 within))
+  pub free_follows_at : (k : ℕ) → k < length (free_all shape lists) → slice_get (free_all shape lists) (k + 1) ≡ next_spare shape lists (Some (slice_index (free_all shape lists) k))
+  free_follows_at k within = sym (free_follows k (slice_index (free_all shape lists) k) (slice_get-get_or (free_all shape lists) k 0 within))
 
   -- Asking for the next after the one before the k-th gives the k-th, and nothing where there are no more.
-  pub next_is : (k : ℕ) → k ≤ length (free_spares shape lists) → next_spare shape lists (spare_before shape lists k) ≡ slice_get (free_spares shape lists) k
+  pub next_is : (k : ℕ) → k ≤ length (free_all shape lists) → next_spare shape lists (spare_before shape lists k) ≡ slice_get (free_all shape lists) k
   next_is zero within = refl
   next_is (suc k) within =
-      let inside : k < length (free_spares shape lists) = omega (arith, within) in
+      let inside : k < length (free_all shape lists) = omega (arith, within) in
       let next : k + 1 ≡ suc k = omega arith in
-      ap (next_spare shape lists) (slice_get-get_or (free_spares shape lists) k 0 inside)
+      ap (next_spare shape lists) (slice_get-get_or (free_all shape lists) k 0 inside)
       ∙ sym (free_follows_at k inside)
-      ∙ ap (slice_get (free_spares shape lists)) next
+      ∙ ap (slice_get (free_all shape lists)) next
 
   -- What is given after the one before the k-th is the k-th.
-  pub given_is : (k spare : ℕ) → k ≤ length (free_spares shape lists) → next_spare shape lists (spare_before shape lists k) ≡ Some spare → slice_get (free_spares shape lists) k ≡ Some spare
+  pub given_is : (k spare : ℕ) → k ≤ length (free_all shape lists) → next_spare shape lists (spare_before shape lists k) ≡ Some spare → slice_get (free_all shape lists) k ≡ Some spare
   given_is k spare within is = sym (next_is k within) ∙ is
 
   -- Where nothing is given, the first k are all.
-  pub none_given : (k : ℕ) → k ≤ length (free_spares shape lists) → next_spare shape lists (spare_before shape lists k) ≡ None → k ≡ length (free_spares shape lists)
-  none_given k within is = le_antisymm within (past_end (free_spares shape lists) k (sym (next_is k within) ∙ is))
+  pub none_given : (k : ℕ) → k ≤ length (free_all shape lists) → next_spare shape lists (spare_before shape lists k) ≡ None → k ≡ length (free_all shape lists)
+  none_given k within is = le_antisymm within (past_end (free_all shape lists) k (sym (next_is k within) ∙ is))
 
 -- the one before the next place is the one at this place
-pub before_more : (shape : Shape) (lists : Lists) (k spare : ℕ) → slice_get (free_spares shape lists) k ≡ Some spare → spare_before shape lists (k + 1) ≡ Some spare
+pub before_more : (shape : Shape) (lists : Lists) (k spare : ℕ) → slice_get (free_all shape lists) k ≡ Some spare → spare_before shape lists (k + 1) ≡ Some spare
 before_more shape lists k spare at =
     let next : k + 1 ≡ suc k = omega arith in
     ap (spare_before shape lists) next ∙ at
 
 -- a free spare is one of those that are looked through
-pub free_is_spare : (shape : Shape) (lists : Lists) (k spare : ℕ) → slice_get (free_spares shape lists) k ≡ Some spare → Contains (spares_down shape lists) spare
-free_is_spare shape lists k spare at = (Contains-from_filter (is_free lists) (spares_down shape lists) spare (Contains-slice_get (free_spares shape lists) k spare at)).1
+pub free_is_spare : (shape : Shape) (lists : Lists) (k spare : ℕ) → slice_get (free_all shape lists) k ≡ Some spare → Contains (spares shape lists) spare
+free_is_spare shape lists k spare at = (Contains-from_filter (is_free lists) (spares shape lists) spare (Contains-slice_get (free_all shape lists) k spare at)).1
 
 -- so it may be asked what comes after it
-pub may_ask : (shape : Shape) (lists : Lists) (k : ℕ) → IfSome (spare_before shape lists k) (Contains (spares_down shape lists))
+pub may_ask : (shape : Shape) (lists : Lists) (k : ℕ) → IfSome (spare_before shape lists k) (Contains (spares shape lists))
 may_ask shape lists zero = tt
-may_ask shape lists (suc k) = by_cases (slice_get (free_spares shape lists) k) refl
+may_ask shape lists (suc k) = by_cases (slice_get (free_all shape lists) k) refl
   where
-    by_cases : (o : Option ℕ) → slice_get (free_spares shape lists) k ≡ o → IfSome o (Contains (spares_down shape lists))
+    by_cases : (o : Option ℕ) → slice_get (free_all shape lists) k ≡ o → IfSome o (Contains (spares shape lists))
     by_cases None at = tt
     by_cases (Some spare) at = free_is_spare shape lists k spare at

@@ -5,14 +5,15 @@ ghost use Rattle.std.specs.List.{Contains, find};
 ghost use Rattle.std.specs.List.Sorted.{IsStrictlyIncreasing};
 ghost use Rattle.model_lists.specs.Values.{defectives};
 ghost use Rattle.model_pools.specs.Listed.{is_listed, replacements};
-ghost use Rattle.model_places.specs.Places.{is_free, spares_down};
+ghost use Rattle.model_places.specs.Places.{is_free, spares};
 ghost use Rattle.model_places.specs.Valid.{AreValid};
 ghost use Rattle.ram_spare.specs.Spares.{both_lists, next_spare};
 
-use crate::turns::{spare_at, spare_count, turn_of};
+use crate::turns::{spare_count, turn_of};
 use model_lists::SdlEntry;
 use ram_dds::DdsPdl;
 use ram_sdl::Sdl;
+use ram_slip::spare_at;
 use ram_zones::Geometry;
 
 /// Whether the entry has this replacement.
@@ -51,10 +52,10 @@ fn is_unnamed(sdl: &Sdl, block: u32) -> bool
 fn free_from(geometry: &Geometry, dds: &DdsPdl, sdl: &Sdl, first: u32) -> Option<u32>
     requires { AreValid geometry.now (both_lists dds.now sdl.now) }
     ensures { result ≡ find (is_free (both_lists dds.now sdl.now))
-        (drop first (spares_down geometry.now (both_lists dds.now sdl.now))) }
+        (drop first (spares geometry.now (both_lists dds.now sdl.now))) }
 {
     for turn in first..spare_count(geometry, dds, sdl) {
-        let block = spare_at(geometry, dds, sdl, turn);
+        let block = spare_at(geometry, dds, sdl.ssa, turn);
         if is_unnamed(sdl, block) {
             return Some(block);
         }
@@ -63,10 +64,10 @@ fn free_from(geometry: &Geometry, dds: &DdsPdl, sdl: &Sdl, first: u32) -> Option
 }
 
 /// The next free spare: the first in the order of spares, or the first after the spare `after`. It is none exactly
-/// where there is none. The primary spares come first, then the supplementary ones, each from the greatest number down.
+/// where there is none. Spares are taken in the order of the one pool of the disc.
 pub fn next_free(geometry: &Geometry, dds: &DdsPdl, sdl: &Sdl, after: Option<u32>) -> Option<u32>
     requires valid { AreValid geometry.now (both_lists dds.now sdl.now) }
-    requires spare { IfSome after (Contains (spares_down geometry.now (both_lists dds.now sdl.now))) }
+    requires spare { IfSome after (Contains (spares geometry.now (both_lists dds.now sdl.now))) }
     ensures { result ≡ next_spare geometry.now (both_lists dds.now sdl.now) after }
 {
     match after {

@@ -3,8 +3,8 @@ use Rattle.std.specs.List.Sorted.{IsStrictlyIncreasing}
 use Rattle.model_lists.specs.Values.{most_of}
 use Rattle.model_lists.specs.declared.sdl.SdlEntry.{SdlEntry}
 use Rattle.model_lists.specs.Values.{Sdl, defectives, retired}
-use Rattle.model_places.specs.Places.{free_spares}
-use Rattle.model_volume.specs.Moves.{with_retired, tried_of}
+use Rattle.ram_spare.specs.Spares.{free_all}
+use Rattle.model_pools.specs.Moves.{with_retired, tried_of}
 use Rattle.ram_sdl.specs.Sdl.{sdl_of}
 use Rattle.ram_lists.specs.Lists.{lists_of}
 use Rattle.ram_replace.proofs.FreeSpares.{may_ask_next, next_stands, next_last, all_passed}
@@ -14,7 +14,7 @@ use Rattle.ram_replace.proofs.drafts.retire_tried.Goals as goal
 pub loop-init : goal.loop-init
 loop-init c = record {
   value = ap (λ (es : List SdlEntry). record (sdl_of c.args.draft.now) { entries = es }) c.requires.same;
-  rise = subst (λ (es : List SdlEntry). IsStrictlyIncreasing (defectives es)) (sym c.requires.same) c.requires.valid.together.secondary.rising;
+  rise = subst (λ (es : List SdlEntry). IsStrictlyIncreasing (defectives es)) (sym c.requires.same) c.requires.valid.together.secondary.entries.rising;
   room = refl;
   last = refl;
 }
@@ -42,7 +42,7 @@ loop-preserved c =
     record {
       value =
           one_more_entry (sdl_of c.args.draft.now) (sdl_of c.loop.draft) (sdl_of c.retire.new.list) _ (retired c.in-Some.spare) c.loop.invariant.value c.retire.ensures.value
-          ∙ ap (λ (es : List SdlEntry). record (sdl_of c.args.draft.now) { entries = es }) (retired_next (free_spares c.args.geometry.now (lists_of c.args.lists.now)) c.args.lists.now.sdl.entries.list c.loop.counter c.in-Some.spare at.spare_is);
+          ∙ ap (λ (es : List SdlEntry). record (sdl_of c.args.draft.now) { entries = es }) (retired_next (free_all c.args.geometry.now (lists_of c.args.lists.now)) c.args.lists.now.sdl.entries.list c.loop.counter c.in-Some.spare at.spare_is);
       rise = c.retire.ensures.rise;
       room = c.retire.ensures.room ∙ c.loop.invariant.room;
       last = next_last c.args.geometry.now (lists_of c.args.lists.now) c.requires.valid c.loop.counter c.loop.last c.loop.invariant.last (omega (arith, c.loop-test.true, c.requires.few)) c.in-Some.spare c.in-Some.ensures;
@@ -51,7 +51,7 @@ loop-preserved c =
 pub returns-clause-value : goal.returns-clause-value
 returns-clause-value c =
     let all : c.loop.counter ≡ c.args.tried = omega (arith, c.loop-test.false, c.loop.auto.counter-end) in
-    subst (λ (n : ℕ). sdl_of c.loop.draft ≡ record (sdl_of c.args.draft.now) { entries = with_retired (tried_of (free_spares c.args.geometry.now (lists_of c.args.lists.now)) n) c.args.lists.now.sdl.entries.list }) all
+    subst (λ (n : ℕ). sdl_of c.loop.draft ≡ record (sdl_of c.args.draft.now) { entries = with_retired (tried_of (free_all c.args.geometry.now (lists_of c.args.lists.now)) n) c.args.lists.now.sdl.entries.list }) all
     c.loop.invariant.value
 
 pub returns-clause-rise : goal.returns-clause-rise

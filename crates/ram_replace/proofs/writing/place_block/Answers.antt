@@ -11,6 +11,7 @@ use Rattle.ram_copies.specs.Calls.{HasPutList}
 use Rattle.ram_copies.specs.declared.writes.Purpose.TheVariants.{Update}
 use Rattle.ram_lists.specs.Lists.{lists_of}
 use Rattle.ram_replace.specs.Placing.{PlacesBlock}
+use Rattle.ram_replace.proofs.FreeSpares.{its_stands}
 use Rattle.ram_replace.proofs.Moving.{lists_valid}
 use Rattle.ram_replace.proofs.Placing.{home_stopped, home_put, spares_stopped, no_spare, last_counter, update_stops, no_copy, spare_put}
 use Rattle.ram_replace.proofs.writing.place_block.Goals as goal
@@ -78,8 +79,13 @@ returns-clause-fit g c =
     record {
       size = c.put_copies.ensures.as_many ∙ c.in_ok-found.ensures.as_many ∙ c.in_ok-put_block.ensures.as_many ∙ c.requires.fit.size;
       valid = subst (λ (s : Sdl). AreValid c.args.geometry.now (record { dds = dds_of c.args.lists.now.dds; sdl = s })) (sym (c.copy_from.ensures.value ∙ c.draft_moved.ensures.value))
-          (lists_valid c.args.geometry.now (lists_of c.args.lists.now) c.requires.fit.valid c.args.i c.requires.inside c.in-Some.found has.stands);
+          (lists_valid c.args.geometry.now (lists_of c.args.lists.now) c.requires.fit.valid c.args.i c.requires.inside c.in-Some.found (its_stands c.args.geometry.now (lists_of c.args.lists.now) c.requires.fit.valid c.args.i c.requires.inside c.in-Some.found has.stands));
       lawful = subst IsLawfulSdl (sym c.copy_from.ensures.value) c.draft_moved.ensures.lawful;
       room = let more = c.copy_from.ensures.room in let had = c.requires.fit.room in omega (arith, more, had);
       draft_room = c.draft_moved.ensures.room;
     }
+
+pub draft_moved-requires-clause-stands : goal.draft_moved-requires-clause-stands
+draft_moved-requires-clause-stands g c =
+    let has = rw c.in-Some.is at c.in_ok-found.ensures.rule in
+    its_stands c.args.geometry.now (lists_of c.args.lists.now) c.requires.fit.valid c.args.i c.requires.inside c.in-Some.found has.stands

@@ -1,6 +1,6 @@
 use Rattle.std.proofs.Common.{arith}
-use Rattle.ram_slip.proofs.Slips.{data_few, passed_where_met}
-use Rattle.ram_slip.proofs.slip.count_passed.Goals as goal
+use Rattle.ram_slip.proofs.Counting.{data_few, passed_where_met}
+use Rattle.ram_slip.proofs.logical.count_passed.Goals as goal
 
 pub overflow_cast-middle : goal.overflow_cast-middle
 overflow_cast-middle c =

@@ -1,8 +1,8 @@
 use Rattle.std.proofs.Common.{arith}
 use Rattle.ram_dds.specs.Dds.{dds_of}
 use Rattle.model_places.proofs.Pools.{length-unslipped}
-use Rattle.ram_slip.proofs.Slips.{data_few}
-use Rattle.ram_slip.proofs.slip.physical.Goals as goal
+use Rattle.ram_slip.proofs.Counting.{data_few}
+use Rattle.ram_slip.proofs.logical.physical.Goals as goal
 
 pub overflow_add-primary : goal.overflow_add-primary
 overflow_add-primary c =
