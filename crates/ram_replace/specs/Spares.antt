@@ -2,7 +2,7 @@
 use Rattle.std.specs.Prelude.{◌≡◌, ℕ, ◌+◌, ◌*◌, ◌<◌, ◌≤◌, ◌⊎◌, true, Option, Some, None, List, length, slice_index}
 use Rattle.std.specs.List.{Contains}
 use Rattle.model_medium.specs.Cells.{Good, Dead, cell_at}
-use Rattle.model_medium.specs.World.{World}
+use Rattle.model_medium.specs.World.{World, Span}
 use Rattle.model_stops.specs.Stops.{Continues, Stops}
 use Rattle.model_stops.specs.declared.Stop.{Stop}
 use Rattle.model_drive.specs.Course.{AreDead}
@@ -13,7 +13,7 @@ pub record StandsAt (free : List ℕ) (found : Found) : Type 0 where
   pub inside : found.tried < length free
   pub spare_is : found.spare ≡ slice_index free found.tried
 
-module _ {M : Type 0} (world : M → World) (reaches : M → M → ℕ → Type 0) (old new : M) (free bytes : List ℕ) where
+module _ {M : Type 0} (world : M → World) (reaches : M → M → Span → Type 0) (old new : M) (free bytes : List ℕ) where
   -- no cell changed but those of the free spares
   abbrev pub ChangesSparesAlone : Type 0
   ChangesSparesAlone = (block : ℕ) → ¬ Contains free block
