@@ -6,7 +6,7 @@ use Rattle.model_geometry.specs.Geometry.{Shape, dds_block, sdl_block, sdl_secon
 use Rattle.model_medium.specs.Cells.{Cell, Blank, Good, Torn, Dead, IsSameOrDead, cell_at}
 use Rattle.model_medium.specs.World.{World, IsUse}
 use Rattle.model_medium.specs.Machine.{Machine}
-use Rattle.model_medium.specs.Reach.{Reach}
+use Rattle.model_medium.specs.Reach.{ReachBy}
 use Rattle.model_stops.specs.Stops.{Stops, FailsInUse}
 use Rattle.model_stops.specs.declared.Stop.{Stop}
 use Rattle.model_stops.specs.declared.Stop.TheVariants as stops
@@ -64,7 +64,7 @@ fails_dead : (old new : World) (at : ℕ) → FailsInUse old new at → (block :
 fails_dead old new at (inl read) = use_dead old new at read.2.one
 fails_dead old new at (inr write) = use_dead old new at write.1.one
 
-pub stop_dead : (old new : Machine) (most : ℕ) (stop : Stop) → Stops (λ (m : Machine). m.world) Reach old new most stop → (block : ℕ) → cell_at old.world.cells block ≡ Dead → cell_at new.world.cells block ≡ Dead
+pub stop_dead : (old new : Machine) (most : ℕ) (stop : Stop) → Stops (λ (m : Machine). m.world) ReachBy old new most stop → (block : ℕ) → cell_at old.world.cells block ≡ Dead → cell_at new.world.cells block ≡ Dead
 stop_dead old new most stops.Cut stopped = stopped.reach.lasts.stays_dead
 stop_dead old new most stops.Off stopped = λ block dead. ap (λ (w : World). cell_at w.cells block) stopped.nothing ∙ dead
 stop_dead old new most stops.Fault stopped = λ block dead. fails_dead stopped.mid.world new.world stopped.block stopped.fails block (stopped.reach.lasts.stays_dead block dead)

@@ -3,3 +3,4 @@ pub mod Arms
 pub mod Uses
 pub mod Compose
 pub mod Rules
+pub mod Happening

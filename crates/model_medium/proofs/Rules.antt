@@ -10,7 +10,7 @@ use Rattle.model_medium.specs.Cells.{Cell, Good, Dead, cell_at, IsSameOrDead, Ma
 use Rattle.model_medium.specs.World.{ShowsNoneUnknown, IsUse, UseContinues, IsCut, ReadRule, WriteRule, ReadContinues, WriteContinues}
 use Rattle.model_medium.specs.Machine.{Machine, is_killed, cells_worn, fate_due, IsToCome, begun, cut_off, with_cell, after_read, after_write}
 use Rattle.model_medium.specs.Exact.{ReadExactly, WriteExactly}
-use Rattle.model_medium.specs.Reach.{Reach}
+use Rattle.model_medium.specs.Reach.{Reach, ReachBy}
 use Rattle.model_medium.specs.declared.Fate.{Fate}
 use Rattle.model_medium.specs.declared.ReadEnd.{ReadEnd}
 use Rattle.model_medium.specs.declared.ReadEnd.TheVariants as reads
@@ -81,7 +81,7 @@ module _ (old new : Machine) (block : ℕ) where
   off_now : new.world.power ≡ false → ¬ IsTrue new.world.power
   off_now e on = false≢true (sym e ∙ on)
 
-  pub read_continues : (into into' : List ℕ) (end : ReadEnd) → IsToCome old.cut → ReadExactly old new block into into' end → ReadContinues (Reach old new) end
+  pub read_continues : (into into' : List ℕ) (end : ReadEnd) → IsToCome old.cut → ReadExactly old new block into into' end → ReadContinues (ReachBy old new) end
   read_continues into into' reads.Done to_come rule = use_continues rule.not_due rule.was_on (read_on rule.not_due rule.exactly)
   read_continues into into' reads.Unreadable to_come rule = use_continues rule.not_due rule.was_on (read_on rule.not_due rule.exactly)
   read_continues into into' reads.Cut to_come rule =
@@ -92,7 +92,7 @@ module _ (old new : Machine) (block : ℕ) where
   read_continues into into' reads.Off to_come rule = subst (λ m. Reach old m 0) (sym rule.0.nothing) (reach_none old to_come)
   read_continues into into' reads.Failed to_come rule = tt
 
-  pub write_continues : (bytes : List ℕ) (end : WriteEnd) → IsToCome old.cut → WriteExactly old new block bytes end → WriteContinues (Reach old new) end
+  pub write_continues : (bytes : List ℕ) (end : WriteEnd) → IsToCome old.cut → WriteExactly old new block bytes end → WriteContinues (ReachBy old new) end
   write_continues bytes writes.Done to_come rule =
       let x = write_on bytes rule.not_due rule.exactly in
       reach_on old new block (written bytes) (used_write rule.was_on bytes x) (written_is_kind bytes) rule.not_due (ap (λ m. m.world.power) x) (ap (λ m. m.world.cuts) x)

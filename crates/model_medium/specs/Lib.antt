@@ -3,3 +3,4 @@ pub mod World
 pub mod Machine
 pub mod Exact
 pub mod Reach
+pub mod Happened

@@ -2,7 +2,7 @@
 use Rattle.std.specs.Prelude.{◌≡◌, ◌≢◌, ℕ, ◌+◌, ◌≤◌, ◌⊎◌, IsTrue, Option, Some, None, List, [], ◌∷◌}
 use Rattle.model_counts.specs.Counts.{counted}
 use Rattle.model_medium.specs.Cells.{Cell, Torn, Dead, IsGood, IsGoodOrDead, cell_at}
-use Rattle.model_medium.specs.World.{World}
+use Rattle.model_medium.specs.World.{World, Span, Uses, FailedUse}
 use Rattle.model_medium.specs.Machine.{Machine}
 use Rattle.model_medium.specs.declared.WornBlock.{WornBlock}
 use Rattle.model_medium.specs.declared.ArmedCut.{ArmedCut}
@@ -83,3 +83,8 @@ pub record Reach (old new : Machine) (k : ℕ) : Type 0 where
   pub arms : WornBy k new.world.cells old.arms new.arms
   pub ends : (NoCutCame old.world new.world × CutStands k old.cut new.cut)
       ⊎ (CutCame old.world new.world × CutFell k old.cut new.cut)
+
+-- The same by how far the work went; what a use that failed did is told by its own rule.
+abbrev pub ReachBy : Machine → Machine → Span → Type 0
+ReachBy old new (Uses k) = Reach old new k
+ReachBy old new FailedUse = Unit {0}

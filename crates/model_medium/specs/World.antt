@@ -121,17 +121,21 @@ WriteRule old new block bytes writes.Cut = IsCutInWrite old new block bytes
 WriteRule old new block bytes writes.Off = IsOff old new
 WriteRule old new block bytes writes.Failed = FailsInWrite old new block bytes
 
--- How far a read or write went: one use, or none with the power off. A use that failed is told by its own rule.
--- (This project's own.)
-abbrev pub ReadContinues : (ℕ → Type 0) → ReadEnd → Type 0
-ReadContinues continues reads.Done = continues 1
-ReadContinues continues reads.Unreadable = continues 1
-ReadContinues continues reads.Cut = continues 1
-ReadContinues continues reads.Off = continues 0
-ReadContinues continues reads.Failed = Unit {0}
+-- How far work on a medium went: by so many uses, none of which failed, or by one use that failed. (This project's own.)
+pub data Span : Type 0 where
+  Uses : ℕ → Span
+  FailedUse : Span
 
-abbrev pub WriteContinues : (ℕ → Type 0) → WriteEnd → Type 0
-WriteContinues continues writes.Done = continues 1
-WriteContinues continues writes.Cut = continues 1
-WriteContinues continues writes.Off = continues 0
-WriteContinues continues writes.Failed = Unit {0}
+-- How far a read or write went: one use, or none with the power off. (This project's own.)
+abbrev pub ReadContinues : (Span → Type 0) → ReadEnd → Type 0
+ReadContinues continues reads.Done = continues (Uses 1)
+ReadContinues continues reads.Unreadable = continues (Uses 1)
+ReadContinues continues reads.Cut = continues (Uses 1)
+ReadContinues continues reads.Off = continues (Uses 0)
+ReadContinues continues reads.Failed = continues FailedUse
+
+abbrev pub WriteContinues : (Span → Type 0) → WriteEnd → Type 0
+WriteContinues continues writes.Done = continues (Uses 1)
+WriteContinues continues writes.Cut = continues (Uses 1)
+WriteContinues continues writes.Off = continues (Uses 0)
+WriteContinues continues writes.Failed = continues FailedUse

@@ -7,18 +7,18 @@ ghost use Rattle.model_medium.specs.Cells.{Dead, cell_at};
 ghost use Rattle.model_medium.specs.World.{World, ShowsNoneUnknown, ReadRule, WriteRule, ReadContinues, WriteContinues};
 ghost use Rattle.model_medium.specs.Machine.{Machine, IsToCome};
 ghost use Rattle.model_medium.specs.Exact.{ReadExactly, WriteExactly};
-ghost use Rattle.model_medium.specs.Reach.{Follows, Reach};
+ghost use Rattle.model_medium.specs.Reach.{Follows, Reach, ReachBy};
 
 /// One read of a controllable medium that did not fail goes one use further, and one with the power off none.
 pub fn one_read_counts_one_use()
     ensures { (old new : Machine) (block : ℕ) (into after : List ℕ) (how : ReadEnd) → IsToCome old.cut
-        → ReadExactly old new block into after how → ReadContinues (Reach old new) how }
+        → ReadExactly old new block into after how → ReadContinues (ReachBy old new) how }
 {}
 
 /// One write of a controllable medium that did not fail goes one use further, and one with the power off none.
 pub fn one_write_counts_one_use()
     ensures { (old new : Machine) (block : ℕ) (bytes : List ℕ) (how : WriteEnd) → IsToCome old.cut
-        → WriteExactly old new block bytes how → WriteContinues (Reach old new) how }
+        → WriteExactly old new block bytes how → WriteContinues (ReachBy old new) how }
 {}
 
 /// Nothing at all is a reach by no use.

@@ -6,8 +6,9 @@ use Rattle.std.proofs.lemmas.Bool.{cases_lt}
 use Rattle.std.proofs.lemmas.List.{length-map}
 use Rattle.model_geometry.specs.Geometry.{Shape, LayoutKind, OneGroup, IsLawful, data_blocks}
 use Rattle.model_lists.specs.declared.dds.PdlEntry.{PdlEntry}
+use Rattle.model_lists.specs.declared.versions.Version.{Version}
 use Rattle.model_lists.specs.declared.versions.Version.TheVariants.{Two}
-use Rattle.model_lists.specs.Values.{Dds}
+use Rattle.model_lists.specs.Values.{Dds, most_of}
 use Rattle.model_pools.specs.Pools.{Pool}
 use Rattle.model_places.specs.Places.{Lists, slipped, one_group, pools_by, pools_of, room_by_kind, spare_room, count_of, is_free, primary_spares, primary_by_kind, supplementary_spares, supplementary_by_kind, free_primary_count, free_supplementary_count}
 use Rattle.model_places.specs.Valid.{IsValidPdl, IsValidSsa, SlipsFew, slips_few_by}
@@ -32,6 +33,10 @@ no_area shape lawful = record {
   most = omega (arith, slip_room shape 0, lawful.most_spares);
   some_logical = omega (arith, slip_room shape 0, lawful.spares_within);
 }
+
+-- a valid area has no more blocks than a disc of this version may have spares
+pub area_most : (shape : Shape) (ssa : ℕ) {version : Version} → IsValidSsa shape version ssa → ssa ≤ most_of version
+area_most shape ssa area = omega (arith, slip_room shape ssa, area.most)
 
 -- as many blocks are slipped as there are entries
 pub length-slipped : (dds : Dds) → length (slipped dds) ≡ length dds.entries

@@ -1,6 +1,6 @@
 -- What a part of the work on a medium did: it continued, or was stopped by a cut, by a power that was off, or by a fault.
 use Rattle.std.specs.Prelude.{ℕ, ◌<◌, ◌≤◌, ◌⊎◌, IsTrue, List}
-use Rattle.model_medium.specs.World.{World, IsCut, IsOff, FailsInRead, FailsInWrite}
+use Rattle.model_medium.specs.World.{World, Span, Uses, FailedUse, IsCut, IsOff, FailsInRead, FailsInWrite}
 use Rattle.model_stops.specs.declared.Stop.{Stop}
 use Rattle.model_stops.specs.declared.Stop.TheVariants as stops
 
@@ -10,18 +10,19 @@ abbrev pub FailsInUse : World → World → ℕ → Type 0
 FailsInUse old new block = ((into : List ℕ) × (into' : List ℕ) × FailsInRead old new block into into')
     ⊎ ((bytes : List ℕ) × FailsInWrite old new block bytes)
 
--- What a part of the work on a medium did, where `reaches` says what can follow by so many uses that did not fail.
-module _ {M : Type 0} (world : M → World) (reaches : M → M → ℕ → Type 0) where
+-- What a part of the work on a medium did, where `reaches` says what can follow by so many uses that did not
+-- fail, or by one that did.
+module _ {M : Type 0} (world : M → World) (reaches : M → M → Span → Type 0) where
   -- it went to its end by k uses, and the power is on
   pub record Continues (old new : M) (k : ℕ) : Type 0 where
-    pub reach : reaches old new k
+    pub reach : reaches old new (Uses k)
     pub is_on : IsTrue (world new).power
 
   -- the power was cut in the last of at most so many uses, and no fault is counted
   pub record StopsByCut (old new : M) (most : ℕ) : Type 0 where
     pub uses : ℕ
     pub few : uses ≤ most
-    pub reach : reaches old new uses
+    pub reach : reaches old new (Uses uses)
     pub cut : IsCut (world old) (world new)
 
   -- the last of at most so many uses failed and counted it, and those before did not
@@ -29,9 +30,10 @@ module _ {M : Type 0} (world : M → World) (reaches : M → M → ℕ → Type 
     pub mid : M
     pub before : ℕ
     pub few : before < most
-    pub reach : reaches old mid before
+    pub reach : reaches old mid (Uses before)
     pub block : ℕ
     pub fails : FailsInUse (world mid) (world new) block
+    pub failed : reaches mid new FailedUse
 
   -- it was stopped within so many uses, for this cause
   abbrev pub Stops : M → M → ℕ → Stop → Type 0

@@ -11,7 +11,7 @@ use Rattle.model_geometry.specs.Geometry.{Shape, data_blocks}
 use Rattle.model_lists.specs.declared.dds.PdlEntry.{PdlEntry}
 use Rattle.model_lists.proofs.Reading.{rises_on}
 use Rattle.model_medium.specs.Cells.{Cell, Good, Dead, MayLeave, cell_at}
-use Rattle.model_medium.specs.World.{World}
+use Rattle.model_medium.specs.World.{World, Span}
 use Rattle.model_stops.specs.Stops.{Continues, Stops}
 use Rattle.model_stops.specs.declared.Stop.{Stop}
 use Rattle.model_sectors.specs.Discs.{zeros}
@@ -41,7 +41,7 @@ rises_with xs x rise above =
     (rises_on (λ (y : ℕ). y) xs x (subst IsStrictlyIncreasing (sym (map-id xs)) rise)
     (λ k end. subst (λ (ys : List ℕ). get_or ys k 0 < x) (sym (map-id xs)) (above (get_or xs k 0) (Contains-get_or xs k 0 (omega (arith, end))))))
 
-module _ {M : Type 0} (world : M → World) (block_count : M → ℕ) (reaches : M → M → ℕ → Type 0) (laws : MediumLaws world block_count reaches)
+module _ {M : Type 0} (world : M → World) (block_count : M → ℕ) (reaches : M → M → Span → Type 0) (laws : MediumLaws world block_count reaches)
     (shape : Shape) (kept : List PdlEntry) (are : AreKept shape kept) (old : M) (most : ℕ) where
   module _ (mid new : M) (n passed count : ℕ) (found : List ℕ) (so_far : HasCertifiedUpTo world reaches shape kept old mid most n passed found count) (n_in : n < length (data_blocks shape)) where
     -- the block is kept

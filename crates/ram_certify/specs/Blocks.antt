@@ -6,7 +6,7 @@ use Rattle.model_geometry.specs.Geometry.{Shape, data_blocks}
 use Rattle.model_lists.specs.declared.dds.PdlEntry.{PdlEntry}
 use Rattle.model_lists.specs.Values.{pdl_blocks}
 use Rattle.model_medium.specs.Cells.{Good, Dead, MayLeave, cell_at}
-use Rattle.model_medium.specs.World.{World}
+use Rattle.model_medium.specs.World.{World, Span}
 use Rattle.model_stops.specs.Stops.{Continues}
 use Rattle.model_sectors.specs.Discs.{zeros}
 use Rattle.model_formats.specs.Defects.{IsCertified}
@@ -24,7 +24,7 @@ ArePassed shape kept n passed = (k d : ℕ) → k < length kept → d < length (
 abbrev pub IsNextKept : List PdlEntry → (passed block : ℕ) → Type 0
 IsNextKept kept passed block = (passed < length kept) × (slice_index (pdl_blocks kept) passed ≡ block)
 
-module _ {M : Type 0} (world : M → World) (reaches : M → M → ℕ → Type 0)
+module _ {M : Type 0} (world : M → World) (reaches : M → M → Span → Type 0)
     (shape : Shape) (kept : List PdlEntry) (old new : M) where
   -- the block was certified by now, and is dead
   pub record IsFoundBy (n block : ℕ) : Type 0 where

@@ -5,7 +5,7 @@ use Rattle.std.specs.List.Sorted.{IsStrictlyIncreasing}
 use Rattle.model_geometry.specs.Geometry.{Shape, data_blocks}
 use Rattle.model_lists.specs.declared.dds.PdlEntry.{PdlEntry}
 use Rattle.model_medium.specs.Cells.{Dead, MayLeave, cell_at}
-use Rattle.model_medium.specs.World.{World, UseContinues, IsOff}
+use Rattle.model_medium.specs.World.{World, Span, UseContinues, IsOff}
 use Rattle.model_stops.specs.Stops.{Continues, Stops}
 use Rattle.model_stops.specs.declared.Stop.{Stop}
 use Rattle.model_stops.specs.declared.Stop.TheVariants as stops
@@ -15,7 +15,7 @@ use Rattle.ram_copies.specs.Calls.{StoppedCounts}
 use Rattle.ram_certify.specs.declared.certification.Certified.{Certified}
 use Rattle.ram_certify.specs.declared.certification.Certified.TheVariants as ends
 
-module _ {M : Type 0} (world : M → World) (reaches : M → M → ℕ → Type 0)
+module _ {M : Type 0} (world : M → World) (reaches : M → M → Span → Type 0)
     (shape : Shape) (kept : List PdlEntry) (old new : M) where
   -- how many uses it takes: each data block that is not kept is written and read back (this project's own, as all here)
   abbrev pub certify_uses : ℕ

@@ -3,7 +3,7 @@ use Rattle.std.specs.Prelude.{◌≡◌, ℕ, ◌+◌, ◌⊎◌, IsTrue, MatchR
 use Rattle.std.proofs.Common.{Result, Ok, Err, inl, inr}
 use Rattle.model_geometry.specs.Geometry.{Shape}
 use Rattle.model_medium.specs.Cells.{Cell, Dead, IsSameOrDead, cell_at}
-use Rattle.model_medium.specs.World.{World}
+use Rattle.model_medium.specs.World.{World, Span}
 use Rattle.model_stops.specs.declared.Stop.TheVariants as stops
 use Rattle.ram_medium.specs.Laws.{MediumLaws}
 use Rattle.ram_zones.specs.declared.list_kind.ListKind.{ListKind}
@@ -21,7 +21,7 @@ seen_now : (old new : Cell) → IsSameOrDead old new → (new ≡ old) ⊎ ((new
 seen_now old new (inl same) = inl same
 seen_now old new (inr dead) = inr (dead, dead)
 
-module _ {M : Type 0} (world : M → World) (block_count : M → ℕ) (reaches : M → M → ℕ → Type 0) (laws : MediumLaws world block_count reaches)
+module _ {M : Type 0} (world : M → World) (block_count : M → ℕ) (reaches : M → M → Span → Type 0) (laws : MediumLaws world block_count reaches)
     (kind : ListKind) (shape : Shape) (old new : M) (accepted : ListValue → Type 0) (on : IsTrue (world old).power) where
   saw : OnlyLooks world reaches kind old new shape → SawCopies world reaches kind shape old new
   saw only = record {
@@ -75,7 +75,7 @@ module _ {M : Type 0} (world : M → World) (block_count : M → ℕ) (reaches :
   }
 
 -- the answer of a choice, by its end
-module _ {M : Type 0} (world : M → World) (reaches : M → M → ℕ → Type 0) (kind : ListKind) (shape : Shape) (old new : M) (accepted : ListValue → Type 0) {T : Type 0} (value_of : T → ListValue) where
+module _ {M : Type 0} (world : M → World) (reaches : M → M → Span → Type 0) (kind : ListKind) (shape : Shape) (old new : M) (accepted : ListValue → Type 0) {T : Type 0} (value_of : T → ListValue) where
   found_rule : (best : Option (Held T)) (mark : ℕ) → HasChosen world reaches kind shape old new accepted (held_of value_of best) mark → ChooseRule world reaches kind shape old new accepted value_of (found_of best mark)
   found_rule None mark h = h
   found_rule (Some held) mark h = h

@@ -3,7 +3,7 @@ use Rattle.std.specs.Prelude.{◌≡◌, ◌≢◌, ℕ, zero, suc, ◌+◌, ◌
 use Rattle.std.proofs.Common.{refl, sym, ◌∙◌, inl, inr, subst, arith}
 use Rattle.model_geometry.specs.Geometry.{Shape}
 use Rattle.model_medium.specs.Cells.{Cell, cell_at}
-use Rattle.model_medium.specs.World.{World}
+use Rattle.model_medium.specs.World.{World, Span}
 use Rattle.model_copies.specs.Copies.{Holds}
 use Rattle.model_stops.specs.Stops.{Continues}
 use Rattle.ram_medium.specs.Laws.{MediumLaws}
@@ -99,7 +99,7 @@ module _ (kind : ListKind) (shape : Shape) (cells cells' : List Cell) where
 
 -- ---- area after area
 
-module _ {M : Type 0} (world : M → World) (block_count : M → ℕ) (reaches : M → M → ℕ → Type 0) (laws : MediumLaws world block_count reaches)
+module _ {M : Type 0} (world : M → World) (block_count : M → ℕ) (reaches : M → M → Span → Type 0) (laws : MediumLaws world block_count reaches)
     (old : M) (shape : Shape) (kind : ListKind) (accepted : ListValue → Type 0) where
   pub looked_none : IsTrue (world old).power → HasLooked world reaches kind old old shape accepted 0 None 0
   looked_none on = record {

@@ -1,7 +1,7 @@
 -- Uses up to a halt add up.
 use Rattle.std.specs.Prelude.{ℕ, ◌+◌, ◌≤◌}
 use Rattle.std.proofs.Common.{arith}
-use Rattle.model_medium.specs.World.{World}
+use Rattle.model_medium.specs.World.{World, Span}
 use Rattle.model_stops.specs.Stops.{Continues}
 use Rattle.ram_medium.specs.Laws.{MediumLaws}
 use Rattle.ram_medium.proofs.Parts.{continues_then, stops_later, stops_within}
@@ -10,7 +10,7 @@ use Rattle.ram_copies.specs.declared.halts.Halt.{Halt}
 use Rattle.ram_copies.specs.declared.halts.Halt.TheVariants as halts
 use Rattle.ram_copies.specs.Choices.{HaltsWithin}
 
-module _ {M : Type 0} (world : M → World) (block_count : M → ℕ) (reaches : M → M → ℕ → Type 0) (laws : MediumLaws world block_count reaches) (kind : ListKind) where
+module _ {M : Type 0} (world : M → World) (block_count : M → ℕ) (reaches : M → M → Span → Type 0) (laws : MediumLaws world block_count reaches) (kind : ListKind) where
   -- a halt within fewer uses is one within more
   pub halts_within : (old new : M) (k most : ℕ) → k ≤ most → (halt : Halt) → HaltsWithin world reaches kind old new k halt → HaltsWithin world reaches kind old new most halt
   halts_within old new k most fits (halts.Stopped stop) stops = stops_within world block_count reaches laws old new k most stop fits stops

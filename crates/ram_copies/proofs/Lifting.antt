@@ -2,7 +2,7 @@
 use Rattle.std.specs.Prelude.{◌≡◌, ◌≢◌, ℕ, zero, suc, ◌+◌, ◌*◌, ◌≤◌, IsTrue, MatchResult, List}
 use Rattle.std.proofs.Common.{Result, Ok, Err, refl, ◌∙◌, inl, inr, subst, arith}
 use Rattle.model_geometry.specs.Geometry.{Shape}
-use Rattle.model_medium.specs.World.{World, UseContinues, HasFailed}
+use Rattle.model_medium.specs.World.{World, Span, Uses, UseContinues, HasFailed}
 use Rattle.model_stops.specs.Stops.{FailsInUse, Continues, Stops}
 use Rattle.model_counts.specs.Counts.{Rose}
 use Rattle.model_stops.specs.declared.Stop.{Stop}
@@ -22,7 +22,7 @@ use Rattle.ram_copies.specs.Calls.{first_block, second_block, SparesExactCells}
 
 -- ---- counts
 
-module _ {M : Type 0} (world : M → World) (block_count : M → ℕ) (reaches : M → M → ℕ → Type 0) (laws : MediumLaws world block_count reaches) (old new : M) where
+module _ {M : Type 0} (world : M → World) (block_count : M → ℕ) (reaches : M → M → Span → Type 0) (laws : MediumLaws world block_count reaches) (old new : M) where
   pub quiet_counts : (k : ℕ) → Continues world reaches old new k → UseContinues (world old) (world new)
   quiet_counts k continues = record {
     stays_on = continues.is_on;
@@ -31,7 +31,7 @@ module _ {M : Type 0} (world : M → World) (block_count : M → ℕ) (reaches :
   }
 
   -- the uses before one that failed were not cut, since the power was on for it
-  before_fault : (mid : M) (k : ℕ) → reaches old mid k → IsTrue (world mid).power → UseContinues (world old) (world mid)
+  before_fault : (mid : M) (k : ℕ) → reaches old mid (Uses k) → IsTrue (world mid).power → UseContinues (world old) (world mid)
   before_fault mid k reach on = record {
     stays_on = on;
     no_cut = (continues_quiet world block_count reaches laws old mid k (record { reach = reach; is_on = on })).1;
@@ -61,7 +61,7 @@ module _ {M : Type 0} (world : M → World) (block_count : M → ℕ) (reaches :
 
 -- ---- the calls
 
-module _ {M : Type 0} (world : M → World) (block_count : M → ℕ) (reaches : M → M → ℕ → Type 0) (laws : MediumLaws world block_count reaches)
+module _ {M : Type 0} (world : M → World) (block_count : M → ℕ) (reaches : M → M → Span → Type 0) (laws : MediumLaws world block_count reaches)
     (kind : ListKind) (shape : Shape) (old new : M) (value : ListValue) (one_first : (x y : List ℕ) → IsText kind value x → IsText kind value y → x ≡ y)
     (one_second : (x y : List ℕ) → IsSecond value x → IsSecond value y → x ≡ y) (on : IsTrue (world old).power) where
   ends_by : (uses : ℕ) → Continues world reaches old new uses → ChangesCopiesAlone world reaches kind shape old new (HasTwo value) → CallEnds world reaches kind shape old new (HasTwo value) uses
@@ -138,7 +138,7 @@ module _ {M : Type 0} (world : M → World) (block_count : M → ℕ) (reaches :
 
 -- ---- the answers, by the end of either
 
-module _ {M : Type 0} (world : M → World) (reaches : M → M → ℕ → Type 0) (kind : ListKind) (shape : Shape) (old new : M) (value : ListValue) where
+module _ {M : Type 0} (world : M → World) (reaches : M → M → Span → Type 0) (kind : ListKind) (shape : Shape) (old new : M) (value : ListValue) where
   pub update_rule : (ended : Result ℕ Stop) → MatchResult ended (HasPutList world reaches kind shape old new value purposes.Update) (StopsPuttingList world reaches kind shape old new value purposes.Update)
       → UpdateRule world reaches kind shape old new value (updated_of ended)
   update_rule (Ok zero) h = h

@@ -5,7 +5,7 @@ use Rattle.std.proofs.Common.{Bool, Result, Ok, Err, refl, sym, ap, ◌∙◌, i
 use Rattle.std.proofs.lemmas.Bool.{cases_eq}
 use Rattle.model_geometry.specs.Geometry.{Shape}
 use Rattle.model_medium.specs.Cells.{Cell, Blank, Good, Torn, Dead, IsGood, IsSameOrDead, cell_at}
-use Rattle.model_medium.specs.World.{World, ReadsCell, FindsNoBytes}
+use Rattle.model_medium.specs.World.{World, Span, ReadsCell, FindsNoBytes}
 use Rattle.model_stops.specs.Stops.{Continues, Stops}
 use Rattle.model_stops.specs.declared.Stop.{Stop}
 use Rattle.model_stops.specs.declared.Stop.TheVariants as stops
@@ -122,7 +122,7 @@ decodes_as value_of kind (Some t) first second says = says
 
 -- ---- the looks
 
-module _ {M : Type 0} (world : M → World) (block_count : M → ℕ) (reaches : M → M → ℕ → Type 0) (laws : MediumLaws world block_count reaches) (kind : ListKind) where
+module _ {M : Type 0} (world : M → World) (block_count : M → ℕ) (reaches : M → M → Span → Type 0) (laws : MediumLaws world block_count reaches) (kind : ListKind) where
   module _ (old new : M) (block : ℕ) where
     -- a read changes no cell but that of its block, if any
     read_found : (bytes : List ℕ) → ReadsCell (world old) (world new) block bytes → OnlyReads world reaches kind old new block

@@ -2,7 +2,7 @@
 use Rattle.std.specs.Prelude.{◌≡◌, ◌≢◌, ℕ, zero, suc, ◌+◌, ◌*◌, ◌≤◌, ◌⊎◌, true, IsTrue, List, Result, Ok, Err}
 use Rattle.model_geometry.specs.Geometry.{Shape}
 use Rattle.model_medium.specs.Cells.{Cell, Dead, cell_at}
-use Rattle.model_medium.specs.World.{World, UseContinues, IsCut, HasFailed, IsOff}
+use Rattle.model_medium.specs.World.{World, Span, UseContinues, IsCut, HasFailed, IsOff}
 use Rattle.model_stops.specs.Stops.{Continues, Stops}
 use Rattle.model_stops.specs.declared.Stop.{Stop}
 use Rattle.model_stops.specs.declared.Stop.TheVariants as stops
@@ -86,7 +86,7 @@ repair_uses value rewritten = 4 * parts_of value + 2 * rewritten
 abbrev pub most_repair_uses : ListValue → ℕ
 most_repair_uses value = 12 * parts_of value
 
-module _ {M : Type 0} (world : M → World) (reaches : M → M → ℕ → Type 0)
+module _ {M : Type 0} (world : M → World) (reaches : M → M → Span → Type 0)
     (kind : ListKind) (shape : Shape) (old new : M) (two : Type 0) where
   -- No cell changed but those of the four copies: of first parts, and of second ones where there are any.
   pub record ChangesCopiesAlone : Type 0 where
@@ -109,7 +109,7 @@ module _ {M : Type 0} (world : M → World) (reaches : M → M → ℕ → Type 
     pub counts : StoppedCounts (world old) (world new) stop
     pub alone : ChangesCopiesAlone
 
-module _ {M : Type 0} (world : M → World) (reaches : M → M → ℕ → Type 0)
+module _ {M : Type 0} (world : M → World) (reaches : M → M → Span → Type 0)
     (kind : ListKind) (shape : Shape) (old new : M) (value : ListValue) where
   -- Each cell is exactly its part or dead now, and just so many copies, one at least, can be read whole.
   pub record Keeps (readable : ℕ) : Type 0 where

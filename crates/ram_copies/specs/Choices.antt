@@ -3,7 +3,7 @@
 use Rattle.std.specs.Prelude.{◌≡◌, ◌≢◌, ℕ, zero, suc, ◌+◌, ◌<◌, ◌≤◌, ◌⊎◌, max, true, Option, Some, None, List}
 use Rattle.model_geometry.specs.Geometry.{Shape}
 use Rattle.model_medium.specs.Cells.{Cell, Blank, Good, Torn, Dead, IsSameOrDead, cell_at}
-use Rattle.model_medium.specs.World.{World}
+use Rattle.model_medium.specs.World.{World, Span}
 use Rattle.model_stops.specs.Stops.{Continues, Stops}
 use Rattle.model_copies.specs.Copies.{IsArea, Holds}
 use Rattle.ram_zones.specs.declared.list_kind.ListKind.{ListKind}
@@ -120,7 +120,7 @@ abbrev pub BothSay : ListKind → List ℕ → Cell → Option ListValue → Typ
 BothSay kind first cell None = (v : ListValue) → IsText kind v first → HasTwo v → ¬ Holds IsSecond cell v
 BothSay kind first cell (Some v) = IsText kind v first × HasTwo v × Holds IsSecond cell v
 
-module _ {M : Type 0} (world : M → World) (reaches : M → M → ℕ → Type 0) (kind : ListKind) (old new : M) where
+module _ {M : Type 0} (world : M → World) (reaches : M → M → Span → Type 0) (kind : ListKind) (old new : M) where
   -- so many uses at most, and the power is on
   pub record ContinuesWithin (most : ℕ) : Type 0 where
     pub uses : ℕ

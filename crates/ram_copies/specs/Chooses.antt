@@ -2,7 +2,7 @@
 use Rattle.std.specs.Prelude.{◌≡◌, ℕ, ◌+◌, ◌<◌, ◌≤◌, ◌⊎◌, true, IsTrue, Option, Some, None, List, Result, Ok, Err}
 use Rattle.model_geometry.specs.Geometry.{Shape}
 use Rattle.model_medium.specs.Cells.{Cell}
-use Rattle.model_medium.specs.World.{World, UseContinues, IsOff}
+use Rattle.model_medium.specs.World.{World, Span, UseContinues, IsOff}
 use Rattle.model_stops.specs.Stops.{Continues}
 use Rattle.model_stops.specs.declared.Stop.{Stop}
 use Rattle.model_stops.specs.declared.Stop.TheVariants as stops
@@ -27,7 +27,7 @@ pub record IsChosenCopy (kind : ListKind) (shape : Shape) (cells : List Cell) (a
   pub no_better : (other : ListValue) (at : ℕ) → IsWhole kind shape cells other at → accepted other
       → (counter_of other < counter_of value) ⊎ ((counter_of other ≡ counter_of value) × (area ≤ at))
 
-module _ {M : Type 0} (world : M → World) (reaches : M → M → ℕ → Type 0)
+module _ {M : Type 0} (world : M → World) (reaches : M → M → Span → Type 0)
     (kind : ListKind) (shape : Shape) (old new : M) where
   -- the copies as the choice saw them are those of now: each cell was then as at entry, or dead
   pub record SawCopies : Type 0 where

@@ -4,7 +4,7 @@ use Rattle.std.proofs.Common.{refl, sym, ap, inl, subst, arith, eqb, take}
 use Rattle.std.proofs.lemmas.Bool.{cond-false, ne_eqb}
 use Rattle.model_geometry.specs.Geometry.{Shape, dds_block}
 use Rattle.model_lists.specs.Texts.{IsDdsText, IsTwo}
-use Rattle.model_medium.specs.World.{World}
+use Rattle.model_medium.specs.World.{World, Span}
 use Rattle.model_stops.specs.declared.Stop.{Stop}
 use Rattle.model_copies.specs.Copies.{Settled}
 use Rattle.model_copies.specs.Parts.{SdlIsBetween, SdlIsLost}
@@ -34,7 +34,7 @@ use Rattle.ram_lists.proofs.MountSteps.{settled_same, sdl_only, dds_stay}
 use Rattle.ram_expand.specs.Sizes.{IsSmaller}
 use Rattle.ram_expand.specs.Expanding.{lists_grown, HasGrown, LacksUpdate, StopsGrowing}
 
-module _ {M : Type 0} (world : M → World) (block_count : M → ℕ) (reaches : M → M → ℕ → Type 0) (laws : MediumLaws world block_count reaches) where
+module _ {M : Type 0} (world : M → World) (block_count : M → ℕ) (reaches : M → M → Span → Type 0) (laws : MediumLaws world block_count reaches) where
   module _ (shape : Shape) (lists : Lists) (valid : AreValid shape lists) (capacity : ℕ) (size : IsSmaller shape lists capacity)
       (old : M) (settled : AreSettled shape (world old).cells lists) where
     pub area : IsValidSsa shape lists.sdl.version (ssa_for shape capacity)

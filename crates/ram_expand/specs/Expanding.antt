@@ -2,7 +2,7 @@
 use Rattle.std.specs.Prelude.{◌≡◌, ℕ, ◌<◌, ◌==◌, ◌⊎◌, if◌then◌else◌, true, IsTrue, List, [], ◌∷◌}
 use Rattle.model_geometry.specs.Geometry.{Shape}
 use Rattle.model_lists.specs.Texts.{IsTwo}
-use Rattle.model_medium.specs.World.{World}
+use Rattle.model_medium.specs.World.{World, Span}
 use Rattle.model_stops.specs.declared.Stop.{Stop}
 use Rattle.model_stops.specs.declared.Stop.TheVariants as stops
 use Rattle.model_copies.specs.Parts.{SdlIsLost}
@@ -26,7 +26,7 @@ use Rattle.ram_expand.specs.declared.expanding.Grown.TheVariants as growns
 abbrev pub lists_grown : Shape → Lists → (capacity : ℕ) → Lists
 lists_grown shape lists capacity = lists_expanded shape lists (ssa_for shape capacity)
 
-module _ {M : Type 0} (world : M → World) (reaches : M → M → ℕ → Type 0)
+module _ {M : Type 0} (world : M → World) (reaches : M → M → Span → Type 0)
     (shape : Shape) (old new : M) (lists : Lists) (capacity : ℕ) (lists' : Lists) where
   -- nothing was done, and the lists are as before
   pub record DoesNothing : Type 0 where

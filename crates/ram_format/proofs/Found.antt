@@ -13,7 +13,7 @@ use Rattle.model_geometry.proofs.Zones.{total_most}
 use Rattle.model_lists.specs.declared.dds.PdlEntry.{PdlEntry}
 use Rattle.model_lists.specs.declared.dds.PdlKind.{PdlKind}
 use Rattle.model_lists.specs.Values.{pdl_blocks}
-use Rattle.model_medium.specs.World.{World}
+use Rattle.model_medium.specs.World.{World, Span}
 use Rattle.model_formats.specs.Defects.{AreKept}
 use Rattle.ram_certify.specs.Certifying.{HasCertified}
 use Rattle.ram_format.specs.Merging.{found_entry, IsKeptNext, CanMerge, HasMerged, AreMerged}
@@ -107,7 +107,7 @@ module _ (kept : List PdlEntry) (found : List ℕ) (kind : PdlKind) (can : CanMe
 pub made : (kind : PdlKind) (entry : PdlEntry) (block : ℕ) → entry.kind ≡ kind → block ≡ entry.block → found_entry kind block ≡ entry
 made kind entry block same_kind same_block = ap (λ (k : PdlKind). found_entry k block) (sym same_kind) ∙ ap (found_entry entry.kind) same_block
 
-module _ {M : Type 0} (world : M → World) (reaches : M → M → ℕ → Type 0) (shape : Shape) (kept : List PdlEntry) (are : AreKept shape kept) (kind : PdlKind) (old new : M)
+module _ {M : Type 0} (world : M → World) (reaches : M → M → Span → Type 0) (shape : Shape) (kept : List PdlEntry) (are : AreKept shape kept) (kind : PdlKind) (old new : M)
     (most count : ℕ) (found : List ℕ) (did : HasCertified world reaches shape kept old new most found count) where
   pub can_merge : CanMerge kept did.unreadable
   can_merge = record {

@@ -10,7 +10,7 @@ use Rattle.model_lists.specs.Texts.{IsDdsText, IsTwo, IsSdlText, IsSdlSecond}
 use Rattle.model_lists.proofs.DdsTexts as dds_texts
 use Rattle.model_lists.proofs.SdlTexts as sdl_texts
 use Rattle.model_medium.specs.Cells.{Cell, Blank, Good, Torn, Dead, IsSameOrDead, cell_at}
-use Rattle.model_medium.specs.World.{World, IsUse}
+use Rattle.model_medium.specs.World.{World, Span, IsUse}
 use Rattle.model_stops.specs.Stops.{Continues, Stops, FailsInUse}
 use Rattle.model_stops.specs.declared.Stop.{Stop}
 use Rattle.model_stops.specs.declared.Stop.TheVariants as stops
@@ -174,7 +174,7 @@ failed_stays_dead : (old new : World) (block : ℕ) → FailsInUse old new block
 failed_stays_dead old new block (inl read) = use_stays_dead old new block read.2.one
 failed_stays_dead old new block (inr write) = use_stays_dead old new block write.1.one
 
-module _ {M : Type 0} (world : M → World) (block_count : M → ℕ) (reaches : M → M → ℕ → Type 0) (laws : MediumLaws world block_count reaches) (shape : Shape) (lists : Lists) where
+module _ {M : Type 0} (world : M → World) (block_count : M → ℕ) (reaches : M → M → Span → Type 0) (laws : MediumLaws world block_count reaches) (shape : Shape) (lists : Lists) where
   stays_dead : (a b : M) (k : ℕ) → Continues world reaches a b k → (block : ℕ) → cell_at (world a).cells block ≡ Dead → cell_at (world b).cells block ≡ Dead
   stays_dead a b k continues = (laws.follows a b k continues.reach).lasts.stays_dead
 

@@ -17,7 +17,7 @@ use Rattle.model_lists.specs.Values.{pdl_blocks, IsLawfulDds}
 use Rattle.model_lists.specs.Texts.{IsDdsText}
 use Rattle.model_medium.specs.Cells.{Cell, Good, Dead, cell_at}
 use Rattle.model_counts.specs.Counts.{counted, Rose}
-use Rattle.model_medium.specs.World.{World, UseContinues}
+use Rattle.model_medium.specs.World.{World, Span, UseContinues}
 use Rattle.model_stops.specs.Stops.{Continues, Stops}
 use Rattle.model_stops.specs.declared.Stop.{Stop}
 use Rattle.model_stops.specs.declared.Stop.TheVariants as stops
@@ -74,7 +74,7 @@ lawful_dds shape mark psa entries lawful same room few rise all = record {
   };
 }
 
-module _ {M : Type 0} (world : M → World) (block_count : M → ℕ) (reaches : M → M → ℕ → Type 0) (laws : MediumLaws world block_count reaches)
+module _ {M : Type 0} (world : M → World) (block_count : M → ℕ) (reaches : M → M → Span → Type 0) (laws : MediumLaws world block_count reaches)
     (shape : Shape) (kept : List PdlEntry) (kind : PdlKind) (mark : ℕ) (room : mark + 2 ≤ 4294967295) where
   -- ---- what each step changes
 

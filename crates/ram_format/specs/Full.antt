@@ -6,7 +6,7 @@ use Rattle.model_geometry.specs.Geometry.{Shape, dds_block}
 use Rattle.model_lists.specs.declared.dds.PdlEntry.{PdlEntry}
 use Rattle.model_lists.specs.declared.dds.PdlKind.{PdlKind}
 use Rattle.model_lists.specs.Values.{IsLawfulDds, IsLawfulSdl}
-use Rattle.model_medium.specs.World.{World, UseContinues}
+use Rattle.model_medium.specs.World.{World, Span, UseContinues}
 use Rattle.model_stops.specs.Stops.{Continues, Stops}
 use Rattle.model_stops.specs.declared.Stop.{Stop}
 use Rattle.model_stops.specs.declared.Stop.TheVariants as stops
@@ -27,7 +27,7 @@ use Rattle.ram_format.specs.declared.halts.FormatHalt.TheVariants as halts
 use Rattle.ram_format.specs.declared.full.FullEnd.{FullEnd}
 use Rattle.ram_format.specs.declared.full.FullEnd.TheVariants as fulls
 
-module _ {M : Type 0} (world : M → World) (reaches : M → M → ℕ → Type 0)
+module _ {M : Type 0} (world : M → World) (reaches : M → M → Span → Type 0)
     (shape : Shape) (kept : List PdlEntry) (kind : PdlKind) (mark : ℕ) (old new : M) where
   -- The uses of the phases, up to the end of each: an update of the structure, the certification, an update of the
   -- secondary list, of two parts, and one of the structure. (This project's own, as all here.)

@@ -7,7 +7,7 @@ use Rattle.model_lists.specs.declared.dds.PdlEntry.{PdlEntry}
 use Rattle.model_lists.specs.declared.dds.PdlKind.{PdlKind}
 use Rattle.model_lists.specs.declared.dds.PdlKind.TheVariants as pdl_kinds
 use Rattle.model_lists.specs.Values.{pdl_blocks}
-use Rattle.model_medium.specs.World.{World, UseContinues}
+use Rattle.model_medium.specs.World.{World, Span, UseContinues}
 use Rattle.model_stops.specs.Stops.{Continues}
 use Rattle.model_formats.specs.Defects.{AreCertified, AreDefective}
 use Rattle.ram_certify.specs.Certifying.{certify_uses, ChangesCertifiedAlone, StopsCertifying}
@@ -18,7 +18,7 @@ use Rattle.ram_format.specs.declared.halts.FormatHalt.TheVariants as halts
 abbrev pub kind_by : Bool → PdlKind
 kind_by first = if first then pdl_kinds.P else pdl_kinds.G1
 
-module _ {M : Type 0} (world : M → World) (reaches : M → M → ℕ → Type 0) (shape : Shape) (old new : M) where
+module _ {M : Type 0} (world : M → World) (reaches : M → M → Span → Type 0) (shape : Shape) (old new : M) where
   module _ (kept : List PdlEntry) (kind : PdlKind) where
     -- The data blocks that are not kept were certified: these entries are the kept ones and those of the dead blocks.
     pub record HasFoundDefects (entries : List PdlEntry) : Type 0 where

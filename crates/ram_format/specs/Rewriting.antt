@@ -3,7 +3,7 @@ use Rattle.std.specs.Prelude.{◌≡◌, ℕ, zero, suc, ◌+◌, ◌*◌, ◌�
 use Rattle.model_geometry.specs.Geometry.{Shape, dds_block}
 use Rattle.model_lists.specs.Values.{Sdl, parts_by}
 use Rattle.model_lists.specs.Texts.{IsDdsText}
-use Rattle.model_medium.specs.World.{World, UseContinues, IsOff}
+use Rattle.model_medium.specs.World.{World, Span, UseContinues, IsOff}
 use Rattle.model_stops.specs.Stops.{Continues, Stops}
 use Rattle.model_stops.specs.declared.Stop.{Stop}
 use Rattle.model_stops.specs.declared.Stop.TheVariants as stops
@@ -22,7 +22,7 @@ use Rattle.ram_format.specs.declared.rewriting.Rewritten.TheVariants as rewrites
 abbrev pub most_rewrite_uses : Sdl → ℕ
 most_rewrite_uses sdl = 12 + (4 * parts_by sdl.version + 2 * (4 * parts_by sdl.version))
 
-module _ {M : Type 0} (world : M → World) (reaches : M → M → ℕ → Type 0) (shape : Shape) (old new : M) where
+module _ {M : Type 0} (world : M → World) (reaches : M → M → Span → Type 0) (shape : Shape) (old new : M) where
   module _ (lists : Lists) where
     -- Both lists were repaired, and are settled: no other cell changed.
     pub record RepairsBothLists : Type 0 where

@@ -1,10 +1,10 @@
 -- What a medium over an image shows, and what it does at each event, also to the image's bytes.
 use Rattle.std.specs.Prelude.{◌≡◌, ℕ, Bool, is_some, Option, List}
 use Rattle.model_geometry.specs.Geometry.{Shape, label_of, total}
-use Rattle.model_medium.specs.World.{World}
+use Rattle.model_medium.specs.World.{World, Span}
 use Rattle.model_medium.specs.Machine.{Machine, is_killed}
 use Rattle.model_medium.specs.Exact.{Event, Exactly}
-use Rattle.model_medium.specs.Reach.{Reach}
+use Rattle.model_medium.specs.Happened.{IsEventOf, FollowsByEvents}
 use Rattle.model_image.specs.Cells.{cells_known}
 use Rattle.ram_outside.specs.declared.image.Image.{Ghosts}
 use Rattle.ram_medium.specs.Laws.{machine_of}
@@ -40,13 +40,14 @@ bytes_in {I} {d} medium = d.bytes medium.image
 abbrev pub dies_in : {I : Type 0} {d : Ghosts I} → ImageMedium I d → ℕ → Bool
 dies_in medium block = is_killed block (arms_of medium.armed)
 
--- what can follow on a medium over an image
-abbrev pub ImageReaches : {I : Type 0} {d : Ghosts I} → ImageMedium I d → ImageMedium I d → ℕ → Type 0
-ImageReaches old new k = Reach (machine_in old) (machine_in new) k
-
--- What an event does on a medium over an image: exactly what it does on a controllable medium, over the same disc, and
--- to these bytes of the image alone. (This project's own.)
+-- What an event does on a medium over an image: exactly what it does on a controllable medium, over a block of the
+-- same disc, and to these bytes of the image alone. (This project's own.)
 pub record ImageTakes {I : Type 0} {d : Ghosts I} (old new : ImageMedium I d) (event : Event) : Type 0 where
+  pub lawful : IsEventOf (total (shape_of_medium old)) event
   pub exactly : Exactly (machine_in old) (machine_in new) event
   pub same_shape : shape_of_medium new ≡ shape_of_medium old
   pub bytes : BytesAt (machine_in old) (total (shape_of_medium old)) (bytes_in old) (bytes_in new) event
+
+-- what can follow on a medium over an image
+abbrev pub ImageReaches : {I : Type 0} {d : Ghosts I} → ImageMedium I d → ImageMedium I d → Span → Type 0
+ImageReaches {I} {d} old new span = FollowsByEvents {M = ImageMedium I d} machine_in ImageTakes old new span

@@ -326,6 +326,7 @@ impl<I: Image> Medium for ImageMedium<I> {
     ghost use Rattle.model_image.proofs.KnownCells.{shows_none_unknown, length-cells_known};
     ghost use Rattle.model_image.proofs.WholeCells.{cells_known-whole};
     ghost use Rattle.model_medium.proofs.Compose.{reach_none, reach_then, follows-reach};
+    ghost use Rattle.model_medium.proofs.Happening.{happened_none, happened_then};
 
     ghost world = { world_of };
 
@@ -368,14 +369,22 @@ impl<I: Image> Medium for ImageMedium<I> {
     }
 
     ghost laws = { record {
-      none = λ medium. reach_none (machine_in medium) medium.armed.to_come;
-      adds_up = λ a b c j k one two. reach_then (machine_in a) (machine_in b) (machine_in c) j k one two;
-      follows = λ a b k reach. follows-reach (machine_in a) (machine_in b) k reach;
+      none = λ medium. record {
+        reach = reach_none (machine_in medium) medium.armed.to_come;
+        happened = happened_none ImageTakes medium;
+      };
+      adds_up = λ a b c j k one two. record {
+        reach = reach_then (machine_in a) (machine_in b) (machine_in c) j k one.reach two.reach;
+        happened = happened_then ImageTakes a b c one.happened two.happened;
+      };
+      follows = λ a b k one. follows-reach (machine_in a) (machine_in b) k one.reach;
       unknown = λ medium. shows_none_unknown (shape_of_medium medium) (I.bytes medium.image);
       as_many = λ medium. length-cells_known (total (shape_of_medium medium)) (I.bytes medium.image);
       whole = λ medium. cells_known-whole (total (shape_of_medium medium)) (I.bytes medium.image)
           (λ held is. (medium.disc held is).as_long);
     } };
+
+    ghost happened = { λ a b span one. one.happened };
 }
 
 impl<I: Image> MediumControl for ImageMedium<I> {
@@ -436,7 +445,7 @@ impl<I: Image> MediumControl for ImageMedium<I> {
 
     ghost control_laws = { record {
       exactly = λ a b event takes. takes.exactly;
-      reach = λ a b k reach. reach;
+      reach = λ a b k one. one.reach;
       to_come = λ medium. medium.armed.to_come;
       arms_to_come = λ medium. medium.armed.arms_to_come;
       few = λ medium. medium.armed.few;

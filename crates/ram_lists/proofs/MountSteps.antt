@@ -10,7 +10,7 @@ use Rattle.model_lists.specs.Texts.{IsDdsText, IsTwo, IsSdlText, IsSdlSecond}
 use Rattle.model_lists.specs.declared.dds.DdsState.{DdsState}
 use Rattle.model_lists.specs.declared.dds.DdsState.TheVariants.{Formatting, Formatted}
 use Rattle.model_medium.specs.Cells.{Cell, Dead, IsSameOrDead, cell_at}
-use Rattle.model_medium.specs.World.{World, UseContinues}
+use Rattle.model_medium.specs.World.{World, Span, UseContinues}
 use Rattle.model_stops.specs.Stops.{Continues}
 use Rattle.model_stops.specs.declared.Stop.{Stop}
 use Rattle.model_stops.specs.declared.Stop.TheVariants as stops
@@ -159,7 +159,7 @@ keeps_then shape a b c one dies two = record {
 }
 
 -- an update of one list changes no cells but its own
-module _ {M : Type 0} (world : M → World) (reaches : M → M → ℕ → Type 0) (shape : Shape) where
+module _ {M : Type 0} (world : M → World) (reaches : M → M → Span → Type 0) (shape : Shape) where
   -- the cells of the other list stay
   pub sdl_stay : (old new : M) {two : Type 0} → ChangesCopiesAlone world reaches kinds.Dds shape old new two → (a : ℕ) → cell_at (world new).cells (sdl_block shape a) ≡ cell_at (world old).cells (sdl_block shape a)
   sdl_stay old new alone a = alone.others (sdl_block shape a) (λ at is same. dds_no_sdl shape at a (sym same)) (λ two at is same. second_no_sdl shape at a (sym same))
@@ -190,7 +190,7 @@ module _ {M : Type 0} (world : M → World) (reaches : M → M → ℕ → Type 
     ];
   }
 
-module _ {M : Type 0} (world : M → World) (block_count : M → ℕ) (reaches : M → M → ℕ → Type 0) (laws : MediumLaws world block_count reaches) (shape : Shape) where
+module _ {M : Type 0} (world : M → World) (block_count : M → ℕ) (reaches : M → M → Span → Type 0) (laws : MediumLaws world block_count reaches) (shape : Shape) where
   by_known : (m : M) (P : Type 0) → ((world m).known ≡ true → P) → ((world m).cells ≡ [] → P) → P
   by_known m P known unknown = elim (cases_Bool (world m).known) [
     | inl yes' ↦ known yes'

@@ -4,7 +4,7 @@ use Rattle.model_geometry.specs.Geometry.{Shape, dds_block, sdl_block, sdl_secon
 use Rattle.model_lists.specs.Values.{Dds, Sdl, IsLawfulDds, IsLawfulSdl, parts_by}
 use Rattle.model_lists.specs.Texts.{IsDdsText, IsTwo, IsSdlText, IsSdlSecond}
 use Rattle.model_medium.specs.Cells.{Cell}
-use Rattle.model_medium.specs.World.{World, UseContinues, IsOff}
+use Rattle.model_medium.specs.World.{World, Span, UseContinues, IsOff}
 use Rattle.model_stops.specs.Stops.{Continues, Stops}
 use Rattle.model_stops.specs.declared.Stop.{Stop}
 use Rattle.model_stops.specs.declared.Stop.TheVariants as stops
@@ -88,7 +88,7 @@ pub record FindsNoLists (shape : Shape) (old new : World) (dds : Option Dds) (ma
   pub few : mores ≤ 4
   pub counted : old.known ≡ true → CountMores shape seen 4 mores
 
-module _ {M : Type 0} (world : M → World) (reaches : M → M → ℕ → Type 0) (shape : Shape) (old new : M) where
+module _ {M : Type 0} (world : M → World) (reaches : M → M → Span → Type 0) (shape : Shape) (old new : M) where
   -- The mount went to its end in so many uses. The power was on and is on, and neither a cut nor a fault is counted.
   pub record MountHasEnded (uses : ℕ) : Type 0 where
     pub was_on : IsTrue (world old).power

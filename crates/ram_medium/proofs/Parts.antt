@@ -2,7 +2,7 @@
 use Rattle.std.specs.Prelude.{◌≡◌, ℕ, ◌+◌, ◌≤◌, IsTrue, List}
 use Rattle.std.proofs.Common.{sym, ap, ◌∙◌, inl, inr, arith}
 use Rattle.model_counts.specs.Counts.{counted}
-use Rattle.model_medium.specs.World.{World, HasFailed, FailsInRead, FailsInWrite}
+use Rattle.model_medium.specs.World.{World, Span, FailedUse, HasFailed, FailsInRead, FailsInWrite}
 use Rattle.ram_medium.specs.Laws.{MediumLaws}
 use Rattle.model_stops.specs.Stops.{FailsInUse, Continues, Stops}
 use Rattle.model_stops.specs.declared.Stop.{Stop}
@@ -20,7 +20,7 @@ pub use_failed : (old new : World) (block : ℕ) → FailsInUse old new block �
 use_failed old new block (inl read) = read.2.failed
 use_failed old new block (inr write) = write.1.failed
 
-module _ {M : Type 0} (world : M → World) (block_count : M → ℕ) (reaches : M → M → ℕ → Type 0) (laws : MediumLaws world block_count reaches) where
+module _ {M : Type 0} (world : M → World) (block_count : M → ℕ) (reaches : M → M → Span → Type 0) (laws : MediumLaws world block_count reaches) where
   -- no part at all
   pub continues_none : (m : M) → IsTrue (world m).power → Continues world reaches m m 0
   continues_none m on = record { reach = laws.none m; is_on = on }
@@ -36,8 +36,8 @@ module _ {M : Type 0} (world : M → World) (block_count : M → ℕ) (reaches :
   ]
 
   -- a use that failed, with none before it
-  pub stops_at_once : (a b : M) (block : ℕ) → FailsInUse (world a) (world b) block → Stops world reaches a b 1 stops.Fault
-  stops_at_once a b block fails = record { mid = a; before = 0; few = omega arith; reach = laws.none a; block = block; fails = fails }
+  pub stops_at_once : (a b : M) (block : ℕ) → FailsInUse (world a) (world b) block → reaches a b FailedUse → Stops world reaches a b 1 stops.Fault
+  stops_at_once a b block fails failed = record { mid = a; before = 0; few = omega arith; reach = laws.none a; block = block; fails = fails; failed = failed }
 
   -- a stop after a part that went to its end
   pub stops_later : (a b c : M) (j most : ℕ) (why : Stop) → Continues world reaches a b j → Stops world reaches b c most why → Stops world reaches a c (j + most) why
@@ -55,10 +55,11 @@ module _ {M : Type 0} (world : M → World) (block_count : M → ℕ) (reaches :
     reach = laws.adds_up a b two.mid j two.before one.reach two.reach;
     block = two.block;
     fails = two.fails;
+    failed = two.failed;
   }
 
   -- a stop within fewer uses is one within more
   pub stops_within : (a b : M) (most more : ℕ) (why : Stop) → most ≤ more → Stops world reaches a b most why → Stops world reaches a b more why
   stops_within a b most more stops.Cut le stop = record { uses = stop.uses; few = omega (arith, stop.few); reach = stop.reach; cut = stop.cut }
   stops_within a b most more stops.Off le stop = stop
-  stops_within a b most more stops.Fault le stop = record { mid = stop.mid; before = stop.before; few = omega (arith, stop.few); reach = stop.reach; block = stop.block; fails = stop.fails }
+  stops_within a b most more stops.Fault le stop = record { mid = stop.mid; before = stop.before; few = omega (arith, stop.few); reach = stop.reach; block = stop.block; fails = stop.fails; failed = stop.failed }

@@ -2,11 +2,11 @@
 use Rattle.std.specs.Prelude.{◌≡◌, ◌↔◌, ℕ, true, false, IsTrue, List, [], Contains}
 use Rattle.model_counts.specs.Counts.{counted}
 use Rattle.model_medium.specs.Machine.{Machine, arms_after, cut_after}
-use Rattle.model_medium.specs.World.{World}
+use Rattle.model_medium.specs.World.{World, Span}
 use Rattle.model_medium.specs.Exact.{Event, Read, Write, PowerOn, PowerOff, Exactly}
-use Rattle.model_medium.specs.Reach.{Reach}
 use Rattle.model_medium.specs.declared.ReadEnd.TheVariants as reads
 use Rattle.model_medium.specs.declared.WriteEnd.TheVariants as writes
+use Rattle.model_medium.specs.Happened.{FollowsByEvents}
 use Rattle.ram_medium.specs.Laws.{machine_of}
 use Rattle.ram_medium.specs.Countdown.{arms_of, armed_cut_of}
 use Rattle.ram_medium.specs.Slots.{slot_cells}
@@ -23,10 +23,6 @@ mem_machine medium = machine_of (mem_world medium) (arms_of medium.armed) (armed
 -- the numbers of the uses that fail, from 1 on
 abbrev pub failing_of : MemMedium → List ℕ
 failing_of medium = medium.failing.items
-
--- what can follow on a medium in memory
-abbrev pub MemReaches : MemMedium → MemMedium → ℕ → Type 0
-MemReaches old new k = Reach (mem_machine old) (mem_machine new) k
 
 -- The next use has a number that fails. The number of uses stands still at its type's end. (This project's own.)
 abbrev pub IsNamedUse : MemMedium → Type 0
@@ -64,3 +60,7 @@ pub record MemTakes (old new : MemMedium) (event : Event) : Type 0 where
   pub fails : FailsAsNamed old event
   pub fails_exactly : FailsExactly (mem_machine old) (mem_machine new) event
   pub same_names : failing_of new ≡ failing_of old
+
+-- what can follow on a medium in memory
+abbrev pub MemReaches : MemMedium → MemMedium → Span → Type 0
+MemReaches old new span = FollowsByEvents mem_machine MemTakes old new span

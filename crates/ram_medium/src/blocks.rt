@@ -1,9 +1,10 @@
 //! The trait of any medium.
 
 ghost use Rattle.std.specs.Prelude.{◌≡◌, ℕ, ◌<◌, true, false, [], length};
-ghost use Rattle.model_medium.specs.World.{World, ReadRule, WriteRule, ReadContinues, WriteContinues};
+ghost use Rattle.model_medium.specs.World.{World, Span, ReadRule, WriteRule, ReadContinues, WriteContinues};
 ghost use Rattle.model_medium.specs.Exact.{Event, Read, Write, PowerOn, PowerOff};
 ghost use Rattle.ram_bytes.specs.declared.block.TheConstants.{BLOCK_BYTES};
+ghost use Rattle.model_medium.specs.Happened.{Happened};
 ghost use Rattle.ram_medium.specs.Laws.{MediumLaws};
 ghost use Rattle.ram_medium.specs.ReadInto.{bytes_read};
 
@@ -19,8 +20,8 @@ pub trait Medium {
     /// How many blocks it has.
     ghost block_count: { Self → ℕ };
 
-    /// What can follow by so many uses that did not fail.
-    ghost reaches: { Self → Self → ℕ → Type 0 };
+    /// What can follow by so many uses that did not fail, or by one that did.
+    ghost reaches: { Self → Self → Span → Type 0 };
 
     /// That this event happened in between. What it does exactly, a controllable medium says.
     ghost takes: { Self → Self → Event → Type 0 };
@@ -83,4 +84,7 @@ pub trait Medium {
         ensures as_many { block_count self.new ≡ block_count self.old };
 
     ghost laws: { MediumLaws world block_count reaches };
+
+    /// Nothing but events happens to a medium.
+    ghost happened: { (a b : Self) (span : Span) → reaches a b span → Happened takes a b };
 }

@@ -151,6 +151,7 @@ impl Medium for MemMedium {
     ghost use Rattle.std.proofs.lemmas.List.{length-map};
     ghost use Rattle.model_medium.proofs.Compose.{reach_none, reach_then, follows-reach};
     ghost use Rattle.ram_medium.specs.Slots.{slot_cell};
+    ghost use Rattle.model_medium.proofs.Happening.{happened_none, happened_then};
 
     ghost world = { mem_world };
 
@@ -193,13 +194,21 @@ impl Medium for MemMedium {
     }
 
     ghost laws = { record {
-      none = λ medium. reach_none (mem_machine medium) medium.armed.to_come;
-      adds_up = λ a b c j k one two. reach_then (mem_machine a) (mem_machine b) (mem_machine c) j k one two;
-      follows = λ a b k reach. follows-reach (mem_machine a) (mem_machine b) k reach;
+      none = λ medium. record {
+        reach = reach_none (mem_machine medium) medium.armed.to_come;
+        happened = happened_none MemTakes medium;
+      };
+      adds_up = λ a b c j k one two. record {
+        reach = reach_then (mem_machine a) (mem_machine b) (mem_machine c) j k one.reach two.reach;
+        happened = happened_then MemTakes a b c one.happened two.happened;
+      };
+      follows = λ a b k one. follows-reach (mem_machine a) (mem_machine b) k one.reach;
       unknown = λ medium. tt;
       whole = λ medium. medium.whole;
       as_many = λ medium. Prim.omega (arith, length-map medium.slots.items slot_cell, medium.slots.ok.0);
     } };
+
+    ghost happened = { λ a b span one. one.happened };
 }
 
 impl MediumControl for MemMedium {
@@ -251,7 +260,7 @@ impl MediumControl for MemMedium {
 
     ghost control_laws = { record {
       exactly = λ a b event takes. takes.exactly;
-      reach = λ a b k reach. reach;
+      reach = λ a b k one. one.reach;
       to_come = λ medium. medium.armed.to_come;
       arms_to_come = λ medium. medium.armed.arms_to_come;
       few = λ medium. medium.armed.few;

@@ -8,7 +8,7 @@ use Rattle.std.specs.List.{Contains}
 use Rattle.model_geometry.specs.Geometry.{Shape, total, lead_out, data_blocks, dds_block, sdl_block, sdl_second_block}
 use Rattle.model_geometry.proofs.ListBlocks.{no_data_block_dds, no_data_block_sdl}
 use Rattle.model_medium.specs.Cells.{Cell, Dead, IsSameOrDead, cell_at}
-use Rattle.model_medium.specs.World.{World, ReadRule, WriteRule}
+use Rattle.model_medium.specs.World.{World, Span, ReadRule, WriteRule}
 use Rattle.model_medium.specs.Machine.{Machine}
 use Rattle.model_medium.specs.Exact.{Event}
 use Rattle.model_medium.specs.declared.ReadEnd.{ReadEnd}
@@ -97,7 +97,7 @@ module _ (shape : Shape) where
   wear_gives old new worn (arming.NoBlock blocks) rule = same_gives old.world.cells new.world.cells (ap (λ (m : Machine). m.world.cells) rule.2)
   wear_gives old new worn arming.Full rule = same_gives old.world.cells new.world.cells (ap (λ (m : Machine). m.world.cells) rule.2)
 
-module _ {M : Type 0} (world : M → World) (reaches : M → M → ℕ → Type 0) (takes : M → M → Event → Type 0) (shape : Shape) where
+module _ {M : Type 0} (world : M → World) (reaches : M → M → Span → Type 0) (takes : M → M → Event → Type 0) (shape : Shape) where
   mounted_gives : (on new : M) (end : Mounted) → MountRule world reaches shape on new end → GivesNoMore shape (world on).cells (world new).cells
   mounted_gives on new (mounts.Lists lists) rule = rule.ended.keeps.given
   mounted_gives on new (mounts.Bare mark) rule = rule.ended.keeps.given

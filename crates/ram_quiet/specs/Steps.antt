@@ -3,7 +3,7 @@ use Rattle.std.specs.Prelude.{◌≡◌, ℕ, zero, suc, ◌<◌, ◌≤◌, tru
 use Rattle.std.specs.List.{Contains}
 use Rattle.model_geometry.specs.Geometry.{Shape, total, data_blocks}
 use Rattle.model_medium.specs.Cells.{Cell}
-use Rattle.model_medium.specs.World.{World, ReadRule, WriteRule}
+use Rattle.model_medium.specs.World.{World, Span, ReadRule, WriteRule}
 use Rattle.model_medium.specs.Machine.{Machine}
 use Rattle.model_medium.specs.Exact.{Event, Read, Write, PowerOn, PowerOff}
 use Rattle.model_medium.specs.declared.ReadEnd.{ReadEnd}
@@ -45,7 +45,7 @@ TellsAlone world lists _ = Unit {0}
 abbrev pub step_at : List Quiet → ℕ → Quiet
 step_at all k = slice_index_or all k (steps.Read 0)
 
-module _ {M : Type 0} (world : M → World) (reaches : M → M → ℕ → Type 0) (takes : M → M → Event → Type 0) where
+module _ {M : Type 0} (world : M → World) (reaches : M → M → Span → Type 0) (takes : M → M → Event → Type 0) where
   -- the power went off and on again, and the disc was mounted
   pub record MountsAgain (shape : Shape) (old new : M) (end : Mounted) : Type 0 where
     pub off : M

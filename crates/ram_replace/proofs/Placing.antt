@@ -9,7 +9,7 @@ use Rattle.model_geometry.proofs.ListBlocks.{no_data_block_sdl}
 use Rattle.model_lists.specs.Values.{Sdl}
 use Rattle.model_lists.specs.Texts.{IsDdsText, IsTwo}
 use Rattle.model_medium.specs.Cells.{Cell, Good, Dead, IsGood, MayLeave, cell_at}
-use Rattle.model_medium.specs.World.{World}
+use Rattle.model_medium.specs.World.{World, Span}
 use Rattle.model_sectors.specs.Discs.{Agrees}
 use Rattle.model_sectors.proofs.Fitting.{agrees_not_good}
 use Rattle.model_stops.specs.Stops.{Continues, Stops}
@@ -65,7 +65,7 @@ left_three was cell bytes (inr (inl good)) = inr (inl good)
 left_three was cell bytes (inr (inr (inl torn))) = inr (inr (λ good. (subst IsGood torn good)))
 left_three was cell bytes (inr (inr (inr dead))) = inr (inr (dead_is_bad cell dead))
 
-module _ {M : Type 0} (world : M → World) (block_count : M → ℕ) (reaches : M → M → ℕ → Type 0) (laws : MediumLaws world block_count reaches) where
+module _ {M : Type 0} (world : M → World) (block_count : M → ℕ) (reaches : M → M → Span → Type 0) (laws : MediumLaws world block_count reaches) where
   -- the count of work that was stopped
   module _ (shape : Shape) (lists : Lists) (valid : AreValid shape lists) (i : ℕ) (inside : i < logical_count shape lists) (bytes : List ℕ)
       (old : M) (settled : AreSettled shape (world old).cells lists) where

@@ -6,7 +6,7 @@ use Rattle.std.specs.List.{Contains}
 use Rattle.std.proofs.lemmas.Bool.{cases_eq}
 use Rattle.std.proofs.lemmas.List.Elements.{Contains-get_or}
 use Rattle.model_medium.specs.Cells.{Good, Dead, cell_at}
-use Rattle.model_medium.specs.World.{World}
+use Rattle.model_medium.specs.World.{World, Span}
 use Rattle.model_stops.specs.Stops.{Continues}
 use Rattle.model_stops.specs.declared.Stop.{Stop}
 use Rattle.ram_medium.specs.Laws.{MediumLaws}
@@ -23,7 +23,7 @@ on_true false P h is = absurd cc
 not_one : (free : List ℕ) (found : Found) (block : ℕ) → StandsAt free found → ¬ Contains free block → block ≢ found.spare
 not_one free found block at away same = away (subst (Contains free) (sym (same ∙ at.spare_is)) (Contains-get_or free found.tried 0 at.inside))
 
-module _ {M : Type 0} (world : M → World) (block_count : M → ℕ) (reaches : M → M → ℕ → Type 0) (laws : MediumLaws world block_count reaches)
+module _ {M : Type 0} (world : M → World) (block_count : M → ℕ) (reaches : M → M → Span → Type 0) (laws : MediumLaws world block_count reaches)
     (old : M) (free : List ℕ) (bytes : List ℕ) where
   -- none was tried
   pub none_failed : IsTrue (world old).power → HaveFailed world reaches old old free bytes 0

@@ -1,7 +1,7 @@
 -- What the write of one logical block does, by its answer: for `place` and `write_home`.
 use Rattle.std.specs.Prelude.{◌≡◌, ℕ, ⊤, Bool, true, IsTrue, List}
 use Rattle.model_geometry.specs.Geometry.{Shape}
-use Rattle.model_medium.specs.World.{World, UseContinues}
+use Rattle.model_medium.specs.World.{World, Span, UseContinues}
 use Rattle.model_stops.specs.declared.Stop.{Stop}
 use Rattle.model_stops.specs.declared.Stop.TheVariants as stops
 use Rattle.model_places.specs.Places.{Lists}
@@ -27,7 +27,7 @@ LeavesReadBack known bytes back places.Cut = ⊤
 LeavesReadBack known bytes back places.Off = ⊤
 LeavesReadBack known bytes back places.Fault = ⊤
 
-module _ {M : Type 0} (world : M → World) (reaches : M → M → ℕ → Type 0) (shape : Shape) (old new : M)
+module _ {M : Type 0} (world : M → World) (reaches : M → M → Span → Type 0) (shape : Shape) (old new : M)
     (lists : Lists) (i : ℕ) (bytes : List ℕ) (lists' : Lists) where
   -- The call went to its end: the power was on and is on, and neither a cut nor a fault is counted.
   pub record HasEnded : Type 0 where

@@ -2,7 +2,7 @@
 use Rattle.std.specs.Prelude.{◌≡◌, ℕ, ◌+◌, ◌*◌, ◌<◌, ◌≤◌, ◌⊎◌, Bool, true, Option, Some, None, List, length, slice_get, slice_index}
 use Rattle.std.specs.List.{Contains}
 use Rattle.model_medium.specs.Cells.{Good, Dead, cell_at}
-use Rattle.model_medium.specs.World.{World}
+use Rattle.model_medium.specs.World.{World, Span}
 use Rattle.model_stops.specs.Stops.{Continues, Stops}
 use Rattle.model_stops.specs.declared.Stop.{Stop}
 use Rattle.model_drive.specs.Course.{AreDead}
@@ -19,7 +19,7 @@ pub record HasTurn (is_free : ℕ → Bool) (spares : List ℕ) (found : Found) 
   pub here : slice_get spares found.turn ≡ Some found.spare
   pub passed : ArePassed is_free spares (found.tried + 1) (found.turn + 1)
 
-module _ {M : Type 0} (world : M → World) (reaches : M → M → ℕ → Type 0) (old new : M) (free bytes : List ℕ) where
+module _ {M : Type 0} (world : M → World) (reaches : M → M → Span → Type 0) (old new : M) (free bytes : List ℕ) where
   -- no cell changed but those of the free spares
   abbrev pub ChangesSparesAlone : Type 0
   ChangesSparesAlone = (block : ℕ) → ¬ Contains free block

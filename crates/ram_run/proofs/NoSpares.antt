@@ -32,7 +32,7 @@ checked_outcome cdb why answers.NoMemory is = absurd cc
 no_disc : (reply : Reply) → Ok reply ≡ Err stopped.NotADisc → ⊥
 no_disc reply is = cc
 
-on_disc : (s t : State) (cdb payload data_in : List ℕ) (named : ℕ) → FairNow t → OnDisc s (lines.Command cdb) payload (Ok (replies.Command cdb (answers.Check (sense_at 0x3 0x32 0x00 named)))) data_in t → HasNoSpareLeft t
+on_disc : (s t : State) (cdb payload data_in : List ℕ) (named : ℕ) → FairNow t → OnDisc s (lines.Command cdb) payload (Ok (replies.Command cdb (answers.Check (sense_at 0x3 0x32 0x00 named)))) data_in t → HasNoSpareLeft t named
 on_disc (Unopened image) t cdb payload data_in named fair step = absurd (no_disc (replies.Command cdb (answers.Check (sense_at 0x3 0x32 0x00 named))) step.0)
 on_disc (Disc s) (Unopened image) cdb payload data_in named fair step = absurd step
 on_disc (Disc s) (Disc t) cdb payload data_in named fair step =
@@ -41,7 +41,7 @@ on_disc (Disc s) (Disc t) cdb payload data_in named fair step =
     (checked_outcome cdb (sense_at 0x3 0x32 0x00 named) step.rule.answer step.rule.outcome_is) step.rule.step) in
     λ lists is spare has replaces. none_left s.disc.shown t.disc.shown lacks.lba lacks.n named lists fair lacks.lacks is spare has replaces
 
-pub none_left_now : (s t : State) (event : AnsweredLine) → FairNow s → IsStep s event t → WasToldNoSpare event → HasNoSpareLeft t
+pub none_left_now : (s t : State) (event : AnsweredLine) → FairNow s → IsStep s event t → (told : WasToldNoSpare event) → HasNoSpareLeft t told.named
 none_left_now s t event fair step told =
     on_disc s t told.cdb event.payload event.data_in told.named (step_fair s t event.line event.payload event.data_in (Ok event.reply) step.step fair)
     (subst (λ (l : Line). Step s l event.payload (Ok (replies.Command told.cdb (answers.Check (sense_at 0x3 0x32 0x00 told.named)))) event.data_in t) told.line_is

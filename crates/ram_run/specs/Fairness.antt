@@ -4,7 +4,8 @@ use Rattle.std.specs.Prelude.{◌≡◌, ℕ, Some, List}
 use Rattle.std.specs.List.{Contains}
 use Rattle.model_medium.specs.Cells.{Dead, cell_at}
 use Rattle.model_pools.specs.Listed.{replacements}
-use Rattle.model_places.specs.Places.{Lists, spares}
+use Rattle.model_sectors.specs.Requests.{block_with}
+use Rattle.model_places.specs.Places.{Lists, spares_of}
 use Rattle.model_drive.specs.Shown.{Shown, cells_in}
 use Rattle.model_fairness.specs.Fair.{GivesUpDeadAlone}
 use Rattle.model_sense.specs.Sense.{sense_at}
@@ -27,12 +28,13 @@ pub record WasToldNoSpare (event : AnsweredLine) : Type 0 where
   pub line_is : event.line ≡ lines.Command cdb
   pub reply_is : event.reply ≡ replies.Command cdb (answers.Check (sense_at 0x3 0x32 0x00 named))
 
--- each spare of the disc that replaces no block is dead, also those that the lists in use gave up
-abbrev pub HasNoSpare : Shown → Type 0
-HasNoSpare shown = (lists : Lists) → shown.lists ≡ Some lists → (spare : ℕ) → Contains (spares shown.shape lists) spare
+-- Each spare that the block of a sector may go to, and that replaces no block, is dead, also those that the lists in use gave up.
+abbrev pub HasNoSpare : Shown → (sector : ℕ) → Type 0
+HasNoSpare shown sector =
+    (lists : Lists) → shown.lists ≡ Some lists → (spare : ℕ) → Contains (spares_of shown.shape lists (block_with sector)) spare
     → ¬ Contains (replacements lists.sdl.entries) spare → cell_at (cells_in shown) spare ≡ Dead
 
--- No spare is left.
-abbrev pub HasNoSpareLeft : State → Type 0
-HasNoSpareLeft (Unopened image) = ⊥
-HasNoSpareLeft (Disc s) = HasNoSpare s.disc.shown
+-- No spare is left for the block of a sector.
+abbrev pub HasNoSpareLeft : State → (sector : ℕ) → Type 0
+HasNoSpareLeft (Unopened image) sector = ⊥
+HasNoSpareLeft (Disc s) sector = HasNoSpare s.disc.shown sector

@@ -3,6 +3,8 @@ use Rattle.std.specs.Prelude.{◌↔◌}
 use Rattle.model_sectors.specs.Discs.{Standing}
 use Rattle.model_drive.specs.Shown.{Shown, IsKnown, StandsFor}
 use Rattle.model_drive.specs.Sound.{IsSound}
+use Rattle.model_cache.specs.Values.{Contents, StandsCached}
+use Rattle.model_cache.specs.Shown.{CacheShown, IsCacheSound}
 
 -- A drive stands for just what goes with what it shows; where the cells of its medium are known, it stands for something,
 -- which is said as 'not for nothing'; and what it shows is sound.
@@ -10,3 +12,11 @@ pub record SectorsLaws {D : Type 0} (shows : D → Shown) (stands : D → Standi
   pub as_shown : (drive : D) (s : Standing) → stands drive s ↔ StandsFor (shows drive) s
   pub some : (drive : D) → IsKnown (shows drive) → ¬ ((s : Standing) → ¬ stands drive s)
   pub sound : (drive : D) → IsSound (shows drive)
+
+-- A drive with a write cache stands for just what goes with what it shows, and what it shows is sound. (A disc that was lent
+-- may have lost pending blocks; then it stands for nothing until they are dropped.)
+pub record CachingLaws {D : Type 0} (shows : D → CacheShown) (stands : D → Contents → Type 0) : Type 0 where
+  pub as_shown : (drive : D) (s : Contents)
+      → stands drive s ↔ StandsCached (StandsFor (shows drive).drive) (shows drive).pending s
+  pub sound : (drive : D) → IsCacheSound (shows drive)
+  pub drive_sound : (drive : D) → IsSound (shows drive).drive

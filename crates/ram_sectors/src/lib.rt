@@ -15,6 +15,10 @@ ghost use Rattle.model_drive.specs.Tells.{CapacityRule, CountsRule, DdsRule};
 ghost use Rattle.ram_sectors.specs.declared.TheConstants.{VERIFY_LIMIT};
 ghost use Rattle.ram_sectors.specs.Laws.{SectorsLaws};
 
+mod caching;
+
+pub use caching::Caching;
+pub use model_cache::{SyncOut, TickOut};
 pub use model_commands::TRANSFER_LIMIT;
 pub use model_drive::{DriveCounts, ExpandOut, FormatOut, Kind, WriteOut};
 pub use model_sectors::{PowerOut, ReadOut};

@@ -2,7 +2,7 @@
 -- for then.
 use Rattle.std.proofs.Common.{◌≡◌, ℕ, ◌==◌, ◌⊎◌, inl, inr, if◌then◌else◌, Option, Some, None, List, [], IsTrue, refl, ap}
 use Rattle.model_geometry.specs.Geometry.{Shape}
-use Rattle.model_medium.specs.World.{World}
+use Rattle.model_medium.specs.World.{World, Span}
 use Rattle.model_medium.specs.Machine.{Machine}
 use Rattle.model_medium.specs.Exact.{Event}
 use Rattle.model_medium.specs.declared.WornBlock.{WornBlock}
@@ -26,7 +26,7 @@ use Rattle.ram_volume.specs.Shown.{shown_without, shown_under}
 use Rattle.ram_volume.specs.Expanding.{ExpandSteps}
 use Rattle.ram_volume.proofs.Machines.{machine_continues, machine_stops}
 
-module _ {M : Type 0} (world : M → World) (reaches : M → M → ℕ → Type 0) (takes : M → M → Event → Type 0) (arms : M → List WornBlock) (armed_cut : M → Option ArmedCut)
+module _ {M : Type 0} (world : M → World) (reaches : M → M → Span → Type 0) (takes : M → M → Event → Type 0) (arms : M → List WornBlock) (armed_cut : M → Option ArmedCut)
     (laws : ControlLaws world reaches takes arms armed_cut) (shape : Shape) (lists : Lists) (buffer : List (ℕ × List ℕ)) (old new : M) (sectors : ℕ) (lists' : Lists) where
   abbrev machine : M → Machine
   machine m = machine_shown world arms armed_cut m

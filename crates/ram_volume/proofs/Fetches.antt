@@ -3,7 +3,7 @@ use Rattle.std.specs.Prelude.{length, ◌<◌, ◌≤◌, ◌≡◌, ℕ, Bool, 
 use Rattle.std.proofs.Common.{refl, sym, ap, ◌∙◌, inl, inr, subst, arith}
 use Rattle.model_geometry.specs.Geometry.{Shape, total}
 use Rattle.model_medium.specs.Cells.{IsSameOrDead, cell_at}
-use Rattle.model_medium.specs.World.{World, IsUse, IsOff}
+use Rattle.model_medium.specs.World.{World, Span, IsUse, IsOff}
 use Rattle.model_buffer.specs.Buffer.{bytes_at, with_newest}
 use Rattle.model_buffer.specs.declared.TheConstants.{BUFFERED_BLOCKS}
 use Rattle.model_sectors.proofs.Covering.{bytes_at_none}
@@ -37,7 +37,7 @@ off_dies old new place off = record {
   left = inl (ap (λ (w : World). cell_at w.cells place) off.nothing);
 }
 
-module _ {M : Type 0} (world : M → World) (reaches : M → M → ℕ → Type 0) (old new : M) (held : List (ℕ × List ℕ)) (i place : ℕ) (few : length held ≤ BUFFERED_BLOCKS) (not_found : bytes_at i held ≡ None) (into bytes : List ℕ) where
+module _ {M : Type 0} (world : M → World) (reaches : M → M → Span → Type 0) (old new : M) (held : List (ℕ × List ℕ)) (i place : ℕ) (few : length held ≤ BUFFERED_BLOCKS) (not_found : bytes_at i held ≡ None) (into bytes : List ℕ) where
   read_it : (found : Bool) → found ≡ true → EndedRead (world old) (world new) place into bytes found → Continues world reaches old new 1 → FromHome world reaches old new held i place bytes
   read_it true e rule continues = record {
     continues = continues;
@@ -88,7 +88,7 @@ module _ {M : Type 0} (world : M → World) (reaches : M → M → ℕ → Type 
   halted stops.Fault rule stopped = stops_there stops.Fault stopped (use_dies (world old) (world new) place rule.one rule.left)
 
 -- a part was read past the buffer, whatever that has but its block: `into'` are the caller's bytes after it
-module _ {M : Type 0} (world : M → World) (reaches : M → M → ℕ → Type 0) (old new : M) (lba n block place : ℕ) (bytes into into' : List ℕ) (kept : KeepsBefore lba block into into') (filled : into' ≡ filled_by lba n block bytes into) where
+module _ {M : Type 0} (world : M → World) (reaches : M → M → Span → Type 0) (old new : M) (lba n block place : ℕ) (bytes into into' : List ℕ) (kept : KeepsBefore lba block into into') (filled : into' ≡ filled_by lba n block bytes into) where
   pub read_past_it : (read : Result Bool Stop) → MatchResult read (EndedRead (world old) (world new) place [] (bytes_read (read_end read) bytes)) (StoppedRead (world old) (world new) place [] [])
       → MatchResult read (λ whole. Continues world reaches old new 1) (Stops world reaches old new 1) → (held : List (ℕ × List ℕ)) → length held ≤ BUFFERED_BLOCKS → bytes_at block held ≡ None
       → MatchResult read (ReadsPart world reaches old new held lba n block place true held into into') (FetchStopped world reaches old new held block place)

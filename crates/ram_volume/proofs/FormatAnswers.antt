@@ -4,7 +4,7 @@ use Rattle.model_geometry.specs.Geometry.{Shape}
 use Rattle.model_lists.specs.declared.dds.PdlEntry.{PdlEntry}
 use Rattle.model_lists.specs.declared.dds.PdlKind.{PdlKind}
 use Rattle.model_lists.specs.declared.dds.PdlKind.TheVariants as pdl_kinds
-use Rattle.model_medium.specs.World.{World}
+use Rattle.model_medium.specs.World.{World, Span}
 use Rattle.model_medium.specs.Machine.{Machine}
 use Rattle.model_medium.specs.Exact.{Event}
 use Rattle.model_medium.specs.declared.WornBlock.{WornBlock}
@@ -36,7 +36,7 @@ use Rattle.ram_volume.proofs.RewriteCauses.{rewritten_cause, lacking_cause, stop
 steps : (old new : Shown) → new.shape ≡ old.shape → KeepsRight new → (kind : Kind) (out : FormatOut) → FormatCause old new kind out → FormatSteps old new kind out
 steps old new same_shape right kind out cause s stood = format_step old new same_shape right s stood kind out cause
 
-module _ {M : Type 0} (world : M → World) (reaches : M → M → ℕ → Type 0) (takes : M → M → Event → Type 0) (arms : M → List WornBlock) (armed_cut : M → Option ArmedCut)
+module _ {M : Type 0} (world : M → World) (reaches : M → M → Span → Type 0) (takes : M → M → Event → Type 0) (arms : M → List WornBlock) (armed_cut : M → Option ArmedCut)
     (laws : ControlLaws world reaches takes arms armed_cut) (shape : Shape) (old new : M) where
   abbrev machine : M → Machine
   machine m = machine_shown world arms armed_cut m

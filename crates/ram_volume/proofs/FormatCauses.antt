@@ -4,7 +4,7 @@ use Rattle.std.specs.List.{Contains}
 use Rattle.model_geometry.specs.Geometry.{Shape, data_blocks}
 use Rattle.model_lists.specs.declared.dds.PdlEntry.{PdlEntry}
 use Rattle.model_lists.specs.declared.dds.PdlKind.{PdlKind}
-use Rattle.model_medium.specs.World.{World}
+use Rattle.model_medium.specs.World.{World, Span}
 use Rattle.model_medium.specs.Machine.{Machine}
 use Rattle.model_medium.specs.Exact.{Event}
 use Rattle.model_medium.specs.Reach.{Reach}
@@ -23,7 +23,7 @@ use Rattle.ram_volume.specs.Shown.{shown_without, shown_unformatted, shown_under
 use Rattle.ram_volume.proofs.Machines.{machine_stops}
 use Rattle.ram_volume.proofs.SameKept.{same_certified, same_changes, same_defective, no_more}
 
-module _ {M : Type 0} (world : M → World) (reaches : M → M → ℕ → Type 0) (takes : M → M → Event → Type 0) (arms : M → List WornBlock) (armed_cut : M → Option ArmedCut)
+module _ {M : Type 0} (world : M → World) (reaches : M → M → Span → Type 0) (takes : M → M → Event → Type 0) (arms : M → List WornBlock) (armed_cut : M → Option ArmedCut)
     (laws : ControlLaws world reaches takes arms armed_cut) (shape : Shape) (lists : Option Lists) (mark : ℕ) (buffer : List (ℕ × List ℕ)) (drop_sdl : Bool)
     (kept : List PdlEntry) (all : AreAllKept lists drop_sdl kept) (old new : M) where
   abbrev machine : M → Machine

@@ -2,10 +2,10 @@
 use Rattle.std.proofs.Common.{◌≡◌, ℕ, ◌+◌, Bool, true, false, Option, Some, None, List, [], refl, sym, ap, ◌∙◌, subst}
 use Rattle.model_geometry.specs.Geometry.{Shape}
 use Rattle.model_lists.specs.Values.{Dds}
-use Rattle.model_medium.specs.World.{World}
+use Rattle.model_medium.specs.World.{World, Span, Uses}
 use Rattle.model_medium.specs.Machine.{Machine}
 use Rattle.model_medium.specs.Exact.{Event, PowerOn, PowerOff}
-use Rattle.model_medium.specs.Reach.{Reach}
+use Rattle.model_medium.specs.Reach.{Reach, ReachBy}
 use Rattle.model_medium.specs.declared.WornBlock.{WornBlock}
 use Rattle.model_medium.specs.declared.ArmedCut.{ArmedCut}
 use Rattle.model_geometry.specs.Geometry.{dds_block}
@@ -30,7 +30,7 @@ use Rattle.ram_volume.specs.Powers.{PowerSteps}
 use Rattle.ram_volume.proofs.Keeping.{off_right, under_right}
 use Rattle.ram_volume.proofs.Machines.{machine_stops}
 
-module _ {M : Type 0} (world : M → World) (reaches : M → M → ℕ → Type 0) (takes : M → M → Event → Type 0) (arms : M → List WornBlock) (armed_cut : M → Option ArmedCut)
+module _ {M : Type 0} (world : M → World) (reaches : M → M → Span → Type 0) (takes : M → M → Event → Type 0) (arms : M → List WornBlock) (armed_cut : M → Option ArmedCut)
     (laws : ControlLaws world reaches takes arms armed_cut) (shape : Shape) where
   abbrev machine : M → Machine
   machine m = machine_shown world arms armed_cut m
@@ -45,7 +45,7 @@ module _ {M : Type 0} (world : M → World) (reaches : M → M → ℕ → Type 
     abbrev old : Shown
     old = before off
 
-    reached : (new : M) (k : ℕ) → reaches on new k → Reach (turned_on old).medium (machine new) k
+    reached : (new : M) (k : ℕ) → reaches on new (Uses k) → Reach (turned_on old).medium (machine new) k
     reached new k r = subst (λ (m : Machine). Reach m (machine new) k) (laws.exactly off on PowerOn turned) (laws.reach on new k r)
 
     any : (new : M) (lists : Option Lists) (mark : ℕ) → KeepsGiven shape (world on) (world new) → MountsAny old (after new lists mark)
@@ -136,9 +136,9 @@ module _ {M : Type 0} (world : M → World) (reaches : M → M → ℕ → Type 
       ends = record { reach = reached new (8 + ends.mores + ends.uses) ends.ended.continues.reach; is_on = ends.ended.continues.is_on };
     }
 
-    stops_shown : (new : M) (stop : Stop) → Stops world reaches on new 48 stop → Stops (λ (m : Machine). m.world) Reach (turned_on old).medium (machine new) mount_most stop
+    stops_shown : (new : M) (stop : Stop) → Stops world reaches on new 48 stop → Stops (λ (m : Machine). m.world) ReachBy (turned_on old).medium (machine new) mount_most stop
     stops_shown new stop s =
-        subst (λ (m : Machine). Stops (λ (m : Machine). m.world) Reach m (machine new) mount_most stop) (laws.exactly off on PowerOn turned) (machine_stops world reaches takes arms armed_cut laws on new 48 mount_most refl stop s)
+        subst (λ (m : Machine). Stops (λ (m : Machine). m.world) ReachBy m (machine new) mount_most stop) (laws.exactly off on PowerOn turned) (machine_stops world reaches takes arms armed_cut laws on new 48 mount_most refl stop s)
 
     pub stopped : (new : M) (stop : Stop) → WasStopped world reaches shape on new stop → StopsInMount old (shown_without shape (machine new)) stop
     stopped new stop was = record {

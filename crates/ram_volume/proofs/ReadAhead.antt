@@ -6,7 +6,7 @@ use Rattle.std.proofs.Common.{refl, sym, ap, ◌∙◌, inl, inr, subst, arith}
 use Rattle.std.proofs.lemmas.Bool.{cases_Bool, cases_lt, cases_eq}
 use Rattle.std.proofs.lemmas.List.{length-map, length-take, take-take}
 use Rattle.model_geometry.specs.Geometry.{Shape}
-use Rattle.model_medium.specs.World.{World}
+use Rattle.model_medium.specs.World.{World, Span}
 use Rattle.model_buffer.specs.Buffer.{numbers_in, bytes_at, with_newest, touched_one}
 use Rattle.model_buffer.specs.declared.TheConstants.{BUFFERED_BLOCKS}
 use Rattle.model_buffer.proofs.Numbers.{numbers_in-with_newest}
@@ -57,7 +57,7 @@ shorter disc into lba some all le prefix =
     ∙ ap (take (2048 * some)) prefix
     ∙ take-take (2048 * some) (2048 * all) _ (omega (arith, le))
 
-module _ {M : Type 0} (world : M → World) (reaches : M → M → ℕ → Type 0) (shape : Shape) (lists : Lists) where
+module _ {M : Type 0} (world : M → World) (reaches : M → M → Span → Type 0) (shape : Shape) (lists : Lists) where
   -- The request is long, and some of its first so many blocks went past the buffer: `held` is what was buffered before them,
   -- `due` would be there if none had, and `held'` is.
   pub record IsBehind (old : M) (held due held' : List (ℕ × List ℕ)) (lba n k : ℕ) : Type 0 where
@@ -78,7 +78,7 @@ module _ {M : Type 0} (world : M → World) (reaches : M → M → ℕ → Type 
     pub so_far : ReadSoFar world reaches shape lists old new held due lba n k into
     pub kept : IsKept long old held due held' lba n k
 
-module _ {M : Type 0} (world : M → World) (block_count : M → ℕ) (reaches : M → M → ℕ → Type 0) (laws : MediumLaws world block_count reaches) (shape : Shape) (lists : Lists) where
+module _ {M : Type 0} (world : M → World) (block_count : M → ℕ) (reaches : M → M → Span → Type 0) (laws : MediumLaws world block_count reaches) (shape : Shape) (lists : Lists) where
   -- none was read yet
   pub ahead_none : (long : Bool) (old : M) (held : List (ℕ × List ℕ)) (lba n : ℕ) (into : List ℕ) → (IsTrue long → IsLong lba n held) → length held ≤ BUFFERED_BLOCKS → IsTrue (world old).power → length into ≡ 2048 * n
       → ReadAhead world reaches shape lists long old old held held lba n 0 into

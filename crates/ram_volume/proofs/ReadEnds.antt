@@ -3,7 +3,7 @@ use Rattle.std.specs.Prelude.{◌≡◌, ℕ, ◌+◌, ◌*◌, ◌<◌, ◌≤�
 use Rattle.std.proofs.Common.{sym, ap, ◌∙◌, subst, arith}
 use Rattle.model_geometry.specs.Geometry.{Shape}
 use Rattle.model_medium.specs.Cells.{Cell, IsGood, cell_at}
-use Rattle.model_medium.specs.World.{World}
+use Rattle.model_medium.specs.World.{World, Span}
 use Rattle.model_buffer.specs.Buffer.{numbers_in}
 use Rattle.model_buffer.specs.declared.TheConstants.{BUFFERED_BLOCKS}
 use Rattle.model_sectors.specs.Requests.{block_with, blocks_covered}
@@ -21,7 +21,7 @@ use Rattle.ram_volume.specs.Blocks.{DiesAtMost, CannotBeRead, FetchStopped}
 use Rattle.ram_volume.specs.Reading.{HaveBytes, ReadsParts, EndsInBlock, MeetsBlock, StopsInBlock}
 use Rattle.ram_volume.proofs.ReadTurns.{ReadSoFar, not_at_hand}
 
-module _ {M : Type 0} (world : M → World) (block_count : M → ℕ) (reaches : M → M → ℕ → Type 0) (laws : MediumLaws world block_count reaches) (shape : Shape) (lists : Lists) where
+module _ {M : Type 0} (world : M → World) (block_count : M → ℕ) (reaches : M → M → Span → Type 0) (laws : MediumLaws world block_count reaches) (shape : Shape) (lists : Lists) where
   -- all blocks were read
   pub read_all : (old new : M) (held held' : List (ℕ × List ℕ)) (lba n k : ℕ) (into : List ℕ) → ReadSoFar world reaches shape lists old new held held' lba n k into
       → k ≡ blocks_covered lba n → ReadsParts world reaches old new held shape lists lba n held' into

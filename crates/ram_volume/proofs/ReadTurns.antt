@@ -5,7 +5,7 @@ use Rattle.std.proofs.Common.{Bool, refl, sym, ap, ◌∙◌, inl, inr, subst, a
 use Rattle.std.proofs.lemmas.Bool.{cases_eq}
 use Rattle.model_geometry.specs.Geometry.{Shape}
 use Rattle.model_medium.specs.Cells.{Cell, Good, IsGood, cell_at}
-use Rattle.model_medium.specs.World.{World}
+use Rattle.model_medium.specs.World.{World, Span}
 use Rattle.model_buffer.specs.Buffer.{numbers_in, touched_one}
 use Rattle.model_sectors.specs.Discs.{Agrees, sectors_of, block_of}
 use Rattle.model_sectors.specs.Requests.{block_with, blocks_covered}
@@ -30,14 +30,14 @@ not_none m k more none = omega arith
 pub where_known : (known : Bool) (P : Type 0) → known ≡ true → OnTrue known P → P
 where_known known P e h = subst (λ (b : Bool). OnTrue b P) e h
 
-module _ {M : Type 0} (world : M → World) (reaches : M → M → ℕ → Type 0) (shape : Shape) (lists : Lists) where
+module _ {M : Type 0} (world : M → World) (reaches : M → M → Span → Type 0) (shape : Shape) (lists : Lists) where
   -- So many blocks of a request were read, and their bytes stand at the front.
   pub record ReadSoFar (old new : M) (held held' : List (ℕ × List ℕ)) (lba n k : ℕ) (into : List ℕ) : Type 0 where
     pub read : HasReadUpTo world reaches old new held shape lists lba n held' k
     pub long : length into ≡ 2048 * n
     pub prefix : (disc : List ℕ) → StoodFor shape lists (world old) held disc → take (2048 * done lba n k) into ≡ sectors_of disc lba (done lba n k)
 
-module _ {M : Type 0} (world : M → World) (block_count : M → ℕ) (reaches : M → M → ℕ → Type 0) (laws : MediumLaws world block_count reaches) (shape : Shape) (lists : Lists) where
+module _ {M : Type 0} (world : M → World) (block_count : M → ℕ) (reaches : M → M → Span → Type 0) (laws : MediumLaws world block_count reaches) (shape : Shape) (lists : Lists) where
   -- none was read yet
   pub read_none : (old : M) (held : List (ℕ × List ℕ)) (lba n : ℕ) (into : List ℕ) → IsTrue (world old).power → length into ≡ 2048 * n → ReadSoFar world reaches shape lists old old held held lba n 0 into
   read_none old held lba n into on long = record {

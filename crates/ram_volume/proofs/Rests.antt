@@ -4,7 +4,7 @@ use Rattle.std.proofs.Common.{refl, sym, ap, ◌∙◌, inl, inr, subst}
 use Rattle.std.proofs.lemmas.Bool.{both_ways, cond-true, cond-false}
 use Rattle.model_geometry.specs.Geometry.{Shape}
 use Rattle.model_medium.specs.Cells.{Cell, Good, cell_at}
-use Rattle.model_medium.specs.World.{World}
+use Rattle.model_medium.specs.World.{World, Span}
 use Rattle.model_buffer.specs.Buffer.{numbers_in, touched_one}
 use Rattle.model_buffer.proofs.Touched.{touched_twice}
 use Rattle.model_sectors.specs.Discs.{Agrees, block_of}
@@ -50,7 +50,7 @@ both_true true false e missing = refl
 both_true true true e missing = absurd (missing refl)
 both_true false b e missing = absurd (both_ways false refl e)
 
-module _ {M : Type 0} (world : M → World) (block_count : M → ℕ) (reaches : M → M → ℕ → Type 0) (laws : MediumLaws world block_count reaches) (shape : Shape) (lists : Lists)
+module _ {M : Type 0} (world : M → World) (block_count : M → ℕ) (reaches : M → M → Span → Type 0) (laws : MediumLaws world block_count reaches) (shape : Shape) (lists : Lists)
     (old : M) (held : List (ℕ × List ℕ)) (b : List ℕ) (lba n k : ℕ) (touched : numbers_in held ≡ touched_from b (block_with lba) k) where
   abbrev i : ℕ
   i = block_with lba + k

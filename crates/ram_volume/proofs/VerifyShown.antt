@@ -2,7 +2,7 @@
 use Rattle.std.proofs.Common.{◌≡◌, ℕ, ◌+◌, ◌≤◌, IsTrue, Option, Some, None, List, Ok, inl, refl, sym, ap, subst}
 use Rattle.model_geometry.specs.Geometry.{Shape}
 use Rattle.model_medium.specs.Cells.{Cell, cell_at}
-use Rattle.model_medium.specs.World.{World}
+use Rattle.model_medium.specs.World.{World, Span}
 use Rattle.model_medium.specs.Machine.{Machine}
 use Rattle.model_medium.specs.Exact.{Event}
 use Rattle.model_medium.specs.declared.WornBlock.{WornBlock}
@@ -24,7 +24,7 @@ use Rattle.ram_volume.specs.Verifying.{HomesEnd, StopsAtHome}
 use Rattle.ram_volume.specs.Shown.{shown_without, shown_under}
 use Rattle.ram_volume.proofs.Machines.{machine_continues, machine_stops}
 
-module _ {M : Type 0} (world : M → World) (reaches : M → M → ℕ → Type 0) (takes : M → M → Event → Type 0) (arms : M → List WornBlock) (armed_cut : M → Option ArmedCut)
+module _ {M : Type 0} (world : M → World) (reaches : M → M → Span → Type 0) (takes : M → M → Event → Type 0) (arms : M → List WornBlock) (armed_cut : M → Option ArmedCut)
     (laws : ControlLaws world reaches takes arms armed_cut) (shape : Shape) (lists : Lists) (buffer : List (ℕ × List ℕ)) (old new : M)
     (lba n : ℕ) (on : IsTrue (world old).power) (inside : lba + n ≤ capacity_of shape lists) where
   abbrev machine : M → Machine

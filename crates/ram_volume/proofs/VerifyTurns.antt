@@ -4,7 +4,7 @@ use Rattle.std.proofs.Common.{refl, sym, ◌∙◌, inl, inr, subst, arith}
 use Rattle.std.proofs.lemmas.Bool.{cases_eq}
 use Rattle.model_geometry.specs.Geometry.{Shape}
 use Rattle.model_medium.specs.Cells.{Cell, Good, IsGood, cell_at}
-use Rattle.model_medium.specs.World.{World, ReadsCell, FindsNoBytes}
+use Rattle.model_medium.specs.World.{World, Span, ReadsCell, FindsNoBytes}
 use Rattle.model_sectors.specs.Requests.{block_with, blocks_covered}
 use Rattle.model_sectors.proofs.Covering.{covered_inside}
 use Rattle.model_stops.specs.Stops.{Continues, Stops}
@@ -27,7 +27,7 @@ stopped_dies old new place into into' stops.Cut rule = use_dies old new place ru
 stopped_dies old new place into into' stops.Off rule = off_dies old new place rule.0
 stopped_dies old new place into into' stops.Fault rule = use_dies old new place rule.one rule.left
 
-module _ {M : Type 0} (world : M → World) (block_count : M → ℕ) (reaches : M → M → ℕ → Type 0) (laws : MediumLaws world block_count reaches) (shape : Shape) (lists : Lists) where
+module _ {M : Type 0} (world : M → World) (block_count : M → ℕ) (reaches : M → M → Span → Type 0) (laws : MediumLaws world block_count reaches) (shape : Shape) (lists : Lists) where
   -- none was read yet
   pub verified_none : (old : M) (lba : ℕ) → IsTrue (world old).power → HasVerifiedUpTo world reaches old old shape lists lba 0
   verified_none old lba on = record {

@@ -1,7 +1,7 @@
 -- How the write of all parts of a request goes on, and how it ends, by what the write of a part did.
 use Rattle.std.proofs.Common.{◌≡◌, ℕ, ◌+◌, ◌*◌, ◌<◌, ◌≤◌, Option, List, length, inl, inr, sym, ap, ◌∙◌, subst, arith}
 use Rattle.model_geometry.specs.Geometry.{Shape}
-use Rattle.model_medium.specs.World.{World}
+use Rattle.model_medium.specs.World.{World, Span}
 use Rattle.model_medium.specs.Machine.{Machine}
 use Rattle.model_medium.specs.Exact.{Event}
 use Rattle.model_medium.specs.declared.WornBlock.{WornBlock}
@@ -23,7 +23,7 @@ use Rattle.ram_volume.specs.Writing.{WritesPart, PartStops, EndsParts, StopsPart
 use Rattle.ram_volume.specs.Shown.{shown_under}
 use Rattle.ram_volume.proofs.WriteTurns.{WroteSome, wrote_block, rest_stopped, block_stopped, meets_unread, meets_no_spare, meets_no_copy}
 
-module _ {M : Type 0} (world : M → World) (block_count : M → ℕ) (reaches : M → M → ℕ → Type 0) (takes : M → M → Event → Type 0) (arms : M → List WornBlock) (armed_cut : M → Option ArmedCut)
+module _ {M : Type 0} (world : M → World) (block_count : M → ℕ) (reaches : M → M → Span → Type 0) (takes : M → M → Event → Type 0) (arms : M → List WornBlock) (armed_cut : M → Option ArmedCut)
     (rules : MediumLaws world block_count reaches) (laws : ControlLaws world reaches takes arms armed_cut) (shape : Shape) where
   abbrev machine : M → Machine
   machine m = machine_shown world arms armed_cut m

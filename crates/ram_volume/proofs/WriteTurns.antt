@@ -5,10 +5,10 @@ use Rattle.model_geometry.specs.Geometry.{Shape, data_blocks}
 use Rattle.model_geometry.proofs.ListBlocks.{no_data_block_sdl}
 use Rattle.model_volume.proofs.ListCells.{no_data_block_second}
 use Rattle.model_medium.specs.Cells.{Cell, IsSameOrDead, IsGood, cell_at}
-use Rattle.model_medium.specs.World.{World}
+use Rattle.model_medium.specs.World.{World, Span}
 use Rattle.model_medium.specs.Machine.{Machine}
 use Rattle.model_medium.specs.Exact.{Event}
-use Rattle.model_medium.specs.Reach.{Reach}
+use Rattle.model_medium.specs.Reach.{ReachBy}
 use Rattle.model_medium.specs.declared.WornBlock.{WornBlock}
 use Rattle.model_medium.specs.declared.ArmedCut.{ArmedCut}
 use Rattle.model_buffer.specs.Buffer.{numbers_in, touched_one, with_newest}
@@ -68,7 +68,7 @@ module _ (shape : Shape) (old mid : Machine) (lists reached : Lists) (held held'
     pub as_many : length course ≡ k
     pub blocks : WroteBlocks course
 
-module _ {M : Type 0} (world : M → World) (block_count : M → ℕ) (reaches : M → M → ℕ → Type 0) (takes : M → M → Event → Type 0) (arms : M → List WornBlock) (armed_cut : M → Option ArmedCut)
+module _ {M : Type 0} (world : M → World) (block_count : M → ℕ) (reaches : M → M → Span → Type 0) (takes : M → M → Event → Type 0) (arms : M → List WornBlock) (armed_cut : M → Option ArmedCut)
     (rules : MediumLaws world block_count reaches) (laws : ControlLaws world reaches takes arms armed_cut) (shape : Shape) where
   abbrev machine : M → Machine
   machine m = machine_shown world arms armed_cut m
@@ -137,7 +137,7 @@ module _ {M : Type 0} (world : M → World) (block_count : M → ℕ) (reaches :
         subst (λ (b : ℕ). cell_at (world mid).cells b ≡ cell_at (world old).cells b) (sym home_is)
         (did.wrote.wrote.only (home_of shape lists i)
         (λ j less same. apart j (let l = less in omega (arith, l)) (homes_apart shape lists valid i (block_with lba + j) within_old (let w = within_old in let l = less in omega (arith, w, l)) same))
-        (λ j less. home_not_free shape lists valid i within_old)
+        (λ j less. home_not_free shape lists valid (block_with lba + j) i within_old)
         (λ area same. no_data_block_sdl shape area (subst (Contains (data_blocks shape)) same (home_is_data_block shape lists valid i within_old)))
         (λ area same. no_data_block_second shape area (subst (Contains (data_blocks shape)) same (home_is_data_block shape lists valid i within_old))))
       where
@@ -180,7 +180,7 @@ module _ {M : Type 0} (world : M → World) (block_count : M → ℕ) (reaches :
           })
           is_off
         where
-          stops_there : Stops (λ (m : Machine). m.world) Reach (machine mid) (machine new) 1 stop
+          stops_there : Stops (λ (m : Machine). m.world) ReachBy (machine mid) (machine new) 1 stop
           stops_there = machine_stops world reaches takes arms armed_cut laws mid new 1 1 refl stop halted.stopped.stops
 
           is_off : ¬ IsTrue (world new).power
@@ -198,7 +198,7 @@ module _ {M : Type 0} (world : M → World) (block_count : M → ℕ) (reaches :
       unread_dies : AreSameOrDead (world mid).cells (world new).cells
       unread_dies = one_dies now (under new reached held_mid) place (record { others = lacks.unread.dies.others; left = lacks.unread.dies.left })
 
-      unread_goes : Continues (λ (m : Machine). m.world) Reach (machine mid) (machine new) 1
+      unread_goes : Continues (λ (m : Machine). m.world) ReachBy (machine mid) (machine new) 1
       unread_goes = machine_continues world reaches takes arms armed_cut laws mid new 1 lacks.unread.continues
 
       unread_cause : LacksRest before (under new reached held_mid) lba n named place
@@ -277,7 +277,7 @@ module _ {M : Type 0} (world : M → World) (block_count : M → ℕ) (reaches :
 
       -- The block is written.
       module _ (new : M) (lists' : Lists) (held' : List (ℕ × List ℕ)) (puts : PutsBlock world reaches shape at new reached i put lists') (back : List ℕ) (buffer_is : held' ≡ with_newest i back held_at) (as_put : (world at).known ≡ true → back ≡ put) where
-        pub puts_shown : PutsBlock (λ (m : Machine). m.world) Reach shape (machine at) (machine new) reached i put lists'
+        pub puts_shown : PutsBlock (λ (m : Machine). m.world) ReachBy shape (machine at) (machine new) reached i put lists'
         puts_shown = record {
           placing = puts.placing;
           can = puts.can;
@@ -341,7 +341,7 @@ module _ {M : Type 0} (world : M → World) (block_count : M → ℕ) (reaches :
           })
           is_off
         where
-          shown : StopsAtBlock (λ (m : Machine). m.world) Reach shape (machine at) (machine new) reached i put stop
+          shown : StopsAtBlock (λ (m : Machine). m.world) ReachBy shape (machine at) (machine new) reached i put stop
           shown = record {
             stops = machine_stops world reaches takes arms armed_cut laws at new (most_placing_uses shape reached i) (most_placing_uses shape reached i) refl stop halted.stops;
             given = halted.given;
@@ -359,7 +359,7 @@ module _ {M : Type 0} (world : M → World) (block_count : M → ℕ) (reaches :
         abbrev after : Shown
         after = under new reached held_at
 
-        leaves_shown : LeavesBlock (λ (m : Machine). m.world) Reach shape (machine at) (machine new) reached i put lists' uses
+        leaves_shown : LeavesBlock (λ (m : Machine). m.world) ReachBy shape (machine at) (machine new) reached i put lists' uses
         leaves_shown = record {
           same = leaves.same;
           continues = machine_continues world reaches takes arms armed_cut laws at new uses leaves.continues;

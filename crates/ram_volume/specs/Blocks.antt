@@ -4,7 +4,7 @@
 use Rattle.std.specs.Prelude.{◌≡◌, ◌≢◌, ℕ, ◌⊎◌, Bool, IsTrue, MatchBool, Some, List, length, ◌≤◌}
 use Rattle.std.specs.Bool.{OnTrue}
 use Rattle.model_medium.specs.Cells.{Cell, Good, IsGood, IsSameOrDead, cell_at}
-use Rattle.model_medium.specs.World.{World}
+use Rattle.model_medium.specs.World.{World, Span}
 use Rattle.model_buffer.specs.Buffer.{bytes_at, with_newest, numbers_in}
 use Rattle.model_buffer.specs.declared.TheConstants.{BUFFERED_BLOCKS}
 use Rattle.model_sectors.specs.Uses.{is_buffered}
@@ -16,7 +16,7 @@ pub record DiesAtMost (old new : List Cell) (block : ℕ) : Type 0 where
   pub others : (other : ℕ) → other ≢ block → cell_at new other ≡ cell_at old other
   pub left : IsSameOrDead (cell_at old block) (cell_at new block)
 
-module _ {M : Type 0} (world : M → World) (reaches : M → M → ℕ → Type 0) (old new : M)
+module _ {M : Type 0} (world : M → World) (reaches : M → M → Span → Type 0) (old new : M)
     (held : List (ℕ × List ℕ)) (i place : ℕ) where
   -- a fetch was stopped: the block was not buffered, and its home is as it was or dead
   pub record FetchStopped (stop : Stop) : Type 0 where

@@ -3,7 +3,7 @@
 use Rattle.std.specs.Prelude.{◌≡◌, ℕ, zero, suc, ◌+◌, ◌-◌, ◌*◌, ◌<◌, ◌≤◌, ◌⊎◌, Bool, true, false, IsTrue, if◌then◌else◌, MatchBool, Option, Some, None, Result, Ok, Err, List, [], length, take}
 use Rattle.model_geometry.specs.Geometry.{Shape}
 use Rattle.model_medium.specs.Cells.{Cell, IsGood, cell_at}
-use Rattle.model_medium.specs.World.{World}
+use Rattle.model_medium.specs.World.{World, Span}
 use Rattle.model_buffer.specs.Buffer.{numbers_in, bytes_at, with_newest}
 use Rattle.model_buffer.specs.declared.TheConstants.{BUFFERED_BLOCKS}
 use Rattle.model_sectors.specs.Discs.{Standing, sectors_of}
@@ -69,7 +69,7 @@ PutsFrom lba n into first zero held held' = held' ≡ held
 PutsFrom lba n into first (suc count) held held' = (mid : List (ℕ × List ℕ)) × (room : List ℕ)
     × PutsFrom lba n into first count held mid × PutsNewest lba n (first + count) into room mid held'
 
-module _ {M : Type 0} (world : M → World) (reaches : M → M → ℕ → Type 0) (old new : M)
+module _ {M : Type 0} (world : M → World) (reaches : M → M → Span → Type 0) (old new : M)
     (held : List (ℕ × List ℕ)) where
   module _ (lba n i place : ℕ) where
     -- the block was fetched, with these bytes, and what the request covers of it was copied

@@ -3,7 +3,7 @@
 use Rattle.std.specs.Prelude.{◌≡◌, ℕ, ◌+◌, ◌<◌, true, Option, Some, None, Result, Ok, Err}
 use Rattle.model_geometry.specs.Geometry.{Shape}
 use Rattle.model_medium.specs.Cells.{IsGood, cell_at}
-use Rattle.model_medium.specs.World.{World}
+use Rattle.model_medium.specs.World.{World, Span}
 use Rattle.model_sectors.specs.Discs.{Standing}
 use Rattle.model_sectors.specs.Requests.{block_with, blocks_covered}
 use Rattle.model_sectors.specs.declared.ReadOut.{ReadOut}
@@ -18,7 +18,7 @@ use Rattle.ram_volume.specs.Blocks.{DiesAtMost}
 abbrev pub VerifySteps : Shown → Shown → ReadOut → Type 0
 VerifySteps old new out = (s : Standing) → StandsFor old s → VerifyStep (StandsFor new) s out
 
-module _ {M : Type 0} (world : M → World) (reaches : M → M → ℕ → Type 0) (old new : M) (shape : Shape) (lists : Lists)
+module _ {M : Type 0} (world : M → World) (reaches : M → M → Span → Type 0) (old new : M) (shape : Shape) (lists : Lists)
     (lba : ℕ) where
   -- the home of the block after so many
   abbrev pub place_after : ℕ → ℕ

@@ -2,7 +2,7 @@
 -- here.)
 use Rattle.std.specs.Prelude.{◌≡◌, ℕ, ◌⊎◌, Bool, true, IsTrue, MatchBool, List, length}
 use Rattle.model_geometry.specs.Geometry.{Shape}
-use Rattle.model_medium.specs.World.{World}
+use Rattle.model_medium.specs.World.{World, Span}
 use Rattle.model_medium.specs.Machine.{Machine}
 use Rattle.model_buffer.specs.Buffer.{with_newest}
 use Rattle.model_sectors.specs.Discs.{Standing}
@@ -26,7 +26,7 @@ abbrev pub WriteSteps : Shown → Shown → (lba n : ℕ) → List ℕ → Write
 WriteSteps old new lba n bytes out = (s : Standing) → StandsFor old s → WriteStep new (StandsFor new) s lba n bytes out
 
 -- The medium and the buffered blocks before a part of a request, and the logical block of the part with its home.
-module _ {M : Type 0} (world : M → World) (reaches : M → M → ℕ → Type 0)
+module _ {M : Type 0} (world : M → World) (reaches : M → M → Span → Type 0)
     (old : M) (held : List (ℕ × List ℕ)) (lba n i place : ℕ) where
   -- the medium, the block in work and the buffered blocks after the look for the rest of the block
   module _ (new : M) (rest : List ℕ) (held' : List (ℕ × List ℕ)) where
@@ -60,7 +60,7 @@ module _ {M : Type 0} (world : M → World) (reaches : M → M → ℕ → Type 
     pub stopped : FetchStopped world reaches old new held i place stop
 
 -- The media before and after the write of a part, the lists in use, the buffered blocks, and the bytes of the request.
-module _ {M : Type 0} (world : M → World) (reaches : M → M → ℕ → Type 0)
+module _ {M : Type 0} (world : M → World) (reaches : M → M → Span → Type 0)
     (shape : Shape) (old new : M) (lists lists' : Lists)
     (held held' : List (ℕ × List ℕ)) (lba n i : ℕ) (bytes : List ℕ) where
   -- The rest of the block was in hand, and its part was merged into it. Then came what the rest of the record says.
@@ -103,7 +103,7 @@ module _ {M : Type 0} (world : M → World) (reaches : M → M → ℕ → Type 
   WritesPart (wrote.NoUpdate counter) = AfterRest (PartMeetsNoCopy counter)
 
 -- the write of a part was stopped: in the look for its rest, or in the block
-abbrev pub PartStops : {M : Type 0} → (M → World) → (M → M → ℕ → Type 0) → Shape → (old new : M) → Lists
+abbrev pub PartStops : {M : Type 0} → (M → World) → (M → M → Span → Type 0) → Shape → (old new : M) → Lists
     → List (ℕ × List ℕ) → (lba n i : ℕ) → List ℕ → Stop → Type 0
 PartStops world reaches shape old new lists held lba n i bytes stop =
     RestStopped world reaches old held lba n i (home_of shape lists i) new stop

@@ -5,6 +5,7 @@
 //! lists the steps, with what each does and prints, and the two kinds of rows that have none.
 #![tactic(auto)]
 
+mod buffers;
 mod cuts;
 mod drive;
 mod host;

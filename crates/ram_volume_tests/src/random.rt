@@ -92,7 +92,7 @@ impl Plain {
 }
 
 /// A random number below the limit.
-fn below(random: &mut Pcg32, limit: u32) -> u32
+pub fn below(random: &mut Pcg32, limit: u32) -> u32
     requires { 0 < limit }
     ensures { result < limit }
 {

@@ -1,5 +1,6 @@
 //! A row: its steps one after another, each with its answer, or one of the kinds of rows that have no steps.
 
+use crate::buffers::answer_buffers;
 use crate::cuts::answer_each;
 use crate::drive::Rig;
 use crate::lines::make_lines;
@@ -38,6 +39,9 @@ fn answer_lines<D: Rig>(
 fn answer_row<D: Rig>(alloc: Global, row: &str, answers: &mut String) -> Result<(), AllocError> {
     if let Some(words) = row.strip_prefix("mixtures ") {
         return answer_mixtures::<D>(alloc, words.trim(), answers);
+    }
+    if let Some(word) = row.strip_prefix("buffers ") {
+        return answer_buffers::<D>(alloc, word.trim(), answers);
     }
     if let Some(words) = row.strip_prefix("random ") {
         return answer_random::<D>(alloc, words.trim(), answers);

@@ -5,4 +5,4 @@ use Rattle.ram_medium.proofs.whole_blocks.read_whole_into.Goals as goal
 pub returns-in-Failed-clause-continues : goal.returns-in-Failed-clause-continues
 returns-in-Failed-clause-continues g c =
     stops_at_once g.M.Medium.world g.M.Medium.block_count g.M.Medium.reaches g.met.M.Medium.laws c.args.medium.now c.read_into.new.self c.args.block
-    (read_fails (g.M.Medium.world c.args.medium.now) (g.M.Medium.world c.read_into.new.self) c.args.block [] [] c.in-Failed.ensures.rule)
+    (read_fails (g.M.Medium.world c.args.medium.now) (g.M.Medium.world c.read_into.new.self) c.args.block [] [] c.in-Failed.ensures.rule) c.in-Failed.ensures.continues

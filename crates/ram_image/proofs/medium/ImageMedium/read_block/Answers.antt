@@ -7,6 +7,7 @@ use Rattle.ram_image.proofs.medium.ImageMedium.read_block.Goals as goal
 
 pub returns-in-Unreadable : goal.returns-in-Unreadable
 returns-in-Unreadable g c = record {
+  lawful = c.read_bytes-end.ensures.event.lawful;
   exactly = event_left (machine_in c.args.self.now) (machine_in c.read_bytes-end.new.self) c.args.block (bytes_read c.read_bytes-end.result c.read_bytes-end.new.into) c.args.into.now c.swap-in-Unreadable.new.y
       c.read_bytes-end.result (λ e. let both : reads.Unreadable ≡ reads.Done = sym c.in-Unreadable.is ∙ e in cc) (c.swap-in-Unreadable.ensures.y_after ∙ c.read_bytes-end.ensures.same_room ∙ c.swap.ensures.x_after) c.read_bytes-end.ensures.event.exactly;
   same_shape = c.read_bytes-end.ensures.event.same_shape;
@@ -15,6 +16,7 @@ returns-in-Unreadable g c = record {
 
 pub returns-in-Cut : goal.returns-in-Cut
 returns-in-Cut g c = record {
+  lawful = c.read_bytes-end.ensures.event.lawful;
   exactly = event_left (machine_in c.args.self.now) (machine_in c.read_bytes-end.new.self) c.args.block (bytes_read c.read_bytes-end.result c.read_bytes-end.new.into) c.args.into.now c.swap-in-Cut.new.y
       c.read_bytes-end.result (λ e. let both : reads.Cut ≡ reads.Done = sym c.in-Cut.is ∙ e in cc) (c.swap-in-Cut.ensures.y_after ∙ c.read_bytes-end.ensures.same_room ∙ c.swap.ensures.x_after) c.read_bytes-end.ensures.event.exactly;
   same_shape = c.read_bytes-end.ensures.event.same_shape;
@@ -23,6 +25,7 @@ returns-in-Cut g c = record {
 
 pub returns-in-Off : goal.returns-in-Off
 returns-in-Off g c = record {
+  lawful = c.read_bytes-end.ensures.event.lawful;
   exactly = event_left (machine_in c.args.self.now) (machine_in c.read_bytes-end.new.self) c.args.block (bytes_read c.read_bytes-end.result c.read_bytes-end.new.into) c.args.into.now c.swap-in-Off.new.y
       c.read_bytes-end.result (λ e. let both : reads.Off ≡ reads.Done = sym c.in-Off.is ∙ e in cc) (c.swap-in-Off.ensures.y_after ∙ c.read_bytes-end.ensures.same_room ∙ c.swap.ensures.x_after) c.read_bytes-end.ensures.event.exactly;
   same_shape = c.read_bytes-end.ensures.event.same_shape;
@@ -31,6 +34,7 @@ returns-in-Off g c = record {
 
 pub returns-in-Failed : goal.returns-in-Failed
 returns-in-Failed g c = record {
+  lawful = c.read_bytes-end.ensures.event.lawful;
   exactly = event_left (machine_in c.args.self.now) (machine_in c.read_bytes-end.new.self) c.args.block (bytes_read c.read_bytes-end.result c.read_bytes-end.new.into) c.args.into.now c.swap-in-Failed.new.y
       c.read_bytes-end.result (λ e. let both : reads.Failed ≡ reads.Done = sym c.in-Failed.is ∙ e in cc) (c.swap-in-Failed.ensures.y_after ∙ c.read_bytes-end.ensures.same_room ∙ c.swap.ensures.x_after) c.read_bytes-end.ensures.event.exactly;
   same_shape = c.read_bytes-end.ensures.event.same_shape;

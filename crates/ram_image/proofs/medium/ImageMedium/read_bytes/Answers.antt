@@ -8,6 +8,7 @@ use Rattle.ram_image.proofs.medium.ImageMedium.read_bytes.Goals as goal
 
 pub returns-in-On-clause-event : goal.returns-in-On-clause-event
 returns-in-On-clause-event g c = record {
+  lawful = c.requires.inside;
   exactly = event_read (machine_in c.args.self.now) (machine_in c.begin.new.self) (machine_in c.read_on.new.self) c.args.block c.if-not-self.false c.in-On.ensures.rule.1 c.in-On.ensures.rule.0 []
       (bytes_read c.read_on.result c.read_on.new.into) c.read_on.result c.read_on.ensures.rule;
   same_shape = c.read_on.ensures.same_shape ∙ c.in-On.ensures.same_shape;

@@ -1,0 +1,7 @@
+pub mod Values
+pub mod Shown
+pub mod Chains
+pub mod Steps
+pub mod Causes
+pub mod Plain
+pub mod Falling
