@@ -26,3 +26,4 @@ mod Somes
 mod Held
 pub mod Behind
 pub mod ReadAhead
+mod Layouts

@@ -1,5 +1,5 @@
 use Rattle.std.specs.Prelude.{◌≡◌, ◌<◌, ℕ}
-use Rattle.std.proofs.Common.{sym, subst, arith}
+use Rattle.std.proofs.Common.{refl, sym, ◌∙◌, subst, arith}
 use Rattle.std.proofs.lemmas.Result.{err_from_is_err_and}
 use Rattle.model_sectors.specs.Requests.{blocks_covered, start_in}
 use Rattle.model_places.specs.Places.{Lists, logical_count, home_of}
@@ -15,6 +15,7 @@ pub loop-k-init : goal.loop-k-init
 loop-k-init g c = record {
   so_far = wrote_none g.M.Medium.world g.M.Medium.block_count g.M.Medium.reaches g.M.Medium.takes g.M.MediumControl.arms g.M.MediumControl.armed_cut g.met.M.Medium.laws g.met.M.MediumControl.control_laws c.args.geometry.now c.args.medium.now (lists_of c.args.lists.now) c.args.workspace.now.buffer c.args.request.lba c.args.request.n c.args.from.now c.requires.on c.requires.inside c.requires.settled;
   fit = c.requires.fit;
+  same_layout = refl;
 }
 
 pub write_part-requires-clause-fit : goal.write_part-requires-clause-fit
@@ -101,6 +102,7 @@ loop-k-preserved g c =
           c.args.medium.now c.loop-k.medium (lists_of c.args.lists.now) (lists_of c.loop-k.lists) c.args.workspace.now.buffer c.loop-k.workspace.buffer c.args.request.lba c.args.request.n c.args.from.now c.loop-k.k c.loop-k.invariant.so_far
           c.requires.fit.valid c.requires.inside c.requires.whole covered c.write_part.new.medium (lists_of c.write_part.new.lists) c.write_part.new.workspace.buffer did;
       fit = c.write_part.ensures.fit;
+      same_layout = c.write_part.ensures.same_layout ∙ c.loop-k.invariant.same_layout;
     }
 
 pub returns-clause-rule : goal.returns-clause-rule
