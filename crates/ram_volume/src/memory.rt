@@ -74,7 +74,7 @@ fn roomy_layout(alloc: Global, geometry: &Geometry) -> Result<SlipLayout, AllocE
         counter: 0,
         state: DdsState::Formatting,
         psa: geometry.psa(),
-        entries: PdlEntries::new(alloc),
+        entries: PdlEntries::from_vec(Vec::new(alloc)),
     };
     SlipLayout::new(alloc, geometry, &dds, 0)
 }
