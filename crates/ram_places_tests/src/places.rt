@@ -3,7 +3,7 @@
 use ram_by_hand::{Entry, number_of};
 use ram_dds::{DdsPdl, DdsState, PdlEntries, PdlEntry, PdlKind};
 use ram_sdl::{Sdl, SdlEntries, SdlEntry, Version};
-use ram_slip::{Place, is_valid_pdl, is_valid_ssa, physical, place_of, spare_number, spare_of};
+use ram_slip::{Place, is_valid_pdl, is_valid_ssa, physical, place_of, spare_at, spare_turn};
 use ram_zones::Geometry;
 use std::alloc::{AllocError, Global};
 use std::fmt::Write;
@@ -68,13 +68,13 @@ fn found_at(geometry: &Geometry, dds: &DdsPdl, ssa: u32, block: u32) -> Option<P
     None
 }
 
-/// The number of a spare, and the spare of that number, where what it asks for holds.
-fn number_at(geometry: &Geometry, dds: &DdsPdl, ssa: u32, block: u32) -> Option<(u32, u32)> {
+/// The turn of a spare, and the spare of that turn, where what it asks for holds.
+fn turn_at(geometry: &Geometry, dds: &DdsPdl, ssa: u32, block: u32) -> Option<(u32, u32)> {
     if !(is_valid_pdl(geometry, dds) && is_valid_ssa(geometry, dds.version, ssa)) {
         return None;
     }
-    match spare_number(geometry, dds, ssa, block) {
-        Some(number) => Some((number, spare_of(geometry, dds, ssa, number))),
+    match spare_turn(geometry, dds, ssa, block) {
+        Some(turn) => Some((turn, spare_at(geometry, dds, ssa, turn))),
         None => None,
     }
 }
@@ -97,11 +97,11 @@ impl Places {
         }
     }
 
-    /// Adds the number of a spare, and the spare of that number.
+    /// Adds the turn of a spare, and the spare of that turn.
     pub fn add_spare(&self, ssa: u32, block: u32, answer: &mut String) -> Result<(), AllocError> {
-        match number_at(&self.geometry, &self.dds, ssa, block) {
-            Some((number, spare)) => write!(answer, "number {number}, block {spare}"),
-            None => answer.push_str("no number"),
+        match turn_at(&self.geometry, &self.dds, ssa, block) {
+            Some((turn, spare)) => write!(answer, "turn {turn}, block {spare}"),
+            None => answer.push_str("no turn"),
         }
     }
 }

@@ -8,7 +8,7 @@ use crate::places::Places;
 use ram_dds::{DdsPdl, DdsState};
 use ram_lists::is_valid_sdl;
 use ram_sdl::Sdl;
-use ram_slip::{is_valid_pdl, spare_number};
+use ram_slip::{is_valid_pdl, spare_turn};
 use ram_spare::{SpareCounts, counts, next_free};
 use ram_zones::Geometry;
 use std::alloc::AllocError;
@@ -41,7 +41,7 @@ pub fn next(geometry: &Geometry, dds: &DdsPdl, sdl: &Sdl, after: Option<u32>) ->
     let Some(spare) = after else {
         return next_free(geometry, dds, sdl, None);
     };
-    match spare_number(geometry, dds, sdl.ssa, spare) {
+    match spare_turn(geometry, dds, sdl.ssa, spare) {
         Some(_) => next_free(geometry, dds, sdl, Some(spare)),
         None => Some(0),
     }

@@ -16,7 +16,8 @@ use Rattle.model_pools.specs.Pools.{spares_in}
 use Rattle.model_pools.proofs.Cuts.{PlaceOfSpare, spare_there}
 use Rattle.model_places.specs.Places.{slipped, unslipped, primary_count, count_of, pools_of}
 use Rattle.model_places.specs.Valid.{IsValidPdl, IsValidSsa}
-use Rattle.model_places.proofs.Layouts.{one_spares, length-spares_in}
+use Rattle.model_places.proofs.ByKind.{few_slipped}
+use Rattle.model_places.proofs.Layouts.{length-spares_in}
 use Rattle.model_places.proofs.Pools.{length-unslipped, slips_are_all}
 use Rattle.ram_slip.specs.Counts.{IsCountBefore, IsCountPassed}
 use Rattle.ram_slip.proofs.Named.{rising, named_there}
@@ -103,6 +104,10 @@ unslipped_by shape dds valid entries place passed block same inside count is =
 pub room_by : (shape : Shape) (dds : Dds) → IsValidPdl shape dds → (entries : List PdlEntry) (place : ℕ) → entries ≡ dds.entries → place < length (unslipped shape dds) → place + length entries < length (data_blocks shape)
 room_by shape dds valid entries place same inside =
     omega (arith, ap (λ (es : List PdlEntry). length es) same, room_for shape dds valid place inside)
+
+-- each logical block has a place, and so has each supplementary spare behind them
+pub place_inside : (shape : Shape) (dds : Dds) → IsValidPdl shape dds → (i count psa : ℕ) → count ≡ length (data_blocks shape) → psa ≡ shape.psa → i < count - psa → primary_count shape dds + i < length (unslipped shape dds)
+place_inside shape dds valid i count psa all psa_is less = omega (arith, length-unslipped shape dds valid, few_slipped shape dds valid, all, psa_is, less)
 
 -- the spare of a turn stands at this place
 module _ (shape : Shape) (dds : Dds) (ssa : ℕ) (valid : IsValidPdl shape dds) {version : Version} (area : IsValidSsa shape version ssa) (turn : ℕ) (inside : turn < length (spares_in (pools_of shape dds ssa))) where

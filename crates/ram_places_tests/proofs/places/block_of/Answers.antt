@@ -1,4 +1,4 @@
-use Rattle.ram_slip.proofs.Slips.{place_inside}
+use Rattle.ram_slip.proofs.Counting.{place_inside}
 use Rattle.ram_places_tests.proofs.places.block_of.Goals as goal
 
 pub physical-requires-clause-inside : goal.physical-requires-clause-inside
