@@ -1,8 +1,11 @@
--- Parts of the work on a medium, one after another.
+-- Parts of the work on a medium, one after another, and that nothing but events happened in them.
 use Rattle.std.specs.Prelude.{◌≡◌, ℕ, ◌+◌, ◌≤◌, IsTrue, List}
-use Rattle.std.proofs.Common.{sym, ap, ◌∙◌, inl, inr, arith}
+use Rattle.std.proofs.Common.{sym, ap, ◌∙◌, inl, inr, subst, arith}
 use Rattle.model_counts.specs.Counts.{counted}
-use Rattle.model_medium.specs.World.{World, Span, FailedUse, HasFailed, FailsInRead, FailsInWrite}
+use Rattle.model_medium.specs.World.{World, Span, Uses, FailedUse, HasFailed, FailsInRead, FailsInWrite}
+use Rattle.model_medium.specs.Exact.{Event}
+use Rattle.model_medium.specs.Happened.{Happened}
+use Rattle.model_medium.proofs.Happening.{happened_none, happened_then}
 use Rattle.ram_medium.specs.Laws.{MediumLaws}
 use Rattle.model_stops.specs.Stops.{FailsInUse, Continues, Stops}
 use Rattle.model_stops.specs.declared.Stop.{Stop}
@@ -63,3 +66,15 @@ module _ {M : Type 0} (world : M → World) (block_count : M → ℕ) (reaches :
   stops_within a b most more stops.Cut le stop = record { uses = stop.uses; few = omega (arith, stop.few); reach = stop.reach; cut = stop.cut }
   stops_within a b most more stops.Off le stop = stop
   stops_within a b most more stops.Fault le stop = record { mid = stop.mid; before = stop.before; few = omega (arith, stop.few); reach = stop.reach; block = stop.block; fails = stop.fails; failed = stop.failed }
+
+module _ {M : Type 0} (world : M → World) (reaches : M → M → Span → Type 0) (takes : M → M → Event → Type 0) (happens : (a b : M) (span : Span) → reaches a b span → Happened takes a b) where
+  pub nothing_happened : (a b : M) → b ≡ a → Happened takes a b
+  nothing_happened a b same = subst (Happened takes a) (sym same) (happened_none takes a)
+
+  pub part_happened : (a b : M) (k : ℕ) → Continues world reaches a b k → Happened takes a b
+  part_happened a b k part = happens a b (Uses k) part.reach
+
+  pub stop_happened : (a b : M) (most : ℕ) (why : Stop) → IsTrue (world a).power → Stops world reaches a b most why → Happened takes a b
+  stop_happened a b most stops.Cut on stop = happens a b (Uses stop.uses) stop.reach
+  stop_happened a b most stops.Off on stop = absurd (stop.was_off on)
+  stop_happened a b most stops.Fault on stop = happened_then takes a stop.mid b (happens a stop.mid (Uses stop.before) stop.reach) (happens stop.mid b FailedUse stop.failed)

@@ -72,6 +72,7 @@ impl<D: Disc> Target<D> {
         ensures rule { IsPoweredAgain (D.shows self.old.disc) (D.shows self.new.disc)
             (D.stands self.old.disc) (D.stands self.new.disc) self.new.host result }
         ensures same_shape { (D.shows self.new.disc).shape ≡ (D.shows self.old.disc).shape }
+        ensures underwent { D.underwent self.old.disc self.new.disc }
     {
         self.host = just_powered();
         self.disc.power(alloc)
@@ -99,6 +100,7 @@ impl<D: Disc> Target<D> {
             (D.stands self.old.disc) (D.stands self.new.disc)
             self.old.host self.new.host cdb.now payload.now result data_in.new.items }
         ensures same_shape { (D.shows self.new.disc).shape ≡ (D.shows self.old.disc).shape }
+        ensures underwent { D.underwent self.old.disc self.new.disc }
         ensures room { vec_capacity data_in.old ≤ vec_capacity data_in.new }
     {
         match look_at(&mut self.disc) {
@@ -128,6 +130,7 @@ impl<D: Disc> Target<D> {
             (D.stands self.old.disc) (D.stands self.new.disc)
             self.old.host self.new.host cdb.now payload.now result data_in.new.items }
         ensures same_shape { (D.shows self.new.disc).shape ≡ (D.shows self.old.disc).shape }
+        ensures underwent { D.underwent self.old.disc self.new.disc }
         ensures room { vec_capacity data_in.old ≤ vec_capacity data_in.new }
     {
         let operation = operation(cdb.operation_code());
@@ -163,6 +166,7 @@ impl<D: Disc> Target<D> {
             self.old.host payload.now judged result data_in.new.items }
         ensures same_host { self.new.host ≡ self.old.host }
         ensures same_shape { (D.shows self.new.disc).shape ≡ (D.shows self.old.disc).shape }
+        ensures underwent { D.underwent self.old.disc self.new.disc }
         ensures room { vec_capacity data_in.old ≤ vec_capacity data_in.new }
     {
         match judged {
@@ -193,6 +197,7 @@ impl<D: Disc> Target<D> {
             self.old.host payload.now command result data_in.new.items }
         ensures same_host { self.new.host ≡ self.old.host }
         ensures same_shape { (D.shows self.new.disc).shape ≡ (D.shows self.old.disc).shape }
+        ensures underwent { D.underwent self.old.disc self.new.disc }
         ensures room { vec_capacity data_in.old ≤ vec_capacity data_in.new }
     {
         if let Command::Read { lba, n } = command {
@@ -254,6 +259,7 @@ fn just_powered() -> Host
 /// Looks at a disc. A disc that has no capacity is not formatted, or off: a read of no sectors tells which, and does nothing.
 fn look_at<D: Sectors>(disc: &mut D) -> Look
     ensures rule { LookRule (D.shows disc.old) (D.shows disc.new) (D.stands disc.old) (D.stands disc.new) result }
+    ensures underwent { D.underwent disc.old disc.new }
 {
     if let Some(capacity) = disc.capacity() {
         return Look::Formatted(capacity);

@@ -23,6 +23,7 @@ pub fn read<D: Sectors>(disc: &mut D, lba: u32, n: u32, data_in: &mut Vec<u8>) -
     ensures rule { IsRead (D.shows disc.old) (D.shows disc.new) (D.stands disc.old) (D.stands disc.new)
         lba n result data_in.new.items }
     ensures same_shape { (D.shows disc.new).shape ≡ (D.shows disc.old).shape }
+    ensures underwent { D.underwent disc.old disc.new }
     ensures room { vec_capacity data_in.old ≤ vec_capacity data_in.new }
 {
     match data_in.resize(n as usize * SECTOR_BYTES, 0) {
@@ -43,6 +44,7 @@ pub fn write<D: Sectors>(disc: &mut D, lba: u32, n: u32, payload: &[u8]) -> Answ
     ensures rule { IsWritten (D.shows disc.old) (D.shows disc.new) (D.stands disc.old) (D.stands disc.new)
         lba n payload.now result [] }
     ensures same_shape { (D.shows disc.new).shape ≡ (D.shows disc.old).shape }
+    ensures underwent { D.underwent disc.old disc.new }
 {
     write_answer(disc.write(lba, n, payload))
 }
@@ -52,6 +54,7 @@ pub fn format<D: Disc>(disc: &mut D, alloc: Global, kind: Kind) -> Answer
     ensures rule { IsFormatted (D.shows disc.old) (D.shows disc.new) (D.stands disc.old) (D.stands disc.new)
         kind result [] }
     ensures same_shape { (D.shows disc.new).shape ≡ (D.shows disc.old).shape }
+    ensures underwent { D.underwent disc.old disc.new }
 {
     format_answer(disc.format(alloc, kind))
 }
@@ -61,6 +64,7 @@ pub fn expand<D: Disc>(disc: &mut D, capacity: u32) -> Answer
     ensures rule { IsExpanded (D.shows disc.old) (D.shows disc.new) (D.stands disc.old) (D.stands disc.new)
         capacity result [] }
     ensures same_shape { (D.shows disc.new).shape ≡ (D.shows disc.old).shape }
+    ensures underwent { D.underwent disc.old disc.new }
 {
     expand_answer(disc.expand(capacity))
 }
@@ -71,6 +75,7 @@ pub fn verify<D: Disc>(disc: &mut D, lba: u32, n: u32) -> Answer
     ensures rule { IsVerified (D.shows disc.old) (D.shows disc.new) (D.stands disc.old) (D.stands disc.new)
         lba n result [] }
     ensures same_shape { (D.shows disc.new).shape ≡ (D.shows disc.old).shape }
+    ensures underwent { D.underwent disc.old disc.new }
 {
     read_answer(disc.verify(lba, n))
 }

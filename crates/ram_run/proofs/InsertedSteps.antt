@@ -35,9 +35,9 @@ disc_step s t lines.Empty payload outcome data_in step = absurd step.rule
 disc_step s t (lines.Press zones scale psa) payload outcome data_in step = absurd step.rule
 disc_step s t _ payload outcome data_in step = step
 
-module _ {D I : Type 0} (drives : Drives D) (lies_in : D → Option (List ℕ)) (images : Images I) (laws : SectorsLaws drives.shows drives.stands) (lying : DriveLaws drives.shows lies_in) (old new : Target D) (line : Line) (payload : List ℕ) (outcome : Outcome) (data_in : List ℕ)
+module _ {D I : Type 0} (drives : Drives D) (lies_in : D → Option (List ℕ)) (images : Images I) (laws : SectorsLaws drives.shows drives.stands) (lying : DriveLaws drives.shows drives.underwent lies_in) (old new : Target D) (line : Line) (payload : List ℕ) (outcome : Outcome) (data_in : List ℕ)
     (rule : DiscRule (drives.shows old.disc) (drives.shows new.disc) (drives.stands old.disc) (drives.stands new.disc) old.host new.host line payload outcome data_in)
-    (same_shape : (drives.shows new.disc).shape ≡ (drives.shows old.disc).shape) (bytes : LineBytes line outcome (lies_in old.disc) (lies_in new.disc)) where
+    (same_shape : (drives.shows new.disc).shape ≡ (drives.shows old.disc).shape) (bytes : LineBytes line outcome (drives.shows old.disc) (lies_in old.disc) (drives.shows new.disc) (lies_in new.disc)) where
   -- the disc that a line leaves
   disc_left : (s : Served) → IsIn (drives.shows old.disc) (drives.stands old.disc) old.host (lies_in old.disc) s
       → (t : Served) × DiscStep s t line payload outcome data_in × IsIn (drives.shows new.disc) (drives.stands new.disc) new.host (lies_in new.disc) t
@@ -60,7 +60,9 @@ module _ {D I : Type 0} (drives : Drives D) (lies_in : D → Option (List ℕ)) 
           same_shape = same_shape ∙ ap (λ (shown : Shown). shown.shape) is.shown_is;
           rule = subst (λ (host : Host). DiscRule s.disc.shown (drives.shows new.disc) (λ x. x ≡ s.disc.standing) (λ x. x ≡ found.0) host new.host line payload outcome data_in) is.host_is
               (subst (λ (shown : Shown). DiscRule shown (drives.shows new.disc) (λ x. x ≡ s.disc.standing) (λ x. x ≡ found.0) old.host new.host line payload outcome data_in) is.shown_is found.2);
-          bytes = subst (λ (o : Option (List ℕ)). LineBytes line outcome o (Some there.bytes)) is.bytes_are (subst (LineBytes line outcome (lies_in old.disc)) there.known bytes);
+          bytes = subst (λ (shown : Shown). LineBytes line outcome shown (Some s.bytes) (drives.shows new.disc) (Some there.bytes)) is.shown_is
+              (subst (λ (o : Option (List ℕ)). LineBytes line outcome (drives.shows old.disc) o (drives.shows new.disc) (Some there.bytes)) is.bytes_are
+              (subst (LineBytes line outcome (drives.shows old.disc) (lies_in old.disc) (drives.shows new.disc)) there.known bytes));
         },
         record { shown_is = refl; standing_is = found.1; host_is = refl; bytes_are = there.known },
       )

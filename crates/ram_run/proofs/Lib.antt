@@ -28,6 +28,7 @@ pub mod InImage
 pub mod OldOrNew
 pub mod VerifiedLines
 pub mod ExpandedLines
+mod DataStays
 mod FairRuns
 mod NoSpares
 mod LastingRuns

@@ -9,6 +9,7 @@ use Rattle.model_drive.specs.Shown.{Shown}
 use Rattle.model_drive.specs.Runs.{Loaded, IsOpenedOn}
 use Rattle.model_target.specs.declared.host.Host.{Host}
 use Rattle.model_target.specs.Host.{powered_on}
+use Rattle.ram_run.specs.Underwent.{UnderwentEvents}
 
 -- An image of these bytes was opened: they are the image of a disc, in whose state the drive is. (This project's own, as all
 -- here.)
@@ -39,6 +40,9 @@ abbrev pub HasCells : World → Option (List ℕ) → Type 0
 HasCells world image = MatchOption image (world.known ≡ false)
     (λ bytes. (shape : Shape) → world.label ≡ label_of shape → IsImageOf shape world.cells bytes)
 
--- What holds of each drive: it lies in bytes that have the cells of its medium.
-pub record DriveLaws {D : Type 0} (shows : D → Shown) (lies_in : D → Option (List ℕ)) : Type 0 where
+-- What holds of each drive: it lies in bytes that have the cells of its medium, and where it underwent nothing but events,
+-- each of them did to the medium that it shows, and to these bytes, what the medium's rule says.
+pub record DriveLaws {D : Type 0} (shows : D → Shown) (underwent : D → D → Type 0) (lies_in : D → Option (List ℕ)) : Type 0 where
   pub has_cells : (drive : D) → HasCells (shows drive).medium.world (lies_in drive)
+  pub by_events : (old new : D) → underwent old new
+      → UnderwentEvents (total (shows old).shape) (shows old).medium (lies_in old) (shows new).medium (lies_in new)

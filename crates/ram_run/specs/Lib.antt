@@ -3,6 +3,7 @@ pub mod Counting
 pub mod Replies
 pub mod States
 pub mod Kept
+pub mod Underwent
 pub mod LineSteps
 pub mod Drive
 pub mod Lying

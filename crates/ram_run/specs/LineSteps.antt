@@ -20,6 +20,7 @@ use Rattle.ram_run.specs.declared.reply.Reply.TheVariants as replies
 use Rattle.ram_run.specs.declared.stopped.Stopped.TheVariants as stopped
 use Rattle.ram_run.specs.Control.{stands_after_fail}
 use Rattle.ram_run.specs.Replies.{Outcome, event, power_outcome, fail_outcome, wear_outcome, command_outcome}
+use Rattle.ram_run.specs.Underwent.{UnderwentEvents}
 use Rattle.ram_run.specs.States.{Served, State, Unopened, Disc, IsPressedDisc, IsPressedUnopened, IsHalfPressed}
 
 -- What became of a press of this geometry. (This project's own, as all here.)
@@ -80,14 +81,19 @@ module _ (old new : Shown) (before after : Standing → Type 0) (host later : Ho
   DiscRule (lines.Command cdb) payload outcome data_in = CommandLine cdb payload outcome data_in
   DiscRule _ payload outcome data_in = ⊥
 
--- What a line makes of the bytes of an image, also under cells that are not good, where it is no use of the medium: the
--- failure of a block changes its state byte alone, and nothing that is armed changes any.
-abbrev pub LineBytes : Line → Outcome → Option (List ℕ) → Option (List ℕ) → Type 0
-LineBytes (lines.Fail block) outcome before after =
+-- What a line makes of the bytes of an image, also under cells that are not good. A command and a power line change them by
+-- events of the medium alone, each by the medium's rule, however the line ended; the failure of a block changes its state
+-- byte alone, and nothing that is armed changes any.
+abbrev pub LineBytes : Line → Outcome → Shown → Option (List ℕ) → Shown → Option (List ℕ) → Type 0
+LineBytes lines.Power outcome old before new after =
+    UnderwentEvents (total old.shape) old.medium before new.medium after
+LineBytes (lines.Command cdb) outcome old before new after =
+    UnderwentEvents (total old.shape) old.medium before new.medium after
+LineBytes (lines.Fail block) outcome old before new after =
     (end : FailEnd) × (outcome ≡ fail_outcome end) × FailBytes block before after end
-LineBytes (lines.Wear block n) outcome before after = after ≡ before
-LineBytes (lines.Cut n fate) outcome before after = after ≡ before
-LineBytes _ outcome before after = Unit {0}
+LineBytes (lines.Wear block n) outcome old before new after = after ≡ before
+LineBytes (lines.Cut n fate) outcome old before new after = after ≡ before
+LineBytes _ outcome old before new after = ⊥
 
 -- the same between two discs of one geometry, with the bytes of their images
 pub record DiscStep (s t : Served) (line : Line) (payload : List ℕ) (outcome : Outcome)
@@ -95,7 +101,7 @@ pub record DiscStep (s t : Served) (line : Line) (payload : List ℕ) (outcome :
   pub same_shape : t.disc.shown.shape ≡ s.disc.shown.shape
   pub rule : DiscRule s.disc.shown t.disc.shown (λ x. x ≡ s.disc.standing) (λ x. x ≡ t.disc.standing) s.host t.host
       line payload outcome data_in
-  pub bytes : LineBytes line outcome (Some s.bytes) (Some t.bytes)
+  pub bytes : LineBytes line outcome s.disc.shown (Some s.bytes) t.disc.shown (Some t.bytes)
 
 -- the same in any state: without a disc the line cannot be answered
 abbrev pub OnDisc : State → Line → List ℕ → Outcome → List ℕ → State → Type 0

@@ -64,5 +64,5 @@ pub trait Drive: Disc {
         ensures keeps { KeepsMemory (Self.shows self.old) (Self.shows self.new) }
         ensures stands { (s : Standing) → Self.stands self.old s → Self.stands self.new s };
 
-    ghost drive_laws: { DriveLaws Self.shows lies_in };
+    ghost drive_laws: { DriveLaws Self.shows Self.underwent lies_in };
 }

@@ -1,11 +1,12 @@
 //! Laws of runs, for whoever relies on a drive: what it acknowledged stays, and is read back.
-ghost use Rattle.std.specs.Prelude.{◌≡◌, ◌<◌, ◌≤◌, ℕ, Bool, Ok, List};
+ghost use Rattle.std.specs.Prelude.{◌≡◌, ◌<◌, ◌≤◌, ℕ, Bool, Ok, Some, List, length};
 ghost use Rattle.model_geometry.specs.Geometry.{Shape, total};
 ghost use Rattle.model_places.specs.Places.{Lists};
 ghost use Rattle.model_volume.specs.Given.{IsGiven};
 ghost use Rattle.model_fairness.specs.Fair.{IsFair};
 ghost use Rattle.model_image.specs.Image.{IsDiscImage};
-ghost use Rattle.model_image.specs.Cells.{cells_of};
+ghost use Rattle.model_medium.specs.Machine.{Machine};
+ghost use Rattle.model_image.specs.Cells.{cells_of, data_in, image_len};
 ghost use Rattle.model_cdb.specs.declared.commands.Command.TheVariants as commands;
 ghost use Rattle.model_cdb.specs.Decoding.{decoded};
 ghost use Rattle.ram_text.specs.declared.script.Line.{Line};
@@ -13,6 +14,7 @@ ghost use Rattle.ram_text.specs.declared.script.Line.TheVariants as lines;
 ghost use Rattle.ram_run.specs.Replies.{Outcome};
 ghost use Rattle.ram_run.specs.States.{State, IsFirst, IsLeft, IsPressedDisc};
 ghost use Rattle.ram_run.specs.LineSteps.{Step};
+ghost use Rattle.ram_run.specs.Underwent.{UnderwentEvents, WritesNone};
 ghost use Rattle.ram_run.specs.Run.{AnsweredLine, IsStep, Run};
 ghost use Rattle.ram_run.specs.Acknowledged.{bytes_of_sector, Acknowledged, HasNow, WasDone, IsAmong, LeavesSector, LeaveSector, HoldsOldOrNew, HasInImage};
 ghost use Rattle.ram_run.specs.Fairness.{FairNow, WasToldNoSpare, HasNoSpareLeft};
@@ -124,4 +126,14 @@ pub fn dead_blocks_alone_are_given_up()
 pub fn no_spare_is_told_where_none_is_left()
     ensures { (s t : State) (event : AnsweredLine) → FairNow s → IsStep s event t → (told : WasToldNoSpare event)
         → HasNoSpareLeft t told.named }
+{}
+
+/// The data under a block change by writes of the block alone. Over what a command or a power line did to the medium and
+/// its image, the data of each block that none of the events wrote are as they were, also under a block that is torn or dead, and also
+/// where the image failed.
+pub fn data_change_by_writes_alone()
+    ensures { (blocks block : ℕ) (old new : Machine) (before after : List ℕ)
+        (underwent : UnderwentEvents blocks old (Some before) new (Some after)) → block < blocks
+        → length before ≡ image_len blocks → WritesNone block underwent.0
+        → data_in blocks after block ≡ data_in blocks before block }
 {}

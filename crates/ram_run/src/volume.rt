@@ -2,7 +2,7 @@
 
 ghost use Rattle.ram_image.specs.Medium.{bytes_in};
 ghost use Rattle.ram_volume.specs.Drives.{shown_by, medium_by};
-ghost use Rattle.ram_run.specs.Lying.{has_cells, shown_medium};
+ghost use Rattle.ram_run.specs.Lying.{has_cells, by_events, shown_medium, has_blocks};
 
 use crate::drive::Drive;
 use ram_image::{ImageMedium, OpenFault, open};
@@ -41,5 +41,7 @@ impl<I: Image> Drive for Volume<ImageMedium<I>> {
 
     ghost drive_laws = { record {
       has_cells = λ volume. has_cells (medium_by volume) (shown_by volume).medium (shown_medium volume);
+      by_events = λ old new happened. by_events (medium_by old) (medium_by new) (shown_by old).medium
+          (shown_by new).medium _ (shown_medium old) (shown_medium new) (has_blocks old) happened;
     } };
 }

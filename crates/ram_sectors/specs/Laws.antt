@@ -20,3 +20,8 @@ pub record CachingLaws {D : Type 0} (shows : D → CacheShown) (stands : D → C
       → stands drive s ↔ StandsCached (StandsFor (shows drive).drive) (shows drive).pending s
   pub sound : (drive : D) → IsCacheSound (shows drive)
   pub drive_sound : (drive : D) → IsSound (shows drive).drive
+
+-- What holds of `underwent`: nothing happened to a drive that is as it was, and one thing after another happened too.
+pub record UnderwentLaws {D : Type 0} (underwent : D → D → Type 0) : Type 0 where
+  pub none : (drive : D) → underwent drive drive
+  pub adds_up : (a b c : D) → underwent a b → underwent b c → underwent a c

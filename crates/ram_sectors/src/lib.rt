@@ -13,7 +13,7 @@ ghost use Rattle.model_drive.specs.Formats.{FormatCause, FormatStep, FormatCompl
 ghost use Rattle.model_drive.specs.Expands.{ExpandCause, ExpandStep, ExpandCompletes};
 ghost use Rattle.model_drive.specs.Tells.{CapacityRule, CountsRule, DdsRule};
 ghost use Rattle.ram_sectors.specs.declared.TheConstants.{VERIFY_LIMIT};
-ghost use Rattle.ram_sectors.specs.Laws.{SectorsLaws};
+ghost use Rattle.ram_sectors.specs.Laws.{SectorsLaws, UnderwentLaws};
 
 mod caching;
 
@@ -39,7 +39,8 @@ pub fn limits_are_these()
 /// Each call answers why it ended. `cause` says all of what the drive shows afterwards, with the uses of the medium that the
 /// call took, the cells that may have changed, the lists in use and the blocks that are buffered. `step` says what each disc
 /// that it stood for has become, and which bytes a read gave. `completes` says when a call ends well. An answer other than
-/// Fault leaves the medium's count of faults as it was.
+/// Fault leaves the medium's count of faults as it was. Whatever the answer, `underwent` says that nothing but events happened
+/// to the medium.
 pub trait Sectors {
     /// What it shows beside its disc: the geometry, the medium with what is armed on it, the lists in use, the mark, and the
     /// buffered blocks.
@@ -47,6 +48,10 @@ pub trait Sectors {
 
     /// What it stands for. A block that cannot be read has its last acknowledged bytes all the same, so this is a relation.
     ghost stands: { Self → Standing → Type 0 };
+
+    /// That nothing but events happened to its medium in between: uses, and the power that went on or off. What each of them
+    /// does, also to what the medium lies on, the drive says.
+    ghost underwent: { Self → Self → Type 0 };
 
     /// How many sectors the disc has, a multiple of 16. None exactly where the power is off or the disc is not formatted.
     fn capacity(&self) -> Option<u32>
@@ -64,7 +69,8 @@ pub trait Sectors {
             → ReadStep (stands self.new) s lba n into.new result }
         ensures completes { ReadCompletes (shows self.old) (shows self.new) lba n result }
         ensures quiet { ReadIsQuiet (shows self.old) (shows self.new) lba n result }
-        ensures same_shape { (shows self.new).shape ≡ (shows self.old).shape };
+        ensures same_shape { (shows self.new).shape ≡ (shows self.old).shape }
+        ensures underwent { underwent self.old self.new };
 
     /// Writes `n` sectors from sector `lba` on, and reads each block back. Whole logical blocks are replaced one after
     /// another: a write that is refused or stopped has replaced those before the one in progress. Beside the refusals of a
@@ -77,7 +83,8 @@ pub trait Sectors {
         ensures step { (s : Standing) → stands self.old s
             → WriteStep (shows self.new) (stands self.new) s lba n from.now result }
         ensures completes { WriteCompletes (shows self.old) (shows self.new) lba n result }
-        ensures same_shape { (shows self.new).shape ≡ (shows self.old).shape };
+        ensures same_shape { (shows self.new).shape ≡ (shows self.old).shape }
+        ensures underwent { underwent self.old self.new };
 
     /// Turns the power off and on again, and mounts the disc: its lists are chosen among their copies, which are repaired.
     /// Only on Ready and NotFormatted is the power on afterwards.
@@ -85,9 +92,13 @@ pub trait Sectors {
         ensures cause { PowerCause (shows self.old) (shows self.new) result }
         ensures step { (s : Standing) → stands self.old s
             → PowerStep (shows self.new) (stands self.new) s result }
-        ensures same_shape { (shows self.new).shape ≡ (shows self.old).shape };
+        ensures same_shape { (shows self.new).shape ≡ (shows self.old).shape }
+        ensures underwent { underwent self.old self.new };
 
     ghost laws: { SectorsLaws shows stands };
+
+    /// One call after another, or none, is nothing but events too.
+    ghost underwent_laws: { UnderwentLaws underwent };
 }
 
 /// A disc that can be formatted, expanded and verified, and that tells of itself.
@@ -99,7 +110,8 @@ pub trait Disc: Sectors {
         ensures step { (s : Standing) → Self.stands self.old s
             → FormatStep (Self.shows self.old) (Self.shows self.new) (Self.stands self.new) s kind result }
         ensures completes { FormatCompletes (Self.shows self.old) (Self.shows self.new) kind result }
-        ensures same_shape { (Self.shows self.new).shape ≡ (Self.shows self.old).shape };
+        ensures same_shape { (Self.shows self.new).shape ≡ (Self.shows self.old).shape }
+        ensures underwent { Self.underwent self.old self.new };
 
     /// Gives the disc a smaller capacity, in sectors: its last blocks become supplementary spares. The sectors that are left
     /// stay. Refused, with the capacity, where the disc cannot have this one: 0, no multiple of 16, more than it has, or
@@ -110,7 +122,8 @@ pub trait Disc: Sectors {
         ensures step { (s : Standing) → Self.stands self.old s
             → ExpandStep (Self.stands self.new) s capacity result }
         ensures completes { ExpandCompletes (Self.shows self.old) (Self.shows self.new) capacity result }
-        ensures same_shape { (Self.shows self.new).shape ≡ (Self.shows self.old).shape };
+        ensures same_shape { (Self.shows self.new).shape ≡ (Self.shows self.old).shape }
+        ensures underwent { Self.underwent self.old self.new };
 
     /// Reads each block in which some of `n` sectors from sector `lba` on lie from its home, and gives no bytes of it. What is
     /// buffered does not count, and stays. The answers are those of a read.
@@ -119,7 +132,8 @@ pub trait Disc: Sectors {
         ensures cause { VerifyCause (Self.shows self.old) (Self.shows self.new) lba n result }
         ensures step { (s : Standing) → Self.stands self.old s → VerifyStep (Self.stands self.new) s result }
         ensures completes { ReadCompletes (Self.shows self.old) (Self.shows self.new) lba n result }
-        ensures same_shape { (Self.shows self.new).shape ≡ (Self.shows self.old).shape };
+        ensures same_shape { (Self.shows self.new).shape ≡ (Self.shows self.old).shape }
+        ensures underwent { Self.underwent self.old self.new };
 
     /// What the disc is, and how many of its spares are free. The numbers that depend on a formatted disc are 0 without one.
     fn counts(&self) -> DriveCounts

@@ -23,6 +23,7 @@ mod WriteEnds
 mod WriteTurns
 mod CallSteps
 mod Somes
+mod Happening
 mod Held
 pub mod Behind
 pub mod ReadAhead

@@ -30,6 +30,14 @@ module _ {M : Type 0} {c : ControlGhosts M} {d : Ghosts M} where
   shown_after (powers.Fault off) = shown_off off
   shown_after (powers.NoMemory off) = shown_off off
 
+  -- its medium then
+  abbrev pub medium_after : PowerOn M c d → M
+  medium_after (powers.Ready ready) = ready.medium
+  medium_after (powers.NotFormatted bare) = bare.medium
+  medium_after (powers.Cut off) = off.medium
+  medium_after (powers.Fault off) = off.medium
+  medium_after (powers.NoMemory off) = off.medium
+
   -- how that ended
   abbrev pub power_out : PowerOn M c d → PowerOut
   power_out (powers.Ready ready) = outs.Ready (capacity (shown_ready ready))

@@ -2,13 +2,14 @@
 
 ghost use Rattle.std.specs.Prelude.{◌≡◌, ◌*◌, ◌≤◌, length};
 ghost use Rattle.model_commands.specs.declared.TheConstants.{TRANSFER_LIMIT};
+ghost use Rattle.model_medium.specs.Happened.{Happened};
 ghost use Rattle.model_drive.specs.Reads.{ReadCause, ReadCompletes, ReadIsQuiet, VerifyCause};
 ghost use Rattle.model_drive.specs.Writes.{WriteCause, WriteCompletes};
 ghost use Rattle.model_drive.specs.Power.{PowerCause};
 ghost use Rattle.model_drive.specs.Formats.{FormatCause, FormatCompletes};
 ghost use Rattle.model_drive.specs.Expands.{ExpandCause, ExpandCompletes};
 ghost use Rattle.ram_sectors.specs.declared.TheConstants.{VERIFY_LIMIT};
-ghost use Rattle.ram_volume.specs.Shown.{shown_off, shown_state};
+ghost use Rattle.ram_volume.specs.Shown.{shown_off, shown_state, medium_under};
 ghost use Rattle.ram_volume.specs.Reading.{ReadSteps};
 ghost use Rattle.ram_volume.specs.Writing.{WriteSteps};
 ghost use Rattle.ram_volume.specs.Powers.{PowerSteps};
@@ -37,6 +38,7 @@ pub fn read_state<M: MediumControl>(
     ensures completes { ReadCompletes (shown_state state) (shown_state result.0) lba n result.1 }
     ensures quiet { ReadIsQuiet (shown_state state) (shown_state result.0) lba n result.1 }
     ensures same_shape { (shown_state result.0).shape ≡ (shown_state state).shape }
+    ensures happened { Happened M.takes (medium_under state) (medium_under result.0) }
 {
     match state {
         State::Off(off) => (State::Off(off), ReadOut::Off),
@@ -59,6 +61,7 @@ pub fn write_state<M: MediumControl>(
     ensures some { StandsForSome (shown_state state) → StandsForSome (shown_state result.0) }
     ensures completes { WriteCompletes (shown_state state) (shown_state result.0) lba n result.1 }
     ensures same_shape { (shown_state result.0).shape ≡ (shown_state state).shape }
+    ensures happened { Happened M.takes (medium_under state) (medium_under result.0) }
 {
     match state {
         State::Off(off) => (State::Off(off), WriteOut::Off),
@@ -72,6 +75,7 @@ fn turn_on<M: MediumControl>(off: PoweredOff<M>, alloc: Global) -> (State<M>, Po
     ensures cause { PowerCause (shown_off off) (shown_state result.0) result.1 }
     ensures step { PowerSteps (shown_off off) (shown_state result.0) result.1 }
     ensures same_shape { (shown_state result.0).shape ≡ off.geometry }
+    ensures happened { Happened M.takes off.medium (medium_under result.0) }
 {
     match off.power_on(alloc) {
         PowerOn::Ready(ready) => {
@@ -91,6 +95,7 @@ pub fn power_state<M: MediumControl>(state: State<M>, alloc: Global) -> (State<M
     ensures step { PowerSteps (shown_state state) (shown_state result.0) result.1 }
     ensures some { StandsForSome (shown_state state) → StandsForSome (shown_state result.0) }
     ensures same_shape { (shown_state result.0).shape ≡ (shown_state state).shape }
+    ensures happened { Happened M.takes (medium_under state) (medium_under result.0) }
 {
     match state {
         State::Off(off) => turn_on(off, alloc),
@@ -110,6 +115,7 @@ pub fn format_state<M: MediumControl>(
     ensures some { StandsForSome (shown_state state) → StandsForSome (shown_state result.0) }
     ensures completes { FormatCompletes (shown_state state) (shown_state result.0) kind result.1 }
     ensures same_shape { (shown_state result.0).shape ≡ (shown_state state).shape }
+    ensures happened { Happened M.takes (medium_under state) (medium_under result.0) }
 {
     match state {
         State::Off(off) => (State::Off(off), FormatOut::Off),
@@ -126,6 +132,7 @@ pub fn verify_state<M: MediumControl>(state: State<M>, lba: u32, n: u32) -> (Sta
     ensures some { StandsForSome (shown_state state) → StandsForSome (shown_state result.0) }
     ensures completes { ReadCompletes (shown_state state) (shown_state result.0) lba n result.1 }
     ensures same_shape { (shown_state result.0).shape ≡ (shown_state state).shape }
+    ensures happened { Happened M.takes (medium_under state) (medium_under result.0) }
 {
     match state {
         State::Off(off) => (State::Off(off), ReadOut::Off),
@@ -141,6 +148,7 @@ pub fn expand_state<M: MediumControl>(state: State<M>, capacity: u32) -> (State<
     ensures some { StandsForSome (shown_state state) → StandsForSome (shown_state result.0) }
     ensures completes { ExpandCompletes (shown_state state) (shown_state result.0) capacity result.1 }
     ensures same_shape { (shown_state result.0).shape ≡ (shown_state state).shape }
+    ensures happened { Happened M.takes (medium_under state) (medium_under result.0) }
 {
     match state {
         State::Off(off) => (State::Off(off), ExpandOut::Off),

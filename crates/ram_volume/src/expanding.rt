@@ -1,8 +1,9 @@
 //! Expansions of the supplementary spare area of a formatted disc.
 
 ghost use Rattle.std.specs.Prelude.{◌≡◌};
+ghost use Rattle.model_medium.specs.Happened.{Happened};
 ghost use Rattle.model_drive.specs.Expands.{ExpandCause, ExpandCompletes};
-ghost use Rattle.ram_volume.specs.Shown.{shown_ready, shown_state};
+ghost use Rattle.ram_volume.specs.Shown.{shown_ready, shown_state, medium_under};
 ghost use Rattle.ram_volume.specs.Expanding.{ExpandSteps};
 
 use crate::memory::lay_out;
@@ -28,6 +29,7 @@ impl<M: MediumControl> Ready<M> {
         ensures step { ExpandSteps (shown_ready self) (shown_state result.0) capacity result.1 }
         ensures completes { ExpandCompletes (shown_ready self) (shown_state result.0) capacity result.1 }
         ensures same_shape { (shown_state result.0).shape ≡ self.geometry }
+        ensures happened { Happened M.takes self.medium (medium_under result.0) }
     {
         self.grow_spares(capacity)
     }
@@ -36,6 +38,7 @@ impl<M: MediumControl> Ready<M> {
     fn grow_spares(self, capacity: u32) -> (State<M>, ExpandOut)
         ensures cause { ExpandCause (shown_ready self) (shown_state result.0) capacity result.1 }
         ensures same_shape { (shown_state result.0).shape ≡ self.geometry }
+        ensures happened { Happened M.takes self.medium (medium_under result.0) }
     {
         let Ready {
             mut medium,

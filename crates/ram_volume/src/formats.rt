@@ -5,6 +5,7 @@ ghost use Rattle.model_geometry.specs.declared.TheConstants.{SDL_LIMIT};
 ghost use Rattle.model_geometry.specs.Geometry.{total};
 ghost use Rattle.model_lists.specs.Values.{IsLawfulDds, IsLawfulSdl};
 ghost use Rattle.model_copies.specs.Parts.{AreMarkedWithin};
+ghost use Rattle.model_medium.specs.Happened.{Happened};
 ghost use Rattle.model_places.specs.Valid.{AreValid};
 ghost use Rattle.model_volume.specs.Given.{GivesNone, AreSettled};
 ghost use Rattle.model_drive.specs.declared.Kind.TheVariants as kinds;
@@ -13,7 +14,7 @@ ghost use Rattle.ram_medium.specs.Laws.{machine_shown};
 ghost use Rattle.ram_dds.specs.Dds.{dds_of};
 ghost use Rattle.ram_sdl.specs.Sdl.{sdl_of};
 ghost use Rattle.ram_lists.specs.Lists.{lists_of};
-ghost use Rattle.ram_volume.specs.Shown.{shown_bare, shown_ready, shown_state, shown_unformatted, shown_under};
+ghost use Rattle.ram_volume.specs.Shown.{shown_bare, shown_ready, shown_state, shown_unformatted, shown_under, medium_under};
 ghost use Rattle.ram_volume.specs.Formats.{FormatSteps};
 ghost use Rattle.ram_volume.specs.Layouts.{IsLaidOut};
 
@@ -44,8 +45,9 @@ impl<M: MediumControl> NotFormatted<M> {
         requires draft_roomy { SDL_LIMIT ≤ workspace.draft.entries.room }
         requires layout_roomy { geometry.zones + geometry.psa ≤ workspace.layout.room }
         requires one_each { length workspace.cursors ≡ 1 }
-        ensures { shown_bare result ≡ shown_unformatted geometry
+        ensures shown { shown_bare result ≡ shown_unformatted geometry
             (machine_shown M.world M.arms M.armed_cut medium) mark }
+        ensures medium { result.medium ≡ medium }
     {
         workspace.buffer.drop_all();
         NotFormatted {
@@ -66,6 +68,7 @@ impl<M: MediumControl> NotFormatted<M> {
         ensures step { FormatSteps (shown_bare self) (shown_state result.0) kind result.1 }
         ensures completes { FormatCompletes (shown_bare self) (shown_state result.0) kind result.1 }
         ensures same_shape { (shown_state result.0).shape ≡ self.geometry }
+        ensures happened { Happened M.takes self.medium (medium_under result.0) }
     {
         self.format_anew(alloc, kind)
     }
@@ -75,6 +78,7 @@ impl<M: MediumControl> NotFormatted<M> {
         ensures cause { FormatCause (shown_bare self) (shown_state result.0) kind result.1 }
         ensures step { FormatSteps (shown_bare self) (shown_state result.0) kind result.1 }
         ensures same_shape { (shown_state result.0).shape ≡ self.geometry }
+        ensures happened { Happened M.takes self.medium (medium_under result.0) }
     {
         let _ = kind;
         let NotFormatted {
@@ -145,8 +149,9 @@ impl<M: MediumControl> Ready<M> {
         requires roomy { SDL_LIMIT ≤ lists.sdl.entries.room }
         requires draft_roomy { SDL_LIMIT ≤ workspace.draft.entries.room }
         requires laid_out { IsLaidOut geometry (lists_of lists) workspace.layout workspace.cursors }
-        ensures { shown_ready result ≡ shown_under geometry
+        ensures shown { shown_ready result ≡ shown_under geometry
             (machine_shown M.world M.arms M.armed_cut medium) (lists_of lists) [] }
+        ensures medium { result.medium ≡ medium }
     {
         workspace.buffer.drop_all();
         Ready {
@@ -166,6 +171,7 @@ impl<M: MediumControl> Ready<M> {
         ensures step { FormatSteps (shown_ready self) (shown_state result.0) kind result.1 }
         ensures completes { FormatCompletes (shown_ready self) (shown_state result.0) kind result.1 }
         ensures same_shape { (shown_state result.0).shape ≡ self.geometry }
+        ensures happened { Happened M.takes self.medium (medium_under result.0) }
     {
         match kind {
             Kind::Full { drop_sdl } => self.format_fully(alloc, drop_sdl),
@@ -178,6 +184,7 @@ impl<M: MediumControl> Ready<M> {
         ensures cause { FormatCause (shown_ready self) (shown_state result.0) (kinds.Full drop_sdl) result.1 }
         ensures step { FormatSteps (shown_ready self) (shown_state result.0) (kinds.Full drop_sdl) result.1 }
         ensures same_shape { (shown_state result.0).shape ≡ self.geometry }
+        ensures happened { Happened M.takes self.medium (medium_under result.0) }
     {
         let Ok(kept) = kept_entries(alloc, &self.lists, drop_sdl) else {
             return (State::Ready(self), FormatOut::NoMemory);
@@ -246,6 +253,7 @@ impl<M: MediumControl> Ready<M> {
         ensures cause { FormatCause (shown_ready self) (shown_state result.0) kinds.Rewrite result.1 }
         ensures step { FormatSteps (shown_ready self) (shown_state result.0) kinds.Rewrite result.1 }
         ensures same_shape { (shown_state result.0).shape ≡ self.geometry }
+        ensures happened { Happened M.takes self.medium (medium_under result.0) }
     {
         let Ready {
             mut medium,

@@ -1,11 +1,13 @@
 //! The power goes on, and off.
 
 ghost use Rattle.std.specs.Prelude.{◌≡◌};
+ghost use Rattle.model_medium.specs.Exact.{PowerOff};
+ghost use Rattle.model_medium.specs.Happened.{Happened};
 ghost use Rattle.model_sectors.specs.Discs.{Standing, Off, candidates};
 ghost use Rattle.model_drive.specs.Shown.{StandsFor};
 ghost use Rattle.model_drive.specs.Power.{PowerCause};
 ghost use Rattle.ram_volume.specs.Shown.{shown_off, shown_bare, shown_ready};
-ghost use Rattle.ram_volume.specs.Powers.{turned_off, shown_after, power_out, PowerSteps};
+ghost use Rattle.ram_volume.specs.Powers.{turned_off, shown_after, medium_after, power_out, PowerSteps};
 
 use crate::memory::{Memory, lay_out};
 use crate::states::{NotFormatted, PowerOn, PoweredOff, Ready};
@@ -21,6 +23,7 @@ impl<M: MediumControl> PoweredOff<M> {
         ensures cause { PowerCause (shown_off self) (shown_after result) (power_out result) }
         ensures step { PowerSteps (shown_off self) (shown_after result) (power_out result) }
         ensures same_shape { (shown_after result).shape ≡ self.geometry }
+        ensures happened { Happened M.takes self.medium (medium_after result) }
     {
         let PoweredOff {
             mut medium,
@@ -81,6 +84,7 @@ impl<M: MediumControl> Ready<M> {
         ensures shows { shown_off result ≡ turned_off (shown_ready self) }
         ensures stands { (s : Standing) → StandsFor (shown_ready self) s
             → StandsFor (shown_off result) (Off (candidates s)) }
+        ensures event { M.takes self.medium result.medium PowerOff }
     {
         let Ready {
             mut medium,
@@ -99,6 +103,7 @@ impl<M: MediumControl> NotFormatted<M> {
         ensures shows { shown_off result ≡ turned_off (shown_bare self) }
         ensures stands { (s : Standing) → StandsFor (shown_bare self) s
             → StandsFor (shown_off result) (Off (candidates s)) }
+        ensures event { M.takes self.medium result.medium PowerOff }
     {
         let NotFormatted {
             mut medium,

@@ -3,6 +3,7 @@
 ghost use Rattle.std.specs.Prelude.{◌≡◌, ◌↔◌, ℕ, ◌+◌, ◌-◌, ◌*◌, ◌<◌, ◌≤◌, IsTrue, IfSome, MatchResult, true, false, None, List, length};
 ghost use Rattle.model_commands.specs.declared.TheConstants.{TRANSFER_LIMIT};
 ghost use Rattle.model_geometry.specs.Geometry.{total};
+ghost use Rattle.model_medium.specs.Happened.{Happened};
 ghost use Rattle.model_sectors.specs.Requests.{block_with, blocks_covered, is_partly};
 ghost use Rattle.model_buffer.specs.Buffer.{bytes_at};
 ghost use Rattle.model_buffer.specs.declared.TheConstants.{BUFFERED_BLOCKS};
@@ -14,7 +15,7 @@ ghost use Rattle.ram_layout.specs.Slipping.{slip_pools};
 ghost use Rattle.ram_lists.specs.Lists.{lists_of};
 ghost use Rattle.ram_volume.specs.Blocks.{FetchStopped};
 ghost use Rattle.ram_volume.specs.Reading.{ReadsPart, IsLong, MayPass, PutsNewest, PutsFrom, PartsEnd, ReadSteps, read_end_at};
-ghost use Rattle.ram_volume.specs.Shown.{shown_ready, shown_state};
+ghost use Rattle.ram_volume.specs.Shown.{shown_ready, shown_state, medium_under};
 
 use crate::homes::home;
 use crate::states::{PoweredOff, Ready, State};
@@ -211,6 +212,7 @@ impl<M: MediumControl> Ready<M> {
         ensures step { ReadSteps (shown_ready self) (shown_state result.0) request.lba request.n into.new result.1 }
         ensures quiet { ReadIsQuiet (shown_ready self) (shown_state result.0) request.lba request.n result.1 }
         ensures same_shape { (shown_state result.0).shape ≡ self.geometry }
+        ensures happened { Happened M.takes self.medium (medium_under result.0) }
     {
         let Ready {
             mut medium,
@@ -264,6 +266,7 @@ impl<M: MediumControl> Ready<M> {
         ensures completes { ReadCompletes (shown_ready self) (shown_state result.0) lba n result.1 }
         ensures quiet { ReadIsQuiet (shown_ready self) (shown_state result.0) lba n result.1 }
         ensures same_shape { (shown_state result.0).shape ≡ self.geometry }
+        ensures happened { Happened M.takes self.medium (medium_under result.0) }
     {
         let capacity = self.capacity();
         match Request::within(capacity, lba, n) {

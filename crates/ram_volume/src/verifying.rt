@@ -2,6 +2,7 @@
 
 ghost use Rattle.std.specs.Prelude.{◌≡◌, ◌+◌, ◌≤◌, IsTrue};
 ghost use Rattle.model_geometry.specs.Geometry.{total};
+ghost use Rattle.model_medium.specs.Happened.{Happened};
 ghost use Rattle.model_places.specs.Places.{pools_under, capacity_of};
 ghost use Rattle.model_places.specs.Valid.{AreValid};
 ghost use Rattle.model_drive.specs.Shown.{capacity};
@@ -10,7 +11,7 @@ ghost use Rattle.ram_sectors.specs.declared.TheConstants.{VERIFY_LIMIT};
 ghost use Rattle.ram_layout.specs.Slipping.{slip_pools};
 ghost use Rattle.ram_lists.specs.Lists.{lists_of};
 ghost use Rattle.ram_volume.specs.Verifying.{HomesEnd, VerifySteps};
-ghost use Rattle.ram_volume.specs.Shown.{shown_ready, shown_state};
+ghost use Rattle.ram_volume.specs.Shown.{shown_ready, shown_state, medium_under};
 
 use crate::homes::home;
 use crate::reading::ended_at;
@@ -58,6 +59,7 @@ impl<M: MediumControl> Ready<M> {
         requires inside { request.lba + request.n ≤ capacity (shown_ready self) }
         ensures cause { VerifyCause (shown_ready self) (shown_state result.0) request.lba request.n result.1 }
         ensures same_shape { (shown_state result.0).shape ≡ self.geometry }
+        ensures happened { Happened M.takes self.medium (medium_under result.0) }
     {
         let Ready {
             mut medium,
@@ -104,6 +106,7 @@ impl<M: MediumControl> Ready<M> {
         ensures step { VerifySteps (shown_ready self) (shown_state result.0) result.1 }
         ensures completes { ReadCompletes (shown_ready self) (shown_state result.0) lba n result.1 }
         ensures same_shape { (shown_state result.0).shape ≡ self.geometry }
+        ensures happened { Happened M.takes self.medium (medium_under result.0) }
     {
         let capacity = self.capacity();
         match Request::within(capacity, lba, n) {

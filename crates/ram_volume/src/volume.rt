@@ -107,14 +107,18 @@ impl<M: MediumControl> Volume<M> {
 }
 
 impl<M: MediumControl> Sectors for Volume<M> {
+    ghost use Rattle.model_medium.specs.Happened.{Happened};
+    ghost use Rattle.model_medium.proofs.Happening.{happened_none, happened_then};
     ghost use Rattle.model_drive.specs.Shown.{StandsFor};
     ghost use Rattle.ram_volume.specs.Volume.{state_in};
-    ghost use Rattle.ram_volume.specs.Drives.{shown_by};
+    ghost use Rattle.ram_volume.specs.Drives.{shown_by, medium_by};
     ghost use Rattle.ram_volume.specs.Sounding.{sound_state};
 
     ghost shows = { λ volume. shown_by volume };
 
     ghost stands = { λ volume s. StandsFor (shown_by volume) s };
+
+    ghost underwent = { λ old new. Happened M.takes (medium_by old) (medium_by new) };
 
     fn capacity(&self) -> Option<u32> {
         match &self.state {
@@ -149,6 +153,11 @@ impl<M: MediumControl> Sectors for Volume<M> {
       some = λ volume. volume.some;
       sound = λ volume. sound_state M.laws.as_many M.control_laws.to_come M.control_laws.arms_to_come
           (state_in volume.state volume.held);
+    } };
+
+    ghost underwent_laws = { record {
+      none = λ volume. happened_none M.takes (medium_by volume);
+      adds_up = λ a b c one two. happened_then M.takes (medium_by a) (medium_by b) (medium_by c) one two;
     } };
 }
 

@@ -3,6 +3,7 @@
 
 ghost use Rattle.std.specs.Prelude.{◌≡◌, ◌+◌, ◌*◌, ◌<◌, ◌≤◌, IsTrue, MatchResult, length};
 ghost use Rattle.model_commands.specs.declared.TheConstants.{TRANSFER_LIMIT};
+ghost use Rattle.model_medium.specs.Happened.{Happened};
 ghost use Rattle.model_places.specs.Places.{logical_count, capacity_of};
 ghost use Rattle.model_volume.specs.Given.{AreSettled};
 ghost use Rattle.model_drive.specs.Shown.{capacity};
@@ -11,7 +12,7 @@ ghost use Rattle.ram_medium.specs.Laws.{machine_shown};
 ghost use Rattle.ram_layout.specs.Slipping.{slip_pools};
 ghost use Rattle.ram_lists.specs.Lists.{lists_of};
 ghost use Rattle.ram_lists.specs.Fit.{IsFit};
-ghost use Rattle.ram_volume.specs.Shown.{shown_ready, shown_state};
+ghost use Rattle.ram_volume.specs.Shown.{shown_ready, shown_state, medium_under};
 ghost use Rattle.ram_volume.specs.Writing.{BringsRest, RestStopped, WritesPart, PartStops, EndsParts, StopsParts, WriteSteps};
 
 use crate::fetching::read_home;
@@ -137,6 +138,7 @@ fn write_parts<M: MediumControl>(
         (StopsParts geometry.now (machine_shown M.world M.arms M.armed_cut medium.old)
         (machine_shown M.world M.arms M.armed_cut medium.new) (lists_of lists.old) workspace.old.buffer
         request.lba request.n from.now) }
+    ensures happened { Happened M.takes medium.old medium.new }
     ensures fit { IsFit geometry.now (M.block_count medium.new) (slip_pools workspace.new.layout) workspace.new.cursors
         lists.new workspace.new.draft }
     ensures same_layout { workspace.new.layout ≡ workspace.old.layout }
@@ -166,6 +168,7 @@ impl<M: MediumControl> Ready<M> {
         ensures cause { WriteCause (shown_ready self) (shown_state result.0) request.lba request.n result.1 }
         ensures step { WriteSteps (shown_ready self) (shown_state result.0) request.lba request.n from.now result.1 }
         ensures same_shape { (shown_state result.0).shape ≡ self.geometry }
+        ensures happened { Happened M.takes self.medium (medium_under result.0) }
     {
         let Ready {
             mut medium,
@@ -222,6 +225,7 @@ impl<M: MediumControl> Ready<M> {
         ensures step { WriteSteps (shown_ready self) (shown_state result.0) lba n from.now result.1 }
         ensures completes { WriteCompletes (shown_ready self) (shown_state result.0) lba n result.1 }
         ensures same_shape { (shown_state result.0).shape ≡ self.geometry }
+        ensures happened { Happened M.takes self.medium (medium_under result.0) }
     {
         let capacity = self.capacity();
         match Request::within(capacity, lba, n) {

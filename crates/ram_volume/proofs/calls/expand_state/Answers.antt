@@ -1,6 +1,7 @@
 use Rattle.std.proofs.Common.{ap, refl}
 use Rattle.ram_volume.specs.Shown.{shown_off, shown_bare, shown_ready, shown_state}
 use Rattle.ram_volume.proofs.ExpandCalls.{expand_steps_off, expand_steps_bare, expand_steps_of, expand_keeps}
+use Rattle.model_medium.proofs.Happening.{happened_none}
 use Rattle.ram_volume.proofs.calls.expand_state.Goals as goal
 
 pub returns-in-Off-clause-step : goal.returns-in-Off-clause-step
@@ -20,3 +21,11 @@ returns-in-Ready-clause-some g c =
 pub returns-in-NotFormatted-clause-step : goal.returns-in-NotFormatted-clause-step
 returns-in-NotFormatted-clause-step g c =
     expand_steps_bare (shown_state c.args.state) (shown_bare c.in-NotFormatted.bare) (ap (λ state. shown_state state) c.in-NotFormatted.is) c.args.capacity c.in-NotFormatted.bare.on refl
+
+pub returns-in-Off-clause-happened : goal.returns-in-Off-clause-happened
+returns-in-Off-clause-happened g c =
+    rw c.in-Off.is (happened_none g.M.Medium.takes c.in-Off.off.medium)
+
+pub returns-in-NotFormatted-clause-happened : goal.returns-in-NotFormatted-clause-happened
+returns-in-NotFormatted-clause-happened g c =
+    rw c.in-NotFormatted.is (happened_none g.M.Medium.takes c.in-NotFormatted.bare.medium)

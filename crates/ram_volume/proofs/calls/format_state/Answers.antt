@@ -2,6 +2,7 @@ use Rattle.std.proofs.Common.{ap}
 use Rattle.ram_volume.specs.Shown.{shown_off, shown_bare, shown_ready, shown_state}
 use Rattle.ram_volume.proofs.CallSteps.{format_steps_off, format_steps_of}
 use Rattle.ram_volume.proofs.Somes.{format_keeps}
+use Rattle.model_medium.proofs.Happening.{happened_none}
 use Rattle.ram_volume.proofs.calls.format_state.Goals as goal
 
 pub returns-in-Off-clause-step : goal.returns-in-Off-clause-step
@@ -28,3 +29,7 @@ returns-in-NotFormatted-clause-some g c =
     format_keeps (shown_state c.args.state) (shown_bare c.in-NotFormatted.bare) (shown_state c.format-in-NotFormatted.result.0)
     (ap (λ state. shown_state state) c.in-NotFormatted.is) c.args.kind c.format-in-NotFormatted.result.1
     c.format-in-NotFormatted.ensures.cause c.format-in-NotFormatted.ensures.step
+
+pub returns-in-Off-clause-happened : goal.returns-in-Off-clause-happened
+returns-in-Off-clause-happened g c =
+    rw c.in-Off.is (happened_none g.M.Medium.takes c.in-Off.off.medium)

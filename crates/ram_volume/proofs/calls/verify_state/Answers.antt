@@ -1,6 +1,7 @@
 use Rattle.std.proofs.Common.{ap}
 use Rattle.ram_volume.specs.Shown.{shown_off, shown_ready, shown_state}
 use Rattle.ram_volume.proofs.VerifyCalls.{verify_steps_off, verify_keeps}
+use Rattle.model_medium.proofs.Happening.{happened_none}
 use Rattle.ram_volume.proofs.calls.verify_state.Goals as goal
 
 pub returns-in-Off-clause-step : goal.returns-in-Off-clause-step
@@ -11,3 +12,11 @@ pub returns-in-Ready-clause-some : goal.returns-in-Ready-clause-some
 returns-in-Ready-clause-some g c =
     verify_keeps (shown_state c.args.state) (shown_ready c.in-Ready.ready) (shown_state c.verify.result.0) (ap (λ state. shown_state state) c.in-Ready.is)
     c.args.lba c.args.n c.verify.result.1 c.verify.ensures.cause c.verify.ensures.step
+
+pub returns-in-Off-clause-happened : goal.returns-in-Off-clause-happened
+returns-in-Off-clause-happened g c =
+    rw c.in-Off.is (happened_none g.M.Medium.takes c.in-Off.off.medium)
+
+pub returns-in-NotFormatted-clause-happened : goal.returns-in-NotFormatted-clause-happened
+returns-in-NotFormatted-clause-happened g c =
+    rw c.in-NotFormatted.is (happened_none g.M.Medium.takes c.in-NotFormatted.bare.medium)

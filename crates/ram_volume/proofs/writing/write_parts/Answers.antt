@@ -7,6 +7,8 @@ use Rattle.ram_lists.specs.Lists.{lists_of}
 use Rattle.ram_requests.proofs.Moves.{in_block}
 use Rattle.ram_volume.specs.declared.writing.Wrote.TheVariants as wrote
 use Rattle.ram_volume.specs.Writing.{WritesPart, PartStops}
+use Rattle.model_medium.proofs.Happening.{happened_none, happened_then}
+use Rattle.ram_volume.proofs.Happening.{wrote_happened, write_stop_happened}
 use Rattle.ram_volume.proofs.WriteTurns.{wrote_none}
 use Rattle.ram_volume.proofs.WriteEnds.{wrote_all, wrote_one_more, part_within, part_stopped, part_unread, part_spareless, part_unlisted}
 use Rattle.ram_volume.proofs.writing.write_parts.Goals as goal
@@ -14,6 +16,7 @@ use Rattle.ram_volume.proofs.writing.write_parts.Goals as goal
 pub loop-k-init : goal.loop-k-init
 loop-k-init g c = record {
   so_far = wrote_none g.M.Medium.world g.M.Medium.block_count g.M.Medium.reaches g.M.Medium.takes g.M.MediumControl.arms g.M.MediumControl.armed_cut g.met.M.Medium.laws g.met.M.MediumControl.control_laws c.args.geometry.now c.args.medium.now (lists_of c.args.lists.now) c.args.workspace.now.buffer c.args.request.lba c.args.request.n c.args.from.now c.requires.on c.requires.inside c.requires.settled;
+  happened = happened_none g.M.Medium.takes c.args.medium.now;
   fit = c.requires.fit;
   same_layout = refl;
 }
@@ -101,6 +104,9 @@ loop-k-preserved g c =
       so_far = wrote_one_more g.M.Medium.world g.M.Medium.block_count g.M.Medium.reaches g.M.Medium.takes g.M.MediumControl.arms g.M.MediumControl.armed_cut g.met.M.Medium.laws g.met.M.MediumControl.control_laws c.args.geometry.now
           c.args.medium.now c.loop-k.medium (lists_of c.args.lists.now) (lists_of c.loop-k.lists) c.args.workspace.now.buffer c.loop-k.workspace.buffer c.args.request.lba c.args.request.n c.args.from.now c.loop-k.k c.loop-k.invariant.so_far
           c.requires.fit.valid c.requires.inside c.requires.whole covered c.write_part.new.medium (lists_of c.write_part.new.lists) c.write_part.new.workspace.buffer did;
+      happened = happened_then g.M.Medium.takes c.args.medium.now c.loop-k.medium c.write_part.new.medium c.loop-k.invariant.happened
+          (wrote_happened g.M.Medium.world g.M.Medium.reaches g.M.Medium.takes g.met.M.Medium.happened c.args.geometry.now c.loop-k.medium c.write_part.new.medium (lists_of c.loop-k.lists) c.loop-k.workspace.buffer c.part-part.result.request.lba c.part-part.result.request.n c.part-part.result.block c.args.from.now
+          c.loop-k.invariant.so_far.blocks.wrote.ends.is_on (lists_of c.write_part.new.lists) c.write_part.new.workspace.buffer wrote.Done (rw c.in-Done.is at c.in_ok-write_part.ensures.rule));
       fit = c.write_part.ensures.fit;
       same_layout = c.write_part.ensures.same_layout ∙ c.loop-k.invariant.same_layout;
     }
@@ -113,3 +119,30 @@ returns-clause-rule g c =
 
 pub returns-clause-fit : goal.returns-clause-fit
 returns-clause-fit g c = c.loop-k.invariant.fit
+
+pub returns-in-NoRest-clause-happened : goal.returns-in-NoRest-clause-happened
+returns-in-NoRest-clause-happened g c =
+    happened_then g.M.Medium.takes c.args.medium.now c.loop-k.medium c.write_part.new.medium c.loop-k.invariant.happened
+    (wrote_happened g.M.Medium.world g.M.Medium.reaches g.M.Medium.takes g.met.M.Medium.happened c.args.geometry.now c.loop-k.medium c.write_part.new.medium (lists_of c.loop-k.lists) c.loop-k.workspace.buffer c.part-part.result.request.lba c.part-part.result.request.n c.part-part.result.block c.args.from.now
+    c.loop-k.invariant.so_far.blocks.wrote.ends.is_on (lists_of c.write_part.new.lists) c.write_part.new.workspace.buffer wrote.NoRest (rw c.in-NoRest.is at c.in_ok-write_part.ensures.rule))
+
+pub returns-in-NoSpare-clause-happened : goal.returns-in-NoSpare-clause-happened
+returns-in-NoSpare-clause-happened g c =
+    happened_then g.M.Medium.takes c.args.medium.now c.loop-k.medium c.write_part.new.medium c.loop-k.invariant.happened
+    (wrote_happened g.M.Medium.world g.M.Medium.reaches g.M.Medium.takes g.met.M.Medium.happened c.args.geometry.now c.loop-k.medium c.write_part.new.medium (lists_of c.loop-k.lists) c.loop-k.workspace.buffer c.part-part.result.request.lba c.part-part.result.request.n c.part-part.result.block c.args.from.now
+    c.loop-k.invariant.so_far.blocks.wrote.ends.is_on (lists_of c.write_part.new.lists) c.write_part.new.workspace.buffer wrote.NoSpare (rw c.in-NoSpare.is at c.in_ok-write_part.ensures.rule))
+
+pub returns-in-NoUpdate-clause-happened : goal.returns-in-NoUpdate-clause-happened
+returns-in-NoUpdate-clause-happened g c =
+    happened_then g.M.Medium.takes c.args.medium.now c.loop-k.medium c.write_part.new.medium c.loop-k.invariant.happened
+    (wrote_happened g.M.Medium.world g.M.Medium.reaches g.M.Medium.takes g.met.M.Medium.happened c.args.geometry.now c.loop-k.medium c.write_part.new.medium (lists_of c.loop-k.lists) c.loop-k.workspace.buffer c.part-part.result.request.lba c.part-part.result.request.n c.part-part.result.block c.args.from.now
+    c.loop-k.invariant.so_far.blocks.wrote.ends.is_on (lists_of c.write_part.new.lists) c.write_part.new.workspace.buffer (wrote.NoUpdate c.in-NoUpdate.counter) (rw c.in-NoUpdate.is at c.in_ok-write_part.ensures.rule))
+
+pub returns-in_err-write_part-clause-happened : goal.returns-in_err-write_part-clause-happened
+returns-in_err-write_part-clause-happened g c =
+    happened_then g.M.Medium.takes c.args.medium.now c.loop-k.medium c.write_part.new.medium c.loop-k.invariant.happened
+    (write_stop_happened g.M.Medium.world g.M.Medium.reaches g.M.Medium.takes g.met.M.Medium.happened c.args.geometry.now c.loop-k.medium c.write_part.new.medium (lists_of c.loop-k.lists) c.loop-k.workspace.buffer c.part-part.result.request.lba c.part-part.result.request.n c.part-part.result.block c.args.from.now
+    c.loop-k.invariant.so_far.blocks.wrote.ends.is_on c.in_err-write_part.field-0.0 c.in_err-write_part.ensures.rule)
+
+pub returns-clause-happened : goal.returns-clause-happened
+returns-clause-happened g c = c.loop-k.invariant.happened

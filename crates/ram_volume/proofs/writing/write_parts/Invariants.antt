@@ -1,5 +1,6 @@
 use Rattle.std.specs.Prelude.{◌≡◌}
 use Rattle.ram_layout.specs.Slipping.{slip_pools}
+use Rattle.model_medium.specs.Happened.{Happened}
 use Rattle.ram_medium.specs.Laws.{machine_shown}
 use Rattle.ram_lists.specs.Lists.{lists_of}
 use Rattle.ram_lists.specs.Fit.{IsFit}
@@ -12,4 +13,5 @@ invariant-loop-k g l = record {
       (lists_of l.fn.lists) (lists_of l.lists) l.fn.workspace.buffer l.workspace.buffer l.request.lba l.request.n l.from l.k;
   fit : IsFit l.geometry (g.M.Medium.block_count l.medium) (slip_pools l.workspace.layout) l.workspace.cursors l.lists l.workspace.draft;
   same_layout : l.workspace.layout ≡ l.fn.workspace.layout;
+  happened : Happened g.M.Medium.takes l.fn.medium l.medium;
 }

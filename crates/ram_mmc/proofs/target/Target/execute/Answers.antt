@@ -19,3 +19,11 @@ returns-in-Formatted-clause-step g c = inr (
       c.args.self.now.host c.execute_on-in-Formatted.new.self.host c.args.cdb.now c.args.payload.now c.execute_on-in-Formatted.result c.execute_on-in-Formatted.new.data_in.items
       c.in-Formatted.ensures.rule.0 c.execute_on-in-Formatted.ensures.step,
 )
+
+pub returns-in-NotFormatted-clause-underwent : goal.returns-in-NotFormatted-clause-underwent
+returns-in-NotFormatted-clause-underwent g c =
+    g.met.D.Sectors.underwent_laws.adds_up c.args.self.now.disc c.look_at.new.disc c.execute_on.new.self.disc c.look_at.ensures.underwent c.execute_on.ensures.underwent
+
+pub returns-in-Formatted-clause-underwent : goal.returns-in-Formatted-clause-underwent
+returns-in-Formatted-clause-underwent g c =
+    g.met.D.Sectors.underwent_laws.adds_up c.args.self.now.disc c.look_at.new.disc c.execute_on-in-Formatted.new.self.disc c.look_at.ensures.underwent c.execute_on-in-Formatted.ensures.underwent

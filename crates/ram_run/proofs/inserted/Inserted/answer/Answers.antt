@@ -7,7 +7,8 @@ use Rattle.ram_run.proofs.inserted.Inserted.answer.Goals as goal
 pub returns-in-Disc-Power-clause-step : goal.returns-in-Disc-Power-clause-step
 returns-in-Disc-Power-clause-step g c = rw (c.in-Disc-Power.is-0, c.in-Disc-Power.is-1)
     (inserted_left g.D.Sectors g.D.Drive.lies_in g.D.Image.Image g.met.D.Sectors.laws g.met.D.Drive.drive_laws c.in-Disc-Power.target c.power.new.self lines.Power c.args.payload.now c.power_outcome.result c.clear.new.self.items
-    (record { out = c.power.result; powered = c.power.ensures.rule; outcome_is = c.power_outcome.ensures }, c.clear.ensures.items) c.power.ensures.same_shape tt)
+    (record { out = c.power.result; powered = c.power.ensures.rule; outcome_is = c.power_outcome.ensures }, c.clear.ensures.items) c.power.ensures.same_shape
+    (g.met.D.Drive.drive_laws.by_events c.in-Disc-Power.target.disc c.power.new.self.disc c.power.ensures.underwent))
 
 pub returns-in-Disc-Fail-clause-step : goal.returns-in-Disc-Fail-clause-step
 returns-in-Disc-Fail-clause-step g c = rw (c.in-Disc-Fail.is-0, c.in-Disc-Fail.is-1)
@@ -27,7 +28,8 @@ returns-in-Disc-Cut-clause-step g c = rw (c.in-Disc-Cut.is-0, c.in-Disc-Cut.is-1
 pub returns-in-Disc-Command-clause-step : goal.returns-in-Disc-Command-clause-step
 returns-in-Disc-Command-clause-step g c = rw (c.in-Disc-Command.is-0, c.in-Disc-Command.is-1)
     (inserted_left g.D.Sectors g.D.Drive.lies_in g.D.Image.Image g.met.D.Sectors.laws g.met.D.Drive.drive_laws c.in-Disc-Command.target c.execute-answer.new.self (lines.Command c.in-Disc-Command.cdb) c.args.payload.now c.command_outcome.result c.execute-answer.new.data_in.items
-    (record { answer = c.execute-answer.result; step = c.execute-answer.ensures.step; outcome_is = c.command_outcome.ensures }) c.execute-answer.ensures.same_shape tt)
+    (record { answer = c.execute-answer.result; step = c.execute-answer.ensures.step; outcome_is = c.command_outcome.ensures }) c.execute-answer.ensures.same_shape
+    (g.met.D.Drive.drive_laws.by_events c.in-Disc-Command.target.disc c.execute-answer.new.self.disc c.execute-answer.ensures.underwent))
 
 pub returns-in-Disc-Command-clause-printable : goal.returns-in-Disc-Command-clause-printable
 returns-in-Disc-Command-clause-printable g c = rw c.command_outcome.ensures

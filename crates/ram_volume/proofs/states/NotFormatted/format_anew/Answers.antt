@@ -8,6 +8,10 @@ use Rattle.ram_lists.specs.Lists.{lists_of}
 use Rattle.ram_volume.specs.Shown.{shown_bare}
 use Rattle.ram_volume.specs.Formats.{FormatSteps}
 use Rattle.ram_volume.proofs.FormatAnswers.{bare_good, bare_good_steps, bare_many, bare_lost, lost_leaves, bare_cut, bare_fault, bare_cut_steps, bare_fault_steps}
+use Rattle.model_medium.specs.Happened.{Happened}
+use Rattle.std.proofs.Common.{inl, inr}
+use Rattle.ram_medium.proofs.Parts.{nothing_happened, part_happened, stop_happened}
+use Rattle.model_stops.specs.declared.Stop.TheVariants as stops
 use Rattle.ram_volume.proofs.states.NotFormatted.format_anew.Goals as goal
 
 pub over-bare-requires-in-Err-NoRoom-clause-bare : goal.over-bare-requires-in-Err-NoRoom-clause-bare
@@ -24,22 +28,22 @@ over-bare-requires-in-Err-NoCopy-clause-bare g c =
 
 pub returns-in-Ok-clause-cause : goal.returns-in-Ok-clause-cause
 returns-in-Ok-clause-cause g c =
-    subst (λ (x : Shown). FormatCause (shown_bare c.args.self) x c.args.kind outs.Good) (sym c.over-ready.ensures)
+    subst (λ (x : Shown). FormatCause (shown_bare c.args.self) x c.args.kind outs.Good) (sym c.over-ready.ensures.shown)
     (bare_good g.M.Medium.world g.M.Medium.reaches g.M.Medium.takes g.M.MediumControl.arms g.M.MediumControl.armed_cut g.met.M.MediumControl.control_laws c.args.self.geometry c.args.self.medium c.format_lists.new.medium c.args.self.mark c.args.kind (lists_of c.in-Ok.lists) c.in-Ok.ensures.rule)
 
 pub returns-in-Ok-clause-step : goal.returns-in-Ok-clause-step
 returns-in-Ok-clause-step g c =
-    subst (λ (x : Shown). FormatSteps (shown_bare c.args.self) x c.args.kind outs.Good) (sym c.over-ready.ensures)
+    subst (λ (x : Shown). FormatSteps (shown_bare c.args.self) x c.args.kind outs.Good) (sym c.over-ready.ensures.shown)
     (bare_good_steps g.M.Medium.world g.M.Medium.reaches g.M.Medium.takes g.M.MediumControl.arms g.M.MediumControl.armed_cut g.met.M.MediumControl.control_laws c.args.self.geometry c.args.self.medium c.format_lists.new.medium c.args.self.mark c.args.kind (lists_of c.in-Ok.lists) c.in-Ok.ensures.rule)
 
 pub returns-in-Err-TooMany-clause-cause : goal.returns-in-Err-TooMany-clause-cause
 returns-in-Err-TooMany-clause-cause g c =
-    subst (λ (x : Shown). FormatCause (shown_bare c.args.self) x c.args.kind (outs.TooMany c.in-Err-TooMany.found)) (sym c.over-bare.ensures)
+    subst (λ (x : Shown). FormatCause (shown_bare c.args.self) x c.args.kind (outs.TooMany c.in-Err-TooMany.found)) (sym c.over-bare.ensures.shown)
     (bare_many g.M.Medium.world g.M.Medium.reaches g.M.Medium.takes g.M.MediumControl.arms g.M.MediumControl.armed_cut g.met.M.MediumControl.control_laws c.args.self.geometry c.args.self.medium c.format_lists.new.medium c.args.self.mark c.args.kind c.in-Err-TooMany.found c.in-Err-TooMany.mark (rw c.in-Err-TooMany.field-0-is at c.in-Err-TooMany.ensures.rule))
 
 pub returns-in-Err-NoCopy-clause-cause : goal.returns-in-Err-NoCopy-clause-cause
 returns-in-Err-NoCopy-clause-cause g c =
-    subst (λ (x : Shown). FormatCause (shown_bare c.args.self) x c.args.kind (outs.NoUpdate c.in-Err-NoCopy.counter)) (sym c.over-bare-in-Err-NoCopy.ensures)
+    subst (λ (x : Shown). FormatCause (shown_bare c.args.self) x c.args.kind (outs.NoUpdate c.in-Err-NoCopy.counter)) (sym c.over-bare-in-Err-NoCopy.ensures.shown)
     (bare_lost g.M.Medium.world g.M.Medium.reaches g.M.Medium.takes g.M.MediumControl.arms g.M.MediumControl.armed_cut g.met.M.MediumControl.control_laws c.args.self.geometry c.args.self.medium c.format_lists.new.medium c.args.self.mark c.args.kind c.in-Err-NoCopy.counter c.in-Err-NoCopy.mark (rw c.in-Err-NoCopy.field-0-is at c.in-Err-NoCopy.ensures.rule))
 
 pub returns-in-Err-Stopped-Cut-clause-cause : goal.returns-in-Err-Stopped-Cut-clause-cause
@@ -57,3 +61,42 @@ returns-in-Err-Stopped-Fault-clause-cause g c =
 pub returns-in-Err-Stopped-Fault-clause-step : goal.returns-in-Err-Stopped-Fault-clause-step
 returns-in-Err-Stopped-Fault-clause-step g c =
     bare_fault_steps g.M.Medium.world g.M.Medium.reaches g.M.Medium.takes g.M.MediumControl.arms g.M.MediumControl.armed_cut g.met.M.MediumControl.control_laws c.args.self.geometry c.args.self.medium c.format_lists.new.medium c.args.self.mark c.args.kind (rw (c.in-Err-Stopped-Fault.field-0-is, c.in-Err-Stopped-Fault.field-0-0-is) at c.in-Err-Stopped-Fault.ensures.rule)
+
+pub returns-in-Ok-clause-happened : goal.returns-in-Ok-clause-happened
+returns-in-Ok-clause-happened g c =
+    subst (Happened g.M.Medium.takes c.args.self.medium) (sym c.over-ready.ensures.medium)
+    (part_happened g.M.Medium.world g.M.Medium.reaches g.M.Medium.takes g.met.M.Medium.happened c.args.self.medium c.format_lists.new.medium _ c.in-Ok.ensures.rule.goes.continues)
+
+pub returns-in-Err-TooMany-clause-happened : goal.returns-in-Err-TooMany-clause-happened
+returns-in-Err-TooMany-clause-happened g c =
+    subst (Happened g.M.Medium.takes c.args.self.medium) (sym c.over-bare.ensures.medium)
+    (part_happened g.M.Medium.world g.M.Medium.reaches g.M.Medium.takes g.met.M.Medium.happened c.args.self.medium c.format_lists.new.medium _ (rw c.in-Err-TooMany.field-0-is at c.in-Err-TooMany.ensures.rule).goes.continues)
+
+pub returns-in-Err-NoCopy-clause-happened : goal.returns-in-Err-NoCopy-clause-happened
+returns-in-Err-NoCopy-clause-happened g c =
+    subst (Happened g.M.Medium.takes c.args.self.medium) (sym c.over-bare-in-Err-NoCopy.ensures.medium)
+    (elim (rw c.in-Err-NoCopy.field-0-is at c.in-Err-NoCopy.ensures.rule) [
+      | inl one ↦ part_happened g.M.Medium.world g.M.Medium.reaches g.M.Medium.takes g.met.M.Medium.happened c.args.self.medium c.format_lists.new.medium _ one.goes.continues
+      | inr later ↦ elim later [
+        | inl two ↦ part_happened g.M.Medium.world g.M.Medium.reaches g.M.Medium.takes g.met.M.Medium.happened c.args.self.medium c.format_lists.new.medium _ two.goes.continues
+        | inr three ↦ part_happened g.M.Medium.world g.M.Medium.reaches g.M.Medium.takes g.met.M.Medium.happened c.args.self.medium c.format_lists.new.medium _ three.goes.continues
+      ]
+    ])
+
+pub returns-in-Err-Stopped-Cut-clause-happened : goal.returns-in-Err-Stopped-Cut-clause-happened
+returns-in-Err-Stopped-Cut-clause-happened g c =
+    stop_happened g.M.Medium.world g.M.Medium.reaches g.M.Medium.takes g.met.M.Medium.happened c.args.self.medium c.format_lists.new.medium _ stops.Cut c.args.self.on (rw (c.in-Err-Stopped-Cut.field-0-is, c.in-Err-Stopped-Cut.field-0-0-is) at c.in-Err-Stopped-Cut.ensures.rule).stops
+
+pub returns-in-Err-Stopped-Fault-clause-happened : goal.returns-in-Err-Stopped-Fault-clause-happened
+returns-in-Err-Stopped-Fault-clause-happened g c =
+    stop_happened g.M.Medium.world g.M.Medium.reaches g.M.Medium.takes g.met.M.Medium.happened c.args.self.medium c.format_lists.new.medium _ stops.Fault c.args.self.on (rw (c.in-Err-Stopped-Fault.field-0-is, c.in-Err-Stopped-Fault.field-0-0-is) at c.in-Err-Stopped-Fault.ensures.rule).stops
+
+pub returns-in-Err-NoRoom-clause-happened : goal.returns-in-Err-NoRoom-clause-happened
+returns-in-Err-NoRoom-clause-happened g c =
+    subst (Happened g.M.Medium.takes c.args.self.medium) (sym c.over-bare-in-Err-NoRoom.ensures.medium)
+    (nothing_happened g.M.Medium.world g.M.Medium.reaches g.M.Medium.takes g.met.M.Medium.happened c.args.self.medium c.format_lists.new.medium (rw c.in-Err-NoRoom.field-0-is at c.in-Err-NoRoom.ensures.rule).nothing)
+
+pub returns-clause-happened : goal.returns-clause-happened
+returns-clause-happened g c =
+    subst (Happened g.M.Medium.takes c.args.self.medium) (sym c.over-bare-in-Err-NoMemory.ensures.medium)
+    (nothing_happened g.M.Medium.world g.M.Medium.reaches g.M.Medium.takes g.met.M.Medium.happened c.args.self.medium c.format_lists.new.medium (rw c.in-Err-NoMemory.field-0-is at c.in-Err-NoMemory.ensures.rule).nothing)

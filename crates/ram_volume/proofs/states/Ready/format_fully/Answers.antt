@@ -10,6 +10,11 @@ use Rattle.ram_format.proofs.Keeps.{are_apart, are_kept}
 use Rattle.ram_volume.specs.Shown.{shown_ready}
 use Rattle.ram_volume.specs.Formats.{FormatSteps}
 use Rattle.ram_volume.proofs.FormatAnswers.{full_good, full_good_steps, full_many, full_many_steps, full_lost, full_lost_steps, lost_leaves, full_cut, full_fault, full_cut_steps, full_fault_steps}
+use Rattle.model_medium.specs.Happened.{Happened}
+use Rattle.std.proofs.Common.{inl, inr}
+use Rattle.ram_medium.proofs.Parts.{nothing_happened, part_happened, stop_happened}
+use Rattle.model_stops.specs.declared.Stop.TheVariants as stops
+use Rattle.model_medium.proofs.Happening.{happened_none}
 use Rattle.ram_volume.proofs.states.Ready.format_fully.Goals as goal
 
 pub kept_entries-requires : goal.kept_entries-requires
@@ -26,22 +31,22 @@ format_lists-requires-clause-marked g c =
 
 pub returns-in-Ok-format_lists-clause-cause : goal.returns-in-Ok-format_lists-clause-cause
 returns-in-Ok-format_lists-clause-cause g c =
-    subst (λ (x : Shown). FormatCause (shown_ready c.args.self) x (kinds.Full c.args.drop_sdl) outs.Good) (sym c.over-ready.ensures)
+    subst (λ (x : Shown). FormatCause (shown_ready c.args.self) x (kinds.Full c.args.drop_sdl) outs.Good) (sym c.over-ready.ensures.shown)
     (full_good g.M.Medium.world g.M.Medium.reaches g.M.Medium.takes g.M.MediumControl.arms g.M.MediumControl.armed_cut g.met.M.MediumControl.control_laws c.args.self.geometry c.args.self.medium c.format_lists.new.medium (lists_of c.args.self.lists) c.args.self.workspace.buffer c.args.drop_sdl c.deref.result.now (rw c.deref.ensures.value c.in-Ok.ensures) (lists_of c.in-Ok-format_lists.lists) c.in-Ok-format_lists.ensures.rule)
 
 pub returns-in-Ok-format_lists-clause-step : goal.returns-in-Ok-format_lists-clause-step
 returns-in-Ok-format_lists-clause-step g c =
-    subst (λ (x : Shown). FormatSteps (shown_ready c.args.self) x (kinds.Full c.args.drop_sdl) outs.Good) (sym c.over-ready.ensures)
+    subst (λ (x : Shown). FormatSteps (shown_ready c.args.self) x (kinds.Full c.args.drop_sdl) outs.Good) (sym c.over-ready.ensures.shown)
     (full_good_steps g.M.Medium.world g.M.Medium.reaches g.M.Medium.takes g.M.MediumControl.arms g.M.MediumControl.armed_cut g.met.M.MediumControl.control_laws c.args.self.geometry c.args.self.medium c.format_lists.new.medium (lists_of c.args.self.lists) c.args.self.workspace.buffer c.args.drop_sdl c.deref.result.now (rw c.deref.ensures.value c.in-Ok.ensures) (lists_of c.in-Ok-format_lists.lists) c.in-Ok-format_lists.ensures.rule)
 
 pub returns-in-Err-TooMany-clause-cause : goal.returns-in-Err-TooMany-clause-cause
 returns-in-Err-TooMany-clause-cause g c =
-    subst (λ (x : Shown). FormatCause (shown_ready c.args.self) x (kinds.Full c.args.drop_sdl) (outs.TooMany c.in-Err-TooMany.found)) (sym c.over-bare.ensures)
+    subst (λ (x : Shown). FormatCause (shown_ready c.args.self) x (kinds.Full c.args.drop_sdl) (outs.TooMany c.in-Err-TooMany.found)) (sym c.over-bare.ensures.shown)
     (full_many g.M.Medium.world g.M.Medium.reaches g.M.Medium.takes g.M.MediumControl.arms g.M.MediumControl.armed_cut g.met.M.MediumControl.control_laws c.args.self.geometry c.args.self.medium c.format_lists.new.medium (lists_of c.args.self.lists) c.args.self.workspace.buffer c.args.drop_sdl c.deref.result.now (rw c.deref.ensures.value c.in-Ok.ensures) c.in-Err-TooMany.found c.in-Err-TooMany.mark (rw c.in-Err-TooMany.field-0-is at c.in-Err-TooMany.ensures.rule))
 
 pub returns-in-Err-NoCopy-clause-cause : goal.returns-in-Err-NoCopy-clause-cause
 returns-in-Err-NoCopy-clause-cause g c =
-    subst (λ (x : Shown). FormatCause (shown_ready c.args.self) x (kinds.Full c.args.drop_sdl) (outs.NoUpdate c.in-Err-NoCopy.counter)) (sym c.over-bare-in-Err-NoCopy.ensures)
+    subst (λ (x : Shown). FormatCause (shown_ready c.args.self) x (kinds.Full c.args.drop_sdl) (outs.NoUpdate c.in-Err-NoCopy.counter)) (sym c.over-bare-in-Err-NoCopy.ensures.shown)
     (full_lost g.M.Medium.world g.M.Medium.reaches g.M.Medium.takes g.M.MediumControl.arms g.M.MediumControl.armed_cut g.met.M.MediumControl.control_laws c.args.self.geometry c.args.self.medium c.format_lists.new.medium (lists_of c.args.self.lists) c.args.self.workspace.buffer c.args.drop_sdl c.deref.result.now (rw c.deref.ensures.value c.in-Ok.ensures) c.in-Err-NoCopy.counter c.in-Err-NoCopy.mark (rw c.in-Err-NoCopy.field-0-is at c.in-Err-NoCopy.ensures.rule))
 
 pub returns-in-Err-Stopped-Cut-clause-cause : goal.returns-in-Err-Stopped-Cut-clause-cause
@@ -62,7 +67,7 @@ returns-in-Err-Stopped-Fault-clause-step g c =
 
 pub returns-in-Err-TooMany-clause-step : goal.returns-in-Err-TooMany-clause-step
 returns-in-Err-TooMany-clause-step g c =
-    subst (λ (x : Shown). FormatSteps (shown_ready c.args.self) x (kinds.Full c.args.drop_sdl) (outs.TooMany c.in-Err-TooMany.found)) (sym c.over-bare.ensures)
+    subst (λ (x : Shown). FormatSteps (shown_ready c.args.self) x (kinds.Full c.args.drop_sdl) (outs.TooMany c.in-Err-TooMany.found)) (sym c.over-bare.ensures.shown)
     (full_many_steps g.M.Medium.world g.M.Medium.reaches g.M.Medium.takes g.M.MediumControl.arms g.M.MediumControl.armed_cut g.met.M.MediumControl.control_laws c.args.self.geometry c.args.self.medium c.format_lists.new.medium (lists_of c.args.self.lists) c.args.self.workspace.buffer c.args.drop_sdl c.deref.result.now (rw c.deref.ensures.value c.in-Ok.ensures) c.in-Err-TooMany.found c.in-Err-TooMany.mark (rw c.in-Err-TooMany.field-0-is at c.in-Err-TooMany.ensures.rule))
 
 pub over-bare-requires-in-Err-NoCopy-clause-bare : goal.over-bare-requires-in-Err-NoCopy-clause-bare
@@ -71,5 +76,45 @@ over-bare-requires-in-Err-NoCopy-clause-bare g c =
 
 pub returns-in-Err-NoCopy-clause-step : goal.returns-in-Err-NoCopy-clause-step
 returns-in-Err-NoCopy-clause-step g c =
-    subst (λ (x : Shown). FormatSteps (shown_ready c.args.self) x (kinds.Full c.args.drop_sdl) (outs.NoUpdate c.in-Err-NoCopy.counter)) (sym c.over-bare-in-Err-NoCopy.ensures)
+    subst (λ (x : Shown). FormatSteps (shown_ready c.args.self) x (kinds.Full c.args.drop_sdl) (outs.NoUpdate c.in-Err-NoCopy.counter)) (sym c.over-bare-in-Err-NoCopy.ensures.shown)
     (full_lost_steps g.M.Medium.world g.M.Medium.reaches g.M.Medium.takes g.M.MediumControl.arms g.M.MediumControl.armed_cut g.met.M.MediumControl.control_laws c.args.self.geometry c.args.self.medium c.format_lists.new.medium (lists_of c.args.self.lists) c.args.self.workspace.buffer c.args.drop_sdl c.deref.result.now (rw c.deref.ensures.value c.in-Ok.ensures) c.in-Err-NoCopy.counter c.in-Err-NoCopy.mark (rw c.in-Err-NoCopy.field-0-is at c.in-Err-NoCopy.ensures.rule))
+
+pub returns-in-Ok-format_lists-clause-happened : goal.returns-in-Ok-format_lists-clause-happened
+returns-in-Ok-format_lists-clause-happened g c =
+    subst (Happened g.M.Medium.takes c.args.self.medium) (sym c.over-ready.ensures.medium)
+    (part_happened g.M.Medium.world g.M.Medium.reaches g.M.Medium.takes g.met.M.Medium.happened c.args.self.medium c.format_lists.new.medium _ c.in-Ok-format_lists.ensures.rule.goes.continues)
+
+pub returns-in-Err-TooMany-clause-happened : goal.returns-in-Err-TooMany-clause-happened
+returns-in-Err-TooMany-clause-happened g c =
+    subst (Happened g.M.Medium.takes c.args.self.medium) (sym c.over-bare.ensures.medium)
+    (part_happened g.M.Medium.world g.M.Medium.reaches g.M.Medium.takes g.met.M.Medium.happened c.args.self.medium c.format_lists.new.medium _ (rw c.in-Err-TooMany.field-0-is at c.in-Err-TooMany.ensures.rule).goes.continues)
+
+pub returns-in-Err-NoCopy-clause-happened : goal.returns-in-Err-NoCopy-clause-happened
+returns-in-Err-NoCopy-clause-happened g c =
+    subst (Happened g.M.Medium.takes c.args.self.medium) (sym c.over-bare-in-Err-NoCopy.ensures.medium)
+    (elim (rw c.in-Err-NoCopy.field-0-is at c.in-Err-NoCopy.ensures.rule) [
+      | inl one ↦ part_happened g.M.Medium.world g.M.Medium.reaches g.M.Medium.takes g.met.M.Medium.happened c.args.self.medium c.format_lists.new.medium _ one.goes.continues
+      | inr later ↦ elim later [
+        | inl two ↦ part_happened g.M.Medium.world g.M.Medium.reaches g.M.Medium.takes g.met.M.Medium.happened c.args.self.medium c.format_lists.new.medium _ two.goes.continues
+        | inr three ↦ part_happened g.M.Medium.world g.M.Medium.reaches g.M.Medium.takes g.met.M.Medium.happened c.args.self.medium c.format_lists.new.medium _ three.goes.continues
+      ]
+    ])
+
+pub returns-in-Err-Stopped-Cut-clause-happened : goal.returns-in-Err-Stopped-Cut-clause-happened
+returns-in-Err-Stopped-Cut-clause-happened g c =
+    stop_happened g.M.Medium.world g.M.Medium.reaches g.M.Medium.takes g.met.M.Medium.happened c.args.self.medium c.format_lists.new.medium _ stops.Cut c.args.self.on (rw (c.in-Err-Stopped-Cut.field-0-is, c.in-Err-Stopped-Cut.field-0-0-is) at c.in-Err-Stopped-Cut.ensures.rule).stops
+
+pub returns-in-Err-Stopped-Fault-clause-happened : goal.returns-in-Err-Stopped-Fault-clause-happened
+returns-in-Err-Stopped-Fault-clause-happened g c =
+    stop_happened g.M.Medium.world g.M.Medium.reaches g.M.Medium.takes g.met.M.Medium.happened c.args.self.medium c.format_lists.new.medium _ stops.Fault c.args.self.on (rw (c.in-Err-Stopped-Fault.field-0-is, c.in-Err-Stopped-Fault.field-0-0-is) at c.in-Err-Stopped-Fault.ensures.rule).stops
+
+pub returns-in-Err-NoRoom-clause-happened : goal.returns-in-Err-NoRoom-clause-happened
+returns-in-Err-NoRoom-clause-happened g c =
+    nothing_happened g.M.Medium.world g.M.Medium.reaches g.M.Medium.takes g.met.M.Medium.happened c.args.self.medium c.format_lists.new.medium (rw c.in-Err-NoRoom.field-0-is at c.in-Err-NoRoom.ensures.rule).nothing
+
+pub returns-clause-happened : goal.returns-clause-happened
+returns-clause-happened g c =
+    nothing_happened g.M.Medium.world g.M.Medium.reaches g.M.Medium.takes g.met.M.Medium.happened c.args.self.medium c.format_lists.new.medium (rw c.in-Err-NoMemory.field-0-is at c.in-Err-NoMemory.ensures.rule).nothing
+
+pub returns-in_default-clause-happened : goal.returns-in_default-clause-happened
+returns-in_default-clause-happened g c = happened_none g.M.Medium.takes c.args.self.medium

@@ -6,16 +6,19 @@ use Rattle.model_drive.specs.Expands.{ExpandCause}
 use Rattle.ram_lists.specs.Lists.{lists_of}
 use Rattle.ram_volume.specs.Shown.{shown_ready}
 use Rattle.ram_volume.proofs.ExpandCauses.{good_cause, vain_cause, stopped_cause}
+use Rattle.std.proofs.Common.{inl, inr}
+use Rattle.model_medium.specs.Happened.{Happened}
+use Rattle.ram_medium.proofs.Parts.{nothing_happened, part_happened, stop_happened}
 use Rattle.ram_volume.proofs.states.Ready.grow_spares.Goals as goal
 
 pub returns-in-Ok-Good-clause-cause : goal.returns-in-Ok-Good-clause-cause
 returns-in-Ok-Good-clause-cause g c =
-    subst (λ (x : Shown). ExpandCause (shown_ready c.args.self) x c.args.capacity outs.Good) (sym c.over-ready.ensures)
+    subst (λ (x : Shown). ExpandCause (shown_ready c.args.self) x c.args.capacity outs.Good) (sym c.over-ready.ensures.shown)
     (good_cause g.M.Medium.world g.M.Medium.reaches g.M.Medium.takes g.M.MediumControl.arms g.M.MediumControl.armed_cut g.met.M.MediumControl.control_laws c.args.self.geometry (lists_of c.args.self.lists) c.args.self.workspace.buffer c.args.self.medium c.grow.new.medium c.args.capacity (lists_of c.grow.new.lists) (rw c.in-Ok-Good.field-0-is at c.in-Ok-Good.ensures.rule))
 
 pub returns-in-Ok-NoUpdate-clause-cause : goal.returns-in-Ok-NoUpdate-clause-cause
 returns-in-Ok-NoUpdate-clause-cause g c =
-    subst (λ (x : Shown). ExpandCause (shown_ready c.args.self) x c.args.capacity (outs.NoUpdate c.in-Ok-NoUpdate.counter)) (sym c.over-ready-in-Ok-NoUpdate.ensures)
+    subst (λ (x : Shown). ExpandCause (shown_ready c.args.self) x c.args.capacity (outs.NoUpdate c.in-Ok-NoUpdate.counter)) (sym c.over-ready-in-Ok-NoUpdate.ensures.shown)
     (vain_cause g.M.Medium.world g.M.Medium.reaches g.M.Medium.takes g.M.MediumControl.arms g.M.MediumControl.armed_cut g.met.M.MediumControl.control_laws c.args.self.geometry (lists_of c.args.self.lists) c.args.self.workspace.buffer c.args.self.medium c.grow.new.medium c.args.capacity (lists_of c.grow.new.lists) c.in-Ok-NoUpdate.counter (rw c.in-Ok-NoUpdate.field-0-is at c.in-Ok-NoUpdate.ensures.rule))
 
 pub returns-in-Err-Cut-clause-cause : goal.returns-in-Err-Cut-clause-cause
@@ -25,3 +28,28 @@ returns-in-Err-Cut-clause-cause g c =
 pub returns-clause-cause : goal.returns-clause-cause
 returns-clause-cause g c =
     stopped_cause g.M.Medium.world g.M.Medium.reaches g.M.Medium.takes g.M.MediumControl.arms g.M.MediumControl.armed_cut g.met.M.MediumControl.control_laws c.args.self.geometry (lists_of c.args.self.lists) c.args.self.workspace.buffer c.args.self.medium c.grow.new.medium c.args.capacity (lists_of c.grow.new.lists) stops.Fault (rw c.in-Err-Fault.field-0-is at c.in-Err-Fault.ensures.rule)
+
+pub returns-in-Ok-Good-clause-happened : goal.returns-in-Ok-Good-clause-happened
+returns-in-Ok-Good-clause-happened g c =
+    subst (Happened g.M.Medium.takes c.args.self.medium) (sym c.over-ready.ensures.medium)
+    (elim (rw c.in-Ok-Good.field-0-is at c.in-Ok-Good.ensures.rule) [
+      | inl keeps ↦ part_happened g.M.Medium.world g.M.Medium.reaches g.M.Medium.takes g.met.M.Medium.happened c.args.self.medium c.grow.new.medium _ keeps.ended.continues
+      | inr grown ↦ part_happened g.M.Medium.world g.M.Medium.reaches g.M.Medium.takes g.met.M.Medium.happened c.args.self.medium c.grow.new.medium _ grown.ended.continues
+    ])
+
+pub returns-in-Ok-Refused-clause-happened : goal.returns-in-Ok-Refused-clause-happened
+returns-in-Ok-Refused-clause-happened g c =
+    nothing_happened g.M.Medium.world g.M.Medium.reaches g.M.Medium.takes g.met.M.Medium.happened c.args.self.medium c.grow.new.medium (rw c.in-Ok-Refused.field-0-is at c.in-Ok-Refused.ensures.rule).does.nothing
+
+pub returns-in-Ok-NoUpdate-clause-happened : goal.returns-in-Ok-NoUpdate-clause-happened
+returns-in-Ok-NoUpdate-clause-happened g c =
+    subst (Happened g.M.Medium.takes c.args.self.medium) (sym c.over-ready-in-Ok-NoUpdate.ensures.medium)
+    (part_happened g.M.Medium.world g.M.Medium.reaches g.M.Medium.takes g.met.M.Medium.happened c.args.self.medium c.grow.new.medium _ (rw c.in-Ok-NoUpdate.field-0-is at c.in-Ok-NoUpdate.ensures.rule).ended.continues)
+
+pub returns-in-Err-Cut-clause-happened : goal.returns-in-Err-Cut-clause-happened
+returns-in-Err-Cut-clause-happened g c =
+    stop_happened g.M.Medium.world g.M.Medium.reaches g.M.Medium.takes g.met.M.Medium.happened c.args.self.medium c.grow.new.medium _ stops.Cut c.args.self.on (rw c.in-Err-Cut.field-0-is at c.in-Err-Cut.ensures.rule).stopped.stops
+
+pub returns-clause-happened : goal.returns-clause-happened
+returns-clause-happened g c =
+    stop_happened g.M.Medium.world g.M.Medium.reaches g.M.Medium.takes g.met.M.Medium.happened c.args.self.medium c.grow.new.medium _ stops.Fault c.args.self.on (rw c.in-Err-Fault.field-0-is at c.in-Err-Fault.ensures.rule).stopped.stops

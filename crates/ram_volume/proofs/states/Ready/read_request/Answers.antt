@@ -3,6 +3,8 @@ use Rattle.model_stops.specs.declared.Stop.TheVariants as stops
 use Rattle.model_sectors.specs.declared.ReadOut.TheVariants as outs
 use Rattle.ram_lists.specs.Lists.{lists_of}
 use Rattle.ram_volume.proofs.ReadShown.{read_cause, read_steps, read_quiet, read_on, read_settled, cut_cause, cut_steps, fault_cause, fault_steps, stopped_quiet}
+use Rattle.ram_medium.proofs.Parts.{stop_happened}
+use Rattle.ram_volume.proofs.Happening.{read_happened}
 use Rattle.ram_volume.proofs.states.Ready.read_request.Goals as goal
 
 pub invariant_of-ready : goal.invariant_of-ready
@@ -64,3 +66,15 @@ pub returns-clause-quiet : goal.returns-clause-quiet
 returns-clause-quiet g c =
     stopped_quiet g.M.Medium.world g.M.Medium.reaches g.M.Medium.takes g.M.MediumControl.arms g.M.MediumControl.armed_cut g.met.M.MediumControl.control_laws c.args.self.geometry (lists_of c.args.self.lists)
     c.args.self.medium c.read_parts.new.medium c.args.self.workspace.buffer c.args.request.lba c.args.request.n c.args.self.on c.requires.inside stops.Fault (rw c.in-Err-Fault.field-0-is at c.in-Err-Fault.ensures.rule) outs.Fault
+
+pub returns-in-Ok-clause-happened : goal.returns-in-Ok-clause-happened
+returns-in-Ok-clause-happened g c =
+    read_happened g.M.Medium.world g.M.Medium.reaches g.M.Medium.takes g.met.M.Medium.happened c.args.self.medium c.read_parts.new.medium c.args.self.geometry (lists_of c.args.self.lists) c.args.request.lba c.args.request.n c.args.self.workspace.buffer c.read_parts.new.buffer c.read_parts.new.into c.in-Ok.met c.in-Ok.ensures.rule
+
+pub returns-in-Err-Cut-clause-happened : goal.returns-in-Err-Cut-clause-happened
+returns-in-Err-Cut-clause-happened g c =
+    stop_happened g.M.Medium.world g.M.Medium.reaches g.M.Medium.takes g.met.M.Medium.happened c.args.self.medium c.read_parts.new.medium _ stops.Cut c.args.self.on (rw c.in-Err-Cut.field-0-is at c.in-Err-Cut.ensures.rule).stops
+
+pub returns-clause-happened : goal.returns-clause-happened
+returns-clause-happened g c =
+    stop_happened g.M.Medium.world g.M.Medium.reaches g.M.Medium.takes g.met.M.Medium.happened c.args.self.medium c.read_parts.new.medium _ stops.Fault c.args.self.on (rw c.in-Err-Fault.field-0-is at c.in-Err-Fault.ensures.rule).stops

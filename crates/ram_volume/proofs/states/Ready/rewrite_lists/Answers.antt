@@ -7,26 +7,29 @@ use Rattle.ram_lists.specs.Lists.{lists_of}
 use Rattle.ram_volume.specs.Shown.{shown_ready}
 use Rattle.ram_volume.specs.Formats.{FormatSteps}
 use Rattle.ram_volume.proofs.FormatAnswers.{rewritten, rewritten_steps, lacking, lacking_steps, rewrite_cut, rewrite_cut_steps, rewrite_fault, rewrite_fault_steps}
+use Rattle.model_medium.specs.Happened.{Happened}
+use Rattle.ram_medium.proofs.Parts.{part_happened, stop_happened}
+use Rattle.model_stops.specs.declared.Stop.TheVariants as stops
 use Rattle.ram_volume.proofs.states.Ready.rewrite_lists.Goals as goal
 
 pub returns-in-Ok-None-clause-cause : goal.returns-in-Ok-None-clause-cause
 returns-in-Ok-None-clause-cause g c =
-    subst (λ (x : Shown). FormatCause (shown_ready c.args.self) x kinds.Rewrite outs.Good) (sym c.over-ready.ensures)
+    subst (λ (x : Shown). FormatCause (shown_ready c.args.self) x kinds.Rewrite outs.Good) (sym c.over-ready.ensures.shown)
     (rewritten g.M.Medium.world g.M.Medium.reaches g.M.Medium.takes g.M.MediumControl.arms g.M.MediumControl.armed_cut g.met.M.MediumControl.control_laws c.args.self.geometry c.args.self.medium c.repair_lists.new.medium (lists_of c.args.self.lists) c.args.self.workspace.buffer c.args.self.valid (rw c.in-Ok-None.field-0-is at c.in-Ok-None.ensures.rule))
 
 pub returns-in-Ok-None-clause-step : goal.returns-in-Ok-None-clause-step
 returns-in-Ok-None-clause-step g c =
-    subst (λ (x : Shown). FormatSteps (shown_ready c.args.self) x kinds.Rewrite outs.Good) (sym c.over-ready.ensures)
+    subst (λ (x : Shown). FormatSteps (shown_ready c.args.self) x kinds.Rewrite outs.Good) (sym c.over-ready.ensures.shown)
     (rewritten_steps g.M.Medium.world g.M.Medium.reaches g.M.Medium.takes g.M.MediumControl.arms g.M.MediumControl.armed_cut g.met.M.MediumControl.control_laws c.args.self.geometry c.args.self.medium c.repair_lists.new.medium (lists_of c.args.self.lists) c.args.self.workspace.buffer c.args.self.valid (rw c.in-Ok-None.field-0-is at c.in-Ok-None.ensures.rule))
 
 pub returns-in-Ok-Some-clause-cause : goal.returns-in-Ok-Some-clause-cause
 returns-in-Ok-Some-clause-cause g c =
-    subst (λ (x : Shown). FormatCause (shown_ready c.args.self) x kinds.Rewrite (outs.NoUpdate c.in-Ok-Some.counter)) (sym c.over-ready-in-Ok-Some.ensures)
+    subst (λ (x : Shown). FormatCause (shown_ready c.args.self) x kinds.Rewrite (outs.NoUpdate c.in-Ok-Some.counter)) (sym c.over-ready-in-Ok-Some.ensures.shown)
     (lacking g.M.Medium.world g.M.Medium.reaches g.M.Medium.takes g.M.MediumControl.arms g.M.MediumControl.armed_cut g.met.M.MediumControl.control_laws c.args.self.geometry c.args.self.medium c.repair_lists.new.medium (lists_of c.args.self.lists) c.args.self.workspace.buffer c.args.self.valid c.in-Ok-Some.counter (rw c.in-Ok-Some.field-0-is at c.in-Ok-Some.ensures.rule))
 
 pub returns-in-Ok-Some-clause-step : goal.returns-in-Ok-Some-clause-step
 returns-in-Ok-Some-clause-step g c =
-    subst (λ (x : Shown). FormatSteps (shown_ready c.args.self) x kinds.Rewrite (outs.NoUpdate c.in-Ok-Some.counter)) (sym c.over-ready-in-Ok-Some.ensures)
+    subst (λ (x : Shown). FormatSteps (shown_ready c.args.self) x kinds.Rewrite (outs.NoUpdate c.in-Ok-Some.counter)) (sym c.over-ready-in-Ok-Some.ensures.shown)
     (lacking_steps g.M.Medium.world g.M.Medium.reaches g.M.Medium.takes g.M.MediumControl.arms g.M.MediumControl.armed_cut g.met.M.MediumControl.control_laws c.args.self.geometry c.args.self.medium c.repair_lists.new.medium (lists_of c.args.self.lists) c.args.self.workspace.buffer c.args.self.valid c.in-Ok-Some.counter (rw c.in-Ok-Some.field-0-is at c.in-Ok-Some.ensures.rule))
 
 pub returns-in-Err-Cut-clause-cause : goal.returns-in-Err-Cut-clause-cause
@@ -44,3 +47,21 @@ returns-clause-cause g c =
 pub returns-clause-step : goal.returns-clause-step
 returns-clause-step g c =
     rewrite_fault_steps g.M.Medium.world g.M.Medium.reaches g.M.Medium.takes g.M.MediumControl.arms g.M.MediumControl.armed_cut g.met.M.MediumControl.control_laws c.args.self.geometry c.args.self.medium c.repair_lists.new.medium (lists_of c.args.self.lists) c.args.self.workspace.buffer (rw c.in-Err-Fault.field-0-is at c.in-Err-Fault.ensures.rule)
+
+pub returns-in-Ok-None-clause-happened : goal.returns-in-Ok-None-clause-happened
+returns-in-Ok-None-clause-happened g c =
+    subst (Happened g.M.Medium.takes c.args.self.medium) (sym c.over-ready.ensures.medium)
+    (part_happened g.M.Medium.world g.M.Medium.reaches g.M.Medium.takes g.met.M.Medium.happened c.args.self.medium c.repair_lists.new.medium _ (rw c.in-Ok-None.field-0-is at c.in-Ok-None.ensures.rule).both.continues)
+
+pub returns-in-Ok-Some-clause-happened : goal.returns-in-Ok-Some-clause-happened
+returns-in-Ok-Some-clause-happened g c =
+    subst (Happened g.M.Medium.takes c.args.self.medium) (sym c.over-ready-in-Ok-Some.ensures.medium)
+    (part_happened g.M.Medium.world g.M.Medium.reaches g.M.Medium.takes g.met.M.Medium.happened c.args.self.medium c.repair_lists.new.medium _ (rw c.in-Ok-Some.field-0-is at c.in-Ok-Some.ensures.rule).both.continues)
+
+pub returns-in-Err-Cut-clause-happened : goal.returns-in-Err-Cut-clause-happened
+returns-in-Err-Cut-clause-happened g c =
+    stop_happened g.M.Medium.world g.M.Medium.reaches g.M.Medium.takes g.met.M.Medium.happened c.args.self.medium c.repair_lists.new.medium _ stops.Cut c.args.self.on (rw c.in-Err-Cut.field-0-is at c.in-Err-Cut.ensures.rule).stops
+
+pub returns-clause-happened : goal.returns-clause-happened
+returns-clause-happened g c =
+    stop_happened g.M.Medium.world g.M.Medium.reaches g.M.Medium.takes g.met.M.Medium.happened c.args.self.medium c.repair_lists.new.medium _ stops.Fault c.args.self.on (rw c.in-Err-Fault.field-0-is at c.in-Err-Fault.ensures.rule).stops
