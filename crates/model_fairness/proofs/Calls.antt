@@ -14,15 +14,16 @@ use Rattle.model_sectors.specs.declared.ReadOut.{ReadOut}
 use Rattle.model_sectors.specs.declared.ReadOut.TheVariants as reads
 use Rattle.model_sectors.specs.declared.PowerOut.{PowerOut}
 use Rattle.model_sectors.specs.declared.PowerOut.TheVariants as powers
-use Rattle.model_sectors.specs.Requests.{block_with}
+use Rattle.model_sectors.specs.Requests.{block_with, NamesBlock}
+use Rattle.model_sectors.proofs.Covering.{block_with_start}
 use Rattle.std.specs.Option.{option_map_or}
 use Rattle.std.specs.List.{Contains}
 use Rattle.model_lists.specs.Values.{defectives}
 use Rattle.model_pools.specs.Listed.{replacements}
-use Rattle.model_places.specs.Places.{Lists, spares}
-use Rattle.model_places.proofs.Free.{Contains-free_spares}
+use Rattle.model_places.specs.Places.{Lists, pools_under, spares_of, free_spares}
+use Rattle.model_pools.proofs.Free.{Contains-free_in}
 use Rattle.model_volume.proofs.ValidDecided.{contains_decided}
-use Rattle.model_volume.proofs.Validity.{defective_member}
+use Rattle.model_pools.proofs.Members.{defective_member}
 use Rattle.model_volume.specs.Given.{IsGiven, GivesNone}
 use Rattle.model_volume.specs.Expansions.{lists_expanded}
 use Rattle.model_volume.proofs.GivenFacts.{given_before, given_seen, chosen_given}
@@ -37,7 +38,7 @@ use Rattle.model_drive.specs.declared.Kind.TheVariants as kinds
 use Rattle.model_drive.specs.Shown.{Shown, IsKnown, IsOn, IsFormatted, cells_in, home}
 use Rattle.model_drive.specs.Sound.{IsSound}
 use Rattle.model_drive.specs.Parts.{KeepsLists, AreSameOrDead, OnlyDies, IsStopped, GivesNoOthers}
-use Rattle.model_drive.specs.Course.{IsUsable, free_at, Placing, ToSpare, TookCourse, lists_reached}
+use Rattle.model_drive.specs.Course.{IsUsable, Placing, ToSpare, TookCourse, lists_reached}
 use Rattle.model_drive.specs.Power.{MountsAny, PowerCause}
 use Rattle.model_drive.specs.Reads.{StopsInRead, ReadCause, VerifyCause}
 use Rattle.model_drive.specs.Writes.{LacksSpare, EndsWriting, StopsInWrite, WriteCause, next_block}
@@ -272,6 +273,10 @@ module _ (old new : Shown) (same : new.shape ≡ old.shape) where
 
 -- ---- no spare
 
+-- the sector that is named lies in the block
+named_block : (lba n named k : ℕ) → NamesBlock lba n named k → block_with named ≡ block_with lba + k
+named_block lba n named k is = ap block_with is.first ∙ block_with_start lba n k is.covered
+
 alive_decided : (cell : Cell) → (cell ≡ Dead) ⊎ ¬ (cell ≡ Dead)
 alive_decided Blank = inr (λ e. cc)
 alive_decided (Good bytes) = inr (λ e. cc)
@@ -279,10 +284,13 @@ alive_decided Torn = inr (λ e. cc)
 alive_decided Dead = inl refl
 
 module _ (old new : Shown) (lba n named : ℕ) (lists : Lists) (fair : GivesUpDeadAlone new) (lacks : LacksSpare old new lba n named) (is : new.lists ≡ Some lists)
-    (spare : ℕ) (has : Contains (spares new.shape lists) spare) (replaces : ¬ Contains (replacements lists.sdl.entries) spare) where
+    (spare : ℕ) (has : Contains (spares_of new.shape lists (block_with named)) spare) (replaces : ¬ Contains (replacements lists.sdl.entries) spare) where
+  its : Contains (spares_of new.shape lists (next_block lba lacks.course)) spare
+  its = subst (λ (i : ℕ). Contains (spares_of new.shape lists i) spare) (named_block lba n named (length lacks.course) lacks.is_named) has
+
   usable : ¬ Contains (defectives lists.sdl.entries) spare → ¬ (cell_at (cells_in new) spare ≡ Dead) → IsUsable new (next_block lba lacks.course) spare
   usable sound alive = record {
-    free = subst (λ (o : Option Lists). Contains (option_map_or (λ (l : Lists). free_at new.shape l (next_block lba lacks.course)) o []) spare) (sym is) (Contains-free_spares new.shape lists spare has sound replaces);
+    free = subst (λ (o : Option Lists). Contains (option_map_or (λ (l : Lists). free_spares new.shape l (next_block lba lacks.course)) o []) spare) (sym is) (Contains-free_in (pools_under new.shape lists) lists.sdl.entries (next_block lba lacks.course) spare its sound replaces);
     lives = alive;
   }
 

@@ -9,11 +9,13 @@ use Rattle.model_lists.specs.declared.sdl.SdlEntry.{SdlEntry}
 use Rattle.model_lists.specs.Values.{with_entry, pair, retired}
 use Rattle.model_medium.specs.Cells.{Cell, Dead, cell_at}
 use Rattle.model_pools.specs.Listed.{is_listed}
-use Rattle.model_places.specs.Places.{Lists, unreplaced, logical_block, home_of, free_spares, spares}
+use Rattle.model_pools.specs.Pools.{spares_in}
+use Rattle.model_pools.specs.Moves.{with_retired, former, tried_of}
+use Rattle.model_places.specs.Places.{Lists, pools_of, logical_block, home_of, free_spares}
 use Rattle.model_pools.proofs.Replacements.{Contains-first, Contains-later}
-use Rattle.model_volume.specs.Moves.{with_retired, former, tried_of, lists_moved}
+use Rattle.model_volume.specs.Moves.{lists_moved}
 use Rattle.model_volume.specs.Expansions.{entry_expanded, lists_expanded}
-use Rattle.model_volume.proofs.Validity.{put_members}
+use Rattle.model_pools.proofs.Members.{put_members}
 use Rattle.model_lists.specs.declared.dds.PdlEntry.{PdlEntry}
 use Rattle.model_formats.specs.Fresh.{fresh_lists}
 use Rattle.model_drive.specs.Course.{Placing, ToHome, ToSpare, AreDead, WentTo, lists_placed}
@@ -70,22 +72,22 @@ own_dead cells own entries fair (Some entry) is dead =
     ap (cell_at cells) (sym has.1) ∙ fair entry has.0
 
 module _ (shape : Shape) (cells : List Cell) (lists : Lists) (fair : IsFair cells lists) where
-  moved_fair : (i tried spare : ℕ) → cell_at cells (home_of shape lists i) ≡ Dead → AreDead cells (free_spares shape lists) tried
-      → IsFair cells (lists_moved shape lists i (tried_of (free_spares shape lists) tried) spare)
+  moved_fair : (i tried spare : ℕ) → cell_at cells (home_of shape lists i) ≡ Dead → AreDead cells (free_spares shape lists i) tried
+      → IsFair cells (lists_moved shape lists i (tried_of (free_spares shape lists i) tried) spare)
   moved_fair i tried spare dead all_dead =
-      let own = logical_block shape lists.dds i in
-      former_fair cells own (home_of shape lists i) (with_entry (pair own spare) (with_retired (tried_of (free_spares shape lists) tried) lists.sdl.entries)) dead
-      (put_fair cells (pair own spare) (with_retired (tried_of (free_spares shape lists) tried) lists.sdl.entries)
+      let own = logical_block shape lists i in
+      former_fair cells own (home_of shape lists i) (with_entry (pair own spare) (with_retired (tried_of (free_spares shape lists i) tried) lists.sdl.entries)) dead
+      (put_fair cells (pair own spare) (with_retired (tried_of (free_spares shape lists i) tried) lists.sdl.entries)
       (own_dead cells own lists.sdl.entries fair (find (λ (e : SdlEntry). e.defective == own) lists.sdl.entries) refl dead)
-      (tried_fair cells (free_spares shape lists) tried lists.sdl.entries all_dead fair))
+      (tried_fair cells (free_spares shape lists i) tried lists.sdl.entries all_dead fair))
 
   pub placed_fair : (i : ℕ) (placing : Placing) → WentTo shape cells lists i placing → IsFair cells (lists_placed shape lists i placing)
   placed_fair i ToHome went = fair
-  placed_fair i (ToSpare tried) went = moved_fair i tried (slice_index (free_spares shape lists) tried) went.0 went.1
+  placed_fair i (ToSpare tried) went = moved_fair i tried (slice_index (free_spares shape lists i) tried) went.0 went.1
 
   -- an expansion names the same blocks
   expanded_same : (ssa : ℕ) (entry : SdlEntry) → (entry_expanded shape lists.dds ssa entry).defective ≡ entry.defective
-  expanded_same ssa entry = by_test (is_listed (spares shape (unreplaced lists.dds ssa)) entry.defective)
+  expanded_same ssa entry = by_test (is_listed (spares_in (pools_of shape lists.dds ssa)) entry.defective)
     where
       by_test : (listed : Bool) → (if listed then retired entry.defective else entry).defective ≡ entry.defective
       by_test true = refl

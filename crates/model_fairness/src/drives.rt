@@ -4,9 +4,10 @@
 ghost use Rattle.std.specs.Prelude.{◌≡◌, ℕ, Some, None, List};
 ghost use Rattle.std.specs.List.{Contains};
 ghost use Rattle.model_pools.specs.Listed.{replacements};
-ghost use Rattle.model_places.specs.Places.{Lists, spares};
+ghost use Rattle.model_places.specs.Places.{Lists, spares_of};
 ghost use Rattle.model_geometry.specs.Geometry.{Shape};
 ghost use Rattle.model_medium.specs.Cells.{Cell, Dead, cell_at};
+ghost use Rattle.model_sectors.specs.Requests.{block_with};
 ghost use Rattle.model_sectors.specs.declared.ReadOut.{ReadOut};
 ghost use Rattle.model_sectors.specs.declared.PowerOut.{PowerOut};
 ghost use Rattle.model_volume.specs.Given.{GivesNone};
@@ -49,11 +50,11 @@ pub fn a_drive_gives_up_dead_blocks_alone()
         → AreSameOrDead (cells_in old) (cells_in new) → GivesUpDeadAlone old → GivesUpDeadAlone new }
 {}
 
-/// So where no spare is left for a write, each spare of the disc that is the replacement of no block is dead, also those that the
-/// lists gave up.
+/// So where no spare is left for the block of a sector, each spare that it may go to, and that is the replacement of no block, is
+/// dead, also those that the lists gave up.
 pub fn no_spare_means_that_none_is_left()
     ensures { (old new : Shown) (lba n named : ℕ) (lists : Lists) → GivesUpDeadAlone new
         → LacksSpare old new lba n named → new.lists ≡ Some lists → (spare : ℕ)
-        → Contains (spares new.shape lists) spare → ¬ Contains (replacements lists.sdl.entries) spare
+        → Contains (spares_of new.shape lists (block_with named)) spare → ¬ Contains (replacements lists.sdl.entries) spare
         → cell_at (cells_in new) spare ≡ Dead }
 {}

@@ -9,12 +9,11 @@ use Rattle.model_stops.specs.declared.Stop.{Stop}
 use Rattle.model_places.specs.Places.{Lists, logical_count, free_spares}
 use Rattle.model_places.specs.Valid.{AreValid}
 use Rattle.model_volume.specs.Expansions.{lists_expanded}
-use Rattle.model_volume.proofs.Different.{free_apart}
-use Rattle.model_volume.proofs.NewLists.{moved_valid}
+use Rattle.model_volume.proofs.Moved.{moved_valid}
 use Rattle.model_volume.proofs.Expanding.{expanded_valid}
 use Rattle.model_volume.proofs.Updates.{dds_no_sdl, dds_no_second}
 use Rattle.model_volume.proofs.GivenFacts.{lists_of}
-use Rattle.model_volume.specs.Moves.{tried_of}
+use Rattle.model_pools.specs.Moves.{tried_of}
 use Rattle.std.specs.Prelude.{◌*◌, Option, slice_index, length}
 use Rattle.std.specs.Option.{option_map_or}
 use Rattle.model_survival.specs.Findable.{HaveTwoCopies, IsFindable}
@@ -120,7 +119,7 @@ move_stopped shape cells reached i valid inside part =
     let lists_are = part.is_moved.lists_are in
     let tried = part.is_moved.tried in
     let valid_moved : AreValid shape part.moved = subst (AreValid shape) (sym lists_are)
-    (moved_valid shape reached valid (free_apart shape reached valid) i inside (tried_of (free_spares shape reached) tried) (slice_index (free_spares shape reached) tried) (comes_next shape reached tried part.is_moved.some_spare)) in
+    (moved_valid shape reached valid i inside (tried_of (free_spares shape reached i) tried) (slice_index (free_spares shape reached i) tried) (comes_next shape reached i tried part.is_moved.some_spare)) in
     let same_dds : part.moved.dds ≡ reached.dds = ap (λ (l : Lists). l.dds) lists_are in
     let counter : part.moved.sdl.counter ≡ reached.sdl.counter + 1 = ap (λ (l : Lists). l.sdl.counter) lists_are in (
       part.moved.sdl,

@@ -4,7 +4,7 @@ use Rattle.std.specs.Option.{option_map_or}
 use Rattle.std.specs.List.{Contains}
 use Rattle.model_pools.proofs.Replacements.{Contains-first, Contains-later}
 use Rattle.std.proofs.Common.{refl, sym, ap, ◌∙◌, inl, inr, subst}
-use Rattle.model_geometry.specs.Geometry.{Shape, data_blocks, dds_block, sdl_block, sdl_second_block}
+use Rattle.model_geometry.specs.Geometry.{Shape, dds_block, sdl_block, sdl_second_block}
 use Rattle.model_stops.specs.declared.Stop.{Stop}
 use Rattle.model_stops.specs.declared.Stop.TheVariants as stops
 use Rattle.model_sectors.specs.declared.ReadOut.{ReadOut}
@@ -14,7 +14,7 @@ use Rattle.model_sectors.specs.declared.PowerOut.TheVariants as powers
 use Rattle.model_sectors.specs.Requests.{block_with}
 use Rattle.model_lists.specs.Values.{Dds, Sdl}
 use Rattle.model_lists.specs.declared.versions.Version.{Version}
-use Rattle.model_places.specs.Places.{Lists, logical_count}
+use Rattle.model_places.specs.Places.{Lists, count_of, logical_count}
 use Rattle.model_volume.specs.Expansions.{lists_expanded}
 use Rattle.model_volume.proofs.GivenFacts.{lists_of}
 use Rattle.model_survival.proofs.Finding as finding
@@ -138,9 +138,9 @@ module _ (old new : Shown) (version : Version) (sizes : List ℕ) (same : new.sh
       mount_off stop cause = off_stays new version sizes (stop_off _ _ _ stop cause.stopped.stops) s.dds s.older s.newer
           (mount_stopped old new s.dds s.older s.newer same stop was_known s.found cause) s.of_version s.size s.size'
 
-      capacity_told : (lists : Lists) (known : ℕ) → new.lists ≡ Some lists → known ≡ capacity new → known ≡ (length (data_blocks old.shape) - old.shape.psa - lists.sdl.ssa) * 16
+      capacity_told : (lists : Lists) (known : ℕ) → new.lists ≡ Some lists → known ≡ capacity new → known ≡ count_of old.shape lists.sdl.ssa * 16
       capacity_told lists known is known_is = known_is ∙ ap (λ (o : Option Lists). option_map_or (logical_count new.shape) o 0 * 16) is
-          ∙ ap (λ (shape : Shape). (length (data_blocks shape) - shape.psa - lists.sdl.ssa) * 16) same
+          ∙ ap (λ (shape : Shape). count_of shape lists.sdl.ssa * 16) same
 
       one_version : s.newer.version ≡ version
       one_version = s.found.valid'.together.same_version ∙ sym s.found.valid.together.same_version ∙ s.of_version

@@ -1,13 +1,14 @@
 -- What holds of a drive from one call to the next, so that no cut loses its disc: its lists can be found. For the law of survival
 -- over runs. (This project's own, as all here.)
-use Rattle.std.specs.Prelude.{◌≡◌, ℕ, ◌-◌, ◌*◌, Some, List, length}
+use Rattle.std.specs.Prelude.{◌≡◌, ℕ, ◌*◌, Some, List}
 use Rattle.std.specs.List.{Contains}
-use Rattle.model_geometry.specs.Geometry.{Shape, data_blocks}
+use Rattle.model_geometry.specs.Geometry.{Shape}
 use Rattle.model_sectors.specs.declared.PowerOut.{PowerOut}
 use Rattle.model_sectors.specs.declared.PowerOut.TheVariants as powers
 use Rattle.model_lists.specs.declared.versions.Version.{Version}
 use Rattle.model_medium.specs.Cells.{Dead, cell_at}
 use Rattle.model_lists.specs.Values.{Dds, Sdl}
+use Rattle.model_places.specs.Places.{count_of}
 use Rattle.model_survival.specs.Findable.{HaveTwoCopies, IsFindable}
 use Rattle.model_drive.specs.Shown.{Shown, IsOn, cells_in}
 
@@ -34,7 +35,7 @@ pub record StaysFormatted (shown : Shown) (version : Version) (sizes : List ℕ)
 -- A mount did not find the disc unformatted; and where it told a capacity, this is that of one of these sizes of the area.
 abbrev pub TellsSize : Shape → (sizes : List ℕ) → PowerOut → Type 0
 TellsSize shape sizes (powers.Ready known) =
-    (ssa : ℕ) × Contains sizes ssa × (known ≡ (length (data_blocks shape) - shape.psa - ssa) * 16)
+    (ssa : ℕ) × Contains sizes ssa × (known ≡ count_of shape ssa * 16)
 TellsSize shape sizes powers.NotFormatted = ⊥
 TellsSize shape sizes out = Unit {0}
 

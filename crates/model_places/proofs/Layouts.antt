@@ -1,125 +1,160 @@
--- The pools of a disc, by the kind of its layout: that they are lawful, and that with one group of spares they are slipping's.
-use Rattle.std.proofs.Common.{◌≡◌, ℕ, ◌+◌, ◌-◌, ◌<◌, ⊎_elim, List, [], ◌∷◌, ◌++◌, length, take, drop, Some, IsTrue, refl, sym, ap, ◌∙◌, subst, arith}
-use Rattle.std.specs.Prelude.{IsSome, IsNone, unwrap_or, reverse, slice_index}
-use Rattle.std.specs.List.{All, Contains, filter}
-use Rattle.std.proofs.lemmas.List.{append-nil}
-use Rattle.std.proofs.lemmas.List.Elements.{All-weaker, Contains-append_left, Contains-append_right}
-use Rattle.model_geometry.specs.Geometry.{Shape, LayoutKind, OneGroup}
-use Rattle.model_lists.specs.declared.sdl.SdlEntry.{SdlEntry}
+-- The pools of a disc: what the layers above use of them, whatever the kind of the layout; and that with one group of spares they
+-- are slipping's.
+use Rattle.std.proofs.Common.{◌≡◌, ℕ, ◌+◌, ◌-◌, ◌<◌, ◌≤◌, ◌⊎◌, inl, inr, ⊎_elim, List, [], ◌∷◌, ◌++◌, length, take, drop, refl, sym, ap, ◌∙◌, subst, arith}
+use Rattle.std.specs.Prelude.{reverse, slice_index}
+use Rattle.std.specs.List.{Contains}
+use Rattle.std.proofs.lemmas.List.{append-nil, length-append, length-take, length-drop, length-reverse}
+use Rattle.std.proofs.lemmas.List.Elements.{All-contains, Contains-append_cases, Contains-append_left, Contains-append_right}
+use Rattle.model_geometry.specs.Geometry.{Shape, data_blocks, lead_out, total}
+use Rattle.model_geometry.proofs.DataBlocks.{data_blocks_bounds}
 use Rattle.model_lists.specs.declared.versions.Version.{Version}
-use Rattle.model_lists.specs.Values.{Dds, defectives}
-use Rattle.model_pools.specs.Listed.{is_listed, replacements, replacement_of}
-use Rattle.model_pools.specs.Pools.{Pool, ArePools, AreValidUnder, logical_in, spares_in, pool_of, spares_at, spares_for, block_in, is_unnamed, free_in, home_in}
+use Rattle.model_lists.specs.Values.{Dds, most_of}
+use Rattle.model_pools.specs.Pools.{Pool, ArePools, logical_in, spares_in, all_in, pool_of, spares_at, spares_for, block_in}
 use Rattle.model_pools.proofs.Cuts.{pools_lawful}
-use Rattle.model_pools.proofs.Listed.{Decides-is_listed, one_listed}
+use Rattle.model_pools.proofs.Free.{Contains-reverse, Contains-from_reverse}
+use Rattle.model_pools.proofs.Listed.{StandsWithin-take, StandsWithin-drop}
 use Rattle.model_pools.proofs.Pooled.{pool_here}
-use Rattle.model_pools.proofs.Replacements.{Contains-replacement}
-use Rattle.model_places.specs.Places.{Lists, unreplaced, unslipped, primary_count, logical_block, logical_blocks, logical_count, spares, spares_down, free_spares, home_of, one_group, pools_by, pools_of, pools_under}
-use Rattle.model_places.specs.Valid.{IsValidPdl, IsValidSsa, IsValidSdl}
-use Rattle.model_places.proofs.Free.{Contains-spares_down, Contains-from_spares_down}
-use Rattle.model_places.proofs.Pools.{logical_block_is, pools_are_all, length-logical_blocks, spare_or_logical, unslipped_rise}
+use Rattle.model_places.specs.Places.{slipped, unslipped, primary_count, primary_spares, slip_logical, slip_block, supplementary_spares, one_group, pools_of, count_of}
+use Rattle.model_places.specs.Valid.{IsValidPdl, IsValidSsa}
+use Rattle.model_places.proofs.ByKind.{slip_pools, slip_room}
+use Rattle.model_places.proofs.Pools.{slips_are_all, slip_block_is, unslipped_is, unslipped_rise, unslipped_are_data, not_slipped, unslipped_from}
 
--- ---- by the kind
+module _ (shape : Shape) (dds : Dds) (ssa : ℕ) where
+  abbrev pools : List Pool
+  pools = pools_of shape dds ssa
 
-pub group_pools : (shape : Shape) (dds : Dds) (ssa : ℕ) → shape.layout ≡ OneGroup → pools_of shape dds ssa ≡ one_group shape dds ssa ∷ []
-unfolding pools_of
-group_pools shape dds ssa is = ap (λ (kind : LayoutKind). pools_by kind shape dds ssa) is
+  -- ---- with one group
 
--- The pools of a valid primary list and a valid area are lawful.
-module _ (shape : Shape) (dds : Dds) (ssa : ℕ) (valid : IsValidPdl shape dds) {version : Version} (area : IsValidSsa shape version ssa) where
-  lawful_by : (kind : LayoutKind) → ArePools (pools_by kind shape dds ssa)
-  lawful_by OneGroup =
-      let all = pools_are_all shape (unreplaced dds ssa) valid area in
-      let u = unslipped shape dds in
-      let b = primary_count shape dds in
-      let n = logical_count shape (unreplaced dds ssa) in
-      let rest : b + n ≡ length u - ssa = omega arith in
-      subst (λ (m : ℕ). ArePools (record { blocks = take n (drop b u); spares = reverse (take b u) ++ reverse (drop m u) } ∷ [])) rest
-      (pools_lawful u b n (omega arith) (unslipped_rise shape dds))
+  pub one_logical : logical_in pools ≡ slip_logical shape dds ssa
+  one_logical = ap logical_in (slip_pools shape dds ssa) ∙ append-nil (slip_logical shape dds ssa)
 
-  pub pools_are_lawful : ArePools (pools_of shape dds ssa)
-  unfolding pools_of
-  pools_are_lawful = lawful_by shape.layout
+  pub one_spares : spares_in pools ≡ reverse (primary_spares shape dds) ++ reverse (supplementary_spares shape dds ssa)
+  one_spares = ap spares_in (slip_pools shape dds ssa) ∙ append-nil (reverse (primary_spares shape dds) ++ reverse (supplementary_spares shape dds ssa))
 
--- ---- one group of spares
+  pub one_spares_at : spares_at pools 0 ≡ reverse (primary_spares shape dds) ++ reverse (supplementary_spares shape dds ssa)
+  one_spares_at = ap (λ (p : List Pool). spares_at p 0) (slip_pools shape dds ssa)
 
-module _ (shape : Shape) (lists : Lists) (is : shape.layout ≡ OneGroup) where
-  pub one_logical : logical_in (pools_under shape lists) ≡ logical_blocks shape lists
-  one_logical = ap logical_in (group_pools shape lists.dds lists.sdl.ssa is) ∙ append-nil (logical_blocks shape lists)
+  -- ---- each block is a data block that is not slipped
 
-  pub one_spares : spares_at (pools_under shape lists) 0 ≡ spares_down shape lists
-  one_spares = ap (λ (p : List Pool). spares_at p 0) (group_pools shape lists.dds lists.sdl.ssa is)
+  group_unslipped : (b : ℕ) → Contains (slip_logical shape dds ssa) b → Contains (unslipped shape dds) b
+  group_unslipped b has =
+      let s = StandsWithin-take (drop (primary_count shape dds) (unslipped shape dds)) (count_of shape ssa) b has in
+      let t = StandsWithin-drop (unslipped shape dds) (primary_count shape dds) b (s.place, s.inside, s.is) in
+      (t.place, t.inside, t.is)
 
-  pub all_spares : spares_in (pools_under shape lists) ≡ spares_down shape lists
-  all_spares = ap spares_in (group_pools shape lists.dds lists.sdl.ssa is) ∙ append-nil (spares_down shape lists)
+  primary_unslipped : (b : ℕ) → Contains (primary_spares shape dds) b → Contains (unslipped shape dds) b
+  primary_unslipped b has = let s = StandsWithin-take (unslipped shape dds) (primary_count shape dds) b has in (s.place, s.inside, s.is)
 
-  module _ (valid : IsValidPdl shape lists.dds) {version : Version} (area : IsValidSsa shape version lists.sdl.ssa) (i : ℕ) (inside : i < logical_count shape lists) where
-    pub one_block : block_in (pools_under shape lists) i ≡ logical_block shape lists.dds i
-    one_block = ap (λ (l : List ℕ). slice_index l i) one_logical ∙ logical_block_is shape lists i inside
+  supplementary_unslipped : (b : ℕ) → Contains (supplementary_spares shape dds ssa) b → Contains (unslipped shape dds) b
+  supplementary_unslipped b has = let s = StandsWithin-drop (unslipped shape dds) (length (unslipped shape dds) - ssa) b has in (s.place, s.inside, s.is)
 
-    pub one_pool : pool_of (pools_under shape lists) i ≡ 0
-    one_pool =
-        let long = length-logical_blocks shape lists valid area in
-        ap (λ (p : List Pool). pool_of p i) (group_pools shape lists.dds lists.sdl.ssa is)
-        ∙ pool_here (one_group shape lists.dds lists.sdl.ssa) [] i (omega (arith, inside, long))
+  -- the spares are those of both areas
+  pub spare_cases : (b : ℕ) → Contains (spares_in pools) b → Contains (primary_spares shape dds) b ⊎ Contains (supplementary_spares shape dds ssa) b
+  spare_cases b has =
+      ⊎_elim (λ l. inl (Contains-from_reverse (primary_spares shape dds) b l)) (λ r. inr (Contains-from_reverse (supplementary_spares shape dds ssa) b r))
+      (Contains-append_cases (reverse (primary_spares shape dds)) (reverse (supplementary_spares shape dds ssa)) b (subst (λ (l : List ℕ). Contains l b) one_spares has))
 
-    pub one_free : free_in (pools_under shape lists) lists.sdl.entries i ≡ free_spares shape lists
-    one_free =
-        ap (λ (k : ℕ). filter (is_unnamed lists.sdl.entries) (spares_at (pools_under shape lists) k)) one_pool
-        ∙ ap (filter (is_unnamed lists.sdl.entries)) one_spares
+  pub from_primary : (b : ℕ) → Contains (primary_spares shape dds) b → Contains (spares_in pools) b
+  from_primary b has = subst (λ (l : List ℕ). Contains l b) (sym one_spares)
+      (Contains-append_left (reverse (primary_spares shape dds)) (reverse (supplementary_spares shape dds ssa)) b (Contains-reverse (primary_spares shape dds) b has))
 
-    pub one_home : home_in (pools_under shape lists) lists.sdl.entries i ≡ home_of shape lists i
-    one_home = ap (λ (b : ℕ). home_by lists.sdl.entries b) one_block
-      where
-        home_by : List SdlEntry → ℕ → ℕ
-        home_by entries b = unwrap_or (replacement_of entries b) b
+  pub from_supplementary : (b : ℕ) → Contains (supplementary_spares shape dds ssa) b → Contains (spares_in pools) b
+  from_supplementary b has = subst (λ (l : List ℕ). Contains l b) (sym one_spares)
+      (Contains-append_right (reverse (primary_spares shape dds)) (reverse (supplementary_spares shape dds ssa)) b (Contains-reverse (supplementary_spares shape dds ssa) b has))
 
--- ---- valid lists are valid under the pools of their disc
+  pub spare_is_unslipped : (b : ℕ) → Contains (spares_in pools) b → Contains (unslipped shape dds) b
+  spare_is_unslipped b has = ⊎_elim (primary_unslipped b) (supplementary_unslipped b) (spare_cases b has)
 
-module _ (shape : Shape) (lists : Lists) (primary : IsValidPdl shape lists.dds) (secondary : IsValidSdl shape lists) where
-  module _ (is : shape.layout ≡ OneGroup) where
-    a_spare : (b : ℕ) → Contains (spares shape lists) b → Contains (spares_in (pools_under shape lists)) b
-    a_spare b has = subst (λ (l : List ℕ). Contains l b) (sym (all_spares shape lists is)) (Contains-spares_down shape lists b has)
+  pub logical_is_unslipped : (b : ℕ) → Contains (logical_in pools) b → Contains (unslipped shape dds) b
+  logical_is_unslipped b has = group_unslipped b (subst (λ (l : List ℕ). Contains l b) one_logical has)
 
-    was_spare : (b : ℕ) → Contains (spares_in (pools_under shape lists)) b → Contains (spares shape lists) b
-    was_spare b has = Contains-from_spares_down shape lists b (subst (λ (l : List ℕ). Contains l b) (all_spares shape lists is) has)
+  pub pooled_is_unslipped : (b : ℕ) → Contains (all_in pools) b → Contains (unslipped shape dds) b
+  pooled_is_unslipped b has = ⊎_elim (logical_is_unslipped b) (spare_is_unslipped b) (Contains-append_cases (logical_in pools) (spares_in pools) b has)
 
-    was_logical : (b : ℕ) → Contains (logical_in (pools_under shape lists)) b → Contains (logical_blocks shape lists) b
-    was_logical b has = subst (λ (l : List ℕ). Contains l b) (one_logical shape lists is) has
+  pub pooled_is_data : (b : ℕ) → Contains (all_in pools) b → Contains (data_blocks shape) b
+  pooled_is_data b has = unslipped_are_data shape dds b (pooled_is_unslipped b has)
 
-    here : (b : ℕ) → IsTrue (is_listed (unslipped shape lists.dds) b) → IsTrue (is_listed (logical_in (pools_under shape lists) ++ spares_in (pools_under shape lists)) b)
-    here b listed =
-        let pools = pools_under shape lists in
-        (Decides-is_listed (logical_in pools ++ spares_in pools) b).1
-        (⊎_elim (λ s. Contains-append_right (logical_in pools) (spares_in pools) b (a_spare b s))
-        (λ l. Contains-append_left (logical_in pools) (spares_in pools) b (subst (λ (xs : List ℕ). Contains xs b) (sym (one_logical shape lists is)) l))
-        (spare_or_logical shape lists primary secondary.area b ((Decides-is_listed (unslipped shape lists.dds) b).0 listed)))
+  pub pooled_data : (b : ℕ) → Contains (all_in pools) b → Contains (data_blocks shape) b × (¬ Contains (slipped dds) b)
+  pooled_data b has = (pooled_is_data b has, not_slipped shape dds b (pooled_is_unslipped b has))
 
-    own : (i spare : ℕ) → i < length (logical_in (pools_under shape lists)) → replacement_of lists.sdl.entries (block_in (pools_under shape lists) i) ≡ Some spare → Contains (spares_for (pools_under shape lists) i) spare
-    own i spare inside at =
-        let long = length-logical_blocks shape lists primary secondary.area in
-        let within : i < logical_count shape lists = omega (arith, inside, long, ap length (one_logical shape lists is)) in
-        let has = one_listed (spares shape lists) (replacements lists.sdl.entries) secondary.from_spares spare (Contains-replacement lists.sdl.entries (block_in (pools_under shape lists) i) spare at) in
-        let same : spares_for (pools_under shape lists) i ≡ spares_down shape lists = ap (spares_at (pools_under shape lists)) (one_pool shape lists is primary secondary.area i within) ∙ one_spares shape lists is in
-        subst (λ (l : List ℕ). Contains l spare) (sym same) (Contains-spares_down shape lists spare has)
+  pub pooled_inside : (b : ℕ) → Contains (all_in pools) b → b < total shape
+  pooled_inside b has =
+      let bounds = All-contains (λ b. (7 < b) × (b < lead_out shape)) (data_blocks shape) b (data_blocks_bounds shape) (pooled_is_data b has) in
+      omega (arith, bounds.1)
 
-    group_valid : AreValidUnder (pools_under shape lists) lists.sdl.entries
-    group_valid = record {
-      within = All-weaker (λ b. IsTrue (is_listed (unslipped shape lists.dds) b)) (λ b. IsTrue (is_listed (logical_in (pools_under shape lists) ++ spares_in (pools_under shape lists)) b)) here (defectives lists.sdl.entries) secondary.within;
-      rising = secondary.rising;
-      logical_replaced = All-weaker (λ (e : SdlEntry). Contains (logical_blocks shape lists) e.defective → IsSome e.replacement) (λ (e : SdlEntry). Contains (logical_in (pools_under shape lists)) e.defective → IsSome e.replacement)
-          (λ e some has. some (was_logical e.defective has)) lists.sdl.entries secondary.logical_replaced;
-      spares_retired = All-weaker (λ (e : SdlEntry). Contains (spares shape lists) e.defective → IsNone e.replacement) (λ (e : SdlEntry). Contains (spares_in (pools_under shape lists)) e.defective → IsNone e.replacement)
-          (λ e none has. none (was_spare e.defective has)) lists.sdl.entries secondary.spares_retired;
-      from_own_pool = own;
-      from_spares = All-weaker (λ b. IsTrue (is_listed (spares shape lists) b)) (λ b. IsTrue (is_listed (spares_in (pools_under shape lists)) b))
-          (λ b listed. (Decides-is_listed (spares_in (pools_under shape lists)) b).1 (a_spare b ((Decides-is_listed (spares shape lists) b).0 listed))) (replacements lists.sdl.entries) secondary.from_spares;
-      different = secondary.different;
-      sound = secondary.sound;
-    }
+  -- ---- under a valid primary list, with a valid area
 
-  valid_by : (kind : LayoutKind) → shape.layout ≡ kind → AreValidUnder (pools_under shape lists) lists.sdl.entries
-  valid_by OneGroup is = group_valid is
+  module _ (valid : IsValidPdl shape dds) {version : Version} (area : IsValidSsa shape version ssa) where
+    all : primary_count shape dds + count_of shape ssa + ssa ≡ length (unslipped shape dds)
+    all = slips_are_all shape dds ssa valid area
 
-  pub valid_under : AreValidUnder (pools_under shape lists) lists.sdl.entries
-  valid_under = valid_by shape.layout refl
+    pub pools_are_lawful : ArePools pools
+    pools_are_lawful =
+        let u = unslipped shape dds in
+        let b = primary_count shape dds in
+        let n = count_of shape ssa in
+        let rest : b + n ≡ length u - ssa = (let sum = all in omega (arith, sum)) in
+        subst ArePools (sym (slip_pools shape dds ssa))
+        (subst (λ (m : ℕ). ArePools (record { blocks = take n (drop b u); spares = reverse (take b u) ++ reverse (drop m u) } ∷ [])) rest
+        (pools_lawful u b n (let sum = all in omega (arith, sum)) (unslipped_rise shape dds)))
+
+    length-slip_logical : length (slip_logical shape dds ssa) ≡ count_of shape ssa
+    length-slip_logical =
+        let sum = all in
+        omega (arith, sum, length-take (count_of shape ssa) (drop (primary_count shape dds) (unslipped shape dds)), length-drop (primary_count shape dds) (unslipped shape dds))
+
+    -- there are as many logical blocks as the count says
+    pub length-logical_in : length (logical_in pools) ≡ count_of shape ssa
+    length-logical_in = ap length one_logical ∙ length-slip_logical
+
+    pub length-spares_in : length (spares_in pools) ≡ primary_count shape dds + ssa
+    length-spares_in =
+        let sum = all in
+        omega (arith, sum, ap length one_spares, length-append (reverse (primary_spares shape dds)) (reverse (supplementary_spares shape dds ssa)), length-reverse (primary_spares shape dds), length-reverse (supplementary_spares shape dds ssa), length-take (primary_count shape dds) (unslipped shape dds), length-drop (length (unslipped shape dds) - ssa) (unslipped shape dds))
+
+    -- there are no more spares than a disc of this version may have
+    pub spares_most : length (spares_in pools) ≤ most_of version
+    spares_most = let long = length-spares_in in omega (arith, long, slip_room shape ssa, area.most)
+
+    pub some_logical : 0 < count_of shape ssa
+    some_logical = omega (arith, area.some_logical)
+
+    -- a block that is not slipped is a logical block or a spare
+    pub unslipped_is_pooled : (b : ℕ) → Contains (unslipped shape dds) b → Contains (all_in pools) b
+    unslipped_is_pooled b has =
+        let first = primary_spares shape dds in
+        let middle = slip_logical shape dds ssa in
+        let last = supplementary_spares shape dds ssa in
+        ⊎_elim
+        (λ l. ⊎_elim (λ p. Contains-append_right (logical_in pools) (spares_in pools) b (from_primary b p))
+        (λ m. Contains-append_left (logical_in pools) (spares_in pools) b (subst (λ (xs : List ℕ). Contains xs b) (sym one_logical) m)) (Contains-append_cases first middle b l))
+        (λ r. Contains-append_right (logical_in pools) (spares_in pools) b (from_supplementary b r))
+        (Contains-append_cases (first ++ middle) last b (subst (λ (xs : List ℕ). Contains xs b) (sym (unslipped_is shape dds ssa valid area)) has))
+
+    pub data_is_pooled : (b : ℕ) → Contains (data_blocks shape) b → ¬ Contains (slipped dds) b → Contains (all_in pools) b
+    data_is_pooled b has apart = unslipped_is_pooled b (unslipped_from shape dds b has apart)
+
+    -- ---- with one group
+
+    pub one_parts : primary_spares shape dds ++ logical_in pools ++ supplementary_spares shape dds ssa ≡ unslipped shape dds
+    one_parts = ap (λ (l : List ℕ). primary_spares shape dds ++ l ++ supplementary_spares shape dds ssa) one_logical ∙ unslipped_is shape dds ssa valid area
+
+    module _ (i : ℕ) (inside : i < count_of shape ssa) where
+      pub one_block : block_in pools i ≡ slip_block shape dds i
+      one_block = ap (λ (l : List ℕ). slice_index l i) one_logical ∙ slip_block_is shape dds ssa i inside
+
+      pub one_pool : pool_of pools i ≡ 0
+      one_pool =
+          let long = length-slip_logical in
+          ap (λ (p : List Pool). pool_of p i) (slip_pools shape dds ssa)
+          ∙ pool_here (one_group shape dds ssa) [] i (omega (arith, inside, long))
+
+      pub one_spares_for : spares_for pools i ≡ reverse (primary_spares shape dds) ++ reverse (supplementary_spares shape dds ssa)
+      one_spares_for = ap (spares_at pools) one_pool ∙ one_spares_at
+
+      -- each spare is one that the block may go to
+      pub all_spares_for : spares_for pools i ≡ spares_in pools
+      all_spares_for = one_spares_for ∙ sym one_spares
+
+      pub its_spares_at : spares_for pools i ≡ spares_at pools 0
+      its_spares_at = ap (spares_at pools) one_pool

@@ -2,3 +2,12 @@ pub mod Listed
 pub mod Replacements
 pub mod Pooled
 pub mod Cuts
+pub mod Free
+pub mod Entries
+pub mod Homes
+pub mod LookUps
+pub mod Members
+pub mod Apart
+pub mod NewEntries
+pub mod Moved
+pub mod Shrinks

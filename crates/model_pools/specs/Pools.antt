@@ -1,10 +1,10 @@
 -- Where logical blocks and spares lie, as data, for every kind of layout: a pool has logical blocks, and the spares that these
 -- may go to. (This project's own, as all here; linear replacement is ECMA-330's.)
-use Rattle.std.specs.Prelude.{◌≡◌, ℕ, zero, suc, ◌+◌, ◌-◌, ◌<◌, ◌==◌, ◌||◌, not, Bool, false, IsSome, IsNone, nat_eq, nat_lt, if◌then◌else◌, Option, Some, None, unwrap_or, List, [], ◌∷◌, ◌++◌, length, slice_get, slice_index}
+use Rattle.std.specs.Prelude.{◌≡◌, ℕ, zero, suc, ◌-◌, ◌<◌, ◌==◌, ◌||◌, not, Bool, false, IsTrue, IsSome, IsNone, nat_eq, nat_lt, if◌then◌else◌, Option, Some, None, unwrap_or, List, [], ◌∷◌, ◌++◌, length, slice_get, slice_index}
 use Rattle.std.specs.List.{All, Contains, IsDistinct, filter, find, after_first}
 use Rattle.std.specs.List.Sorted.{IsStrictlyIncreasing}
 use Rattle.model_lists.specs.declared.sdl.SdlEntry.{SdlEntry}
-use Rattle.model_lists.specs.Values.{Sdl, defectives, with_entry, pair, retired}
+use Rattle.model_lists.specs.Values.{defectives}
 use Rattle.model_pools.specs.Listed.{AreListed, is_listed, replacements, replacement_of}
 
 -- A pool: its logical blocks in their order, and its spares in the order in which they are taken.
@@ -43,6 +43,10 @@ spares_for pools i = spares_at pools (pool_of pools i)
 abbrev pub block_in : List Pool → (i : ℕ) → ℕ
 block_in pools i = slice_index (logical_in pools) i
 
+-- all blocks of the pools
+abbrev pub all_in : List Pool → List ℕ
+all_in pools = logical_in pools ++ spares_in pools
+
 -- What holds of the pools of each layout: two logical blocks are two blocks, two spares are two blocks, and none is both.
 pub record ArePools (pools : List Pool) : Type 0 where
   pub blocks : (i j : ℕ) → i < length (logical_in pools) → j < length (logical_in pools)
@@ -69,6 +73,11 @@ free_at pools entries pool = filter (is_unnamed entries) (spares_at pools pool)
 abbrev pub free_in : List Pool → List SdlEntry → (i : ℕ) → List ℕ
 free_in pools entries i = free_at pools entries (pool_of pools i)
 
+-- The spares that a write of a logical block may use: those that are free for it and not dead. Where each listed block is dead,
+-- these are the spares that it may go to, that replace none and are not dead.
+abbrev pub usable_in : (ℕ → Bool) → List Pool → List SdlEntry → (i : ℕ) → List ℕ
+usable_in is_dead pools entries i = filter (λ b. not (is_dead b)) (free_in pools entries i)
+
 -- the first free spare of a pool, or the first after this one
 abbrev pub next_in : List Pool → List SdlEntry → (pool : ℕ) → (after : Option ℕ) → Option ℕ
 next_in pools entries pool None = slice_get (free_at pools entries pool) 0
@@ -80,35 +89,17 @@ CursorsFit pools entries cursors =
     (pool k spare : ℕ) → pool < length cursors → k < slice_index cursors pool
     → slice_get (spares_at pools pool) k ≡ Some spare → is_unnamed entries spare ≡ false
 
--- ---- valid entries, and those after a move
+-- ---- valid entries
 
 -- The entries are valid under the pools: their defective blocks are logical blocks or spares, and rise; a defective logical
 -- block has a replacement, a spare of its own pool; a defective spare has none; the replacements differ, and none is defective.
 pub record AreValidUnder (pools : List Pool) (entries : List SdlEntry) : Type 0 where
-  pub within : AreListed (logical_in pools ++ spares_in pools) (defectives entries)
+  pub within : AreListed (all_in pools) (defectives entries)
   pub rising : IsStrictlyIncreasing (defectives entries)
   pub logical_replaced : All (λ (e : SdlEntry). Contains (logical_in pools) e.defective → IsSome e.replacement) entries
   pub spares_retired : All (λ (e : SdlEntry). Contains (spares_in pools) e.defective → IsNone e.replacement) entries
   pub from_own_pool : (i spare : ℕ) → i < length (logical_in pools)
-      → replacement_of entries (block_in pools i) ≡ Some spare → Contains (spares_for pools i) spare
+      → replacement_of entries (block_in pools i) ≡ Some spare → IsTrue (is_listed (spares_for pools i) spare)
   pub from_spares : AreListed (spares_in pools) (replacements entries)
   pub different : IsDistinct nat_eq (replacements entries)
   pub sound : All (λ b. ¬ Contains (defectives entries) b) (replacements entries)
-
--- the entries with these spares retired
-abbrev pub with_retired_in : List ℕ → List SdlEntry → List SdlEntry
-with_retired_in [] entries = entries
-with_retired_in (spare ∷ spares) entries = with_entry (retired spare) (with_retired_in spares entries)
-
--- the former replacement of a logical block, where its home is not its own block
-abbrev pub former_in : (own home : ℕ) → List ℕ
-former_in own home = if home == own then [] else home ∷ []
-
--- The secondary list after logical block i went to a spare: the spares that failed are retired, its block has the pair with the
--- spare, and its former replacement is retired.
-abbrev pub sdl_moved_in : List Pool → Sdl → (i : ℕ) → (failed : List ℕ) → (spare : ℕ) → Sdl
-sdl_moved_in pools sdl i failed spare = record sdl {
-  counter = sdl.counter + 1;
-  entries = with_retired_in (former_in (block_in pools i) (home_in pools sdl.entries i))
-      (with_entry (pair (block_in pools i) spare) (with_retired_in failed sdl.entries));
-}

@@ -10,15 +10,10 @@ pub mod Starting
 pub mod OneStart
 pub mod Choosing
 pub mod Covering
-pub mod LookUps
 pub mod Moved
 pub mod Updates
 pub mod ListCells
-pub mod Different
 pub mod OneProof
-pub mod Validity
-pub mod NewLists
-pub mod Shrinks
 pub mod Expanding
 pub mod SampleFacts
 pub mod Losses

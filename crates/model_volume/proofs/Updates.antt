@@ -66,7 +66,7 @@ module _ (shape : Shape) (lists : Lists) (valid : AreValid shape lists) (i : ℕ
   pub other_home : (j : ℕ) → j < logical_count shape lists → j ≢ i → cell_at new (home_of shape lists j) ≡ cell_at old (home_of shape lists j)
   other_home j h ne = only (home_of shape lists j)
       (λ same. ne (homes_apart shape lists valid j i h inside same))
-      (home_not_free shape lists valid j h)
+      (home_not_free shape lists valid i j h)
       (λ area same. no_data_block_sdl shape area (subst (Contains (data_blocks shape)) same (home_is_data_block shape lists valid j h)))
       (λ area same. no_data_block_second shape area (subst (Contains (data_blocks shape)) same (home_is_data_block shape lists valid j h)))
 
@@ -74,7 +74,7 @@ module _ (shape : Shape) (lists : Lists) (valid : AreValid shape lists) (i : ℕ
   pub dds_same : (area : ℕ) → cell_at new (dds_block shape area) ≡ cell_at old (dds_block shape area)
   dds_same area = only (dds_block shape area)
       (λ same. no_data_block_dds shape area (subst (Contains (data_blocks shape)) (sym same) (home_is_data_block shape lists valid i inside)))
-      (λ free. no_data_block_dds shape area (free_is_data shape lists valid (dds_block shape area) free))
+      (λ free. no_data_block_dds shape area (free_is_data shape lists valid i (dds_block shape area) free))
       (λ at same. dds_no_sdl shape area at same)
       (λ at same. dds_no_second shape area at same)
 
@@ -113,7 +113,7 @@ module _ (shape : Shape) (lists : Lists) (valid : AreValid shape lists) (i : ℕ
       ];
     }
 
-    module _ (failed : List ℕ) (spare : ℕ) (next : IsNextSpare shape lists failed spare) (has : Agrees (cell_at new spare) bytes) where
+    module _ (failed : List ℕ) (spare : ℕ) (next : IsNextSpare shape lists i failed spare) (has : Agrees (cell_at new spare) bytes) where
       -- under the new lists it fits where the spare has the bytes
       pub fits_moved : FitsUnder shape new (lists_moved shape lists i failed spare) disc'
       fits_moved = record {
@@ -153,7 +153,7 @@ module _ (shape : Shape) (lists : Lists) (valid : AreValid shape lists) (i : ℕ
   pub list_same : (block : ℕ) → ¬ Contains (data_blocks shape) block → cell_at new block ≡ cell_at old block
   list_same block outside = only block
       (λ same. outside (subst (Contains (data_blocks shape)) (sym same) (home_is_data_block shape lists valid i inside)))
-      (λ free. outside (free_is_data shape lists valid block free))
+      (λ free. outside (free_is_data shape lists valid i block free))
 
   pub settled_kept : AreSettled shape old lists → AreSettled shape new lists
   settled_kept settled = record {

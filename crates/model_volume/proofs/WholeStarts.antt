@@ -8,7 +8,7 @@ use Rattle.std.proofs.lemmas.Map.Steps.{length-le_from_distinct_below}
 use Rattle.model_geometry.specs.Geometry.{Shape}
 use Rattle.model_medium.specs.Cells.{Cell}
 use Rattle.model_sectors.specs.Discs.{Standing}
-use Rattle.model_places.proofs.Entries.{differs_from_all}
+use Rattle.model_pools.proofs.Entries.{differs_from_all}
 use Rattle.model_pools.proofs.Replacements.{Contains-first, Contains-later}
 use Rattle.model_pools.proofs.Listed.{Decides-is_listed, is_member_is}
 use Rattle.model_volume.specs.Given.{IsWholePair}

@@ -6,15 +6,16 @@ use Rattle.model_geometry.specs.Geometry.{Shape}
 use Rattle.model_lists.specs.declared.sdl.SdlEntry.{SdlEntry}
 use Rattle.model_lists.specs.Values.{Dds, Sdl, defectives, with_entry, retired}
 use Rattle.model_pools.specs.Listed.{is_listed}
-use Rattle.model_places.specs.Places.{Lists, unreplaced, spares}
+use Rattle.model_pools.specs.Pools.{spares_in}
+use Rattle.model_places.specs.Places.{Lists, pools_of}
 use Rattle.model_volume.specs.Expansions.{entry_expanded, lists_expanded}
 use Rattle.ram_sdl.proofs.Gaps.{defective_at, set_there}
 
 module _ (shape : Shape) (dds : Dds) (ssa : ℕ) where
   same_block : (e : SdlEntry) → (entry_expanded shape dds ssa e).defective ≡ e.defective
-  same_block e = elim (cases_Bool (is_listed (spares shape (unreplaced dds ssa)) e.defective)) [
-    | inl spare ↦ ap (λ (x : SdlEntry). x.defective) (cond-true (is_listed (spares shape (unreplaced dds ssa)) e.defective) (retired e.defective) e spare)
-    | inr other ↦ ap (λ (x : SdlEntry). x.defective) (cond-false (is_listed (spares shape (unreplaced dds ssa)) e.defective) (retired e.defective) e other)
+  same_block e = elim (cases_Bool (is_listed (spares_in (pools_of shape dds ssa)) e.defective)) [
+    | inl spare ↦ ap (λ (x : SdlEntry). x.defective) (cond-true (is_listed (spares_in (pools_of shape dds ssa)) e.defective) (retired e.defective) e spare)
+    | inr other ↦ ap (λ (x : SdlEntry). x.defective) (cond-false (is_listed (spares_in (pools_of shape dds ssa)) e.defective) (retired e.defective) e other)
   ]
 
   -- the entries, of which the first so many are those of the expansion
@@ -50,34 +51,34 @@ module _ (shape : Shape) (dds : Dds) (ssa : ℕ) where
     until_rises held is = subst IsStrictlyIncreasing (sym (ap defectives is ∙ same_blocks k es)) rise
 
     module _ (d : SdlEntry) (inside : k < length es) where
-      pub turn_spare : is_listed (spares shape (unreplaced dds ssa)) (get_or es k d).defective ≡ true → with_entry (retired (get_or es k d).defective) (expanded_until k es) ≡ expanded_until (k + 1) es
+      pub turn_spare : is_listed (spares_in (pools_of shape dds ssa)) (get_or es k d).defective ≡ true → with_entry (retired (get_or es k d).defective) (expanded_until k es) ≡ expanded_until (k + 1) es
       turn_spare spare =
           let e = get_or es k d in
           let there : get_or (defectives (expanded_until k es)) k 0 ≡ e.defective = ap (λ (bs : List ℕ). get_or bs k 0) (same_blocks k es) ∙ defective_at es k d inside in
           let long = same_length k es in
           let next : suc k ≡ k + 1 = omega arith in
           sym (set_there (expanded_until k es) k (retired e.defective) (until_rises (expanded_until k es) refl) (omega (arith, inside, long)) there)
-          ∙ ap (λ (x : SdlEntry). set (expanded_until k es) k x) (sym (cond-true (is_listed (spares shape (unreplaced dds ssa)) e.defective) (retired e.defective) e spare))
+          ∙ ap (λ (x : SdlEntry). set (expanded_until k es) k x) (sym (cond-true (is_listed (spares_in (pools_of shape dds ssa)) e.defective) (retired e.defective) e spare))
           ∙ set_next k es d inside
           ∙ ap (λ (n : ℕ). expanded_until n es) next
 
-      pub turn_other : is_listed (spares shape (unreplaced dds ssa)) (get_or es k d).defective ≡ false → expanded_until k es ≡ expanded_until (k + 1) es
+      pub turn_other : is_listed (spares_in (pools_of shape dds ssa)) (get_or es k d).defective ≡ false → expanded_until k es ≡ expanded_until (k + 1) es
       turn_other other =
           let e = get_or es k d in
           let next : suc k ≡ k + 1 = omega arith in
-          keep_next k es d inside (cond-false (is_listed (spares shape (unreplaced dds ssa)) e.defective) (retired e.defective) e other)
+          keep_next k es d inside (cond-false (is_listed (spares_in (pools_of shape dds ssa)) e.defective) (retired e.defective) e other)
           ∙ ap (λ (n : ℕ). expanded_until n es) next
 
   -- ---- the list after one turn
 
   module _ (a b : Sdl) (es : List SdlEntry) (rise : IsStrictlyIncreasing (defectives es)) (k : ℕ) (d : SdlEntry) (inside : k < length es) (so_far : b ≡ record a { entries = expanded_until k es }) where
-    pub list_spare : (c : Sdl) → is_listed (spares shape (unreplaced dds ssa)) (get_or es k d).defective ≡ true → c ≡ record b { entries = with_entry (retired (get_or es k d).defective) b.entries }
+    pub list_spare : (c : Sdl) → is_listed (spares_in (pools_of shape dds ssa)) (get_or es k d).defective ≡ true → c ≡ record b { entries = with_entry (retired (get_or es k d).defective) b.entries }
         → c ≡ record a { entries = expanded_until (k + 1) es }
     list_spare c spare put =
         put ∙ ap (λ (x : Sdl). record x { entries = with_entry (retired (get_or es k d).defective) x.entries }) so_far
         ∙ ap (λ (xs : List SdlEntry). record a { entries = xs }) (turn_spare es rise k d inside spare)
 
-    pub list_other : is_listed (spares shape (unreplaced dds ssa)) (get_or es k d).defective ≡ false → b ≡ record a { entries = expanded_until (k + 1) es }
+    pub list_other : is_listed (spares_in (pools_of shape dds ssa)) (get_or es k d).defective ≡ false → b ≡ record a { entries = expanded_until (k + 1) es }
     list_other other = so_far ∙ ap (λ (xs : List SdlEntry). record a { entries = xs }) (turn_other es rise k d inside other)
 
 -- ---- the list of the expansion

@@ -1,2 +1,4 @@
 pub mod Drafting
 pub mod Growing
+pub mod Sizing
+mod Lawful

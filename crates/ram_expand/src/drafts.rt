@@ -5,7 +5,8 @@ ghost use Rattle.model_geometry.specs.declared.TheConstants.{SDL_LIMIT};
 ghost use Rattle.model_geometry.specs.Geometry.{IsLawful};
 ghost use Rattle.model_lists.specs.Values.{IsLawfulSdl};
 ghost use Rattle.model_pools.specs.Listed.{is_listed};
-ghost use Rattle.model_places.specs.Places.{unreplaced, spares};
+ghost use Rattle.model_pools.specs.Pools.{spares_in};
+ghost use Rattle.model_places.specs.Places.{pools_of};
 ghost use Rattle.model_places.specs.Valid.{IsValidPdl, IsValidSsa, IsValidOnSome, AreValid};
 ghost use Rattle.model_volume.specs.Expansions.{lists_expanded};
 ghost use Rattle.model_drive.specs.declared.TheConstants.{LAST_COUNTER};
@@ -17,16 +18,16 @@ ghost use Rattle.ram_expand.specs.Drafts.{with_spares_retired};
 use ram_dds::DdsPdl;
 use ram_lists::Lists;
 use ram_sdl::{Sdl, SdlEntry};
-use ram_slip::spare_number;
+use ram_slip::spare_turn;
 use ram_zones::Geometry;
 
 /// Whether the block is a spare where the supplementary spare area has this size.
 fn is_spare(geometry: &Geometry, dds: &DdsPdl, ssa: u32, block: u32) -> bool
     requires valid { IsValidPdl geometry.now (dds_of dds.now) }
     requires area { IsValidOnSome geometry.now ssa }
-    ensures { result ≡ is_listed (spares geometry.now (unreplaced (dds_of dds.now) ssa)) block }
+    ensures { result ≡ is_listed (spares_in (pools_of geometry.now (dds_of dds.now) ssa)) block }
 {
-    match spare_number(geometry, dds, ssa, block) {
+    match spare_turn(geometry, dds, ssa, block) {
         Some(_) => true,
         None => false,
     }

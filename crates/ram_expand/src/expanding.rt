@@ -3,7 +3,7 @@
 ghost use Rattle.std.specs.Prelude.{◌≡◌, IsTrue, MatchResult};
 ghost use Rattle.model_volume.specs.Given.{AreSettled};
 ghost use Rattle.ram_lists.specs.Lists.{lists_of};
-ghost use Rattle.ram_lists.specs.Fit.{IsFit};
+ghost use Rattle.ram_expand.specs.Standing.{AreFit};
 ghost use Rattle.ram_expand.specs.Expanding.{EndsGrowing, StopsGrowing, ExpandRule};
 
 use crate::drafts::draft_expanded;
@@ -69,7 +69,7 @@ pub fn grow<M: Medium>(
     capacity: u32,
     scratch: &mut Scratch,
 ) -> Result<Grown, Stop>
-    requires fit { IsFit geometry.now (M.block_count medium.old) lists.old draft.old }
+    requires fit { AreFit geometry.now (M.block_count medium.old) lists.old draft.old }
     requires on { IsTrue (M.world medium.old).power }
     requires settled { AreSettled geometry.now (M.world medium.old).cells (lists_of lists.old) }
     ensures rule { MatchResult result
@@ -77,7 +77,7 @@ pub fn grow<M: Medium>(
         (lists_of lists.new))
         (StopsGrowing M.world M.reaches geometry.now medium.old medium.new (lists_of lists.old) capacity
         (lists_of lists.new)) }
-    ensures fit { IsFit geometry.now (M.block_count medium.new) lists.new draft.new }
+    ensures fit { AreFit geometry.now (M.block_count medium.new) lists.new draft.new }
 {
     match size_of(geometry, lists, capacity) {
         Size::Unlawful => return Ok(Grown::Refused),
@@ -106,11 +106,11 @@ pub fn expand_lists<M: Medium>(
     capacity: u32,
     scratch: &mut Scratch,
 ) -> ExpandEnd
-    requires fit { IsFit geometry.now (M.block_count medium.old) lists.old draft.old }
+    requires fit { AreFit geometry.now (M.block_count medium.old) lists.old draft.old }
     requires settled { AreSettled geometry.now (M.world medium.old).cells (lists_of lists.old) }
     ensures rule { ExpandRule M.world M.reaches geometry.now medium.old medium.new (lists_of lists.old)
         capacity (lists_of lists.new) result }
-    ensures fit { IsFit geometry.now (M.block_count medium.new) lists.new draft.new }
+    ensures fit { AreFit geometry.now (M.block_count medium.new) lists.new draft.new }
 {
     if !medium.powered() {
         return ExpandEnd::Off;

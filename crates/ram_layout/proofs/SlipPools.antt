@@ -7,9 +7,10 @@ use Rattle.std.proofs.lemmas.List.{length-append}
 use Rattle.model_geometry.specs.Geometry.{Shape, LayoutKind, OneGroup, data_blocks}
 use Rattle.model_lists.specs.declared.dds.PdlEntry.{PdlEntry}
 use Rattle.model_lists.specs.Values.{Dds, pdl_blocks}
-use Rattle.model_places.specs.Places.{unslipped, unreplaced, primary_count, logical_count, pools_by, pools_of}
+use Rattle.model_places.specs.Places.{unslipped, primary_count, count_of, pools_of}
 use Rattle.model_places.specs.Valid.{IsValidPdl, IsValidOnSome}
-use Rattle.model_places.proofs.Pools.{pools_are_all, unslipped_rise}
+use Rattle.model_places.proofs.ByKind as by_kind
+use Rattle.model_places.proofs.Pools.{slips_are_all, unslipped_rise}
 use Rattle.model_pools.specs.Pools.{Pool, ArePools, logical_in, spares_in, spares_at}
 use Rattle.model_pools.proofs.Cuts.{logical_many, spares_many, pools_lawful, is_logical, is_spare, is_neither}
 use Rattle.std.specs.List.{range_with_len}
@@ -19,34 +20,31 @@ use Rattle.ram_runs.specs.Runs.{blocks_in, AreRunsFrom, IsTable, end_of}
 use Rattle.ram_layout.specs.declared.slip_layout.SlipLayout.TheInside.{Inside}
 use Rattle.ram_layout.specs.Slipping.{SlipTable, table_in, slip_pools, kept_in, IsSlippingOf, IsSlipTable}
 
--- The pool of a table is that of the structure and of the size of the area, by the kind of the layout.
+-- The pool of a table is that of the structure and of the size of the area.
 module _ (shape : Shape) (dds : Dds) (ssa : ℕ) (table : SlipTable) (valid : IsValidPdl shape dds) (area : IsValidOnSome shape ssa)
-    (is : IsSlippingOf shape dds (logical_count shape (unreplaced dds ssa)) table) where
+    (is : IsSlippingOf shape dds (count_of shape ssa) table) where
   abbrev one_pool : List ℕ → ℕ → ℕ → ℕ → List Pool
   one_pool U b n m = record { blocks = take n (drop b U); spares = reverse (take b U) ++ reverse (drop m U) } ∷ []
 
-  slipping_by : (kind : LayoutKind) → slip_pools table ≡ pools_by kind shape dds ssa
-  slipping_by OneGroup =
-      let all = pools_are_all shape (unreplaced dds ssa) valid area.1 in
-      let count = logical_count shape (unreplaced dds ssa) in
+  pub slipping_is : slip_pools table ≡ pools_of shape dds ssa
+  slipping_is =
+      let all = slips_are_all shape dds ssa valid area.1 in
+      let count = count_of shape ssa in
       let rest : primary_count shape dds + count ≡ length (unslipped shape dds) - ssa = omega (arith, all) in
       ap (λ (l : List ℕ). one_pool l table.primary table.logical (table.primary + table.logical)) is.blocks_are
       ∙ ap (λ (b : ℕ). one_pool (unslipped shape dds) b table.logical (b + table.logical)) is.primary_is
       ∙ ap (λ (n : ℕ). one_pool (unslipped shape dds) (primary_count shape dds) n (primary_count shape dds + n)) is.logical_is
       ∙ ap (one_pool (unslipped shape dds) (primary_count shape dds) count) rest
-
-  pub slipping_is : slip_pools table ≡ pools_of shape dds ssa
-  unfolding pools_of
-  slipping_is = slipping_by shape.layout
+      ∙ sym (by_kind.slip_pools shape dds ssa)
 
 -- With another size of the area it is still that of the structure.
 module _ (shape : Shape) (dds : Dds) (logical ssa : ℕ) (table : SlipTable) (valid : IsValidPdl shape dds) (area : IsValidOnSome shape ssa) (is : IsSlippingOf shape dds logical table) where
-  pub room_for_ssa : table.primary + (length (data_blocks shape) - shape.psa - ssa) ≤ length table.blocks
+  pub room_for_ssa : table.primary + count_of shape ssa ≤ length table.blocks
   room_for_ssa =
-      let all = pools_are_all shape (unreplaced dds ssa) valid area.1 in
+      let all = slips_are_all shape dds ssa valid area.1 in
       omega (arith, all, is.primary_is, ap length is.blocks_are)
 
-  pub resized : IsSlippingOf shape dds (logical_count shape (unreplaced dds ssa)) (record table { logical = length (data_blocks shape) - shape.psa - ssa })
+  pub resized : IsSlippingOf shape dds (count_of shape ssa) (record table { logical = count_of shape ssa })
   resized = record { same_shape = is.same_shape; blocks_are = is.blocks_are; primary_is = is.primary_is; logical_is = refl; roomy = is.roomy }
 
 -- ---- as the calls see it
@@ -91,14 +89,14 @@ module _ (inside : Inside) (table : SlipTable) (view : table_in inside ≡ table
 -- ---- a table is made
 
 module _ (inside : Inside) (shape : Shape) (dds : Dds) (ssa : ℕ) (entries : List PdlEntry) (valid : IsValidPdl shape dds) (area : IsValidOnSome shape ssa) (are : entries ≡ dds.entries)
-    (made : blocks_in inside.runs.items ≡ kept_in (pdl_blocks entries) (data_blocks shape)) (primary : inside.primary ≡ primary_count shape dds) (logical : inside.logical ≡ logical_count shape (unreplaced dds ssa)) where
+    (made : blocks_in inside.runs.items ≡ kept_in (pdl_blocks entries) (data_blocks shape)) (primary : inside.primary ≡ primary_count shape dds) (logical : inside.logical ≡ count_of shape ssa) where
   pub blocks_made : blocks_in inside.runs.items ≡ unslipped shape dds
   unfolding unslipped
   blocks_made = made ∙ ap (λ (l : List PdlEntry). kept_in (pdl_blocks l) (data_blocks shape)) are
 
   pub whole_made : IsTable inside.runs.items → end_of 0 inside.runs.items ≤ 147016 → IsSlipTable inside
   whole_made table small =
-      let all = pools_are_all shape (unreplaced dds ssa) valid area.1 in
+      let all = slips_are_all shape dds ssa valid area.1 in
       record {
         table = table;
         small = small;
@@ -106,7 +104,7 @@ module _ (inside : Inside) (shape : Shape) (dds : Dds) (ssa : ℕ) (entries : Li
         fits = omega (arith, all, primary, logical, ap length blocks_made);
       }
 
-  pub slipping_made : inside.geometry ≡ shape → shape.zones + shape.psa ≤ vec_capacity inside.runs → IsSlippingOf shape dds (logical_count shape (unreplaced dds ssa)) (table_in inside)
+  pub slipping_made : inside.geometry ≡ shape → shape.zones + shape.psa ≤ vec_capacity inside.runs → IsSlippingOf shape dds (count_of shape ssa) (table_in inside)
   slipping_made same room = record { same_shape = same; blocks_are = blocks_made; primary_is = primary; logical_is = logical; roomy = room }
 
 -- its spares are few
@@ -117,3 +115,24 @@ few_by inside whole (suc pool) = omega arith
 
 pub few_in : (inside : Inside) (table : SlipTable) → table_in inside ≡ table → IsSlipTable inside → (pool : ℕ) → length (spares_at (slip_pools table) pool) < 2 ^ 32
 few_in inside table view whole pool = subst (λ (t : SlipTable). length (spares_at (slip_pools t) pool) < 2 ^ 32) view (few_by inside whole pool)
+
+-- ---- another size of the supplementary spare area
+
+module _ (inside : Inside) (table : SlipTable) (view : table_in inside ≡ table) (ssa : ℕ) (area : IsValidOnSome table.shape ssa) where
+  area_inside : IsValidOnSome inside.geometry ssa
+  area_inside = subst (λ (t : SlipTable). IsValidOnSome t.shape ssa) (sym view) area
+
+  module _ (count psa : ℕ) (count_is : count ≡ length (data_blocks inside.geometry)) (psa_is : psa ≡ inside.geometry.psa) where
+    pub room_to_resize : ssa ≤ count - psa
+    room_to_resize = let some = area_inside.1.some_logical in omega (arith, some, count_is, psa_is, by_kind.slip_room inside.geometry ssa)
+
+    new_count : count - psa - ssa ≡ count_of inside.geometry ssa
+    new_count = omega (arith, count_is, psa_is, by_kind.slip_counts inside.geometry ssa)
+
+    pub resized_by : table_in (record inside { logical = count - psa - ssa }) ≡ record table { logical = count_of table.shape ssa }
+    resized_by = ap (λ (n : ℕ). record (table_in inside) { logical = n }) new_count ∙ ap (λ (t : SlipTable). record t { logical = count_of t.shape ssa }) view
+
+    pub still_whole : IsSlipTable inside → table.primary + count_of table.shape ssa ≤ length table.blocks → IsSlipTable (record inside { logical = count - psa - ssa })
+    still_whole whole room =
+        let room' : inside.primary + count_of inside.geometry ssa ≤ length (blocks_in inside.runs.items) = subst (λ (t : SlipTable). t.primary + count_of t.shape ssa ≤ length t.blocks) (sym view) room in
+        record { table = whole.table; small = whole.small; rise = whole.rise; fits = omega (arith, room', new_count) }

@@ -3,13 +3,13 @@
 ghost use Rattle.std.specs.Prelude.{◌≡◌, ℕ};
 ghost use Rattle.model_geometry.specs.Geometry.{Shape};
 ghost use Rattle.model_lists.specs.Values.{Dds};
-ghost use Rattle.model_places.specs.Places.{unreplaced, logical_count, pools_of};
+ghost use Rattle.model_places.specs.Places.{count_of, pools_of};
 ghost use Rattle.model_places.specs.Valid.{IsValidPdl, IsValidOnSome};
 ghost use Rattle.ram_layout.specs.Slipping.{SlipTable, IsSlippingOf, slip_pools};
 
 /// The pools of a table are those of its disc.
 pub fn a_table_has_the_pools_of_its_disc()
     ensures { (shape : Shape) (dds : Dds) (ssa : ℕ) (table : SlipTable) → IsValidPdl shape dds → IsValidOnSome shape ssa
-        → IsSlippingOf shape dds (logical_count shape (unreplaced dds ssa)) table
+        → IsSlippingOf shape dds (count_of shape ssa) table
         → slip_pools table ≡ pools_of shape dds ssa }
 {}

@@ -1,8 +1,7 @@
 //! Slipping by a table of runs.
 
 ghost use Rattle.std.specs.Prelude.{◌≡◌, ◌+◌, ◌-◌, ◌≤◌, IfOk, length};
-ghost use Rattle.model_geometry.specs.Geometry.{data_blocks};
-ghost use Rattle.model_places.specs.Places.{unreplaced, logical_count};
+ghost use Rattle.model_places.specs.Places.{count_of};
 ghost use Rattle.model_places.specs.Valid.{IsValidPdl, IsValidOnSome};
 ghost use Rattle.ram_dds.specs.Dds.{dds_of};
 ghost use Rattle.ram_layout.specs.Slipping.{IsSlippingOf};
@@ -51,7 +50,7 @@ impl SlipLayout {
         requires valid { IsValidPdl geometry.now (dds_of dds.now) }
         requires area { IsValidOnSome geometry.now ssa }
         ensures { IfOk result (IsSlippingOf geometry.now (dds_of dds.now)
-            (logical_count geometry.now (unreplaced (dds_of dds.now) ssa))) }
+            (count_of geometry.now ssa)) }
     {
         let psa = geometry.psa();
         let mut runs = Vec::with_capacity(alloc, geometry.zones() as usize + psa as usize)?;
@@ -71,7 +70,7 @@ impl SlipLayout {
         requires area { IsValidOnSome geometry.now ssa }
         requires room { geometry.now.zones + geometry.now.psa ≤ self.old.room }
         ensures { IsSlippingOf geometry.now (dds_of dds.now)
-            (logical_count geometry.now (unreplaced (dds_of dds.now) ssa)) self.new }
+            (count_of geometry.now ssa) self.new }
     {
         let psa = geometry.psa();
         let entries = dds.entries.as_slice();
@@ -84,8 +83,8 @@ impl SlipLayout {
     /// Changes the size of the supplementary spare area. It takes no memory.
     pub fn set_ssa(&mut self, ssa: u32)
         requires area { IsValidOnSome self.old.shape ssa }
-        requires fits { self.old.primary + (length (data_blocks self.old.shape) - self.old.shape.psa - ssa) ≤ length self.old.blocks }
-        ensures { self.new ≡ record self.old { logical = length (data_blocks self.old.shape) - self.old.shape.psa - ssa } }
+        requires fits { self.old.primary + count_of self.old.shape ssa ≤ length self.old.blocks }
+        ensures { self.new ≡ record self.old { logical = count_of self.old.shape ssa } }
     {
         self.logical = self.geometry.data_blocks() - self.geometry.psa() - ssa;
     }

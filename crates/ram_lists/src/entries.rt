@@ -1,6 +1,6 @@
 //! The test of a secondary defect list under a primary one.
 
-ghost use Rattle.std.specs.Prelude.{◌↔◌, IsTrue, Some, nat_eq};
+ghost use Rattle.std.specs.Prelude.{◌↔◌, ◌≡◌, ◌<◌, IsTrue, nat_eq, length, slice_index};
 ghost use Rattle.std.specs.List.{All, Contains, IsDistinct};
 ghost use Rattle.std.specs.List.Sorted.{IsStrictlyIncreasing};
 ghost use Rattle.model_lists.specs.Values.{defectives};
@@ -9,17 +9,16 @@ ghost use Rattle.model_places.specs.Places.{spares};
 ghost use Rattle.model_places.specs.Valid.{IsValidPdl, IsValidSsa, IsValidSdl};
 ghost use Rattle.ram_dds.specs.Dds.{dds_of};
 ghost use Rattle.ram_sdl.specs.Sdl.{sdl_of};
-ghost use Rattle.ram_slip.specs.Place.{IsSpareNumber};
 ghost use Rattle.ram_lists.specs.Entries.{MayReplace, IsEntryValid, IsValidAt, TellsNamed};
 
 use model_lists::SdlEntry;
 use ram_dds::DdsPdl;
 use ram_sdl::Sdl;
-use ram_slip::{Place, is_valid_ssa, place_of, spare_number};
+use ram_slip::{Place, is_valid_ssa, place_of, spare_turn};
 use ram_zones::Geometry;
 
-/// How many spares a disc of any version may have: their numbers are lower.
-const MOST_NUMBERS: usize = 8_184;
+/// How many spares a disc of any version may have: their turns are lower.
+const MOST_TURNS: usize = 8_184;
 
 /// Whether each entry names a later defective block than the one before.
 fn rise(entries: &[SdlEntry]) -> bool
@@ -40,7 +39,7 @@ fn is_spare(geometry: &Geometry, dds: &DdsPdl, sdl: &Sdl, block: u32) -> bool
     ensures { IsTrue result
         ↔ Contains (spares geometry.now (record { dds = dds_of dds.now; sdl = sdl_of sdl.now })) block }
 {
-    match spare_number(geometry, dds, sdl.ssa, block) {
+    match spare_turn(geometry, dds, sdl.ssa, block) {
         Some(_) => true,
         None => false,
     }
@@ -113,15 +112,17 @@ fn are_entries_valid(geometry: &Geometry, dds: &DdsPdl, sdl: &Sdl) -> bool
     true
 }
 
-/// The number of a spare.
-fn number_of(geometry: &Geometry, dds: &DdsPdl, sdl: &Sdl, spare: u32) -> usize
+/// The turn of a spare, in the order in which spares are taken.
+fn turn_of(geometry: &Geometry, dds: &DdsPdl, sdl: &Sdl, spare: u32) -> usize
     requires valid { IsValidPdl geometry.now (dds_of dds.now) }
     requires area { IsValidSsa geometry.now sdl.now.version sdl.now.ssa }
     requires spare { Contains (spares geometry.now (record { dds = dds_of dds.now; sdl = sdl_of sdl.now })) spare }
-    ensures { IsSpareNumber geometry.now (dds_of dds.now) sdl.now.ssa spare (Some result) }
+    ensures inside { result < length (spares geometry.now (record { dds = dds_of dds.now; sdl = sdl_of sdl.now })) }
+    ensures has { slice_index (spares geometry.now (record { dds = dds_of dds.now; sdl = sdl_of sdl.now })) result
+        ≡ spare }
 {
-    match spare_number(geometry, dds, sdl.ssa, spare) {
-        Some(number) => number as usize,
+    match spare_turn(geometry, dds, sdl.ssa, spare) {
+        Some(turn) => turn as usize,
         None => unreachable!(),
     }
 }
@@ -140,11 +141,11 @@ fn are_different(geometry: &Geometry, dds: &DdsPdl, sdl: &Sdl, named: &mut [bool
     for k in 0..entries.len() {
         match entries[k].replacement {
             Some(spare) => {
-                let number = number_of(geometry, dds, sdl, spare);
-                if named[number] {
+                let turn = turn_of(geometry, dds, sdl, spare);
+                if named[turn] {
                     return false;
                 }
-                named[number] = true;
+                named[turn] = true;
             }
             None => {}
         }
@@ -168,6 +169,6 @@ pub fn is_valid_sdl(geometry: &Geometry, dds: &DdsPdl, sdl: &Sdl) -> bool
     if !are_entries_valid(geometry, dds, sdl) {
         return false;
     }
-    let mut named = [false; MOST_NUMBERS];
+    let mut named = [false; MOST_TURNS];
     are_different(geometry, dds, sdl, &mut named)
 }

@@ -3,7 +3,8 @@
 use ram_by_hand::{Entry, number_of};
 use ram_dds::{DdsPdl, DdsState, PdlEntries, PdlEntry, PdlKind};
 use ram_sdl::{Sdl, SdlEntries, SdlEntry, Version};
-use ram_slip::{Place, is_valid_pdl, is_valid_ssa, physical, place_of, spare_number, spare_of};
+use ram_layout::{Layout, SlipLayout};
+use ram_slip::{Place, is_valid_pdl, is_valid_ssa, place_of, spare_turn};
 use ram_zones::Geometry;
 use std::alloc::{AllocError, Global};
 use std::fmt::Write;
@@ -52,15 +53,36 @@ pub fn replacing(alloc: Global, ssa: u32, entries: &[Entry]) -> Result<Sdl, Allo
     })
 }
 
-/// The block of a logical block, where what it asks for holds.
-fn block_of(geometry: &Geometry, dds: &DdsPdl, i: u32) -> Option<u32> {
-    if is_valid_pdl(geometry, dds) && i < geometry.data_blocks() - geometry.psa() {
-        return Some(physical(geometry, dds, i));
+/// The layout of a disc with so many supplementary spares, where its structure and that number are valid.
+pub fn layout_of(
+    alloc: Global,
+    geometry: &Geometry,
+    dds: &DdsPdl,
+    ssa: u32,
+) -> Result<Option<SlipLayout>, AllocError> {
+    if is_valid_pdl(geometry, dds) && is_valid_ssa(geometry, dds.version, ssa) {
+        return Ok(Some(SlipLayout::new(alloc, geometry, dds, ssa)?));
+    }
+    Ok(None)
+}
+
+/// The block of a logical block, where there is such a one.
+fn block_in(layout: &SlipLayout, i: u32) -> Option<u32> {
+    if i < layout.logical() {
+        return Some(layout.physical(i));
     }
     None
 }
 
-/// What a block is, where what it asks for holds.
+/// The spare of a turn, where there is such a one.
+fn spare_in(layout: &SlipLayout, turn: u32) -> Option<u32> {
+    if layout.pools() == 1 {
+        return layout.spare(0, turn);
+    }
+    None
+}
+
+/// What a block is by sums, where what that asks for holds.
 fn found_at(geometry: &Geometry, dds: &DdsPdl, ssa: u32, block: u32) -> Option<Place> {
     if is_valid_pdl(geometry, dds) && is_valid_ssa(geometry, dds.version, ssa) {
         return Some(place_of(geometry, dds, ssa, block));
@@ -68,40 +90,77 @@ fn found_at(geometry: &Geometry, dds: &DdsPdl, ssa: u32, block: u32) -> Option<P
     None
 }
 
-/// The number of a spare, and the spare of that number, where what it asks for holds.
-fn number_at(geometry: &Geometry, dds: &DdsPdl, ssa: u32, block: u32) -> Option<(u32, u32)> {
-    if !(is_valid_pdl(geometry, dds) && is_valid_ssa(geometry, dds.version, ssa)) {
-        return None;
+/// The turn of a spare by sums, where what that asks for holds.
+fn turn_at(geometry: &Geometry, dds: &DdsPdl, ssa: u32, block: u32) -> Option<u32> {
+    if is_valid_pdl(geometry, dds) && is_valid_ssa(geometry, dds.version, ssa) {
+        return spare_turn(geometry, dds, ssa, block);
     }
-    match spare_number(geometry, dds, ssa, block) {
-        Some(number) => Some((number, spare_of(geometry, dds, ssa, number))),
-        None => None,
-    }
+    None
 }
 
 impl Places {
+    /// The layout with so many supplementary spares.
+    fn layout(&self, alloc: Global, ssa: u32) -> Result<Option<SlipLayout>, AllocError> {
+        layout_of(alloc, &self.geometry, &self.dds, ssa)
+    }
+
     /// Adds the block of a logical block, and what that block is.
-    pub fn add_logical(&self, i: u32, answer: &mut String) -> Result<(), AllocError> {
-        let Some(block) = block_of(&self.geometry, &self.dds, i) else {
+    pub fn add_logical(&self, alloc: Global, i: u32, answer: &mut String) -> Result<(), AllocError> {
+        let Some(layout) = self.layout(alloc, 0)? else {
             return answer.push_str("none");
         };
-        write!(answer, "block {block}, ")?;
-        self.add_place(0, block, answer)
+        let Some(block) = block_in(&layout, i) else {
+            return answer.push_str("none");
+        };
+        write!(answer, "block {block}, {:?}", layout.place(block))
     }
 
-    /// Adds what a block is where there are so many supplementary spares.
-    pub fn add_place(&self, ssa: u32, block: u32, answer: &mut String) -> Result<(), AllocError> {
-        match found_at(&self.geometry, &self.dds, ssa, block) {
-            Some(place) => write!(answer, "{place:?}"),
-            None => answer.push_str("not valid"),
+    /// Adds what a block is where there are so many supplementary spares. The table and the sums say the same.
+    pub fn add_place(
+        &self,
+        alloc: Global,
+        ssa: u32,
+        block: u32,
+        answer: &mut String,
+    ) -> Result<(), AllocError> {
+        let Some(layout) = self.layout(alloc, ssa)? else {
+            return answer.push_str("not valid");
+        };
+        let place = layout.place(block);
+        if found_at(&self.geometry, &self.dds, ssa, block) != Some(place) {
+            return answer.push_str("the sums differ");
+        }
+        write!(answer, "{place:?}")
+    }
+
+    /// Adds the turn of a spare by sums, and the spare of that turn by the table.
+    pub fn add_spare(
+        &self,
+        alloc: Global,
+        ssa: u32,
+        block: u32,
+        answer: &mut String,
+    ) -> Result<(), AllocError> {
+        let Some(turn) = turn_at(&self.geometry, &self.dds, ssa, block) else {
+            return answer.push_str("no turn");
+        };
+        let Some(layout) = self.layout(alloc, ssa)? else {
+            return answer.push_str("not valid");
+        };
+        match spare_in(&layout, turn) {
+            Some(spare) => write!(answer, "turn {turn}, block {spare}"),
+            None => write!(answer, "turn {turn}, no spare"),
         }
     }
 
-    /// Adds the number of a spare, and the spare of that number.
-    pub fn add_spare(&self, ssa: u32, block: u32, answer: &mut String) -> Result<(), AllocError> {
-        match number_at(&self.geometry, &self.dds, ssa, block) {
-            Some((number, spare)) => write!(answer, "number {number}, block {spare}"),
-            None => answer.push_str("no number"),
+    /// Adds the runs of the blocks that are not slipped, each by its first block, its index and its length.
+    pub fn add_runs(&self, alloc: Global, answer: &mut String) -> Result<(), AllocError> {
+        let Some(layout) = self.layout(alloc, 0)? else {
+            return answer.push_str("not valid");
+        };
+        for run in layout.runs() {
+            write!(answer, "({}, {}, {}) ", run.first, run.index, run.len)?;
         }
+        answer.push_str("end")
     }
 }

@@ -210,6 +210,7 @@ fn make_text(
 
 /// Makes the step of a word and numbers that looks at the places.
 fn look(
+    alloc: Global,
     places: &Places,
     word: &str,
     numbers: &[u32],
@@ -223,12 +224,14 @@ fn look(
             is_valid_ssa(&places.geometry, places.dds.version, *ssa),
             answer,
         ),
-        ("logical", [i]) => places.add_logical(*i, answer),
-        ("place", [ssa, block]) => places.add_place(*ssa, *block, answer),
-        ("spare", [ssa, block]) => places.add_spare(*ssa, *block, answer),
-        ("next", []) => places.add_next(None, answer),
-        ("next", [after]) => places.add_next(Some(*after), answer),
-        ("walk", []) => places.add_walk(answer),
+        ("logical", [i]) => places.add_logical(alloc, *i, answer),
+        ("place", [ssa, block]) => places.add_place(alloc, *ssa, *block, answer),
+        ("spare", [ssa, block]) => places.add_spare(alloc, *ssa, *block, answer),
+        ("next", []) => places.add_next(alloc, None, answer),
+        ("next", [after]) => places.add_next(alloc, Some(*after), answer),
+        ("walk", []) => places.add_walk(alloc, answer),
+        ("runs", []) => places.add_runs(alloc, answer),
+        ("cursors", [pools]) => places.add_cursors(alloc, *pools, answer),
         ("counts", []) => places.add_counts(answer),
         _ => return None,
     })
@@ -254,7 +257,7 @@ fn look_or_text(
         return answer.push_str("no such step");
     };
     let numbers = numbers_of(alloc, rest)?;
-    match look(&table.places, word, &numbers, answer) {
+    match look(alloc, &table.places, word, &numbers, answer) {
         Some(done) => done,
         None => make_text(alloc, table, words, answer),
     }

@@ -1,17 +1,23 @@
 //! Which spare comes next, and how many are free.
 
-ghost use Rattle.std.specs.Prelude.{IsTrue};
+ghost use Rattle.std.specs.Prelude.{◌≡◌, IsTrue, replicate};
+ghost use Rattle.std.specs.List.{Contains};
+ghost use Rattle.std.specs.List.Sorted.{IsStrictlyIncreasing};
+ghost use Rattle.model_lists.specs.Values.{defectives};
+ghost use Rattle.model_pools.specs.Pools.{spares_at};
 ghost use Rattle.model_places.specs.Valid.{AreValid};
+ghost use Rattle.ram_layout.specs.Slipping.{slip_pools};
 ghost use Rattle.ram_spare.specs.Spares.{both_lists};
 
-use crate::places::Places;
+use crate::places::{Places, layout_of};
 use ram_dds::{DdsPdl, DdsState};
+use ram_layout::{Layout, SlipLayout};
 use ram_lists::is_valid_sdl;
 use ram_sdl::Sdl;
-use ram_slip::{is_valid_pdl, spare_number};
-use ram_spare::{SpareCounts, counts, next_free};
+use ram_slip::{Place, is_valid_pdl};
+use ram_spare::{Cursors, SpareCounts, counts, next_free};
 use ram_zones::Geometry;
-use std::alloc::AllocError;
+use std::alloc::{AllocError, Global};
 use std::fmt::Write;
 
 /// The most spares that a walk gives.
@@ -33,18 +39,54 @@ pub fn are_valid(geometry: &Geometry, dds: &DdsPdl, sdl: &Sdl) -> bool
     }
 }
 
-/// The next free spare, or the block 0 where it may not be asked for.
-pub fn next(geometry: &Geometry, dds: &DdsPdl, sdl: &Sdl, after: Option<u32>) -> Option<u32> {
-    if !are_valid(geometry, dds, sdl) {
-        return Some(0);
+/// Whether a block is a spare of a layout.
+fn is_spare(layout: &SlipLayout, block: u32) -> bool
+    ensures { IsTrue result → Contains (spares_at (slip_pools layout.now) 0) block }
+{
+    match layout.place(block) {
+        Place::Primary => true,
+        Place::Supplementary => true,
+        Place::Logical { i: _ } => false,
+        Place::Slipped => false,
+        Place::Outside => false,
     }
+}
+
+/// The next free spare of a layout, or the block 0 where it may not be asked for.
+fn next_in(
+    layout: &SlipLayout,
+    cursors: &Cursors,
+    sdl: &Sdl,
+    after: Option<u32>,
+) -> Option<u32>
+    requires rise { IsStrictlyIncreasing (defectives sdl.now.entries.list) }
+    requires first { cursors.now ≡ replicate 1 0 }
+{
     let Some(spare) = after else {
-        return next_free(geometry, dds, sdl, None);
+        return next_free(layout, cursors, sdl, 0, None);
     };
-    match spare_number(geometry, dds, sdl.ssa, spare) {
-        Some(_) => next_free(geometry, dds, sdl, Some(spare)),
-        None => Some(0),
+    if is_spare(layout, spare) {
+        return next_free(layout, cursors, sdl, 0, Some(spare));
     }
+    Some(0)
+}
+
+/// The next free spare, or the block 0 where it may not be asked for.
+pub fn next(
+    alloc: Global,
+    geometry: &Geometry,
+    dds: &DdsPdl,
+    sdl: &Sdl,
+    after: Option<u32>,
+) -> Result<Option<u32>, AllocError> {
+    let cursors = Cursors::new(alloc, 1)?;
+    let Some(layout) = layout_of(alloc, geometry, dds, sdl.ssa)? else {
+        return Ok(Some(0));
+    };
+    if !are_valid(geometry, dds, sdl) {
+        return Ok(Some(0));
+    }
+    Ok(next_in(&layout, &cursors, sdl, after))
 }
 
 /// How many spares are free, where it may be asked for.
@@ -57,29 +99,43 @@ pub fn counted(geometry: &Geometry, dds: &DdsPdl, sdl: &Sdl) -> Option<SpareCoun
 
 impl Places {
     /// The spare after one, or the first.
-    fn next(&self, after: Option<u32>) -> Option<u32> {
-        next(&self.geometry, &self.dds, &self.sdl, after)
+    fn next(&self, alloc: Global, after: Option<u32>) -> Result<Option<u32>, AllocError> {
+        next(alloc, &self.geometry, &self.dds, &self.sdl, after)
     }
 
     /// Adds the spare after one, or the first.
-    pub fn add_next(&self, after: Option<u32>, answer: &mut String) -> Result<(), AllocError> {
-        match self.next(after) {
+    pub fn add_next(
+        &self,
+        alloc: Global,
+        after: Option<u32>,
+        answer: &mut String,
+    ) -> Result<(), AllocError> {
+        match self.next(alloc, after)? {
             Some(spare) => write!(answer, "{spare}"),
             None => answer.push_str("none"),
         }
     }
 
     /// Adds the free spares, as they are given one after another.
-    pub fn add_walk(&self, answer: &mut String) -> Result<(), AllocError> {
+    pub fn add_walk(&self, alloc: Global, answer: &mut String) -> Result<(), AllocError> {
         let mut after = None;
         for _ in 0..MOST_GIVEN {
-            let Some(spare) = self.next(after) else {
+            let Some(spare) = self.next(alloc, after)? else {
                 return answer.push_str("none");
             };
             write!(answer, "{spare} ")?;
             after = Some(spare);
         }
         Ok(())
+    }
+
+    /// Adds the cursor of each of so many pools, as it is made.
+    pub fn add_cursors(&self, alloc: Global, pools: u32, answer: &mut String) -> Result<(), AllocError> {
+        let cursors = Cursors::new(alloc, pools)?;
+        for pool in 0..cursors.pools() {
+            write!(answer, "{} ", cursors.at(pool))?;
+        }
+        answer.push_str("end")
     }
 
     /// Adds how many spares are free.

@@ -71,14 +71,14 @@ fn free_count(states: &[u32]) -> u32 {
 }
 
 /// Whether the spares are given that are free, after none and after each.
-fn are_given(places: &Places, states: States) -> bool {
+fn are_given(alloc: Global, places: &Places, states: States) -> Result<bool, AllocError> {
     let (geometry, dds, sdl) = (&places.geometry, &places.dds, &places.sdl);
-    let mut all = next(geometry, dds, sdl, None) == first_from(states, 0);
+    let mut all = next(alloc, geometry, dds, sdl, None)? == first_from(states, 0);
     for turn in 0..4 {
-        let given = next(geometry, dds, sdl, Some(ORDER[turn]));
+        let given = next(alloc, geometry, dds, sdl, Some(ORDER[turn]))?;
         all = all && given == first_from(states, turn + 1);
     }
-    all
+    Ok(all)
 }
 
 /// Whether the spares are counted that are free.
@@ -106,7 +106,7 @@ fn disc_of(alloc: Global, states: States) -> Result<Option<Places>, AllocError> 
 /// Whether spares are given and counted as they must be in these states.
 fn agrees(alloc: Global, states: States) -> Result<bool, AllocError> {
     Ok(match disc_of(alloc, states)? {
-        Some(places) => are_given(&places, states) && are_counted(&places, states),
+        Some(places) => are_given(alloc, &places, states)? && are_counted(&places, states),
         None => false,
     })
 }

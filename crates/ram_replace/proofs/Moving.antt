@@ -1,24 +1,19 @@
 -- How the secondary list of a move is made, entry after entry.
 use Rattle.std.specs.Prelude.{◌≡◌, ◌≢◌, ℕ, suc, ◌+◌, ◌≤◌, ◌<◌, ◌^◌, nat_lt, Option, Some, None, List, [], ◌∷◌, length, slice_index}
 use Rattle.std.proofs.Common.{refl, sym, ap, ◌∙◌, inl, inr, subst, arith, eqb, filter, length-append}
-use Rattle.std.specs.List.{Contains}
+use Rattle.std.specs.List.{All, Contains}
+use Rattle.std.specs.List.Sorted.{IsStrictlyIncreasing}
 use Rattle.std.proofs.lemmas.Bool.{cond-true, cond-false, lt-ltb, le-ltb, ne_eqb, cases_order}
-use Rattle.std.proofs.lemmas.List.Elements.{All-contains}
-use Rattle.model_geometry.specs.Geometry.{Shape, IsLawful, lead_out, data_blocks}
-use Rattle.model_geometry.proofs.DataBlocks.{data_blocks_bounds}
-use Rattle.model_geometry.proofs.Zones.{total_most}
+use Rattle.std.proofs.lemmas.List.Elements.{Contains-append_right}
 use Rattle.model_lists.specs.declared.sdl.SdlEntry.{SdlEntry}
 use Rattle.model_lists.specs.Values.{Sdl, IsBlockNumber, HasNumbers, IsLawfulSdl, most_of, defectives, with_entry, pair, retired}
-use Rattle.model_places.specs.Places.{Lists, logical_block, logical_count, home_of, free_spares, unslipped}
-use Rattle.model_places.specs.Valid.{AreValid}
-use Rattle.model_places.proofs.Entries.{length-entries_most}
+use Rattle.model_pools.specs.Pools.{Pool, ArePools, AreValidUnder, all_in, logical_in, spares_in, block_in, home_in, free_in}
+use Rattle.model_pools.specs.Moves.{with_retired, former, sdl_moved_in, entries_moved_in, tried_of, IsNextOf}
+use Rattle.model_pools.proofs.Entries.{length-entries_in}
+use Rattle.model_pools.proofs.Members.{ByMembers, all_from, by_members, from_members}
+use Rattle.model_pools.proofs.NewEntries.{retire_all, with_pair, moved_valid_in}
 use Rattle.model_pools.proofs.Replacements.{Contains-later}
-use Rattle.model_places.proofs.Pools.{unslipped_are_data, spare_is_unslipped}
-use Rattle.model_volume.specs.Moves.{with_retired, former, lists_moved, sdl_moved, tried_of, IsNextSpare}
-use Rattle.model_volume.proofs.Different.{free_apart}
 use Rattle.model_volume.proofs.ValidDecided.{contains_decided}
-use Rattle.model_volume.proofs.Validity.{all_from, ByMembers, by_members, from_members}
-use Rattle.model_volume.proofs.NewLists.{retire_all, with_pair, moved_valid}
 use Rattle.ram_sdl.specs.EntriesAndRoom.{EntriesAndRoom, HasRoomFor}
 use Rattle.ram_replace.specs.declared.spares.Found.{Found}
 use Rattle.ram_replace.specs.Spares.{StandsAt}
@@ -59,33 +54,49 @@ room_for new held fits = elim (contains_decided (defectives held.list) new.defec
 pub one_more_entry : (a b c : Sdl) (es : List SdlEntry) (e : SdlEntry) → b ≡ record a { entries = es } → c ≡ record b { entries = with_entry e b.entries } → c ≡ record a { entries = with_entry e es }
 one_more_entry a b c es e was is = is ∙ ap (λ (x : Sdl). record x { entries = with_entry e x.entries }) was
 
--- ---- the entries at each step are few, and rise
+-- ---- the entries at each step are few
 
-few_of : (shape : Shape) (lists : Lists) (es : List SdlEntry) → AreValid shape lists → ByMembers shape lists.dds lists.sdl.ssa es → length es ≤ most_of lists.sdl.version
-few_of shape lists es valid members =
-    let step : Lists = record lists { sdl = record lists.sdl { entries = es } } in
-    length-entries_most shape step valid.primary (from_members shape step valid.together.secondary.area members)
+module _ (pools : List Pool) (entries : List SdlEntry) (lawful : ArePools pools) (valid : AreValidUnder pools entries) (most : ℕ) (few_spares : length (spares_in pools) ≤ most) (i : ℕ) where
+  few_of : (es : List SdlEntry) → ByMembers pools es → length es ≤ most
+  few_of es members = let few = length-entries_in pools es (from_members pools es members) in omega (arith, few, few_spares)
 
-module _ (shape : Shape) (lists : Lists) (valid : AreValid shape lists) where
-  module _ (k : ℕ) (few : k ≤ length (free_spares shape lists)) where
-    pub retired_few : length (with_retired (tried_of (free_spares shape lists) k) lists.sdl.entries) ≤ most_of lists.sdl.version
-    retired_few = few_of shape lists (with_retired (tried_of (free_spares shape lists) k) lists.sdl.entries) valid (retire_all shape lists valid (free_apart shape lists valid) k few).es_valid
+  pub retired_few : (k : ℕ) → k ≤ length (free_in pools entries i) → length (with_retired (tried_of (free_in pools entries i) k) entries) ≤ most
+  retired_few k few = few_of (with_retired (tried_of (free_in pools entries i) k) entries) (retire_all pools entries lawful valid i k few).es_valid
 
-  module _ (i : ℕ) (inside : i < logical_count shape lists) (found : Found) (at : StandsAt (free_spares shape lists) found) where
-    next : IsNextSpare shape lists (tried_of (free_spares shape lists) found.tried) found.spare
+  module _ (inside : i < length (logical_in pools)) (found : Found) (at : StandsAt (free_in pools entries i) found) where
+    pub next : IsNextOf (free_in pools entries i) (tried_of (free_in pools entries i) found.tried) found.spare
     next = record { tried = found.tried; failed_are = refl; inside = at.inside; spare_is = at.spare_is }
 
-    pub pair_few : length (with_entry (pair (logical_block shape lists.dds i) found.spare) (with_retired (tried_of (free_spares shape lists) found.tried) lists.sdl.entries)) ≤ most_of lists.sdl.version
+    pub pair_few : length (with_entry (pair (block_in pools i) found.spare) (with_retired (tried_of (free_in pools entries i) found.tried) entries)) ≤ most
     unfolding next
-    pair_few = few_of shape lists (with_entry (pair (logical_block shape lists.dds i) found.spare) (with_retired (tried_of (free_spares shape lists) found.tried) lists.sdl.entries)) valid
-        (with_pair shape lists valid (free_apart shape lists valid) i inside (tried_of (free_spares shape lists) found.tried) found.spare next)
+    pair_few = few_of (with_entry (pair (block_in pools i) found.spare) (with_retired (tried_of (free_in pools entries i) found.tried) entries))
+        (with_pair pools entries lawful valid i inside (tried_of (free_in pools entries i) found.tried) found.spare next)
 
-    -- the lists of the move are valid
-    pub lists_valid : AreValid shape (lists_moved shape lists i (tried_of (free_spares shape lists) found.tried) found.spare)
-    lists_valid = moved_valid shape lists valid (free_apart shape lists valid) i inside (tried_of (free_spares shape lists) found.tried) found.spare next
+    -- the entries of the move are valid
+    pub entries_valid : AreValidUnder pools (entries_moved_in pools entries i (tried_of (free_in pools entries i) found.tried) found.spare)
+    entries_valid = moved_valid_in pools entries lawful valid i inside (tried_of (free_in pools entries i) found.tried) found.spare next
 
-    pub moved_few : length (sdl_moved shape lists i (tried_of (free_spares shape lists) found.tried) found.spare).entries ≤ most_of lists.sdl.version
-    moved_few = length-entries_most shape (lists_moved shape lists i (tried_of (free_spares shape lists) found.tried) found.spare) valid.primary lists_valid.together.secondary
+    pub moved_few : length (entries_moved_in pools entries i (tried_of (free_in pools entries i) found.tried) found.spare) ≤ most
+    moved_few = let few = length-entries_in pools (entries_moved_in pools entries i (tried_of (free_in pools entries i) found.tried) found.spare) entries_valid in omega (arith, few, few_spares)
+
+    module _ (held : EntriesAndRoom) (room : most ≤ held.room) (own : ℕ) (own_is : own ≡ block_in pools i) where
+      pub room_for_pair : held.list ≡ with_retired (tried_of (free_in pools entries i) found.tried) entries → HasRoomFor own held
+      room_for_pair list_is =
+          let after : with_entry (pair own found.spare) held.list ≡ with_entry (pair (block_in pools i) found.spare) (with_retired (tried_of (free_in pools entries i) found.tried) entries) =
+          ap (with_entry (pair own found.spare)) list_is
+          ∙ ap (λ (o : ℕ). with_entry (pair o found.spare) (with_retired (tried_of (free_in pools entries i) found.tried) entries)) own_is in
+          let fits = subst (λ (es : List SdlEntry). length es ≤ most) (sym after) pair_few in
+          room_for (pair own found.spare) held (omega (arith, fits, room))
+
+      pub room_for_former : (home : ℕ) → home ≡ home_in pools entries i → held.list ≡ with_entry (pair own found.spare) (with_retired (tried_of (free_in pools entries i) found.tried) entries)
+          → length (with_retired (former own home) held.list) ≤ held.room
+      room_for_former home home_is list_is =
+          let after : with_retired (former own home) held.list ≡ entries_moved_in pools entries i (tried_of (free_in pools entries i) found.tried) found.spare =
+          ap (with_retired (former own home)) list_is
+          ∙ ap (λ (h : ℕ). with_retired (former own h) (with_entry (pair own found.spare) (with_retired (tried_of (free_in pools entries i) found.tried) entries))) home_is
+          ∙ ap (λ (o : ℕ). with_retired (former o (home_in pools entries i)) (with_entry (pair o found.spare) (with_retired (tried_of (free_in pools entries i) found.tried) entries))) own_is in
+          let fits = subst (λ (es : List SdlEntry). length es ≤ most) (sym after) moved_few in
+          omega (arith, fits, room)
 
 -- ---- room for each step
 
@@ -100,74 +111,48 @@ room_for_other own home held apart fits =
     let one : former own home ≡ home ∷ [] = cond-false (eqb home own) [] (home ∷ []) (ne_eqb home own apart) in
     room_for (retired home) held (subst (λ (ss : List ℕ). length (with_retired ss held.list) ≤ held.room) one fits)
 
-module _ (shape : Shape) (lists : Lists) (valid : AreValid shape lists) (held : EntriesAndRoom) (room : most_of lists.sdl.version ≤ held.room) where
-  pub room_for_spare : (found : Found) → StandsAt (free_spares shape lists) found → held.list ≡ with_retired (tried_of (free_spares shape lists) found.tried) lists.sdl.entries → HasRoomFor found.spare held
-  room_for_spare found at list_is =
-      let after : with_entry (retired found.spare) held.list ≡ with_retired (tried_of (free_spares shape lists) (found.tried + 1)) lists.sdl.entries =
-      ap (with_entry (retired found.spare)) list_is ∙ retired_next (free_spares shape lists) lists.sdl.entries found.tried found.spare at.spare_is in
-      let few = retired_few shape lists valid (found.tried + 1) (let inside = at.inside in omega (arith, inside)) in
-      let fits = subst (λ (es : List SdlEntry). length es ≤ most_of lists.sdl.version) (sym after) few in
-      room_for (retired found.spare) held (omega (arith, fits, room))
-
-  module _ (i : ℕ) (inside : i < logical_count shape lists) (found : Found) (at : StandsAt (free_spares shape lists) found) (own : ℕ) (own_is : own ≡ logical_block shape lists.dds i) where
-    pub room_for_pair : held.list ≡ with_retired (tried_of (free_spares shape lists) found.tried) lists.sdl.entries → HasRoomFor own held
-    room_for_pair list_is =
-        let after : with_entry (pair own found.spare) held.list ≡ with_entry (pair (logical_block shape lists.dds i) found.spare) (with_retired (tried_of (free_spares shape lists) found.tried) lists.sdl.entries) =
-        ap (with_entry (pair own found.spare)) list_is
-        ∙ ap (λ (o : ℕ). with_entry (pair o found.spare) (with_retired (tried_of (free_spares shape lists) found.tried) lists.sdl.entries)) own_is in
-        let fits = subst (λ (es : List SdlEntry). length es ≤ most_of lists.sdl.version) (sym after) (pair_few shape lists valid i inside found at) in
-        room_for (pair own found.spare) held (omega (arith, fits, room))
-
-    pub room_for_former : (home : ℕ) → home ≡ home_of shape lists i → held.list ≡ with_entry (pair own found.spare) (with_retired (tried_of (free_spares shape lists) found.tried) lists.sdl.entries)
-        → length (with_retired (former own home) held.list) ≤ held.room
-    room_for_former home home_is list_is =
-        let after : with_retired (former own home) held.list ≡ (sdl_moved shape lists i (tried_of (free_spares shape lists) found.tried) found.spare).entries =
-        ap (with_retired (former own home)) list_is
-        ∙ ap (λ (h : ℕ). with_retired (former own h) (with_entry (pair own found.spare) (with_retired (tried_of (free_spares shape lists) found.tried) lists.sdl.entries))) home_is
-        ∙ ap (λ (o : ℕ). with_retired (former o (home_of shape lists i)) (with_entry (pair o found.spare) (with_retired (tried_of (free_spares shape lists) found.tried) lists.sdl.entries))) own_is in
-        let fits = subst (λ (es : List SdlEntry). length es ≤ most_of lists.sdl.version) (sym after) (moved_few shape lists valid i inside found at) in
-        omega (arith, fits, room)
+-- room for one more spare that is retired
+pub room_for_spare : (free : List ℕ) (entries : List SdlEntry) (held : EntriesAndRoom) (k spare : ℕ) → spare ≡ slice_index free k → length (with_retired (tried_of free (k + 1)) entries) ≤ held.room
+    → held.list ≡ with_retired (tried_of free k) entries → HasRoomFor spare held
+room_for_spare free entries held k spare is fits list_is =
+    let after : with_entry (retired spare) held.list ≡ with_retired (tried_of free (k + 1)) entries = ap (with_entry (retired spare)) list_is ∙ retired_next free entries k spare is in
+    room_for (retired spare) held (subst (λ (es : List SdlEntry). length es ≤ held.room) (sym after) fits)
 
 -- ---- the list of the move
 
-pub draft_is : (shape : Shape) (lists : Lists) (i : ℕ) (found : Found) (a b c d : Sdl) (own home : ℕ) → a ≡ lists.sdl
-    → b ≡ record a { counter = a.counter + 1; entries = with_retired (tried_of (free_spares shape lists) found.tried) lists.sdl.entries }
-    → c ≡ record b { entries = with_entry (pair own found.spare) b.entries } → d ≡ record c { entries = with_retired (former own home) c.entries }
-    → own ≡ logical_block shape lists.dds i → home ≡ home_of shape lists i → d ≡ sdl_moved shape lists i (tried_of (free_spares shape lists) found.tried) found.spare
-draft_is shape lists i found a b c d own home copied retired_is paired former_is own_is home_is =
+pub draft_is : (pools : List Pool) (sdl : Sdl) (i : ℕ) (failed : List ℕ) (spare : ℕ) (a b c d : Sdl) (own home : ℕ) → a ≡ sdl
+    → b ≡ record a { counter = a.counter + 1; entries = with_retired failed sdl.entries }
+    → c ≡ record b { entries = with_entry (pair own spare) b.entries } → d ≡ record c { entries = with_retired (former own home) c.entries }
+    → own ≡ block_in pools i → home ≡ home_in pools sdl.entries i → d ≡ sdl_moved_in pools sdl i failed spare
+draft_is pools sdl i failed spare a b c d own home copied retired_is paired former_is own_is home_is =
     former_is
     ∙ ap (λ (x : Sdl). record x { entries = with_retired (former own home) x.entries }) (paired
-    ∙ ap (λ (x : Sdl). record x { entries = with_entry (pair own found.spare) x.entries }) (retired_is
-    ∙ ap (λ (x : Sdl). record x { counter = x.counter + 1; entries = with_retired (tried_of (free_spares shape lists) found.tried) lists.sdl.entries }) copied))
-    ∙ ap (λ (h : ℕ). record lists.sdl { counter = lists.sdl.counter + 1; entries = with_retired (former own h) (with_entry (pair own found.spare) (with_retired (tried_of (free_spares shape lists) found.tried) lists.sdl.entries)) }) home_is
-    ∙ ap (λ (o : ℕ). record lists.sdl { counter = lists.sdl.counter + 1; entries = with_retired (former o (home_of shape lists i)) (with_entry (pair o found.spare) (with_retired (tried_of (free_spares shape lists) found.tried) lists.sdl.entries)) }) own_is
+    ∙ ap (λ (x : Sdl). record x { entries = with_entry (pair own spare) x.entries }) (retired_is
+    ∙ ap (λ (x : Sdl). record x { counter = x.counter + 1; entries = with_retired failed sdl.entries }) copied))
+    ∙ ap (λ (h : ℕ). record sdl { counter = sdl.counter + 1; entries = with_retired (former own h) (with_entry (pair own spare) (with_retired failed sdl.entries)) }) home_is
+    ∙ ap (λ (o : ℕ). record sdl { counter = sdl.counter + 1; entries = with_retired (former o (home_in pools sdl.entries i)) (with_entry (pair o spare) (with_retired failed sdl.entries)) }) own_is
 
--- ---- a valid list is lawful where its counters are
+-- ---- a list with valid entries is lawful where its counters are
 
-module _ (shape : Shape) (lawful : IsLawful shape) (lists : Lists) (valid : AreValid shape lists) where
-  data_number : (b : ℕ) → Contains (unslipped shape lists.dds) b → IsBlockNumber b
-  data_number b has =
-      let bounds = All-contains (λ b. (7 < b) × (b < lead_out shape)) (data_blocks shape) b (data_blocks_bounds shape) (unslipped_are_data shape lists.dds b has) in
-      let most = total_most shape lawful in
-      omega (arith, bounds, most)
-
-  members : ByMembers shape lists.dds lists.sdl.ssa lists.sdl.entries
-  members = by_members shape lists valid.together.secondary
-
-  numbers : (d : ℕ) (o : Option ℕ) → Contains lists.sdl.entries (record { defective = d; replacement = o }) → HasNumbers (record { defective = d; replacement = o })
-  numbers d None has = record { defective_fits = data_number d (members.within (record { defective = d; replacement = None }) has); replacement_fits = tt }
-  numbers d (Some r) has = record {
-    defective_fits = data_number d (members.within (record { defective = d; replacement = Some r }) has);
-    replacement_fits = data_number r (spare_is_unslipped shape lists r (members.from d r has));
+module _ (pools : List Pool) (entries : List SdlEntry) (valid : AreValidUnder pools entries) (numbers : (b : ℕ) → Contains (all_in pools) b → IsBlockNumber b) where
+  has_numbers : (d : ℕ) (o : Option ℕ) → Contains entries (record { defective = d; replacement = o }) → HasNumbers (record { defective = d; replacement = o })
+  has_numbers d None has = record { defective_fits = numbers d ((by_members pools entries valid).within (record { defective = d; replacement = None }) has); replacement_fits = tt }
+  has_numbers d (Some r) has = record {
+    defective_fits = numbers d ((by_members pools entries valid).within (record { defective = d; replacement = Some r }) has);
+    replacement_fits = numbers r (Contains-append_right (logical_in pools) (spares_in pools) r ((by_members pools entries valid).from d r has));
   }
 
-  pub valid_lawful : lists.sdl.counter < 2 ^ 32 → lists.sdl.dds_counter < 2 ^ 32 → IsLawfulSdl lists.sdl
-  valid_lawful counted dds_counted = record {
+  pub lawful_in : (old new : Sdl) → IsLawfulSdl old → new.entries ≡ entries → new.counter < 2 ^ 32 → new.dds_counter ≡ old.dds_counter → new.version ≡ old.version → new.ssa ≡ old.ssa
+      → length (spares_in pools) ≤ most_of old.version → IsLawfulSdl new
+  lawful_in old new lawful are counted dds_counter version ssa few_spares = record {
     counted = counted;
-    dds_counted = dds_counted;
+    dds_counted = (let was = lawful.dds_counted in omega (arith, was, dds_counter));
     limits = record {
-      most = (let most = valid.together.secondary.area.most in omega (arith, most));
-      few = length-entries_most shape lists valid.primary valid.together.secondary;
+      most = (let most = lawful.limits.most in omega (arith, most, ssa, ap most_of version));
+      few = (let few = length-entries_in pools entries valid in omega (arith, few, few_spares, ap (λ (es : List SdlEntry). length es) are, ap most_of version));
     };
-    list = record { rise = valid.together.secondary.rising; numbers = all_from HasNumbers lists.sdl.entries (λ e has. numbers e.defective e.replacement has) };
+    list = record {
+      rise = subst (λ (es : List SdlEntry). IsStrictlyIncreasing (defectives es)) (sym are) valid.rising;
+      numbers = subst (All HasNumbers) (sym are) (all_from HasNumbers entries (λ e has. has_numbers e.defective e.replacement has));
+    };
   }

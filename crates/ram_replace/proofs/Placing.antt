@@ -20,7 +20,8 @@ use Rattle.model_copies.proofs.SdlParts.{settled_stopped, lost_settled, lost_ali
 use Rattle.model_places.specs.Places.{Lists, logical_count, home_of, free_spares}
 use Rattle.model_places.specs.Valid.{AreValid}
 use Rattle.model_volume.specs.Given.{AreSettled}
-use Rattle.model_volume.specs.Moves.{lists_moved, sdl_moved, tried_of, IsNextSpare, OnlyData, OnlyMoves}
+use Rattle.model_pools.specs.Moves.{tried_of}
+use Rattle.model_volume.specs.Moves.{lists_moved, sdl_moved, IsNextSpare, OnlyData, OnlyMoves}
 use Rattle.model_volume.proofs.ListCells.{no_data_block_second}
 use Rattle.model_volume.proofs.GivenFacts.{settled_alone, pair_between}
 use Rattle.model_volume.proofs.Moved.{home_not_free, home_is_data_block, free_is_data}
@@ -138,23 +139,23 @@ module _ {M : Type 0} (world : M → World) (block_count : M → ℕ) (reaches :
     -- ---- the home is dead
 
     module _ (mid : M) (lost : IsBlockLost world reaches old mid (home_of shape lists i) bytes) where
-      both_alone : (new : M) → ChangesSparesAlone world reaches mid new (free_spares shape lists) bytes → OnlyData shape (world old).cells (world new).cells lists i
+      both_alone : (new : M) → ChangesSparesAlone world reaches mid new (free_spares shape lists i) bytes → OnlyData shape (world old).cells (world new).cells lists i
       both_alone new alone block apart away = alone block away ∙ lost.others block apart
 
-      home_dead : (new : M) → ChangesSparesAlone world reaches mid new (free_spares shape lists) bytes → cell_at (world new).cells (home_of shape lists i) ≡ Dead
-      home_dead new alone = alone (home_of shape lists i) (home_not_free shape lists valid i inside) ∙ lost.dead
+      home_dead : (new : M) → ChangesSparesAlone world reaches mid new (free_spares shape lists i) bytes → cell_at (world new).cells (home_of shape lists i) ≡ Dead
+      home_dead new alone = alone (home_of shape lists i) (home_not_free shape lists valid i i inside) ∙ lost.dead
 
-      home_bad : (new : M) → ChangesSparesAlone world reaches mid new (free_spares shape lists) bytes → ¬ IsGood (cell_at (world new).cells (home_of shape lists i))
+      home_bad : (new : M) → ChangesSparesAlone world reaches mid new (free_spares shape lists i) bytes → ¬ IsGood (cell_at (world new).cells (home_of shape lists i))
       home_bad new alone = dead_is_bad (cell_at (world new).cells (home_of shape lists i)) (home_dead new alone)
 
-      pub spares_stopped : (new : M) (stop : Stop) → IsTrue (world old).power → StopsTrying world reaches mid new (free_spares shape lists) bytes stop
+      pub spares_stopped : (new : M) (stop : Stop) → IsTrue (world old).power → StopsTrying world reaches mid new (free_spares shape lists i) bytes stop
           → PlacingStopped world reaches shape old new lists i bytes lists stop
       spares_stopped new stop on stopped = stopped_by new stop on
-          (stopped_at new (both_alone new stopped.alone) (2 + 2 * length (free_spares shape lists)) stop (omega arith)
-          (stops_later world block_count reaches laws old mid new 2 (2 * length (free_spares shape lists)) stop lost.continues stopped.stops)
+          (stopped_at new (both_alone new stopped.alone) (2 + 2 * length (free_spares shape lists i)) stop (omega arith)
+          (stops_later world block_count reaches laws old mid new 2 (2 * length (free_spares shape lists i)) stop lost.continues stopped.stops)
           (stopped.as_known ∙ lost.as_known) (inr (inr (home_bad new stopped.alone))))
 
-      leaves_by : (new : M) (k uses : ℕ) → uses ≡ 2 + k → ChangesSparesAlone world reaches mid new (free_spares shape lists) bytes → Continues world reaches mid new k
+      leaves_by : (new : M) (k uses : ℕ) → uses ≡ 2 + k → ChangesSparesAlone world reaches mid new (free_spares shape lists i) bytes → Continues world reaches mid new k
           → (world new).known ≡ (world mid).known → LeavesBlock world reaches shape old new lists i bytes lists uses
       leaves_by new k uses sum alone continues as_known = record {
         same = refl;
@@ -166,19 +167,19 @@ module _ {M : Type 0} (world : M → World) (block_count : M → ℕ) (reaches :
         keeps = λ disc fits. fits_before shape lists valid i inside (world old).cells (world new).cells (moves new (both_alone new alone)) disc (inr (home_bad new alone)) fits;
       }
 
-      pub no_spare : (new : M) → HaveFailed world reaches mid new (free_spares shape lists) bytes (length (free_spares shape lists))
+      pub no_spare : (new : M) → HaveFailed world reaches mid new (free_spares shape lists i) bytes (length (free_spares shape lists i))
           → MeetsNoSpare world reaches shape old new lists i bytes lists
       no_spare new failed =
-          let leaves = leaves_by new (2 * length (free_spares shape lists)) (2 + 2 * length (free_spares shape lists)) refl failed.alone failed.continues failed.as_known in
+          let leaves = leaves_by new (2 * length (free_spares shape lists i)) (2 + 2 * length (free_spares shape lists i)) refl failed.alone failed.continues failed.as_known in
           record {
-            ended = ended_by new (2 + 2 * length (free_spares shape lists)) lists leaves.continues;
+            ended = ended_by new (2 + 2 * length (free_spares shape lists i)) lists leaves.continues;
             finds = record { leaves = leaves; none = failed.dead };
           }
 
       -- ---- a spare has the bytes
 
-      module _ (here : M) (found : Found) (has : IsFound world reaches mid here (free_spares shape lists) bytes found) where
-        spare_good : (world old).known ≡ true → cell_at (world here).cells (slice_index (free_spares shape lists) found.tried) ≡ Good bytes
+      module _ (here : M) (found : Found) (has : IsFound world reaches mid here (free_spares shape lists i) bytes found) where
+        spare_good : (world old).known ≡ true → cell_at (world here).cells (slice_index (free_spares shape lists i) found.tried) ≡ Good bytes
         spare_good known = ap (cell_at (world here).cells) (sym has.stands.spare_is) ∙ has.has (lost.as_known ∙ known)
 
         no_update_uses : (counter : ℕ) → counter ≡ LAST_COUNTER → 2 + (2 * found.tried + 2) + (if counter == LAST_COUNTER then 0 else sdl_update_uses lists.sdl) ≡ 2 + (2 * found.tried + 2)
@@ -199,30 +200,30 @@ module _ {M : Type 0} (world : M → World) (block_count : M → ℕ) (reaches :
                 counter_is = refl;
                 cause = inr last;
                 tried_dead = has.dead;
-                spare_has = λ known. good_is_good (cell_at (world here).cells (slice_index (free_spares shape lists) found.tried)) bytes (spare_good known);
+                spare_has = λ known. good_is_good (cell_at (world here).cells (slice_index (free_spares shape lists i) found.tried)) bytes (spare_good known);
               };
             }
 
         -- ---- the update of the secondary list
 
-        next : IsNextSpare shape lists (tried_of (free_spares shape lists) found.tried) found.spare
+        next : IsNextSpare shape lists i (tried_of (free_spares shape lists i) found.tried) found.spare
         next = record { tried = found.tried; failed_are = refl; inside = has.stands.inside; spare_is = has.stands.spare_is }
 
-        spare_is_free : (k : ℕ) → k < length (free_spares shape lists) → Contains (free_spares shape lists) (slice_index (free_spares shape lists) k)
-        spare_is_free k h = Contains-get_or (free_spares shape lists) k 0 h
+        spare_is_free : (k : ℕ) → k < length (free_spares shape lists i) → Contains (free_spares shape lists i) (slice_index (free_spares shape lists i) k)
+        spare_is_free k h = Contains-get_or (free_spares shape lists i) k 0 h
 
-        spare_free : Contains (free_spares shape lists) found.spare
-        spare_free = subst (Contains (free_spares shape lists)) (sym has.stands.spare_is) (spare_is_free found.tried has.stands.inside)
+        spare_free : Contains (free_spares shape lists i) found.spare
+        spare_free = subst (Contains (free_spares shape lists i)) (sym has.stands.spare_is) (spare_is_free found.tried has.stands.inside)
 
         -- the lists after the move
         abbrev pub moved : Lists
-        moved = lists_moved shape lists i (tried_of (free_spares shape lists) found.tried) found.spare
+        moved = lists_moved shape lists i (tried_of (free_spares shape lists i) found.tried) found.spare
 
         abbrev pub moved_sdl : Sdl
-        moved_sdl = sdl_moved shape lists i (tried_of (free_spares shape lists) found.tried) found.spare
+        moved_sdl = sdl_moved shape lists i (tried_of (free_spares shape lists i) found.tried) found.spare
 
-        moved_is : lists_moved shape lists i (tried_of (free_spares shape lists) found.tried) found.spare ≡ lists_placed shape lists i (ToSpare found.tried)
-        moved_is = ap (λ (s : ℕ). lists_moved shape lists i (tried_of (free_spares shape lists) found.tried) s) has.stands.spare_is
+        moved_is : lists_moved shape lists i (tried_of (free_spares shape lists i) found.tried) found.spare ≡ lists_placed shape lists i (ToSpare found.tried)
+        moved_is = ap (λ (s : ℕ). lists_moved shape lists i (tried_of (free_spares shape lists i) found.tried) s) has.stands.spare_is
 
         settled_here : AreSettled shape (world here).cells lists
         settled_here = settled_new here (both_alone here has.alone)
@@ -238,8 +239,8 @@ module _ {M : Type 0} (world : M → World) (block_count : M → ℕ) (reaches :
           data_same block is_data = alone.others block (λ area is same. no_data_block_sdl shape area (subst (Contains (data_blocks shape)) same is_data))
               (λ two area is same. no_data_block_second shape area (subst (Contains (data_blocks shape)) same is_data))
 
-          free_same : (block : ℕ) → Contains (free_spares shape lists) block → cell_at (world new).cells block ≡ cell_at (world here).cells block
-          free_same block free = data_same block (free_is_data shape lists valid block free)
+          free_same : (block : ℕ) → Contains (free_spares shape lists i) block → cell_at (world new).cells block ≡ cell_at (world here).cells block
+          free_same block free = data_same block (free_is_data shape lists valid i block free)
 
           dead_still : cell_at (world new).cells (home_of shape lists i) ≡ Dead
           dead_still = data_same (home_of shape lists i) (home_is_data_block shape lists valid i inside) ∙ home_dead here has.alone
@@ -247,15 +248,15 @@ module _ {M : Type 0} (world : M → World) (block_count : M → ℕ) (reaches :
           bad_still : ¬ IsGood (cell_at (world new).cells (home_of shape lists i))
           bad_still = dead_is_bad (cell_at (world new).cells (home_of shape lists i)) dead_still
 
-          tried_dead : AreDead (world new).cells (free_spares shape lists) found.tried
-          tried_dead k h = (let inside = has.stands.inside in free_same (slice_index (free_spares shape lists) k) (spare_is_free k (omega (arith, h, inside)))) ∙ has.dead k h
+          tried_dead : AreDead (world new).cells (free_spares shape lists i) found.tried
+          tried_dead k h = (let inside = has.stands.inside in free_same (slice_index (free_spares shape lists i) k) (spare_is_free k (omega (arith, h, inside)))) ∙ has.dead k h
 
           spare_agrees : Agrees (cell_at (world new).cells found.spare) bytes
           spare_agrees = subst (λ (c : Cell). Agrees c bytes) (sym (free_same found.spare spare_free)) (left_agrees (cell_at (world here).cells found.spare) bytes has.left)
 
-          spare_good_still : (world old).known ≡ true → IsGood (cell_at (world new).cells (slice_index (free_spares shape lists) found.tried))
-          spare_good_still known = good_is_good (cell_at (world new).cells (slice_index (free_spares shape lists) found.tried)) bytes
-              (free_same (slice_index (free_spares shape lists) found.tried) (spare_is_free found.tried has.stands.inside) ∙ spare_good known)
+          spare_good_still : (world old).known ≡ true → IsGood (cell_at (world new).cells (slice_index (free_spares shape lists i) found.tried))
+          spare_good_still known = good_is_good (cell_at (world new).cells (slice_index (free_spares shape lists i) found.tried)) bytes
+              (free_same (slice_index (free_spares shape lists i) found.tried) (spare_is_free found.tried has.stands.inside) ∙ spare_good known)
 
           as_known_all : (world new).known ≡ (world old).known
           as_known_all = alone.as_known ∙ has.as_known ∙ lost.as_known
@@ -293,7 +294,7 @@ module _ {M : Type 0} (world : M → World) (block_count : M → ℕ) (reaches :
             as_known = as_known_all;
             only = all_only;
             covers = λ disc disc' differs fits. cover_between shape lists valid i inside (world old).cells (world new).cells all_only bytes disc disc' differs fits
-                (tried_of (free_spares shape lists) found.tried) found.spare next spare_agrees settled bad_still between;
+                (tried_of (free_spares shape lists i) found.tried) found.spare next spare_agrees settled bad_still between;
           })
             where
               between : SdlIsBetween shape (world new).cells lists.sdl moved_sdl
@@ -344,7 +345,7 @@ module _ {M : Type 0} (world : M → World) (block_count : M → ℕ) (reaches :
               went = went_to;
               has_copy = λ known none. not_lost (has.as_known ∙ lost.as_known ∙ known) (lost_alike shape (world new).cells lists.sdl moved_sdl refl none);
               makes = λ disc disc' differs fits. fits_moved shape lists valid i inside (world old).cells (world new).cells all_only bytes disc disc' differs fits
-                  (tried_of (free_spares shape lists) found.tried) found.spare next spare_agrees;
+                  (tried_of (free_spares shape lists i) found.tried) found.spare next spare_agrees;
             };
           }
 

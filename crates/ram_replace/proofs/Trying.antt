@@ -39,9 +39,9 @@ module _ {M : Type 0} (world : M → World) (block_count : M → ℕ) (reaches :
   pub all_failed : (new : M) (k : ℕ) → HaveFailed world reaches old new free bytes k → length free ≤ k → HaveFailed world reaches old new free bytes (length free)
   all_failed new k so_far past = let e : k ≡ length free = omega (arith, past, so_far.few) in subst (HaveFailed world reaches old new free bytes) e so_far
 
-  module _ (mid new : M) (k spare : ℕ) (so_far : HaveFailed world reaches old mid free bytes k) (at : StandsAt free (record { tried = k; spare = spare })) where
+  module _ (mid new : M) (k turn spare : ℕ) (so_far : HaveFailed world reaches old mid free bytes k) (at : StandsAt free (record { tried = k; turn = turn; spare = spare })) where
     both_alone : ((other : ℕ) → other ≢ spare → cell_at (world new).cells other ≡ cell_at (world mid).cells other) → ChangesSparesAlone world reaches old new free bytes
-    both_alone others block away = others block (not_one free (record { tried = k; spare = spare }) block at away) ∙ so_far.alone block away
+    both_alone others block away = others block (not_one free (record { tried = k; turn = turn; spare = spare }) block at away) ∙ so_far.alone block away
 
     goes_on : Continues world reaches mid new 2 → Continues world reaches old new (2 * k + 2)
     goes_on continues = continues_then world block_count reaches laws old mid new (2 * k) 2 so_far.continues continues
@@ -66,7 +66,7 @@ module _ {M : Type 0} (world : M → World) (block_count : M → ℕ) (reaches :
         uses k = omega arith
 
     -- the next one has the bytes
-    pub next_found : IsBlockPut world reaches mid new spare bytes → IsFound world reaches old new free bytes (record { tried = k; spare = spare })
+    pub next_found : IsBlockPut world reaches mid new spare bytes → IsFound world reaches old new free bytes (record { tried = k; turn = turn; spare = spare })
     next_found put = record {
       stands = at;
       continues = goes_on put.continues;

@@ -1,2 +1,3 @@
 pub mod Spares
 pub mod Placing
+pub mod Cursors

@@ -1,17 +1,23 @@
 -- What is left where the free spares are tried one after another: for `find_spare`, `retire_tried` and `draft_moved`.
-use Rattle.std.specs.Prelude.{◌≡◌, ℕ, ◌+◌, ◌*◌, ◌<◌, ◌≤◌, ◌⊎◌, true, Option, Some, None, List, length, slice_index}
+use Rattle.std.specs.Prelude.{◌≡◌, ℕ, ◌+◌, ◌*◌, ◌<◌, ◌≤◌, ◌⊎◌, Bool, true, Option, Some, None, List, length, slice_get, slice_index}
 use Rattle.std.specs.List.{Contains}
 use Rattle.model_medium.specs.Cells.{Good, Dead, cell_at}
 use Rattle.model_medium.specs.World.{World, Span}
 use Rattle.model_stops.specs.Stops.{Continues, Stops}
 use Rattle.model_stops.specs.declared.Stop.{Stop}
 use Rattle.model_drive.specs.Course.{AreDead}
+use Rattle.ram_spare.specs.Turns.{ArePassed}
 use Rattle.ram_replace.specs.declared.spares.Found.{Found}
 
 -- The spare is the free one that comes after so many in their order. (This project's own, as all here.)
 pub record StandsAt (free : List ℕ) (found : Found) : Type 0 where
   pub inside : found.tried < length free
   pub spare_is : found.spare ≡ slice_index free found.tried
+
+-- The spare stands at its turn in the order of its pool, and of those up to it just the free ones were tried.
+pub record HasTurn (is_free : ℕ → Bool) (spares : List ℕ) (found : Found) : Type 0 where
+  pub here : slice_get spares found.turn ≡ Some found.spare
+  pub passed : ArePassed is_free spares (found.tried + 1) (found.turn + 1)
 
 module _ {M : Type 0} (world : M → World) (reaches : M → M → Span → Type 0) (old new : M) (free bytes : List ℕ) where
   -- no cell changed but those of the free spares

@@ -1,24 +1,23 @@
 //! The secondary list of a move, made in a list of its own: the one in use is not changed.
 
-ghost use Rattle.std.specs.Prelude.{◌≡◌, ◌<◌, ◌≤◌, length};
+ghost use Rattle.std.specs.Prelude.{◌≡◌, ℕ, ◌<◌, ◌≤◌, length};
+ghost use Rattle.std.specs.List.{Contains};
 ghost use Rattle.std.specs.List.Sorted.{IsStrictlyIncreasing};
 ghost use Rattle.model_geometry.specs.declared.TheConstants.{SDL_LIMIT};
-ghost use Rattle.model_geometry.specs.Geometry.{IsLawful};
+ghost use Rattle.model_geometry.specs.Geometry.{data_blocks};
 ghost use Rattle.model_lists.specs.Values.{IsLawfulSdl, most_of, defectives, with_entry, retired};
-ghost use Rattle.model_places.specs.Places.{free_spares, logical_count};
-ghost use Rattle.model_places.specs.Valid.{AreValid};
-ghost use Rattle.model_volume.specs.Moves.{with_retired, tried_of, former, sdl_moved};
+ghost use Rattle.model_pools.specs.Pools.{ArePools, AreValidUnder, all_in, logical_in, spares_in, spares_at, spares_for, is_unnamed, free_at, free_in};
+ghost use Rattle.model_pools.specs.Moves.{with_retired, tried_of, former, sdl_moved_in};
 ghost use Rattle.model_drive.specs.declared.TheConstants.{LAST_COUNTER};
 ghost use Rattle.ram_sdl.specs.Sdl.{sdl_of};
 ghost use Rattle.ram_sdl.specs.EntriesAndRoom.{HasRoomFor};
-ghost use Rattle.ram_lists.specs.Lists.{lists_of};
+ghost use Rattle.ram_spare.specs.Turns.{AreUsed};
 ghost use Rattle.ram_replace.specs.Spares.{StandsAt};
 
 use crate::spares::Found;
-use ram_lists::{Lists, home};
+use ram_layout::Layout;
 use ram_sdl::{Sdl, SdlEntry};
-use ram_slip::physical;
-use ram_spare::next_free;
+use ram_spare::{free_from, home};
 use ram_zones::Geometry;
 
 /// Says of a spare that it is never used again.
@@ -37,26 +36,37 @@ fn retire(list: &mut Sdl, spare: u32)
     });
 }
 
-/// Retires the first so many of the free spares.
-fn retire_tried(geometry: &Geometry, lists: &Lists, draft: &mut Sdl, tried: u32)
-    requires valid { AreValid geometry.now (lists_of lists.now) }
-    requires few { tried ≤ length (free_spares geometry.now (lists_of lists.now)) }
-    requires same { draft.old.entries.list ≡ lists.now.sdl.entries.list }
-    requires room { most_of lists.now.sdl.version ≤ draft.old.entries.room }
+/// Retires the first so many of the free spares of a pool. Before the turn `first` no spare is free.
+fn retire_tried<L: Layout>(
+    layout: &L,
+    sdl: &Sdl,
+    draft: &mut Sdl,
+    pool: u32,
+    first: u32,
+    tried: u32,
+)
+    requires pool { pool < length (L.pools layout.now) }
+    requires rise { IsStrictlyIncreasing (defectives sdl.now.entries.list) }
+    requires first { AreUsed (is_unnamed sdl.now.entries.list) (spares_at (L.pools layout.now) pool) 0 first }
+    requires few { tried ≤ length (free_at (L.pools layout.now) sdl.now.entries.list pool) }
+    requires same { draft.old.entries.list ≡ sdl.now.entries.list }
+    requires room { (k : ℕ) → k ≤ tried → length (with_retired
+        (tried_of (free_at (L.pools layout.now) sdl.now.entries.list pool) k) sdl.now.entries.list)
+        ≤ draft.old.entries.room }
     ensures value { sdl_of draft.new ≡ record (sdl_of draft.old) {
-      entries = with_retired (tried_of (free_spares geometry.now (lists_of lists.now)) tried)
-          lists.now.sdl.entries.list;
+      entries = with_retired (tried_of (free_at (L.pools layout.now) sdl.now.entries.list pool) tried)
+          sdl.now.entries.list;
     } }
     ensures rise { IsStrictlyIncreasing (defectives draft.new.entries.list) }
     ensures room { draft.new.entries.room ≡ draft.old.entries.room }
 {
-    let mut last = None;
+    let mut turn = first;
     for _ in 0..tried {
-        let Some(spare) = next_free(geometry, &lists.dds, &lists.sdl, last) else {
+        let Some(free) = free_from(layout, sdl, pool, turn) else {
             unreachable!();
         };
-        retire(draft, spare);
-        last = Some(spare);
+        retire(draft, free.block);
+        turn = free.turn + 1;
     }
 }
 
@@ -76,25 +86,40 @@ fn retire_former(draft: &mut Sdl, own: u32, home: u32)
 
 /// Makes the secondary list under which logical block `i` is at the spare: the counter is one greater, the spares that
 /// failed are retired, the block has its pair with the spare, and its former replacement is retired. In this order each
-/// step is a valid list, so the entries are never more than there is room for.
-pub fn draft_moved(geometry: &Geometry, lists: &Lists, draft: &mut Sdl, i: u32, found: Found)
-    requires shape { IsLawful geometry.now }
-    requires valid { AreValid geometry.now (lists_of lists.now) }
-    requires lawful { IsLawfulSdl (sdl_of lists.now.sdl) }
-    requires inside { i < logical_count geometry.now (lists_of lists.now) }
-    requires stands { StandsAt (free_spares geometry.now (lists_of lists.now)) found }
-    requires counter { lists.now.sdl.counter < LAST_COUNTER }
+/// step is a valid list, so the entries are never more than there is room for. Before the turn `first` no spare is free.
+pub fn draft_moved<L: Layout>(
+    geometry: &Geometry,
+    layout: &L,
+    sdl: &Sdl,
+    draft: &mut Sdl,
+    i: u32,
+    first: u32,
+    found: Found,
+)
+    requires pools { ArePools (L.pools layout.now) }
+    requires valid { AreValidUnder (L.pools layout.now) sdl.now.entries.list }
+    requires blocks { (block : ℕ) → Contains (all_in (L.pools layout.now)) block
+        → Contains (data_blocks geometry.now) block }
+    requires most { length (spares_in (L.pools layout.now)) ≤ most_of sdl.now.version }
+    requires lawful { IsLawfulSdl (sdl_of sdl.now) }
+    requires inside { i < length (logical_in (L.pools layout.now)) }
+    requires first { AreUsed (is_unnamed sdl.now.entries.list) (spares_for (L.pools layout.now) i) 0 first }
+    requires stands { StandsAt (free_in (L.pools layout.now) sdl.now.entries.list i) found }
+    requires counter { sdl.now.counter < LAST_COUNTER }
     requires room { SDL_LIMIT ≤ draft.old.entries.room }
-    ensures value { sdl_of draft.new ≡ sdl_moved geometry.now (lists_of lists.now) i
-        (tried_of (free_spares geometry.now (lists_of lists.now)) found.tried) found.spare }
+    ensures value { sdl_of draft.new ≡ sdl_moved_in (L.pools layout.now) (sdl_of sdl.now) i
+        (tried_of (free_in (L.pools layout.now) sdl.now.entries.list i) found.tried) found.spare }
     ensures lawful { IsLawfulSdl (sdl_of draft.new) }
     ensures room { SDL_LIMIT ≤ draft.new.entries.room }
 {
-    let own = physical(geometry, &lists.dds, i);
-    let before = home(geometry, lists, i);
-    draft.copy_from(&lists.sdl);
+    // A geometry that tells its size is lawful, so each block has a number that a list can hold.
+    let _total = geometry.total();
+    let own = layout.physical(i);
+    let before = home(layout, sdl, i);
+    let pool = layout.pool_of(i);
+    draft.copy_from(sdl);
     draft.counter += 1;
-    retire_tried(geometry, lists, draft, found.tried);
+    retire_tried(layout, sdl, draft, pool, first, found.tried);
     draft.set(SdlEntry {
         defective: own,
         replacement: Some(found.spare),

@@ -6,15 +6,19 @@ ghost use Rattle.model_volume.specs.Given.{AreSettled};
 ghost use Rattle.ram_bytes.specs.declared.block.TheConstants.{BLOCK_BYTES};
 ghost use Rattle.ram_lists.specs.Lists.{lists_of};
 ghost use Rattle.ram_lists.specs.Fit.{IsFit};
+ghost use Rattle.ram_sdl.specs.Sdl.{sdl_of};
+ghost use Rattle.ram_replace.specs.Cursors.{LeavesCursors, CursorsPlaced};
 ghost use Rattle.ram_replace.specs.Placing.{EndsPlacing, PlacingStopped, PlacedRule, EndsWithReadBack, LeavesReadBack};
 
 use crate::drafts::draft_moved;
 use crate::spares::find_spare;
 use model_drive::LAST_COUNTER;
 use ram_copies::{Purpose, Scratch, put_block, put_copies};
+use ram_layout::Layout;
 use ram_lists::Lists;
 use ram_medium::{Medium, Stop};
 use ram_sdl::Sdl;
+use ram_spare::Cursors;
 use ram_zones::Geometry;
 
 /// How the write of a logical block ended.
@@ -57,12 +61,16 @@ pub enum Outcome {
 /// dead, one free spare after another is written and read back, 2 uses each, until one has the bytes; then the secondary
 /// list that says so is updated, 8 uses for each of its parts, and taken over. `draft` holds that list until then, and
 /// nothing of use before and after. After Done the room of `scratch` has the bytes, where cells are known. It takes no memory.
+/// The layout is that of the disc, and the search for a free spare begins at the cursor of the block's pool; the cursor stands
+/// behind the spare once the block is there.
 ///
 /// The lists in memory change with Done alone, once a copy of the new list can be read. (Linear replacement after
 /// ECMA-330; the order of the steps is this project's own.)
-pub fn place_block<M: Medium>(
+pub fn place_block<M: Medium, L: Layout>(
     medium: &mut M,
     geometry: &Geometry,
+    layout: &L,
+    cursors: &mut Cursors,
     lists: &mut Lists,
     draft: &mut Sdl,
     i: u32,
@@ -70,7 +78,7 @@ pub fn place_block<M: Medium>(
     from: &[u8],
     scratch: &mut Scratch,
 ) -> Result<Outcome, Stop>
-    requires fit { IsFit geometry.now (M.block_count medium.old) lists.old draft.old }
+    requires fit { IsFit geometry.now (M.block_count medium.old) (L.pools layout.now) cursors.old lists.old draft.old }
     requires on { IsTrue (M.world medium.old).power }
     requires settled { AreSettled geometry.now (M.world medium.old).cells (lists_of lists.old) }
     requires inside { i < logical_count geometry.now (lists_of lists.old) }
@@ -81,24 +89,31 @@ pub fn place_block<M: Medium>(
         (lists_of lists.new))
         (PlacingStopped M.world M.reaches geometry.now medium.old medium.new (lists_of lists.old) i from.now
         (lists_of lists.new)) }
+    ensures cursors { MatchResult result
+        (LeavesCursors (L.pools layout.now) (sdl_of lists.old.sdl) (sdl_of lists.new.sdl) i cursors.old cursors.new)
+        (λ stop. cursors.new ≡ cursors.old) }
     ensures back { IfOk result (EndsWithReadBack (M.world medium.old).known from.now scratch.new.room) }
-    ensures fit { IsFit geometry.now (M.block_count medium.new) lists.new draft.new }
+    ensures fit { IsFit geometry.now (M.block_count medium.new) (L.pools layout.now) cursors.new lists.new draft.new }
 {
     if put_block(medium, home, from, &mut scratch.room)? {
         return Ok(Outcome::Done);
     }
-    let Some(found) = find_spare(medium, geometry, lists, from, &mut scratch.room)? else {
+    let pool = layout.pool_of(i);
+    let first = cursors.at(pool);
+    let room = &mut scratch.room;
+    let Some(found) = find_spare(medium, layout, &lists.sdl, pool, first, from, room)? else {
         return Ok(Outcome::NoSpare);
     };
     let counter = lists.sdl.counter;
     if counter == LAST_COUNTER {
         return Ok(Outcome::NoUpdate { counter });
     }
-    draft_moved(geometry, lists, draft, i, found);
+    draft_moved(geometry, layout, &lists.sdl, draft, i, first, found);
     if put_copies(medium, geometry, draft, Purpose::Update, scratch)? == 0 {
         return Ok(Outcome::NoUpdate { counter });
     }
     lists.sdl.copy_from(draft);
+    cursors.set(pool, found.turn + 1);
     // The update used the room.
     let room = scratch.room.bytes_mut();
     room.copy_from_slice(from);
@@ -106,9 +121,11 @@ pub fn place_block<M: Medium>(
 }
 
 /// Writes a logical block, as [`place_block`] does, where the power is on.
-pub fn write_home<M: Medium>(
+pub fn write_home<M: Medium, L: Layout>(
     medium: &mut M,
     geometry: &Geometry,
+    layout: &L,
+    cursors: &mut Cursors,
     lists: &mut Lists,
     draft: &mut Sdl,
     i: u32,
@@ -116,20 +133,25 @@ pub fn write_home<M: Medium>(
     from: &[u8],
     scratch: &mut Scratch,
 ) -> Placed
-    requires fit { IsFit geometry.now (M.block_count medium.old) lists.old draft.old }
+    requires fit { IsFit geometry.now (M.block_count medium.old) (L.pools layout.now) cursors.old lists.old draft.old }
     requires settled { AreSettled geometry.now (M.world medium.old).cells (lists_of lists.old) }
     requires inside { i < logical_count geometry.now (lists_of lists.old) }
     requires home { home ≡ home_of geometry.now (lists_of lists.old) i }
     requires whole { length from.now ≡ BLOCK_BYTES }
     ensures rule { PlacedRule M.world M.reaches geometry.now medium.old medium.new (lists_of lists.old) i
         from.now (lists_of lists.new) result }
+    ensures cursors { CursorsPlaced (L.pools layout.now) (sdl_of lists.old.sdl) (sdl_of lists.new.sdl) i
+        cursors.old cursors.new result }
     ensures back { LeavesReadBack (M.world medium.old).known from.now scratch.new.room result }
-    ensures fit { IsFit geometry.now (M.block_count medium.new) lists.new draft.new }
+    ensures fit { IsFit geometry.now (M.block_count medium.new) (L.pools layout.now) cursors.new lists.new draft.new }
 {
     if !medium.powered() {
         return Placed::Off;
     }
-    match place_block(medium, geometry, lists, draft, i, home, from, scratch) {
+    let placed = place_block(
+        medium, geometry, layout, cursors, lists, draft, i, home, from, scratch,
+    );
+    match placed {
         Ok(Outcome::Done) => Placed::Done,
         Ok(Outcome::NoSpare) => Placed::NoSpare,
         Ok(Outcome::NoUpdate { counter }) => Placed::NoUpdate { counter },

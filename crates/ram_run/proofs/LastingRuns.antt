@@ -4,7 +4,7 @@ use Rattle.std.specs.Bool.{MatchBool}
 use Rattle.std.specs.List.{Contains}
 use Rattle.std.proofs.Common.{arith, zero, suc, refl, sym, ap, ◌∙◌, inl, inr, subst}
 use Rattle.std.proofs.lemmas.List.Elements.{All-head, All-tail}
-use Rattle.model_geometry.specs.Geometry.{Shape, shape_of, total, data_blocks, dds_block, sdl_block}
+use Rattle.model_geometry.specs.Geometry.{Shape, shape_of, total, dds_block, sdl_block}
 use Rattle.model_lists.specs.declared.versions.Version.{Version}
 use Rattle.model_medium.specs.Cells.{Cell, Dead, cell_at}
 use Rattle.model_medium.specs.World.{World}
@@ -16,7 +16,7 @@ use Rattle.model_cache.proofs.Chained.{HoldsOfChains, of_read, of_write, of_thro
 use Rattle.model_drive.proofs.Kept.{read_kept, write_kept}
 use Rattle.model_sectors.specs.declared.PowerOut.{PowerOut}
 use Rattle.model_sectors.specs.declared.PowerOut.TheVariants as powers
-use Rattle.model_places.specs.Places.{Lists, capacity_of}
+use Rattle.model_places.specs.Places.{Lists, count_of, capacity_of}
 use Rattle.model_survival.specs.Findable.{SdlLives, InTwoAreas, HaveTwoCopies, IsFindable}
 use Rattle.model_image.specs.Image.{IsDiscImage}
 use Rattle.model_image.specs.Cells.{cells_of}
@@ -449,17 +449,17 @@ only_one : (one other : ℕ) → Contains (one ∷ []) other → other ≡ one
 only_one one other (zero, within, is) = sym is
 only_one one other (suc k, within, is) = absurd (omega (arith, within))
 
-told_size : (shape : Shape) (ssa : ℕ) (out : PowerOut) (known : ℕ) → TellsSize shape (ssa ∷ []) out → Ok (replies.Event (events.Ready known)) ≡ power_outcome out → known ≡ (length (data_blocks shape) - shape.psa - ssa) * 16
+told_size : (shape : Shape) (ssa : ℕ) (out : PowerOut) (known : ℕ) → TellsSize shape (ssa ∷ []) out → Ok (replies.Event (events.Ready known)) ≡ power_outcome out → known ≡ count_of shape ssa * 16
 told_size shape ssa (powers.Ready told) known tells is =
     let same : known ≡ told = cc in
-    same ∙ tells.2 ∙ ap (λ (n : ℕ). (length (data_blocks shape) - shape.psa - n) * 16) (only_one ssa tells.0 tells.1)
+    same ∙ tells.2 ∙ ap (λ (n : ℕ). count_of shape n * 16) (only_one ssa tells.0 tells.1)
 told_size shape ssa powers.NotFormatted known tells is = absurd tells
 told_size shape ssa powers.Cut known tells is = absurd cc
 told_size shape ssa powers.Fault known tells is = absurd cc
 told_size shape ssa powers.NoMemory known tells is = absurd cc
 
 power_size : (shape : Shape) (s u : State) (event : AnsweredLine) (version : Version) (ssa known : ℕ) → HasShape shape s → LastsNow s version (ssa ∷ []) → IsStep s event u → event.line ≡ lines.Power
-    → HasTwoCopies u version → event.reply ≡ replies.Event (events.Ready known) → known ≡ (length (data_blocks shape) - shape.psa - ssa) * 16
+    → HasTwoCopies u version → event.reply ≡ replies.Event (events.Ready known) → known ≡ count_of shape ssa * 16
 power_size shape (Unopened bytes) u event version ssa known has lasts step is two told = absurd has
 power_size shape (Disc s) u event version ssa known has lasts step is two told =
     let on = power_line s u event version (ssa ∷ []) lasts step is two in

@@ -37,7 +37,7 @@ checked_outcome cdb why answers.NoMemory is = absurd cc
 no_disc : (reply : Reply) → Ok reply ≡ Err stopped.NotADisc → ⊥
 no_disc reply is = cc
 
-on_disc : (s t : State) (cdb payload data_in : List ℕ) (named : ℕ) → FairNow t → OnDisc s (lines.Command cdb) payload (Ok (replies.Command cdb (answers.Check (sense_at 0x3 0x32 0x00 named)))) data_in t → HasNoSpareLeft t
+on_disc : (s t : State) (cdb payload data_in : List ℕ) (named : ℕ) → FairNow t → OnDisc s (lines.Command cdb) payload (Ok (replies.Command cdb (answers.Check (sense_at 0x3 0x32 0x00 named)))) data_in t → HasNoSpareLeft t named
 on_disc (Unopened image) t cdb payload data_in named fair step = absurd (no_disc (replies.Command cdb (answers.Check (sense_at 0x3 0x32 0x00 named))) step.0)
 on_disc (Disc s) (Unopened image) cdb payload data_in named fair step = absurd step
 on_disc (Disc s) (Disc t) cdb payload data_in named fair step =
@@ -56,7 +56,7 @@ told_by_tick named ticks.Cut is = absurd cc
 told_by_tick named ticks.Off is = absurd cc
 told_by_tick named ticks.Fault is = absurd cc
 
-tick_on_disc : (s t : State) (payload data_in : List ℕ) (named : ℕ) → FairNow t → OnDisc s lines.Tick payload (Ok (replies.Event (events.NoSpare named))) data_in t → HasNoSpareLeft t
+tick_on_disc : (s t : State) (payload data_in : List ℕ) (named : ℕ) → FairNow t → OnDisc s lines.Tick payload (Ok (replies.Event (events.NoSpare named))) data_in t → HasNoSpareLeft t named
 tick_on_disc (Unopened image) t payload data_in named fair step = absurd (no_disc (replies.Event (events.NoSpare named)) step.0)
 tick_on_disc (Disc s) (Unopened image) payload data_in named fair step = absurd step
 tick_on_disc (Disc s) (Disc t) payload data_in named fair step =
@@ -64,12 +64,12 @@ tick_on_disc (Disc s) (Disc t) payload data_in named fair step =
     let lacks = tick_lacks s.disc.shown t.disc.shown named (subst (λ (o : TickOut). TickCause s.disc.shown t.disc.shown o) (told_by_tick named tick.out tick.outcome_is) tick.cause) in
     λ lists is spare has replaces. none_left lacks.before t.disc.shown.drive lacks.lba lacks.n named lists fair lacks.lacks is spare has replaces
 
-pub none_left_now : (s t : State) (event : AnsweredLine) → FairNow s → IsStep s event t → WasToldNoSpare event → HasNoSpareLeft t
-none_left_now s t event fair step (inl told) =
-    on_disc s t told.cdb event.payload event.data_in told.named (step_fair s t event.line event.payload event.data_in (Ok event.reply) step.step fair)
-    (subst (λ (l : Line). Step s l event.payload (Ok (replies.Command told.cdb (answers.Check (sense_at 0x3 0x32 0x00 told.named)))) event.data_in t) told.line_is
+pub none_left_now : (s t : State) (event : AnsweredLine) → FairNow s → IsStep s event t → (named : ℕ) → WasToldNoSpare event named → HasNoSpareLeft t named
+none_left_now s t event fair step named (inl told) =
+    on_disc s t told.cdb event.payload event.data_in named (step_fair s t event.line event.payload event.data_in (Ok event.reply) step.step fair)
+    (subst (λ (l : Line). Step s l event.payload (Ok (replies.Command told.cdb (answers.Check (sense_at 0x3 0x32 0x00 named)))) event.data_in t) told.line_is
     (subst (λ (r : Reply). Step s event.line event.payload (Ok r) event.data_in t) told.reply_is step.step))
-none_left_now s t event fair step (inr told) =
-    tick_on_disc s t event.payload event.data_in told.named (step_fair s t event.line event.payload event.data_in (Ok event.reply) step.step fair)
-    (subst (λ (l : Line). Step s l event.payload (Ok (replies.Event (events.NoSpare told.named))) event.data_in t) told.line_is
+none_left_now s t event fair step named (inr told) =
+    tick_on_disc s t event.payload event.data_in named (step_fair s t event.line event.payload event.data_in (Ok event.reply) step.step fair)
+    (subst (λ (l : Line). Step s l event.payload (Ok (replies.Event (events.NoSpare named))) event.data_in t) told.line_is
     (subst (λ (r : Reply). Step s event.line event.payload (Ok r) event.data_in t) told.reply_is step.step))

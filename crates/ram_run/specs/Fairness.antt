@@ -4,7 +4,8 @@ use Rattle.std.specs.Prelude.{◌≡◌, ℕ, ◌⊎◌, Some, List}
 use Rattle.std.specs.List.{Contains}
 use Rattle.model_medium.specs.Cells.{Dead, cell_at}
 use Rattle.model_pools.specs.Listed.{replacements}
-use Rattle.model_places.specs.Places.{Lists, spares}
+use Rattle.model_sectors.specs.Requests.{block_with}
+use Rattle.model_places.specs.Places.{Lists, spares_of}
 use Rattle.model_drive.specs.Shown.{Shown, cells_in}
 use Rattle.model_fairness.specs.Fair.{GivesUpDeadAlone}
 use Rattle.model_sense.specs.Sense.{sense_at}
@@ -22,28 +23,27 @@ FairNow (Unopened image) = Unit {0}
 FairNow (Disc s) = GivesUpDeadAlone s.disc.shown.drive
 
 -- The line was a command, and was answered that no spare is left for the block of this sector (3/32/00).
-pub record CommandWasToldNoSpare (event : AnsweredLine) : Type 0 where
+pub record CommandWasToldNoSpare (event : AnsweredLine) (named : ℕ) : Type 0 where
   pub cdb : List ℕ
-  pub named : ℕ
   pub line_is : event.line ≡ lines.Command cdb
   pub reply_is : event.reply ≡ replies.Command cdb (answers.Check (sense_at 0x3 0x32 0x00 named))
 
 -- the same of a tick
-pub record TickWasToldNoSpare (event : AnsweredLine) : Type 0 where
-  pub named : ℕ
+pub record TickWasToldNoSpare (event : AnsweredLine) (named : ℕ) : Type 0 where
   pub line_is : event.line ≡ lines.Tick
   pub reply_is : event.reply ≡ replies.Event (events.NoSpare named)
 
--- The line was answered that no spare is left for a block.
-abbrev pub WasToldNoSpare : AnsweredLine → Type 0
-WasToldNoSpare event = CommandWasToldNoSpare event ⊎ TickWasToldNoSpare event
+-- The line was answered that no spare is left for the block of this sector.
+abbrev pub WasToldNoSpare : AnsweredLine → (named : ℕ) → Type 0
+WasToldNoSpare event named = CommandWasToldNoSpare event named ⊎ TickWasToldNoSpare event named
 
--- each spare of the disc that replaces no block is dead, also those that the lists in use gave up
-abbrev pub HasNoSpare : Shown → Type 0
-HasNoSpare shown = (lists : Lists) → shown.lists ≡ Some lists → (spare : ℕ) → Contains (spares shown.shape lists) spare
+-- Each spare that the block of a sector may go to, and that replaces no block, is dead, also those that the lists in use gave up.
+abbrev pub HasNoSpare : Shown → (sector : ℕ) → Type 0
+HasNoSpare shown sector =
+    (lists : Lists) → shown.lists ≡ Some lists → (spare : ℕ) → Contains (spares_of shown.shape lists (block_with sector)) spare
     → ¬ Contains (replacements lists.sdl.entries) spare → cell_at (cells_in shown) spare ≡ Dead
 
--- No spare is left.
-abbrev pub HasNoSpareLeft : State → Type 0
-HasNoSpareLeft (Unopened image) = ⊥
-HasNoSpareLeft (Disc s) = HasNoSpare s.disc.shown.drive
+-- No spare is left for the block of a sector.
+abbrev pub HasNoSpareLeft : State → (sector : ℕ) → Type 0
+HasNoSpareLeft (Unopened image) sector = ⊥
+HasNoSpareLeft (Disc s) sector = HasNoSpare s.disc.shown.drive sector

@@ -168,11 +168,11 @@ pub fn dead_blocks_alone_are_given_up()
         → FairNow s }
 {}
 
-/// A run that gives up dead blocks alone says that no spare is left, to a command or a tick, only where none is: each spare that
-/// replaces no block is dead then.
+/// A run that gives up dead blocks alone says, to a command or a tick, that no spare is left for a block only where none is: each
+/// spare that it may go to, and that replaces no block, is dead then.
 pub fn no_spare_is_told_where_none_is_left()
-    ensures { (s t : State) (event : AnsweredLine) → FairNow s → IsStep s event t → WasToldNoSpare event
-        → HasNoSpareLeft t }
+    ensures { (s t : State) (event : AnsweredLine) → FairNow s → IsStep s event t → (named : ℕ)
+        → WasToldNoSpare event named → HasNoSpareLeft t named }
 {}
 
 /// The data under a block change by writes of the block alone. Over what a command or a power line did to the medium and

@@ -1,18 +1,20 @@
 -- What the tests of validity find.
-use Rattle.std.proofs.Common.{◌≡◌, ℕ, ◌+◌, ◌-◌, ◌<◌, ◌≤◌, inl, inr, Bool, IsTrue, List, length, get_or, Some, sym, ap, ◌∙◌, subst, arith}
+use Rattle.std.proofs.Common.{◌≡◌, ℕ, ◌+◌, ◌-◌, ◌<◌, ◌≤◌, inl, inr, Bool, IsTrue, leb, nat_lt, List, length, get_or, Some, sym, ap, ◌∙◌, subst, arith}
 use Rattle.std.specs.Prelude.{slice_get, slice_index}
 use Rattle.std.specs.List.{All, Contains}
 use Rattle.std.specs.List.Sorted.{IsStrictlyIncreasing}
-use Rattle.std.proofs.lemmas.Bool.{cases_eq}
+use Rattle.std.proofs.lemmas.Bool.{cases_eq, cases_lt, true≢false, lt-ltb, le-ltb, lt-leb}
 use Rattle.std.proofs.lemmas.List.{length-map}
 use Rattle.std.proofs.lemmas.List.Elements.{All-from_get_or}
 use Rattle.model_geometry.specs.Geometry.{Shape, data_blocks}
 use Rattle.model_geometry.proofs.DataBlocks.{Contains-slice_get}
 use Rattle.model_lists.specs.declared.dds.PdlEntry.{PdlEntry}
-use Rattle.model_lists.specs.Values.{Dds, pdl_blocks}
+use Rattle.model_lists.specs.declared.versions.Version.{Version}
+use Rattle.model_lists.specs.Values.{Dds, most_of, pdl_blocks}
 use Rattle.model_pools.specs.Listed.{AreListed}
-use Rattle.model_places.specs.Valid.{IsValidPdl}
+use Rattle.model_places.specs.Valid.{IsValidPdl, IsValidSsa}
 use Rattle.model_pools.proofs.Listed.{All-listed, listed-All}
+use Rattle.model_places.proofs.ByKind.{slips_few_from, length-slipped, slip_room}
 use Rattle.ram_slip.proofs.Named.{block_at}
 
 long : (entries : List PdlEntry) → length (pdl_blocks entries) ≡ length entries
@@ -73,7 +75,31 @@ valid_if_data shape dds entries psa limit found same named psa_is few limit_is r
     same_psa = named ∙ psa_is;
     data_only = subst (λ (es : List PdlEntry). AreListed (data_blocks shape) (pdl_blocks es)) same (listed-All (data_blocks shape) (pdl_blocks entries) (tells.0 t));
     rising = subst (λ (es : List PdlEntry). IsStrictlyIncreasing (pdl_blocks es)) same rise;
-    few = omega (arith, few, limit_is, ap (λ (es : List PdlEntry). length es) same);
+    few = slips_few_from shape (pdl_blocks dds.entries) (omega (arith, few, limit_is, ap (λ (es : List PdlEntry). length es) same, length-slipped dds));
   },
   λ valid. tells.1 (All-listed (data_blocks shape) (pdl_blocks entries) (subst (λ (es : List PdlEntry). AreListed (data_blocks shape) (pdl_blocks es)) (sym same) valid.data_only)),
+)
+
+-- ---- the size of the supplementary spare area
+
+-- where the spares are few enough, that a logical block is left decides
+pub ssa_if_some : (shape : Shape) (version : Version) (ssa most psa count : ℕ) → most ≡ most_of version → psa ≡ shape.psa → count ≡ length (data_blocks shape) → psa ≤ most → ssa ≤ most - psa
+    → (IsTrue (nat_lt ssa (count - psa)) → IsValidSsa shape version ssa) × (IsValidSsa shape version ssa → IsTrue (nat_lt ssa (count - psa)))
+ssa_if_some shape version ssa most psa count most_is psa_is count_is room few = (
+  λ t. record {
+    most = omega (arith, slip_room shape ssa, few, room, most_is, psa_is);
+    some_logical = elim (cases_lt ssa (count - psa)) [
+      | inl less ↦ omega (arith, slip_room shape ssa, less, psa_is, count_is)
+      | inr from ↦ absurd (true≢false (sym t ∙ le-ltb ssa (count - psa) from))
+    ];
+  },
+  λ valid. lt-ltb ssa (count - psa) (let some = valid.some_logical in omega (arith, slip_room shape ssa, some, psa_is, count_is)),
+)
+
+-- else it is not valid
+pub ssa_too_many : (shape : Shape) (version : Version) (ssa most psa : ℕ) → most ≡ most_of version → psa ≡ shape.psa → most - psa < ssa
+    → (IsTrue (leb ssa (most - psa)) → IsValidSsa shape version ssa) × (IsValidSsa shape version ssa → IsTrue (leb ssa (most - psa)))
+ssa_too_many shape version ssa most psa most_is psa_is many = (
+  λ t. absurd (true≢false (sym t ∙ lt-leb ssa (most - psa) many)),
+  λ valid. absurd (let few = valid.most in omega (arith, slip_room shape ssa, few, most_is, psa_is, many)),
 )

@@ -1,6 +1,5 @@
 -- How many slipped blocks come before a block: for the searches by halving.
-use Rattle.std.specs.Prelude.{ℕ, ◌+◌, ◌<◌, ◌≤◌, List, length, slice_index}
-use Rattle.model_geometry.specs.Geometry.{Shape, data_blocks}
+use Rattle.std.specs.Prelude.{ℕ, ◌<◌, ◌≤◌, List, length, slice_index}
 use Rattle.model_lists.specs.declared.dds.PdlEntry.{PdlEntry}
 use Rattle.model_lists.specs.Values.{pdl_blocks}
 
@@ -9,11 +8,3 @@ pub record IsCountBefore (entries : List PdlEntry) (block count : ℕ) : Type 0 
   pub within : count ≤ length entries
   pub lower : (k : ℕ) → k < count → slice_index (pdl_blocks entries) k < block
   pub others : (k : ℕ) → count ≤ k → k < length entries → block ≤ slice_index (pdl_blocks entries) k
-
--- The data block that comes as many places later as there are slipped ones before it is none of them: so many entries
--- name blocks before it, and the others name blocks after it. (This project's own.)
-pub record IsCountPassed (shape : Shape) (entries : List PdlEntry) (place count : ℕ) : Type 0 where
-  pub within : count ≤ length entries
-  pub lower : (k : ℕ) → k < count → slice_index (pdl_blocks entries) k < slice_index (data_blocks shape) (place + count)
-  pub higher : (k : ℕ) → count ≤ k → k < length entries
-      → slice_index (data_blocks shape) (place + count) < slice_index (pdl_blocks entries) k

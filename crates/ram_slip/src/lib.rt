@@ -1,5 +1,5 @@
-//! Slipping: which block a logical block is, and what a block is to a disc, by sums over the zones and the blocks that
-//! are slipped, without a list of all data blocks.
+//! Slipping: what a block is to a disc, by sums over the zones and the blocks that are slipped, without a list of all data
+//! blocks.
 #![tactic(auto)]
 
 mod entries;
@@ -8,5 +8,5 @@ mod slip;
 mod valid;
 
 pub use place::{Place, a_block_has_one_place};
-pub use slip::{data_block, physical, place_of, primary_left, spare_number, spare_of};
+pub use slip::{data_block, place_of, primary_left, spare_turn};
 pub use valid::{is_valid_pdl, is_valid_ssa};

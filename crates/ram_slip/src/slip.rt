@@ -1,19 +1,15 @@
-//! From a logical block to its block, and from a block to what it is. Only the entries of the primary defect list are
-//! looked at; the data blocks are counted by sums.
+//! From a block to what it is. Only the entries of the primary defect list are looked at; the data blocks are counted by sums.
 
-ghost use Rattle.std.specs.Prelude.{◌≡◌, ◌+◌, ◌<◌, length, slice_index};
-ghost use Rattle.std.specs.List.Sorted.{IsStrictlyIncreasing};
+ghost use Rattle.std.specs.Prelude.{◌≡◌, ◌<◌, length, slice_index};
 ghost use Rattle.model_geometry.specs.Geometry.{IsLawful, data_blocks};
-ghost use Rattle.model_lists.specs.Values.{pdl_blocks};
-ghost use Rattle.model_places.specs.Places.{unreplaced, unslipped, primary_count, logical_block, spares};
+ghost use Rattle.model_places.specs.Places.{primary_count};
 ghost use Rattle.model_places.specs.Valid.{IsValidPdl, IsValidOnSome};
 ghost use Rattle.ram_dds.specs.Dds.{dds_of};
-ghost use Rattle.ram_slip.specs.Counts.{IsCountPassed};
-ghost use Rattle.ram_slip.specs.Place.{HasRank, IsAtPlace, IsSpareNumber};
+ghost use Rattle.ram_slip.specs.Place.{HasRank, IsAtPlace, HasTurn};
 
 use crate::entries::{count_before, is_named};
 use crate::place::Place;
-use ram_dds::{DdsPdl, PdlEntry};
+use ram_dds::DdsPdl;
 use ram_zones::Geometry;
 
 /// Data block `n`, counted from 0, which there is.
@@ -27,38 +23,6 @@ pub fn data_block(geometry: &Geometry, n: u32) -> u32
     }
 }
 
-/// How many slipped blocks come before the block at this place of those that are not slipped, by halving.
-fn count_passed(geometry: &Geometry, entries: &[PdlEntry], place: u32) -> usize
-    requires lawful { IsLawful geometry.now }
-    requires rising { IsStrictlyIncreasing (pdl_blocks entries.now) }
-    requires inside { place + length entries.now < length (data_blocks geometry.now) }
-    ensures { IsCountPassed geometry.now entries.now place result }
-{
-    let mut low = 0;
-    let mut high = entries.len();
-    while low < high {
-        let middle = low + (high - low) / 2;
-        if entries[middle].block <= data_block(geometry, place + middle as u32) {
-            low = middle + 1;
-        } else {
-            high = middle;
-        }
-    }
-    low
-}
-
-/// The block at this place of those that are not slipped.
-fn unslipped_block(geometry: &Geometry, dds: &DdsPdl, place: u32) -> u32
-    requires lawful { IsLawful geometry.now }
-    requires valid { IsValidPdl geometry.now (dds_of dds.now) }
-    requires inside { place < length (unslipped geometry.now (dds_of dds.now)) }
-    ensures { result ≡ slice_index (unslipped geometry.now (dds_of dds.now)) place }
-{
-    let entries = dds.entries.as_slice();
-    let passed = count_passed(geometry, entries, place);
-    data_block(geometry, place + passed as u32)
-}
-
 /// How many primary spares are left: each slipped block has taken one.
 pub fn primary_left(geometry: &Geometry, dds: &DdsPdl) -> u32
     requires { IsValidPdl geometry.now (dds_of dds.now) }
@@ -66,17 +30,6 @@ pub fn primary_left(geometry: &Geometry, dds: &DdsPdl) -> u32
     ensures left { result ≡ primary_count geometry.now (dds_of dds.now) }
 {
     geometry.psa() - dds.entries.len() as u32
-}
-
-/// The block of logical block `i`, or of the supplementary spare that comes as many places after logical block 0.
-pub fn physical(geometry: &Geometry, dds: &DdsPdl, i: u32) -> u32
-    requires valid { IsValidPdl geometry.now (dds_of dds.now) }
-    requires inside { primary_count geometry.now (dds_of dds.now) + i
-        < length (unslipped geometry.now (dds_of dds.now)) }
-    ensures { result ≡ logical_block geometry.now (dds_of dds.now) i }
-{
-    let primary = primary_left(geometry, dds);
-    unslipped_block(geometry, dds, primary + i)
 }
 
 /// Where a block stands among those that are not slipped.
@@ -129,11 +82,12 @@ pub fn place_of(geometry: &Geometry, dds: &DdsPdl, ssa: u32, block: u32) -> Plac
     Place::Supplementary
 }
 
-/// The number of a spare among all spares, in rising order and counted from 0, or none where the block is no spare.
-pub fn spare_number(geometry: &Geometry, dds: &DdsPdl, ssa: u32, block: u32) -> Option<u32>
+/// The turn of a spare in the order in which spares are taken, counted from 0, or none where the block is no spare. Each spare
+/// has a turn of its own, below the number of all spares.
+pub fn spare_turn(geometry: &Geometry, dds: &DdsPdl, ssa: u32, block: u32) -> Option<u32>
     requires valid { IsValidPdl geometry.now (dds_of dds.now) }
     requires area { IsValidOnSome geometry.now ssa }
-    ensures { IsSpareNumber geometry.now (dds_of dds.now) ssa block result }
+    ensures { HasTurn geometry.now (dds_of dds.now) ssa block result }
 {
     let place = match rank_of(geometry, dds, block) {
         Rank::Outside => return None,
@@ -143,25 +97,10 @@ pub fn spare_number(geometry: &Geometry, dds: &DdsPdl, ssa: u32, block: u32) -> 
     let primary = primary_left(geometry, dds);
     let logical = geometry.data_blocks() - geometry.psa() - ssa;
     if place < primary {
-        return Some(place);
+        return Some(primary - 1 - place);
     }
     if place - primary < logical {
         return None;
     }
-    Some(place - logical)
-}
-
-/// The spare of this number, in rising order and counted from 0. It undoes [`spare_number`].
-pub fn spare_of(geometry: &Geometry, dds: &DdsPdl, ssa: u32, number: u32) -> u32
-    requires valid { IsValidPdl geometry.now (dds_of dds.now) }
-    requires area { IsValidOnSome geometry.now ssa }
-    requires inside { number < length (spares geometry.now (unreplaced (dds_of dds.now) ssa)) }
-    ensures { result ≡ slice_index (spares geometry.now (unreplaced (dds_of dds.now) ssa)) number }
-{
-    let primary = primary_left(geometry, dds);
-    if number < primary {
-        return unslipped_block(geometry, dds, number);
-    }
-    let logical = geometry.data_blocks() - geometry.psa() - ssa;
-    unslipped_block(geometry, dds, number + logical)
+    Some(primary + (primary + logical + ssa - 1 - place))
 }

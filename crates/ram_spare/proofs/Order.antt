@@ -1,32 +1,19 @@
--- The order in which spares are looked through: their numbers, that none comes twice, and the walk through the free ones.
-use Rattle.std.proofs.Common.{◌≡◌, ℕ, zero, suc, ◌+◌, ◌-◌, ◌<◌, ◌≤◌, ◌⊎◌, inl, inr, ⊎_elim, Bool, true, false, not, cond, eqb, List, [], ◌∷◌, reverse, length, get_or, drop, Option, Some, None, IfSome, slice_get, slice_index, refl, sym, ap, ◌∙◌, subst, le_antisymm, arith}
+-- The walk through the free spares of a pool, one after another.
+use Rattle.std.proofs.Common.{◌≡◌, ℕ, zero, suc, ◌+◌, ◌-◌, ◌<◌, ◌≤◌, ⊎_elim, Bool, true, false, not, cond, eqb, List, [], ◌∷◌, ◌++◌, length, get_or, drop, Option, Some, None, IfSome, slice_get, slice_index, refl, sym, ap, ◌∙◌, subst, arith}
 use Rattle.std.specs.List.{Contains, IsDistinct, filter, find, after_first, position_or_len}
-use Rattle.std.proofs.lemmas.Bool.{cases_Bool, cases_lt, cond-true, cond-false, eq-eqb, ne_eqb}
-use Rattle.std.proofs.lemmas.List.{get_or_append_left, get_or-append_right, get_or-reverse, get_or_default, length-drop, length-append, length-reverse}
-use Rattle.std.proofs.lemmas.List.Sums.{position_or_len_is}
+use Rattle.std.proofs.lemmas.Bool.{cases_Bool, cond-true, cond-false, eq-eqb, ne_eqb}
+use Rattle.std.proofs.lemmas.List.{get_or_append_left, get_or-append_right, length-append}
 use Rattle.std.proofs.lemmas.Map.Keys.{IsDistinct-from_apart, IsDistinct-tail}
-use Rattle.std.proofs.lemmas.Option.{slice_get-get_or}
-use Rattle.model_geometry.specs.Geometry.{Shape}
+use Rattle.std.proofs.lemmas.Option.{slice_get-get_or, slice_get_within, get_or_from_slice_get}
 use Rattle.model_geometry.proofs.DataBlocks.{Contains-slice_get}
-use Rattle.model_places.specs.Places.{Lists, unslipped, is_free, primary_count, primary_spares, supplementary_spares, spares, spares_down, free_spares, free_spare_after}
-use Rattle.model_lists.specs.declared.versions.Version.{Version}
-use Rattle.model_places.specs.Valid.{IsValidPdl, IsValidSsa, AreValid}
+use Rattle.model_lists.specs.declared.sdl.SdlEntry.{SdlEntry}
+use Rattle.model_pools.specs.Pools.{Pool, ArePools, spares_in, spares_at, is_unnamed, free_at, next_in}
 use Rattle.model_pools.proofs.Listed.{Contains-from_filter}
 use Rattle.model_pools.proofs.Replacements.{first_is_alone}
-use Rattle.model_places.proofs.Pools.{pools_are_all, length-spares}
-use Rattle.ram_slip.proofs.Spares.{first_many, spare_differs}
-use Rattle.ram_spare.specs.Spares.{next_spare, spare_before}
+use Rattle.ram_spare.specs.Spares.{spare_before}
+use Rattle.ram_spare.proofs.Walks.{find_first}
 
 -- ---- what a filter keeps, one after another
-
--- the first that passes is the first that is kept
-pub find_first : (p : ℕ → Bool) (xs : List ℕ) → find p xs ≡ slice_get (filter p xs) 0
-find_first p [] = refl
-find_first p (x ∷ xs) =
-    ⊎_elim
-    (λ t. cond-true (p x) (Some x) (find p xs) t ∙ sym (ap (λ ys. slice_get ys 0) (cond-true (p x) (x ∷ filter p xs) (filter p xs) t)))
-    (λ f. cond-false (p x) (Some x) (find p xs) f ∙ find_first p xs ∙ sym (ap (λ ys. slice_get ys 0) (cond-false (p x) (x ∷ filter p xs) (filter p xs) f)))
-    (cases_Bool (p x))
 
 after_here : (q : ℕ → Bool) (x : ℕ) (xs : List ℕ) → q x ≡ true → after_first q (x ∷ xs) ≡ xs
 after_here q x xs t = ap (λ b. drop (cond (not b) (1 + position_or_len q xs) 0 + 1) (x ∷ xs)) t
@@ -69,150 +56,67 @@ find_next p (x ∷ xs) apart (suc k) last at =
     ap (find p) (after_later (λ b. eqb b last) x xs (kept_differs p x xs apart (suc k) last at')) ∙ find_next p xs (IsDistinct-tail eqb x xs apart) (suc k) last at' ∙ sym (ap (λ ys. slice_get ys (suc (suc k))) kept))
     (cases_Bool (p x))
 
--- where there is none at a place, the list has ended
-pub past_end : (xs : List ℕ) (k : ℕ) → slice_get xs k ≡ None → length xs ≤ k
-past_end xs k none =
-    ⊎_elim
-    (λ less. absurd (let some = slice_get-get_or xs k 0 less in let e : ◌≡◌ {A = Option ℕ} None (Some (get_or xs k 0)) = sym none ∙ some in cc))
-    (λ past. past)
-    (cases_lt k (length xs))
+-- ---- the spares of a pool among all
 
--- ---- the number of each turn
+-- where the spares of a pool begin among all
+abbrev offset_of : List Pool → ℕ → ℕ
+offset_of [] pool = 0
+offset_of (first ∷ pools) zero = 0
+offset_of (first ∷ pools) (suc pool) = length first.spares + offset_of pools pool
 
-module _ (shape : Shape) (lists : Lists) (valid : IsValidPdl shape lists.dds) {version : Version} (area : IsValidSsa shape version lists.sdl.ssa) where
-  pub last_many : length (supplementary_spares shape lists) ≡ lists.sdl.ssa
-  last_many = let all = pools_are_all shape lists valid area in omega (arith, length-drop (length (unslipped shape lists.dds) - lists.sdl.ssa) (unslipped shape lists.dds), all)
+among_all : (pools : List Pool) (pool k block : ℕ) → slice_get (spares_at pools pool) k ≡ Some block → slice_get (spares_in pools) (offset_of pools pool + k) ≡ Some block
+among_all [] pool k block at = absurd (let none : ◌≡◌ {A = Option ℕ} None (Some block) = at in cc)
+among_all (first ∷ pools) zero k block at =
+    let within = slice_get_within first.spares k block at in
+    let none_before : 0 + k ≡ k = omega arith in
+    ap (slice_get (first.spares ++ spares_in pools)) none_before
+    ∙ slice_get-get_or (first.spares ++ spares_in pools) k 0 (omega (arith, within, length-append first.spares (spares_in pools)))
+    ∙ ap Some (get_or_append_left first.spares (spares_in pools) 0 k within ∙ get_or_from_slice_get first.spares k block 0 at)
+among_all (first ∷ pools) (suc pool) k block at =
+    let rest = among_all pools pool k block at in
+    let within = slice_get_within (spares_in pools) (offset_of pools pool + k) block rest in
+    let same : length first.spares + offset_of pools pool + k - length first.spares ≡ offset_of pools pool + k = omega arith in
+    slice_get-get_or (first.spares ++ spares_in pools) (length first.spares + offset_of pools pool + k) 0 (omega (arith, within, length-append first.spares (spares_in pools)))
+    ∙ ap Some (get_or-append_right first.spares (spares_in pools) (length first.spares) (length first.spares + offset_of pools pool + k) 0 refl (omega arith)
+    ∙ ap (slice_index (spares_in pools)) same ∙ get_or_from_slice_get (spares_in pools) (offset_of pools pool + k) block 0 rest)
 
-  pub length-spares_down : length (spares_down shape lists) ≡ primary_count shape lists.dds + lists.sdl.ssa
-  length-spares_down =
-      omega (arith, length-append (reverse (primary_spares shape lists.dds)) (reverse (supplementary_spares shape lists)), length-reverse (primary_spares shape lists.dds), length-reverse (supplementary_spares shape lists), first_many shape lists valid area, last_many)
+-- so they differ
+pub pool_differs : (pools : List Pool) (pool : ℕ) → ArePools pools → IsDistinct eqb (spares_at pools pool)
+pool_differs pools pool lawful =
+    let xs = spares_at pools pool in
+    IsDistinct-from_apart eqb xs
+    (λ i j d less within. ne_eqb (get_or xs i d) (get_or xs j d)
+    (λ e. let first = among_all pools pool i (get_or xs j d) (slice_get-get_or xs i d (omega (arith, less, within)) ∙ ap Some e) in
+    let last = among_all pools pool j (get_or xs j d) (slice_get-get_or xs j d within) in
+    let same = lawful.spares (offset_of pools pool + i) (offset_of pools pool + j) (get_or xs j d) first last in
+    omega (arith, same, less)))
 
-  -- the first turns are those of the primary spares
-  pub down_first : (turn number : ℕ) → turn < primary_count shape lists.dds → number ≡ primary_count shape lists.dds - 1 - turn → slice_index (spares_down shape lists) turn ≡ slice_index (spares shape lists) number
-  down_first turn number less is =
-      let first = primary_spares shape lists.dds in
-      let last = supplementary_spares shape lists in
-      let there : length first - 1 - turn ≡ number = omega (arith, first_many shape lists valid area, is) in
-      get_or_append_left (reverse first) (reverse last) 0 turn (omega (arith, length-reverse first, first_many shape lists valid area, less))
-      ∙ get_or-reverse first turn 0 (omega (arith, first_many shape lists valid area, less))
-      ∙ ap (slice_index first) there
-      ∙ sym (get_or_append_left first last 0 number (omega (arith, first_many shape lists valid area, less, is)))
+-- ---- the walk
 
-  -- the others are those of the supplementary ones
-  pub down_last : (turn number : ℕ) → primary_count shape lists.dds ≤ turn → turn < primary_count shape lists.dds + lists.sdl.ssa → number + turn + 1 ≡ primary_count shape lists.dds + primary_count shape lists.dds + lists.sdl.ssa
-      → slice_index (spares_down shape lists) turn ≡ slice_index (spares shape lists) number
-  down_last turn number from less is =
-      let first = primary_spares shape lists.dds in
-      let last = supplementary_spares shape lists in
-      let n = primary_count shape lists.dds in
-      let there : length last - 1 - (turn - n) ≡ number - n = omega (arith, last_many, from, less, is) in
-      get_or-append_right (reverse first) (reverse last) n turn 0 (omega (arith, length-reverse first, first_many shape lists valid area)) from
-      ∙ get_or-reverse last (turn - n) 0 (omega (arith, last_many, from, less))
-      ∙ ap (slice_index last) there
-      ∙ sym (get_or-append_right first last n number 0 (first_many shape lists valid area) (omega (arith, less, is)))
+module _ (pools : List Pool) (entries : List SdlEntry) (pool : ℕ) where
+  module _ (lawful : ArePools pools) where
+    -- what comes after a free spare is the next one
+    pub free_follows_at : (k : ℕ) → k < length (free_at pools entries pool) → slice_get (free_at pools entries pool) (k + 1) ≡ next_in pools entries pool (Some (slice_index (free_at pools entries pool) k))
+    free_follows_at k within =
+        let next : suc k ≡ k + 1 = omega arith in
+        sym (find_next (is_unnamed entries) (spares_at pools pool) (pool_differs pools pool lawful) k (slice_index (free_at pools entries pool) k) (slice_get-get_or (free_at pools entries pool) k 0 within)
+        ∙ ap (slice_get (free_at pools entries pool)) next)
 
-  -- the number of the spare whose turn it is
-  record HasNumber (turn : ℕ) : Type 0 where
-    number : ℕ
-    inside : number < length (spares shape lists)
-    is : slice_index (spares_down shape lists) turn ≡ slice_index (spares shape lists) number
-    where_is : ((turn < primary_count shape lists.dds) × (number + turn + 1 ≡ primary_count shape lists.dds))
-        ⊎ ((primary_count shape lists.dds ≤ turn) × (number + turn + 1 ≡ primary_count shape lists.dds + primary_count shape lists.dds + lists.sdl.ssa))
+    -- Asking for the next after the one before the k-th gives the k-th, and nothing where there are no more.
+    pub next_is : (k : ℕ) → k ≤ length (free_at pools entries pool) → next_in pools entries pool (spare_before pools entries pool k) ≡ slice_get (free_at pools entries pool) k
+    next_is zero within = refl
+    next_is (suc k) within =
+        let inside : k < length (free_at pools entries pool) = omega (arith, within) in
+        let next : k + 1 ≡ suc k = omega arith in
+        ap (next_in pools entries pool) (slice_get-get_or (free_at pools entries pool) k 0 inside)
+        ∙ sym (free_follows_at k inside)
+        ∙ ap (slice_get (free_at pools entries pool)) next
 
-  number_of_turn : (turn : ℕ) → turn < primary_count shape lists.dds + lists.sdl.ssa → HasNumber turn
-  number_of_turn turn less =
-      let n = primary_count shape lists.dds in
-      let many = length-spares shape lists valid area in
-      ⊎_elim
-      (λ first. record {
-        number = n - 1 - turn;
-        inside = omega (arith, many, first);
-        is = down_first turn (n - 1 - turn) first refl;
-        where_is = inl (first, omega (arith, first));
-      })
-      (λ last. record {
-        number = n + (n + lists.sdl.ssa - 1 - turn);
-        inside = omega (arith, many, last, less);
-        is = down_last turn (n + (n + lists.sdl.ssa - 1 - turn)) last less (omega (arith, last, less));
-        where_is = inr (last, omega (arith, last, less));
-      })
-      (cases_lt turn n)
-
-  -- two turns are two spares
-  pub turn_differs : (t u : ℕ) → t < length (spares_down shape lists) → u < length (spares_down shape lists) → slice_index (spares_down shape lists) t ≡ slice_index (spares_down shape lists) u → t ≡ u
-  turn_differs t u within within' same =
-      let many = length-spares_down in
-      let a = number_of_turn t (omega (arith, many, within)) in
-      let b = number_of_turn u (omega (arith, many, within')) in
-      let e = spare_differs shape lists valid area a.number b.number a.inside b.inside (sym a.is ∙ same ∙ b.is) in
-      ⊎_elim
-      (λ x. ⊎_elim (λ y. omega (arith, e, x.1, y.1)) (λ y. omega (arith, e, x.0, x.1, y.0, y.1, many, within')) b.where_is)
-      (λ x. ⊎_elim (λ y. omega (arith, e, x.0, x.1, y.0, y.1, many, within)) (λ y. omega (arith, e, x.1, y.1)) b.where_is)
-      a.where_is
-
-  pub spares_down_differ : IsDistinct eqb (spares_down shape lists)
-  spares_down_differ =
-      let xs = spares_down shape lists in
-      IsDistinct-from_apart eqb xs
-      (λ i j d less within. ne_eqb (get_or xs i d) (get_or xs j d)
-      (λ e. let same = turn_differs i j (omega (arith, less, within)) within (get_or_default xs i 0 d (omega (arith, less, within)) ∙ e ∙ get_or_default xs j d 0 within) in omega (arith, same, less)))
-
-  -- what comes after a spare is what comes from the next turn on
-  pub after_turn : (turn spare : ℕ) → turn < length (spares_down shape lists) → slice_index (spares_down shape lists) turn ≡ spare → after_first (λ b. eqb b spare) (spares_down shape lists) ≡ drop (turn + 1) (spares_down shape lists)
-  after_turn turn spare within is =
-      let xs = spares_down shape lists in
-      let at : position_or_len (λ b. eqb b spare) xs ≡ turn =
-      position_or_len_is (λ b. eqb b spare) xs turn 0 (omega (arith, within))
-      (λ k less. ne_eqb (slice_index xs k) spare (λ e. let same = turn_differs k turn (omega (arith, less, within)) within (e ∙ sym is) in omega (arith, same, less)))
-      (λ _. eq-eqb (slice_index xs turn) spare is) in
-      ap (λ n. drop (n + 1) xs) at
-
--- ---- the walk through the free spares
-
-module _ (shape : Shape) (lists : Lists) (valid : AreValid shape lists) where
-  -- what comes after a free spare is the next one
-  pub free_follows : (k last : ℕ) → slice_get (free_spares shape lists) k ≡ Some last → free_spare_after shape lists last ≡ slice_get (free_spares shape lists) (k + 1)
-  free_follows k last at =
-      let next : suc k ≡ k + 1 = omega arith in
-      find_next (is_free lists) (spares_down shape lists) (spares_down_differ shape lists valid.primary valid.together.secondary.area) k last at
-      ∙ ap (slice_get (free_spares shape lists)) next
-
-  pub free_follows_at : (k : ℕ) → k < length (free_spares shape lists) → slice_get (free_spares shape lists) (k + 1) ≡ free_spare_after shape lists (slice_index (free_spares shape lists) k)
-  free_follows_at k within = sym (free_follows k (slice_index (free_spares shape lists) k) (slice_get-get_or (free_spares shape lists) k 0 within))
-
-  -- Asking for the next after the one before the k-th gives the k-th, and nothing where there are no more.
-  pub next_is : (k : ℕ) → k ≤ length (free_spares shape lists) → next_spare shape lists (spare_before shape lists k) ≡ slice_get (free_spares shape lists) k
-  next_is zero within = refl
-  next_is (suc k) within =
-      let inside : k < length (free_spares shape lists) = omega (arith, within) in
-      let next : k + 1 ≡ suc k = omega arith in
-      ap (next_spare shape lists) (slice_get-get_or (free_spares shape lists) k 0 inside)
-      ∙ sym (free_follows_at k inside)
-      ∙ ap (slice_get (free_spares shape lists)) next
-
-  -- What is given after the one before the k-th is the k-th.
-  pub given_is : (k spare : ℕ) → k ≤ length (free_spares shape lists) → next_spare shape lists (spare_before shape lists k) ≡ Some spare → slice_get (free_spares shape lists) k ≡ Some spare
-  given_is k spare within is = sym (next_is k within) ∙ is
-
-  -- Where nothing is given, the first k are all.
-  pub none_given : (k : ℕ) → k ≤ length (free_spares shape lists) → next_spare shape lists (spare_before shape lists k) ≡ None → k ≡ length (free_spares shape lists)
-  none_given k within is = le_antisymm within (past_end (free_spares shape lists) k (sym (next_is k within) ∙ is))
-
--- the one before the next place is the one at this place
-pub before_more : (shape : Shape) (lists : Lists) (k spare : ℕ) → slice_get (free_spares shape lists) k ≡ Some spare → spare_before shape lists (k + 1) ≡ Some spare
-before_more shape lists k spare at =
-    let next : k + 1 ≡ suc k = omega arith in
-    ap (spare_before shape lists) next ∙ at
-
--- a free spare is one of those that are looked through
-pub free_is_spare : (shape : Shape) (lists : Lists) (k spare : ℕ) → slice_get (free_spares shape lists) k ≡ Some spare → Contains (spares_down shape lists) spare
-free_is_spare shape lists k spare at = (Contains-from_filter (is_free lists) (spares_down shape lists) spare (Contains-slice_get (free_spares shape lists) k spare at)).1
-
--- so it may be asked what comes after it
-pub may_ask : (shape : Shape) (lists : Lists) (k : ℕ) → IfSome (spare_before shape lists k) (Contains (spares_down shape lists))
-may_ask shape lists zero = tt
-may_ask shape lists (suc k) = by_cases (slice_get (free_spares shape lists) k) refl
-  where
-    by_cases : (o : Option ℕ) → slice_get (free_spares shape lists) k ≡ o → IfSome o (Contains (spares_down shape lists))
-    by_cases None at = tt
-    by_cases (Some spare) at = free_is_spare shape lists k spare at
+  -- what was given may be asked for
+  pub may_ask : (k : ℕ) → IfSome (spare_before pools entries pool k) (Contains (spares_at pools pool))
+  may_ask zero = tt
+  may_ask (suc k) = by_cases (slice_get (free_at pools entries pool) k) refl
+    where
+      by_cases : (o : Option ℕ) → slice_get (free_at pools entries pool) k ≡ o → IfSome o (Contains (spares_at pools pool))
+      by_cases None at = tt
+      by_cases (Some spare) at = (Contains-from_filter (is_unnamed entries) (spares_at pools pool) spare (Contains-slice_get (free_at pools entries pool) k spare at)).1

@@ -15,18 +15,25 @@ use Rattle.model_lists.specs.declared.sdl.SdlEntry.{SdlEntry}
 use Rattle.model_lists.specs.Values.{defectives}
 use Rattle.model_pools.specs.Listed.{is_listed, replacements}
 use Rattle.model_places.specs.Places.{Lists, is_free, unslipped, primary_count, primary_spares, supplementary_spares, spares, free_primary_count, free_supplementary_count}
-use Rattle.model_places.specs.Valid.{IsValidSdl, AreValid}
+use Rattle.model_lists.specs.declared.versions.Version.{Version}
+use Rattle.model_places.specs.Valid.{IsValidPdl, IsValidSsa, IsValidSdl, AreValid}
 use Rattle.model_pools.proofs.Listed.{Decides-is_listed, is_listed-filter, is_member_is, Contains-from_filter, IsDistinct-from_increasing}
 use Rattle.model_pools.proofs.Replacements.{Contains-later, Contains-cons_option, Contains-cons_option_first, first_is_alone, replacement_cases}
-use Rattle.model_places.proofs.Entries.{used, used_differ, differs_from_all}
-use Rattle.model_places.proofs.Free.{free_from_unnamed, unnamed_from_free}
-use Rattle.model_places.proofs.Pools.{unslipped_rise}
+use Rattle.model_pools.proofs.Entries.{used, used_differ, differs_from_all}
+use Rattle.model_pools.proofs.Free.{free_from_unnamed, unnamed_from_free}
+use Rattle.model_places.proofs.ByKind.{free_primary_is, free_supplementary_is}
+use Rattle.model_places.proofs.Layouts.{from_primary, from_supplementary}
+use Rattle.model_places.proofs.Pools.{unslipped_rise, slips_are_all}
 use Rattle.ram_slip.specs.declared.place.Place.{Place}
 use Rattle.ram_slip.specs.declared.place.Place.TheVariants as places
 use Rattle.ram_slip.specs.Place.{IsAtPlace}
 use Rattle.ram_slip.proofs.OnePlace.{one_place}
 use Rattle.ram_slip.proofs.Spares.{first_many}
-use Rattle.ram_spare.proofs.Order.{last_many}
+
+-- ---- how many supplementary spares there are
+
+last_many : (shape : Shape) (lists : Lists) (valid : IsValidPdl shape lists.dds) {version : Version} (area : IsValidSsa shape version lists.sdl.ssa) → length (supplementary_spares shape lists.dds lists.sdl.ssa) ≡ lists.sdl.ssa
+last_many shape lists valid area = let all = slips_are_all shape lists.dds lists.sdl.ssa valid area in omega (arith, length-drop (length (unslipped shape lists.dds) - lists.sdl.ssa) (unslipped shape lists.dds), all)
 
 -- ---- numbers that differ
 
@@ -114,21 +121,21 @@ module _ (shape : Shape) (lists : Lists) (valid : IsValidSdl shape lists) where
   named_is_used q spare =
       ⊎_elim
       (λ t. ⊎_elim
-      (λ u. let parts = unnamed_from_free lists q t in absurd (⊎_elim parts.1 parts.0 (used_named lists.sdl.entries q ((Decides-is_listed (map used lists.sdl.entries) q).0 u))))
+      (λ u. let parts = unnamed_from_free lists.sdl.entries q t in absurd (⊎_elim parts.1 parts.0 (used_named lists.sdl.entries q ((Decides-is_listed (map used lists.sdl.entries) q).0 u))))
       (λ n. ap not t ∙ sym n)
       (cases_Bool (is_listed (map used lists.sdl.entries) q)))
       (λ f. ⊎_elim
       (λ u. ap not f ∙ sym u)
-      (λ n. absurd (true≢false (sym (free_from_unnamed lists q
-      (λ d. true≢false (sym ((Decides-is_listed (map used lists.sdl.entries) q).1 (retired_used lists.sdl.entries q (λ k e below is. valid.spares_retired k e below (subst (Contains (spares shape lists)) (sym is) spare)) d)) ∙ n))
+      (λ n. absurd (true≢false (sym (free_from_unnamed lists.sdl.entries q
+      (λ d. true≢false (sym ((Decides-is_listed (map used lists.sdl.entries) q).1 (retired_used lists.sdl.entries q (λ k e below is. valid.entries.spares_retired k e below (subst (Contains (spares shape lists)) (sym is) spare)) d)) ∙ n))
       (λ r. true≢false (sym ((Decides-is_listed (map used lists.sdl.entries) q).1 (replacement_used lists.sdl.entries q r)) ∙ n))) ∙ f)))
       (cases_Bool (is_listed (map used lists.sdl.entries) q)))
       (cases_Bool (is_free lists q))
 
   used_apart : IsDistinct eqb (map used lists.sdl.entries)
   used_apart =
-      used_differ lists.sdl.entries valid.different (IsDistinct-from_increasing (defectives lists.sdl.entries) valid.rising)
-      (λ x h. All-contains (λ b. ¬ Contains (defectives lists.sdl.entries) b) (replacements lists.sdl.entries) x valid.sound h)
+      used_differ lists.sdl.entries valid.entries.different (IsDistinct-from_increasing (defectives lists.sdl.entries) valid.entries.rising)
+      (λ x h. All-contains (λ b. ¬ Contains (defectives lists.sdl.entries) b) (replacements lists.sdl.entries) x valid.entries.sound h)
 
   -- The free ones of an area, and the entries that use one up, are as many as the area has.
   pub area_is : (some : List ℕ) → IsDistinct eqb some → ((q : ℕ) → Contains some q → Contains (spares shape lists) q)
@@ -171,7 +178,7 @@ uses some entries = count_by (λ (e : SdlEntry). is_listed some (used e)) entrie
 -- So many spares of each area are left by the first k entries.
 pub record AreLeft (shape : Shape) (lists : Lists) (k primary supplementary : ℕ) : Type 0 where
   pub primary_are : primary + uses (primary_spares shape lists.dds) (take k lists.sdl.entries) ≡ length (primary_spares shape lists.dds)
-  pub supplementary_are : supplementary + uses (supplementary_spares shape lists) (take k lists.sdl.entries) ≡ length (supplementary_spares shape lists)
+  pub supplementary_are : supplementary + uses (supplementary_spares shape lists.dds lists.sdl.ssa) (take k lists.sdl.entries) ≡ length (supplementary_spares shape lists.dds lists.sdl.ssa)
 
 -- what one more entry leaves, by what the spare is that it uses up
 abbrev pub LeavesAt : Shape → Lists → ℕ → ℕ → ℕ → Place → Type 0
@@ -202,18 +209,18 @@ module _ (shape : Shape) (lists : Lists) (valid : AreValid shape lists) where
   primary_area =
       area_is shape lists valid.together.secondary (primary_spares shape lists.dds)
       (IsDistinct-from_increasing (primary_spares shape lists.dds) (rising_front (primary_count shape lists.dds) (unslipped shape lists.dds) (unslipped_rise shape lists.dds)))
-      (λ q has. Contains-append_left (primary_spares shape lists.dds) (supplementary_spares shape lists) q has)
+      (from_primary shape lists.dds lists.sdl.ssa)
 
-  supplementary_area : count_by (is_free lists) (supplementary_spares shape lists) + uses (supplementary_spares shape lists) lists.sdl.entries ≡ length (supplementary_spares shape lists)
+  supplementary_area : count_by (is_free lists) (supplementary_spares shape lists.dds lists.sdl.ssa) + uses (supplementary_spares shape lists.dds lists.sdl.ssa) lists.sdl.entries ≡ length (supplementary_spares shape lists.dds lists.sdl.ssa)
   supplementary_area =
-      area_is shape lists valid.together.secondary (supplementary_spares shape lists)
-      (IsDistinct-from_increasing (supplementary_spares shape lists) (rising_rest (length (unslipped shape lists.dds) - lists.sdl.ssa) (unslipped shape lists.dds) (unslipped_rise shape lists.dds)))
-      (λ q has. Contains-append_right (primary_spares shape lists.dds) (supplementary_spares shape lists) q has)
+      area_is shape lists valid.together.secondary (supplementary_spares shape lists.dds lists.sdl.ssa)
+      (IsDistinct-from_increasing (supplementary_spares shape lists.dds lists.sdl.ssa) (rising_rest (length (unslipped shape lists.dds) - lists.sdl.ssa) (unslipped shape lists.dds) (unslipped_rise shape lists.dds)))
+      (from_supplementary shape lists.dds lists.sdl.ssa)
 
   -- before the first entry
   pub left_first : (primary : ℕ) → primary ≡ primary_count shape lists.dds → AreLeft shape lists 0 primary lists.sdl.ssa
   left_first primary is = record {
-    primary_are = omega (arith, is, first_many shape lists valid.primary valid.together.secondary.area);
+    primary_are = omega (arith, is, first_many shape lists.dds lists.sdl.ssa valid.primary valid.together.secondary.area);
     supplementary_are = omega (arith, last_many shape lists valid.primary valid.together.secondary.area);
   }
 
@@ -222,8 +229,8 @@ module _ (shape : Shape) (lists : Lists) (valid : AreValid shape lists) where
       → (primary ≡ free_primary_count shape lists) × (supplementary ≡ free_supplementary_count shape lists)
   left_last k primary supplementary past left =
       let all = take_all k lists.sdl.entries past in (
-        omega (arith, primary_area, left.primary_are, ap (uses (primary_spares shape lists.dds)) all),
-        omega (arith, supplementary_area, left.supplementary_are, ap (uses (supplementary_spares shape lists)) all),
+        omega (arith, primary_area, free_primary_is shape lists, left.primary_are, ap (uses (primary_spares shape lists.dds)) all),
+        omega (arith, supplementary_area, free_supplementary_is shape lists, left.supplementary_are, ap (uses (supplementary_spares shape lists.dds lists.sdl.ssa)) all),
       )
 
   module _ (k primary supplementary x : ℕ) (d : SdlEntry) (below : k < length lists.sdl.entries) (is : x ≡ used (get_or lists.sdl.entries k d)) (before : AreLeft shape lists k primary supplementary) where
@@ -232,9 +239,9 @@ module _ (shape : Shape) (lists : Lists) (valid : AreValid shape lists) where
         as_many (primary_spares shape lists.dds) lists.sdl.entries k primary x d below is before.primary_are
         (λ has. other (one_place shape lists.dds lists.sdl.ssa x valid.primary valid.together.secondary.area place places.Primary at has))
 
-    not_last : (place : Place) → IsAtPlace shape lists.dds lists.sdl.ssa x place → (place ≡ places.Supplementary → ⊥) → supplementary + uses (supplementary_spares shape lists) (take (k + 1) lists.sdl.entries) ≡ length (supplementary_spares shape lists)
+    not_last : (place : Place) → IsAtPlace shape lists.dds lists.sdl.ssa x place → (place ≡ places.Supplementary → ⊥) → supplementary + uses (supplementary_spares shape lists.dds lists.sdl.ssa) (take (k + 1) lists.sdl.entries) ≡ length (supplementary_spares shape lists.dds lists.sdl.ssa)
     not_last place at other =
-        as_many (supplementary_spares shape lists) lists.sdl.entries k supplementary x d below is before.supplementary_are
+        as_many (supplementary_spares shape lists.dds lists.sdl.ssa) lists.sdl.entries k supplementary x d below is before.supplementary_are
         (λ has. other (one_place shape lists.dds lists.sdl.ssa x valid.primary valid.together.secondary.area place places.Supplementary at has))
 
     -- one more entry
@@ -243,7 +250,7 @@ module _ (shape : Shape) (lists : Lists) (valid : AreValid shape lists) where
         let less = one_less (primary_spares shape lists.dds) lists.sdl.entries k primary x d below is before.primary_are (omega (arith, primary_area)) at in
         (less.0, record { primary_are = less.1; supplementary_are = not_last places.Primary at (λ e. absurd cc) })
     left_more places.Supplementary at =
-        let less = one_less (supplementary_spares shape lists) lists.sdl.entries k supplementary x d below is before.supplementary_are (omega (arith, supplementary_area)) at in
+        let less = one_less (supplementary_spares shape lists.dds lists.sdl.ssa) lists.sdl.entries k supplementary x d below is before.supplementary_are (omega (arith, supplementary_area)) at in
         (less.0, record { primary_are = not_first places.Supplementary at (λ e. absurd cc); supplementary_are = less.1 })
     left_more (places.Logical i) at = record { primary_are = not_first (places.Logical i) at (λ e. absurd cc); supplementary_are = not_last (places.Logical i) at (λ e. absurd cc) }
     left_more places.Slipped at = record { primary_are = not_first places.Slipped at (λ e. absurd cc); supplementary_are = not_last places.Slipped at (λ e. absurd cc) }

@@ -1,7 +1,8 @@
 -- Both lists as one value, and which spare comes next: for `next_free` and `counts`.
-use Rattle.std.specs.Prelude.{ℕ, zero, suc, Option, Some, None, slice_get}
-use Rattle.model_geometry.specs.Geometry.{Shape}
-use Rattle.model_places.specs.Places.{Lists, free_spares, free_spare_after}
+use Rattle.std.specs.Prelude.{ℕ, zero, suc, Option, None, List, slice_get}
+use Rattle.model_lists.specs.declared.sdl.SdlEntry.{SdlEntry}
+use Rattle.model_pools.specs.Pools.{Pool, free_at}
+use Rattle.model_places.specs.Places.{Lists}
 use Rattle.ram_dds.specs.declared.dds.DdsPdl.{DdsPdl}
 use Rattle.ram_dds.specs.Dds.{dds_of}
 use Rattle.ram_sdl.specs.declared.sdl.Sdl.{Sdl}
@@ -11,13 +12,7 @@ use Rattle.ram_sdl.specs.Sdl.{sdl_of}
 abbrev pub both_lists : DdsPdl → Sdl → Lists
 both_lists dds sdl = record { dds = dds_of dds; sdl = sdl_of sdl }
 
--- The first free spare, or the first that comes after this one, in the order in which spares are looked through. (This
--- project's own.)
-abbrev pub next_spare : Shape → Lists → Option ℕ → Option ℕ
-next_spare shape lists None = slice_get (free_spares shape lists) 0
-next_spare shape lists (Some last) = free_spare_after shape lists last
-
--- the free spare before the k-th, of which the first has none (this project's own)
-abbrev pub spare_before : Shape → Lists → ℕ → Option ℕ
-spare_before shape lists zero = None
-spare_before shape lists (suc k) = slice_get (free_spares shape lists) k
+-- the free spare of a pool before the k-th, of which the first has none (this project's own)
+abbrev pub spare_before : List Pool → List SdlEntry → (pool : ℕ) → ℕ → Option ℕ
+spare_before pools entries pool zero = None
+spare_before pools entries pool (suc k) = slice_get (free_at pools entries pool) k

@@ -1,12 +1,15 @@
-//! The spares of a disc with two defect lists: which free one comes next, and how many are free. No list of them is
-//! built.
+//! Spares and homes over any layout: the next free spare, cursors in the order of spares, the home of a logical block; and how
+//! many spares are free.
 #![tactic(auto)]
 
 mod count;
+mod cursors;
+mod homes;
 mod laws;
 mod spare;
-mod turns;
 
 pub use count::{SpareCounts, counts};
+pub use cursors::Cursors;
+pub use homes::home;
 pub use laws::next_free_walks_through_the_free_spares;
-pub use spare::next_free;
+pub use spare::{FreeSpare, free_from, next_free};

@@ -27,3 +27,4 @@ mod Happening
 mod Held
 pub mod Behind
 pub mod ReadAhead
+mod Layouts

@@ -137,7 +137,7 @@ module _ {M : Type 0} (world : M → World) (block_count : M → ℕ) (reaches :
         subst (λ (b : ℕ). cell_at (world mid).cells b ≡ cell_at (world old).cells b) (sym home_is)
         (did.wrote.wrote.only (home_of shape lists i)
         (λ j less same. apart j (let l = less in omega (arith, l)) (homes_apart shape lists valid i (block_with lba + j) within_old (let w = within_old in let l = less in omega (arith, w, l)) same))
-        (λ j less. home_not_free shape lists valid i within_old)
+        (λ j less. home_not_free shape lists valid (block_with lba + j) i within_old)
         (λ area same. no_data_block_sdl shape area (subst (Contains (data_blocks shape)) same (home_is_data_block shape lists valid i within_old)))
         (λ area same. no_data_block_second shape area (subst (Contains (data_blocks shape)) same (home_is_data_block shape lists valid i within_old))))
       where

@@ -11,3 +11,4 @@ pub mod Sounding
 pub mod Verifying
 pub mod Volume
 pub mod Writing
+pub mod Layouts

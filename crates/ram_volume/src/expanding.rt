@@ -6,6 +6,7 @@ ghost use Rattle.model_drive.specs.Expands.{ExpandCause, ExpandCompletes};
 ghost use Rattle.ram_volume.specs.Shown.{shown_ready, shown_state, medium_under};
 ghost use Rattle.ram_volume.specs.Expanding.{ExpandSteps};
 
+use crate::memory::lay_out;
 use crate::states::{PoweredOff, Ready, State};
 use ram_expand::{Grown, grow};
 use ram_medium::{MediumControl, Stop};
@@ -54,6 +55,12 @@ impl<M: MediumControl> Ready<M> {
             &mut workspace.scratch,
         ) {
             Ok(Grown::Good) => {
+                lay_out(
+                    &mut workspace.layout,
+                    &mut workspace.cursors,
+                    &geometry,
+                    &lists,
+                );
                 let ready = Ready::over(medium, geometry, lists, workspace);
                 (State::Ready(ready), ExpandOut::Good)
             }

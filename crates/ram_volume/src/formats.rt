@@ -1,6 +1,6 @@
 //! Formats of the disc in a drive whose power is on, of either kind.
 
-ghost use Rattle.std.specs.Prelude.{◌≡◌, ◌≤◌, IsTrue, []};
+ghost use Rattle.std.specs.Prelude.{◌≡◌, ◌+◌, ◌≤◌, IsTrue, [], length};
 ghost use Rattle.model_geometry.specs.declared.TheConstants.{SDL_LIMIT};
 ghost use Rattle.model_geometry.specs.Geometry.{total};
 ghost use Rattle.model_lists.specs.Values.{IsLawfulDds, IsLawfulSdl};
@@ -16,8 +16,9 @@ ghost use Rattle.ram_sdl.specs.Sdl.{sdl_of};
 ghost use Rattle.ram_lists.specs.Lists.{lists_of};
 ghost use Rattle.ram_volume.specs.Shown.{shown_bare, shown_ready, shown_state, shown_unformatted, shown_under, medium_under};
 ghost use Rattle.ram_volume.specs.Formats.{FormatSteps};
+ghost use Rattle.ram_volume.specs.Layouts.{IsLaidOut};
 
-use crate::memory::Workspace;
+use crate::memory::{Workspace, lay_out};
 use crate::states::{NotFormatted, PoweredOff, Ready, State};
 use ram_format::{FormatHalt, format_lists, kept_entries, repair_lists};
 use ram_lists::Lists;
@@ -42,6 +43,8 @@ impl<M: MediumControl> NotFormatted<M> {
         requires marked { AreMarkedWithin geometry (M.world medium).cells mark }
         requires spare_roomy { SDL_LIMIT ≤ spare_list.entries.room }
         requires draft_roomy { SDL_LIMIT ≤ workspace.draft.entries.room }
+        requires layout_roomy { geometry.zones + geometry.psa ≤ workspace.layout.room }
+        requires one_each { length workspace.cursors ≡ 1 }
         ensures shown { shown_bare result ≡ shown_unformatted geometry
             (machine_shown M.world M.arms M.armed_cut medium) mark }
         ensures medium { result.medium ≡ medium }
@@ -88,6 +91,12 @@ impl<M: MediumControl> NotFormatted<M> {
         let scratch = &mut workspace.scratch;
         match format_lists(alloc, &mut medium, &geometry, &[], true, mark, scratch) {
             Ok(lists) => {
+                lay_out(
+                    &mut workspace.layout,
+                    &mut workspace.cursors,
+                    &geometry,
+                    &lists,
+                );
                 let ready = Ready::over(medium, geometry, lists, workspace);
                 (State::Ready(ready), FormatOut::Good)
             }
@@ -139,6 +148,7 @@ impl<M: MediumControl> Ready<M> {
         requires lawful_sdl { IsLawfulSdl (sdl_of lists.sdl) }
         requires roomy { SDL_LIMIT ≤ lists.sdl.entries.room }
         requires draft_roomy { SDL_LIMIT ≤ workspace.draft.entries.room }
+        requires laid_out { IsLaidOut geometry (lists_of lists) workspace.layout workspace.cursors }
         ensures shown { shown_ready result ≡ shown_under geometry
             (machine_shown M.world M.arms M.armed_cut medium) (lists_of lists) [] }
         ensures medium { result.medium ≡ medium }
@@ -189,6 +199,12 @@ impl<M: MediumControl> Ready<M> {
         let scratch = &mut workspace.scratch;
         match format_lists(alloc, &mut medium, &geometry, &kept, false, mark, scratch) {
             Ok(lists) => {
+                lay_out(
+                    &mut workspace.layout,
+                    &mut workspace.cursors,
+                    &geometry,
+                    &lists,
+                );
                 let ready = Ready::over(medium, geometry, lists, workspace);
                 (State::Ready(ready), FormatOut::Good)
             }

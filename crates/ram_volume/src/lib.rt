@@ -8,6 +8,7 @@ mod expanding;
 mod fetching;
 mod formats;
 mod holding;
+mod homes;
 mod laws;
 mod memory;
 mod power;

@@ -9,7 +9,7 @@ ghost use Rattle.model_drive.specs.Power.{PowerCause};
 ghost use Rattle.ram_volume.specs.Shown.{shown_off, shown_bare, shown_ready};
 ghost use Rattle.ram_volume.specs.Powers.{turned_off, shown_after, medium_after, power_out, PowerSteps};
 
-use crate::memory::Memory;
+use crate::memory::{Memory, lay_out};
 use crate::states::{NotFormatted, PowerOn, PoweredOff, Ready};
 use ram_copies::Halt;
 use ram_lists::{Found, Lists, mount_lists};
@@ -29,10 +29,11 @@ impl<M: MediumControl> PoweredOff<M> {
             mut medium,
             geometry,
         } = self;
-        let Ok(memory) = Memory::new(alloc) else {
+        let Ok(memory) = Memory::new(alloc, &geometry) else {
             return PowerOn::NoMemory(PoweredOff { medium, geometry });
         };
         let Memory {
+            geometry: _,
             mut list,
             mut workspace,
         } = memory;
@@ -40,6 +41,12 @@ impl<M: MediumControl> PoweredOff<M> {
         match mount_lists(alloc, &mut medium, &geometry, &mut workspace.scratch) {
             Ok(Found::Lists { lists }) => {
                 list.copy_from(&lists.sdl);
+                lay_out(
+                    &mut workspace.layout,
+                    &mut workspace.cursors,
+                    &geometry,
+                    &lists,
+                );
                 PowerOn::Ready(Ready {
                     medium,
                     geometry,

@@ -7,20 +7,23 @@ ghost use Rattle.model_medium.specs.Happened.{Happened};
 ghost use Rattle.model_sectors.specs.Requests.{block_with, blocks_covered, is_partly};
 ghost use Rattle.model_buffer.specs.Buffer.{bytes_at};
 ghost use Rattle.model_buffer.specs.declared.TheConstants.{BUFFERED_BLOCKS};
-ghost use Rattle.model_places.specs.Places.{logical_count, capacity_of, home_of};
+ghost use Rattle.model_places.specs.Places.{pools_under, logical_count, capacity_of, home_of};
 ghost use Rattle.model_places.specs.Valid.{AreValid};
 ghost use Rattle.model_drive.specs.Shown.{capacity};
 ghost use Rattle.model_drive.specs.Reads.{ReadCause, ReadCompletes, ReadIsQuiet};
+ghost use Rattle.ram_layout.specs.Slipping.{slip_pools};
 ghost use Rattle.ram_lists.specs.Lists.{lists_of};
 ghost use Rattle.ram_volume.specs.Blocks.{FetchStopped};
 ghost use Rattle.ram_volume.specs.Reading.{ReadsPart, IsLong, MayPass, PutsNewest, PutsFrom, PartsEnd, ReadSteps, read_end_at};
 ghost use Rattle.ram_volume.specs.Shown.{shown_ready, shown_state, medium_under};
 
+use crate::homes::home;
 use crate::states::{PoweredOff, Ready, State};
 use model_sectors::ReadOut;
 use ram_buffer::{BUFFERED_BLOCKS, BlockBuffer};
 use ram_bytes::{BLOCK_BYTES, Block};
-use ram_lists::{Lists, home};
+use ram_layout::SlipLayout;
+use ram_lists::Lists;
 use ram_medium::{Medium, MediumControl, Stop, read_whole, read_whole_into};
 use ram_requests::{Part, Request};
 use ram_zones::Geometry;
@@ -56,6 +59,7 @@ fn read_past<M: Medium>(
 fn read_part<M: Medium>(
     medium: &mut M,
     geometry: &Geometry,
+    layout: &SlipLayout,
     lists: &Lists,
     buffer: &mut BlockBuffer,
     block: &mut Block,
@@ -65,6 +69,7 @@ fn read_part<M: Medium>(
 ) -> Result<bool, Stop>
     requires size { M.block_count medium.old ≡ total geometry.now }
     requires valid { AreValid geometry.now (lists_of lists.now) }
+    requires pools { slip_pools layout.now ≡ pools_under geometry.now (lists_of lists.now) }
     requires inside { part.block < logical_count geometry.now (lists_of lists.now) }
     requires whole { length into.old ≡ 2048 * part.request.n }
     requires past { IsTrue past → MayPass part.request.lba part.request.n part.block buffer.old }
@@ -76,7 +81,7 @@ fn read_part<M: Medium>(
         part.block (home_of geometry.now (lists_of lists.now) part.block) stop) }
     ensures as_many { M.block_count medium.new ≡ M.block_count medium.old }
 {
-    let place = home(geometry, lists, part.block);
+    let place = home(geometry, layout, lists, part.block);
     if past {
         return read_past(medium, part, place, into);
     }
@@ -140,6 +145,7 @@ fn goes_past(long: bool, part: Part, k: u32, blocks: u32) -> bool
 fn read_parts<M: Medium>(
     medium: &mut M,
     geometry: &Geometry,
+    layout: &SlipLayout,
     lists: &Lists,
     buffer: &mut BlockBuffer,
     block: &mut Block,
@@ -149,6 +155,7 @@ fn read_parts<M: Medium>(
     requires size { M.block_count medium.old ≡ total geometry.now }
     requires on { IsTrue (M.world medium.old).power }
     requires valid { AreValid geometry.now (lists_of lists.now) }
+    requires pools { slip_pools layout.now ≡ pools_under geometry.now (lists_of lists.now) }
     requires inside { request.lba + request.n ≤ capacity_of geometry.now (lists_of lists.now) }
     requires whole { length into.old ≡ 2048 * request.n }
     ensures rule { PartsEnd M.world M.reaches medium.old medium.new buffer.old
@@ -160,7 +167,7 @@ fn read_parts<M: Medium>(
     for k in 0..blocks {
         let part = request.part(k);
         let past = goes_past(long, part, k, blocks);
-        if !read_part(medium, geometry, lists, buffer, block, part, past, into)? {
+        if !read_part(medium, geometry, layout, lists, buffer, block, part, past, into)? {
             if long {
                 put_before(buffer, block, request, k, into);
             }
@@ -171,8 +178,15 @@ fn read_parts<M: Medium>(
 }
 
 /// How a read ended that was not stopped: at the block after so many, where there is such a one.
-pub fn ended_at(geometry: &Geometry, lists: &Lists, request: Request, met: Option<u32>) -> ReadOut
+pub fn ended_at(
+    geometry: &Geometry,
+    layout: &SlipLayout,
+    lists: &Lists,
+    request: Request,
+    met: Option<u32>,
+) -> ReadOut
     requires valid { AreValid geometry.now (lists_of lists.now) }
+    requires pools { slip_pools layout.now ≡ pools_under geometry.now (lists_of lists.now) }
     requires inside { request.lba + request.n ≤ capacity_of geometry.now (lists_of lists.now) }
     requires covered { IfSome met (λ before. before < blocks_covered request.lba request.n) }
     ensures { result ≡ read_end_at geometry.now (lists_of lists.now) request.lba met }
@@ -182,7 +196,7 @@ pub fn ended_at(geometry: &Geometry, lists: &Lists, request: Request, met: Optio
             let part = request.part(before);
             ReadOut::Unread {
                 lba: part.start,
-                block: home(geometry, lists, part.block),
+                block: home(geometry, layout, lists, part.block),
             }
         }
         None => ReadOut::Good,
@@ -209,6 +223,7 @@ impl<M: MediumControl> Ready<M> {
         match read_parts(
             &mut medium,
             &geometry,
+            &workspace.layout,
             &lists,
             &mut workspace.buffer,
             &mut workspace.block,
@@ -216,7 +231,7 @@ impl<M: MediumControl> Ready<M> {
             into,
         ) {
             Ok(met) => {
-                let out = ended_at(&geometry, &lists, request, met);
+                let out = ended_at(&geometry, &workspace.layout, &lists, request, met);
                 let ready = Ready {
                     medium,
                     geometry,

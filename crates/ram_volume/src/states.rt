@@ -1,6 +1,6 @@
 //! The states of a drive. Their types keep what holds of them, so that no call has to test it again.
 
-ghost use Rattle.std.specs.Prelude.{◌≡◌, ◌≤◌, IsTrue, []};
+ghost use Rattle.std.specs.Prelude.{◌≡◌, ◌+◌, ◌≤◌, IsTrue, [], length};
 ghost use Rattle.std.proofs.Props.{props};
 ghost use Rattle.model_geometry.specs.declared.TheConstants.{SDL_LIMIT};
 ghost use Rattle.model_geometry.specs.Geometry.{total};
@@ -13,7 +13,8 @@ ghost use Rattle.model_volume.proofs.OneProof.{settled-prop};
 ghost use Rattle.ram_dds.specs.Dds.{dds_of};
 ghost use Rattle.ram_sdl.specs.Sdl.{sdl_of};
 ghost use Rattle.ram_lists.specs.Lists.{lists_of};
-ghost use Rattle.ram_volume.specs.OneProof.{lawful_dds-prop};
+ghost use Rattle.ram_volume.specs.Layouts.{IsLaidOut};
+ghost use Rattle.ram_volume.specs.OneProof.{lawful_dds-prop, laid_out-prop};
 
 use crate::memory::Workspace;
 use ram_bytes::SECTORS_PER_BLOCK;
@@ -48,6 +49,7 @@ pub struct Ready<M: MediumControl> {
     ghost lawful_sdl: { IsLawfulSdl (sdl_of lists.sdl) } by { Prim.hlevel props },
     ghost roomy: { SDL_LIMIT ≤ lists.sdl.entries.room },
     ghost draft_roomy: { SDL_LIMIT ≤ workspace.draft.entries.room },
+    ghost laid_out: { IsLaidOut geometry (lists_of lists) workspace.layout workspace.cursors } by { laid_out-prop _ _ _ _ },
 }
 
 /// A drive with its power on and a disc that is not formatted: its cells give no lists. The mark is no less than that of
@@ -67,6 +69,8 @@ pub struct NotFormatted<M: MediumControl> {
     ghost unbuffered: { workspace.buffer ≡ [] } by { Prim.hlevel props },
     ghost spare_roomy: { SDL_LIMIT ≤ spare_list.entries.room },
     ghost draft_roomy: { SDL_LIMIT ≤ workspace.draft.entries.room },
+    ghost layout_roomy: { geometry.zones + geometry.psa ≤ workspace.layout.room },
+    ghost one_each: { length workspace.cursors ≡ 1 },
 }
 
 /// A drive in any of its states.

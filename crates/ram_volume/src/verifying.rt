@@ -3,19 +3,22 @@
 ghost use Rattle.std.specs.Prelude.{◌≡◌, ◌+◌, ◌≤◌, IsTrue};
 ghost use Rattle.model_geometry.specs.Geometry.{total};
 ghost use Rattle.model_medium.specs.Happened.{Happened};
-ghost use Rattle.model_places.specs.Places.{capacity_of};
+ghost use Rattle.model_places.specs.Places.{pools_under, capacity_of};
 ghost use Rattle.model_places.specs.Valid.{AreValid};
 ghost use Rattle.model_drive.specs.Shown.{capacity};
 ghost use Rattle.model_drive.specs.Reads.{VerifyCause, ReadCompletes};
 ghost use Rattle.ram_sectors.specs.declared.TheConstants.{VERIFY_LIMIT};
+ghost use Rattle.ram_layout.specs.Slipping.{slip_pools};
 ghost use Rattle.ram_lists.specs.Lists.{lists_of};
 ghost use Rattle.ram_volume.specs.Verifying.{HomesEnd, VerifySteps};
 ghost use Rattle.ram_volume.specs.Shown.{shown_ready, shown_state, medium_under};
 
+use crate::homes::home;
 use crate::reading::ended_at;
 use crate::states::{PoweredOff, Ready, State};
 use ram_bytes::Block;
-use ram_lists::{Lists, home};
+use ram_layout::SlipLayout;
+use ram_lists::Lists;
 use ram_medium::{Medium, MediumControl, Stop, read_whole};
 use ram_requests::Request;
 use ram_sectors::ReadOut;
@@ -26,6 +29,7 @@ use ram_zones::Geometry;
 fn read_homes<M: Medium>(
     medium: &mut M,
     geometry: &Geometry,
+    layout: &SlipLayout,
     lists: &Lists,
     block: &mut Block,
     request: Request,
@@ -33,6 +37,7 @@ fn read_homes<M: Medium>(
     requires size { M.block_count medium.old ≡ total geometry.now }
     requires on { IsTrue (M.world medium.old).power }
     requires valid { AreValid geometry.now (lists_of lists.now) }
+    requires pools { slip_pools layout.now ≡ pools_under geometry.now (lists_of lists.now) }
     requires inside { request.lba + request.n ≤ capacity_of geometry.now (lists_of lists.now) }
     ensures rule { HomesEnd M.world M.reaches medium.old medium.new
         geometry.now (lists_of lists.now) request.lba request.n result }
@@ -40,7 +45,7 @@ fn read_homes<M: Medium>(
 {
     for k in 0..request.blocks() {
         let part = request.part(k);
-        let place = home(geometry, lists, part.block);
+        let place = home(geometry, layout, lists, part.block);
         if !read_whole(medium, place, block)? {
             return Ok(Some(k));
         }
@@ -62,10 +67,11 @@ impl<M: MediumControl> Ready<M> {
             lists,
             mut workspace,
         } = self;
+        let layout = &workspace.layout;
         let block = &mut workspace.block;
-        match read_homes(&mut medium, &geometry, &lists, block, request) {
+        match read_homes(&mut medium, &geometry, layout, &lists, block, request) {
             Ok(met) => {
-                let out = ended_at(&geometry, &lists, request, met);
+                let out = ended_at(&geometry, &workspace.layout, &lists, request, met);
                 let ready = Ready {
                     medium,
                     geometry,

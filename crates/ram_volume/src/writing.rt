@@ -9,18 +9,20 @@ ghost use Rattle.model_volume.specs.Given.{AreSettled};
 ghost use Rattle.model_drive.specs.Shown.{capacity};
 ghost use Rattle.model_drive.specs.Writes.{WriteCause, WriteCompletes};
 ghost use Rattle.ram_medium.specs.Laws.{machine_shown};
+ghost use Rattle.ram_layout.specs.Slipping.{slip_pools};
 ghost use Rattle.ram_lists.specs.Lists.{lists_of};
 ghost use Rattle.ram_lists.specs.Fit.{IsFit};
 ghost use Rattle.ram_volume.specs.Shown.{shown_ready, shown_state, medium_under};
 ghost use Rattle.ram_volume.specs.Writing.{BringsRest, RestStopped, WritesPart, PartStops, EndsParts, StopsParts, WriteSteps};
 
 use crate::fetching::read_home;
+use crate::homes::home;
 use crate::memory::Workspace;
 use crate::states::{PoweredOff, Ready, State};
 use model_drive::WriteOut;
 use ram_buffer::BlockBuffer;
 use ram_bytes::Block;
-use ram_lists::{Lists, home};
+use ram_lists::Lists;
 use ram_medium::{Medium, MediumControl, Stop};
 use ram_replace::{Outcome, place_block};
 use ram_requests::{Part, Request};
@@ -73,7 +75,8 @@ fn write_part<M: Medium>(
     part: Part,
     from: &[u8],
 ) -> Result<Wrote, Stop>
-    requires fit { IsFit geometry.now (M.block_count medium.old) lists.old workspace.old.draft }
+    requires fit { IsFit geometry.now (M.block_count medium.old) (slip_pools workspace.old.layout) workspace.old.cursors
+        lists.old workspace.old.draft }
     requires on { IsTrue (M.world medium.old).power }
     requires settled { AreSettled geometry.now (M.world medium.old).cells (lists_of lists.old) }
     requires inside { part.block < logical_count geometry.now (lists_of lists.old) }
@@ -83,21 +86,25 @@ fn write_part<M: Medium>(
         workspace.old.buffer workspace.new.buffer part.request.lba part.request.n part.block from.now)
         (PartStops M.world M.reaches geometry.now medium.old medium.new (lists_of lists.old)
         workspace.old.buffer part.request.lba part.request.n part.block from.now) }
-    ensures fit { IsFit geometry.now (M.block_count medium.new) lists.new workspace.new.draft }
+    ensures fit { IsFit geometry.now (M.block_count medium.new) (slip_pools workspace.new.layout) workspace.new.cursors
+        lists.new workspace.new.draft }
+    ensures same_layout { workspace.new.layout ≡ workspace.old.layout }
 {
-    let place = home(geometry, lists, part.block);
+    let place = home(geometry, &workspace.layout, lists, part.block);
     let Workspace {
         draft,
         buffer,
         block,
         scratch,
+        layout,
+        cursors,
     } = workspace;
     if !fetch_rest(medium, buffer, block, part, place)? {
         return Ok(Wrote::NoRest);
     }
     let bytes = part.merged(from, block);
     let placed = place_block(
-        medium, geometry, lists, draft, part.block, place, bytes, scratch,
+        medium, geometry, layout, cursors, lists, draft, part.block, place, bytes, scratch,
     )?;
     match placed {
         Outcome::Done => {
@@ -118,7 +125,8 @@ fn write_parts<M: MediumControl>(
     request: Request,
     from: &[u8],
 ) -> Result<WriteOut, Stop>
-    requires fit { IsFit geometry.now (M.block_count medium.old) lists.old workspace.old.draft }
+    requires fit { IsFit geometry.now (M.block_count medium.old) (slip_pools workspace.old.layout) workspace.old.cursors
+        lists.old workspace.old.draft }
     requires on { IsTrue (M.world medium.old).power }
     requires settled { AreSettled geometry.now (M.world medium.old).cells (lists_of lists.old) }
     requires inside { request.lba + request.n ≤ capacity_of geometry.now (lists_of lists.old) }
@@ -131,7 +139,9 @@ fn write_parts<M: MediumControl>(
         (machine_shown M.world M.arms M.armed_cut medium.new) (lists_of lists.old) workspace.old.buffer
         request.lba request.n from.now) }
     ensures happened { Happened M.takes medium.old medium.new }
-    ensures fit { IsFit geometry.now (M.block_count medium.new) lists.new workspace.new.draft }
+    ensures fit { IsFit geometry.now (M.block_count medium.new) (slip_pools workspace.new.layout) workspace.new.cursors
+        lists.new workspace.new.draft }
+    ensures same_layout { workspace.new.layout ≡ workspace.old.layout }
 {
     for k in 0..request.blocks() {
         let part = request.part(k);
@@ -140,7 +150,7 @@ fn write_parts<M: MediumControl>(
             Wrote::NoRest => {
                 return Ok(WriteOut::Unread {
                     lba: part.start,
-                    block: home(geometry, lists, part.block),
+                    block: home(geometry, &workspace.layout, lists, part.block),
                 });
             }
             Wrote::NoSpare => return Ok(WriteOut::NoSpare { lba: part.start }),

@@ -1,17 +1,24 @@
-use Rattle.model_places.proofs.Layouts.{one_logical, one_spares, one_block, one_free, one_home}
+use Rattle.model_places.proofs.ByKind.{slip_counts}
+use Rattle.model_places.proofs.Layouts.{one_parts, one_logical, one_block, one_spares_at, its_spares_at, length-spares_in}
 use Rattle.model_places.proofs.one_group_is_slipping.Goals as goal
 
-pub returns-clause-logical : goal.returns-clause-logical
-returns-clause-logical c = one_logical
+pub returns-clause-parts : goal.returns-clause-parts
+returns-clause-parts c = λ shape lists is valid area. one_parts shape lists.dds lists.sdl.ssa valid area
 
-pub returns-clause-spares : goal.returns-clause-spares
-returns-clause-spares c = one_spares
+pub returns-clause-logical : goal.returns-clause-logical
+returns-clause-logical c = λ shape lists is. one_logical shape lists.dds lists.sdl.ssa
+
+pub returns-clause-count : goal.returns-clause-count
+returns-clause-count c = λ shape lists is. slip_counts shape lists.sdl.ssa
 
 pub returns-clause-block : goal.returns-clause-block
-returns-clause-block c = λ shape lists is valid area. one_block shape lists is valid area
+returns-clause-block c = λ shape lists is valid area. one_block shape lists.dds lists.sdl.ssa valid area
 
-pub returns-clause-free : goal.returns-clause-free
-returns-clause-free c = λ shape lists is valid area. one_free shape lists is valid area
+pub returns-clause-spares : goal.returns-clause-spares
+returns-clause-spares c = λ shape lists is. one_spares_at shape lists.dds lists.sdl.ssa
 
-pub returns-clause-home : goal.returns-clause-home
-returns-clause-home c = λ shape lists is valid area. one_home shape lists is valid area
+pub returns-clause-its_spares : goal.returns-clause-its_spares
+returns-clause-its_spares c = λ shape lists is valid area. its_spares_at shape lists.dds lists.sdl.ssa valid area
+
+pub returns-clause-all_spares : goal.returns-clause-all_spares
+returns-clause-all_spares c = λ shape lists is valid area. length-spares_in shape lists.dds lists.sdl.ssa valid area

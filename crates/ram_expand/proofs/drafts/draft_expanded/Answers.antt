@@ -4,7 +4,7 @@ use Rattle.model_volume.specs.Expansions.{lists_expanded}
 use Rattle.model_volume.proofs.Expanding.{expanded_valid}
 use Rattle.ram_sdl.specs.Sdl.{sdl_of}
 use Rattle.ram_lists.specs.Lists.{lists_of}
-use Rattle.ram_replace.proofs.Moving.{valid_lawful}
+use Rattle.ram_expand.proofs.Lawful.{valid_lawful}
 use Rattle.ram_expand.proofs.Drafting.{draft_is}
 use Rattle.ram_expand.proofs.drafts.draft_expanded.Goals as goal
 

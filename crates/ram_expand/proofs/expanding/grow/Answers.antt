@@ -11,6 +11,8 @@ use Rattle.ram_copies.specs.Calls.{HasPutList, StopsUpdating}
 use Rattle.ram_copies.specs.declared.writes.Purpose.TheVariants.{Update}
 use Rattle.ram_lists.specs.Lists.{lists_of}
 use Rattle.ram_expand.specs.Expanding.{HasGrown}
+use Rattle.model_drive.proofs.ExpandSteps.{lawful_area, larger_area}
+use Rattle.ram_expand.proofs.Sizing.{left_within}
 use Rattle.ram_expand.proofs.Growing.{has_grown, no_copy, growing_stopped, grown_valid}
 use Rattle.ram_expand.proofs.expanding.grow.Goals as goal
 
@@ -48,3 +50,16 @@ returns-clause-fit g c = record {
   room = let more = c.copy_from.ensures.room in let had = c.requires.fit.room in omega (arith, more, had);
   draft_room = c.draft_expanded.ensures.room;
 }
+
+pub area_for-ssa-requires : goal.area_for-ssa-requires
+area_for-ssa-requires g c = left_within c.args.geometry.now (lists_of c.args.lists.now) c.requires.fit.valid c.args.capacity c.in-Smaller.ensures
+
+pub draft_expanded-requires-clause-area : goal.draft_expanded-requires-clause-area
+draft_expanded-requires-clause-area g c =
+    let size = c.in-Smaller.ensures in
+    rw c.area_for-ssa.ensures.area (lawful_area c.args.geometry.now (lists_of c.args.lists.now) c.requires.fit.valid c.args.capacity size.lawful.some size.lawful.whole size.lawful.fewer size.lawful.most)
+
+pub draft_expanded-requires-clause-grows : goal.draft_expanded-requires-clause-grows
+draft_expanded-requires-clause-grows g c =
+    let size = c.in-Smaller.ensures in
+    rw c.area_for-ssa.ensures.area (larger_area c.args.geometry.now (lists_of c.args.lists.now) c.requires.fit.valid c.args.capacity size.lawful.some size.lawful.whole size.lawful.fewer size.lawful.most)

@@ -3,7 +3,7 @@ use Rattle.ram_spare.proofs.laws.next_free_walks_through_the_free_spares.Goals a
 
 pub returns : goal.returns
 returns c = record {
-  follows = λ shape lists valid k within. free_follows_at shape lists valid k within;
-  walks = λ shape lists valid k within. next_is shape lists valid k within;
-  asked = λ shape lists valid k. may_ask shape lists k;
+  follows = λ pools entries pool lawful k within. free_follows_at pools entries pool lawful k within;
+  walks = λ pools entries pool lawful k within. next_is pools entries pool lawful k within;
+  asked = λ pools entries pool k. may_ask pools entries pool k;
 }

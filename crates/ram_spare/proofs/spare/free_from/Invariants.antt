@@ -1,8 +1,6 @@
-use Rattle.std.specs.Prelude.{◌≡◌, drop, find}
-use Rattle.model_places.specs.Places.{is_free, spares_down}
-use Rattle.ram_spare.specs.Spares.{both_lists}
+use Rattle.model_pools.specs.Pools.{spares_at, is_unnamed}
+use Rattle.ram_spare.specs.Turns.{AreUsed}
 use Rattle.ram_spare.proofs.spare.free_from.Given as goal
 
 abbrev pub invariant-loop-turn : goal.invariant-loop-turn
-invariant-loop-turn l = find (is_free (both_lists l.dds l.sdl)) (drop l.first (spares_down l.geometry (both_lists l.dds l.sdl)))
-    ≡ find (is_free (both_lists l.dds l.sdl)) (drop l.turn (spares_down l.geometry (both_lists l.dds l.sdl)))
+invariant-loop-turn g l = AreUsed (is_unnamed l.sdl.entries.list) (spares_at (g.L.Layout.pools l.layout) l.pool) l.first l.turn

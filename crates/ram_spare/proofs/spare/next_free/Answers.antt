@@ -1,19 +1,18 @@
-use Rattle.std.proofs.Common.{◌∙◌, sym, ap}
-use Rattle.std.specs.List.{find}
-use Rattle.model_places.specs.Places.{is_free, spares_down}
-use Rattle.ram_spare.specs.Spares.{both_lists, next_spare}
-use Rattle.ram_spare.proofs.Order.{find_first, after_turn}
+use Rattle.std.proofs.Common.{sym, ◌∙◌, arith}
+use Rattle.model_pools.specs.Pools.{spares_at, is_unnamed}
+use Rattle.ram_spare.proofs.Walks.{find_found, find_no_more, next_by}
 use Rattle.ram_spare.proofs.spare.next_free.Goals as goal
 
 pub returns-in-Some : goal.returns-in-Some
-returns-in-Some c =
-    c.free_from.ensures
-    ∙ ap (find (is_free (both_lists c.args.dds.now c.args.sdl.now)))
-    (sym (after_turn c.args.geometry.now (both_lists c.args.dds.now c.args.sdl.now) c.requires.valid.primary c.requires.valid.together.secondary.area c.turn_of.result c.in-Some.spare c.turn_of.ensures.inside c.turn_of.ensures.has))
-    ∙ ap (next_spare c.args.geometry.now (both_lists c.args.dds.now c.args.sdl.now)) (sym c.in-Some.is)
+returns-in-Some g c =
+    let pools = g.L.Layout.pools c.args.layout.now in
+    let entries = c.args.sdl.now.entries.list in
+    sym (find_found (is_unnamed entries) (spares_at pools c.args.pool) c.first_turn-first.result c.in-Some.free c.in-Some.ensures.finds)
+    ∙ next_by pools entries c.args.cursors.now c.args.pool c.requires.fit (omega (arith, c.requires.pool, c.requires.cursors)) c.first_turn-first.result c.args.after (rw c.at.ensures at c.first_turn-first.ensures)
 
 pub returns-in-None : goal.returns-in-None
-returns-in-None c =
-    c.free_from-in-None.ensures
-    ∙ find_first (is_free (both_lists c.args.dds.now c.args.sdl.now)) (spares_down c.args.geometry.now (both_lists c.args.dds.now c.args.sdl.now))
-    ∙ ap (next_spare c.args.geometry.now (both_lists c.args.dds.now c.args.sdl.now)) (sym c.in-None.is)
+returns-in-None g c =
+    let pools = g.L.Layout.pools c.args.layout.now in
+    let entries = c.args.sdl.now.entries.list in
+    sym (find_no_more (is_unnamed entries) (spares_at pools c.args.pool) c.first_turn-first.result c.in-None.ensures.finds)
+    ∙ next_by pools entries c.args.cursors.now c.args.pool c.requires.fit (omega (arith, c.requires.pool, c.requires.cursors)) c.first_turn-first.result c.args.after (rw c.at.ensures at c.first_turn-first.ensures)

@@ -1,5 +1,5 @@
 use Rattle.std.specs.Prelude.{◌≡◌, ◌<◌, ℕ}
-use Rattle.std.proofs.Common.{sym, subst, arith}
+use Rattle.std.proofs.Common.{refl, sym, ◌∙◌, subst, arith}
 use Rattle.std.proofs.lemmas.Result.{err_from_is_err_and}
 use Rattle.model_sectors.specs.Requests.{blocks_covered, start_in}
 use Rattle.model_places.specs.Places.{Lists, logical_count, home_of}
@@ -18,6 +18,7 @@ loop-k-init g c = record {
   so_far = wrote_none g.M.Medium.world g.M.Medium.block_count g.M.Medium.reaches g.M.Medium.takes g.M.MediumControl.arms g.M.MediumControl.armed_cut g.met.M.Medium.laws g.met.M.MediumControl.control_laws c.args.geometry.now c.args.medium.now (lists_of c.args.lists.now) c.args.workspace.now.buffer c.args.request.lba c.args.request.n c.args.from.now c.requires.on c.requires.inside c.requires.settled;
   happened = happened_none g.M.Medium.takes c.args.medium.now;
   fit = c.requires.fit;
+  same_layout = refl;
 }
 
 pub write_part-requires-clause-fit : goal.write_part-requires-clause-fit
@@ -107,6 +108,7 @@ loop-k-preserved g c =
           (wrote_happened g.M.Medium.world g.M.Medium.reaches g.M.Medium.takes g.met.M.Medium.happened c.args.geometry.now c.loop-k.medium c.write_part.new.medium (lists_of c.loop-k.lists) c.loop-k.workspace.buffer c.part-part.result.request.lba c.part-part.result.request.n c.part-part.result.block c.args.from.now
           c.loop-k.invariant.so_far.blocks.wrote.ends.is_on (lists_of c.write_part.new.lists) c.write_part.new.workspace.buffer wrote.Done (rw c.in-Done.is at c.in_ok-write_part.ensures.rule));
       fit = c.write_part.ensures.fit;
+      same_layout = c.write_part.ensures.same_layout ∙ c.loop-k.invariant.same_layout;
     }
 
 pub returns-clause-rule : goal.returns-clause-rule

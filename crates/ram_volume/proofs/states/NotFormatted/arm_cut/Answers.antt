@@ -16,4 +16,6 @@ invariant_of-self g c =
       unbuffered = c.args.self.now.unbuffered;
       spare_roomy = c.args.self.now.spare_roomy;
       draft_roomy = c.args.self.now.draft_roomy;
+      layout_roomy = c.args.self.now.layout_roomy;
+      one_each = c.args.self.now.one_each;
     }

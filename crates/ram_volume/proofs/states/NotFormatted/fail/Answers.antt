@@ -17,6 +17,8 @@ invariant_of-self g c =
       unbuffered = c.args.self.unbuffered;
       spare_roomy = c.args.self.spare_roomy;
       draft_roomy = c.args.self.draft_roomy;
+      layout_roomy = c.args.self.layout_roomy;
+      one_each = c.args.self.one_each;
     }
 
 pub invariant_of-self-in-NoBlock : goal.invariant_of-self-in-NoBlock
@@ -30,6 +32,8 @@ invariant_of-self-in-NoBlock g c =
       unbuffered = c.args.self.unbuffered;
       spare_roomy = c.args.self.spare_roomy;
       draft_roomy = c.args.self.draft_roomy;
+      layout_roomy = c.args.self.layout_roomy;
+      one_each = c.args.self.one_each;
     }
 
 pub returns-in-Done-clause-stands : goal.returns-in-Done-clause-stands

@@ -20,6 +20,7 @@ invariant_of-self g c =
       lawful_sdl = c.args.self.lawful_sdl;
       roomy = c.args.self.roomy;
       draft_roomy = c.args.self.draft_roomy;
+      laid_out = c.args.self.laid_out;
     }
 
 pub invariant_of-self-in-NoBlock : goal.invariant_of-self-in-NoBlock
@@ -34,6 +35,7 @@ invariant_of-self-in-NoBlock g c =
       lawful_sdl = c.args.self.lawful_sdl;
       roomy = c.args.self.roomy;
       draft_roomy = c.args.self.draft_roomy;
+      laid_out = c.args.self.laid_out;
     }
 
 pub returns-in-Done-clause-stands : goal.returns-in-Done-clause-stands

@@ -18,6 +18,7 @@ invariant_of-ready g c = record {
   lawful_sdl = c.args.self.lawful_sdl;
   roomy = c.args.self.roomy;
   draft_roomy = c.args.self.draft_roomy;
+  laid_out = c.args.self.laid_out;
 }
 
 pub returns-in-Ok-clause-cause : goal.returns-in-Ok-clause-cause

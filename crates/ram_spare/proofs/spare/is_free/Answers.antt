@@ -1,0 +1,14 @@
+use Rattle.std.proofs.Common.{◌||◌, not, sym, ap, ◌∙◌}
+use Rattle.model_lists.specs.Values.{defectives}
+use Rattle.model_pools.specs.Listed.{is_listed, replacements}
+use Rattle.ram_spare.proofs.Naming.{listed_by}
+use Rattle.ram_spare.proofs.spare.is_free.Goals as goal
+use Rattle.ram_spare.proofs.spare.is_free.Goals.{then-is_defective, else-is_defective}
+
+pub returns : goal.returns
+returns c =
+    let named = listed_by (defectives c.args.sdl.now.entries.list) c.args.block c.is_defective.result c.is_defective.ensures in
+    elim c.if-is_defective.branch [
+      | then-is_defective w ↦ ap not (w.result-is ∙ w.if-is_defective.true ∙ ap (λ t. t || is_listed (replacements c.args.sdl.now.entries.list) c.args.block) (sym w.if-is_defective.true ∙ named))
+      | else-is_defective w ↦ ap not (w.result-is ∙ (rw w.as_slice.ensures at w.is_replacement.ensures) ∙ ap (λ t. t || is_listed (replacements c.args.sdl.now.entries.list) c.args.block) (sym w.if-is_defective.false ∙ named))
+    ]

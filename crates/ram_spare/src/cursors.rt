@@ -1,0 +1,66 @@
+//! How far the spares of each pool are known to be used.
+
+ghost use Rattle.std.specs.Prelude.{◌≡◌, ◌<◌, ◌^◌, IfOk, length, replicate, slice_index, slice_set};
+
+use std::alloc::{AllocError, Global};
+use std::marker::Model;
+
+/// A cursor for each pool of a layout: a number of spares, counted in the order in which they are taken. They fit a secondary
+/// list where each spare before them is named by an entry, so a search may begin at them. They are seen as the list of these
+/// numbers.
+#[derive(Drop)]
+pub struct Cursors {
+    at: Vec<u32>,
+}
+
+impl Model for Cursors {
+    ghost use Rattle.std.specs.Prelude.{ℕ, List};
+    ghost use Rattle.ram_spare.specs.Turns.{AreFewCursors};
+
+    ghost Value = { List ℕ };
+
+    ghost view = { λ cursors. cursors.at.items };
+
+    ghost invariant = { AreFewCursors };
+}
+
+impl Cursors {
+    /// As many cursors, each at the first spare.
+    pub fn new(alloc: Global, pools: u32) -> Result<Cursors, AllocError>
+        ensures { IfOk result (λ cursors. cursors ≡ replicate pools 0) }
+    {
+        Ok(Cursors {
+            at: vec![in alloc; 0; pools as usize]?,
+        })
+    }
+
+    /// How many there are.
+    pub fn pools(&self) -> u32
+        ensures { result ≡ length self.now }
+    {
+        self.at.len() as u32
+    }
+
+    /// The cursor of a pool.
+    pub fn at(&self, pool: u32) -> u32
+        requires { pool < length self.now }
+        ensures { result ≡ slice_index self.now pool }
+    {
+        self.at[pool as usize]
+    }
+
+    /// Moves the cursor of a pool.
+    pub fn set(&mut self, pool: u32, at: u32)
+        requires { pool < length self.old }
+        ensures { self.new ≡ slice_set self.old pool at }
+    {
+        self.at[pool as usize] = at;
+    }
+
+    /// Moves all cursors to the first spare.
+    pub fn reset(&mut self)
+        ensures { self.new ≡ replicate (length self.old) 0 }
+    {
+        self.at.fill(0);
+    }
+}
