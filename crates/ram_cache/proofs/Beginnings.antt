@@ -5,7 +5,7 @@ use Rattle.model_sectors.specs.declared.ReadOut.{ReadOut}
 use Rattle.model_sectors.specs.declared.ReadOut.TheVariants as reads
 use Rattle.model_drive.specs.Shown.{Shown, IsOn, IsFormatted, StandsFor, block_count, cells_in}
 use Rattle.model_drive.specs.Sound.{IsSound}
-use Rattle.model_drive.specs.Reads.{ReadCause, ReadStep}
+use Rattle.model_drive.specs.Reads.{ReadStep}
 use Rattle.model_cache.specs.declared.SyncOut.{SyncOut}
 use Rattle.model_cache.specs.declared.SyncOut.TheVariants as syncs
 use Rattle.model_cache.specs.declared.TickOut.{TickOut}

@@ -83,6 +83,8 @@ impl<D: Disc> Caching for Cached<D> {
 
     ghost stands = { λ cached s. stands_by D.Sectors cached s };
 
+    ghost underwent = { λ old new. D.underwent old.disc new.disc };
+
     fn capacity(&self) -> Option<u32> {
         self.disc.capacity()
     }
@@ -168,5 +170,10 @@ impl<D: Disc> Caching for Cached<D> {
       as_shown = λ cached s. stands_alike (D.stands cached.disc) (D.shows cached.disc) (D.laws.as_shown cached.disc) (pending_of cached.pending) s;
       sound = λ cached. record { few = few_pending cached.pending.rooms.items cached.pending.count cached.pending.few; apart = cached.pending.apart; whole = cached.pending.whole };
       drive_sound = λ cached. D.laws.sound cached.disc;
+    } };
+
+    ghost underwent_laws = { record {
+      none = λ cached. D.underwent_laws.none cached.disc;
+      adds_up = λ old mid new. D.underwent_laws.adds_up old.disc mid.disc new.disc;
     } };
 }

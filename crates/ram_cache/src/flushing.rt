@@ -110,6 +110,7 @@ impl<D: Disc> Cached<D> {
         ensures rule { FlushesAt (shown_by D.Sectors self.old) (shown_by D.Sectors self.new) k result }
         ensures step { (s : Contents) → stands_by D.Sectors self.old s → FlushContents (stands_by D.Sectors self.new) s result }
         ensures same_shape { (D.shows self.new.disc).shape ≡ (D.shows self.old.disc).shape }
+        ensures underwent { D.underwent self.old.disc self.new.disc }
     {
         let number = self.pending.number(k);
         let out = self
@@ -138,6 +139,7 @@ impl<D: Disc> Cached<D> {
         ensures rule { FlushesDue (shown_by D.Sectors self.old) (shown_by D.Sectors self.new) among first count most result }
         ensures step { (s : Contents) → stands_by D.Sectors self.old s → FlushContents (stands_by D.Sectors self.new) s result }
         ensures same_shape { (D.shows self.new.disc).shape ≡ (D.shows self.old.disc).shape }
+        ensures underwent { D.underwent self.old.disc self.new.disc }
     {
         for _turn in 0..most {
             let Some(k) = self.pending.first_of(among, first, count) else {
@@ -158,6 +160,7 @@ impl<D: Disc> Cached<D> {
         ensures cause { SyncCauseOf (shown_by D.Sectors self.old) (shown_by D.Sectors self.new) result }
         ensures step { (s : Contents) → stands_by D.Sectors self.old s → SyncContents (stands_by D.Sectors self.new) s result }
         ensures same_shape { (D.shows self.new.disc).shape ≡ (D.shows self.old.disc).shape }
+        ensures underwent { D.underwent self.old.disc self.new.disc }
     {
         let out = self.flush_due(false, 0, 0, CACHED_BLOCKS as usize, sectors);
         told_of_sync(out)
@@ -169,6 +172,7 @@ impl<D: Disc> Cached<D> {
         ensures cause { TickCauseOf (shown_by D.Sectors self.old) (shown_by D.Sectors self.new) result }
         ensures step { (s : Contents) → stands_by D.Sectors self.old s → TickContents (stands_by D.Sectors self.new) s result }
         ensures same_shape { (D.shows self.new.disc).shape ≡ (D.shows self.old.disc).shape }
+        ensures underwent { D.underwent self.old.disc self.new.disc }
     {
         if self.pending.is_empty() {
             return TickOut::Idle;

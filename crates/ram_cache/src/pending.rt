@@ -147,6 +147,7 @@ impl PendingBlocks {
         ensures step { (s : Standing) → D.stands disc.old s
             → ReadStep (D.stands disc.new) s (16 * i) 16 (room_of self.new staged) result }
         ensures same_shape { (D.shows disc.new).shape ≡ (D.shows disc.old).shape }
+        ensures underwent { D.underwent disc.old disc.new }
     {
         let room = &mut self.rooms[self.count + staged];
         read_whole(disc, i, &mut room.1)
@@ -217,6 +218,7 @@ fn read_whole<D: Disc>(disc: &mut D, i: u32, room: &mut Block) -> ReadOut
     ensures cause { ReadsDisc (D.shows disc.old) (D.shows disc.new) (16 * i) 16 result }
     ensures step { (s : Standing) → D.stands disc.old s → ReadStep (D.stands disc.new) s (16 * i) 16 room.new result }
     ensures same_shape { (D.shows disc.new).shape ≡ (D.shows disc.old).shape }
+    ensures underwent { D.underwent disc.old disc.new }
 {
     let bytes = room.bytes_mut();
     let out = disc.read(16 * i, 16, bytes);

@@ -31,6 +31,7 @@ impl<D: Disc> Cached<D> {
         ensures step { (v : Values) → ¬ IsPending (pending_of self.old.pending) part.block → stands_by D.Sectors self.old (Has v)
             → PartContents (stands_by D.Sectors self.new) v part.request.lba part.request.n part.block into.old into.new result }
         ensures same_shape { (D.shows self.new.disc).shape ≡ (D.shows self.old.disc).shape }
+        ensures underwent { D.underwent self.old.disc self.new.disc }
     {
         let at = part.skipped();
         let len = SECTOR_BYTES * (part.end - part.start) as usize;
@@ -51,6 +52,7 @@ impl<D: Disc> Cached<D> {
         ensures step { (v : Values) → stands_by D.Sectors self.old (Has v)
             → PartContents (stands_by D.Sectors self.new) v request.lba request.n (block_with request.lba + k) into.old into.new result }
         ensures same_shape { (D.shows self.new.disc).shape ≡ (D.shows self.old.disc).shape }
+        ensures underwent { D.underwent self.old.disc self.new.disc }
     {
         let part = request.part(k);
         match self.pending.first_of(true, part.block, 1) {
@@ -70,6 +72,7 @@ impl<D: Disc> Cached<D> {
         ensures step { (s : Contents) → stands_by D.Sectors self.old s
             → ReadContents (stands_by D.Sectors self.new) s request.lba request.n into.new result }
         ensures same_shape { (D.shows self.new.disc).shape ≡ (D.shows self.old.disc).shape }
+        ensures underwent { D.underwent self.old.disc self.new.disc }
     {
         for k in 0..request.blocks() {
             match self.read_part(request, k, into) {
@@ -89,6 +92,7 @@ impl<D: Disc> Cached<D> {
         ensures step { (s : Contents) → stands_by D.Sectors self.old s
             → ReadContents (stands_by D.Sectors self.new) s lba n into.new result }
         ensures same_shape { (D.shows self.new.disc).shape ≡ (D.shows self.old.disc).shape }
+        ensures underwent { D.underwent self.old.disc self.new.disc }
     {
         if self.pending.is_empty() {
             return self.disc.read(lba, n, into);
@@ -107,6 +111,7 @@ impl<D: Disc> Cached<D> {
         ensures step { (s : Contents) → stands_by D.Sectors self.old s
             → ReadContents (stands_by D.Sectors self.new) s lba n into.new result }
         ensures same_shape { (D.shows self.new.disc).shape ≡ (D.shows self.old.disc).shape }
+        ensures underwent { D.underwent self.old.disc self.new.disc }
     {
         match self.enter() {
             Entered::Off => ReadOut::Off,

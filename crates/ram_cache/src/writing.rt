@@ -36,6 +36,7 @@ impl<D: Disc> Cached<D> {
         ensures left { pending_of self.new.pending ≡ leaves_pending result (pending_of self.old.pending) }
         ensures same_mode { self.new.on ≡ self.old.on }
         ensures same_shape { (D.shows self.new.disc).shape ≡ (D.shows self.old.disc).shape }
+        ensures underwent { D.underwent self.old.disc self.new.disc }
     {
         let out = self.disc.write(request.lba, request.n, from);
         self.after_write(out);
@@ -54,6 +55,7 @@ impl<D: Disc> Cached<D> {
             → ThroughContents (shown_by D.Sectors self.old) (shown_by D.Sectors self.new) (stands_by D.Sectors self.new) s
             request.lba request.n from.now result }
         ensures same_shape { (D.shows self.new.disc).shape ≡ (D.shows self.old.disc).shape }
+        ensures underwent { D.underwent self.old.disc self.new.disc }
     {
         match self.flush_due(
             true,
@@ -78,6 +80,7 @@ impl<D: Disc> Cached<D> {
             → RestContents (stands_by D.Sectors self.new) v part.request.lba part.request.n part.block (room_of self.new.pending staged) result }
         ensures staged { IsOk result → staged_of self.new.pending staged ≡ staged_of self.old.pending staged }
         ensures same_shape { (D.shows self.new.disc).shape ≡ (D.shows self.old.disc).shape }
+        ensures underwent { D.underwent self.old.disc self.new.disc }
     {
         let out = self.pending.read_rest(staged, &mut self.disc, part.block);
         self.after_read(out);
@@ -94,6 +97,7 @@ impl<D: Disc> Cached<D> {
             → RestContents (stands_by D.Sectors self.new) v part.request.lba part.request.n part.block (room_of self.new.pending staged) result }
         ensures staged { IsOk result → staged_of self.new.pending staged ≡ staged_of self.old.pending staged }
         ensures same_shape { (D.shows self.new.disc).shape ≡ (D.shows self.old.disc).shape }
+        ensures underwent { D.underwent self.old.disc self.new.disc }
     {
         if !part.is_partly() {
             return Ok(());
@@ -114,6 +118,7 @@ impl<D: Disc> Cached<D> {
             → StagedContents (stands_by D.Sectors self.new) v part.request.lba part.request.n part.block from.now None
             (staged_of self.old.pending staged) (staged_of self.new.pending) result }
         ensures same_shape { (D.shows self.new.disc).shape ≡ (D.shows self.old.disc).shape }
+        ensures underwent { D.underwent self.old.disc self.new.disc }
     {
         match self.rest_of(part, staged) {
             Ok(()) => {
@@ -144,6 +149,7 @@ impl<D: Disc> Cached<D> {
             (bytes_at (block_with request.lba + k) (pending_of self.old.pending))
             (staged_of self.old.pending staged) (staged_of self.new.pending) result }
         ensures same_shape { (D.shows self.new.disc).shape ≡ (D.shows self.old.disc).shape }
+        ensures underwent { D.underwent self.old.disc self.new.disc }
     {
         let part = request.part(k);
         match self.pending.first_of(true, part.block, 1) {
@@ -160,6 +166,7 @@ impl<D: Disc> Cached<D> {
         ensures rule { StagesAll (shown_by D.Sectors self.old) (shown_by D.Sectors self.new) request.lba request.n from.now
             (staged_of self.new.pending) (stands_by D.Sectors self.old) (stands_by D.Sectors self.new) result }
         ensures same_shape { (D.shows self.new.disc).shape ≡ (D.shows self.old.disc).shape }
+        ensures underwent { D.underwent self.old.disc self.new.disc }
     {
         let mut staged = 0;
         for k in 0..request.blocks() {
@@ -180,6 +187,7 @@ impl<D: Disc> Cached<D> {
         ensures step { (s : Contents) → stands_by D.Sectors self.old s
             → CachedContents (stands_by D.Sectors self.new) s request.lba request.n from.now result }
         ensures same_shape { (D.shows self.new.disc).shape ≡ (D.shows self.old.disc).shape }
+        ensures underwent { D.underwent self.old.disc self.new.disc }
     {
         match self.stage_all(request, from) {
             Ok(staged) => {
@@ -201,6 +209,7 @@ impl<D: Disc> Cached<D> {
         ensures step { (s : Contents) → stands_by D.Sectors self.old s
             → CachedContents (stands_by D.Sectors self.new) s request.lba request.n from.now result }
         ensures same_shape { (D.shows self.new.disc).shape ≡ (D.shows self.old.disc).shape }
+        ensures underwent { D.underwent self.old.disc self.new.disc }
     {
         let first = request.first();
         let blocks = request.blocks();
@@ -229,6 +238,7 @@ impl<D: Disc> Cached<D> {
         ensures step { (s : Contents) → stands_by D.Sectors self.old s → WritesContents (shown_by D.Sectors self.old)
             (shown_by D.Sectors self.new) (stands_by D.Sectors self.new) s into_cache lba n from.now result }
         ensures same_shape { (D.shows self.new.disc).shape ≡ (D.shows self.old.disc).shape }
+        ensures underwent { D.underwent self.old.disc self.new.disc }
     {
         let Some(request) = Request::within(sectors, lba, n) else {
             return WriteOut::Range { capacity: sectors };
@@ -254,6 +264,7 @@ impl<D: Disc> Cached<D> {
         ensures step { (s : Contents) → stands_by D.Sectors self.old s → WritesContents (shown_by D.Sectors self.old)
             (shown_by D.Sectors self.new) (stands_by D.Sectors self.new) s into_cache lba n from.now result }
         ensures same_shape { (D.shows self.new.disc).shape ≡ (D.shows self.old.disc).shape }
+        ensures underwent { D.underwent self.old.disc self.new.disc }
     {
         match self.enter() {
             Entered::Off => WriteOut::Off,

@@ -39,6 +39,7 @@ returns-in_default g c =
           (inside_at p c.args.k c.requires.there c.requires.can.inside) c.args.self.now.pending.apart (c.bytes.ensures.same ∙ c.block.ensures) c.bytes.ensures.len
           c.number-number.result p c.write-out.result c.number-number.ensures left c.write-out.ensures.cause c.write-out.ensures.step;
       same_shape = c.write-out.ensures.same_shape;
+      underwent = c.write-out.ensures.underwent;
     }
 
 pub returns-in-Good-clause-rule : goal.returns-in-Good-clause-rule

@@ -15,6 +15,7 @@ returns-in_default-flush g c = record {
       c.loop-turn._turn c.in-Some.k c.loop-turn.invariant.far c.in-Some.ensures c.args.most c.loop-turn-test.true c.flush.result c.flush.ensures.rule c.in_default-flush.not-Good;
   step = λ s so. c.flush.ensures.step s (c.loop-turn.invariant.far.stands s so);
   same_shape = c.flush.ensures.same_shape ∙ c.loop-turn.invariant.far.same_shape;
+  underwent = g.met.D.Sectors.underwent_laws.adds_up c.args.self.now.disc c.loop-turn.self.disc c.flush.new.self.disc c.loop-turn.invariant.underwent c.flush.ensures.underwent;
 }
 
 pub loop-turn-preserved : goal.loop-turn-preserved
@@ -22,4 +23,5 @@ loop-turn-preserved g c = record {
   far = flushed_more (shown_by g.D.Sectors c.args.self.now) c.args.among c.args.first c.args.count (stands_by g.D.Sectors c.args.self.now)
       (shown_by g.D.Sectors c.loop-turn.self) (shown_by g.D.Sectors c.flush.new.self) (stands_by g.D.Sectors c.loop-turn.self) (stands_by g.D.Sectors c.flush.new.self)
       c.loop-turn._turn c.in-Some.k c.loop-turn.invariant.far c.in-Some.ensures c.loop-turn.self.pending.apart c.in-Good.ensures.rule c.flush.ensures.same_shape c.in-Good.ensures.step;
+  underwent = g.met.D.Sectors.underwent_laws.adds_up c.args.self.now.disc c.loop-turn.self.disc c.flush.new.self.disc c.loop-turn.invariant.underwent c.flush.ensures.underwent;
 }

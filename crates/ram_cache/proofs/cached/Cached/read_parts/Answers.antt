@@ -12,6 +12,7 @@ loop-k-init g c =
           (long_values (g.D.Sectors.shows d) (g.D.Sectors.stands d) (pending_of c.args.self.now.pending) (λ t so. (g.met.D.Sectors.laws.as_shown d t).0 so))
           (never_off (g.D.Sectors.shows d) (g.D.Sectors.stands d) (pending_of c.args.self.now.pending) (λ t so. (g.met.D.Sectors.laws.as_shown d t).0 so) c.requires.inside.on)
           c.args.into.now c.requires.whole;
+      underwent = g.met.D.Sectors.underwent_laws.none d;
     }
 
 pub returns-in_default : goal.returns-in_default
@@ -30,6 +31,7 @@ returns-in_default g c =
           (shown_by g.D.Sectors c.loop-k.self) (shown_by g.D.Sectors c.read_part.new.self) c.loop-k.k (omega (arith, c.blocks-k-end.ensures, c.loop-k-test.true)) c.loop-k.into c.read_part.new.into
           (stands_by g.D.Sectors c.loop-k.self) (stands_by g.D.Sectors c.read_part.new.self) c.loop-k.invariant.far c.read_part.result c.in_default.not-Good c.read_part.ensures.step;
       same_shape = c.read_part.ensures.same_shape ∙ c.loop-k.invariant.far.same_shape;
+      underwent = g.met.D.Sectors.underwent_laws.adds_up c.args.self.now.disc c.loop-k.self.disc c.read_part.new.self.disc c.loop-k.invariant.underwent c.read_part.ensures.underwent;
     }
 
 pub loop-k-preserved : goal.loop-k-preserved
@@ -43,6 +45,7 @@ loop-k-preserved g c =
           (shown_by g.D.Sectors c.loop-k.self) (shown_by g.D.Sectors c.read_part.new.self) c.loop-k.k (omega (arith, c.blocks-k-end.ensures, c.loop-k-test.true)) c.loop-k.into c.read_part.new.into
           (stands_by g.D.Sectors c.loop-k.self) (stands_by g.D.Sectors c.read_part.new.self) c.loop-k.invariant.far c.in-Good.ensures.cause c.read_part.ensures.same_shape c.read_part.auto.into
           c.in-Good.ensures.step;
+      underwent = g.met.D.Sectors.underwent_laws.adds_up c.args.self.now.disc c.loop-k.self.disc c.read_part.new.self.disc c.loop-k.invariant.underwent c.read_part.ensures.underwent;
     }
 
 pub returns-clause-step : goal.returns-clause-step

@@ -26,4 +26,5 @@ loop-k-preserved g c = record {
       (shown_by g.D.Sectors c.loop-k.self) (shown_by g.D.Sectors c.stage_next.new.self) c.loop-k.k (omega (arith, c.blocks-k-end.ensures, c.loop-k-test.true)) (staged_of c.loop-k.self.pending c.loop-k.staged) c.loop-k.staged
       (stands_by g.D.Sectors c.loop-k.self) (stands_by g.D.Sectors c.stage_next.new.self) c.loop-k.invariant.far (staged_of c.stage_next.new.self.pending) c.in-Ok.more c.stage_next.ensures.same_shape
       c.in-Ok.ensures.rule c.in-Ok.ensures.step;
+  underwent = g.met.D.Sectors.underwent_laws.adds_up c.args.self.now.disc c.loop-k.self.disc c.stage_next.new.self.disc c.loop-k.invariant.underwent c.stage_next.ensures.underwent;
 }

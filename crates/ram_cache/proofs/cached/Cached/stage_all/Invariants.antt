@@ -7,4 +7,5 @@ abbrev pub invariant-loop-k : goal.invariant-loop-k
 invariant-loop-k g l = record {
   far : StagedSoFar (shown_by g.D.Sectors l.fn.self) (shown_by g.D.Sectors l.self) l.request.lba l.request.n l.k l.from (staged_of l.self.pending l.staged) l.staged
       (stands_by g.D.Sectors l.fn.self) (stands_by g.D.Sectors l.self);
+  underwent : g.D.Sectors.underwent l.fn.self.disc l.self.disc;
 }

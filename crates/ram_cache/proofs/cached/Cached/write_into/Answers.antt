@@ -69,4 +69,5 @@ returns-in_default g c =
       cause = refused_cached old mid c.args.request.lba c.args.request.n c.saturating_sub-leave.result leave mid c.args.from.now c.requires.inside c.flush_due.result rule c.in_default.not-Good;
       step = λ s so. refused_cached_contents (stands_by g.D.Sectors c.flush_due.new.self) c.args.request.lba c.args.request.n c.args.from.now s c.flush_due.result c.in_default.not-Good (c.flush_due.ensures.step s so);
       same_shape = c.flush_due.ensures.same_shape;
+      underwent = c.flush_due.ensures.underwent;
     }

@@ -46,4 +46,5 @@ returns-in_default g c =
       step = λ s so. refused_contents c.args.request.lba c.args.request.n old new new (few_pending c.args.self.now.pending.rooms.items c.args.self.now.pending.count c.args.self.now.pending.few) c.requires.inside
           (stands_by g.D.Sectors c.flush_due.new.self) c.args.from.now s c.flush_due.result rule c.in_default.not-Good (c.flush_due.ensures.step s so);
       same_shape = c.flush_due.ensures.same_shape;
+      underwent = c.flush_due.ensures.underwent;
     }
