@@ -2,8 +2,8 @@
 
 use ram_by_hand::{Entry, number_of};
 use ram_dds::{DdsPdl, DdsState, PdlEntries, PdlEntry, PdlKind};
-use ram_sdl::{Sdl, SdlEntries, SdlEntry, Version};
 use ram_layout::{Layout, SlipLayout};
+use ram_sdl::{Sdl, SdlEntries, SdlEntry, Version};
 use ram_slip::{Place, is_valid_pdl, is_valid_ssa, place_of, spare_turn};
 use ram_zones::Geometry;
 use std::alloc::{AllocError, Global};
@@ -105,7 +105,12 @@ impl Places {
     }
 
     /// Adds the block of a logical block, and what that block is.
-    pub fn add_logical(&self, alloc: Global, i: u32, answer: &mut String) -> Result<(), AllocError> {
+    pub fn add_logical(
+        &self,
+        alloc: Global,
+        i: u32,
+        answer: &mut String,
+    ) -> Result<(), AllocError> {
         let Some(layout) = self.layout(alloc, 0)? else {
             return answer.push_str("none");
         };

@@ -53,12 +53,7 @@ fn is_spare(layout: &SlipLayout, block: u32) -> bool
 }
 
 /// The next free spare of a layout, or the block 0 where it may not be asked for.
-fn next_in(
-    layout: &SlipLayout,
-    cursors: &Cursors,
-    sdl: &Sdl,
-    after: Option<u32>,
-) -> Option<u32>
+fn next_in(layout: &SlipLayout, cursors: &Cursors, sdl: &Sdl, after: Option<u32>) -> Option<u32>
     requires rise { IsStrictlyIncreasing (defectives sdl.now.entries.list) }
     requires first { cursors.now ≡ replicate 1 0 }
 {
@@ -130,7 +125,12 @@ impl Places {
     }
 
     /// Adds the cursor of each of so many pools, as it is made.
-    pub fn add_cursors(&self, alloc: Global, pools: u32, answer: &mut String) -> Result<(), AllocError> {
+    pub fn add_cursors(
+        &self,
+        alloc: Global,
+        pools: u32,
+        answer: &mut String,
+    ) -> Result<(), AllocError> {
         let cursors = Cursors::new(alloc, pools)?;
         for pool in 0..cursors.pools() {
             write!(answer, "{} ", cursors.at(pool))?;

@@ -42,7 +42,10 @@ nothing_slipped shape dds psa none = record {
 }
 
 pub no_area : (shape : Shape) → IsLawful shape → IsValidOnSome shape 0
-no_area shape lawful = (One, record {
-  most = (let most = lawful.most_spares in omega (arith, most, slip_room shape 0));
-  some_logical = (let some = lawful.spares_within in omega (arith, some, slip_room shape 0));
-})
+no_area shape lawful = (
+  One,
+  record {
+    most = (let most = lawful.most_spares in omega (arith, most, slip_room shape 0));
+    some_logical = (let some = lawful.spares_within in omega (arith, some, slip_room shape 0));
+  },
+)

@@ -167,7 +167,9 @@ fn read_parts<M: Medium>(
     for k in 0..blocks {
         let part = request.part(k);
         let past = goes_past(long, part, k, blocks);
-        if !read_part(medium, geometry, layout, lists, buffer, block, part, past, into)? {
+        if !read_part(
+            medium, geometry, layout, lists, buffer, block, part, past, into,
+        )? {
             if long {
                 put_before(buffer, block, request, k, into);
             }
