@@ -1,28 +1,22 @@
 -- What is said by the kind of the layout, for the one kind that there is. Where a second kind comes, the laws of this file are
 -- those that take a premise.
-use Rattle.std.proofs.Common.{◌≡◌, ℕ, ◌+◌, ◌-◌, ◌≤◌, ◌⊎◌, inl, inr, ⊎_elim, List, [], ◌∷◌, length, refl, ap, ◌∙◌, subst, arith}
+use Rattle.std.proofs.Common.{◌≡◌, ℕ, ◌+◌, ◌-◌, ◌<◌, ◌≤◌, ◌⊎◌, inl, inr, ⊎_elim, IsTrue, List, [], ◌∷◌, length, refl, ap, ◌∙◌, subst, arith}
 use Rattle.std.specs.List.{count_by}
 use Rattle.std.proofs.lemmas.Bool.{cases_lt}
 use Rattle.std.proofs.lemmas.List.{length-map}
 use Rattle.model_geometry.specs.Geometry.{Shape, LayoutKind, OneGroup, IsLawful, data_blocks}
+pub use Rattle.model_geometry.proofs.ByKind.{one_kind, slip_room}
 use Rattle.model_lists.specs.declared.dds.PdlEntry.{PdlEntry}
 use Rattle.model_lists.specs.declared.versions.Version.{Version}
 use Rattle.model_lists.specs.declared.versions.Version.TheVariants.{Two}
 use Rattle.model_lists.specs.Values.{Dds, most_of}
 use Rattle.model_pools.specs.Pools.{Pool}
-use Rattle.model_places.specs.Places.{Lists, slipped, one_group, pools_by, pools_of, room_by_kind, spare_room, count_of, is_free, primary_spares, primary_by_kind, supplementary_spares, supplementary_by_kind, free_primary_count, free_supplementary_count}
-use Rattle.model_places.specs.Valid.{IsValidPdl, IsValidSsa, SlipsFew, slips_few_by}
-
-one_kind : (kind : LayoutKind) → kind ≡ OneGroup
-one_kind OneGroup = refl
+use Rattle.model_places.specs.Places.{Lists, slipped, one_group, pools_by, pools_of, count_of, is_free, primary_spares, primary_by_kind, supplementary_spares, supplementary_by_kind, free_primary_count, free_supplementary_count}
+use Rattle.model_places.specs.Valid.{IsValidPdl, IsValidSsa, SlipsFew, slips_few_by, told_too_many, told_by_kind, AreaGrows, area_grows_by}
 
 pub slip_pools : (shape : Shape) (dds : Dds) (ssa : ℕ) → pools_of shape dds ssa ≡ one_group shape dds ssa ∷ []
 unfolding pools_of
 slip_pools shape dds ssa = ap (λ (kind : LayoutKind). pools_by kind shape dds ssa) (one_kind shape.layout)
-
-pub slip_room : (shape : Shape) (ssa : ℕ) → spare_room shape ssa ≡ shape.psa + ssa
-unfolding spare_room
-slip_room shape ssa = ap (λ (kind : LayoutKind). room_by_kind kind shape ssa) (one_kind shape.layout)
 
 pub slip_counts : (shape : Shape) (ssa : ℕ) → count_of shape ssa ≡ length (data_blocks shape) - shape.psa - ssa
 slip_counts shape ssa = omega (arith, slip_room shape ssa)
@@ -59,6 +53,29 @@ slips_few_from shape blocks few = by_kind shape.layout
 pub slips_few_decided : (shape : Shape) (blocks : List ℕ) → SlipsFew shape blocks ⊎ ¬ SlipsFew shape blocks
 slips_few_decided shape blocks = ⊎_elim (λ many. inr (λ few. let most = slips_few shape blocks few in omega (arith, many, most))) (λ few. inl (slips_few_from shape blocks (omega (arith, few))))
     (cases_lt shape.psa (length blocks))
+
+-- where more blocks are defective than may be slipped, what is told of them
+pub slip_told : (shape : Shape) (blocks : List ℕ) → told_too_many shape blocks ≡ length blocks
+unfolding told_too_many
+slip_told shape blocks = ap (λ (kind : LayoutKind). told_by_kind kind shape blocks) (one_kind shape.layout)
+
+pub slips_many_from : (shape : Shape) (blocks : List ℕ) → shape.psa < length blocks → ¬ SlipsFew shape blocks
+slips_many_from shape blocks many few = (let most = slips_few shape blocks few in omega (arith, many, most))
+
+-- it is more than there are primary spares
+pub told_more : (shape : Shape) (blocks : List ℕ) → ¬ SlipsFew shape blocks → shape.psa < told_too_many shape blocks
+told_more shape blocks many = elim (cases_lt shape.psa (length blocks)) [
+  | inl more ↦ omega (arith, more, slip_told shape blocks)
+  | inr most ↦ absurd (many (slips_few_from shape blocks most))
+]
+
+-- the area of a disc with one group grows
+pub slip_area_grows : (shape : Shape) → AreaGrows shape
+unfolding AreaGrows
+slip_area_grows shape = by_kind shape.layout
+  where
+    by_kind : (kind : LayoutKind) → IsTrue (area_grows_by kind)
+    by_kind OneGroup = refl
 
 pub few_slipped : (shape : Shape) (dds : Dds) → IsValidPdl shape dds → length dds.entries ≤ shape.psa
 few_slipped shape dds valid = let few = slips_few shape (slipped dds) valid.few in omega (arith, few, length-slipped dds)

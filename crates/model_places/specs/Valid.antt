@@ -1,13 +1,13 @@
 -- Which defect lists are valid for a geometry, and which size of the supplementary spares: for the laws on homes.
-use Rattle.std.specs.Prelude.{◌≡◌, ℕ, ◌<◌, ◌≤◌, List, length}
+use Rattle.std.specs.Prelude.{◌≡◌, ℕ, ◌<◌, ◌≤◌, Bool, true, IsTrue, List, length}
 use Rattle.std.specs.List.Sorted.{IsStrictlyIncreasing}
-use Rattle.model_geometry.specs.Geometry.{Shape, LayoutKind, OneGroup, data_blocks}
+use Rattle.model_geometry.specs.Geometry.{Shape, LayoutKind, OneGroup, data_blocks, spare_room}
 use Rattle.model_lists.specs.declared.dds.DdsState.TheVariants.{Formatted}
 use Rattle.model_lists.specs.declared.versions.Version.{Version}
 use Rattle.model_lists.specs.Values.{Dds, most_of}
 use Rattle.model_pools.specs.Listed.{AreListed}
 use Rattle.model_pools.specs.Pools.{AreValidUnder}
-use Rattle.model_places.specs.Places.{Lists, slipped, spare_room, pools_under}
+use Rattle.model_places.specs.Places.{Lists, slipped, pools_under}
 
 abbrev pub slips_few_by : LayoutKind → Shape → List ℕ → Type 0
 slips_few_by OneGroup shape blocks = length blocks ≤ shape.psa
@@ -16,6 +16,14 @@ slips_few_by OneGroup shape blocks = length blocks ≤ shape.psa
 -- spares. (This project's own.)
 unfoldable pub SlipsFew : Shape → List ℕ → Type 0
 SlipsFew shape blocks = slips_few_by shape.layout shape blocks
+
+abbrev pub told_by_kind : LayoutKind → Shape → List ℕ → ℕ
+told_by_kind OneGroup shape blocks = length blocks
+
+-- The number that is told where these are more blocks than may be slipped, by the kind of the layout: with one group, how
+-- many they are in all. (This project's own.)
+unfoldable pub told_too_many : Shape → List ℕ → ℕ
+told_too_many shape blocks = told_by_kind shape.layout shape blocks
 
 -- A primary defect list is valid for a geometry: its structure names the geometry's primary spares, and its blocks
 -- are data blocks that rise, no more than may be slipped. (This project's own.)
@@ -30,6 +38,14 @@ pub record IsValidPdl (shape : Shape) (dds : Dds) : Type 0 where
 pub record IsValidSsa (shape : Shape) (version : Version) (ssa : ℕ) : Type 0 where
   pub most : spare_room shape ssa ≤ most_of version
   pub some_logical : spare_room shape ssa < length (data_blocks shape)
+
+abbrev pub area_grows_by : LayoutKind → Bool
+area_grows_by OneGroup = true
+
+-- The supplementary spare area of a disc can grow, by the kind of the layout: with one group of spares it can. (This
+-- project's own.)
+unfoldable pub AreaGrows : Shape → Type 0
+AreaGrows shape = IsTrue (area_grows_by shape.layout)
 
 -- a size is valid on a disc of some version (this project's own)
 abbrev pub IsValidOnSome : Shape → ℕ → Type 0

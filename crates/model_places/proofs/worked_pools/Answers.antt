@@ -1,6 +1,6 @@
 use Rattle.std.proofs.Common.{refl}
-use Rattle.model_geometry.specs.Geometry.{zone_start, is_data, data_blocks}
-use Rattle.model_places.specs.Places.{unslipped, pools_of, spare_room, free_primary_count, free_supplementary_count}
+use Rattle.model_geometry.specs.Geometry.{zone_start, is_data, data_blocks, spare_room}
+use Rattle.model_places.specs.Places.{unslipped, pools_of, free_primary_count, free_supplementary_count}
 use Rattle.model_places.proofs.worked_pools.Goals as goal
 
 pub returns-clause-zone : goal.returns-clause-zone
