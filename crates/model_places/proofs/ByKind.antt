@@ -9,7 +9,7 @@ pub use Rattle.model_geometry.proofs.ByKind.{one_kind, slip_room}
 use Rattle.model_lists.specs.declared.dds.PdlEntry.{PdlEntry}
 use Rattle.model_lists.specs.declared.versions.Version.{Version}
 use Rattle.model_lists.specs.declared.versions.Version.TheVariants.{Two}
-use Rattle.model_lists.specs.Values.{Dds, most_of}
+use Rattle.model_lists.specs.Values.{Dds, most_of, pdl_blocks}
 use Rattle.model_pools.specs.Pools.{Pool}
 use Rattle.model_places.specs.Places.{Lists, slipped, one_group, pools_by, pools_of, count_of, is_free, primary_spares, primary_by_kind, supplementary_spares, supplementary_by_kind, free_primary_count, free_supplementary_count}
 use Rattle.model_places.specs.Valid.{IsValidPdl, IsValidSsa, SlipsFew, slips_few_by, told_too_many, told_by_kind, AreaGrows, area_grows_by}
@@ -59,15 +59,22 @@ pub slip_told : (shape : Shape) (blocks : List ℕ) → told_too_many shape bloc
 unfolding told_too_many
 slip_told shape blocks = ap (λ (kind : LayoutKind). told_by_kind kind shape blocks) (one_kind shape.layout)
 
-pub slips_many_from : (shape : Shape) (blocks : List ℕ) → shape.psa < length blocks → ¬ SlipsFew shape blocks
-slips_many_from shape blocks many few = (let most = slips_few shape blocks few in omega (arith, many, most))
-
 -- it is more than there are primary spares
 pub told_more : (shape : Shape) (blocks : List ℕ) → ¬ SlipsFew shape blocks → shape.psa < told_too_many shape blocks
 told_more shape blocks many = elim (cases_lt shape.psa (length blocks)) [
   | inl more ↦ omega (arith, more, slip_told shape blocks)
   | inr most ↦ absurd (many (slips_few_from shape blocks most))
 ]
+
+-- the same of the blocks that entries name, by how many entries there are
+pub entries_few : (shape : Shape) (entries : List PdlEntry) → length entries ≤ shape.psa → SlipsFew shape (pdl_blocks entries)
+entries_few shape entries few = slips_few_from shape (pdl_blocks entries) (omega (arith, few, length-map entries (λ (e : PdlEntry). e.block)))
+
+pub entries_many : (shape : Shape) (entries : List PdlEntry) → shape.psa < length entries → ¬ SlipsFew shape (pdl_blocks entries)
+entries_many shape entries many few = (let most = slips_few shape (pdl_blocks entries) few in omega (arith, many, most, length-map entries (λ (e : PdlEntry). e.block)))
+
+pub entries_told : (shape : Shape) (entries : List PdlEntry) → length entries ≡ told_too_many shape (pdl_blocks entries)
+entries_told shape entries = omega (arith, slip_told shape (pdl_blocks entries), length-map entries (λ (e : PdlEntry). e.block))
 
 -- the area of a disc with one group grows
 pub slip_area_grows : (shape : Shape) → AreaGrows shape
