@@ -1,6 +1,6 @@
 -- What is said by the kind of the layout, for the one kind that there is. Where a second kind comes, the laws of this file are
 -- those that take a premise.
-use Rattle.std.proofs.Common.{◌≡◌, ℕ, ◌+◌, ◌-◌, ◌<◌, ◌≤◌, ◌⊎◌, inl, inr, ⊎_elim, IsTrue, List, [], ◌∷◌, length, refl, ap, ◌∙◌, subst, arith}
+use Rattle.std.proofs.Common.{◌≡◌, ℕ, ◌-◌, ◌<◌, ◌≤◌, ◌⊎◌, inl, inr, ⊎_elim, IsTrue, List, [], ◌∷◌, length, refl, ap, arith}
 use Rattle.std.specs.List.{count_by}
 use Rattle.std.proofs.lemmas.Bool.{cases_lt}
 use Rattle.std.proofs.lemmas.List.{length-map}
@@ -10,7 +10,6 @@ use Rattle.model_lists.specs.declared.dds.PdlEntry.{PdlEntry}
 use Rattle.model_lists.specs.declared.versions.Version.{Version}
 use Rattle.model_lists.specs.declared.versions.Version.TheVariants.{Two}
 use Rattle.model_lists.specs.Values.{Dds, most_of, pdl_blocks}
-use Rattle.model_pools.specs.Pools.{Pool}
 use Rattle.model_places.specs.Places.{Lists, slipped, one_group, pools_by, pools_of, count_of, is_free, primary_spares, primary_by_kind, supplementary_spares, supplementary_by_kind, free_primary_count, free_supplementary_count}
 use Rattle.model_places.specs.Valid.{IsValidPdl, IsValidSsa, SlipsFew, slips_few_by, told_too_many, told_by_kind, AreaGrows, area_grows_by}
 

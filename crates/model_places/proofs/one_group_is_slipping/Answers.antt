@@ -1,4 +1,4 @@
-use Rattle.model_places.proofs.ByKind.{slip_counts}
+use Rattle.model_places.proofs.ByKind.{slip_counts, slip_area_grows}
 use Rattle.model_places.proofs.Layouts.{one_parts, one_logical, one_block, one_spares_at, its_spares_at, length-spares_in}
 use Rattle.model_places.proofs.one_group_is_slipping.Goals as goal
 
@@ -22,3 +22,6 @@ returns-clause-its_spares c = λ shape lists is valid area. its_spares_at shape 
 
 pub returns-clause-all_spares : goal.returns-clause-all_spares
 returns-clause-all_spares c = λ shape lists is valid area. length-spares_in shape lists.dds lists.sdl.ssa valid area
+
+pub returns-clause-grows : goal.returns-clause-grows
+returns-clause-grows c = λ shape is. slip_area_grows shape
