@@ -26,6 +26,7 @@ use Rattle.model_copies.specs.Copies.{Settled, AllLost}
 use Rattle.model_copies.specs.Parts.{SdlIsExact, AreMarkedWithin}
 use Rattle.model_places.specs.Places as places
 use Rattle.model_places.specs.Valid.{AreValid}
+use Rattle.model_places.proofs.ByKind.{entries_few}
 use Rattle.model_volume.specs.Given.{IsGiven, IsListBlock}
 use Rattle.model_survival.specs.Stops.{LeavesSdl}
 use Rattle.model_volume.specs.Covers.{FitsUnder, SomeFit}
@@ -317,7 +318,7 @@ module _ {M : Type 0} (world : M → World) (block_count : M → ℕ) (reaches :
               fresh_three = sdl_exact shape (fresh_sdl mark) (world three).cells done.exact
 
               pub valid : AreValid shape (fresh_lists shape mark entries)
-              valid = fresh_valid shape mark entries lawful few.defects.rise few.defects.data_only few.few
+              valid = fresh_valid shape mark entries lawful few.defects.rise few.defects.data_only (entries_few shape entries few.few)
 
               -- ---- the last update of the structure
 
