@@ -5,9 +5,13 @@ use Rattle.model_geometry.specs.Geometry.{Shape, data_blocks}
 use Rattle.model_lists.specs.Values.{most_of}
 use Rattle.model_places.specs.Places.{Lists, capacity_of}
 use Rattle.model_places.specs.Valid.{AreValid}
-use Rattle.model_places.proofs.ByKind.{slip_room, slip_counts}
+use Rattle.model_places.proofs.ByKind.{slip_room, slip_counts, slip_area_grows}
 use Rattle.model_drive.specs.Expands.{ssa_for, IsLawfulSize}
 use Rattle.ram_expand.specs.Sizes.{IsSmaller, IsPresent}
+
+-- the size of the area that leaves so many sectors
+pub area_is : (shape : Shape) (count psa capacity : ℕ) → count ≡ length (data_blocks shape) → psa ≡ shape.psa → count - psa - capacity / 16 ≡ ssa_for shape capacity
+area_is shape count psa capacity count_is psa_is = omega (arith, slip_room shape 0, count_is, psa_is)
 
 module _ (shape : Shape) (lists : Lists) (valid : AreValid shape lists) (count psa : ℕ) (count_is : count ≡ length (data_blocks shape)) (psa_is : psa ≡ shape.psa) where
   pub area_within : lists.sdl.ssa ≤ count - psa
@@ -23,13 +27,14 @@ module _ (shape : Shape) (lists : Lists) (valid : AreValid shape lists) (count p
         let some = valid.together.secondary.area.some_logical in
         let most = valid.together.secondary.area.most in
         let room = slip_room shape lists.sdl.ssa in
-        let area : ssa_for shape capacity ≡ lists.sdl.ssa = omega (arith, is, some, room, count_is, psa_is) in
+        let area : ssa_for shape capacity ≡ lists.sdl.ssa = omega (arith, is, some, room, slip_room shape 0, count_is, psa_is) in
         record {
           lawful = record {
             some = omega (arith, is, some, room, count_is, psa_is);
             whole = omega (arith, is);
             fewer = omega (arith, is, same);
-            most = omega (arith, most, room, area);
+            grows = λ less. slip_area_grows shape;
+            most = omega (arith, most, room, slip_room shape (ssa_for shape capacity), area);
           };
           present = omega (arith, is, same);
         }
@@ -43,12 +48,23 @@ module _ (shape : Shape) (lists : Lists) (valid : AreValid shape lists) (count p
     pub not_whole : capacity % 16 ≢ 0 → ¬ IsLawfulSize shape lists.sdl.version (capacity_of shape lists) capacity
     not_whole is lawful = is lawful.whole
 
+    pub too_many_spares : (area most : ℕ) → area ≡ ssa_for shape capacity → most ≡ most_of lists.sdl.version → most < psa + area
+        → ¬ IsLawfulSize shape lists.sdl.version (capacity_of shape lists) capacity
+    too_many_spares area most area_is most_is more lawful =
+        (let within = lawful.most in omega (arith, more, within, area_is, most_is, psa_is, slip_room shape (ssa_for shape capacity)))
+
     pub is_smaller : (area most : ℕ) → 0 < capacity → capacity % 16 ≡ 0 → capacity ≤ (count - psa - lists.sdl.ssa) * 16 → capacity ≢ (count - psa - lists.sdl.ssa) * 16
         → area ≡ ssa_for shape capacity → most ≡ most_of lists.sdl.version → psa + area ≤ most → IsSmaller shape lists capacity
     is_smaller area most some whole fewer apart area_is most_is within =
         let same = present_is in
         record {
-          lawful = record { some = some; whole = whole; fewer = omega (arith, fewer, same); most = omega (arith, within, area_is, most_is, psa_is) };
+          lawful = record {
+            some = some;
+            whole = whole;
+            fewer = omega (arith, fewer, same);
+            grows = λ less. slip_area_grows shape;
+            most = omega (arith, within, area_is, most_is, psa_is, slip_room shape (ssa_for shape capacity));
+          };
           smaller = omega (arith, fewer, apart, same);
         }
 

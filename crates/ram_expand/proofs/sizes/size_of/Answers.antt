@@ -1,6 +1,6 @@
 use Rattle.std.proofs.Common.{arith}
 use Rattle.ram_lists.specs.Lists.{lists_of}
-use Rattle.ram_expand.proofs.Sizing.{area_within, is_present, too_large, none_left, not_whole, is_smaller}
+use Rattle.ram_expand.proofs.Sizing.{area_within, is_present, too_large, none_left, not_whole, too_many_spares, is_smaller}
 use Rattle.ram_expand.proofs.sizes.size_of.Goals as goal
 use Rattle.ram_expand.proofs.sizes.size_of.Goals.{then-capacity-eq0-via-then-capacity-eq0, then-capacity-eq0-via-else-capacity-eq0+then-capacity-ne0, then-capacity-eq0-via-else-capacity-eq0+else-capacity-ne0+then-present-capacity}
 
@@ -20,6 +20,11 @@ returns-then-capacity-eq0 c = elim c.then-capacity-eq0.branch [
   | then-capacity-eq0-via-else-capacity-eq0+else-capacity-ne0+then-present-capacity w ↦
       too_large c.args.geometry.now (lists_of c.args.lists.now) c.requires c.data_blocks.result c.psa.result c.data_blocks.ensures.count c.psa.ensures.spares c.args.capacity w.if-present-capacity.true
 ]
+
+pub returns-then-most_spares-psa : goal.returns-then-most_spares-psa
+returns-then-most_spares-psa c =
+    too_many_spares c.args.geometry.now (lists_of c.args.lists.now) c.requires c.data_blocks.result c.psa.result c.data_blocks.ensures.count c.psa.ensures.spares c.args.capacity
+    c.area_for.result c.most_spares.result c.area_for.ensures.area c.most_spares.ensures.most (let more = c.if-most_spares-psa.true in omega (arith, more, c.psa.ensures.spares, c.psa-2.ensures.spares))
 
 pub returns : goal.returns
 returns c =
