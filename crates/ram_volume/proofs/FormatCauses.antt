@@ -1,5 +1,5 @@
 -- From the rule of a full format to the cause of its answer, one lemma for each.
-use Rattle.std.proofs.Common.{◌≡◌, ℕ, ◌+◌, ◌-◌, ◌*◌, ◌⊎◌, inl, inr, Bool, Option, Some, None, List, [], length, refl, ap, subst, arith}
+use Rattle.std.proofs.Common.{◌≡◌, ℕ, ◌+◌, ◌-◌, ◌*◌, ◌⊎◌, inl, inr, Bool, Option, Some, None, List, [], length, refl, ap, ◌∙◌, subst, arith}
 use Rattle.std.specs.List.{Contains}
 use Rattle.model_geometry.specs.Geometry.{Shape, data_blocks}
 use Rattle.model_lists.specs.declared.dds.PdlEntry.{PdlEntry}
@@ -12,6 +12,7 @@ use Rattle.model_medium.specs.declared.WornBlock.{WornBlock}
 use Rattle.model_medium.specs.declared.ArmedCut.{ArmedCut}
 use Rattle.model_stops.specs.declared.Stop.{Stop}
 use Rattle.model_places.specs.Places.{Lists}
+use Rattle.model_places.proofs.ByKind.{entries_few, entries_many, entries_told}
 use Rattle.model_formats.specs.Defects.{IsKept, kind_found}
 use Rattle.model_drive.specs.declared.FormatOut.TheVariants as outs
 use Rattle.model_drive.specs.Shown.{Shown, WhenKnown}
@@ -68,7 +69,7 @@ module _ {M : Type 0} (world : M → World) (reaches : M → M → Span → Type
       let defective = same_defective shape (Contains kept) (IsKept lists drop_sdl) all.each all.all kind (world new).cells are.entries (are.defects.defective known) in
       let less = no_more shape (IsKept lists drop_sdl) kind (world new).cells are.entries others defective too in
       let most = are.few in
-      omega (arith, less, most)
+      entries_few shape others (omega (arith, less, most))
 
   -- the disc is formatted
   pub good_cause : (made : Lists) → MakesLists world reaches shape kept kind mark old new made → FullCause before (shown_under shape (machine new) made []) drop_sdl outs.Good
@@ -77,7 +78,7 @@ module _ {M : Type 0} (world : M → World) (reaches : M → M → Span → Type
     entries = makes.entries;
     lists_are = ap Some makes.lists_are;
     mark_is = ap (λ (l : Lists). l.dds.counter) makes.lists_are;
-    few = makes.few;
+    few = entries_few shape makes.entries makes.few;
     certified = found (Some made) made.dds.counter makes.entries makes.defects;
     has_dds = makes.has_dds;
     has_sdl = makes.has_sdl;
@@ -89,9 +90,9 @@ module _ {M : Type 0} (world : M → World) (reaches : M → M → Span → Type
     any = any _ _ two_are None left meets.goes;
     no_lists = refl;
     mark_is = meets.left_is;
-    many = meets.many;
     entries = meets.entries;
-    found_is = meets.found_is;
+    many = (let more = meets.many in let is = meets.found_is in entries_many shape meets.entries (omega (arith, more, is)));
+    found_is = meets.found_is ∙ entries_told shape meets.entries;
     certified = found None left meets.entries meets.defects;
     formatting = λ known. meets.formatting;
   }
