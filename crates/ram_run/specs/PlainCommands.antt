@@ -26,9 +26,8 @@ use Rattle.model_target.specs.Judging.{IsJudged}
 use Rattle.model_target.specs.Replies.{sense_reply, inquiry_reply, capacity_reply, configuration_reply, structure_reply}
 use Rattle.model_target.specs.Steps.{read_answer, write_answer, format_answer, expand_answer, data_read, capacities_told, spares_told, host_after}
 
--- What the drive shows before and after, and what it stands for before and after.
 module _ (old new : Shown) (s t : Standing) where
-  -- nothing was done on the disc, and this is the answer, with this reply
+  -- Nothing was done on the disc, and this is the answer, with this reply. (What the drive shows and stands for is as before.)
   pub record PlainAnswer (answer due : Answer) (data_in reply : List ℕ) : Type 0 where
     pub answer_is : answer ≡ due
     pub data_is : data_in ≡ reply

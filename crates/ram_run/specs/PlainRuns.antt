@@ -77,6 +77,7 @@ pub record IsServedPlainly (s : Served) (p : PlainServed) : Type 0 where
   pub host_is : s.host ≡ p.host
   pub bytes_are : s.bytes ≡ p.bytes
 
+-- the same of any state; an image that was not opened is the same one
 abbrev pub IsInPlainly : State → PlainState → Type 0
 IsInPlainly (Unopened bytes) (PlainImage held) = bytes ≡ held
 IsInPlainly (Unopened bytes) (PlainDisc p) = ⊥
@@ -152,7 +153,8 @@ module _ (old new : Shown) (s t : Standing) (host later : Host) where
   PlainRule _ payload outcome data_in = ⊥
 
 -- the same between two discs of one geometry, with the bytes of their images
-pub record PlainDiscStep (p q : PlainServed) (line : Line) (payload : List ℕ) (outcome : Outcome) (data_in : List ℕ) : Type 0 where
+pub record PlainDiscStep (p q : PlainServed) (line : Line) (payload : List ℕ) (outcome : Outcome)
+    (data_in : List ℕ) : Type 0 where
   pub same_shape : q.disc.shown.shape ≡ p.disc.shown.shape
   pub rule : PlainRule p.disc.shown q.disc.shown p.disc.standing q.disc.standing p.host q.host line payload outcome data_in
   pub bytes : LineBytes line outcome p.disc.shown (Some p.bytes) q.disc.shown (Some q.bytes)
