@@ -11,6 +11,8 @@ use Rattle.model_image.specs.Image.{IsImageOf, blank_cells, pressed_image}
 use Rattle.model_modes.specs.Pages.{mode_data}
 use Rattle.model_modes.specs.ParameterLists.{caches_after}
 use Rattle.model_sectors.specs.Discs.{Standing, On, Off}
+use Rattle.model_sectors.specs.declared.PowerOut.{PowerOut}
+use Rattle.model_sectors.specs.declared.PowerOut.TheVariants as powers
 use Rattle.model_drive.specs.Shown.{Shown, StandsFor, IsOn, capacity}
 use Rattle.model_drive.specs.declared.Kind.{Kind}
 use Rattle.model_drive.specs.declared.WriteOut.{WriteOut}
@@ -21,7 +23,7 @@ use Rattle.model_cache.specs.declared.TickOut.TheVariants as ticks
 use Rattle.model_cache.specs.Values.{Contents, StandsCached, plain}
 use Rattle.model_cache.specs.Shown.{CacheShown, CacheStandsFor}
 use Rattle.model_cache.specs.Causes.{ThroughCause, SyncCause, TickCause}
-use Rattle.model_cache.specs.Steps.{ThroughContents, SyncContents, TickContents}
+use Rattle.model_cache.specs.Steps.{ThroughContents, SyncContents, TickContents, PowerContents}
 use Rattle.model_cache.specs.Plain.{uncached}
 use Rattle.model_cache.proofs.Plainly.{is_uncached, plain_read_cause, plain_read_quiet, plain_read_step, plain_verify_cause, plain_verify_step, plain_write_cause, plain_write_step, plain_format_cause, plain_format_step, plain_expand_cause, plain_expand_step, plain_power_cause, plain_power_step}
 use Rattle.model_cache.proofs.SameBlocks.{stands_for_it}
@@ -42,14 +44,15 @@ use Rattle.ram_medium.specs.declared.control.FailEnd.TheVariants as fails
 use Rattle.ram_text.specs.declared.printing.Event.TheVariants as events
 use Rattle.ram_text.specs.declared.script.Line.{Line}
 use Rattle.ram_text.specs.declared.script.Line.TheVariants as lines
+use Rattle.ram_run.specs.declared.reply.Reply.{Reply}
 use Rattle.ram_run.specs.declared.reply.Reply.TheVariants as replies
 use Rattle.ram_run.specs.declared.stopped.Stopped.TheVariants as stopped
 use Rattle.ram_run.specs.Control.{contents_after_fail}
-use Rattle.ram_run.specs.Replies.{Outcome, tick_outcome}
+use Rattle.ram_run.specs.Replies.{Outcome, power_outcome, tick_outcome}
 use Rattle.ram_run.specs.States.{State, Served, Unopened, Disc, IsFirst, IsLeft, IsInserted, IsPressedDisc, IsHalfPressed, IsPressedUnopened}
 use Rattle.ram_run.specs.LineSteps.{KeepsRest, PowerLine, FailLine, WearLine, CutLine, TickLine, PressStep, DiscRule, DiscStep, OnDisc, LineBytes, Step}
-use Rattle.ram_run.specs.Run.{AnsweredLine, Run}
-use Rattle.ram_run.specs.Alone.{IsAlone, LeavesAloneAsDecoded, LeavesAlone, LeaveAlone}
+use Rattle.ram_run.specs.Run.{AnsweredLine, IsStep, Run}
+use Rattle.ram_run.specs.Alone.{StandsAlone, IsAlone, LeavesAloneAsDecoded, LeavesAlone, LeaveAlone}
 use Rattle.ram_run.specs.PlainCommands.{PlainAnswer, PlainRead, PlainWrite, PlainVerification, PlainFormat, PlainExpansion, PlainStructure, PlainSpares, PlainDone, PlainlyAnswered, PlainCommand}
 use Rattle.ram_run.specs.PlainRuns.{PlainServed, PlainState, PlainImage, PlainDisc, IsPlainlyLeft, IsPlainlyInserted, IsPlainlyFirst, IsServedPlainly, IsInPlainly, stands_after_fail, KeepsPlainly, PlainPower, PlainFail, PlainWear, PlainCut, PlainTick, PlainRule, PlainDiscStep, OnPlainDisc, IsPlainlyPressed, IsUnopenedPlainly, IsHalfPlainly, PlainPress, PlainStep, PlainRun}
 use Rattle.ram_run.proofs.Decoded.{asks_for}
@@ -557,3 +560,32 @@ pub run_alone : (s t : State) (answered : List AnsweredLine) → Run s answered 
 run_alone s t answered run off is =
     let p = alone_plainly s is in
     let now = run_plainly s t p.0 answered run off p.1 in plainly_alone t now.0 now.2
+
+-- ---- a power line that is ready
+
+-- it leaves the cache off and empty, whatever was before, and one disc
+ready_alone : (new : CacheShown) (c t : Contents) (out : PowerOut) (known : ℕ) → Ok (replies.Event (events.Ready known)) ≡ power_outcome out → PowerContents new.drive (λ x. x ≡ t) c out → new ≡ uncached new.drive
+    → StandsAlone new t
+ready_alone new c t (powers.Ready told) known is step off = record { uncached_is = off; standing = On step.finds.disc; contents_is = sym step.finds.found }
+ready_alone new c t powers.NotFormatted known is step off = absurd cc
+ready_alone new c t powers.Cut known is step off = absurd cc
+ready_alone new c t powers.Fault known is step off = absurd cc
+ready_alone new c t powers.NoMemory known is step off = absurd cc
+
+by_power : (s t : State) (payload data_in : List ℕ) (known : ℕ) → Step s lines.Power payload (Ok (replies.Event (events.Ready known))) data_in t → IsAlone t
+by_power s (Unopened image) payload data_in known step = tt
+by_power (Unopened image) (Disc t) payload data_in known step = absurd (let clash = step.0 in cc)
+by_power (Disc s) (Disc t) payload data_in known step =
+    let p = step.rule.0 in
+    ready_alone t.disc.shown s.disc.contents t.disc.contents p.out known p.outcome_is (p.powered.step s.disc.contents refl)
+    (is_uncached t.disc.shown p.powered.cause.1.0 p.powered.cause.1.1)
+
+pub powered_alone : (s t : State) (event : AnsweredLine) (known : ℕ) → IsStep s event t → event.line ≡ lines.Power → event.reply ≡ replies.Event (events.Ready known) → IsAlone t
+powered_alone s t event known step is_power ready =
+    by_power s t event.payload event.data_in known
+    (subst (λ (l : Line). Step s l event.payload (Ok (replies.Event (events.Ready known))) event.data_in t) is_power
+    (subst (λ (r : Reply). Step s event.line event.payload (Ok r) event.data_in t) ready step.step))
+
+-- and a state whose cache is off and empty is one of a drive without a cache
+pub is_plainly : (s : State) → IsAlone s → (p : PlainState) × IsInPlainly s p
+is_plainly s is = alone_plainly s is

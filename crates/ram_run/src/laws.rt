@@ -166,15 +166,19 @@ pub fn after_a_power_loss_a_sector_has_one_of_its_values()
 {}
 
 /// While the write cache is never turned on a run is one of a drive without a cache, line by line: nothing is ever pending, no tick
-/// writes anything, and each line is answered as there, with the causes and the steps of the disc's own calls (`PlainRun`).
+/// writes anything, and each line is answered as there, with the causes and the steps of the disc's own calls (`PlainRun`). It is so
+/// from the opened image, from a `press` and from each `power` that is ready on.
 pub fn without_the_cache_a_run_is_that_of_the_disc()
     ensures begins { (bytes : List ℕ) (s : State) → IsFirst bytes s → IsAlone s }
     ensures pressed { (shape : Shape) (s : State) → IsPressedDisc shape s → IsAlone s }
     ensures step { (s t : State) (line : Line) (payload data_in : List ℕ) (outcome : Outcome)
         → Step s line payload outcome data_in t → LeavesAlone line payload → IsAlone s → IsAlone t }
     ensures run { (s t : State) (events : List AnsweredLine) → Run s events t → LeaveAlone events → IsAlone s → IsAlone t }
+    ensures powered { (s t : State) (event : AnsweredLine) (known : ℕ) → IsStep s event t → event.line ≡ lines.Power
+        → event.reply ≡ replies.Event (told.Ready known) → IsAlone t }
     ensures plain_first { (bytes : List ℕ) (s : State) → IsFirst bytes s
         → (p : PlainState) × IsPlainlyFirst bytes p × IsInPlainly s p }
+    ensures plain { (s : State) → IsAlone s → (p : PlainState) × IsInPlainly s p }
     ensures plain_step { (s t : State) (p : PlainState) (line : Line) (payload data_in : List ℕ) (outcome : Outcome)
         → Step s line payload outcome data_in t → LeavesAlone line payload → IsInPlainly s p
         → (q : PlainState) × PlainStep p line payload outcome data_in q × IsInPlainly t q }
