@@ -8,3 +8,6 @@ pub mod Chained
 pub mod Lacking
 pub mod Found
 pub mod Standing
+pub mod Counting
+pub mod FlushedHomes
+pub mod Completing

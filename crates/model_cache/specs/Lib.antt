@@ -6,3 +6,4 @@ pub mod Causes
 pub mod Plain
 pub mod Runs
 pub mod Falling
+pub mod Keeping

@@ -5,8 +5,10 @@
 mod laws;
 
 pub use laws::{
-    a_block_falls_back_to_its_values, a_drive_with_an_empty_cache_stands_for_its_disc,
-    after_the_power_each_block_has_one_of_its_values, what_is_synchronised_is_never_older,
+    a_block_falls_back_to_its_values, a_chain_counts_faults_as_its_links_do,
+    a_chain_keeps_the_label, a_drive_with_an_empty_cache_stands_for_its_disc,
+    after_the_power_each_block_has_one_of_its_values, calls_that_flush_and_can_end_well_do,
+    what_is_flushed_is_in_its_home, what_is_synchronised_is_never_older,
     without_the_cache_answers_have_the_causes_of_the_disc,
     without_the_cache_calls_are_steps_of_the_disc,
 };

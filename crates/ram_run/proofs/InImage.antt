@@ -31,7 +31,7 @@ use Rattle.ram_run.proofs.WrittenDiscs.{block_sector, SoInBlock, SoInValues, SoI
 use Rattle.ram_run.proofs.DoneLines.{Done, line_done, line_written, line_through, write_good, through_by, in_covered}
 
 -- a cell with whole bytes that agrees with a block has its bytes
-agreed_cell : (cell : Cell) (bytes : List ℕ) → IsGood cell → Agrees cell bytes → cell ≡ Good bytes
+pub agreed_cell : (cell : Cell) (bytes : List ℕ) → IsGood cell → Agrees cell bytes → cell ≡ Good bytes
 agreed_cell Blank bytes good agrees = absurd good
 agreed_cell (Good held) bytes good agrees = ap Good agrees
 agreed_cell Torn bytes good agrees = absurd good

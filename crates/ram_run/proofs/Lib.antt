@@ -25,6 +25,7 @@ pub mod Acknowledged
 pub mod Shortened
 pub mod DoneLines
 pub mod InImage
+pub mod SyncedImage
 pub mod OldOrNew
 pub mod VerifiedLines
 pub mod ExpandedLines

@@ -21,7 +21,7 @@ use Rattle.ram_run.specs.Acknowledged.{Acknowledged, StandsWithSector, HasNow, W
 use Rattle.ram_run.proofs.WrittenDiscs.{SoInBlock, SoInContents, so_of_block}
 use Rattle.ram_run.proofs.DoneLines.{Done, line_done}
 
-good_sync : (out : SyncOut) → answers.Good ≡ sync_answer out → out ≡ syncs.Good
+pub good_sync : (out : SyncOut) → answers.Good ≡ sync_answer out → out ≡ syncs.Good
 good_sync syncs.Good is = refl
 good_sync syncs.NotFormatted is = absurd cc
 good_sync (syncs.NoSpare lba) is = absurd cc
@@ -46,7 +46,7 @@ module _ (at : ℕ) (bytes : List ℕ) where
       within there held (inr older) = absurd (Contains-none (block_with at, held) older)
   sync_settles (MayHave all) t step has = absurd has
 
-  sync_step : (old new : CacheShown) (s t : Contents) (data_in : List ℕ) → IsSynchronised old new (λ x. x ≡ s) (λ x. x ≡ t) answers.Good data_in → SyncContents (λ x. x ≡ t) s syncs.Good
+  pub sync_step : (old new : CacheShown) (s t : Contents) (data_in : List ℕ) → IsSynchronised old new (λ x. x ≡ s) (λ x. x ≡ t) answers.Good data_in → SyncContents (λ x. x ≡ t) s syncs.Good
   sync_step old new s t data_in p = subst (λ (o : SyncOut). SyncContents (λ x. x ≡ t) s o) (good_sync p.out p.answer_is) (p.step s refl)
 
   by_done : (s t : State) (event : AnsweredLine) → Done s t commands.Synchronize event.payload event.data_in → HasNow s at bytes → HasNow t at bytes × Acknowledged t at bytes

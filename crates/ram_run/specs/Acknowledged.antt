@@ -175,3 +175,20 @@ abbrev pub HasInImage : State → (image : List ℕ) → (at : ℕ) → List ℕ
 HasInImage (Unopened first) image at bytes = ⊥
 HasInImage (Disc s) image at bytes =
     HasInCells s.disc.shown.drive (cells_of (total s.disc.shown.drive.shape) image) at bytes
+
+-- With these cells the home of a logical block, by the lists in use, has these bytes.
+pub record HasHomeInCells (shown : Shown) (cells : List Cell) (i : ℕ) (bytes : List ℕ) : Type 0 where
+  pub lists : Lists
+  pub in_use : shown.lists ≡ Some lists
+  pub has : cell_at cells (home_of shown.shape lists i) ≡ Good bytes
+
+-- An image with these bytes has these of a logical block in it, in the block's home by the lists that the drive has in use.
+abbrev pub HasBlockInImage : State → (image : List ℕ) → (i : ℕ) → List ℕ → Type 0
+HasBlockInImage (Unopened first) image i bytes = ⊥
+HasBlockInImage (Disc s) image i bytes =
+    HasHomeInCells s.disc.shown.drive (cells_of (total s.disc.shown.drive.shape) image) i bytes
+
+-- the block is pending, with these bytes
+abbrev pub IsPendingIn : State → (i : ℕ) → List ℕ → Type 0
+IsPendingIn (Unopened image) i bytes = ⊥
+IsPendingIn (Disc s) i bytes = Contains s.disc.shown.pending (i, bytes)

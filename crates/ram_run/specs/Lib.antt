@@ -24,3 +24,5 @@ pub mod Acknowledged
 pub mod Fairness
 pub mod Survival
 pub mod Alone
+pub mod PlainCommands
+pub mod PlainRuns

@@ -1,5 +1,5 @@
 //! Laws of runs, for whoever relies on a drive: what it acknowledged stays, and is read back.
-ghost use Rattle.std.specs.Prelude.{◌≡◌, ◌<◌, ◌≤◌, ℕ, Bool, Ok, Some, List, [], ◌∷◌, length};
+ghost use Rattle.std.specs.Prelude.{◌≡◌, ◌*◌, ◌<◌, ◌≤◌, ℕ, Bool, Ok, Some, List, [], ◌∷◌, length};
 ghost use Rattle.std.specs.List.{Contains};
 ghost use Rattle.model_geometry.specs.Geometry.{Shape, total};
 ghost use Rattle.model_places.specs.Places.{Lists};
@@ -7,18 +7,22 @@ ghost use Rattle.model_volume.specs.Given.{IsGiven};
 ghost use Rattle.model_fairness.specs.Fair.{IsFair};
 ghost use Rattle.model_image.specs.Image.{IsDiscImage};
 ghost use Rattle.model_medium.specs.Machine.{Machine};
+ghost use Rattle.model_sectors.specs.Requests.{block_with};
 ghost use Rattle.model_image.specs.Cells.{cells_of, data_in, image_len};
 ghost use Rattle.model_cdb.specs.declared.commands.Command.TheVariants as commands;
 ghost use Rattle.model_cdb.specs.Decoding.{decoded};
+ghost use Rattle.ram_text.specs.declared.printing.Event.TheVariants as told;
 ghost use Rattle.ram_text.specs.declared.script.Line.{Line};
 ghost use Rattle.ram_text.specs.declared.script.Line.TheVariants as lines;
+ghost use Rattle.ram_run.specs.declared.reply.Reply.TheVariants as replies;
 ghost use Rattle.ram_run.specs.Replies.{Outcome};
 ghost use Rattle.ram_run.specs.States.{State, IsFirst, IsLeft, IsPressedDisc};
 ghost use Rattle.ram_run.specs.LineSteps.{Step};
 ghost use Rattle.ram_run.specs.Underwent.{UnderwentEvents, WritesNone};
 ghost use Rattle.ram_run.specs.Run.{AnsweredLine, IsStep, Run};
-ghost use Rattle.ram_run.specs.Acknowledged.{bytes_of_sector, Acknowledged, HasNow, GoesThrough, WasDone, IsAmong, LeavesSector, LeaveSector, KeepPower, HoldsOldOrNew, FallsBackTo, choices_with, choices_after, WritesAtMost, WriteAtMost, HasInImage};
+ghost use Rattle.ram_run.specs.Acknowledged.{bytes_of_sector, Acknowledged, HasNow, GoesThrough, WasDone, IsAmong, LeavesSector, LeaveSector, KeepPower, HoldsOldOrNew, FallsBackTo, choices_with, choices_after, WritesAtMost, WriteAtMost, HasInImage, HasBlockInImage, IsPendingIn};
 ghost use Rattle.ram_run.specs.Alone.{IsAlone, LeavesAlone, LeaveAlone};
+ghost use Rattle.ram_run.specs.PlainRuns.{PlainState, IsPlainlyFirst, IsInPlainly, PlainStep, PlainRun};
 ghost use Rattle.ram_run.specs.Fairness.{FairNow, WasToldNoSpare, HasNoSpareLeft};
 
 /// What was acknowledged of a sector stays so while no line writes it, through every failure of a block and
@@ -129,6 +133,24 @@ pub fn a_synchronised_sector_is_acknowledged()
         → WasDone event commands.Synchronize → HasNow s at bytes → Acknowledged t at bytes }
 {}
 
+/// After SYNCHRONIZE CACHE that is answered Good the image has each block that was pending, with its bytes, in its home by the lists
+/// in use; so it has each sector of such a block as the disc had it.
+pub fn a_synchronised_block_is_in_the_image()
+    ensures block { (s t : State) (event : AnsweredLine) (i : ℕ) (bytes image : List ℕ)
+        → IsStep s event t → WasDone event commands.Synchronize → IsPendingIn s i bytes
+        → IsLeft t image → HasBlockInImage t image i bytes }
+    ensures sector { (s t : State) (event : AnsweredLine) (i at : ℕ) (bytes held image : List ℕ)
+        → IsStep s event t → WasDone event commands.Synchronize → IsPendingIn s i bytes → block_with at ≡ i
+        → HasNow s at held → IsLeft t image → HasInImage t image at held }
+{}
+
+/// After a tick that wrote a block the image has that block, with the bytes with which it was pending, in its home.
+pub fn a_ticked_block_is_in_the_image()
+    ensures { (s t : State) (event : AnsweredLine) (i : ℕ) (bytes image : List ℕ)
+        → IsStep s event t → event.line ≡ lines.Tick → event.reply ≡ replies.Event (told.Written (16 * i))
+        → IsPendingIn s i bytes → IsLeft t image → HasBlockInImage t image i bytes }
+{}
+
 /// After a power loss a sector has what was acknowledged of it, or what a later write sent, and nothing older or other: however
 /// lines end, whatever blocks die, wherever the power is cut. What is acknowledged is the one thing to which it may fall back;
 /// each write of it adds what it sends, and no line but a write and a format adds anything.
@@ -143,15 +165,26 @@ pub fn after_a_power_loss_a_sector_has_one_of_its_values()
         → HasNow s at bytes → Contains choices bytes }
 {}
 
-/// While the write cache is never turned on a drive is one without a cache: nothing is ever pending, no tick writes anything, and
-/// it stands for one value of each block. So its answers have the causes, and what its calls make of the disc are the steps, of
-/// the disc without a cache (`without_the_cache_answers_have_the_causes_of_the_disc` and its neighbour in `model_cache`).
+/// While the write cache is never turned on a run is one of a drive without a cache, line by line: nothing is ever pending, no tick
+/// writes anything, and each line is answered as there, with the causes and the steps of the disc's own calls (`PlainRun`). It is so
+/// from the opened image, from a `press` and from each `power` that is ready on.
 pub fn without_the_cache_a_run_is_that_of_the_disc()
     ensures begins { (bytes : List ℕ) (s : State) → IsFirst bytes s → IsAlone s }
     ensures pressed { (shape : Shape) (s : State) → IsPressedDisc shape s → IsAlone s }
     ensures step { (s t : State) (line : Line) (payload data_in : List ℕ) (outcome : Outcome)
         → Step s line payload outcome data_in t → LeavesAlone line payload → IsAlone s → IsAlone t }
     ensures run { (s t : State) (events : List AnsweredLine) → Run s events t → LeaveAlone events → IsAlone s → IsAlone t }
+    ensures powered { (s t : State) (event : AnsweredLine) (known : ℕ) → IsStep s event t → event.line ≡ lines.Power
+        → event.reply ≡ replies.Event (told.Ready known) → IsAlone t }
+    ensures plain_first { (bytes : List ℕ) (s : State) → IsFirst bytes s
+        → (p : PlainState) × IsPlainlyFirst bytes p × IsInPlainly s p }
+    ensures plain { (s : State) → IsAlone s → (p : PlainState) × IsInPlainly s p }
+    ensures plain_step { (s t : State) (p : PlainState) (line : Line) (payload data_in : List ℕ) (outcome : Outcome)
+        → Step s line payload outcome data_in t → LeavesAlone line payload → IsInPlainly s p
+        → (q : PlainState) × PlainStep p line payload outcome data_in q × IsInPlainly t q }
+    ensures plain_run { (s t : State) (p : PlainState) (events : List AnsweredLine)
+        → Run s events t → LeaveAlone events → IsInPlainly s p
+        → (q : PlainState) × PlainRun p events q × IsInPlainly t q }
 {}
 
 /// A run gives up dead blocks alone: so where a write finds no spare, each spare that replaces no block is dead. It begins so

@@ -1,0 +1,256 @@
+-- Calls that flush pending blocks, and could end well, did.
+use Rattle.std.specs.Prelude.{◌≡◌, ◌≢◌, ℕ, ◌+◌, ◌-◌, ◌*◌, ◌<◌, ◌≤◌, nat_lt, not, Bool, true, false, IsSome, IsTrue, List, [], ◌∷◌}
+use Rattle.std.specs.List.{Contains}
+use Rattle.std.proofs.Common.{arith, refl, sym, ap, ◌∙◌, inl, inr, subst}
+use Rattle.std.proofs.lemmas.Bool.{cases_eq, and_parts, ltb-true, ltb-false}
+use Rattle.std.proofs.lemmas.List.Elements.{Contains-append_right}
+use Rattle.model_counts.specs.Counts.{Rose}
+use Rattle.model_buffer.specs.Buffer.{numbers_in}
+use Rattle.model_medium.specs.Cells.{Cell, Dead, IsGood, cell_at}
+use Rattle.model_medium.specs.Machine.{Machine}
+use Rattle.model_medium.specs.Reach.{Reach}
+use Rattle.model_sectors.specs.Requests.{block_with, blocks_covered, is_partly, start_in, end_in}
+use Rattle.model_sectors.proofs.Covering.{covered_inside}
+use Rattle.model_drive.specs.declared.WriteOut.{WriteOut}
+use Rattle.model_drive.specs.declared.WriteOut.TheVariants as writes
+use Rattle.model_drive.specs.Shown.{Shown, IsOn, IsKnown, IsFormatted, block_count, capacity, cells_in, home_cell}
+use Rattle.model_drive.specs.Sound.{IsSound}
+use Rattle.model_drive.specs.Parts.{EndsBy, NoneCounted}
+use Rattle.model_drive.specs.Writes.{WritesAll, NothingDies}
+use Rattle.model_drive.proofs.WriteCompleting.{write_completes}
+use Rattle.model_cache.specs.declared.SyncOut.{SyncOut}
+use Rattle.model_cache.specs.declared.SyncOut.TheVariants as syncs
+use Rattle.model_cache.specs.declared.TickOut.{TickOut}
+use Rattle.model_cache.specs.declared.TickOut.TheVariants as ticks
+use Rattle.model_cache.specs.Values.{is_among}
+use Rattle.model_cache.specs.Shown.{CacheShown, dropped, pending_in, pending_below, pending_covered}
+use Rattle.model_cache.specs.Chains.{Flushes, FlushesAll, WritesBack, EndsFlushing}
+use Rattle.model_cache.specs.Causes.{WritesThrough, StopsWritingThrough, ThroughCause, SyncCause, TickCause}
+use Rattle.model_cache.specs.Keeping.{FlushesSafely}
+use Rattle.model_cache.proofs.Members.{Contains-none, Contains-first, Contains-later, Contains-cases, Contains-passed}
+use Rattle.model_cache.proofs.FlushedHomes.{first_alone, flushed_good, flush_leaves, flush_counts, flush_known, stays_good}
+
+-- what work that went to its end leaves of the counts and the dead cells
+record WentOn (a b : Shown) : Type 0 where
+  on : IsOn b
+  cuts : b.medium.world.cuts ≡ a.medium.world.cuts
+  faults : b.medium.world.faults ≡ a.medium.world.faults
+  stays_dead : (block : ℕ) → cell_at (cells_in a) block ≡ Dead → cell_at (cells_in b) block ≡ Dead
+
+uncut : (a b : Machine) (k : ℕ) → Reach a b k → IsTrue b.world.power → b.world.cuts ≡ a.world.cuts
+uncut a b k reach on = elim reach.ends [ inl none ↦ none.0.no_cut | inr came ↦ absurd (came.0.turns_off on) ]
+
+ended : (a b : Shown) (uses : ℕ) → EndsBy a b uses → WentOn a b
+ended a b uses p = record {
+  on = p.is_on;
+  cuts = uncut a.medium b.medium uses p.reach p.is_on;
+  faults = p.reach.lasts.no_fault;
+  stays_dead = p.reach.lasts.stays_dead;
+}
+
+none_after : (a b c : Shown) → WentOn a b → NoneCounted a c → NoneCounted b c
+none_after a b c went none = record {
+  cuts = λ rose. none.cuts (subst (λ (count : ℕ). Rose count c.medium.world.cuts) went.cuts rose);
+  faults = λ rose. none.faults (subst (λ (count : ℕ). Rose count c.medium.world.faults) went.faults rose);
+}
+
+-- what a chain of flushes leaves
+record Flushed (a b : Shown) : Type 0 where
+  formatted : IsFormatted b
+  sound : IsSound b
+  known : IsKnown b
+  count : block_count b ≡ block_count a
+  went : WentOn a b
+
+one_flush : (a b : CacheShown) (i : ℕ) → Flushes a b i → IsSound a.drive → IsKnown a.drive → Flushed a.drive b.drive
+one_flush a b i flush sound known =
+    let wrote : WritesAll a.drive b.drive (16 * i) 16 = flush.back.wrote in
+    record {
+      formatted = subst IsSome (sym wrote.ends.now_in_use) refl;
+      sound = flush.back.leaves.sound;
+      known = flush_known a b i flush sound known;
+      count = flush_counts a b i flush sound;
+      went = ended a.drive b.drive _ wrote.ends.ends;
+    }
+
+flushes_leave : (due : List ℕ) (a b : CacheShown) → IsOn a.drive → IsFormatted a.drive → IsSound a.drive → IsKnown a.drive → FlushesAll a due b → Flushed a.drive b.drive
+flushes_leave [] a b on formatted sound known is =
+    subst (λ (s : CacheShown). Flushed a.drive s.drive) (sym is) (record {
+      formatted = formatted;
+      sound = sound;
+      known = known;
+      count = refl;
+      went = record { on = on; cuts = refl; faults = refl; stays_dead = λ block dead. dead };
+    })
+flushes_leave (i ∷ due) a b on formatted sound known is =
+    let one = one_flush a is.0 i is.1 sound known in
+    let rest = flushes_leave due is.0 b one.went.on one.formatted one.sound one.known is.2 in
+    record {
+      formatted = rest.formatted;
+      sound = rest.sound;
+      known = rest.known;
+      count = rest.count ∙ one.count;
+      went = record {
+        on = rest.went.on;
+        cuts = rest.went.cuts ∙ one.went.cuts;
+        faults = rest.went.faults ∙ one.went.faults;
+        stays_dead = λ block dead. rest.went.stays_dead block (one.went.stays_dead block dead);
+      };
+    }
+
+-- a home that is not dead is not dead afterwards: it stays as it is, or its block is written
+stays_undead : (due : List ℕ) (a b : CacheShown) → IsSound a.drive → IsKnown a.drive → FlushesAll a due b → (j : ℕ) → j < block_count a.drive → home_cell a.drive j ≢ Dead → home_cell b.drive j ≢ Dead
+stays_undead [] a b sound known is j inside lives = subst (λ (s : CacheShown). home_cell s.drive j ≢ Dead) (sym is) lives
+stays_undead (i ∷ due) a b sound known is j inside lives =
+    stays_undead due is.0 b is.1.back.leaves.sound (flush_known a is.0 i is.1 sound known) is.2 j
+    (subst (λ (c : ℕ). j < c) (sym (flush_counts a is.0 i is.1 sound)) inside) (elim (cases_eq j i) [
+      | inl same ↦ λ dead. subst IsGood dead (subst (λ (n : ℕ). IsGood (home_cell is.0.drive n)) (sym same) (flushed_good a is.0 i is.1 sound known))
+      | inr ne ↦ subst (λ (c : Cell). c ≢ Dead) (sym (flush_leaves a is.0 i is.1 sound j inside ne)) lives
+    ])
+
+-- ---- the write that comes after a chain
+
+-- no part of a whole block is left out
+whole_block : (i k : ℕ) → k < blocks_covered (16 * i) 16 → IsTrue (is_partly (16 * i) 16 (block_with (16 * i) + k)) → ⊥
+whole_block i k covered partly =
+    let there = first_alone i k covered in
+    let few = ltb-true (end_in (16 * i) 16 (block_with (16 * i) + k) - start_in (16 * i) (block_with (16 * i) + k)) 16 partly in
+    omega (arith, there, few)
+
+next_good : (a m b : CacheShown) (due done : List ℕ) (i : ℕ) (out : WriteOut) → FlushesSafely a.drive b.drive due → FlushesAll a done m → Contains due i → i < block_count a.drive → WritesBack m b i out
+    → out ≡ writes.Good
+next_good a m b due done i out safely flushed is_due inside ends =
+    let left = flushes_leave done a m safely.on safely.formatted safely.sound safely.known flushed in
+    let count : block_count m.drive ≡ block_count a.drive = left.count in
+    let fits : 16 * i + 16 ≤ capacity m.drive = by_count (block_count a.drive) (block_count m.drive) inside count in
+    write_completes m.drive b.drive (16 * i) 16 (λ lists in_use. (left.sound.in_use lists in_use).valid) ends.leaves.same_shape out ends.wrote left.known
+    (inl (record {
+      inside = record { on = left.went.on; formatted = left.formatted; inside = fits };
+      none_counted = none_after a.drive m.drive b.drive left.went safely.none_counted;
+      none_dead = λ k h. subst (λ (n : ℕ). home_cell m.drive n ≢ Dead) (sym (first_alone i k h)) (stays_undead done a m safely.sound safely.known flushed i inside (safely.none_dead i is_due));
+      none_dies = λ block dead. left.went.stays_dead block (safely.none_dies block dead);
+      rests = λ k h partly. absurd (whole_block i k h partly);
+    }))
+  where
+    by_count : (was now : ℕ) → i < was → now ≡ was → 16 * i + 16 ≤ now * 16
+    by_count was now inside same = omega (arith, inside, same)
+
+-- so no chain of flushes that could end well ends otherwise
+ends_good : (a b : CacheShown) (due : List ℕ) (out : WriteOut) → FlushesSafely a.drive b.drive due → ((i : ℕ) → Contains due i → i < block_count a.drive) → EndsFlushing a b due out → ⊥
+ends_good a b due out safely inside p =
+    let is_due : Contains due p.block = subst (λ (l : List ℕ). Contains l p.block) (sym p.due_is) (Contains-append_right p.done (p.block ∷ p.rest) p.block (Contains-first p.block p.rest)) in
+    p.not_good (next_good a p.mid b due p.done p.block out safely p.flushed is_due (inside p.block is_due) p.ends)
+
+-- ---- which blocks are due
+
+held_of : (pending : List (ℕ × List ℕ)) (i : ℕ) → Contains (numbers_in pending) i → (bytes : List ℕ) × Contains {X = ℕ × List ℕ} pending (i, bytes)
+held_of [] i has = absurd (Contains-none i has)
+held_of (held ∷ pending) i has = elim (Contains-cases held.0 (numbers_in pending) i has) [
+  | inl is ↦ (held.1, subst (λ (n : ℕ). Contains {X = ℕ × List ℕ} (held ∷ pending) (n, held.1)) is (Contains-first {X = ℕ × List ℕ} held pending))
+  | inr more ↦ let found = held_of pending i more in (found.0, Contains-later {X = ℕ × List ℕ} held pending (i, found.0) found.1)
+]
+
+due_inside : (shown : CacheShown) (i : ℕ) → Contains (pending_in (dropped shown)) i → i < block_count shown.drive
+due_inside shown i has =
+    let found = held_of (pending_below (block_count shown.drive) shown.pending) i has in
+    ltb-true i (block_count shown.drive) (Contains-passed {X = ℕ × List ℕ} (λ (held : ℕ × List ℕ). nat_lt held.0 (block_count shown.drive)) shown.pending (i, found.0) found.1).0
+
+-- ---- a synchronisation
+
+module _ (old new : CacheShown) where
+  sync_never : (out : WriteOut) → FlushesSafely old.drive new.drive (pending_in (dropped old)) → EndsFlushing (dropped old) new (pending_in (dropped old)) out → ⊥
+  sync_never out safely ends = ends_good (dropped old) new (pending_in (dropped old)) out safely (due_inside old) ends
+
+  pub sync_completes : (out : SyncOut) → SyncCause old new out → FlushesSafely old.drive new.drive (pending_in (dropped old)) → out ≡ syncs.Good
+  sync_completes syncs.Good cause safely = refl
+  sync_completes syncs.NotFormatted cause safely = absurd (cause.unformatted safely.formatted)
+  sync_completes (syncs.NoSpare lba) cause safely = absurd (sync_never (writes.NoSpare lba) safely cause.ends)
+  sync_completes (syncs.NoUpdate counter) cause safely = absurd (sync_never (writes.NoUpdate counter) safely cause.ends)
+  sync_completes syncs.Cut cause safely = absurd (sync_never writes.Cut safely cause.ends)
+  sync_completes syncs.Off cause safely = absurd (cause.off safely.on)
+  sync_completes syncs.Fault cause safely = absurd (sync_never writes.Fault safely cause.ends)
+
+  -- ---- a tick
+
+  module _ (i : ℕ) (rest : List ℕ) (oldest : pending_in (dropped old) ≡ i ∷ rest) (safely : FlushesSafely old.drive new.drive (i ∷ [])) where
+    same_oldest : (block : ℕ) (later : List ℕ) → pending_in (dropped old) ≡ block ∷ later → block ≡ i
+    same_oldest block later is = let e : block ∷ later ≡ i ∷ rest = sym is ∙ oldest in cc
+
+    tick_never : (block : ℕ) (later : List ℕ) (out : WriteOut) → pending_in (dropped old) ≡ block ∷ later → WritesBack (dropped old) new block out → out ≡ writes.Good
+    tick_never block later out is ends =
+        let there : i < block_count old.drive = due_inside old i (subst (λ (l : List ℕ). Contains l i) (sym oldest) (Contains-first i rest)) in
+        next_good (dropped old) (dropped old) new (i ∷ []) [] i out safely refl (Contains-first i [])
+        there (subst (λ (b : ℕ). WritesBack (dropped old) new b out) (same_oldest block later is) ends)
+
+    pub tick_completes : (out : TickOut) → TickCause old new out → out ≡ ticks.Written (16 * i)
+    tick_completes ticks.Idle cause = absurd (let e : [] ≡ i ∷ rest = sym (ap numbers_in cause.none) ∙ oldest in cc)
+    tick_completes (ticks.Written lba) cause = ap ticks.Written (cause.lba_is ∙ ap (λ (b : ℕ). 16 * b) (same_oldest cause.block cause.rest cause.oldest))
+    tick_completes (ticks.NoSpare lba) cause = absurd (let e = tick_never cause.block cause.rest (writes.NoSpare lba) cause.oldest cause.ends in cc)
+    tick_completes (ticks.NoUpdate counter) cause = absurd (let e = tick_never cause.block cause.rest (writes.NoUpdate counter) cause.oldest cause.ends in cc)
+    tick_completes ticks.Cut cause = absurd (let e = tick_never cause.block cause.rest writes.Cut cause.oldest cause.ends in cc)
+    tick_completes ticks.Off cause = absurd (cause.off safely.on)
+    tick_completes ticks.Fault cause = absurd (let e = tick_never cause.block cause.rest writes.Fault cause.oldest cause.ends in cc)
+
+  -- ---- a write through the cache
+
+  module _ (lba n : ℕ) (sound : IsSound old.drive) (known : IsKnown old.drive) (can : NothingDies old.drive new.drive lba n) where
+    covered_within : (k : ℕ) → k < blocks_covered lba n → block_with lba + k < block_count old.drive
+    covered_within k h = let fits : lba + n ≤ block_count old.drive * 16 = can.inside.inside in covered_inside lba n k (block_count old.drive) (omega (arith, fits)) h
+
+    -- a covered pending block, by its place in the request
+    covered_at : (i : ℕ) → Contains (pending_covered true (dropped old) lba n) i → (k : ℕ) × (k < blocks_covered lba n) × (block_with lba + k ≡ i)
+    covered_at i has =
+        let passed = Contains-passed (is_among (block_with lba) (blocks_covered lba n)) (pending_in (dropped old)) i has in
+        let parts = and_parts (not (nat_lt i (block_with lba))) (nat_lt i (block_with lba + blocks_covered lba n)) passed.0 in
+        let low = ltb-false i (block_with lba) (not_true (nat_lt i (block_with lba)) parts.0) in
+        let high = ltb-true i (block_with lba + blocks_covered lba n) parts.1 in
+        (i - block_with lba, omega (arith, low, high), omega (arith, low))
+      where
+        not_true : (b : Bool) → not b ≡ true → b ≡ false
+        not_true true is = absurd cc
+        not_true false is = refl
+
+    safely : FlushesSafely old.drive new.drive (pending_covered true (dropped old) lba n)
+    safely = record {
+      on = can.inside.on;
+      formatted = can.inside.formatted;
+      sound = sound;
+      known = known;
+      none_counted = can.none_counted;
+      none_dead = λ i has. let at = covered_at i has in subst (λ (b : ℕ). home_cell old.drive b ≢ Dead) at.2 (can.none_dead at.0 at.1);
+      none_dies = can.none_dies;
+    }
+
+    through_never : (out : WriteOut) → EndsFlushing (dropped old) new (pending_covered true (dropped old) lba n) out → ⊥
+    through_never out ends =
+        ends_good (dropped old) new (pending_covered true (dropped old) lba n) out safely
+        (λ i has. let at = covered_at i has in subst (λ (b : ℕ). b < block_count old.drive) at.2 (covered_within at.0 at.1)) ends
+
+    through_good : (out : WriteOut) → WritesThrough (dropped old) new lba n out → out ≡ writes.Good
+    through_good out p =
+        let due : List ℕ = pending_covered true (dropped old) lba n in
+        let left = flushes_leave due (dropped old) p.mid can.inside.on can.inside.formatted sound known p.flushed in
+        let count : block_count p.mid.drive ≡ block_count old.drive = left.count in
+        write_completes p.mid.drive new.drive lba n (λ lists in_use. (left.sound.in_use lists in_use).valid) p.leaves.same_shape out p.wrote left.known
+        (inl (record {
+          inside = record { on = left.went.on; formatted = left.formatted; inside = subst (λ (c : ℕ). lba + n ≤ c * 16) (sym count) can.inside.inside };
+          none_counted = none_after old.drive p.mid.drive new.drive left.went can.none_counted;
+          none_dead = λ k h. stays_undead due (dropped old) p.mid sound known p.flushed (block_with lba + k) (covered_within k h) (can.none_dead k h);
+          none_dies = λ block dead. left.went.stays_dead block (can.none_dies block dead);
+          rests = λ k h partly. stays_good due (dropped old) p.mid sound known p.flushed (block_with lba + k) (covered_within k h) (can.rests k h partly);
+        }))
+
+    stops_good : (out : WriteOut) → StopsWritingThrough (dropped old) new lba n out → out ≡ writes.Good
+    stops_good out (inside, inl ends) = absurd (through_never out ends)
+    stops_good out (inside, inr wrote) = through_good out wrote
+
+    pub through_completes : (out : WriteOut) → ThroughCause old new lba n out → out ≡ writes.Good
+    through_completes writes.Good cause = refl
+    through_completes writes.NotFormatted cause = absurd (cause.unformatted can.inside.formatted)
+    through_completes (writes.Range t) cause = let past = cause.past.past in let fits = can.inside.inside in absurd (omega (arith, past, fits))
+    through_completes (writes.Unread named block) cause = through_good (writes.Unread named block) cause.1
+    through_completes (writes.NoSpare named) cause = stops_good (writes.NoSpare named) cause
+    through_completes (writes.NoUpdate counter) cause = stops_good (writes.NoUpdate counter) cause
+    through_completes writes.Cut cause = stops_good writes.Cut cause
+    through_completes writes.Off cause = absurd (cause.off can.inside.on)
+    through_completes writes.Fault cause = stops_good writes.Fault cause
