@@ -9,6 +9,7 @@ use Rattle.model_pools.specs.Listed.{AreListed}
 use Rattle.model_pools.specs.Pools.{AreValidUnder}
 use Rattle.model_places.specs.Places.{Lists, slipped, pools_under}
 
+-- which blocks are few enough to be slipped, for each kind (this project's own)
 abbrev pub slips_few_by : LayoutKind → Shape → List ℕ → Type 0
 slips_few_by OneGroup shape blocks = length blocks ≤ shape.psa
 
@@ -17,6 +18,7 @@ slips_few_by OneGroup shape blocks = length blocks ≤ shape.psa
 unfoldable pub SlipsFew : Shape → List ℕ → Type 0
 SlipsFew shape blocks = slips_few_by shape.layout shape blocks
 
+-- the number that is told of too many blocks, for each kind (this project's own)
 abbrev pub told_by_kind : LayoutKind → Shape → List ℕ → ℕ
 told_by_kind OneGroup shape blocks = length blocks
 
@@ -39,6 +41,7 @@ pub record IsValidSsa (shape : Shape) (version : Version) (ssa : ℕ) : Type 0 w
   pub most : spare_room shape ssa ≤ most_of version
   pub some_logical : spare_room shape ssa < length (data_blocks shape)
 
+-- whether a supplementary area may grow, for each kind (this project's own)
 abbrev pub area_grows_by : LayoutKind → Bool
 area_grows_by OneGroup = true
 
