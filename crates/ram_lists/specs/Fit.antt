@@ -6,21 +6,18 @@ use Rattle.model_lists.specs.Values.{IsLawfulSdl}
 use Rattle.model_pools.specs.Pools.{Pool, CursorsFit}
 use Rattle.model_places.specs.Places.{pools_under}
 use Rattle.model_places.specs.Valid.{AreValid}
-use Rattle.ram_sdl.specs.declared.sdl.Sdl.{Sdl}
 use Rattle.ram_sdl.specs.Sdl.{sdl_of}
 use Rattle.ram_lists.specs.Lists.{lists_of}
 use Rattle.ram_lists.specs.declared.lists.Lists.{Lists}
 
--- A medium of so many blocks, a layout with these pools and cursors, the lists in use and a draft of the next secondary list fit
--- this geometry: the medium has its blocks; the lists are valid, the secondary one is of the grammar, and it and the draft have
--- room for all entries that a disc may come to have; the pools are those of the disc, and there is a cursor for each, before
--- which each spare is named. (This project's own.)
-pub record IsFit (shape : Shape) (blocks : ℕ) (pools : List Pool) (cursors : List ℕ) (lists : Lists) (draft : Sdl) : Type 0 where
+-- A medium of so many blocks, a layout with these pools and cursors, and the lists in use fit this geometry: the medium has its
+-- blocks; the lists are valid, and the secondary one is of the grammar and has room for all entries that a disc may come to
+-- have; the pools are those of the disc, and there is a cursor for each, before which each spare is named. (This project's own.)
+pub record IsFit (shape : Shape) (blocks : ℕ) (pools : List Pool) (cursors : List ℕ) (lists : Lists) : Type 0 where
   pub size : blocks ≡ total shape
   pub valid : AreValid shape (lists_of lists)
   pub lawful : IsLawfulSdl (sdl_of lists.sdl)
   pub room : SDL_LIMIT ≤ lists.sdl.entries.room
-  pub draft_room : SDL_LIMIT ≤ draft.entries.room
   pub pools_are : pools ≡ pools_under shape (lists_of lists)
   pub one_each : length cursors ≡ length pools
   pub cursors_fit : CursorsFit pools lists.sdl.entries.list cursors

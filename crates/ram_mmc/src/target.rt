@@ -208,9 +208,7 @@ impl<D: Caching> Target<D> {
         data_in.clear();
         match command {
             Command::Read { .. } => unreachable!(),
-            Command::Write { lba, n, fua } => {
-                return write(&mut self.disc, lba, n, fua, payload);
-            }
+            Command::Write { lba, n, fua } => return write(&mut self.disc, lba, n, fua, payload),
             Command::Verify { lba, n } => return verify(&mut self.disc, lba, n),
             Command::Format { kind } => return format(&mut self.disc, allocator, kind),
             Command::Expand { capacity } => return expand(&mut self.disc, capacity),

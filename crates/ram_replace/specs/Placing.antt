@@ -12,7 +12,7 @@ use Rattle.ram_replace.specs.declared.writing.Outcome.TheVariants as outcomes
 use Rattle.ram_replace.specs.declared.writing.Placed.{Placed}
 use Rattle.ram_replace.specs.declared.writing.Placed.TheVariants as places
 
--- what the room has after a write that is done, where cells are known: the bytes of the block (this project's own)
+-- what was read back of a block whose write is done, where cells are known: the bytes of the block (this project's own)
 abbrev pub EndsWithReadBack : (known : Bool) → (bytes back : List ℕ) → Outcome → Type 0
 EndsWithReadBack known bytes back outcomes.Done = known ≡ true → back ≡ bytes
 EndsWithReadBack known bytes back outcomes.NoSpare = ⊤

@@ -6,7 +6,7 @@ ghost use Rattle.std.specs.List.Sorted.{IsStrictlyIncreasing};
 ghost use Rattle.model_geometry.specs.declared.TheConstants.{SDL_LIMIT};
 ghost use Rattle.model_geometry.specs.Geometry.{data_blocks};
 ghost use Rattle.model_lists.specs.Values.{IsLawfulSdl, most_of, defectives, with_entry, retired};
-ghost use Rattle.model_pools.specs.Pools.{ArePools, AreValidUnder, all_in, logical_in, spares_in, spares_at, spares_for, is_unnamed, free_at, free_in};
+ghost use Rattle.model_pools.specs.Pools.{ArePools, AreValidUnder, all_in, logical_in, spares_in, spares_at, spares_for, is_unnamed, free_at, free_in, home_in};
 ghost use Rattle.model_pools.specs.Moves.{with_retired, tried_of, former, sdl_moved_in};
 ghost use Rattle.model_drive.specs.declared.TheConstants.{LAST_COUNTER};
 ghost use Rattle.ram_sdl.specs.Sdl.{sdl_of};
@@ -17,7 +17,7 @@ ghost use Rattle.ram_replace.specs.Spares.{StandsAt};
 use crate::spares::Found;
 use ram_layout::Layout;
 use ram_sdl::{Sdl, SdlEntry};
-use ram_spare::{free_from, home};
+use ram_spare::free_from;
 use ram_zones::Geometry;
 
 /// Says of a spare that it is never used again.
@@ -84,7 +84,7 @@ fn retire_former(draft: &mut Sdl, own: u32, home: u32)
     }
 }
 
-/// Makes the secondary list under which logical block `i` is at the spare: the counter is one greater, the spares that
+/// Makes the secondary list under which logical block `i`, which was at `home`, is at the spare: the counter is one greater, the spares that
 /// failed are retired, the block has its pair with the spare, and its former replacement is retired. In this order each
 /// step is a valid list, so the entries are never more than there is room for. Before the turn `first` no spare is free.
 pub fn draft_moved<L: Layout>(
@@ -93,6 +93,7 @@ pub fn draft_moved<L: Layout>(
     sdl: &Sdl,
     draft: &mut Sdl,
     i: u32,
+    home: u32,
     first: u32,
     found: Found,
 )
@@ -103,6 +104,7 @@ pub fn draft_moved<L: Layout>(
     requires most { length (spares_in (L.pools layout.now)) ≤ most_of sdl.now.version }
     requires lawful { IsLawfulSdl (sdl_of sdl.now) }
     requires inside { i < length (logical_in (L.pools layout.now)) }
+    requires home { home ≡ home_in (L.pools layout.now) sdl.now.entries.list i }
     requires first { AreUsed (is_unnamed sdl.now.entries.list) (spares_for (L.pools layout.now) i) 0 first }
     requires stands { StandsAt (free_in (L.pools layout.now) sdl.now.entries.list i) found }
     requires counter { sdl.now.counter < LAST_COUNTER }
@@ -115,7 +117,6 @@ pub fn draft_moved<L: Layout>(
     // A geometry that tells its size is lawful, so each block has a number that a list can hold.
     let _total = geometry.total();
     let own = layout.physical(i);
-    let before = home(layout, sdl, i);
     let pool = layout.pool_of(i);
     draft.copy_from(sdl);
     draft.counter += 1;
@@ -124,5 +125,5 @@ pub fn draft_moved<L: Layout>(
         defective: own,
         replacement: Some(found.spare),
     });
-    retire_former(draft, own, before);
+    retire_former(draft, own, home);
 }

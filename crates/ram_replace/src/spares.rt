@@ -1,6 +1,6 @@
 //! The free spares that a logical block may go to, tried one after another.
 
-ghost use Rattle.std.specs.Prelude.{◌≡◌, ℕ, ◌<◌, IsTrue, IfOk, IfSome, MatchResult, length};
+ghost use Rattle.std.specs.Prelude.{◌≡◌, ℕ, ◌<◌, IsTrue, IfOk, IfSome, MatchResult, true, length};
 ghost use Rattle.std.specs.List.{Contains};
 ghost use Rattle.std.specs.List.Sorted.{IsStrictlyIncreasing};
 ghost use Rattle.model_lists.specs.Values.{defectives};
@@ -27,8 +27,8 @@ pub struct Found {
     pub spare: u32,
 }
 
-/// Writes the bytes to one free spare of a pool after another, in their order, and reads each back, until one has them. The
-/// search begins at the turn `first`, before which no spare is free.
+/// Writes the bytes to one free spare of a pool after another, in their order, and reads each back, until one has them: `back` has
+/// what was read back then. The search begins at the turn `first`, before which no spare is free.
 pub fn find_spare<M: Medium, L: Layout>(
     medium: &mut M,
     layout: &L,
@@ -36,7 +36,7 @@ pub fn find_spare<M: Medium, L: Layout>(
     pool: u32,
     first: u32,
     from: &[u8],
-    room: &mut Block,
+    back: &mut Block,
 ) -> Result<Option<Found>, Stop>
     requires pool { pool < length (L.pools layout.now) }
     requires rise { IsStrictlyIncreasing (defectives sdl.now.entries.list) }
@@ -52,6 +52,7 @@ pub fn find_spare<M: Medium, L: Layout>(
         (free_at (L.pools layout.now) sdl.now.entries.list pool) from.now) }
     ensures turn { IfOk result (λ found. IfSome found
         (HasTurn (is_unnamed sdl.now.entries.list) (spares_at (L.pools layout.now) pool))) }
+    ensures back { IfOk result (λ found. IfSome found (λ _. (M.world medium.old).known ≡ true → back.new ≡ from.now)) }
     ensures few { length (spares_at (L.pools layout.now) pool) < 4294967296 }
     ensures as_many { M.block_count medium.new ≡ M.block_count medium.old }
 {
@@ -62,7 +63,7 @@ pub fn find_spare<M: Medium, L: Layout>(
             return Ok(None);
         };
         let spare = free.block;
-        let kept = put_block(medium, spare, from, room)?;
+        let kept = put_block(medium, spare, from, back)?;
         if kept {
             let turn = free.turn;
             return Ok(Some(Found { tried, turn, spare }));

@@ -1,6 +1,7 @@
 //! The write of one logical block, to its home or to a spare.
 
-ghost use Rattle.std.specs.Prelude.{◌≡◌, ◌<◌, IsTrue, IfOk, MatchResult, length};
+ghost use Rattle.std.specs.Prelude.{◌≡◌, ◌<◌, ◌≤◌, IsTrue, IfOk, MatchResult, length};
+ghost use Rattle.model_geometry.specs.declared.TheConstants.{SDL_LIMIT};
 ghost use Rattle.model_places.specs.Places.{logical_count, home_of};
 ghost use Rattle.model_volume.specs.Given.{AreSettled};
 ghost use Rattle.ram_bytes.specs.declared.block.TheConstants.{BLOCK_BYTES};
@@ -13,6 +14,7 @@ ghost use Rattle.ram_replace.specs.Placing.{EndsPlacing, PlacingStopped, PlacedR
 use crate::drafts::draft_moved;
 use crate::spares::find_spare;
 use model_drive::LAST_COUNTER;
+use ram_bytes::Block;
 use ram_copies::{Purpose, Scratch, put_block, put_copies};
 use ram_layout::Layout;
 use ram_lists::Lists;
@@ -60,7 +62,7 @@ pub enum Outcome {
 /// Writes logical block `i` to its home, which the caller has looked up, and reads it back: 2 uses. Where the home is
 /// dead, one free spare after another is written and read back, 2 uses each, until one has the bytes; then the secondary
 /// list that says so is updated, 8 uses for each of its parts, and taken over. `draft` holds that list until then, and
-/// nothing of use before and after. After Done the room of `scratch` has the bytes, where cells are known. It takes no memory.
+/// nothing of use before and after. After Done `back` has the bytes as they were read back. It takes no memory.
 /// The layout is that of the disc, and the search for a free spare begins at the cursor of the block's pool; the cursor stands
 /// behind the spare once the block is there.
 ///
@@ -76,9 +78,11 @@ pub fn place_block<M: Medium, L: Layout>(
     i: u32,
     home: u32,
     from: &[u8],
+    back: &mut Block,
     scratch: &mut Scratch,
 ) -> Result<Outcome, Stop>
-    requires fit { IsFit geometry.now (M.block_count medium.old) (L.pools layout.now) cursors.old lists.old draft.old }
+    requires fit { IsFit geometry.now (M.block_count medium.old) (L.pools layout.now) cursors.old lists.old }
+    requires draft { SDL_LIMIT ≤ draft.old.entries.room }
     requires on { IsTrue (M.world medium.old).power }
     requires settled { AreSettled geometry.now (M.world medium.old).cells (lists_of lists.old) }
     requires inside { i < logical_count geometry.now (lists_of lists.old) }
@@ -92,31 +96,28 @@ pub fn place_block<M: Medium, L: Layout>(
     ensures cursors { MatchResult result
         (LeavesCursors (L.pools layout.now) (sdl_of lists.old.sdl) (sdl_of lists.new.sdl) i cursors.old cursors.new)
         (λ stop. cursors.new ≡ cursors.old) }
-    ensures back { IfOk result (EndsWithReadBack (M.world medium.old).known from.now scratch.new.room) }
-    ensures fit { IsFit geometry.now (M.block_count medium.new) (L.pools layout.now) cursors.new lists.new draft.new }
+    ensures back { IfOk result (EndsWithReadBack (M.world medium.old).known from.now back.new) }
+    ensures fit { IsFit geometry.now (M.block_count medium.new) (L.pools layout.now) cursors.new lists.new }
+    ensures draft { SDL_LIMIT ≤ draft.new.entries.room }
 {
-    if put_block(medium, home, from, &mut scratch.room)? {
+    if put_block(medium, home, from, back)? {
         return Ok(Outcome::Done);
     }
     let pool = layout.pool_of(i);
     let first = cursors.at(pool);
-    let room = &mut scratch.room;
-    let Some(found) = find_spare(medium, layout, &lists.sdl, pool, first, from, room)? else {
+    let Some(found) = find_spare(medium, layout, &lists.sdl, pool, first, from, back)? else {
         return Ok(Outcome::NoSpare);
     };
     let counter = lists.sdl.counter;
     if counter == LAST_COUNTER {
         return Ok(Outcome::NoUpdate { counter });
     }
-    draft_moved(geometry, layout, &lists.sdl, draft, i, first, found);
+    draft_moved(geometry, layout, &lists.sdl, draft, i, home, first, found);
     if put_copies(medium, geometry, draft, Purpose::Update, scratch)? == 0 {
         return Ok(Outcome::NoUpdate { counter });
     }
     lists.sdl.copy_from(draft);
     cursors.set(pool, found.turn + 1);
-    // The update used the room.
-    let room = scratch.room.bytes_mut();
-    room.copy_from_slice(from);
     Ok(Outcome::Done)
 }
 
@@ -131,9 +132,11 @@ pub fn write_home<M: Medium, L: Layout>(
     i: u32,
     home: u32,
     from: &[u8],
+    back: &mut Block,
     scratch: &mut Scratch,
 ) -> Placed
-    requires fit { IsFit geometry.now (M.block_count medium.old) (L.pools layout.now) cursors.old lists.old draft.old }
+    requires fit { IsFit geometry.now (M.block_count medium.old) (L.pools layout.now) cursors.old lists.old }
+    requires draft { SDL_LIMIT ≤ draft.old.entries.room }
     requires settled { AreSettled geometry.now (M.world medium.old).cells (lists_of lists.old) }
     requires inside { i < logical_count geometry.now (lists_of lists.old) }
     requires home { home ≡ home_of geometry.now (lists_of lists.old) i }
@@ -142,14 +145,15 @@ pub fn write_home<M: Medium, L: Layout>(
         from.now (lists_of lists.new) result }
     ensures cursors { CursorsPlaced (L.pools layout.now) (sdl_of lists.old.sdl) (sdl_of lists.new.sdl) i
         cursors.old cursors.new result }
-    ensures back { LeavesReadBack (M.world medium.old).known from.now scratch.new.room result }
-    ensures fit { IsFit geometry.now (M.block_count medium.new) (L.pools layout.now) cursors.new lists.new draft.new }
+    ensures back { LeavesReadBack (M.world medium.old).known from.now back.new result }
+    ensures fit { IsFit geometry.now (M.block_count medium.new) (L.pools layout.now) cursors.new lists.new }
+    ensures draft { SDL_LIMIT ≤ draft.new.entries.room }
 {
     if !medium.powered() {
         return Placed::Off;
     }
     let placed = place_block(
-        medium, geometry, layout, cursors, lists, draft, i, home, from, scratch,
+        medium, geometry, layout, cursors, lists, draft, i, home, from, back, scratch,
     );
     match placed {
         Ok(Outcome::Done) => Placed::Done,

@@ -63,3 +63,6 @@ returns-clause-rule g c =
     let fits = c.pools-pools.ensures.few c.args.pool in
     all_failed g.M.Medium.world g.M.Medium.block_count g.M.Medium.reaches g.met.M.Medium.laws c.args.medium.now (free_at (g.L.Layout.pools c.args.layout.now) c.args.sdl.now.entries.list c.args.pool) c.args.from.now c.loop-tried.medium c.loop-tried.tried
     c.loop-tried.invariant.so_far (omega (arith, few, fits, c.loop-tried-test.false))
+
+pub returns-then-kept-clause-back : goal.returns-then-kept-clause-back
+returns-then-kept-clause-back g c = λ known. c.in_ok-kept.ensures.back c.if-kept.true (c.loop-tried.invariant.so_far.as_known ∙ known)

@@ -96,7 +96,6 @@ returns-clause-fit g c =
           (record { tried = c.in-Some.found.tried; failed_are = refl; inside = has.stands.inside; spare_is = has.stands.spare_is }));
       lawful = subst IsLawfulSdl (sym c.copy_from.ensures.value) c.draft_moved.ensures.lawful;
       room = let more = c.copy_from.ensures.room in let had = c.requires.fit.room in omega (arith, more, had);
-      draft_room = c.draft_moved.ensures.room;
       pools_are = subst (λ (s : Sdl). (g.L.Layout.pools c.args.layout.now) ≡ pools_under c.args.geometry.now (record { dds = dds_of c.args.lists.now.dds; sdl = s })) (sym new_is) c.requires.fit.pools_are;
       one_each = ap length c.set.ensures ∙ length-set c.args.cursors.now c.pool_of-pool.result (c.in-Some.found.turn + 1) ∙ c.requires.fit.one_each;
       cursors_fit = fits_then (g.L.Layout.pools c.args.layout.now) c.args.lists.now.sdl.entries.list (lawful_here c.args.geometry.now (lists_of c.args.lists.now) c.requires.fit.valid (g.L.Layout.pools c.args.layout.now) c.requires.fit.pools_are) (valid_here c.args.geometry.now (lists_of c.args.lists.now) c.requires.fit.valid (g.L.Layout.pools c.args.layout.now) c.requires.fit.pools_are) c.args.i (logical_here c.args.geometry.now (lists_of c.args.lists.now) c.requires.fit.valid (g.L.Layout.pools c.args.layout.now) c.requires.fit.pools_are c.args.i c.requires.inside) c.args.cursors.now c.requires.fit.cursors_fit its c.in-Some.found at turn c.copy_from.new.self.entries.list c.set.new.self c.pool_of-pool.result (ap (λ (s : Sdl). s.entries) new_is) c.pool_of-pool.ensures.pool c.set.ensures;
