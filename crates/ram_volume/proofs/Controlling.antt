@@ -3,6 +3,7 @@ use Rattle.std.proofs.Common.{◌≡◌, ℕ, List, inl, inr, sym, ap, ◌∙◌
 use Rattle.model_geometry.specs.Geometry.{Shape, total, dds_block, sdl_block}
 use Rattle.model_lists.specs.Texts.{IsDdsText}
 use Rattle.model_medium.specs.Cells.{Cell, Dead, IsSameOrDead, cell_at}
+use Rattle.model_medium.specs.World.{World}
 use Rattle.model_medium.specs.Machine.{Machine}
 use Rattle.model_medium.specs.declared.WornBlock.{WornBlock}
 use Rattle.model_medium.proofs.CellFacts.{cell_at-set_other, cell_at-set_dead}
@@ -75,6 +76,10 @@ module _ (old new : Shown) where
   gone shape known off dies (On disc) stood = same_off old new shape known off dies disc stood
   gone shape known off dies (Off discs) stood = same_candidates old new shape known off dies discs stood
 
+  -- nothing changed but arms
+  pub stands_armed : KeepsMemory old new → new.medium.world ≡ old.medium.world → (s : Standing) → StandsFor old s → StandsFor new s
+  stands_armed keeps same = still keeps (ap (λ (w : World). w.known) same) (ap (λ (w : World). w.power) same) (λ block. inl (ap (λ (w : World). cell_at w.cells block) same))
+
   -- the block is dead
   pub stands_done : (total block : ℕ) → KeepsMemory old new → FailRule total old.medium new.medium block fails.Done → (s : Standing) → StandsFor old s → FailStands new s fails.Done
   stands_done total block keeps rule =
@@ -84,3 +89,9 @@ module _ (old new : Shown) where
   pub stands_failed : (total block : ℕ) → LosesMemory old new → FailRule total old.medium new.medium block fails.Failed → (s : Standing) → StandsFor old s → FailStands new s fails.Failed
   stands_failed total block loses rule =
       gone loses.same_shape rule.1.as_known rule.1.turns_off (cells_die old.shape total old.medium new.medium block fails.Failed rule)
+
+  -- whatever came of it, where nothing is kept in memory in any case
+  pub stands_off : (total block : ℕ) (end : FailEnd) → KeepsMemory old new → LosesMemory old new → FailRule total old.medium new.medium block end → (s : Standing) → StandsFor old s → FailStands new s end
+  stands_off total block fails.Done keeps loses rule = stands_done total block keeps rule
+  stands_off total block (fails.NoBlock blocks) keeps loses rule = stands_armed keeps (ap (λ (m : Machine). m.world) rule.2)
+  stands_off total block fails.Failed keeps loses rule = stands_failed total block loses rule

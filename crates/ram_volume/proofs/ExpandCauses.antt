@@ -9,6 +9,7 @@ use Rattle.model_medium.specs.declared.WornBlock.{WornBlock}
 use Rattle.model_medium.specs.declared.ArmedCut.{ArmedCut}
 use Rattle.model_sectors.specs.Discs.{On, Off}
 use Rattle.model_stops.specs.declared.Stop.{Stop}
+use Rattle.model_stops.specs.declared.Stop.TheVariants as stops
 use Rattle.model_places.specs.Places.{Lists, capacity_of}
 use Rattle.model_drive.specs.declared.TheConstants.{LAST_COUNTER}
 use Rattle.model_drive.specs.declared.ExpandOut.{ExpandOut}
@@ -21,6 +22,7 @@ use Rattle.model_drive.proofs.ExpandSteps.{expand_step_on, expand_step_off}
 use Rattle.ram_medium.specs.Laws.{ControlLaws, machine_shown}
 use Rattle.ram_zones.specs.declared.list_kind.ListKind.TheVariants as kinds
 use Rattle.ram_copies.specs.Calls.{ChangesCopiesAlone}
+use Rattle.ram_volume.specs.Stopped.{expand_stopped_by}
 use Rattle.ram_expand.specs.Expanding.{KeepsSize, HasGrown, LacksUpdate, StopsGrowing}
 use Rattle.ram_volume.specs.Shown.{shown_without, shown_under}
 use Rattle.ram_volume.specs.Expanding.{ExpandSteps}
@@ -104,6 +106,11 @@ module _ {M : Type 0} (world : M → World) (reaches : M → M → Span → Type
       no_buffer = refl;
     };
   }
+
+  pub grown_stopped : (stop : Stop) → StopsGrowing world reaches shape old new lists sectors lists' stop → ExpandCause before off sectors (expand_stopped_by stop)
+  grown_stopped stops.Cut was = stopped_cause stops.Cut was
+  grown_stopped stops.Off was = absurd (was.stopped.stops.was_off was.stopped.was_on)
+  grown_stopped stops.Fault was = stopped_cause stops.Fault was
 
 -- the steps follow from the cause
 pub expand_steps : (old new : Shown) → new.shape ≡ old.shape → IsSound new → (sectors : ℕ) (out : ExpandOut) → ExpandCause old new sectors out → ExpandSteps old new sectors out

@@ -1,5 +1,5 @@
 -- The answers of a format in each state: why they come, and what the drive stands for then.
-use Rattle.std.proofs.Common.{◌≡◌, ℕ, ◌⊎◌, inl, inr, Bool, false, Option, Some, None, List, [], refl}
+use Rattle.std.proofs.Common.{◌≡◌, ℕ, ◌⊎◌, inl, inr, IsTrue, Bool, false, Option, Some, None, List, [], refl}
 use Rattle.model_geometry.specs.Geometry.{Shape}
 use Rattle.model_lists.specs.declared.dds.PdlEntry.{PdlEntry}
 use Rattle.model_lists.specs.declared.dds.PdlKind.{PdlKind}
@@ -9,6 +9,7 @@ use Rattle.model_medium.specs.Machine.{Machine}
 use Rattle.model_medium.specs.Exact.{Event}
 use Rattle.model_medium.specs.declared.WornBlock.{WornBlock}
 use Rattle.model_medium.specs.declared.ArmedCut.{ArmedCut}
+use Rattle.model_stops.specs.declared.Stop.{Stop}
 use Rattle.model_stops.specs.declared.Stop.TheVariants as stops
 use Rattle.model_places.specs.Places.{Lists}
 use Rattle.model_drive.specs.declared.Kind.{Kind}
@@ -28,6 +29,7 @@ use Rattle.ram_format.proofs.Keeps.{none_kept}
 use Rattle.model_places.specs.Valid.{AreValid}
 use Rattle.ram_volume.specs.Shown.{shown_without, shown_unformatted, shown_under}
 use Rattle.ram_volume.specs.Formats.{FormatSteps}
+use Rattle.ram_volume.specs.Stopped.{format_stopped_by}
 use Rattle.ram_volume.proofs.Keeping.{off_right, under_right, bare_right}
 use Rattle.ram_volume.proofs.FormatCauses.{good_cause, many_cause, lost_cause, stop_cause}
 use Rattle.ram_volume.proofs.RewriteCauses.{rewritten_cause, lacking_cause, stopped_cause}
@@ -79,22 +81,25 @@ module _ {M : Type 0} (world : M → World) (reaches : M → M → Span → Type
     bare_lost counter left loses = by_kind (shown_unformatted shape (machine new) left) (outs.NoUpdate counter) kind
         (λ drop_sdl. lost_cause world reaches takes arms armed_cut laws shape None mark [] drop_sdl [] (none_kept drop_sdl) old new counter left loses)
 
-    pub bare_cut : FormatStopped world reaches shape [] pdl_kinds.P mark old new stops.Cut → FormatCause bare off kind outs.Cut
-    bare_cut was = by_kind off outs.Cut kind (λ drop_sdl. stop_cause world reaches takes arms armed_cut laws shape None mark [] drop_sdl [] (none_kept drop_sdl) old new stops.Cut was)
+    bare_stop : (out : FormatOut) → ((drop_sdl : Bool) → FullCause bare off drop_sdl out) → ¬ IsTrue (world new).power → FormatCause bare off kind out × FormatSteps bare off kind out
+    bare_stop out cause fell = let why = by_kind off out kind cause in (why, steps bare off refl (off_right shape (machine new) fell) kind out why)
 
-    pub bare_fault : FormatStopped world reaches shape [] pdl_kinds.P mark old new stops.Fault → FormatCause bare off kind outs.Fault
-    bare_fault was = by_kind off outs.Fault kind (λ drop_sdl. stop_cause world reaches takes arms armed_cut laws shape None mark [] drop_sdl [] (none_kept drop_sdl) old new stops.Fault was)
-
-    pub bare_cut_steps : FormatStopped world reaches shape [] pdl_kinds.P mark old new stops.Cut → FormatSteps bare off kind outs.Cut
-    bare_cut_steps was = steps bare off refl (off_right shape (machine new) was.stops.cut.turns_off) kind outs.Cut (bare_cut was)
-
-    pub bare_fault_steps : FormatStopped world reaches shape [] pdl_kinds.P mark old new stops.Fault → FormatSteps bare off kind outs.Fault
-    bare_fault_steps was = steps bare off refl (off_right shape (machine new) was.counts.turns_off) kind outs.Fault (bare_fault was)
+    pub bare_stopped : (stop : Stop) → IsTrue (world old).power → FormatStopped world reaches shape [] pdl_kinds.P mark old new stop
+        → FormatCause bare off kind (format_stopped_by stop) × FormatSteps bare off kind (format_stopped_by stop)
+    bare_stopped stops.Cut on was =
+        bare_stop outs.Cut (λ drop_sdl. stop_cause world reaches takes arms armed_cut laws shape None mark [] drop_sdl [] (none_kept drop_sdl) old new stops.Cut was) was.stops.cut.turns_off
+    bare_stopped stops.Off on was = absurd (was.stops.was_off on)
+    bare_stopped stops.Fault on was =
+        bare_stop outs.Fault (λ drop_sdl. stop_cause world reaches takes arms armed_cut laws shape None mark [] drop_sdl [] (none_kept drop_sdl) old new stops.Fault was) was.counts.turns_off
 
   -- of a formatted disc
   module _ (lists : Lists) (buffer : List (ℕ × List ℕ)) where
     abbrev ready : Shown
     ready = shown_under shape (machine old) lists buffer
+
+    -- it was stopped, for this cause
+    went_off : (kind : Kind) (out : FormatOut) → FormatCause ready off kind out → ¬ IsTrue (world new).power → FormatCause ready off kind out × FormatSteps ready off kind out
+    went_off kind out cause fell = (cause, steps ready off refl (off_right shape (machine new) fell) kind out cause)
 
     -- fully
     module _ (drop_sdl : Bool) (kept : List PdlEntry) (all : AreAllKept (Some lists) drop_sdl kept) where
@@ -127,17 +132,11 @@ module _ {M : Type 0} (world : M → World) (reaches : M → M → Span → Type
           let leaves = lost_leaves kept pdl_kinds.G1 mark counter left loses in
           steps ready (shown_unformatted shape (machine new) left) refl (bare_right shape (machine new) left leaves.gives_none leaves.marked) (kinds.Full drop_sdl) (outs.NoUpdate counter) (full_lost counter left loses)
 
-      pub full_cut : FormatStopped world reaches shape kept pdl_kinds.G1 mark old new stops.Cut → FormatCause ready off (kinds.Full drop_sdl) outs.Cut
-      full_cut was = stop_cause world reaches takes arms armed_cut laws shape (Some lists) mark buffer drop_sdl kept all old new stops.Cut was
-
-      pub full_fault : FormatStopped world reaches shape kept pdl_kinds.G1 mark old new stops.Fault → FormatCause ready off (kinds.Full drop_sdl) outs.Fault
-      full_fault was = stop_cause world reaches takes arms armed_cut laws shape (Some lists) mark buffer drop_sdl kept all old new stops.Fault was
-
-      pub full_cut_steps : FormatStopped world reaches shape kept pdl_kinds.G1 mark old new stops.Cut → FormatSteps ready off (kinds.Full drop_sdl) outs.Cut
-      full_cut_steps was = steps ready off refl (off_right shape (machine new) was.stops.cut.turns_off) (kinds.Full drop_sdl) outs.Cut (full_cut was)
-
-      pub full_fault_steps : FormatStopped world reaches shape kept pdl_kinds.G1 mark old new stops.Fault → FormatSteps ready off (kinds.Full drop_sdl) outs.Fault
-      full_fault_steps was = steps ready off refl (off_right shape (machine new) was.counts.turns_off) (kinds.Full drop_sdl) outs.Fault (full_fault was)
+      pub full_stopped : (stop : Stop) → IsTrue (world old).power → FormatStopped world reaches shape kept pdl_kinds.G1 mark old new stop
+          → FormatCause ready off (kinds.Full drop_sdl) (format_stopped_by stop) × FormatSteps ready off (kinds.Full drop_sdl) (format_stopped_by stop)
+      full_stopped stops.Cut on was = went_off (kinds.Full drop_sdl) outs.Cut (stop_cause world reaches takes arms armed_cut laws shape (Some lists) mark buffer drop_sdl kept all old new stops.Cut was) was.stops.cut.turns_off
+      full_stopped stops.Off on was = absurd (was.stops.was_off on)
+      full_stopped stops.Fault on was = went_off (kinds.Full drop_sdl) outs.Fault (stop_cause world reaches takes arms armed_cut laws shape (Some lists) mark buffer drop_sdl kept all old new stops.Fault was) was.counts.turns_off
 
     -- or by writing its lists again
     module _ (valid : AreValid shape lists) where
@@ -156,14 +155,8 @@ module _ {M : Type 0} (world : M → World) (reaches : M → M → Span → Type
       pub lacking_steps : (counter : ℕ) → LacksCopies world reaches shape old new lists counter → FormatSteps ready again kinds.Rewrite (outs.NoUpdate counter)
       lacking_steps counter lacks = steps ready again refl (under_right shape (machine new) lists [] valid lacks.both.settled) kinds.Rewrite (outs.NoUpdate counter) (lacking counter lacks)
 
-    pub rewrite_cut : RewriteStopped world reaches shape old new lists stops.Cut → FormatCause ready off kinds.Rewrite outs.Cut
-    rewrite_cut was = stopped_cause world reaches takes arms armed_cut laws shape lists buffer old new stops.Cut was
-
-    pub rewrite_fault : RewriteStopped world reaches shape old new lists stops.Fault → FormatCause ready off kinds.Rewrite outs.Fault
-    rewrite_fault was = stopped_cause world reaches takes arms armed_cut laws shape lists buffer old new stops.Fault was
-
-    pub rewrite_cut_steps : RewriteStopped world reaches shape old new lists stops.Cut → FormatSteps ready off kinds.Rewrite outs.Cut
-    rewrite_cut_steps was = steps ready off refl (off_right shape (machine new) was.stops.cut.turns_off) kinds.Rewrite outs.Cut (rewrite_cut was)
-
-    pub rewrite_fault_steps : RewriteStopped world reaches shape old new lists stops.Fault → FormatSteps ready off kinds.Rewrite outs.Fault
-    rewrite_fault_steps was = steps ready off refl (off_right shape (machine new) was.counts.turns_off) kinds.Rewrite outs.Fault (rewrite_fault was)
+    pub rewrite_stopped : (stop : Stop) → IsTrue (world old).power → RewriteStopped world reaches shape old new lists stop
+        → FormatCause ready off kinds.Rewrite (format_stopped_by stop) × FormatSteps ready off kinds.Rewrite (format_stopped_by stop)
+    rewrite_stopped stops.Cut on was = went_off kinds.Rewrite outs.Cut (stopped_cause world reaches takes arms armed_cut laws shape lists buffer old new stops.Cut was) was.stops.cut.turns_off
+    rewrite_stopped stops.Off on was = absurd (was.stops.was_off on)
+    rewrite_stopped stops.Fault on was = went_off kinds.Rewrite outs.Fault (stopped_cause world reaches takes arms armed_cut laws shape lists buffer old new stops.Fault was) was.counts.turns_off

@@ -9,12 +9,12 @@ use Rattle.model_medium.proofs.Happening.{happened_one, happened_then}
 use Rattle.model_stops.specs.Stops.{Continues, Stops}
 use Rattle.model_stops.specs.declared.Stop.{Stop}
 use Rattle.model_places.specs.Places.{Lists}
+use Rattle.model_drive.specs.declared.WriteOut.{WriteOut}
+use Rattle.model_drive.specs.declared.WriteOut.TheVariants as outs
 use Rattle.ram_medium.proofs.Parts.{nothing_happened, part_happened, stop_happened}
 use Rattle.ram_volume.specs.Reading.{PartsEnd}
 use Rattle.ram_volume.specs.Verifying.{HomesEnd}
 use Rattle.ram_volume.specs.Writing.{HasRest, WritesPart, PartStops}
-use Rattle.ram_volume.specs.declared.writing.Wrote.{Wrote}
-use Rattle.ram_volume.specs.declared.writing.Wrote.TheVariants as wrote
 
 module _ {M : Type 0} (world : M → World) (reaches : M → M → Span → Type 0) (takes : M → M → Event → Type 0) (happens : (a b : M) (span : Span) → reaches a b span → Happened takes a b) where
   -- the power went on before, and maybe off afterwards
@@ -49,11 +49,16 @@ module _ {M : Type 0} (world : M → World) (reaches : M → M → Span → Type
 
   module _ (shape : Shape) (old new : M) (lists : Lists) (held : List (ℕ × List ℕ)) (lba n i : ℕ) (bytes : List ℕ) (on : IsTrue (world old).power) where
     -- a part of a write was done, was refused, or was stopped
-    pub wrote_happened : (lists' : Lists) (held' : List (ℕ × List ℕ)) (end : Wrote) → WritesPart world reaches shape old new lists lists' held held' lba n i bytes end → Happened takes old new
-    wrote_happened lists' held' wrote.Done did = happened_then takes old did.mid new (rest_happened old did.mid held lba n i _ did.rest did.held_mid did.has on).0 (part_happened world reaches takes happens did.mid new _ did.then_did.puts.continues)
-    wrote_happened lists' held' wrote.NoRest did = part_happened world reaches takes happens old new 1 did.lacks.unread.continues
-    wrote_happened lists' held' wrote.NoSpare did = happened_then takes old did.mid new (rest_happened old did.mid held lba n i _ did.rest did.held_mid did.has on).0 (part_happened world reaches takes happens did.mid new _ did.then_did.finds.leaves.continues)
-    wrote_happened lists' held' (wrote.NoUpdate counter) did = happened_then takes old did.mid new (rest_happened old did.mid held lba n i _ did.rest did.held_mid did.has on).0 (part_happened world reaches takes happens did.mid new _ did.then_did.finds.leaves.continues)
+    pub wrote_happened : (lists' : Lists) (held' : List (ℕ × List ℕ)) (out : WriteOut) → WritesPart world reaches shape old new lists lists' held held' lba n i bytes out → Happened takes old new
+    wrote_happened lists' held' outs.Good did = happened_then takes old did.mid new (rest_happened old did.mid held lba n i _ did.rest did.held_mid did.has on).0 (part_happened world reaches takes happens did.mid new _ did.then_did.puts.continues)
+    wrote_happened lists' held' outs.NotFormatted did = absurd did
+    wrote_happened lists' held' (outs.Range capacity) did = absurd did
+    wrote_happened lists' held' (outs.Unread named place) did = part_happened world reaches takes happens old new 1 did.lacks.unread.continues
+    wrote_happened lists' held' (outs.NoSpare named) did = happened_then takes old did.mid new (rest_happened old did.mid held lba n i _ did.rest did.held_mid did.has on).0 (part_happened world reaches takes happens did.mid new _ did.then_did.finds.leaves.continues)
+    wrote_happened lists' held' (outs.NoUpdate counter) did = happened_then takes old did.mid new (rest_happened old did.mid held lba n i _ did.rest did.held_mid did.has on).0 (part_happened world reaches takes happens did.mid new _ did.then_did.finds.leaves.continues)
+    wrote_happened lists' held' outs.Cut did = absurd did
+    wrote_happened lists' held' outs.Off did = absurd did
+    wrote_happened lists' held' outs.Fault did = absurd did
 
     pub write_stop_happened : (stop : Stop) → PartStops world reaches shape old new lists held lba n i bytes stop → Happened takes old new
     write_stop_happened stop (inl rest) = stop_happened world reaches takes happens old new 1 stop on rest.stopped.stops

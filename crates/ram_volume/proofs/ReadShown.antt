@@ -26,6 +26,7 @@ use Rattle.model_drive.proofs.Dying.{one_dies, settled_dies, read_step_on, read_
 use Rattle.model_drive.proofs.Powers.{holds_nothing}
 use Rattle.ram_medium.specs.Laws.{ControlLaws, machine_shown}
 use Rattle.ram_volume.specs.Reading.{EndsInBlock, StopsInBlock, PartsEnd, ReadSteps, read_end_at}
+use Rattle.ram_volume.specs.Stopped.{read_stopped_by}
 use Rattle.ram_volume.specs.Shown.{shown_without, shown_under}
 use Rattle.ram_volume.proofs.Machines.{machine_stops}
 
@@ -150,14 +151,12 @@ module _ {M : Type 0} (world : M → World) (reaches : M → M → Span → Type
             read_step_on (under old held) off refl lba n disc into out cause stood (holds_nothing disc [] refl) (λ good. absurd (not_good good))
         stopped_steps_by out cause not_good into (Off discs) stood = read_step_off (under old held) off refl lba n discs into out cause stood
 
-      pub cut_cause : StopsInBlock world reaches old new held shape lists lba n stops.Cut → ReadCause (under old held) (shown_without shape (machine new)) lba n outs.Cut
-      cut_cause did = stops_in stops.Cut did
+      pub stopped_cause : (stop : Stop) → StopsInBlock world reaches old new held shape lists lba n stop → ReadCause (under old held) (shown_without shape (machine new)) lba n (read_stopped_by stop)
+      stopped_cause stops.Cut did = stops_in stops.Cut did
+      stopped_cause stops.Off did = absurd (did.stops.was_off on)
+      stopped_cause stops.Fault did = stops_in stops.Fault did
 
-      pub cut_steps : (into : List ℕ) → StopsInBlock world reaches old new held shape lists lba n stops.Cut → ReadSteps (under old held) (shown_without shape (machine new)) lba n into outs.Cut
-      cut_steps into did = stopped_steps_by stops.Cut did outs.Cut (cut_cause did) (λ same. cc) into
-
-      pub fault_cause : StopsInBlock world reaches old new held shape lists lba n stops.Fault → ReadCause (under old held) (shown_without shape (machine new)) lba n outs.Fault
-      fault_cause did = stops_in stops.Fault did
-
-      pub fault_steps : (into : List ℕ) → StopsInBlock world reaches old new held shape lists lba n stops.Fault → ReadSteps (under old held) (shown_without shape (machine new)) lba n into outs.Fault
-      fault_steps into did = stopped_steps_by stops.Fault did outs.Fault (fault_cause did) (λ same. cc) into
+      pub stopped_steps : (into : List ℕ) (stop : Stop) → StopsInBlock world reaches old new held shape lists lba n stop → ReadSteps (under old held) (shown_without shape (machine new)) lba n into (read_stopped_by stop)
+      stopped_steps into stops.Cut did = stopped_steps_by stops.Cut did outs.Cut (stops_in stops.Cut did) (λ same. cc) into
+      stopped_steps into stops.Off did = absurd (did.stops.was_off on)
+      stopped_steps into stops.Fault did = stopped_steps_by stops.Fault did outs.Fault (stops_in stops.Fault did) (λ same. cc) into

@@ -21,6 +21,7 @@ use Rattle.model_drive.proofs.Dying.{one_dies, settled_dies}
 use Rattle.ram_medium.specs.Laws.{ControlLaws, machine_shown}
 use Rattle.ram_volume.specs.Reading.{read_end_at}
 use Rattle.ram_volume.specs.Verifying.{HomesEnd, StopsAtHome}
+use Rattle.ram_volume.specs.Stopped.{read_stopped_by}
 use Rattle.ram_volume.specs.Shown.{shown_without, shown_under}
 use Rattle.ram_volume.proofs.Machines.{machine_continues, machine_stops}
 
@@ -94,8 +95,7 @@ module _ {M : Type 0} (world : M → World) (reaches : M → M → Span → Type
     dies = record { others = did.dies.others; left = did.dies.left };
   }
 
-  pub verify_cut : StopsAtHome world reaches old new shape lists lba n stops.Cut → VerifyCause (under old) off lba n outs.Cut
-  verify_cut did = stops_in stops.Cut did
-
-  pub verify_fault : StopsAtHome world reaches old new shape lists lba n stops.Fault → VerifyCause (under old) off lba n outs.Fault
-  verify_fault did = stops_in stops.Fault did
+  pub verify_stopped : (stop : Stop) → StopsAtHome world reaches old new shape lists lba n stop → VerifyCause (under old) off lba n (read_stopped_by stop)
+  verify_stopped stops.Cut did = stops_in stops.Cut did
+  verify_stopped stops.Off did = absurd (did.stops.was_off on)
+  verify_stopped stops.Fault did = stops_in stops.Fault did

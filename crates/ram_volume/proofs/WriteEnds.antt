@@ -1,5 +1,5 @@
 -- How the write of all parts of a request goes on, and how it ends, by what the write of a part did.
-use Rattle.std.proofs.Common.{◌≡◌, ℕ, ◌+◌, ◌*◌, ◌<◌, ◌≤◌, Option, List, length, inl, inr, sym, ap, ◌∙◌, subst, arith}
+use Rattle.std.proofs.Common.{◌≡◌, ℕ, ◌+◌, ◌*◌, ◌<◌, ◌≤◌, Option, List, length, inl, inr, refl, sym, ap, ◌∙◌, subst, arith}
 use Rattle.model_geometry.specs.Geometry.{Shape}
 use Rattle.model_medium.specs.World.{World, Span}
 use Rattle.model_medium.specs.Machine.{Machine}
@@ -12,13 +12,13 @@ use Rattle.model_sectors.proofs.Covering.{covered_inside}
 use Rattle.model_stops.specs.declared.Stop.{Stop}
 use Rattle.model_places.specs.Places.{Lists, logical_count, capacity_of, home_of}
 use Rattle.model_places.specs.Valid.{AreValid}
+use Rattle.model_drive.specs.declared.WriteOut.{WriteOut}
 use Rattle.model_drive.specs.declared.WriteOut.TheVariants as outs
 use Rattle.model_drive.specs.Shown.{Shown, StandsFor}
 use Rattle.model_drive.specs.Writes.{disc_after}
 use Rattle.model_drive.proofs.Courses.{after_total}
 use Rattle.model_drive.proofs.WriteTurns.{writes_all}
 use Rattle.ram_medium.specs.Laws.{MediumLaws, ControlLaws, machine_shown}
-use Rattle.ram_volume.specs.declared.writing.Wrote.TheVariants as wrote
 use Rattle.ram_volume.specs.Writing.{WritesPart, PartStops, EndsParts, StopsParts, WriteSteps}
 use Rattle.ram_volume.specs.Shown.{shown_under}
 use Rattle.ram_volume.proofs.WriteTurns.{WroteSome, wrote_block, rest_stopped, block_stopped, meets_unread, meets_no_spare, meets_no_copy}
@@ -85,11 +85,14 @@ module _ {M : Type 0} (world : M → World) (block_count : M → ℕ) (reaches :
               part.mid part.rest part.held_mid part.has part.full new stop part.then_did
 
       module _ (lists' : Lists) (held' : List (ℕ × List ℕ)) where
+        -- what the write of the next part did, by its answer
+        abbrev DoesNext : (i : ℕ) → WriteOut → Type 0
+        DoesNext i out = WritesPart world reaches shape mid new reached lists' held_mid held' lba n i bytes out
+
         -- it was written
-        pub wrote_one_more : WritesPart world reaches shape mid new reached lists' held_mid held' lba n (block_with lba + k) bytes wrote.Done
-            → WroteSome shape (machine old) (machine new) lists lists' held held' lba n bytes (k + 1)
+        pub wrote_one_more : DoesNext (block_with lba + k) outs.Good → WroteSome shape (machine old) (machine new) lists lists' held held' lba n bytes (k + 1)
         wrote_one_more did_it =
-            let part = next (λ i. WritesPart world reaches shape mid new reached lists' held_mid held' lba n i bytes wrote.Done) did_it in
+            let part = next (λ i. DoesNext i outs.Good) did_it in
             record {
               course = _;
               as_many = (let many = did.as_many in omega (arith, many));
@@ -97,30 +100,23 @@ module _ {M : Type 0} (world : M → World) (block_count : M → ℕ) (reaches :
                   part.mid part.rest part.held_mid part.has part.full new lists' held' part.then_did.puts part.then_did.back part.then_did.buffer_is part.then_did.as_put;
             }
 
-        module _ (named : ℕ) (named_is : named ≡ start_in lba (block_with lba + k)) where
-          first_is : named ≡ start_in lba (block_with lba + length did.course)
-          first_is = next (λ i. named ≡ start_in lba i) named_is
-
-          -- its rest cannot be read
-          pub part_unread : (block : ℕ) → block ≡ home_of shape lists' (block_with lba + k) → WritesPart world reaches shape mid new reached lists' held_mid held' lba n (block_with lba + k) bytes wrote.NoRest
-              → EndsParts shape (machine old) (machine new) lists held lba n bytes lists' held' (outs.Unread named block)
-          part_unread block block_is did_it =
-              let part = next (λ i. WritesPart world reaches shape mid new reached lists' held_mid held' lba n i bytes wrote.NoRest) did_it in
-              meets_unread world block_count reaches takes arms armed_cut rules laws shape old mid lists reached held held_mid lba n bytes did.course did.blocks valid inside whole few
-              new part.rest held' part.lacks named first_is block (next (λ i. block ≡ home_of shape lists' i) block_is ∙ ap (λ (l : Lists). home_of shape l (block_with lba + length did.course)) part.same) lists' part.same
-
-          -- no spare is left for it
-          pub part_spareless : WritesPart world reaches shape mid new reached lists' held_mid held' lba n (block_with lba + k) bytes wrote.NoSpare
-              → EndsParts shape (machine old) (machine new) lists held lba n bytes lists' held' (outs.NoSpare named)
-          part_spareless did_it =
-              let part = next (λ i. WritesPart world reaches shape mid new reached lists' held_mid held' lba n i bytes wrote.NoSpare) did_it in
-              meets_no_spare world block_count reaches takes arms armed_cut rules laws shape old mid lists reached held held_mid lba n bytes did.course did.blocks valid inside whole few
-              part.mid part.rest part.held_mid part.has part.full new lists' held' part.then_did.buffer_is part.then_did.finds named first_is
-
-        -- the secondary list could not be updated for it
-        pub part_unlisted : (counter : ℕ) → WritesPart world reaches shape mid new reached lists' held_mid held' lba n (block_with lba + k) bytes (wrote.NoUpdate counter)
-            → EndsParts shape (machine old) (machine new) lists held lba n bytes lists' held' (outs.NoUpdate counter)
-        part_unlisted counter did_it =
-            let part = next (λ i. WritesPart world reaches shape mid new reached lists' held_mid held' lba n i bytes (wrote.NoUpdate counter)) did_it in
-            meets_no_copy world block_count reaches takes arms armed_cut rules laws shape old mid lists reached held held_mid lba n bytes did.course did.blocks valid inside whole few
-            part.mid part.rest part.held_mid part.has part.full new lists' held' part.then_did.buffer_is counter part.then_did.finds
+        -- It was refused: its rest cannot be read, no spare is left for it, or the secondary list could not be updated for it.
+        pub part_refused : (out : WriteOut) → ¬ (out ≡ outs.Good) → DoesNext (block_with lba + k) out → EndsParts shape (machine old) (machine new) lists held lba n bytes lists' held' out
+        part_refused out bad did_it = by_answer out bad (next (λ i. DoesNext i out) did_it)
+          where
+            by_answer : (out : WriteOut) → ¬ (out ≡ outs.Good) → DoesNext (block_with lba + length did.course) out → EndsParts shape (machine old) (machine new) lists held lba n bytes lists' held' out
+            by_answer outs.Good bad part = absurd (bad refl)
+            by_answer outs.NotFormatted bad part = absurd part
+            by_answer (outs.Range capacity) bad part = absurd part
+            by_answer (outs.Unread named place) bad part =
+                meets_unread world block_count reaches takes arms armed_cut rules laws shape old mid lists reached held held_mid lba n bytes did.course did.blocks valid inside whole few
+                new part.rest held' part.lacks named part.named_is place part.place_is lists' part.same
+            by_answer (outs.NoSpare named) bad part =
+                meets_no_spare world block_count reaches takes arms armed_cut rules laws shape old mid lists reached held held_mid lba n bytes did.course did.blocks valid inside whole few
+                part.mid part.rest part.held_mid part.has part.full new lists' held' part.then_did.buffer_is part.then_did.finds named part.then_did.named_is
+            by_answer (outs.NoUpdate counter) bad part =
+                meets_no_copy world block_count reaches takes arms armed_cut rules laws shape old mid lists reached held held_mid lba n bytes did.course did.blocks valid inside whole few
+                part.mid part.rest part.held_mid part.has part.full new lists' held' part.then_did.buffer_is counter part.then_did.finds
+            by_answer outs.Cut bad part = absurd part
+            by_answer outs.Off bad part = absurd part
+            by_answer outs.Fault bad part = absurd part

@@ -8,6 +8,7 @@ pub mod Powers
 pub mod Reading
 pub mod Shown
 pub mod Sounding
+pub mod Stopped
 pub mod Verifying
 pub mod Volume
 pub mod Writing

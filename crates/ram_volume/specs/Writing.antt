@@ -6,9 +6,8 @@ use Rattle.model_medium.specs.World.{World, Span}
 use Rattle.model_medium.specs.Machine.{Machine}
 use Rattle.model_buffer.specs.Buffer.{with_newest}
 use Rattle.model_sectors.specs.Discs.{Standing}
-use Rattle.model_sectors.specs.Requests.{is_partly, merged_in}
+use Rattle.model_sectors.specs.Requests.{is_partly, start_in, merged_in}
 use Rattle.model_stops.specs.declared.Stop.{Stop}
-use Rattle.model_stops.specs.declared.Stop.TheVariants as stops
 use Rattle.model_places.specs.Places.{Lists, home_of}
 use Rattle.model_volume.specs.Given.{AreSettled}
 use Rattle.model_drive.specs.declared.WriteOut.{WriteOut}
@@ -16,10 +15,9 @@ use Rattle.model_drive.specs.declared.WriteOut.TheVariants as outs
 use Rattle.model_drive.specs.Shown.{Shown, StandsFor}
 use Rattle.model_drive.specs.Blocks.{PutsBlock, FindsNoSpare, FindsNoCopy, StopsAtBlock}
 use Rattle.model_drive.specs.Writes.{WriteCause, WriteStep}
-use Rattle.ram_volume.specs.declared.writing.Wrote.{Wrote}
-use Rattle.ram_volume.specs.declared.writing.Wrote.TheVariants as wrote
 use Rattle.ram_volume.specs.Blocks.{IsFetched, CannotBeRead, FetchStopped}
 use Rattle.ram_volume.specs.Shown.{shown_without, shown_under}
+use Rattle.ram_volume.specs.Stopped.{write_stopped_by}
 
 -- What the drive stands for after a write, for each thing that it stood for.
 abbrev pub WriteSteps : Shown → Shown → (lba n : ℕ) → List ℕ → WriteOut → Type 0
@@ -79,28 +77,36 @@ module _ {M : Type 0} (world : M → World) (reaches : M → M → Span → Type
     pub buffer_is : held' ≡ with_newest i back held_mid
     pub as_put : (world mid).known ≡ true → back ≡ put
 
-  -- no spare is left for it
-  pub record PartMeetsNoSpare (mid : M) (put : List ℕ) (held_mid : List (ℕ × List ℕ)) : Type 0 where
+  -- no spare is left for it, and it is named by its first sector of the request
+  pub record PartMeetsNoSpare (named : ℕ) (mid : M) (put : List ℕ) (held_mid : List (ℕ × List ℕ)) : Type 0 where
     pub finds : FindsNoSpare world reaches shape mid new lists i put lists'
     pub buffer_is : held' ≡ held_mid
+    pub named_is : named ≡ start_in lba i
 
   -- the list of this counter could not be updated for it
   pub record PartMeetsNoCopy (counter : ℕ) (mid : M) (put : List ℕ) (held_mid : List (ℕ × List ℕ)) : Type 0 where
     pub finds : FindsNoCopy world reaches shape mid new lists i put lists' counter
     pub buffer_is : held' ≡ held_mid
 
-  -- its rest cannot be read
-  pub record MeetsUnread : Type 0 where
+  -- its rest cannot be read: it is named by its first sector of the request, and by its home
+  pub record MeetsUnread (named place : ℕ) : Type 0 where
     pub rest : List ℕ
     pub lacks : LacksItsRest world reaches old held lba n i (home_of shape lists i) new rest held'
     pub same : lists' ≡ lists
+    pub named_is : named ≡ start_in lba i
+    pub place_is : place ≡ home_of shape lists i
 
-  -- what the write of a part does, by its answer
-  abbrev pub WritesPart : Wrote → Type 0
-  WritesPart wrote.Done = AfterRest PutsPart
-  WritesPart wrote.NoRest = MeetsUnread
-  WritesPart wrote.NoSpare = AfterRest PartMeetsNoSpare
-  WritesPart (wrote.NoUpdate counter) = AfterRest (PartMeetsNoCopy counter)
+  -- what the write of a part does, by its answer: that of a write which was not stopped
+  abbrev pub WritesPart : WriteOut → Type 0
+  WritesPart outs.Good = AfterRest PutsPart
+  WritesPart outs.NotFormatted = ⊥
+  WritesPart (outs.Range capacity) = ⊥
+  WritesPart (outs.Unread named place) = MeetsUnread named place
+  WritesPart (outs.NoSpare named) = AfterRest (PartMeetsNoSpare named)
+  WritesPart (outs.NoUpdate counter) = AfterRest (PartMeetsNoCopy counter)
+  WritesPart outs.Cut = ⊥
+  WritesPart outs.Off = ⊥
+  WritesPart outs.Fault = ⊥
 
 -- the write of a part was stopped: in the look for its rest, or in the block
 abbrev pub PartStops : {M : Type 0} → (M → World) → (M → M → Span → Type 0) → Shape → (old new : M) → Lists
@@ -109,12 +115,6 @@ PartStops world reaches shape old new lists held lba n i bytes stop =
     RestStopped world reaches old held lba n i (home_of shape lists i) new stop
     ⊎ AfterRest world reaches shape old new lists lists held held lba n i bytes
     (λ mid put held_mid. StopsAtBlock world reaches shape mid new lists i put stop)
-
--- how a write ends that was stopped
-abbrev pub write_stopped_by : Stop → WriteOut
-write_stopped_by stops.Cut = outs.Cut
-write_stopped_by stops.Off = outs.Off
-write_stopped_by stops.Fault = outs.Fault
 
 -- The machines before and after the write of all parts, the lists in use and the buffered blocks before, and the request.
 module _ (shape : Shape) (old new : Machine) (lists : Lists) (held : List (ℕ × List ℕ)) (lba n : ℕ) (bytes : List ℕ) where

@@ -1,5 +1,5 @@
-//! What is done to the medium of a drive beside its host's calls: a block of it fails, is worn, or a cut of the power is
-//! armed.
+//! What is done to the medium of a drive beside its host's calls, in whatever state it is: a block of it fails, is worn, or a
+//! cut of the power is armed.
 
 ghost use Rattle.std.specs.Prelude.{◌≡◌, ◌≤◌};
 ghost use Rattle.model_geometry.specs.Geometry.{total};
@@ -7,185 +7,58 @@ ghost use Rattle.model_sectors.specs.Discs.{Standing};
 ghost use Rattle.model_drive.specs.Shown.{StandsFor};
 ghost use Rattle.ram_medium.specs.Control.{Fails, Arms, WearRule, with_armed_cut};
 ghost use Rattle.ram_volume.specs.Control.{KeepsMemory, FailOnDrive, FailStands};
-ghost use Rattle.ram_volume.specs.Shown.{shown_off, shown_bare, shown_ready, shown_state, medium_under};
+ghost use Rattle.ram_volume.specs.Shown.{shown_state, medium_under};
 
 use crate::states::{NotFormatted, PoweredOff, Ready, State};
 use ram_medium::{Arm, FailEnd, Fate, MediumControl};
 
-impl<M: MediumControl> PoweredOff<M> {
-    /// Makes the block of the medium of this number, counted from 0, dead: `Done`. There is no such block, and nothing
-    /// changed: `NoBlock`. What the medium lies on failed, and counted it: `Failed`. It is no use of the medium. (This
-    /// project's own, as all here.)
-    pub fn fail(&mut self, block: u32) -> FailEnd
-        ensures rule { FailOnDrive (shown_off self.old) (shown_off self.new) block result }
-        ensures told { M.was_told self.old.medium self.new.medium (Fails block result) }
-        ensures stands { (s : Standing) → StandsFor (shown_off self.old) s
-            → FailStands (shown_off self.new) s result }
-    {
-        match self.medium.fail(block) {
-            FailEnd::Done => FailEnd::Done,
-            FailEnd::NoBlock { blocks } => FailEnd::NoBlock { blocks },
-            FailEnd::Failed => FailEnd::Failed,
-        }
-    }
-
-    /// Makes the block of the medium of this number dead at its `n`-th use from now on, the next one being the first:
-    /// `Set`. There is no such block: `NoBlock`. As many arms stand as can, 64: `Full`.
-    pub fn wear(&mut self, block: u32, n: u32) -> Arm
-        requires { 1 ≤ n }
-        ensures rule { WearRule (total (shown_off self.old).shape) (shown_off self.old).medium
-            (shown_off self.new).medium (record { block = block; left = n }) result }
-        ensures told { M.was_told self.old.medium self.new.medium Arms }
-        ensures keeps { KeepsMemory (shown_off self.old) (shown_off self.new) }
-        ensures stands { (s : Standing) → StandsFor (shown_off self.old) s
-            → StandsFor (shown_off self.new) s }
-    {
-        self.medium.wear(block, n)
-    }
-
-    /// Cuts the power at the `n`-th use of any block from now on, the next one being the first, with this fate of a write
-    /// that is cut then. It takes the place of a cut that was armed.
-    pub fn arm_cut(&mut self, n: u32, fate: Fate)
-        requires { 1 ≤ n }
-        ensures rule { (shown_off self.new).medium ≡ with_armed_cut n fate (shown_off self.old).medium }
-        ensures told { M.was_told self.old.medium self.new.medium Arms }
-        ensures keeps { KeepsMemory (shown_off self.old) (shown_off self.new) }
-        ensures stands { (s : Standing) → StandsFor (shown_off self.old) s
-            → StandsFor (shown_off self.new) s }
-    {
-        self.medium.arm_cut(n, fate);
-    }
-}
-
-impl<M: MediumControl> Ready<M> {
-    /// Makes the block of the medium of this number, counted from 0, dead: `Done`. There is no such block, and nothing
-    /// changed: `NoBlock`. The lists in use and the buffer stay in both. What the medium lies on failed, and counted it:
-    /// `Failed`; then the power is off. It is no use of the medium.
-    pub fn fail(mut self, block: u32) -> (State<M>, FailEnd)
-        ensures rule { FailOnDrive (shown_ready self) (shown_state result.0) block result.1 }
-        ensures told { M.was_told self.medium (medium_under result.0) (Fails block result.1) }
-        ensures stands { (s : Standing) → StandsFor (shown_ready self) s
-            → FailStands (shown_state result.0) s result.1 }
-    {
-        match self.medium.fail(block) {
-            FailEnd::Done => (State::Ready(self), FailEnd::Done),
-            FailEnd::NoBlock { blocks } => (State::Ready(self), FailEnd::NoBlock { blocks }),
-            FailEnd::Failed => {
-                let Ready {
-                    medium,
-                    geometry,
-                    lists: _,
-                    workspace: _,
-                } = self;
-                (State::Off(PoweredOff { medium, geometry }), FailEnd::Failed)
-            }
-        }
-    }
-
-    /// Makes the block of the medium of this number dead at its `n`-th use from now on, the next one being the first:
-    /// `Set`. There is no such block: `NoBlock`. As many arms stand as can, 64: `Full`.
-    pub fn wear(&mut self, block: u32, n: u32) -> Arm
-        requires { 1 ≤ n }
-        ensures rule { WearRule (total (shown_ready self.old).shape) (shown_ready self.old).medium
-            (shown_ready self.new).medium (record { block = block; left = n }) result }
-        ensures told { M.was_told self.old.medium self.new.medium Arms }
-        ensures keeps { KeepsMemory (shown_ready self.old) (shown_ready self.new) }
-        ensures stands { (s : Standing) → StandsFor (shown_ready self.old) s
-            → StandsFor (shown_ready self.new) s }
-    {
-        self.medium.wear(block, n)
-    }
-
-    /// Cuts the power at the `n`-th use of any block from now on, the next one being the first, with this fate of a write
-    /// that is cut then. It takes the place of a cut that was armed.
-    pub fn arm_cut(&mut self, n: u32, fate: Fate)
-        requires { 1 ≤ n }
-        ensures rule { (shown_ready self.new).medium ≡ with_armed_cut n fate (shown_ready self.old).medium }
-        ensures told { M.was_told self.old.medium self.new.medium Arms }
-        ensures keeps { KeepsMemory (shown_ready self.old) (shown_ready self.new) }
-        ensures stands { (s : Standing) → StandsFor (shown_ready self.old) s
-            → StandsFor (shown_ready self.new) s }
-    {
-        self.medium.arm_cut(n, fate);
-    }
-}
-
-impl<M: MediumControl> NotFormatted<M> {
-    /// Makes the block of the medium of this number, counted from 0, dead: `Done`. There is no such block, and nothing
-    /// changed: `NoBlock`. What the medium lies on failed, and counted it: `Failed`; then the power is off. It is no use
-    /// of the medium.
-    pub fn fail(mut self, block: u32) -> (State<M>, FailEnd)
-        ensures rule { FailOnDrive (shown_bare self) (shown_state result.0) block result.1 }
-        ensures told { M.was_told self.medium (medium_under result.0) (Fails block result.1) }
-        ensures stands { (s : Standing) → StandsFor (shown_bare self) s
-            → FailStands (shown_state result.0) s result.1 }
-    {
-        match self.medium.fail(block) {
-            FailEnd::Done => (State::NotFormatted(self), FailEnd::Done),
-            FailEnd::NoBlock { blocks } => {
-                (State::NotFormatted(self), FailEnd::NoBlock { blocks })
-            }
-            FailEnd::Failed => {
-                let NotFormatted {
-                    medium,
-                    geometry,
-                    mark: _,
-                    spare_list: _,
-                    workspace: _,
-                } = self;
-                (State::Off(PoweredOff { medium, geometry }), FailEnd::Failed)
-            }
-        }
-    }
-
-    /// Makes the block of the medium of this number dead at its `n`-th use from now on, the next one being the first:
-    /// `Set`. There is no such block: `NoBlock`. As many arms stand as can, 64: `Full`.
-    pub fn wear(&mut self, block: u32, n: u32) -> Arm
-        requires { 1 ≤ n }
-        ensures rule { WearRule (total (shown_bare self.old).shape) (shown_bare self.old).medium
-            (shown_bare self.new).medium (record { block = block; left = n }) result }
-        ensures told { M.was_told self.old.medium self.new.medium Arms }
-        ensures keeps { KeepsMemory (shown_bare self.old) (shown_bare self.new) }
-        ensures stands { (s : Standing) → StandsFor (shown_bare self.old) s
-            → StandsFor (shown_bare self.new) s }
-    {
-        self.medium.wear(block, n)
-    }
-
-    /// Cuts the power at the `n`-th use of any block from now on, the next one being the first, with this fate of a write
-    /// that is cut then. It takes the place of a cut that was armed.
-    pub fn arm_cut(&mut self, n: u32, fate: Fate)
-        requires { 1 ≤ n }
-        ensures rule { (shown_bare self.new).medium ≡ with_armed_cut n fate (shown_bare self.old).medium }
-        ensures told { M.was_told self.old.medium self.new.medium Arms }
-        ensures keeps { KeepsMemory (shown_bare self.old) (shown_bare self.new) }
-        ensures stands { (s : Standing) → StandsFor (shown_bare self.old) s
-            → StandsFor (shown_bare self.new) s }
-    {
-        self.medium.arm_cut(n, fate);
-    }
-}
-
-/// Makes the block of the medium of this number, counted from 0, dead: `Done`. There is no such block, and nothing
-/// changed: `NoBlock`. The state stays in both. What the medium lies on failed, and counted it: `Failed`; then the power
-/// is off. It is no use of the medium.
-pub fn fail_state<M: MediumControl>(state: State<M>, block: u32) -> (State<M>, FailEnd)
-    ensures rule { FailOnDrive (shown_state state) (shown_state result.0) block result.1 }
-    ensures told { M.was_told (medium_under state) (medium_under result.0) (Fails block result.1) }
-    ensures stands { (s : Standing) → StandsFor (shown_state state) s
-        → FailStands (shown_state result.0) s result.1 }
-{
-    match state {
-        State::Off(mut off) => {
-            let end = off.fail(block);
-            (State::Off(off), end)
-        }
-        State::Ready(ready) => ready.fail(block),
-        State::NotFormatted(bare) => bare.fail(block),
-    }
-}
-
 impl<M: MediumControl> State<M> {
+    /// Makes the block of the medium of this number, counted from 0, dead: `Done`. There is no such block, and nothing
+    /// changed: `NoBlock`. The state stays in both. What the medium lies on failed, and counted it: `Failed`; then the power
+    /// is off. It is no use of the medium. (This project's own, as all here.)
+    pub fn fail(self, block: u32) -> (State<M>, FailEnd)
+        ensures rule { FailOnDrive (shown_state self) (shown_state result.0) block result.1 }
+        ensures told { M.was_told (medium_under self) (medium_under result.0) (Fails block result.1) }
+        ensures stands { (s : Standing) → StandsFor (shown_state self) s
+            → FailStands (shown_state result.0) s result.1 }
+    {
+        match self {
+            State::Off(mut off) => {
+                let end = off.medium.fail(block);
+                (State::Off(off), end)
+            }
+            State::Ready(mut ready) => match ready.medium.fail(block) {
+                FailEnd::Done => (State::Ready(ready), FailEnd::Done),
+                FailEnd::NoBlock { blocks } => (State::Ready(ready), FailEnd::NoBlock { blocks }),
+                FailEnd::Failed => {
+                    let Ready {
+                        medium,
+                        geometry,
+                        lists: _,
+                        workspace: _,
+                    } = ready;
+                    (State::Off(PoweredOff { medium, geometry }), FailEnd::Failed)
+                }
+            },
+            State::NotFormatted(mut bare) => match bare.medium.fail(block) {
+                FailEnd::Done => (State::NotFormatted(bare), FailEnd::Done),
+                FailEnd::NoBlock { blocks } => {
+                    (State::NotFormatted(bare), FailEnd::NoBlock { blocks })
+                }
+                FailEnd::Failed => {
+                    let NotFormatted {
+                        medium,
+                        geometry,
+                        mark: _,
+                        spare_list: _,
+                        workspace: _,
+                    } = bare;
+                    (State::Off(PoweredOff { medium, geometry }), FailEnd::Failed)
+                }
+            },
+        }
+    }
+
     /// Makes the block of the medium of this number dead at its `n`-th use from now on, the next one being the first:
     /// `Set`. There is no such block: `NoBlock`. As many arms stand as can, 64: `Full`.
     pub fn wear(&mut self, block: u32, n: u32) -> Arm
@@ -198,9 +71,9 @@ impl<M: MediumControl> State<M> {
             → StandsFor (shown_state self.new) s }
     {
         match self {
-            State::Off(off) => off.wear(block, n),
-            State::Ready(ready) => ready.wear(block, n),
-            State::NotFormatted(bare) => bare.wear(block, n),
+            State::Off(off) => off.medium.wear(block, n),
+            State::Ready(ready) => ready.medium.wear(block, n),
+            State::NotFormatted(bare) => bare.medium.wear(block, n),
         }
     }
 
@@ -215,9 +88,9 @@ impl<M: MediumControl> State<M> {
             → StandsFor (shown_state self.new) s }
     {
         match self {
-            State::Off(off) => off.arm_cut(n, fate),
-            State::Ready(ready) => ready.arm_cut(n, fate),
-            State::NotFormatted(bare) => bare.arm_cut(n, fate),
+            State::Off(off) => off.medium.arm_cut(n, fate),
+            State::Ready(ready) => ready.medium.arm_cut(n, fate),
+            State::NotFormatted(bare) => bare.medium.arm_cut(n, fate),
         }
     }
 }

@@ -6,10 +6,10 @@ ghost use Rattle.model_drive.specs.Expands.{ExpandCause, ExpandCompletes};
 ghost use Rattle.ram_volume.specs.Shown.{shown_ready, shown_state, medium_under};
 ghost use Rattle.ram_volume.specs.Expanding.{ExpandSteps};
 
-use crate::memory::lay_out;
-use crate::states::{PoweredOff, Ready, State};
+use crate::states::{Ready, State};
+use crate::stops::turned_off;
 use ram_expand::{Grown, grow};
-use ram_medium::{MediumControl, Stop};
+use ram_medium::MediumControl;
 use ram_sectors::ExpandOut;
 
 impl<M: MediumControl> Ready<M> {
@@ -46,21 +46,17 @@ impl<M: MediumControl> Ready<M> {
             mut lists,
             mut workspace,
         } = self;
+        let work = &mut workspace;
         match grow(
             &mut medium,
             &geometry,
             &mut lists,
-            &mut workspace.draft,
+            &mut work.draft,
             capacity,
-            &mut workspace.scratch,
+            &mut work.scratch,
         ) {
             Ok(Grown::Good) => {
-                lay_out(
-                    &mut workspace.layout,
-                    &mut workspace.cursors,
-                    &geometry,
-                    &lists,
-                );
+                workspace.lay_out(&geometry, &lists);
                 let ready = Ready::over(medium, geometry, lists, workspace);
                 (State::Ready(ready), ExpandOut::Good)
             }
@@ -78,12 +74,7 @@ impl<M: MediumControl> Ready<M> {
                 let ready = Ready::over(medium, geometry, lists, workspace);
                 (State::Ready(ready), ExpandOut::NoUpdate { counter })
             }
-            Err(Stop::Cut) => (State::Off(PoweredOff { medium, geometry }), ExpandOut::Cut),
-            Err(Stop::Off) => unreachable!(),
-            Err(Stop::Fault) => (
-                State::Off(PoweredOff { medium, geometry }),
-                ExpandOut::Fault,
-            ),
+            Err(stop) => turned_off(medium, geometry, stop),
         }
     }
 }

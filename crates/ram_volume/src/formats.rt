@@ -18,11 +18,12 @@ ghost use Rattle.ram_volume.specs.Shown.{shown_bare, shown_ready, shown_state, s
 ghost use Rattle.ram_volume.specs.Formats.{FormatSteps};
 ghost use Rattle.ram_volume.specs.Layouts.{IsLaidOut};
 
-use crate::memory::{Workspace, lay_out};
-use crate::states::{NotFormatted, PoweredOff, Ready, State};
+use crate::memory::Workspace;
+use crate::states::{NotFormatted, Ready, State};
+use crate::stops::turned_off;
 use ram_format::{FormatHalt, format_lists, kept_entries, repair_lists};
 use ram_lists::Lists;
-use ram_medium::{MediumControl, Stop};
+use ram_medium::MediumControl;
 use ram_sdl::Sdl;
 use ram_sectors::{FormatOut, Kind};
 use ram_zones::Geometry;
@@ -42,7 +43,6 @@ impl<M: MediumControl> NotFormatted<M> {
         requires bare { GivesNone geometry (M.world medium).cells }
         requires marked { AreMarkedWithin geometry (M.world medium).cells mark }
         requires spare_roomy { SDL_LIMIT ≤ spare_list.entries.room }
-        requires draft_roomy { SDL_LIMIT ≤ workspace.draft.entries.room }
         requires layout_roomy { geometry.zones + geometry.psa ≤ workspace.layout.room }
         requires one_each { length workspace.cursors ≡ 1 }
         ensures shown { shown_bare result ≡ shown_unformatted geometry
@@ -91,12 +91,7 @@ impl<M: MediumControl> NotFormatted<M> {
         let scratch = &mut workspace.scratch;
         match format_lists(alloc, &mut medium, &geometry, &[], true, mark, scratch) {
             Ok(lists) => {
-                lay_out(
-                    &mut workspace.layout,
-                    &mut workspace.cursors,
-                    &geometry,
-                    &lists,
-                );
+                workspace.lay_out(&geometry, &lists);
                 let ready = Ready::over(medium, geometry, lists, workspace);
                 (State::Ready(ready), FormatOut::Good)
             }
@@ -115,15 +110,7 @@ impl<M: MediumControl> NotFormatted<M> {
                 let bare = Self::over(medium, geometry, mark, list, workspace);
                 (State::NotFormatted(bare), FormatOut::NoUpdate { counter })
             }
-            Err(FormatHalt::Stopped { stop: Stop::Cut }) => (
-                State::Off(PoweredOff { medium, geometry }),
-                FormatOut::Cut,
-            ),
-            Err(FormatHalt::Stopped { stop: Stop::Off }) => unreachable!(),
-            Err(FormatHalt::Stopped { stop: Stop::Fault }) => (
-                State::Off(PoweredOff { medium, geometry }),
-                FormatOut::Fault,
-            ),
+            Err(FormatHalt::Stopped { stop }) => turned_off(medium, geometry, stop),
             Err(FormatHalt::NoMemory) => {
                 let bare = Self::over(medium, geometry, mark, list, workspace);
                 (State::NotFormatted(bare), FormatOut::NoMemory)
@@ -147,7 +134,6 @@ impl<M: MediumControl> Ready<M> {
         requires lawful_dds { IsLawfulDds (dds_of lists.dds) }
         requires lawful_sdl { IsLawfulSdl (sdl_of lists.sdl) }
         requires roomy { SDL_LIMIT ≤ lists.sdl.entries.room }
-        requires draft_roomy { SDL_LIMIT ≤ workspace.draft.entries.room }
         requires laid_out { IsLaidOut geometry (lists_of lists) workspace.layout workspace.cursors }
         ensures shown { shown_ready result ≡ shown_under geometry
             (machine_shown M.world M.arms M.armed_cut medium) (lists_of lists) [] }
@@ -199,18 +185,12 @@ impl<M: MediumControl> Ready<M> {
         let scratch = &mut workspace.scratch;
         match format_lists(alloc, &mut medium, &geometry, &kept, false, mark, scratch) {
             Ok(lists) => {
-                lay_out(
-                    &mut workspace.layout,
-                    &mut workspace.cursors,
-                    &geometry,
-                    &lists,
-                );
+                workspace.lay_out(&geometry, &lists);
                 let ready = Ready::over(medium, geometry, lists, workspace);
                 (State::Ready(ready), FormatOut::Good)
             }
             Err(FormatHalt::TooMany { found, mark }) => {
-                let Lists { dds: _, sdl: list } = lists;
-                let bare = NotFormatted::over(medium, geometry, mark, list, workspace);
+                let bare = NotFormatted::over(medium, geometry, mark, lists.sdl, workspace);
                 (State::NotFormatted(bare), FormatOut::TooMany { found })
             }
             Err(FormatHalt::NoRoom { mark }) => {
@@ -223,19 +203,10 @@ impl<M: MediumControl> Ready<M> {
                 (State::Ready(ready), FormatOut::NoUpdate { counter: mark })
             }
             Err(FormatHalt::NoCopy { counter, mark }) => {
-                let Lists { dds: _, sdl: list } = lists;
-                let bare = NotFormatted::over(medium, geometry, mark, list, workspace);
+                let bare = NotFormatted::over(medium, geometry, mark, lists.sdl, workspace);
                 (State::NotFormatted(bare), FormatOut::NoUpdate { counter })
             }
-            Err(FormatHalt::Stopped { stop: Stop::Cut }) => (
-                State::Off(PoweredOff { medium, geometry }),
-                FormatOut::Cut,
-            ),
-            Err(FormatHalt::Stopped { stop: Stop::Off }) => unreachable!(),
-            Err(FormatHalt::Stopped { stop: Stop::Fault }) => (
-                State::Off(PoweredOff { medium, geometry }),
-                FormatOut::Fault,
-            ),
+            Err(FormatHalt::Stopped { stop }) => turned_off(medium, geometry, stop),
             Err(FormatHalt::NoMemory) => {
                 let ready = Ready {
                     medium,
@@ -270,12 +241,7 @@ impl<M: MediumControl> Ready<M> {
                 let ready = Ready::over(medium, geometry, lists, workspace);
                 (State::Ready(ready), FormatOut::NoUpdate { counter })
             }
-            Err(Stop::Cut) => (State::Off(PoweredOff { medium, geometry }), FormatOut::Cut),
-            Err(Stop::Off) => unreachable!(),
-            Err(Stop::Fault) => (
-                State::Off(PoweredOff { medium, geometry }),
-                FormatOut::Fault,
-            ),
+            Err(stop) => turned_off(medium, geometry, stop),
         }
     }
 }

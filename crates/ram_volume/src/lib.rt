@@ -14,12 +14,12 @@ mod memory;
 mod power;
 mod reading;
 mod states;
+mod stops;
 mod telling;
 mod verifying;
 mod volume;
 mod writing;
 
-pub use control::fail_state;
 pub use laws::what_a_state_shows_is_sound;
 pub use states::{NotFormatted, PowerOn, PoweredOff, Ready, State};
 pub use volume::Volume;

@@ -27,12 +27,15 @@ pub struct Workspace {
     pub buffer: BlockBuffer,
     /// The scratch block, in which a block is read and merged.
     pub block: Block,
-    /// Room for the copies of a list, and for what is read back.
+    /// What was read back of the block that was written last.
+    pub back: Block,
+    /// Room for the copies of a list.
     pub scratch: Scratch,
     /// Where logical blocks and spares lie.
     pub layout: SlipLayout,
     /// How far the spares are known to be used.
     pub cursors: Cursors,
+    ghost draft_roomy: { SDL_LIMIT ≤ draft.entries.room },
 }
 
 /// All memory that a drive with its power on works with.
@@ -44,7 +47,6 @@ pub struct Memory {
     pub list: Sdl,
     pub workspace: Workspace,
     ghost list_roomy: { SDL_LIMIT ≤ list.entries.room },
-    ghost draft_roomy: { SDL_LIMIT ≤ workspace.draft.entries.room },
     ghost unbuffered: { workspace.buffer ≡ [] },
     ghost layout_roomy: { geometry.zones + geometry.psa ≤ workspace.layout.room },
     ghost one_each: { length workspace.cursors ≡ 1 },
@@ -79,16 +81,18 @@ fn roomy_layout(alloc: Global, geometry: &Geometry) -> Result<SlipLayout, AllocE
     SlipLayout::new(alloc, geometry, &dds, 0)
 }
 
-/// Makes the layout that of a disc with these lists, with each cursor at the first spare. It takes no memory.
-pub fn lay_out(layout: &mut SlipLayout, cursors: &mut Cursors, geometry: &Geometry, lists: &Lists)
-    requires valid { AreValid geometry.now (lists_of lists.now) }
-    requires room { geometry.now.zones + geometry.now.psa ≤ layout.old.room }
-    requires one_each { length cursors.old ≡ 1 }
-    ensures laid_out { IsLaidOut geometry.now (lists_of lists.now) layout.new cursors.new }
-    ensures one_each { length cursors.new ≡ 1 }
-{
-    layout.rebuild(geometry, &lists.dds, lists.sdl.ssa);
-    cursors.reset();
+impl Workspace {
+    /// Makes the layout that of a disc with these lists, with each cursor at the first spare. It takes no memory.
+    pub fn lay_out(&mut self, geometry: &Geometry, lists: &Lists)
+        requires valid { AreValid geometry.now (lists_of lists.now) }
+        requires room { geometry.now.zones + geometry.now.psa ≤ self.old.layout.room }
+        requires one_each { length self.old.cursors ≡ 1 }
+        ensures laid_out { IsLaidOut geometry.now (lists_of lists.now) self.new.layout self.new.cursors }
+        ensures same_buffer { self.new.buffer ≡ self.old.buffer }
+    {
+        self.layout.rebuild(geometry, &lists.dds, lists.sdl.ssa);
+        self.cursors.reset();
+    }
 }
 
 impl Memory {
@@ -103,6 +107,7 @@ impl Memory {
                 draft: roomy_list(alloc)?,
                 buffer: BlockBuffer::new(alloc)?,
                 block: Block::zeros(alloc)?,
+                back: Block::zeros(alloc)?,
                 scratch: Scratch::new(alloc)?,
                 layout: roomy_layout(alloc, geometry)?,
                 cursors: Cursors::new(alloc, 1)?,

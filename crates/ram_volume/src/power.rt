@@ -9,7 +9,7 @@ ghost use Rattle.model_drive.specs.Power.{PowerCause};
 ghost use Rattle.ram_volume.specs.Shown.{shown_off, shown_bare, shown_ready};
 ghost use Rattle.ram_volume.specs.Powers.{turned_off, shown_after, medium_after, power_out, PowerSteps};
 
-use crate::memory::{Memory, lay_out};
+use crate::memory::Memory;
 use crate::states::{NotFormatted, PowerOn, PoweredOff, Ready};
 use ram_copies::Halt;
 use ram_lists::{Found, Lists, mount_lists};
@@ -41,12 +41,7 @@ impl<M: MediumControl> PoweredOff<M> {
         match mount_lists(alloc, &mut medium, &geometry, &mut workspace.scratch) {
             Ok(Found::Lists { lists }) => {
                 list.copy_from(&lists.sdl);
-                lay_out(
-                    &mut workspace.layout,
-                    &mut workspace.cursors,
-                    &geometry,
-                    &lists,
-                );
+                workspace.lay_out(&geometry, &lists);
                 PowerOn::Ready(Ready {
                     medium,
                     geometry,

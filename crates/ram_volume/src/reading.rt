@@ -18,7 +18,8 @@ ghost use Rattle.ram_volume.specs.Reading.{ReadsPart, IsLong, MayPass, PutsNewes
 ghost use Rattle.ram_volume.specs.Shown.{shown_ready, shown_state, medium_under};
 
 use crate::homes::home;
-use crate::states::{PoweredOff, Ready, State};
+use crate::states::{Ready, State};
+use crate::stops::turned_off;
 use model_sectors::ReadOut;
 use ram_buffer::{BUFFERED_BLOCKS, BlockBuffer};
 use ram_bytes::{BLOCK_BYTES, Block};
@@ -222,13 +223,14 @@ impl<M: MediumControl> Ready<M> {
             lists,
             mut workspace,
         } = self;
+        let work = &mut workspace;
         match read_parts(
             &mut medium,
             &geometry,
-            &workspace.layout,
+            &work.layout,
             &lists,
-            &mut workspace.buffer,
-            &mut workspace.block,
+            &mut work.buffer,
+            &mut work.block,
             request,
             into,
         ) {
@@ -242,9 +244,7 @@ impl<M: MediumControl> Ready<M> {
                 };
                 (State::Ready(ready), out)
             }
-            Err(Stop::Cut) => (State::Off(PoweredOff { medium, geometry }), ReadOut::Cut),
-            Err(Stop::Off) => unreachable!(),
-            Err(Stop::Fault) => (State::Off(PoweredOff { medium, geometry }), ReadOut::Fault),
+            Err(stop) => turned_off(medium, geometry, stop),
         }
     }
 

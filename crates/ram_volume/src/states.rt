@@ -48,7 +48,6 @@ pub struct Ready<M: MediumControl> {
     ghost lawful_dds: { IsLawfulDds (dds_of lists.dds) } by { lawful_dds-prop (dds_of lists.dds) },
     ghost lawful_sdl: { IsLawfulSdl (sdl_of lists.sdl) } by { Prim.hlevel props },
     ghost roomy: { SDL_LIMIT ≤ lists.sdl.entries.room },
-    ghost draft_roomy: { SDL_LIMIT ≤ workspace.draft.entries.room },
     ghost laid_out: { IsLaidOut geometry (lists_of lists) workspace.layout workspace.cursors } by { laid_out-prop _ _ _ _ },
 }
 
@@ -68,7 +67,6 @@ pub struct NotFormatted<M: MediumControl> {
     ghost marked: { AreMarkedWithin geometry (M.world medium).cells mark } by { Prim.hlevel props },
     ghost unbuffered: { workspace.buffer ≡ [] } by { Prim.hlevel props },
     ghost spare_roomy: { SDL_LIMIT ≤ spare_list.entries.room },
-    ghost draft_roomy: { SDL_LIMIT ≤ workspace.draft.entries.room },
     ghost layout_roomy: { geometry.zones + geometry.psa ≤ workspace.layout.room },
     ghost one_each: { length workspace.cursors ≡ 1 },
 }

@@ -15,7 +15,8 @@ ghost use Rattle.ram_volume.specs.Shown.{shown_ready, shown_state, medium_under}
 
 use crate::homes::home;
 use crate::reading::ended_at;
-use crate::states::{PoweredOff, Ready, State};
+use crate::states::{Ready, State};
+use crate::stops::turned_off;
 use ram_bytes::Block;
 use ram_layout::SlipLayout;
 use ram_lists::Lists;
@@ -67,8 +68,8 @@ impl<M: MediumControl> Ready<M> {
             lists,
             mut workspace,
         } = self;
-        let layout = &workspace.layout;
-        let block = &mut workspace.block;
+        let work = &mut workspace;
+        let (layout, block) = (&work.layout, &mut work.block);
         match read_homes(&mut medium, &geometry, layout, &lists, block, request) {
             Ok(met) => {
                 let out = ended_at(&geometry, &workspace.layout, &lists, request, met);
@@ -80,9 +81,7 @@ impl<M: MediumControl> Ready<M> {
                 };
                 (State::Ready(ready), out)
             }
-            Err(Stop::Cut) => (State::Off(PoweredOff { medium, geometry }), ReadOut::Cut),
-            Err(Stop::Off) => unreachable!(),
-            Err(Stop::Fault) => (State::Off(PoweredOff { medium, geometry }), ReadOut::Fault),
+            Err(stop) => turned_off(medium, geometry, stop),
         }
     }
 

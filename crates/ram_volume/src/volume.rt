@@ -7,7 +7,6 @@ ghost use Rattle.ram_volume.specs.Volume.{StandsForSome, shown_in};
 use crate::calls::{
     expand_state, format_state, power_state, read_state, verify_state, write_state,
 };
-use crate::control::fail_state;
 use crate::holding::{put_in, take_out};
 use crate::states::{PoweredOff, State};
 use ram_bytes::Block;
@@ -58,7 +57,7 @@ impl<M: MediumControl> Volume<M> {
         ensures stands { (s : Standing) → StandsFor (shown_by self.old) s → FailStands (shown_by self.new) s result }
     {
         let state = take_out(&mut self.state);
-        let (state, end) = fail_state(state, block);
+        let (state, end) = state.fail(block);
         put_in(&mut self.state, state);
         end
     }

@@ -1,12 +1,13 @@
 //! Writes of sectors, one logical block after another, with linear replacement. A block that a request covers in part is
 //! read, modified and written.
 
-ghost use Rattle.std.specs.Prelude.{◌≡◌, ◌+◌, ◌*◌, ◌<◌, ◌≤◌, IsTrue, MatchResult, length};
+ghost use Rattle.std.specs.Prelude.{◌≡◌, ◌↔◌, ◌+◌, ◌*◌, ◌<◌, ◌≤◌, IsTrue, MatchResult, length};
 ghost use Rattle.model_commands.specs.declared.TheConstants.{TRANSFER_LIMIT};
 ghost use Rattle.model_medium.specs.Happened.{Happened};
 ghost use Rattle.model_places.specs.Places.{logical_count, capacity_of};
 ghost use Rattle.model_volume.specs.Given.{AreSettled};
 ghost use Rattle.model_drive.specs.Shown.{capacity};
+ghost use Rattle.model_drive.specs.declared.WriteOut.TheVariants as outs;
 ghost use Rattle.model_drive.specs.Writes.{WriteCause, WriteCompletes};
 ghost use Rattle.ram_medium.specs.Laws.{machine_shown};
 ghost use Rattle.ram_layout.specs.Slipping.{slip_pools};
@@ -18,7 +19,8 @@ ghost use Rattle.ram_volume.specs.Writing.{BringsRest, RestStopped, WritesPart, 
 use crate::fetching::read_home;
 use crate::homes::home;
 use crate::memory::Workspace;
-use crate::states::{PoweredOff, Ready, State};
+use crate::states::{Ready, State};
+use crate::stops::turned_off;
 use model_drive::WriteOut;
 use ram_buffer::BlockBuffer;
 use ram_bytes::Block;
@@ -27,19 +29,6 @@ use ram_medium::{Medium, MediumControl, Stop};
 use ram_replace::{Outcome, place_block};
 use ram_requests::{Part, Request};
 use ram_zones::Geometry;
-
-/// How the write of a part of a request ended that was not stopped.
-#[derive(Clone, Copy)]
-pub enum Wrote {
-    /// The home of its block has it: the one that it had, or a spare.
-    Done,
-    /// The rest of its block cannot be read.
-    NoRest,
-    /// The home of its block is dead, and so are all free spares.
-    NoSpare,
-    /// The home is dead, a spare has it, and the secondary list could not be updated.
-    NoUpdate { counter: u32 },
-}
 
 /// Reads a block, out of the buffer or from its home, where a request covers it in part. Whether the block can be written.
 fn fetch_rest<M: Medium>(
@@ -66,7 +55,7 @@ fn fetch_rest<M: Medium>(
     read_home(medium, buffer, block, part.block, place)
 }
 
-/// Writes a part of a request, and buffers its block once its home has it.
+/// Writes a part of a request, and buffers its block once its home has it. The answer is that of a write of this part alone.
 fn write_part<M: Medium>(
     medium: &mut M,
     geometry: &Geometry,
@@ -74,9 +63,9 @@ fn write_part<M: Medium>(
     workspace: &mut Workspace,
     part: Part,
     from: &[u8],
-) -> Result<Wrote, Stop>
+) -> Result<WriteOut, Stop>
     requires fit { IsFit geometry.now (M.block_count medium.old) (slip_pools workspace.old.layout) workspace.old.cursors
-        lists.old workspace.old.draft }
+        lists.old }
     requires on { IsTrue (M.world medium.old).power }
     requires settled { AreSettled geometry.now (M.world medium.old).cells (lists_of lists.old) }
     requires inside { part.block < logical_count geometry.now (lists_of lists.old) }
@@ -87,7 +76,7 @@ fn write_part<M: Medium>(
         (PartStops M.world M.reaches geometry.now medium.old medium.new (lists_of lists.old)
         workspace.old.buffer part.request.lba part.request.n part.block from.now) }
     ensures fit { IsFit geometry.now (M.block_count medium.new) (slip_pools workspace.new.layout) workspace.new.cursors
-        lists.new workspace.new.draft }
+        lists.new }
     ensures same_layout { workspace.new.layout ≡ workspace.old.layout }
 {
     let place = home(geometry, &workspace.layout, lists, part.block);
@@ -95,25 +84,36 @@ fn write_part<M: Medium>(
         draft,
         buffer,
         block,
+        back,
         scratch,
         layout,
         cursors,
     } = workspace;
     if !fetch_rest(medium, buffer, block, part, place)? {
-        return Ok(Wrote::NoRest);
+        return Ok(WriteOut::Unread {
+            lba: part.start,
+            block: place,
+        });
     }
     let bytes = part.merged(from, block);
     let placed = place_block(
-        medium, geometry, layout, cursors, lists, draft, part.block, place, bytes, scratch,
+        medium, geometry, layout, cursors, lists, draft, part.block, place, bytes, back, scratch,
     )?;
     match placed {
         Outcome::Done => {
-            buffer.put(part.block, &mut scratch.room);
-            Ok(Wrote::Done)
+            buffer.put(part.block, back);
+            Ok(WriteOut::Good)
         }
-        Outcome::NoSpare => Ok(Wrote::NoSpare),
-        Outcome::NoUpdate { counter } => Ok(Wrote::NoUpdate { counter }),
+        Outcome::NoSpare => Ok(WriteOut::NoSpare { lba: part.start }),
+        Outcome::NoUpdate { counter } => Ok(WriteOut::NoUpdate { counter }),
     }
+}
+
+/// Whether all that was asked for is written.
+fn is_good(out: WriteOut) -> bool
+    ensures { IsTrue result ↔ (out ≡ outs.Good) }
+{
+    matches!(out, WriteOut::Good)
 }
 
 /// Writes all parts of a request, in order, up to one that is refused.
@@ -126,7 +126,7 @@ fn write_parts<M: MediumControl>(
     from: &[u8],
 ) -> Result<WriteOut, Stop>
     requires fit { IsFit geometry.now (M.block_count medium.old) (slip_pools workspace.old.layout) workspace.old.cursors
-        lists.old workspace.old.draft }
+        lists.old }
     requires on { IsTrue (M.world medium.old).power }
     requires settled { AreSettled geometry.now (M.world medium.old).cells (lists_of lists.old) }
     requires inside { request.lba + request.n ≤ capacity_of geometry.now (lists_of lists.old) }
@@ -140,21 +140,14 @@ fn write_parts<M: MediumControl>(
         request.lba request.n from.now) }
     ensures happened { Happened M.takes medium.old medium.new }
     ensures fit { IsFit geometry.now (M.block_count medium.new) (slip_pools workspace.new.layout) workspace.new.cursors
-        lists.new workspace.new.draft }
+        lists.new }
     ensures same_layout { workspace.new.layout ≡ workspace.old.layout }
 {
     for k in 0..request.blocks() {
         let part = request.part(k);
-        match write_part(medium, geometry, lists, workspace, part, from)? {
-            Wrote::Done => {}
-            Wrote::NoRest => {
-                return Ok(WriteOut::Unread {
-                    lba: part.start,
-                    block: home(geometry, &workspace.layout, lists, part.block),
-                });
-            }
-            Wrote::NoSpare => return Ok(WriteOut::NoSpare { lba: part.start }),
-            Wrote::NoUpdate { counter } => return Ok(WriteOut::NoUpdate { counter }),
+        let out = write_part(medium, geometry, lists, workspace, part, from)?;
+        if !is_good(out) {
+            return Ok(out);
         }
     }
     Ok(WriteOut::Good)
@@ -193,9 +186,7 @@ impl<M: MediumControl> Ready<M> {
                 };
                 (State::Ready(ready), out)
             }
-            Err(Stop::Cut) => (State::Off(PoweredOff { medium, geometry }), WriteOut::Cut),
-            Err(Stop::Off) => unreachable!(),
-            Err(Stop::Fault) => (State::Off(PoweredOff { medium, geometry }), WriteOut::Fault),
+            Err(stop) => turned_off(medium, geometry, stop),
         }
     }
 

@@ -21,7 +21,7 @@ returns-in-Done-clause-rule g c = record {
   full = c.merged-bytes.ensures.len;
   then_did = record {
     puts = (rw (c.in-Done.is, c.merged-bytes.ensures.merged) at c.in_ok-placed.ensures.rule).puts;
-    back = c.place_block.new.scratch.room;
+    back = c.place_block.new.back;
     buffer_is = c.put.ensures;
     as_put = rw (c.in-Done.is, c.merged-bytes.ensures.merged) at c.in_ok-placed.ensures.back;
   };

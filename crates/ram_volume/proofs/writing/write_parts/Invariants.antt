@@ -11,7 +11,7 @@ abbrev pub invariant-loop-k : goal.invariant-loop-k
 invariant-loop-k g l = record {
   so_far : WroteSome l.geometry (machine_shown g.M.Medium.world g.M.MediumControl.arms g.M.MediumControl.armed_cut l.fn.medium) (machine_shown g.M.Medium.world g.M.MediumControl.arms g.M.MediumControl.armed_cut l.medium)
       (lists_of l.fn.lists) (lists_of l.lists) l.fn.workspace.buffer l.workspace.buffer l.request.lba l.request.n l.from l.k;
-  fit : IsFit l.geometry (g.M.Medium.block_count l.medium) (slip_pools l.workspace.layout) l.workspace.cursors l.lists l.workspace.draft;
+  fit : IsFit l.geometry (g.M.Medium.block_count l.medium) (slip_pools l.workspace.layout) l.workspace.cursors l.lists;
   same_layout : l.workspace.layout ≡ l.fn.workspace.layout;
   happened : Happened g.M.Medium.takes l.fn.medium l.medium;
 }

@@ -7,11 +7,10 @@ use Rattle.model_volume.specs.Given.{GivesNone}
 use Rattle.ram_lists.specs.Lists.{lists_of}
 use Rattle.ram_volume.specs.Shown.{shown_bare}
 use Rattle.ram_volume.specs.Formats.{FormatSteps}
-use Rattle.ram_volume.proofs.FormatAnswers.{bare_good, bare_good_steps, bare_many, bare_lost, lost_leaves, bare_cut, bare_fault, bare_cut_steps, bare_fault_steps}
+use Rattle.ram_volume.proofs.FormatAnswers.{bare_good, bare_good_steps, bare_many, bare_lost, lost_leaves, bare_stopped}
 use Rattle.model_medium.specs.Happened.{Happened}
 use Rattle.std.proofs.Common.{inl, inr}
 use Rattle.ram_medium.proofs.Parts.{nothing_happened, part_happened, stop_happened}
-use Rattle.model_stops.specs.declared.Stop.TheVariants as stops
 use Rattle.ram_volume.proofs.states.NotFormatted.format_anew.Goals as goal
 
 pub over-bare-requires-in-Err-NoRoom-clause-bare : goal.over-bare-requires-in-Err-NoRoom-clause-bare
@@ -46,22 +45,6 @@ returns-in-Err-NoCopy-clause-cause g c =
     subst (λ (x : Shown). FormatCause (shown_bare c.args.self) x c.args.kind (outs.NoUpdate c.in-Err-NoCopy.counter)) (sym c.over-bare-in-Err-NoCopy.ensures.shown)
     (bare_lost g.M.Medium.world g.M.Medium.reaches g.M.Medium.takes g.M.MediumControl.arms g.M.MediumControl.armed_cut g.met.M.MediumControl.control_laws c.args.self.geometry c.args.self.medium c.format_lists.new.medium c.args.self.mark c.args.kind c.in-Err-NoCopy.counter c.in-Err-NoCopy.mark (rw c.in-Err-NoCopy.field-0-is at c.in-Err-NoCopy.ensures.rule))
 
-pub returns-in-Err-Stopped-Cut-clause-cause : goal.returns-in-Err-Stopped-Cut-clause-cause
-returns-in-Err-Stopped-Cut-clause-cause g c =
-    bare_cut g.M.Medium.world g.M.Medium.reaches g.M.Medium.takes g.M.MediumControl.arms g.M.MediumControl.armed_cut g.met.M.MediumControl.control_laws c.args.self.geometry c.args.self.medium c.format_lists.new.medium c.args.self.mark c.args.kind (rw (c.in-Err-Stopped-Cut.field-0-is, c.in-Err-Stopped-Cut.field-0-0-is) at c.in-Err-Stopped-Cut.ensures.rule)
-
-pub returns-in-Err-Stopped-Cut-clause-step : goal.returns-in-Err-Stopped-Cut-clause-step
-returns-in-Err-Stopped-Cut-clause-step g c =
-    bare_cut_steps g.M.Medium.world g.M.Medium.reaches g.M.Medium.takes g.M.MediumControl.arms g.M.MediumControl.armed_cut g.met.M.MediumControl.control_laws c.args.self.geometry c.args.self.medium c.format_lists.new.medium c.args.self.mark c.args.kind (rw (c.in-Err-Stopped-Cut.field-0-is, c.in-Err-Stopped-Cut.field-0-0-is) at c.in-Err-Stopped-Cut.ensures.rule)
-
-pub returns-in-Err-Stopped-Fault-clause-cause : goal.returns-in-Err-Stopped-Fault-clause-cause
-returns-in-Err-Stopped-Fault-clause-cause g c =
-    bare_fault g.M.Medium.world g.M.Medium.reaches g.M.Medium.takes g.M.MediumControl.arms g.M.MediumControl.armed_cut g.met.M.MediumControl.control_laws c.args.self.geometry c.args.self.medium c.format_lists.new.medium c.args.self.mark c.args.kind (rw (c.in-Err-Stopped-Fault.field-0-is, c.in-Err-Stopped-Fault.field-0-0-is) at c.in-Err-Stopped-Fault.ensures.rule)
-
-pub returns-in-Err-Stopped-Fault-clause-step : goal.returns-in-Err-Stopped-Fault-clause-step
-returns-in-Err-Stopped-Fault-clause-step g c =
-    bare_fault_steps g.M.Medium.world g.M.Medium.reaches g.M.Medium.takes g.M.MediumControl.arms g.M.MediumControl.armed_cut g.met.M.MediumControl.control_laws c.args.self.geometry c.args.self.medium c.format_lists.new.medium c.args.self.mark c.args.kind (rw (c.in-Err-Stopped-Fault.field-0-is, c.in-Err-Stopped-Fault.field-0-0-is) at c.in-Err-Stopped-Fault.ensures.rule)
-
 pub returns-in-Ok-clause-happened : goal.returns-in-Ok-clause-happened
 returns-in-Ok-clause-happened g c =
     subst (Happened g.M.Medium.takes c.args.self.medium) (sym c.over-ready.ensures.medium)
@@ -83,20 +66,25 @@ returns-in-Err-NoCopy-clause-happened g c =
       ]
     ])
 
-pub returns-in-Err-Stopped-Cut-clause-happened : goal.returns-in-Err-Stopped-Cut-clause-happened
-returns-in-Err-Stopped-Cut-clause-happened g c =
-    stop_happened g.M.Medium.world g.M.Medium.reaches g.M.Medium.takes g.met.M.Medium.happened c.args.self.medium c.format_lists.new.medium _ stops.Cut c.args.self.on (rw (c.in-Err-Stopped-Cut.field-0-is, c.in-Err-Stopped-Cut.field-0-0-is) at c.in-Err-Stopped-Cut.ensures.rule).stops
-
-pub returns-in-Err-Stopped-Fault-clause-happened : goal.returns-in-Err-Stopped-Fault-clause-happened
-returns-in-Err-Stopped-Fault-clause-happened g c =
-    stop_happened g.M.Medium.world g.M.Medium.reaches g.M.Medium.takes g.met.M.Medium.happened c.args.self.medium c.format_lists.new.medium _ stops.Fault c.args.self.on (rw (c.in-Err-Stopped-Fault.field-0-is, c.in-Err-Stopped-Fault.field-0-0-is) at c.in-Err-Stopped-Fault.ensures.rule).stops
-
 pub returns-in-Err-NoRoom-clause-happened : goal.returns-in-Err-NoRoom-clause-happened
 returns-in-Err-NoRoom-clause-happened g c =
     subst (Happened g.M.Medium.takes c.args.self.medium) (sym c.over-bare-in-Err-NoRoom.ensures.medium)
     (nothing_happened g.M.Medium.world g.M.Medium.reaches g.M.Medium.takes g.met.M.Medium.happened c.args.self.medium c.format_lists.new.medium (rw c.in-Err-NoRoom.field-0-is at c.in-Err-NoRoom.ensures.rule).nothing)
 
-pub returns-clause-happened : goal.returns-clause-happened
-returns-clause-happened g c =
+pub returns-in-Err-NoMemory-clause-happened : goal.returns-in-Err-NoMemory-clause-happened
+returns-in-Err-NoMemory-clause-happened g c =
     subst (Happened g.M.Medium.takes c.args.self.medium) (sym c.over-bare-in-Err-NoMemory.ensures.medium)
     (nothing_happened g.M.Medium.world g.M.Medium.reaches g.M.Medium.takes g.met.M.Medium.happened c.args.self.medium c.format_lists.new.medium (rw c.in-Err-NoMemory.field-0-is at c.in-Err-NoMemory.ensures.rule).nothing)
+
+pub returns-in-Err-Stopped-clause-cause : goal.returns-in-Err-Stopped-clause-cause
+returns-in-Err-Stopped-clause-cause g c =
+    rw (c.turned_off.ensures.state, c.turned_off.ensures.answer) (bare_stopped g.M.Medium.world g.M.Medium.reaches g.M.Medium.takes g.M.MediumControl.arms g.M.MediumControl.armed_cut g.met.M.MediumControl.control_laws c.args.self.geometry c.args.self.medium c.format_lists.new.medium c.args.self.mark c.args.kind c.in-Err-Stopped.stop c.args.self.on (rw c.in-Err-Stopped.field-0-is at c.in-Err-Stopped.ensures.rule)).0
+
+pub returns-in-Err-Stopped-clause-step : goal.returns-in-Err-Stopped-clause-step
+returns-in-Err-Stopped-clause-step g c =
+    rw (c.turned_off.ensures.state, c.turned_off.ensures.answer) (bare_stopped g.M.Medium.world g.M.Medium.reaches g.M.Medium.takes g.M.MediumControl.arms g.M.MediumControl.armed_cut g.met.M.MediumControl.control_laws c.args.self.geometry c.args.self.medium c.format_lists.new.medium c.args.self.mark c.args.kind c.in-Err-Stopped.stop c.args.self.on (rw c.in-Err-Stopped.field-0-is at c.in-Err-Stopped.ensures.rule)).1
+
+pub returns-in-Err-Stopped-clause-happened : goal.returns-in-Err-Stopped-clause-happened
+returns-in-Err-Stopped-clause-happened g c =
+    subst (Happened g.M.Medium.takes c.args.self.medium) (sym c.turned_off.ensures.medium)
+    (stop_happened g.M.Medium.world g.M.Medium.reaches g.M.Medium.takes g.met.M.Medium.happened c.args.self.medium c.format_lists.new.medium _ c.in-Err-Stopped.stop c.args.self.on (rw c.in-Err-Stopped.field-0-is at c.in-Err-Stopped.ensures.rule).stops)

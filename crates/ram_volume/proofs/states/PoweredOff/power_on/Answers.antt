@@ -1,3 +1,4 @@
+use Rattle.std.proofs.Common.{◌∙◌}
 use Rattle.model_stops.specs.declared.Stop.TheVariants as stops
 use Rattle.ram_sdl.specs.Sdl.{sdl_of}
 use Rattle.ram_lists.specs.Lists.{lists_of}
@@ -8,12 +9,12 @@ use Rattle.ram_volume.proofs.states.PoweredOff.power_on.Goals as goal
 pub returns-in-Ok-Lists-clause-cause : goal.returns-in-Ok-Lists-clause-cause
 returns-in-Ok-Lists-clause-cause g c =
     mounted_ready g.M.Medium.world g.M.Medium.reaches g.M.Medium.takes g.M.MediumControl.arms g.M.MediumControl.armed_cut g.met.M.MediumControl.control_laws c.args.self.geometry c.args.self.medium c.power_on.new.self c.power_on.ensures.event c.power_on.ensures.power
-    c.mount_lists.new.medium (lists_of c.in-Ok-Lists.lists) (rw c.in-Ok-Lists.field-0-is at c.in-Ok-Lists.ensures.rule) (sdl_of c.copy_from.new.self) c.copy_from.ensures.value c.in-Ok.memory.workspace.buffer c.in-Ok.memory.unbuffered
+    c.mount_lists.new.medium (lists_of c.in-Ok-Lists.lists) (rw c.in-Ok-Lists.field-0-is at c.in-Ok-Lists.ensures.rule) (sdl_of c.copy_from.new.self) c.copy_from.ensures.value c.lay_out.new.self.buffer (c.lay_out.ensures.same_buffer ∙ c.in-Ok.memory.unbuffered)
 
 pub returns-in-Ok-Lists-clause-step : goal.returns-in-Ok-Lists-clause-step
 returns-in-Ok-Lists-clause-step g c =
     ready_steps g.M.Medium.world g.M.Medium.reaches g.M.Medium.takes g.M.MediumControl.arms g.M.MediumControl.armed_cut g.met.M.MediumControl.control_laws c.args.self.geometry c.args.self.medium c.power_on.new.self c.power_on.ensures.event c.power_on.ensures.power
-    c.mount_lists.new.medium (lists_of c.in-Ok-Lists.lists) (rw c.in-Ok-Lists.field-0-is at c.in-Ok-Lists.ensures.rule) (sdl_of c.copy_from.new.self) c.copy_from.ensures.value c.in-Ok.memory.workspace.buffer c.in-Ok.memory.unbuffered
+    c.mount_lists.new.medium (lists_of c.in-Ok-Lists.lists) (rw c.in-Ok-Lists.field-0-is at c.in-Ok-Lists.ensures.rule) (sdl_of c.copy_from.new.self) c.copy_from.ensures.value c.lay_out.new.self.buffer (c.lay_out.ensures.same_buffer ∙ c.in-Ok.memory.unbuffered)
 
 pub returns-in-Ok-Bare-clause-cause : goal.returns-in-Ok-Bare-clause-cause
 returns-in-Ok-Bare-clause-cause g c =

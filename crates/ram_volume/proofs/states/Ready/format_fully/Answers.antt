@@ -9,11 +9,10 @@ use Rattle.ram_lists.specs.Lists.{lists_of}
 use Rattle.ram_format.proofs.Keeps.{are_apart, are_kept}
 use Rattle.ram_volume.specs.Shown.{shown_ready}
 use Rattle.ram_volume.specs.Formats.{FormatSteps}
-use Rattle.ram_volume.proofs.FormatAnswers.{full_good, full_good_steps, full_many, full_many_steps, full_lost, full_lost_steps, lost_leaves, full_cut, full_fault, full_cut_steps, full_fault_steps}
+use Rattle.ram_volume.proofs.FormatAnswers.{full_good, full_good_steps, full_many, full_many_steps, full_lost, full_lost_steps, lost_leaves, full_stopped}
 use Rattle.model_medium.specs.Happened.{Happened}
 use Rattle.std.proofs.Common.{inl, inr}
 use Rattle.ram_medium.proofs.Parts.{nothing_happened, part_happened, stop_happened}
-use Rattle.model_stops.specs.declared.Stop.TheVariants as stops
 use Rattle.model_medium.proofs.Happening.{happened_none}
 use Rattle.ram_volume.proofs.states.Ready.format_fully.Goals as goal
 
@@ -48,22 +47,6 @@ pub returns-in-Err-NoCopy-clause-cause : goal.returns-in-Err-NoCopy-clause-cause
 returns-in-Err-NoCopy-clause-cause g c =
     subst (λ (x : Shown). FormatCause (shown_ready c.args.self) x (kinds.Full c.args.drop_sdl) (outs.NoUpdate c.in-Err-NoCopy.counter)) (sym c.over-bare-in-Err-NoCopy.ensures.shown)
     (full_lost g.M.Medium.world g.M.Medium.reaches g.M.Medium.takes g.M.MediumControl.arms g.M.MediumControl.armed_cut g.met.M.MediumControl.control_laws c.args.self.geometry c.args.self.medium c.format_lists.new.medium (lists_of c.args.self.lists) c.args.self.workspace.buffer c.args.drop_sdl c.deref.result.now (rw c.deref.ensures.value c.in-Ok.ensures) c.in-Err-NoCopy.counter c.in-Err-NoCopy.mark (rw c.in-Err-NoCopy.field-0-is at c.in-Err-NoCopy.ensures.rule))
-
-pub returns-in-Err-Stopped-Cut-clause-cause : goal.returns-in-Err-Stopped-Cut-clause-cause
-returns-in-Err-Stopped-Cut-clause-cause g c =
-    full_cut g.M.Medium.world g.M.Medium.reaches g.M.Medium.takes g.M.MediumControl.arms g.M.MediumControl.armed_cut g.met.M.MediumControl.control_laws c.args.self.geometry c.args.self.medium c.format_lists.new.medium (lists_of c.args.self.lists) c.args.self.workspace.buffer c.args.drop_sdl c.deref.result.now (rw c.deref.ensures.value c.in-Ok.ensures) (rw (c.in-Err-Stopped-Cut.field-0-is, c.in-Err-Stopped-Cut.field-0-0-is) at c.in-Err-Stopped-Cut.ensures.rule)
-
-pub returns-in-Err-Stopped-Cut-clause-step : goal.returns-in-Err-Stopped-Cut-clause-step
-returns-in-Err-Stopped-Cut-clause-step g c =
-    full_cut_steps g.M.Medium.world g.M.Medium.reaches g.M.Medium.takes g.M.MediumControl.arms g.M.MediumControl.armed_cut g.met.M.MediumControl.control_laws c.args.self.geometry c.args.self.medium c.format_lists.new.medium (lists_of c.args.self.lists) c.args.self.workspace.buffer c.args.drop_sdl c.deref.result.now (rw c.deref.ensures.value c.in-Ok.ensures) (rw (c.in-Err-Stopped-Cut.field-0-is, c.in-Err-Stopped-Cut.field-0-0-is) at c.in-Err-Stopped-Cut.ensures.rule)
-
-pub returns-in-Err-Stopped-Fault-clause-cause : goal.returns-in-Err-Stopped-Fault-clause-cause
-returns-in-Err-Stopped-Fault-clause-cause g c =
-    full_fault g.M.Medium.world g.M.Medium.reaches g.M.Medium.takes g.M.MediumControl.arms g.M.MediumControl.armed_cut g.met.M.MediumControl.control_laws c.args.self.geometry c.args.self.medium c.format_lists.new.medium (lists_of c.args.self.lists) c.args.self.workspace.buffer c.args.drop_sdl c.deref.result.now (rw c.deref.ensures.value c.in-Ok.ensures) (rw (c.in-Err-Stopped-Fault.field-0-is, c.in-Err-Stopped-Fault.field-0-0-is) at c.in-Err-Stopped-Fault.ensures.rule)
-
-pub returns-in-Err-Stopped-Fault-clause-step : goal.returns-in-Err-Stopped-Fault-clause-step
-returns-in-Err-Stopped-Fault-clause-step g c =
-    full_fault_steps g.M.Medium.world g.M.Medium.reaches g.M.Medium.takes g.M.MediumControl.arms g.M.MediumControl.armed_cut g.met.M.MediumControl.control_laws c.args.self.geometry c.args.self.medium c.format_lists.new.medium (lists_of c.args.self.lists) c.args.self.workspace.buffer c.args.drop_sdl c.deref.result.now (rw c.deref.ensures.value c.in-Ok.ensures) (rw (c.in-Err-Stopped-Fault.field-0-is, c.in-Err-Stopped-Fault.field-0-0-is) at c.in-Err-Stopped-Fault.ensures.rule)
 
 pub returns-in-Err-TooMany-clause-step : goal.returns-in-Err-TooMany-clause-step
 returns-in-Err-TooMany-clause-step g c =
@@ -100,14 +83,6 @@ returns-in-Err-NoCopy-clause-happened g c =
       ]
     ])
 
-pub returns-in-Err-Stopped-Cut-clause-happened : goal.returns-in-Err-Stopped-Cut-clause-happened
-returns-in-Err-Stopped-Cut-clause-happened g c =
-    stop_happened g.M.Medium.world g.M.Medium.reaches g.M.Medium.takes g.met.M.Medium.happened c.args.self.medium c.format_lists.new.medium _ stops.Cut c.args.self.on (rw (c.in-Err-Stopped-Cut.field-0-is, c.in-Err-Stopped-Cut.field-0-0-is) at c.in-Err-Stopped-Cut.ensures.rule).stops
-
-pub returns-in-Err-Stopped-Fault-clause-happened : goal.returns-in-Err-Stopped-Fault-clause-happened
-returns-in-Err-Stopped-Fault-clause-happened g c =
-    stop_happened g.M.Medium.world g.M.Medium.reaches g.M.Medium.takes g.met.M.Medium.happened c.args.self.medium c.format_lists.new.medium _ stops.Fault c.args.self.on (rw (c.in-Err-Stopped-Fault.field-0-is, c.in-Err-Stopped-Fault.field-0-0-is) at c.in-Err-Stopped-Fault.ensures.rule).stops
-
 pub returns-in-Err-NoRoom-clause-happened : goal.returns-in-Err-NoRoom-clause-happened
 returns-in-Err-NoRoom-clause-happened g c =
     nothing_happened g.M.Medium.world g.M.Medium.reaches g.M.Medium.takes g.met.M.Medium.happened c.args.self.medium c.format_lists.new.medium (rw c.in-Err-NoRoom.field-0-is at c.in-Err-NoRoom.ensures.rule).nothing
@@ -118,3 +93,16 @@ returns-clause-happened g c =
 
 pub returns-in_default-clause-happened : goal.returns-in_default-clause-happened
 returns-in_default-clause-happened g c = happened_none g.M.Medium.takes c.args.self.medium
+
+pub returns-in-Err-Stopped-clause-cause : goal.returns-in-Err-Stopped-clause-cause
+returns-in-Err-Stopped-clause-cause g c =
+    rw (c.turned_off.ensures.state, c.turned_off.ensures.answer) (full_stopped g.M.Medium.world g.M.Medium.reaches g.M.Medium.takes g.M.MediumControl.arms g.M.MediumControl.armed_cut g.met.M.MediumControl.control_laws c.args.self.geometry c.args.self.medium c.format_lists.new.medium (lists_of c.args.self.lists) c.args.self.workspace.buffer c.args.drop_sdl c.deref.result.now (rw c.deref.ensures.value c.in-Ok.ensures) c.in-Err-Stopped.stop c.args.self.on (rw c.in-Err-Stopped.field-0-is at c.in-Err-Stopped.ensures.rule)).0
+
+pub returns-in-Err-Stopped-clause-step : goal.returns-in-Err-Stopped-clause-step
+returns-in-Err-Stopped-clause-step g c =
+    rw (c.turned_off.ensures.state, c.turned_off.ensures.answer) (full_stopped g.M.Medium.world g.M.Medium.reaches g.M.Medium.takes g.M.MediumControl.arms g.M.MediumControl.armed_cut g.met.M.MediumControl.control_laws c.args.self.geometry c.args.self.medium c.format_lists.new.medium (lists_of c.args.self.lists) c.args.self.workspace.buffer c.args.drop_sdl c.deref.result.now (rw c.deref.ensures.value c.in-Ok.ensures) c.in-Err-Stopped.stop c.args.self.on (rw c.in-Err-Stopped.field-0-is at c.in-Err-Stopped.ensures.rule)).1
+
+pub returns-in-Err-Stopped-clause-happened : goal.returns-in-Err-Stopped-clause-happened
+returns-in-Err-Stopped-clause-happened g c =
+    subst (Happened g.M.Medium.takes c.args.self.medium) (sym c.turned_off.ensures.medium)
+    (stop_happened g.M.Medium.world g.M.Medium.reaches g.M.Medium.takes g.met.M.Medium.happened c.args.self.medium c.format_lists.new.medium _ c.in-Err-Stopped.stop c.args.self.on (rw c.in-Err-Stopped.field-0-is at c.in-Err-Stopped.ensures.rule).stops)

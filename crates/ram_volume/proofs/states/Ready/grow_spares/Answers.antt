@@ -1,11 +1,10 @@
 use Rattle.std.proofs.Common.{sym, subst}
-use Rattle.model_stops.specs.declared.Stop.TheVariants as stops
 use Rattle.model_drive.specs.declared.ExpandOut.TheVariants as outs
 use Rattle.model_drive.specs.Shown.{Shown}
 use Rattle.model_drive.specs.Expands.{ExpandCause}
 use Rattle.ram_lists.specs.Lists.{lists_of}
 use Rattle.ram_volume.specs.Shown.{shown_ready}
-use Rattle.ram_volume.proofs.ExpandCauses.{good_cause, vain_cause, stopped_cause}
+use Rattle.ram_volume.proofs.ExpandCauses.{good_cause, vain_cause, grown_stopped}
 use Rattle.std.proofs.Common.{inl, inr}
 use Rattle.model_medium.specs.Happened.{Happened}
 use Rattle.ram_medium.proofs.Parts.{nothing_happened, part_happened, stop_happened}
@@ -20,14 +19,6 @@ pub returns-in-Ok-NoUpdate-clause-cause : goal.returns-in-Ok-NoUpdate-clause-cau
 returns-in-Ok-NoUpdate-clause-cause g c =
     subst (λ (x : Shown). ExpandCause (shown_ready c.args.self) x c.args.capacity (outs.NoUpdate c.in-Ok-NoUpdate.counter)) (sym c.over-ready-in-Ok-NoUpdate.ensures.shown)
     (vain_cause g.M.Medium.world g.M.Medium.reaches g.M.Medium.takes g.M.MediumControl.arms g.M.MediumControl.armed_cut g.met.M.MediumControl.control_laws c.args.self.geometry (lists_of c.args.self.lists) c.args.self.workspace.buffer c.args.self.medium c.grow.new.medium c.args.capacity (lists_of c.grow.new.lists) c.in-Ok-NoUpdate.counter (rw c.in-Ok-NoUpdate.field-0-is at c.in-Ok-NoUpdate.ensures.rule))
-
-pub returns-in-Err-Cut-clause-cause : goal.returns-in-Err-Cut-clause-cause
-returns-in-Err-Cut-clause-cause g c =
-    stopped_cause g.M.Medium.world g.M.Medium.reaches g.M.Medium.takes g.M.MediumControl.arms g.M.MediumControl.armed_cut g.met.M.MediumControl.control_laws c.args.self.geometry (lists_of c.args.self.lists) c.args.self.workspace.buffer c.args.self.medium c.grow.new.medium c.args.capacity (lists_of c.grow.new.lists) stops.Cut (rw c.in-Err-Cut.field-0-is at c.in-Err-Cut.ensures.rule)
-
-pub returns-clause-cause : goal.returns-clause-cause
-returns-clause-cause g c =
-    stopped_cause g.M.Medium.world g.M.Medium.reaches g.M.Medium.takes g.M.MediumControl.arms g.M.MediumControl.armed_cut g.met.M.MediumControl.control_laws c.args.self.geometry (lists_of c.args.self.lists) c.args.self.workspace.buffer c.args.self.medium c.grow.new.medium c.args.capacity (lists_of c.grow.new.lists) stops.Fault (rw c.in-Err-Fault.field-0-is at c.in-Err-Fault.ensures.rule)
 
 pub returns-in-Ok-Good-clause-happened : goal.returns-in-Ok-Good-clause-happened
 returns-in-Ok-Good-clause-happened g c =
@@ -46,10 +37,12 @@ returns-in-Ok-NoUpdate-clause-happened g c =
     subst (Happened g.M.Medium.takes c.args.self.medium) (sym c.over-ready-in-Ok-NoUpdate.ensures.medium)
     (part_happened g.M.Medium.world g.M.Medium.reaches g.M.Medium.takes g.met.M.Medium.happened c.args.self.medium c.grow.new.medium _ (rw c.in-Ok-NoUpdate.field-0-is at c.in-Ok-NoUpdate.ensures.rule).ended.continues)
 
-pub returns-in-Err-Cut-clause-happened : goal.returns-in-Err-Cut-clause-happened
-returns-in-Err-Cut-clause-happened g c =
-    stop_happened g.M.Medium.world g.M.Medium.reaches g.M.Medium.takes g.met.M.Medium.happened c.args.self.medium c.grow.new.medium _ stops.Cut c.args.self.on (rw c.in-Err-Cut.field-0-is at c.in-Err-Cut.ensures.rule).stopped.stops
+pub returns-in-Err-clause-cause : goal.returns-in-Err-clause-cause
+returns-in-Err-clause-cause g c =
+    rw (c.turned_off.ensures.state, c.turned_off.ensures.answer) (grown_stopped g.M.Medium.world g.M.Medium.reaches g.M.Medium.takes g.M.MediumControl.arms g.M.MediumControl.armed_cut g.met.M.MediumControl.control_laws c.args.self.geometry (lists_of c.args.self.lists) c.args.self.workspace.buffer c.args.self.medium c.grow.new.medium c.args.capacity (lists_of c.grow.new.lists)
+    c.in-Err.stop c.in-Err.ensures.rule)
 
-pub returns-clause-happened : goal.returns-clause-happened
-returns-clause-happened g c =
-    stop_happened g.M.Medium.world g.M.Medium.reaches g.M.Medium.takes g.met.M.Medium.happened c.args.self.medium c.grow.new.medium _ stops.Fault c.args.self.on (rw c.in-Err-Fault.field-0-is at c.in-Err-Fault.ensures.rule).stopped.stops
+pub returns-in-Err-clause-happened : goal.returns-in-Err-clause-happened
+returns-in-Err-clause-happened g c =
+    subst (Happened g.M.Medium.takes c.args.self.medium) (sym c.turned_off.ensures.medium)
+    (stop_happened g.M.Medium.world g.M.Medium.reaches g.M.Medium.takes g.met.M.Medium.happened c.args.self.medium c.grow.new.medium _ c.in-Err.stop c.args.self.on c.in-Err.ensures.rule.stopped.stops)

@@ -1,8 +1,7 @@
-use Rattle.std.proofs.Common.{◌∙◌}
-use Rattle.model_stops.specs.declared.Stop.TheVariants as stops
-use Rattle.model_sectors.specs.declared.ReadOut.TheVariants as outs
+use Rattle.std.proofs.Common.{sym, ◌∙◌, subst}
+use Rattle.model_medium.specs.Happened.{Happened}
 use Rattle.ram_lists.specs.Lists.{lists_of}
-use Rattle.ram_volume.proofs.ReadShown.{read_cause, read_steps, read_quiet, read_on, read_settled, cut_cause, cut_steps, fault_cause, fault_steps, stopped_quiet}
+use Rattle.ram_volume.proofs.ReadShown.{read_cause, read_steps, read_quiet, read_on, read_settled, stopped_cause, stopped_steps, stopped_quiet}
 use Rattle.ram_medium.proofs.Parts.{stop_happened}
 use Rattle.ram_volume.proofs.Happening.{read_happened}
 use Rattle.ram_volume.proofs.states.Ready.read_request.Goals as goal
@@ -18,7 +17,6 @@ invariant_of-ready g c = record {
   lawful_dds = c.args.self.lawful_dds;
   lawful_sdl = c.args.self.lawful_sdl;
   roomy = c.args.self.roomy;
-  draft_roomy = c.args.self.draft_roomy;
   laid_out = c.args.self.laid_out;
 }
 
@@ -37,44 +35,26 @@ returns-in-Ok-clause-quiet g c =
     read_quiet g.M.Medium.world g.M.Medium.reaches g.M.Medium.takes g.M.MediumControl.arms g.M.MediumControl.armed_cut g.met.M.MediumControl.control_laws c.args.self.geometry (lists_of c.args.self.lists)
     c.args.self.medium c.read_parts.new.medium c.args.self.workspace.buffer c.args.request.lba c.args.request.n c.args.self.on c.requires.inside c.read_parts.new.buffer c.read_parts.new.into c.in-Ok.met c.in-Ok.ensures.rule c.ended_at-out.result c.ended_at-out.ensures
 
-pub returns-in-Err-Cut-clause-cause : goal.returns-in-Err-Cut-clause-cause
-returns-in-Err-Cut-clause-cause g c =
-    cut_cause g.M.Medium.world g.M.Medium.reaches g.M.Medium.takes g.M.MediumControl.arms g.M.MediumControl.armed_cut g.met.M.MediumControl.control_laws c.args.self.geometry (lists_of c.args.self.lists)
-    c.args.self.medium c.read_parts.new.medium c.args.self.workspace.buffer c.args.request.lba c.args.request.n c.args.self.on c.requires.inside (rw c.in-Err-Cut.field-0-is at c.in-Err-Cut.ensures.rule)
-
-pub returns-in-Err-Cut-clause-step : goal.returns-in-Err-Cut-clause-step
-returns-in-Err-Cut-clause-step g c =
-    cut_steps g.M.Medium.world g.M.Medium.reaches g.M.Medium.takes g.M.MediumControl.arms g.M.MediumControl.armed_cut g.met.M.MediumControl.control_laws c.args.self.geometry (lists_of c.args.self.lists)
-    c.args.self.medium c.read_parts.new.medium c.args.self.workspace.buffer c.args.request.lba c.args.request.n c.args.self.on c.requires.inside c.read_parts.new.into (rw c.in-Err-Cut.field-0-is at c.in-Err-Cut.ensures.rule)
-
-pub returns-in-Err-Cut-clause-quiet : goal.returns-in-Err-Cut-clause-quiet
-returns-in-Err-Cut-clause-quiet g c =
-    stopped_quiet g.M.Medium.world g.M.Medium.reaches g.M.Medium.takes g.M.MediumControl.arms g.M.MediumControl.armed_cut g.met.M.MediumControl.control_laws c.args.self.geometry (lists_of c.args.self.lists)
-    c.args.self.medium c.read_parts.new.medium c.args.self.workspace.buffer c.args.request.lba c.args.request.n c.args.self.on c.requires.inside stops.Cut (rw c.in-Err-Cut.field-0-is at c.in-Err-Cut.ensures.rule) outs.Cut
-
-pub returns-clause-cause : goal.returns-clause-cause
-returns-clause-cause g c =
-    fault_cause g.M.Medium.world g.M.Medium.reaches g.M.Medium.takes g.M.MediumControl.arms g.M.MediumControl.armed_cut g.met.M.MediumControl.control_laws c.args.self.geometry (lists_of c.args.self.lists)
-    c.args.self.medium c.read_parts.new.medium c.args.self.workspace.buffer c.args.request.lba c.args.request.n c.args.self.on c.requires.inside (rw c.in-Err-Fault.field-0-is at c.in-Err-Fault.ensures.rule)
-
-pub returns-clause-step : goal.returns-clause-step
-returns-clause-step g c =
-    fault_steps g.M.Medium.world g.M.Medium.reaches g.M.Medium.takes g.M.MediumControl.arms g.M.MediumControl.armed_cut g.met.M.MediumControl.control_laws c.args.self.geometry (lists_of c.args.self.lists)
-    c.args.self.medium c.read_parts.new.medium c.args.self.workspace.buffer c.args.request.lba c.args.request.n c.args.self.on c.requires.inside c.read_parts.new.into (rw c.in-Err-Fault.field-0-is at c.in-Err-Fault.ensures.rule)
-
-pub returns-clause-quiet : goal.returns-clause-quiet
-returns-clause-quiet g c =
-    stopped_quiet g.M.Medium.world g.M.Medium.reaches g.M.Medium.takes g.M.MediumControl.arms g.M.MediumControl.armed_cut g.met.M.MediumControl.control_laws c.args.self.geometry (lists_of c.args.self.lists)
-    c.args.self.medium c.read_parts.new.medium c.args.self.workspace.buffer c.args.request.lba c.args.request.n c.args.self.on c.requires.inside stops.Fault (rw c.in-Err-Fault.field-0-is at c.in-Err-Fault.ensures.rule) outs.Fault
-
 pub returns-in-Ok-clause-happened : goal.returns-in-Ok-clause-happened
 returns-in-Ok-clause-happened g c =
     read_happened g.M.Medium.world g.M.Medium.reaches g.M.Medium.takes g.met.M.Medium.happened c.args.self.medium c.read_parts.new.medium c.args.self.geometry (lists_of c.args.self.lists) c.args.request.lba c.args.request.n c.args.self.workspace.buffer c.read_parts.new.buffer c.read_parts.new.into c.in-Ok.met c.in-Ok.ensures.rule
 
-pub returns-in-Err-Cut-clause-happened : goal.returns-in-Err-Cut-clause-happened
-returns-in-Err-Cut-clause-happened g c =
-    stop_happened g.M.Medium.world g.M.Medium.reaches g.M.Medium.takes g.met.M.Medium.happened c.args.self.medium c.read_parts.new.medium _ stops.Cut c.args.self.on (rw c.in-Err-Cut.field-0-is at c.in-Err-Cut.ensures.rule).stops
+pub returns-in-Err-clause-cause : goal.returns-in-Err-clause-cause
+returns-in-Err-clause-cause g c =
+    rw (c.turned_off.ensures.state, c.turned_off.ensures.answer) (stopped_cause g.M.Medium.world g.M.Medium.reaches g.M.Medium.takes g.M.MediumControl.arms g.M.MediumControl.armed_cut g.met.M.MediumControl.control_laws c.args.self.geometry (lists_of c.args.self.lists)
+    c.args.self.medium c.read_parts.new.medium c.args.self.workspace.buffer c.args.request.lba c.args.request.n c.args.self.on c.requires.inside c.in-Err.stop c.in-Err.ensures.rule)
 
-pub returns-clause-happened : goal.returns-clause-happened
-returns-clause-happened g c =
-    stop_happened g.M.Medium.world g.M.Medium.reaches g.M.Medium.takes g.met.M.Medium.happened c.args.self.medium c.read_parts.new.medium _ stops.Fault c.args.self.on (rw c.in-Err-Fault.field-0-is at c.in-Err-Fault.ensures.rule).stops
+pub returns-in-Err-clause-step : goal.returns-in-Err-clause-step
+returns-in-Err-clause-step g c =
+    rw (c.turned_off.ensures.state, c.turned_off.ensures.answer) (stopped_steps g.M.Medium.world g.M.Medium.reaches g.M.Medium.takes g.M.MediumControl.arms g.M.MediumControl.armed_cut g.met.M.MediumControl.control_laws c.args.self.geometry (lists_of c.args.self.lists)
+    c.args.self.medium c.read_parts.new.medium c.args.self.workspace.buffer c.args.request.lba c.args.request.n c.args.self.on c.requires.inside c.read_parts.new.into c.in-Err.stop c.in-Err.ensures.rule)
+
+pub returns-in-Err-clause-quiet : goal.returns-in-Err-clause-quiet
+returns-in-Err-clause-quiet g c =
+    rw c.turned_off.ensures.state (stopped_quiet g.M.Medium.world g.M.Medium.reaches g.M.Medium.takes g.M.MediumControl.arms g.M.MediumControl.armed_cut g.met.M.MediumControl.control_laws c.args.self.geometry (lists_of c.args.self.lists)
+    c.args.self.medium c.read_parts.new.medium c.args.self.workspace.buffer c.args.request.lba c.args.request.n c.args.self.on c.requires.inside c.in-Err.stop c.in-Err.ensures.rule c.turned_off.result.1)
+
+pub returns-in-Err-clause-happened : goal.returns-in-Err-clause-happened
+returns-in-Err-clause-happened g c =
+    subst (Happened g.M.Medium.takes c.args.self.medium) (sym c.turned_off.ensures.medium)
+    (stop_happened g.M.Medium.world g.M.Medium.reaches g.M.Medium.takes g.met.M.Medium.happened c.args.self.medium c.read_parts.new.medium _ c.in-Err.stop c.args.self.on c.in-Err.ensures.rule.stops)

@@ -6,10 +6,9 @@ use Rattle.model_drive.specs.Formats.{FormatCause}
 use Rattle.ram_lists.specs.Lists.{lists_of}
 use Rattle.ram_volume.specs.Shown.{shown_ready}
 use Rattle.ram_volume.specs.Formats.{FormatSteps}
-use Rattle.ram_volume.proofs.FormatAnswers.{rewritten, rewritten_steps, lacking, lacking_steps, rewrite_cut, rewrite_cut_steps, rewrite_fault, rewrite_fault_steps}
+use Rattle.ram_volume.proofs.FormatAnswers.{rewritten, rewritten_steps, lacking, lacking_steps, rewrite_stopped}
 use Rattle.model_medium.specs.Happened.{Happened}
 use Rattle.ram_medium.proofs.Parts.{part_happened, stop_happened}
-use Rattle.model_stops.specs.declared.Stop.TheVariants as stops
 use Rattle.ram_volume.proofs.states.Ready.rewrite_lists.Goals as goal
 
 pub returns-in-Ok-None-clause-cause : goal.returns-in-Ok-None-clause-cause
@@ -32,22 +31,6 @@ returns-in-Ok-Some-clause-step g c =
     subst (λ (x : Shown). FormatSteps (shown_ready c.args.self) x kinds.Rewrite (outs.NoUpdate c.in-Ok-Some.counter)) (sym c.over-ready-in-Ok-Some.ensures.shown)
     (lacking_steps g.M.Medium.world g.M.Medium.reaches g.M.Medium.takes g.M.MediumControl.arms g.M.MediumControl.armed_cut g.met.M.MediumControl.control_laws c.args.self.geometry c.args.self.medium c.repair_lists.new.medium (lists_of c.args.self.lists) c.args.self.workspace.buffer c.args.self.valid c.in-Ok-Some.counter (rw c.in-Ok-Some.field-0-is at c.in-Ok-Some.ensures.rule))
 
-pub returns-in-Err-Cut-clause-cause : goal.returns-in-Err-Cut-clause-cause
-returns-in-Err-Cut-clause-cause g c =
-    rewrite_cut g.M.Medium.world g.M.Medium.reaches g.M.Medium.takes g.M.MediumControl.arms g.M.MediumControl.armed_cut g.met.M.MediumControl.control_laws c.args.self.geometry c.args.self.medium c.repair_lists.new.medium (lists_of c.args.self.lists) c.args.self.workspace.buffer (rw c.in-Err-Cut.field-0-is at c.in-Err-Cut.ensures.rule)
-
-pub returns-in-Err-Cut-clause-step : goal.returns-in-Err-Cut-clause-step
-returns-in-Err-Cut-clause-step g c =
-    rewrite_cut_steps g.M.Medium.world g.M.Medium.reaches g.M.Medium.takes g.M.MediumControl.arms g.M.MediumControl.armed_cut g.met.M.MediumControl.control_laws c.args.self.geometry c.args.self.medium c.repair_lists.new.medium (lists_of c.args.self.lists) c.args.self.workspace.buffer (rw c.in-Err-Cut.field-0-is at c.in-Err-Cut.ensures.rule)
-
-pub returns-clause-cause : goal.returns-clause-cause
-returns-clause-cause g c =
-    rewrite_fault g.M.Medium.world g.M.Medium.reaches g.M.Medium.takes g.M.MediumControl.arms g.M.MediumControl.armed_cut g.met.M.MediumControl.control_laws c.args.self.geometry c.args.self.medium c.repair_lists.new.medium (lists_of c.args.self.lists) c.args.self.workspace.buffer (rw c.in-Err-Fault.field-0-is at c.in-Err-Fault.ensures.rule)
-
-pub returns-clause-step : goal.returns-clause-step
-returns-clause-step g c =
-    rewrite_fault_steps g.M.Medium.world g.M.Medium.reaches g.M.Medium.takes g.M.MediumControl.arms g.M.MediumControl.armed_cut g.met.M.MediumControl.control_laws c.args.self.geometry c.args.self.medium c.repair_lists.new.medium (lists_of c.args.self.lists) c.args.self.workspace.buffer (rw c.in-Err-Fault.field-0-is at c.in-Err-Fault.ensures.rule)
-
 pub returns-in-Ok-None-clause-happened : goal.returns-in-Ok-None-clause-happened
 returns-in-Ok-None-clause-happened g c =
     subst (Happened g.M.Medium.takes c.args.self.medium) (sym c.over-ready.ensures.medium)
@@ -58,10 +41,17 @@ returns-in-Ok-Some-clause-happened g c =
     subst (Happened g.M.Medium.takes c.args.self.medium) (sym c.over-ready-in-Ok-Some.ensures.medium)
     (part_happened g.M.Medium.world g.M.Medium.reaches g.M.Medium.takes g.met.M.Medium.happened c.args.self.medium c.repair_lists.new.medium _ (rw c.in-Ok-Some.field-0-is at c.in-Ok-Some.ensures.rule).both.continues)
 
-pub returns-in-Err-Cut-clause-happened : goal.returns-in-Err-Cut-clause-happened
-returns-in-Err-Cut-clause-happened g c =
-    stop_happened g.M.Medium.world g.M.Medium.reaches g.M.Medium.takes g.met.M.Medium.happened c.args.self.medium c.repair_lists.new.medium _ stops.Cut c.args.self.on (rw c.in-Err-Cut.field-0-is at c.in-Err-Cut.ensures.rule).stops
+pub returns-in-Err-clause-cause : goal.returns-in-Err-clause-cause
+returns-in-Err-clause-cause g c =
+    rw (c.turned_off.ensures.state, c.turned_off.ensures.answer) (rewrite_stopped g.M.Medium.world g.M.Medium.reaches g.M.Medium.takes g.M.MediumControl.arms g.M.MediumControl.armed_cut g.met.M.MediumControl.control_laws c.args.self.geometry c.args.self.medium c.repair_lists.new.medium (lists_of c.args.self.lists) c.args.self.workspace.buffer
+    c.in-Err.stop c.args.self.on c.in-Err.ensures.rule).0
 
-pub returns-clause-happened : goal.returns-clause-happened
-returns-clause-happened g c =
-    stop_happened g.M.Medium.world g.M.Medium.reaches g.M.Medium.takes g.met.M.Medium.happened c.args.self.medium c.repair_lists.new.medium _ stops.Fault c.args.self.on (rw c.in-Err-Fault.field-0-is at c.in-Err-Fault.ensures.rule).stops
+pub returns-in-Err-clause-step : goal.returns-in-Err-clause-step
+returns-in-Err-clause-step g c =
+    rw (c.turned_off.ensures.state, c.turned_off.ensures.answer) (rewrite_stopped g.M.Medium.world g.M.Medium.reaches g.M.Medium.takes g.M.MediumControl.arms g.M.MediumControl.armed_cut g.met.M.MediumControl.control_laws c.args.self.geometry c.args.self.medium c.repair_lists.new.medium (lists_of c.args.self.lists) c.args.self.workspace.buffer
+    c.in-Err.stop c.args.self.on c.in-Err.ensures.rule).1
+
+pub returns-in-Err-clause-happened : goal.returns-in-Err-clause-happened
+returns-in-Err-clause-happened g c =
+    subst (Happened g.M.Medium.takes c.args.self.medium) (sym c.turned_off.ensures.medium)
+    (stop_happened g.M.Medium.world g.M.Medium.reaches g.M.Medium.takes g.met.M.Medium.happened c.args.self.medium c.repair_lists.new.medium _ c.in-Err.stop c.args.self.on c.in-Err.ensures.rule.stops)
