@@ -1,9 +1,7 @@
 //! Requests over buffers of any blocks, beside a plain list of the blocks that were used last: how many uses each takes.
 
-use crate::drive::{Drive, Rig, blank};
-use crate::host::{format, power, read, verify, write};
-use crate::random::below;
-use ram_by_hand::number_of;
+use crate::drive::{Drive, InMemory};
+use ram_by_hand::{Calls, OfDisc, below, blank, number_of};
 use ram_medium::Fate;
 use ram_sectors::{Kind, ReadOut, WriteOut};
 use rand_core::Rng;
@@ -106,10 +104,10 @@ fn random_request(random: &mut Pcg32, count: u32) -> Request {
     }
 }
 
-impl<D: Rig> Run<D> {
+impl<D: InMemory> Run<D> {
     /// Empties the buffer, and reads up to eight blocks one after another of those of the request and the four on each side.
     fn fill_buffer(&mut self, alloc: Global, request: Request) -> Result<(), AllocError> {
-        power(alloc, &mut self.disc);
+        OfDisc::power(alloc, &mut self.disc);
         self.plain.used.clear();
         let near = request
             .end()
@@ -120,7 +118,7 @@ impl<D: Rig> Run<D> {
                 .first()
                 .saturating_add(below(&mut self.random, near.max(1)));
             let block = block.saturating_sub(4).min(BLOCKS.saturating_sub(1));
-            read(alloc, &mut self.disc, block.saturating_mul(16), 1)?;
+            OfDisc::read(alloc, &mut self.disc, block.saturating_mul(16), 1)?;
             self.plain.touch(block)?;
         }
         Ok(())
@@ -130,9 +128,9 @@ impl<D: Rig> Run<D> {
     fn is_done(&mut self, alloc: Global, request: Request) -> Result<bool, AllocError> {
         let Request { lba, n, is_write } = request;
         if is_write {
-            return Ok(write(alloc, &mut self.disc, lba, n, 1)? == WriteOut::Good);
+            return Ok(OfDisc::write(alloc, &mut self.disc, lba, n, 1)? == WriteOut::Good);
         }
-        let (out, _) = read(alloc, &mut self.disc, lba, n)?;
+        let (out, _) = OfDisc::read(alloc, &mut self.disc, lba, n)?;
         Ok(out == ReadOut::Good)
     }
 
@@ -141,7 +139,7 @@ impl<D: Rig> Run<D> {
     fn takes(&mut self, alloc: Global, request: Request, uses: u32) -> Result<bool, AllocError> {
         self.disc.arm_cut(uses.saturating_add(1), Fate::Old);
         let is_done = self.is_done(alloc, request)?;
-        Ok(is_done && verify(&mut self.disc, 0, 1) == ReadOut::Cut)
+        Ok(is_done && OfDisc::verify(&mut self.disc, 0, 1) == ReadOut::Cut)
     }
 
     /// One request over a buffer of random blocks.
@@ -173,10 +171,10 @@ impl<D: Rig> Run<D> {
 }
 
 /// The drive over a disc that was just formatted, with the plain list beside it.
-fn new_run<D: Rig>(alloc: Global, drive: Drive<D>) -> Run<D> {
+fn new_run<D: InMemory>(alloc: Global, drive: Drive<D>) -> Run<D> {
     let mut disc = drive.disc;
-    power(alloc, &mut disc);
-    format(alloc, &mut disc, Kind::Full { drop_sdl: false });
+    OfDisc::power(alloc, &mut disc);
+    OfDisc::format(alloc, &mut disc, Kind::Full { drop_sdl: false });
     Run {
         disc,
         plain: Plain {
@@ -189,7 +187,7 @@ fn new_run<D: Rig>(alloc: Global, drive: Drive<D>) -> Run<D> {
 }
 
 /// Makes requests with a run, and adds how many took another number of uses.
-fn answer_run<D: Rig>(
+fn answer_run<D: InMemory>(
     alloc: Global,
     run: Run<D>,
     requests: u32,
@@ -202,13 +200,13 @@ fn answer_run<D: Rig>(
 }
 
 /// Makes the requests of a row `buffers REQUESTS`, so many of each number of blocks from 1 to 40.
-pub fn answer_buffers<D: Rig>(
+pub fn answer_buffers<D: InMemory>(
     alloc: Global,
     word: &str,
     answers: &mut String,
 ) -> Result<(), AllocError> {
     let requests = number_of(word).unwrap_or(0);
-    match blank::<D>(alloc, 1, 4, 4, Vec::new(alloc))? {
+    match blank::<Drive<D>>(alloc, 1, 4, 4, Vec::new(alloc))? {
         Some(drive) => answer_run(alloc, new_run(alloc, drive), requests, answers),
         None => answers.push_str("no such disc\n"),
     }

@@ -1,21 +1,18 @@
 //! The drive of a row, over a disc in memory.
 
-use crate::host::{format, power};
-use crate::steps::Inserted;
-use ram_by_hand::{Controlled, Taken, number_of};
+use ram_by_hand::{Controlled, OfDisc, Rig, Taken, answer_call, call_of};
 use ram_medium::{Arm, FailEnd, Fate, Medium, MemMedium};
-use ram_sectors::{Disc, Kind};
+use ram_sectors::Disc;
 use ram_volume::Volume;
 use ram_zones::Geometry;
 use std::alloc::{AllocError, Global};
-use std::fmt::Write;
 
-/// A drive over a disc in memory, as the steps of a row work with it.
-pub trait Rig: Disc + Drop {
-    /// A drive over a medium, with its power off. There is none where the geometry has another number of blocks.
+/// A disc in memory, as the steps of a row work with it.
+pub trait InMemory: Disc + Drop {
+    /// A disc over a medium, with its power off. There is none where the geometry has another number of blocks.
     fn over(medium: MemMedium, geometry: Geometry) -> Option<Self>;
 
-    /// The medium, as the drive leaves it.
+    /// The medium, as the disc leaves it.
     fn into_medium(self) -> MemMedium;
 
     /// Makes a block dead.
@@ -28,7 +25,7 @@ pub trait Rig: Disc + Drop {
     fn arm_cut(&mut self, n: u32, fate: Fate);
 }
 
-impl Rig for Volume<MemMedium> {
+impl InMemory for Volume<MemMedium> {
     fn over(mut medium: MemMedium, geometry: Geometry) -> Option<Volume<MemMedium>> {
         medium.power_off();
         if medium.blocks() != geometry.total() {
@@ -61,25 +58,7 @@ pub struct Drive<D> {
     pub geometry: Geometry,
 }
 
-impl<D: Rig> Drive<D> {
-    /// A drive over a medium, with its power off. There is none where the geometry has another number of blocks.
-    pub fn over(taken: Taken<MemMedium>) -> Option<Drive<D>> {
-        let Taken { medium, geometry } = taken;
-        let disc = D::over(medium, geometry)?;
-        Some(Drive { disc, geometry })
-    }
-
-    /// The medium, as the drive leaves it.
-    pub fn take_out(self) -> Taken<MemMedium> {
-        let Drive { disc, geometry } = self;
-        Taken {
-            medium: disc.into_medium(),
-            geometry,
-        }
-    }
-}
-
-impl<D: Rig> Controlled for Drive<D> {
+impl<D: InMemory> Controlled for Drive<D> {
     fn fail(&mut self, block: u32) -> FailEnd {
         self.disc.fail(block)
     }
@@ -93,67 +72,33 @@ impl<D: Rig> Controlled for Drive<D> {
     }
 }
 
-/// A drive over a disc of this geometry that was never written. The uses of these numbers fail.
-pub fn blank<D: Rig>(
-    alloc: Global,
-    zones: u32,
-    scale: u32,
-    spares: u32,
-    failing: Vec<u64>,
-) -> Result<Option<Drive<D>>, AllocError> {
-    let Ok(geometry) = Geometry::new(zones, scale, spares) else {
-        return Ok(None);
-    };
-    let medium = MemMedium::new(alloc, geometry.total(), failing)?;
-    Ok(Drive::over(Taken { medium, geometry }))
-}
-
-/// The numbers that these words are.
-fn numbers(alloc: Global, words: &[&str]) -> Result<Vec<u64>, AllocError> {
-    let mut numbers = Vec::new(alloc);
-    for word in words {
-        numbers.push(u64::from(number_of(word).unwrap_or(0)))?;
-    }
-    Ok(numbers)
-}
-
-/// Formats the disc of a drive anew, and adds how that ended.
-fn format_disc<D: Rig>(alloc: Global, disc: &mut D, answer: &mut String) -> Result<(), AllocError> {
-    power(alloc, disc);
-    let out = format(alloc, disc, Kind::Full { drop_sdl: false });
-    write!(answer, "{out:?}")
-}
-
-/// A drive with a small disc that was blank and is formatted.
-fn formatted<D: Rig>(alloc: Global, answer: &mut String) -> Result<Option<Drive<D>>, AllocError> {
-    let Some(mut drive) = blank::<D>(alloc, 1, 1, 4, Vec::new(alloc))? else {
-        return Ok(None);
-    };
-    format_disc(alloc, &mut drive.disc, answer)?;
-    Ok(Some(drive))
-}
-
-/// The drive with this disc. There is none where no disc has this geometry.
-pub fn insert<D: Rig>(
-    alloc: Global,
-    disc: Inserted,
-    answer: &mut String,
-) -> Result<Option<Drive<D>>, AllocError> {
-    match disc {
-        Inserted::Formatted => formatted(alloc, answer),
-        Inserted::Blank {
-            zones,
-            scale,
-            spares,
-            faults,
-        } => {
-            let drive = blank(alloc, zones, scale, spares, numbers(alloc, faults)?)?;
-            answer.push_str(if drive.is_some() {
-                "blank"
-            } else {
-                "no such disc"
-            })?;
-            Ok(drive)
+impl<D: InMemory> Rig for Drive<D> {
+    fn over(_alloc: Global, taken: Taken<MemMedium>) -> Result<Option<Drive<D>>, AllocError> {
+        let Taken { medium, geometry } = taken;
+        match D::over(medium, geometry) {
+            Some(disc) => Ok(Some(Drive { disc, geometry })),
+            None => Ok(None),
         }
+    }
+
+    fn take_out(self) -> Taken<MemMedium> {
+        let Drive { disc, geometry } = self;
+        Taken {
+            medium: disc.into_medium(),
+            geometry,
+        }
+    }
+
+    fn call(
+        &mut self,
+        alloc: Global,
+        words: &[&str],
+        answer: &mut String,
+    ) -> Result<bool, AllocError> {
+        let Some(call) = call_of(words) else {
+            return Ok(false);
+        };
+        answer_call::<D, OfDisc>(alloc, &mut self.disc, call, answer)?;
+        Ok(true)
     }
 }

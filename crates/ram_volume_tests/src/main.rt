@@ -6,15 +6,10 @@
 #![tactic(auto)]
 
 mod buffers;
-mod cuts;
 mod drive;
-mod host;
-mod lines;
 mod mixtures;
 mod random;
 mod rows;
-mod sectors;
-mod steps;
 
 use crate::rows::VolumeRows;
 use ram_by_hand::answer_rows;

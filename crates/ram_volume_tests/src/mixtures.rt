@@ -1,9 +1,8 @@
 //! The write of a block whose home is dead, with each mixture of dead spares and of copies of the secondary list that are dead
 //! or die in its update, for lists of either version. What must come of it is told by rules that know nothing of the drive.
 
-use crate::drive::Rig;
-use crate::lines::{joined, make_lines};
-use ram_by_hand::{Version, add_area, number_of};
+use crate::drive::{Drive, InMemory};
+use ram_by_hand::{Version, add_area, joined, make_lines, number_of};
 use std::alloc::{AllocError, Global};
 use std::fmt::Write;
 
@@ -231,11 +230,11 @@ impl Mixture {
 }
 
 /// Whether a mixture is answered as it must be.
-fn agrees<D: Rig>(alloc: Global, mixture: Mixture) -> Result<bool, AllocError> {
+fn agrees<D: InMemory>(alloc: Global, mixture: Mixture) -> Result<bool, AllocError> {
     let mut steps = String::new(alloc);
     mixture.add_steps(&mut steps)?;
     let mut answers = Vec::new(alloc);
-    let place = make_lines::<D>(alloc, None, steps.as_str(), &mut answers)?;
+    let place = make_lines::<Drive<D>>(alloc, None, steps.as_str(), &mut answers)?;
     answers.clear();
     make_lines(alloc, place, STEPS, &mut answers)?;
     let answers = joined(alloc, &answers)?;
@@ -244,7 +243,7 @@ fn agrees<D: Rig>(alloc: Global, mixture: Mixture) -> Result<bool, AllocError> {
 }
 
 /// Makes so many mixtures from this number on, and adds how many are answered as they must be, and the first that is not.
-fn count<D: Rig>(
+fn count<D: InMemory>(
     alloc: Global,
     version: Version,
     from: u32,
@@ -275,7 +274,7 @@ fn numbers_of(words: &str) -> Option<(Version, u32, u32)> {
 }
 
 /// Makes the mixtures of a row `mixtures VERSION FROM COUNT`, of which these are the last words.
-pub fn answer_mixtures<D: Rig>(
+pub fn answer_mixtures<D: InMemory>(
     alloc: Global,
     words: &str,
     answers: &mut String,

@@ -1,11 +1,7 @@
 //! Random calls of a drive, with blocks that fail and cuts, beside a plain list of what each sector may be.
 
-ghost use Rattle.std.specs.Prelude.{◌<◌};
-
-use crate::drive::{Drive, Rig, blank};
-use crate::host::{format, power, read, write};
-use ram_by_hand::number_of;
-use ram_medium::Fate;
+use crate::drive::{Drive, InMemory};
+use ram_by_hand::{Calls, OfDisc, below, blank, number_of, random_fate};
 use ram_sectors::{FormatOut, Kind, PowerOut, ReadOut, WriteOut};
 use rand_core::Rng;
 use rand_pcg::Pcg32;
@@ -91,14 +87,6 @@ impl Plain {
     }
 }
 
-/// A random number below the limit.
-pub fn below(random: &mut Pcg32, limit: u32) -> u32
-    requires { 0 < limit }
-    ensures { result < limit }
-{
-    random.next_u32() % limit
-}
-
 /// A random request.
 fn random_request(random: &mut Pcg32) -> Request {
     let lba = below(random, SECTORS);
@@ -109,21 +97,12 @@ fn random_request(random: &mut Pcg32) -> Request {
     }
 }
 
-/// A random fate.
-fn random_fate(random: &mut Pcg32) -> Fate {
-    match below(random, 3) {
-        0 => Fate::Old,
-        1 => Fate::New,
-        _ => Fate::Torn,
-    }
-}
-
-impl<D: Rig> Run<D> {
+impl<D: InMemory> Run<D> {
     /// Writes sectors.
     fn write(&mut self, alloc: Global) -> Result<(), AllocError> {
         let request = random_request(&mut self.random);
         let byte = (self.random.next_u32() & 7) as u8;
-        let out = write(alloc, &mut self.disc, request.lba, request.n, byte)?;
+        let out = OfDisc::write(alloc, &mut self.disc, request.lba, request.n, byte)?;
         self.plain.take_over(request, byte, out);
         Ok(())
     }
@@ -131,7 +110,7 @@ impl<D: Rig> Run<D> {
     /// Reads sectors, and compares them.
     fn read(&mut self, alloc: Global) -> Result<(), AllocError> {
         let Request { lba, n } = random_request(&mut self.random);
-        let (out, bytes) = read(alloc, &mut self.disc, lba, n)?;
+        let (out, bytes) = OfDisc::read(alloc, &mut self.disc, lba, n)?;
         if out == ReadOut::Good {
             self.compared = self.compared.saturating_add(1);
             let other = !self.plain.agrees(lba, &bytes);
@@ -143,7 +122,7 @@ impl<D: Rig> Run<D> {
     /// Formats the disc anew. What is stopped may have made it zeros.
     fn format(&mut self, alloc: Global) {
         let kind = Kind::Full { drop_sdl: false };
-        match format(alloc, &mut self.disc, kind) {
+        match OfDisc::format(alloc, &mut self.disc, kind) {
             FormatOut::Good => self.plain.forget(),
             FormatOut::Off | FormatOut::NoMemory => {}
             FormatOut::TooMany { .. }
@@ -158,12 +137,12 @@ impl<D: Rig> Run<D> {
         if self.disc.capacity().is_none() {
             return self.format(alloc);
         }
-        format(alloc, &mut self.disc, Kind::Rewrite);
+        OfDisc::format(alloc, &mut self.disc, Kind::Rewrite);
     }
 
     /// Turns the power on, and formats a disc that is not formatted.
     fn recover(&mut self, alloc: Global) {
-        if power(alloc, &mut self.disc) == PowerOut::NotFormatted {
+        if OfDisc::power(alloc, &mut self.disc) == PowerOut::NotFormatted {
             self.format(alloc);
         }
     }
@@ -216,7 +195,7 @@ impl<D: Rig> Run<D> {
 }
 
 /// The drive with the plain list beside it, before its first call.
-fn new_run<D: Rig>(alloc: Global, drive: Drive<D>, seed: u32) -> Result<Run<D>, AllocError> {
+fn new_run<D: InMemory>(alloc: Global, drive: Drive<D>, seed: u32) -> Result<Run<D>, AllocError> {
     let may_be = vec![in alloc; 1; SECTORS as usize]?;
     Ok(Run {
         disc: drive.disc,
@@ -228,7 +207,7 @@ fn new_run<D: Rig>(alloc: Global, drive: Drive<D>, seed: u32) -> Result<Run<D>, 
 }
 
 /// Adds how many reads were compared, and how many of these showed other bytes.
-fn add_counts<D: Rig>(run: &Run<D>, answers: &mut String) -> Result<(), AllocError> {
+fn add_counts<D: InMemory>(run: &Run<D>, answers: &mut String) -> Result<(), AllocError> {
     writeln!(
         answers,
         "{} reads compared, {} differ",
@@ -237,7 +216,7 @@ fn add_counts<D: Rig>(run: &Run<D>, answers: &mut String) -> Result<(), AllocErr
 }
 
 /// So many calls of a run, and what came of its reads.
-fn answer_run<D: Rig>(
+fn answer_run<D: InMemory>(
     alloc: Global,
     run: Run<D>,
     calls: u32,
@@ -249,20 +228,20 @@ fn answer_run<D: Rig>(
 }
 
 /// So many calls of a new drive, and what came of its reads.
-fn answer_seed<D: Rig>(
+fn answer_seed<D: InMemory>(
     alloc: Global,
     seed: u32,
     calls: u32,
     answers: &mut String,
 ) -> Result<(), AllocError> {
-    match blank::<D>(alloc, 1, 2, 20, Vec::new(alloc))? {
+    match blank::<Drive<D>>(alloc, 1, 2, 20, Vec::new(alloc))? {
         Some(drive) => answer_run(alloc, new_run(alloc, drive, seed)?, calls, answers),
         None => answers.push_str("no such disc\n"),
     }
 }
 
 /// Makes the calls of a row `random SEEDS CALLS`, of which these are the last words.
-pub fn answer_random<D: Rig>(
+pub fn answer_random<D: InMemory>(
     alloc: Global,
     words: &str,
     answers: &mut String,

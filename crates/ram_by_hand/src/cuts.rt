@@ -1,8 +1,7 @@
 //! A row that is made once for each use in which the power may be cut, and each fate of the block that is written then.
 
-use crate::drive::{Drive, Rig};
-use crate::lines::{joined, make_lines};
-use ram_by_hand::number_of;
+use crate::lines::{Rig, answer_lines, joined, make_lines};
+use crate::numbers::number_of;
 use ram_medium::Fate;
 use std::alloc::{AllocError, Global};
 use std::fmt::Write;
@@ -38,27 +37,27 @@ fn cut_line(alloc: Global, n: u32, fate: Fate) -> Result<String, AllocError> {
 }
 
 /// The drive after the lines before the cut, and with the cut armed.
-fn set_up<D: Rig>(
+fn set_up<R: Rig>(
     alloc: Global,
     before: &str,
     n: u32,
     fate: Fate,
-) -> Result<Option<Drive<D>>, AllocError> {
+) -> Result<Option<R>, AllocError> {
     let mut answers = Vec::new(alloc);
     let cut = cut_line(alloc, n, fate)?;
-    let place = make_lines::<D>(alloc, None, before, &mut answers)?;
+    let place = make_lines::<R>(alloc, None, before, &mut answers)?;
     make_lines(alloc, place, cut.as_str(), &mut answers)
 }
 
 /// The answers of the lines behind the cut, where the power is cut in this use.
-fn after_cut<D: Rig>(
+fn after_cut<R: Rig>(
     alloc: Global,
     before: &str,
     n: u32,
     fate: Fate,
     behind: &str,
 ) -> Result<String, AllocError> {
-    let place = set_up::<D>(alloc, before, n, fate)?;
+    let place = set_up::<R>(alloc, before, n, fate)?;
     let mut answers = Vec::new(alloc);
     make_lines(alloc, place, behind, &mut answers)?;
     joined(alloc, &answers)
@@ -93,7 +92,7 @@ impl Span {
 }
 
 /// Makes a row once for each use in which the power is to be cut, with this fate.
-fn answer_fate<D: Rig>(
+fn answer_fate<R: Rig>(
     alloc: Global,
     before: &str,
     cuts: Cuts,
@@ -107,7 +106,7 @@ fn answer_fate<D: Rig>(
         text: String::new(alloc),
     };
     for n in cuts.first..cuts.last.saturating_add(1) {
-        let text = after_cut::<D>(alloc, before, n, fate, behind)?;
+        let text = after_cut::<R>(alloc, before, n, fate, behind)?;
         span.go_on(n, text, answers)?;
     }
     span.add_to(answers)
@@ -123,7 +122,7 @@ fn cuts_of(words: &str) -> Option<Cuts> {
 }
 
 /// Makes a row once for each use in which the power is to be cut and each fate.
-pub fn answer_each<D: Rig>(
+fn answer_each<R: Rig>(
     alloc: Global,
     before: &str,
     behind: &str,
@@ -134,7 +133,19 @@ pub fn answer_each<D: Rig>(
         return answers.push_str("no such cut\n");
     };
     for fate in [Fate::Old, Fate::New, Fate::Torn] {
-        answer_fate::<D>(alloc, before, cuts, fate, behind, answers)?;
+        answer_fate::<R>(alloc, before, cuts, fate, behind, answers)?;
     }
     Ok(())
+}
+
+/// Makes the steps of a row, and adds their answers: once, or once for each use in which it is to be cut.
+pub fn answer_row<R: Rig>(
+    alloc: Global,
+    row: &str,
+    answers: &mut String,
+) -> Result<(), AllocError> {
+    match row.split_once("cut each ") {
+        Some((before, behind)) => answer_each::<R>(alloc, before, behind, answers),
+        None => answer_lines::<R>(alloc, row, answers),
+    }
 }
