@@ -4,6 +4,7 @@
 
 mod blocks;
 mod entries;
+mod filter;
 mod marks;
 mod places;
 mod rows;

@@ -17,14 +17,34 @@ pub struct Places {
     pub sdl: Sdl,
 }
 
+/// The first and the last block that a word means, and how far one is from the next: `FIRST-LAST/STEP`, or one block.
+fn range_of(word: &str) -> Option<(u32, u32, u32)> {
+    let Some((range, step)) = word.split_once('/') else {
+        let block = number_of(word)?;
+        return Some((block, block, 1));
+    };
+    let (first, last) = range.split_once('-')?;
+    Some((number_of(first)?, number_of(last)?, number_of(step)?))
+}
+
+/// Adds the slipped blocks that a word means.
+fn push_slipped(items: &mut Vec<PdlEntry>, word: &str) -> Result<(), AllocError> {
+    let (first, last, step) = range_of(word).unwrap_or((0, 0, 1));
+    let step = step.max(1);
+    for k in 0..(last.saturating_sub(first) / step).saturating_add(1) {
+        items.push(PdlEntry {
+            kind: PdlKind::P,
+            block: first.saturating_add(k.saturating_mul(step)),
+        })?;
+    }
+    Ok(())
+}
+
 /// The structure of a formatted disc with these slipped blocks.
 pub fn slipping(alloc: Global, psa: u32, blocks: &[&str]) -> Result<DdsPdl, AllocError> {
     let mut items = Vec::new(alloc);
     for word in blocks {
-        items.push(PdlEntry {
-            kind: PdlKind::P,
-            block: number_of(word).unwrap_or(0),
-        })?;
+        push_slipped(&mut items, word)?;
     }
     Ok(DdsPdl {
         version: Version::One,
@@ -67,7 +87,7 @@ pub fn layout_of(
 }
 
 /// The block of a logical block, where there is such a one.
-fn block_in(layout: &SlipLayout, i: u32) -> Option<u32> {
+pub fn block_in(layout: &SlipLayout, i: u32) -> Option<u32> {
     if i < layout.logical() {
         return Some(layout.physical(i));
     }
@@ -75,7 +95,7 @@ fn block_in(layout: &SlipLayout, i: u32) -> Option<u32> {
 }
 
 /// The spare of a turn, where there is such a one.
-fn spare_in(layout: &SlipLayout, turn: u32) -> Option<u32> {
+pub fn spare_in(layout: &SlipLayout, turn: u32) -> Option<u32> {
     if layout.pools() == 1 {
         return layout.spare(0, turn);
     }
@@ -100,7 +120,7 @@ fn turn_at(geometry: &Geometry, dds: &DdsPdl, ssa: u32, block: u32) -> Option<u3
 
 impl Places {
     /// The layout with so many supplementary spares.
-    fn layout(&self, alloc: Global, ssa: u32) -> Result<Option<SlipLayout>, AllocError> {
+    pub fn layout(&self, alloc: Global, ssa: u32) -> Result<Option<SlipLayout>, AllocError> {
         layout_of(alloc, &self.geometry, &self.dds, ssa)
     }
 

@@ -8,6 +8,7 @@ use crate::states::answer_states;
 use crate::texts::{add_both, add_dds, add_more, add_sdl};
 use ram_by_hand::{List, Rows, Version, byte_of, entries_of, number_of, put};
 use ram_bytes::Block;
+use ram_sdl::Version as SdlVersion;
 use ram_slip::{is_valid_pdl, is_valid_ssa};
 use ram_zones::Geometry;
 use std::alloc::{AllocError, Global};
@@ -109,6 +110,18 @@ fn replace(
 ) -> Result<(), AllocError> {
     let entries = entries_of(alloc, words)?;
     table.places.sdl = replacing(alloc, ssa, &entries)?;
+    table.places.add_validity(answer)
+}
+
+/// Makes both lists those of version 1, or of version 2.
+fn take_version(table: &mut Table, version: u32, answer: &mut String) -> Result<(), AllocError> {
+    let version = if version == 2 {
+        SdlVersion::Two
+    } else {
+        SdlVersion::One
+    };
+    table.places.dds.version = version;
+    table.places.sdl.version = version;
     table.places.add_validity(answer)
 }
 
@@ -226,6 +239,9 @@ fn look(
         ),
         ("logical", [i]) => places.add_logical(alloc, *i, answer),
         ("place", [ssa, block]) => places.add_place(alloc, *ssa, *block, answer),
+        ("filter", [ssa]) => places.add_filtered(alloc, *ssa, answer),
+        ("home", [i]) => places.add_home(alloc, *i, answer),
+        ("free", [first]) => places.add_free(alloc, *first, answer),
         ("spare", [ssa, block]) => places.add_spare(alloc, *ssa, *block, answer),
         ("next", []) => places.add_next(alloc, None, answer),
         ("next", [after]) => places.add_next(alloc, Some(*after), answer),
@@ -284,6 +300,7 @@ fn make(
         ["list", ssa, entries @ ..] => {
             replace(alloc, table, number_of(ssa).unwrap_or(0), entries, answer)
         }
+        ["version", version] => take_version(table, number_of(version).unwrap_or(0), answer),
         ["marks", count, bytes @ ..] => answer_marks(alloc, count, bytes, answer),
         _ => look_or_text(alloc, table, words, answer),
     }

@@ -15,7 +15,7 @@ use ram_layout::{Layout, SlipLayout};
 use ram_lists::is_valid_sdl;
 use ram_sdl::Sdl;
 use ram_slip::{Place, is_valid_pdl};
-use ram_spare::{Cursors, SpareCounts, counts, next_free};
+use ram_spare::{Cursors, FreeSpare, SpareCounts, counts, free_from, home, next_free};
 use ram_zones::Geometry;
 use std::alloc::{AllocError, Global};
 use std::fmt::Write;
@@ -84,6 +84,26 @@ pub fn next(
     Ok(next_in(&layout, &cursors, sdl, after))
 }
 
+/// The first free spare of a layout from a turn on.
+fn free_in(layout: &SlipLayout, sdl: &Sdl, first: u32) -> Option<FreeSpare>
+    requires rise { IsStrictlyIncreasing (defectives sdl.now.entries.list) }
+{
+    if layout.pools() == 1 {
+        return free_from(layout, sdl, 0, first);
+    }
+    None
+}
+
+/// The home of a logical block, where there is such a one.
+fn home_in(layout: &SlipLayout, sdl: &Sdl, i: u32) -> Option<u32>
+    requires rise { IsStrictlyIncreasing (defectives sdl.now.entries.list) }
+{
+    if i < layout.logical() {
+        return Some(home(layout, sdl, i));
+    }
+    None
+}
+
 /// How many spares are free, where it may be asked for.
 pub fn counted(geometry: &Geometry, dds: &DdsPdl, sdl: &Sdl) -> Option<SpareCounts> {
     if are_valid(geometry, dds, sdl) {
@@ -122,6 +142,39 @@ impl Places {
             after = Some(spare);
         }
         Ok(())
+    }
+
+    /// Adds the first free spare from a turn on, and its turn: a cursor stands at one such turn, before which no spare is free.
+    pub fn add_free(
+        &self,
+        alloc: Global,
+        first: u32,
+        answer: &mut String,
+    ) -> Result<(), AllocError> {
+        let Some(layout) = self.layout(alloc, self.sdl.ssa)? else {
+            return answer.push_str("not valid");
+        };
+        if !are_valid(&self.geometry, &self.dds, &self.sdl) {
+            return answer.push_str("not valid");
+        }
+        match free_in(&layout, &self.sdl, first) {
+            Some(free) => write!(answer, "turn {}, block {}", free.turn, free.block),
+            None => answer.push_str("none"),
+        }
+    }
+
+    /// Adds the home of a logical block.
+    pub fn add_home(&self, alloc: Global, i: u32, answer: &mut String) -> Result<(), AllocError> {
+        let Some(layout) = self.layout(alloc, self.sdl.ssa)? else {
+            return answer.push_str("not valid");
+        };
+        if !are_valid(&self.geometry, &self.dds, &self.sdl) {
+            return answer.push_str("not valid");
+        }
+        match home_in(&layout, &self.sdl, i) {
+            Some(block) => write!(answer, "block {block}"),
+            None => answer.push_str("none"),
+        }
     }
 
     /// Adds the cursor of each of so many pools, as it is made.
