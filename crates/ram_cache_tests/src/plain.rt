@@ -37,7 +37,8 @@ impl Plain {
 
     /// How many sectors the disc has.
     pub fn sectors(&self) -> u32 {
-        (self.blocks.len() as u32).saturating_mul(IN_BLOCK)
+        let blocks = u32::try_from(self.blocks.len()).unwrap_or(u32::MAX);
+        blocks.saturating_mul(IN_BLOCK)
     }
 
     /// How many blocks are pending.
