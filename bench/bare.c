@@ -1,5 +1,5 @@
 /* The bare system calls for some blocks of a disc's image, and the least that a drive of this image does with them.
-   usage: bare WHAT IMAGE TOTAL FIRST BLOCKS TURNS GROUP     prints the seconds that it took
+   usage: bare WHAT IMAGE TOTAL FIRST BLOCKS TURNS GROUP KEPT     prints the seconds of the processor that it took
 
    The image has TOTAL blocks. BLOCKS of them from FIRST on are used in turn, in groups of GROUP. They are the disc's logical
    blocks, none of them replaced, and have whole bytes. The data of a group lie one after another, as those of a command do.
@@ -10,7 +10,8 @@
                  state byte is written, its data, and its state byte again; then its data are read back
    least-read    the state bytes of 64 blocks are read at a time, and the data of each block of a group to its place; then
                  each byte of a sector is compared with its first one, sixteen at a time, as for its line in the report, and
-                 those of the last block are moved into the block that is kept in the same pass */
+                 those of the last KEPT blocks are moved into the blocks that are kept in the same pass
+   moved-read    the same in two passes, as the drive has it: the last KEPT blocks are moved, and then all are looked at */
 #include <fcntl.h>
 #include <stdio.h>
 #include <stdlib.h>
@@ -20,13 +21,17 @@
 
 enum { SECTOR_BYTES = 2048, BLOCK_BYTES = 32768, HEADER_BYTES = 16, STATES = 64 };
 
-static char read_back[BLOCK_BYTES];
+enum { MOST_KEPT = 8 };
+
+static char kept_blocks[MOST_KEPT][BLOCK_BYTES];
+
+static char *const read_back = kept_blocks[0];
 
 static volatile int fills;
 
 static int file;
 
-static long total, first_block, group;
+static long total, first_block, group, kept;
 
 static void moved(ssize_t bytes, ssize_t due) {
     if (bytes != due) {
@@ -99,15 +104,29 @@ static int is_fill_moved(char *into, const char *sector) {
 }
 
 static void least_read(char *data, long first) {
-    const long last = (group - 1) * BLOCK_BYTES;
+    const long passed = group < kept ? 0 : group - kept;
     if (first % STATES == 0)
         read_states(first);
     for (long k = 0; k < group; k++)
         read_data(first + k, data + k * BLOCK_BYTES);
-    for (long at = 0; at < last; at += SECTOR_BYTES)
+    for (long at = 0; at < passed * BLOCK_BYTES; at += SECTOR_BYTES)
         fills += is_fill(data + at);
-    for (long at = 0; at < BLOCK_BYTES; at += SECTOR_BYTES)
-        fills += is_fill_moved(read_back + at, data + last + at);
+    for (long k = passed; k < group; k++)
+        for (long at = 0; at < BLOCK_BYTES; at += SECTOR_BYTES)
+            fills += is_fill_moved(kept_blocks[(first + k) % MOST_KEPT] + at, data + k * BLOCK_BYTES + at);
+}
+
+static void moved_read(char *data, long first) {
+    if (first % STATES == 0)
+        read_states(first);
+    for (long k = 0; k < group; k++) {
+        char *const place = data + k * BLOCK_BYTES;
+        read_data(first + k, place);
+        if (group <= k + kept)
+            memcpy(kept_blocks[(first + k) % MOST_KEPT], place, BLOCK_BYTES);
+    }
+    for (long at = 0; at < group * BLOCK_BYTES; at += SECTOR_BYTES)
+        fills += is_fill(data + at);
 }
 
 static void once(const char *what, char *data, long first) {
@@ -115,6 +134,8 @@ static void once(const char *what, char *data, long first) {
         least_write(data, first);
     else if (strcmp(what, "least-read") == 0)
         least_read(data, first);
+    else if (strcmp(what, "moved-read") == 0)
+        moved_read(data, first);
     else if (strcmp(what, "write") == 0)
         for (long k = 0; k < group; k++) {
             write_data(first + k, data + k * BLOCK_BYTES);
@@ -126,21 +147,22 @@ static void once(const char *what, char *data, long first) {
 }
 
 int main(int count, char **words) {
-    if (count != 8)
+    if (count != 9)
         return 2;
     file = open(words[2], O_RDWR);
     total = atol(words[3]);
     first_block = atol(words[4]);
     long blocks = atol(words[5]), turns = atol(words[6]);
     group = atol(words[7]);
+    kept = atol(words[8]);
     char *data = malloc(group * BLOCK_BYTES);
     memset(data, 0xaa, group * BLOCK_BYTES);
     struct timespec start, end;
-    clock_gettime(CLOCK_MONOTONIC, &start);
+    clock_gettime(CLOCK_PROCESS_CPUTIME_ID, &start);
     for (long turn = 0; turn < turns; turn++)
         for (long first = 0; first + group <= blocks; first += group)
             once(words[1], data, first);
-    clock_gettime(CLOCK_MONOTONIC, &end);
+    clock_gettime(CLOCK_PROCESS_CPUTIME_ID, &end);
     printf("%.6f\n", (double)(end.tv_sec - start.tv_sec) + (double)(end.tv_nsec - start.tv_nsec) / 1e9);
     return 0;
 }

@@ -1,0 +1,199 @@
+"""Ratios of two times that were measured in turns, each with the most that it is to be."""
+from measuring import (CACHE_ON, FORMAT, POWER, SYNCHRONIZE, Bench, Timed, best, read_command, write_command)
+
+import discs
+
+BLOCKS, TURNS = 896, 16
+NEW_DISC = "press 1 40 16\n" + POWER + FORMAT
+# What is measured is blocks this many logical blocks apart. Each of them is replaced on both discs with defects.
+APART = 128
+SPARES = discs.MOST_SPARES
+# The writes at the start and at the end of a run of many that are measured.
+FEW = 16
+# The uses of the medium for a write that needs a spare: two each for the home and the spare, eight for each part of the list.
+USES = 2 + 2 + 16
+# How many blocks a command reads.
+READS = 1, 2, 4, 8, 14, 16, 32, 64
+CACHED, ROUNDS = 32, 200
+# In milliseconds.
+MOST_MOUNT = 10.0
+
+
+def head():
+    print(f"\n{'what':<62}{'us':>10}{'beside us':>12}{'ratio':>8}{'at most':>9}")
+
+
+def exceeds(found, most):
+    return "" if found <= most else "  exceeded"
+
+
+def row(what, one, other, most=None):
+    """Prints two times in microseconds, and their ratio."""
+    ratio = one / other
+    bound = "" if most is None else f"{most:>9.2f}{exceeds(ratio, most)}"
+    print(f"{what:<62}{one * 1e6:>10.2f}{other * 1e6:>12.2f}{ratio:>8.2f}{bound}")
+
+
+def commands(write, blocks):
+    """Commands that write or read each of these logical blocks in turn."""
+    if write:
+        return "".join(write_command(i * 16, 16, turn + i) for turn in range(TURNS) for i in blocks)
+    return "".join(read_command(i * 16, 16) for i in blocks) * TURNS
+
+
+def defects(program, folder):
+    """Reads and writes of one block on discs with and without defects, and how long each takes to be mounted."""
+    makers = [("4,092 slipped, 4,092 replaced", discs.slipped_and_replaced), ("8,184 replaced", discs.replaced), ("", discs.plain)]
+    sets = [("replaced", range(0, BLOCKS * APART, APART)), ("in a row", range(BLOCKS))]
+    benches = [Bench(program, folder / f"defects{number}.img") for number, _ in enumerate(makers)]
+    for bench, (_, make) in zip(benches, makers):
+        make(bench.image)
+        bench.once(POWER + "".join(write_command(i * 16, 16, i) for _, blocks in sets for i in blocks))
+    idle = best([bench.runs(POWER) for bench in benches])
+    for write in False, True:
+        for where, blocks in sets:
+            times = best([bench.runs(POWER + commands(write, blocks)) for bench in benches])
+            *with_defects, without = [(time - still) / (BLOCKS * TURNS) for time, still in zip(times, idle)]
+            for (what, _), each in zip(makers, with_defects):
+                row(f"a block {'written' if write else 'read'}, {where}: {what}", each, without, 1.05)
+    mounts(program, folder / "retired.img", benches)
+    for bench in benches:
+        bench.image.unlink()
+
+
+def mounts(program, path, benches):
+    """Prints how long a mount of each disc with full lists takes."""
+    discs.retired(path)
+    several = 20
+    names = "8,184 retired", "4,092 slipped, 4,092 replaced", "8,184 replaced"
+    all_benches = [Bench(program, path), *benches[:2]]
+    once = best([bench.runs("power\n") for bench in all_benches])
+    often = best([bench.runs("power\n" * (1 + several)) for bench in all_benches])
+    for name, one, many in zip(names, once, often):
+        mount = (many - one) / several * 1e3
+        print(f"{f'the power goes on, {name}':<62}{mount:>10.2f} ms{MOST_MOUNT:>28.2f} ms{exceeds(mount, MOST_MOUNT)}")
+    path.unlink()
+
+
+def moves(bench):
+    """The time of each write that needs the next spare, from the first of 4,092 to the last, in one run. The last takes no more
+    uses than the home, one spare and the list do: the use behind these is cut."""
+    discs.press(bench.image, discs.lists_of(discs.GREATEST))
+    session = Timed(bench)
+    session.asks(POWER)
+    times = []
+    for i, home in enumerate(discs.lists_of(discs.GREATEST).logical[:SPARES]):
+        session.asks(f"fail {home}\n" + (f"cut {USES + 1} old\n" if i == SPARES - 1 else ""))
+        answers, time = session.asks(write_command(i * 16, 16, i))
+        assert answers == ["good"], answers
+        times.append(time)
+    assert session.asks(write_command(SPARES * 16, 16, 0))[0] == ["cut"]
+    session.end()
+    return times
+
+
+def first_move(bench):
+    """The time of the write that needs the last of 4,092 spares, as the first one after the power comes on."""
+    lists = discs.lists_of(discs.GREATEST, every=1, count=SPARES - 1)
+    discs.press(bench.image, lists)
+    session = Timed(bench)
+    session.asks(f"{POWER}fail {lists.logical[SPARES - 1]}\n")
+    answers, time = session.asks(write_command((SPARES - 1) * 16, 16, 0))
+    assert answers == ["good"], answers
+    session.end()
+    return time
+
+
+def expansions(bench):
+    """The time of some updates of the list in use, by expansions, which need no spare."""
+    session = Timed(bench)
+    session.asks(POWER)
+    sectors = 16 * (len(discs.GREATEST.data) - SPARES)
+    answers, time = session.asks("".join(
+        f"cdb 041100000000 hex 00000008{sectors - 16 * (k + 1):08x}04000000\n" for k in range(FEW)))
+    assert answers == ["good"] * FEW, answers
+    session.end()
+    return time
+
+
+def spares(program, folder):
+    """The write that needs the last spare beside the one that needs the first, with the longer list told apart."""
+    bench = Bench(program, folder / "spares.img")
+    rounds = []
+    for _ in range(5):
+        times = moves(bench)
+        long_list = expansions(bench)
+        discs.plain(bench.image)
+        rounds.append((sum(times[:FEW]), sum(times[-FEW:]), long_list, expansions(bench), FEW * first_move(bench)))
+    first, last, long_list, short_list, anew = [min(times) / FEW for times in zip(*rounds)]
+    row("a write that needs the last of 4,092 spares, beside the first", last, first)
+    row("an update of a list of 4,092 entries, beside one of none", long_list, short_list)
+    row("the last spare, without what the longer list takes", last - (long_list - short_list), first, 1.3)
+    row("the last spare, in the first write after the power comes on", anew, first)
+    bench.image.unlink()
+
+
+def cache(program, folder, loops):
+    """What the write cache saves, and what it takes to synchronise it."""
+    bench = Bench(program, folder / "cache.img")
+    bench.once(NEW_DISC)
+    on = POWER + CACHE_ON
+    sectors = [lba for _ in range(ROUNDS) for lba in range(16)]
+    into = "".join(write_command(lba, 1, lba) + (SYNCHRONIZE if lba == 15 else "") for lba in sectors)
+    through = "".join(write_command(lba, 1, lba, fua=True) for lba in sectors)
+    idle, cached, direct = best([bench.runs(on + script) for script in ("", into, through)])
+    row("16 writes into one block and a synchronisation, beside FUA", (cached - idle) / ROUNDS, (direct - idle) / ROUNDS)
+    writes = "".join(write_command(lba, 256, lba) for lba in range(0, 16 * CACHED, 256))
+    waiting, synchronised, bare = best([
+        bench.runs(on + writes * ROUNDS), bench.runs(on + (writes + SYNCHRONIZE) * ROUNDS),
+        loops.loop("write", bench.image, (1016, 25, CACHED, ROUNDS), CACHED)])
+    row("32 blocks synchronised, beside bare writes and read-backs", (synchronised - waiting) / ROUNDS, bare / ROUNDS, 1.25)
+    bench.image.unlink()
+
+
+def beside(program, other, folder, name, cases):
+    """Reads and writes of both programs: in each case how many blocks a command has, whether they are written, and the bound."""
+    benches = [Bench(each, folder / f"beside{number}.img") for number, each in enumerate((program, other))]
+    for bench in benches:
+        bench.once(NEW_DISC)
+        bench.once(POWER + transfers(True, 1))
+    idle = best([bench.runs(POWER) for bench in benches])
+    for write, blocks, most in cases:
+        times = best([bench.runs(POWER + transfers(write, blocks)) for bench in benches], 15)
+        each = [(time - still) / (BLOCKS * TURNS) for time, still in zip(times, idle)]
+        row(f"a block {'written' if write else 'read'}, {blocks} a command, beside {name}", *each, most)
+    for bench in benches:
+        bench.image.unlink()
+
+
+def most_of(blocks):
+    """The most that a read of so many blocks may take with eight blocks buffered, beside one with the last alone."""
+    return 1.05 if blocks == 1 else 1.15 if blocks < 16 else 1.07
+
+
+def kept(loops, image, disc):
+    """Loops in C that keep the last eight blocks of a read, as the drive does, beside the same that keep the last alone."""
+    for blocks in READS:
+        eight, one = best([loops.loop("moved-read", image, disc, blocks, kept) for kept in (8, 1)])
+        each = BLOCKS * TURNS
+        row(f"a loop that reads {blocks} and keeps eight, beside one that keeps one", eight / each, one / each, most_of(blocks))
+
+
+def transfers(write, blocks):
+    """Commands of so many blocks that write or read all of them in turn."""
+    starts = range(0, BLOCKS - blocks + 1, blocks)
+    if write:
+        return "".join(write_command(16 * i, 16 * blocks, turn + i) for turn in range(TURNS) for i in starts)
+    return "".join(read_command(16 * i, 16 * blocks) for i in starts) * TURNS
+
+
+def before_eight(program, other, folder):
+    """Beside a program that keeps one block in its buffer."""
+    cases = [(False, blocks, most_of(blocks)) for blocks in READS]
+    beside(program, other, folder, "one buffered", cases)
+
+
+def before_cache(program, other, folder):
+    """Beside a program that has no write cache."""
+    cases = [(write, blocks, 1.02) for write in (False, True) for blocks in (1, 4, 16, 64)]
+    beside(program, other, folder, "no cache", cases)
