@@ -1,7 +1,7 @@
 -- What a capacity is to a disc, by the numbers of the code.
 use Rattle.std.specs.Prelude.{◌≡◌, ◌≢◌, ℕ, ◌+◌, ◌-◌, ◌*◌, ◌/◌, ◌%◌, ◌<◌, ◌≤◌, length}
 use Rattle.std.proofs.Common.{arith}
-use Rattle.model_geometry.specs.Geometry.{Shape, data_blocks}
+use Rattle.model_geometry.specs.Geometry.{Shape, data_blocks, spare_room}
 use Rattle.model_lists.specs.Values.{most_of}
 use Rattle.model_places.specs.Places.{Lists, capacity_of}
 use Rattle.model_places.specs.Valid.{AreValid}
@@ -69,8 +69,8 @@ module _ (shape : Shape) (lists : Lists) (valid : AreValid shape lists) (count p
         }
 
 -- the capacity leaves no more blocks than there are
-pub left_within : (shape : Shape) (lists : Lists) → AreValid shape lists → (capacity : ℕ) → IsSmaller shape lists capacity → shape.psa + capacity / 16 ≤ length (data_blocks shape)
+pub left_within : (shape : Shape) (lists : Lists) → AreValid shape lists → (capacity : ℕ) → IsSmaller shape lists capacity → spare_room shape 0 + capacity / 16 ≤ length (data_blocks shape)
 left_within shape lists valid capacity size =
     let fewer = size.lawful.fewer in
     let some = valid.together.secondary.area.some_logical in
-    omega (arith, fewer, some, slip_room shape lists.sdl.ssa, slip_counts shape lists.sdl.ssa)
+    omega (arith, fewer, some, slip_room shape 0, slip_room shape lists.sdl.ssa, slip_counts shape lists.sdl.ssa)

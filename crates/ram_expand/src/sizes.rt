@@ -1,7 +1,7 @@
 //! Which capacities a disc may have after an expansion.
 
 ghost use Rattle.std.specs.Prelude.{◌≡◌, ◌+◌, ◌/◌, ◌≤◌, length};
-ghost use Rattle.model_geometry.specs.Geometry.{IsLawful, data_blocks};
+ghost use Rattle.model_geometry.specs.Geometry.{IsLawful, data_blocks, spare_room};
 ghost use Rattle.model_places.specs.Valid.{AreValid};
 ghost use Rattle.model_drive.specs.Expands.{ssa_for};
 ghost use Rattle.ram_lists.specs.Lists.{lists_of};
@@ -23,7 +23,7 @@ pub enum Size {
 
 /// The size of the supplementary spare area that leaves so many sectors, in blocks.
 pub fn area_for(geometry: &Geometry, capacity: u32) -> u32
-    requires { geometry.now.psa + capacity / 16 ≤ length (data_blocks geometry.now) }
+    requires { spare_room geometry.now 0 + capacity / 16 ≤ length (data_blocks geometry.now) }
     ensures area { result ≡ ssa_for geometry.now capacity }
     ensures lawful { IsLawful geometry.now }
 {

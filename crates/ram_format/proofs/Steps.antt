@@ -25,8 +25,8 @@ use Rattle.model_sectors.specs.Discs.{zeros}
 use Rattle.model_copies.specs.Copies.{Settled, AllLost}
 use Rattle.model_copies.specs.Parts.{SdlIsExact, AreMarkedWithin}
 use Rattle.model_places.specs.Places as places
-use Rattle.model_places.specs.Valid.{AreValid}
-use Rattle.model_places.proofs.ByKind.{entries_few}
+use Rattle.model_places.specs.Valid.{SlipsFew, AreValid}
+use Rattle.model_places.proofs.ByKind.{slips_few}
 use Rattle.model_volume.specs.Given.{IsGiven, IsListBlock}
 use Rattle.model_survival.specs.Stops.{LeavesSdl}
 use Rattle.model_volume.specs.Covers.{FitsUnder, SomeFit}
@@ -58,12 +58,12 @@ use Rattle.ram_format.proofs.Lefts.{sdl_stays, sdl_not_written}
 use Rattle.ram_format.specs.Full.{uses_of_all, FormatGoes, AreDefects, AreFewDefects, MakesLists, FormatStopped, HaltsFormat}
 
 -- a structure with entries that rise, and are data blocks, is lawful
-pub lawful_dds : (shape : Shape) (mark psa : ℕ) (entries : List PdlEntry) → IsLawful shape → psa ≡ shape.psa → mark + 2 ≤ 4294967295 → length entries ≤ shape.psa
+pub lawful_dds : (shape : Shape) (mark psa : ℕ) (entries : List PdlEntry) → IsLawful shape → psa ≡ shape.psa → mark + 2 ≤ 4294967295 → SlipsFew shape (pdl_blocks entries)
     → IsStrictlyIncreasing (pdl_blocks entries) → All (Contains (data_blocks shape)) (pdl_blocks entries)
     → IsLawfulDds (record { version = Two; counter = mark + 2; state = Formatted; psa = psa; entries = entries })
 lawful_dds shape mark psa entries lawful same room few rise all = record {
   counted = omega (arith, room);
-  limits = record { some = omega (arith, same, lawful.some_spares); most = omega (arith, same, lawful.most_spares); few = omega (arith, same, few); fits = tt };
+  limits = record { some = omega (arith, same, lawful.some_spares); most = omega (arith, same, lawful.most_spares); few = (let most = slips_few shape (pdl_blocks entries) few in omega (arith, same, most, length-map entries (λ (e : PdlEntry). e.block))); fits = tt };
   list = record {
     rise = rise;
     numbers = λ k d k_in.
@@ -318,7 +318,7 @@ module _ {M : Type 0} (world : M → World) (block_count : M → ℕ) (reaches :
               fresh_three = sdl_exact shape (fresh_sdl mark) (world three).cells done.exact
 
               pub valid : AreValid shape (fresh_lists shape mark entries)
-              valid = fresh_valid shape mark entries lawful few.defects.rise few.defects.data_only (entries_few shape entries few.few)
+              valid = fresh_valid shape mark entries lawful few.defects.rise few.defects.data_only few.few
 
               -- ---- the last update of the structure
 

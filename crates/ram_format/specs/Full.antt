@@ -1,11 +1,11 @@
 -- What a full format does: for `format_lists`, and by its answer for `full_format`.
-use Rattle.std.specs.Prelude.{◌≡◌, ℕ, ◌+◌, ◌≤◌, ◌<◌, ◌⊎◌, true, IsTrue, List, length}
+use Rattle.std.specs.Prelude.{◌≡◌, ℕ, ◌+◌, ◌≤◌, ◌⊎◌, true, IsTrue, List}
 use Rattle.std.specs.List.{Contains}
 use Rattle.model_geometry.specs.declared.TheConstants.{SDL_LIMIT}
 use Rattle.model_geometry.specs.Geometry.{Shape, dds_block}
 use Rattle.model_lists.specs.declared.dds.PdlEntry.{PdlEntry}
 use Rattle.model_lists.specs.declared.dds.PdlKind.{PdlKind}
-use Rattle.model_lists.specs.Values.{IsLawfulDds, IsLawfulSdl}
+use Rattle.model_lists.specs.Values.{pdl_blocks, IsLawfulDds, IsLawfulSdl}
 use Rattle.model_medium.specs.World.{World, Span, UseContinues}
 use Rattle.model_stops.specs.Stops.{Continues, Stops}
 use Rattle.model_stops.specs.declared.Stop.{Stop}
@@ -13,7 +13,7 @@ use Rattle.model_stops.specs.declared.Stop.TheVariants as stops
 use Rattle.model_copies.specs.Copies.{AllLost}
 use Rattle.model_copies.specs.Parts.{SdlIsLost, AreMarkedWithin}
 use Rattle.model_places.specs.Places as places
-use Rattle.model_places.specs.Valid.{AreValid}
+use Rattle.model_places.specs.Valid.{SlipsFew, told_too_many, AreValid}
 use Rattle.model_volume.specs.Given.{IsGiven, GivesNone, AreSettled}
 use Rattle.model_formats.specs.Defects.{AreCertified, AreDefective, ChangesFormatted}
 use Rattle.model_formats.specs.Fresh.{fresh_sdl, fresh_lists}
@@ -63,7 +63,7 @@ module _ {M : Type 0} (world : M → World) (reaches : M → M → Span → Type
   -- no more of them than may be slipped
   pub record AreFewDefects : Type 0 where
     pub entries : List PdlEntry
-    pub few : length entries ≤ shape.psa
+    pub few : SlipsFew shape (pdl_blocks entries)
     pub defects : AreDefects entries
 
   -- The disc is formatted: its lists are new, valid and settled, and name the defective blocks.
@@ -71,7 +71,7 @@ module _ {M : Type 0} (world : M → World) (reaches : M → M → Span → Type
     pub goes : FormatGoes uses_of_all
     pub entries : List PdlEntry
     pub lists_are : lists ≡ fresh_lists shape mark entries
-    pub few : length entries ≤ shape.psa
+    pub few : SlipsFew shape (pdl_blocks entries)
     pub defects : AreDefects entries
     pub valid : AreValid shape lists
     pub lawful_dds : IsLawfulDds lists.dds
@@ -80,12 +80,12 @@ module _ {M : Type 0} (world : M → World) (reaches : M → M → Span → Type
     pub has_dds : (world old).known ≡ true → ¬ AllLost (dds_block shape) (world new).cells
     pub has_sdl : (world old).known ≡ true → ¬ SdlIsLost shape (world new).cells (fresh_sdl mark)
 
-  -- More blocks are defective than may be slipped, and so many. The structure says Formatting.
+  -- More blocks are defective than may be slipped, and this number is told. The structure says Formatting.
   pub record MeetsTooMany (found left : ℕ) : Type 0 where
     pub goes : FormatGoes uses_of_two
     pub entries : List PdlEntry
-    pub found_is : found ≡ length entries
-    pub many : shape.psa < found
+    pub many : ¬ SlipsFew shape (pdl_blocks entries)
+    pub found_is : found ≡ told_too_many shape (pdl_blocks entries)
     pub defects : AreDefects entries
     pub formatting : SaysFormatting shape (world new).cells mark
     pub left_is : left ≡ mark + 1

@@ -10,7 +10,7 @@ ghost use Rattle.ram_format.specs.Full.{MakesLists, HaltsFormat, FullRule, IsRoo
 ghost use Rattle.ram_format.specs.Rooms.{IsFormatRoom};
 
 use crate::halts::FormatHalt;
-use crate::phases::{DefectRoom, find_defects, with_copy};
+use crate::phases::{DefectRoom, find_defects, most_slipped, with_copy};
 use ram_certify::zero_block;
 use ram_copies::{Purpose, Scratch, put_copies};
 use ram_dds::{DdsPdl, DdsState, PdlEntries, PdlEntry, PdlKind};
@@ -79,10 +79,10 @@ impl Room {
     fn new(alloc: Global, geometry: &Geometry, kept: usize) -> Result<Room, AllocError>
         ensures { IfOk result (IsFormatRoom geometry.now kept) }
     {
-        let psa = geometry.psa() as usize;
+        let most = most_slipped(geometry) as usize;
         let zero = zero_block(alloc)?;
-        let found = Vec::with_capacity(alloc, psa.saturating_sub(kept))?;
-        let entries = Vec::with_capacity(alloc, psa)?;
+        let found = Vec::with_capacity(alloc, most.saturating_sub(kept))?;
+        let entries = Vec::with_capacity(alloc, most)?;
         let mut replaced = SdlEntries::new(alloc);
         replaced.reserve(SDL_LIMIT as usize)?;
         Ok(Room {

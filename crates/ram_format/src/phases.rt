@@ -1,7 +1,7 @@
 //! The certification of a full format, which finds the defective blocks, and what follows where an update left no copy.
 
 ghost use Rattle.std.specs.Prelude.{◌≡◌, ◌≢◌, ◌≤◌, ◌-◌, [], IsTrue, MatchResult, length, vec_capacity};
-ghost use Rattle.model_geometry.specs.Geometry.{total};
+ghost use Rattle.model_geometry.specs.Geometry.{IsLawful, total, spare_room};
 ghost use Rattle.model_sectors.specs.Discs.{zeros};
 ghost use Rattle.model_formats.specs.Defects.{AreKept};
 ghost use Rattle.ram_format.specs.declared.halts.FormatHalt.TheVariants.{NoCopy};
@@ -24,6 +24,14 @@ pub fn with_copy(readable: u32, counter: u32, mark: u32) -> Result<(), FormatHal
         return Err(FormatHalt::NoCopy { counter, mark });
     }
     Ok(())
+}
+
+/// The most blocks that may be slipped: as many as are kept from the logical blocks of a disc without supplementary spares.
+pub fn most_slipped(geometry: &Geometry) -> u32
+    ensures most { result ≡ spare_room geometry.now 0 }
+    ensures lawful { IsLawful geometry.now }
+{
+    geometry.psa()
 }
 
 /// The memory of a certification: a block of zeros, and room for the blocks that are found and for all entries.
@@ -50,9 +58,9 @@ pub fn find_defects<M: Medium>(
     requires kept { AreKept geometry.now kept.now }
     requires zero { room.zero ≡ zeros 32768 }
     requires none_found { room.found.items ≡ [] }
-    requires found_room { geometry.now.psa - length kept.now ≤ vec_capacity room.found }
+    requires found_room { spare_room geometry.now 0 - length kept.now ≤ vec_capacity room.found }
     requires no_entries { room.entries.items ≡ [] }
-    requires entries_room { geometry.now.psa ≤ vec_capacity room.entries }
+    requires entries_room { spare_room geometry.now 0 ≤ vec_capacity room.entries }
     ensures rule { MatchResult result
         (FindsFewDefects M.world M.reaches geometry.now medium.old medium.new kept.now kind)
         (HaltsFinding M.world M.reaches geometry.now medium.old medium.new kept.now kind mark) }
@@ -63,10 +71,10 @@ pub fn find_defects<M: Medium>(
         mut found,
         mut entries,
     } = room;
-    let psa = geometry.psa();
+    let most = most_slipped(geometry);
     let count = certify_blocks(medium, geometry, kept, &zero, &mut found, &mut scratch.room)?;
     let all = kept.len() as u32 + count;
-    if psa < all {
+    if most < all {
         return Err(FormatHalt::TooMany { found: all, mark });
     }
     merge(kept, &found, kind, &mut entries);

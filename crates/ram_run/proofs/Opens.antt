@@ -33,7 +33,7 @@ use Rattle.ram_image.specs.declared.opening.OpenFault.TheVariants as faulty
 use Rattle.ram_mmc.specs.declared.target.Target.{Target}
 use Rattle.ram_sectors.specs.declared.caching.Caching.{Ghosts as Drives}
 use Rattle.ram_text.specs.declared.printing.Event.TheVariants as events
-use Rattle.ram_volume.specs.Shown.{shown_without}
+use Rattle.ram_transfer.specs.Shown.{shown_without}
 use Rattle.ram_run.specs.declared.inserted.Inserted.TheVariants as inserts
 use Rattle.ram_run.specs.declared.stopped.Stopped.TheVariants as whys
 use Rattle.ram_run.specs.Drive.{IsOpenedBy, OpensDrive}

@@ -19,7 +19,7 @@ use Rattle.ram_medium.specs.declared.control.FailEnd.{FailEnd}
 use Rattle.ram_medium.specs.declared.control.FailEnd.TheVariants as fails
 use Rattle.ram_medium.specs.declared.control.Arm.{Arm}
 use Rattle.ram_medium.specs.declared.control.Arm.TheVariants as arming
-use Rattle.ram_volume.specs.Shown.{shown_without}
+use Rattle.ram_transfer.specs.Shown.{shown_without}
 use Rattle.ram_volume.specs.Control.{KeepsMemory, LosesMemory, FailStands}
 
 -- ---- cells that die

@@ -22,11 +22,11 @@ use Rattle.model_drive.proofs.ExpandSteps.{expand_step_on, expand_step_off}
 use Rattle.ram_medium.specs.Laws.{ControlLaws, machine_shown}
 use Rattle.ram_zones.specs.declared.list_kind.ListKind.TheVariants as kinds
 use Rattle.ram_copies.specs.Calls.{ChangesCopiesAlone}
-use Rattle.ram_volume.specs.Stopped.{expand_stopped_by}
 use Rattle.ram_expand.specs.Expanding.{KeepsSize, HasGrown, LacksUpdate, StopsGrowing}
-use Rattle.ram_volume.specs.Shown.{shown_without, shown_under}
+use Rattle.ram_transfer.specs.Stopped.{expand_stopped_by}
+use Rattle.ram_transfer.specs.Shown.{shown_without, shown_under}
+use Rattle.ram_transfer.proofs.Machines.{machine_continues, machine_stops}
 use Rattle.ram_volume.specs.Expanding.{ExpandSteps}
-use Rattle.ram_volume.proofs.Machines.{machine_continues, machine_stops}
 
 module _ {M : Type 0} (world : M → World) (reaches : M → M → Span → Type 0) (takes : M → M → Event → Type 0) (arms : M → List WornBlock) (armed_cut : M → Option ArmedCut)
     (laws : ControlLaws world reaches takes arms armed_cut) (shape : Shape) (lists : Lists) (buffer : List (ℕ × List ℕ)) (old new : M) (sectors : ℕ) (lists' : Lists) where

@@ -27,9 +27,9 @@ use Rattle.ram_format.specs.Full.{MakesLists, MeetsTooMany, LosesFirst, LosesSec
 use Rattle.ram_format.specs.Rewriting.{HaveCopies, LacksCopies, RewriteStopped}
 use Rattle.ram_format.proofs.Keeps.{none_kept}
 use Rattle.model_places.specs.Valid.{AreValid}
-use Rattle.ram_volume.specs.Shown.{shown_without, shown_unformatted, shown_under}
+use Rattle.ram_transfer.specs.Shown.{shown_without, shown_unformatted, shown_under}
+use Rattle.ram_transfer.specs.Stopped.{format_stopped_by}
 use Rattle.ram_volume.specs.Formats.{FormatSteps}
-use Rattle.ram_volume.specs.Stopped.{format_stopped_by}
 use Rattle.ram_volume.proofs.Keeping.{off_right, under_right, bare_right}
 use Rattle.ram_volume.proofs.FormatCauses.{good_cause, many_cause, lost_cause, stop_cause}
 use Rattle.ram_volume.proofs.RewriteCauses.{rewritten_cause, lacking_cause, stopped_cause}

@@ -1,9 +1,11 @@
 -- From the rule of a full format to the cause of its answer, one lemma for each.
-use Rattle.std.proofs.Common.{◌≡◌, ℕ, ◌+◌, ◌-◌, ◌*◌, ◌⊎◌, inl, inr, Bool, Option, Some, None, List, [], length, refl, ap, ◌∙◌, subst, arith}
+use Rattle.std.proofs.Common.{◌≡◌, ℕ, ◌+◌, ◌-◌, ◌*◌, ◌⊎◌, inl, inr, Bool, Option, Some, None, List, [], length, refl, ap, subst, arith}
 use Rattle.std.specs.List.{Contains}
+use Rattle.std.proofs.lemmas.List.{length-map}
 use Rattle.model_geometry.specs.Geometry.{Shape, data_blocks}
 use Rattle.model_lists.specs.declared.dds.PdlEntry.{PdlEntry}
 use Rattle.model_lists.specs.declared.dds.PdlKind.{PdlKind}
+use Rattle.model_lists.specs.Values.{pdl_blocks}
 use Rattle.model_medium.specs.World.{World, Span}
 use Rattle.model_medium.specs.Machine.{Machine}
 use Rattle.model_medium.specs.Exact.{Event}
@@ -12,7 +14,7 @@ use Rattle.model_medium.specs.declared.WornBlock.{WornBlock}
 use Rattle.model_medium.specs.declared.ArmedCut.{ArmedCut}
 use Rattle.model_stops.specs.declared.Stop.{Stop}
 use Rattle.model_places.specs.Places.{Lists}
-use Rattle.model_places.proofs.ByKind.{entries_few, entries_many, entries_told}
+use Rattle.model_places.proofs.ByKind.{slips_few, entries_few}
 use Rattle.model_formats.specs.Defects.{IsKept, kind_found}
 use Rattle.model_drive.specs.declared.FormatOut.TheVariants as outs
 use Rattle.model_drive.specs.Shown.{Shown, WhenKnown}
@@ -20,8 +22,8 @@ use Rattle.model_drive.specs.FullFormats.{uses_to_certify, uses_to_sdl, uses_of_
 use Rattle.ram_medium.specs.Laws.{ControlLaws, machine_shown}
 use Rattle.ram_format.specs.Keeping.{AreAllKept}
 use Rattle.ram_format.specs.Full.{uses_of_two, uses_of_three, uses_of_all, FormatGoes, AreDefects, AreFewDefects, MakesLists, MeetsTooMany, LosesFirst, LosesSecond, LosesThird, FormatStopped}
-use Rattle.ram_volume.specs.Shown.{shown_without, shown_unformatted, shown_under}
-use Rattle.ram_volume.proofs.Machines.{machine_stops}
+use Rattle.ram_transfer.specs.Shown.{shown_without, shown_unformatted, shown_under}
+use Rattle.ram_transfer.proofs.Machines.{machine_stops}
 use Rattle.ram_volume.proofs.SameKept.{same_certified, same_changes, same_defective, no_more}
 
 module _ {M : Type 0} (world : M → World) (reaches : M → M → Span → Type 0) (takes : M → M → Event → Type 0) (arms : M → List WornBlock) (armed_cut : M → Option ArmedCut)
@@ -68,8 +70,8 @@ module _ {M : Type 0} (world : M → World) (reaches : M → M → Span → Type
   few made left are known others too =
       let defective = same_defective shape (Contains kept) (IsKept lists drop_sdl) all.each all.all kind (world new).cells are.entries (are.defects.defective known) in
       let less = no_more shape (IsKept lists drop_sdl) kind (world new).cells are.entries others defective too in
-      let most = are.few in
-      entries_few shape others (omega (arith, less, most))
+      let most = slips_few shape (pdl_blocks are.entries) are.few in
+      entries_few shape others (omega (arith, less, most, length-map are.entries (λ (e : PdlEntry). e.block)))
 
   -- the disc is formatted
   pub good_cause : (made : Lists) → MakesLists world reaches shape kept kind mark old new made → FullCause before (shown_under shape (machine new) made []) drop_sdl outs.Good
@@ -78,7 +80,7 @@ module _ {M : Type 0} (world : M → World) (reaches : M → M → Span → Type
     entries = makes.entries;
     lists_are = ap Some makes.lists_are;
     mark_is = ap (λ (l : Lists). l.dds.counter) makes.lists_are;
-    few = entries_few shape makes.entries makes.few;
+    few = makes.few;
     certified = found (Some made) made.dds.counter makes.entries makes.defects;
     has_dds = makes.has_dds;
     has_sdl = makes.has_sdl;
@@ -91,8 +93,8 @@ module _ {M : Type 0} (world : M → World) (reaches : M → M → Span → Type
     no_lists = refl;
     mark_is = meets.left_is;
     entries = meets.entries;
-    many = (let more = meets.many in let is = meets.found_is in entries_many shape meets.entries (omega (arith, more, is)));
-    found_is = meets.found_is ∙ entries_told shape meets.entries;
+    many = meets.many;
+    found_is = meets.found_is;
     certified = found None left meets.entries meets.defects;
     formatting = λ known. meets.formatting;
   }

@@ -18,9 +18,9 @@ use Rattle.ram_medium.specs.declared.blocks.Medium.{Ghosts}
 use Rattle.ram_medium.specs.declared.control.MediumControl.{Ghosts as ControlGhosts}
 use Rattle.ram_medium.specs.declared.control.FailEnd.{FailEnd}
 use Rattle.ram_medium.specs.declared.control.FailEnd.TheVariants as fails
+use Rattle.ram_transfer.specs.Writing.{WriteSteps}
 use Rattle.ram_volume.specs.Control.{FailOnDrive, FailStands}
 use Rattle.ram_volume.specs.Reading.{ReadSteps}
-use Rattle.ram_volume.specs.Writing.{WriteSteps}
 use Rattle.ram_volume.specs.Expanding.{ExpandSteps}
 use Rattle.ram_volume.specs.Powers.{PowerSteps}
 use Rattle.ram_volume.specs.Formats.{FormatSteps}

@@ -9,7 +9,7 @@ use Rattle.model_copies.specs.Parts.{AreMarkedWithin}
 use Rattle.model_volume.specs.Given.{GivesNone, AreSettled}
 use Rattle.model_drive.specs.Sound.{AreInUse}
 use Rattle.model_drive.proofs.Powers.{KeepsRight}
-use Rattle.ram_volume.specs.Shown.{shown_without, shown_unformatted, shown_under}
+use Rattle.ram_transfer.specs.Shown.{shown_without, shown_unformatted, shown_under}
 
 -- with the power off nothing is kept
 pub off_right : (shape : Shape) (machine : Machine) → ¬ IsTrue machine.world.power → KeepsRight (shown_without shape machine)

@@ -25,10 +25,10 @@ use Rattle.model_drive.specs.Repairs.{mount_most, RepairsList, RepairsSdl}
 use Rattle.model_drive.specs.Power.{turned_on, MountsAny, MountsLists, MountsNone, RepairsChosenDds, StopsInMount, MountLacksMemory}
 use Rattle.ram_medium.specs.Laws.{ControlLaws, machine_shown}
 use Rattle.ram_lists.specs.Mounts.{KeepsGiven, RepairsCopies, RepairsParts, RepairsChosen, EndsWithLists, EndsBare, WasStopped, WasOutOfMemory}
-use Rattle.ram_volume.specs.Shown.{shown_without, shown_unformatted, shown_under}
+use Rattle.ram_transfer.specs.Shown.{shown_without, shown_unformatted, shown_under}
+use Rattle.ram_transfer.proofs.Machines.{machine_stops}
 use Rattle.ram_volume.specs.Powers.{PowerSteps}
 use Rattle.ram_volume.proofs.Keeping.{off_right, under_right}
-use Rattle.ram_volume.proofs.Machines.{machine_stops}
 
 module _ {M : Type 0} (world : M → World) (reaches : M → M → Span → Type 0) (takes : M → M → Event → Type 0) (arms : M → List WornBlock) (armed_cut : M → Option ArmedCut)
     (laws : ControlLaws world reaches takes arms armed_cut) (shape : Shape) where

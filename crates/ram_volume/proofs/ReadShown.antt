@@ -25,10 +25,11 @@ use Rattle.model_drive.specs.Reads.{AreBuffered, ReadCause, ReadIsQuiet, StopsIn
 use Rattle.model_drive.proofs.Dying.{one_dies, settled_dies, read_step_on, read_step_off}
 use Rattle.model_drive.proofs.Powers.{holds_nothing}
 use Rattle.ram_medium.specs.Laws.{ControlLaws, machine_shown}
-use Rattle.ram_volume.specs.Reading.{EndsInBlock, StopsInBlock, PartsEnd, ReadSteps, read_end_at}
-use Rattle.ram_volume.specs.Stopped.{read_stopped_by}
-use Rattle.ram_volume.specs.Shown.{shown_without, shown_under}
-use Rattle.ram_volume.proofs.Machines.{machine_stops}
+use Rattle.ram_transfer.specs.Reading.{EndsInBlock, StopsInBlock, PartsEnd, read_end_at}
+use Rattle.ram_transfer.specs.Stopped.{read_stopped_by}
+use Rattle.ram_transfer.specs.Shown.{shown_without, shown_under}
+use Rattle.ram_transfer.proofs.Machines.{machine_stops}
+use Rattle.ram_volume.specs.Reading.{ReadSteps}
 
 module _ {M : Type 0} (world : M → World) (reaches : M → M → Span → Type 0) (takes : M → M → Event → Type 0) (arms : M → List WornBlock) (armed_cut : M → Option ArmedCut)
     (laws : ControlLaws world reaches takes arms armed_cut) (shape : Shape) where

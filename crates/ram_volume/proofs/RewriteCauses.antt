@@ -17,8 +17,8 @@ use Rattle.model_drive.specs.Rewriting.{RepairsBoth, StopsInRewrite, RewriteCaus
 use Rattle.ram_medium.specs.Laws.{ControlLaws, machine_shown}
 use Rattle.ram_lists.specs.Mounts.{RepairsCopies, RepairsParts}
 use Rattle.ram_format.specs.Rewriting.{RepairsBothLists, HaveCopies, LacksCopies, RewriteStopped}
-use Rattle.ram_volume.specs.Shown.{shown_without, shown_under}
-use Rattle.ram_volume.proofs.Machines.{machine_continues, machine_stops}
+use Rattle.ram_transfer.specs.Shown.{shown_without, shown_under}
+use Rattle.ram_transfer.proofs.Machines.{machine_continues, machine_stops}
 
 module _ {M : Type 0} (world : M → World) (reaches : M → M → Span → Type 0) (takes : M → M → Event → Type 0) (arms : M → List WornBlock) (armed_cut : M → Option ArmedCut)
     (laws : ControlLaws world reaches takes arms armed_cut) (shape : Shape) (lists : Lists) (buffer : List (ℕ × List ℕ)) (old new : M) where

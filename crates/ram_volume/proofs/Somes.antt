@@ -18,9 +18,9 @@ use Rattle.model_drive.specs.Formats.{FormatCause}
 use Rattle.model_drive.proofs.Found.{read_found, write_found, power_found, format_found}
 use Rattle.model_drive.proofs.Kept.{read_kept, write_kept, power_kept, format_kept}
 use Rattle.model_drive.proofs.Opening.{opened_disc}
-use Rattle.ram_volume.specs.Shown.{shown_without}
+use Rattle.ram_transfer.specs.Shown.{shown_without}
+use Rattle.ram_transfer.specs.Writing.{WriteSteps}
 use Rattle.ram_volume.specs.Reading.{ReadSteps}
-use Rattle.ram_volume.specs.Writing.{WriteSteps}
 use Rattle.ram_volume.specs.Powers.{PowerSteps}
 use Rattle.ram_volume.specs.Formats.{FormatSteps}
 use Rattle.ram_volume.specs.Volume.{StandsForSome}

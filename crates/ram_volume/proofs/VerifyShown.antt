@@ -9,7 +9,6 @@ use Rattle.model_medium.specs.declared.WornBlock.{WornBlock}
 use Rattle.model_medium.specs.declared.ArmedCut.{ArmedCut}
 use Rattle.model_sectors.specs.Requests.{blocks_covered}
 use Rattle.model_sectors.specs.declared.ReadOut.{ReadOut}
-use Rattle.model_sectors.specs.declared.ReadOut.TheVariants as outs
 use Rattle.model_stops.specs.declared.Stop.{Stop}
 use Rattle.model_stops.specs.declared.Stop.TheVariants as stops
 use Rattle.model_places.specs.Places.{Lists, capacity_of}
@@ -19,11 +18,11 @@ use Rattle.model_drive.specs.Parts.{IsInRange, AreSameOrDead}
 use Rattle.model_drive.specs.Reads.{VerifyCause, StopsInRead}
 use Rattle.model_drive.proofs.Dying.{one_dies, settled_dies}
 use Rattle.ram_medium.specs.Laws.{ControlLaws, machine_shown}
-use Rattle.ram_volume.specs.Reading.{read_end_at}
-use Rattle.ram_volume.specs.Verifying.{HomesEnd, StopsAtHome}
-use Rattle.ram_volume.specs.Stopped.{read_stopped_by}
-use Rattle.ram_volume.specs.Shown.{shown_without, shown_under}
-use Rattle.ram_volume.proofs.Machines.{machine_continues, machine_stops}
+use Rattle.ram_transfer.specs.Reading.{read_end_at}
+use Rattle.ram_transfer.specs.Verifying.{HomesEnd, StopsAtHome}
+use Rattle.ram_transfer.specs.Stopped.{read_stopped_by}
+use Rattle.ram_transfer.specs.Shown.{shown_without, shown_under}
+use Rattle.ram_transfer.proofs.Machines.{machine_continues, machine_stops}
 
 module _ {M : Type 0} (world : M → World) (reaches : M → M → Span → Type 0) (takes : M → M → Event → Type 0) (arms : M → List WornBlock) (armed_cut : M → Option ArmedCut)
     (laws : ControlLaws world reaches takes arms armed_cut) (shape : Shape) (lists : Lists) (buffer : List (ℕ × List ℕ)) (old new : M)

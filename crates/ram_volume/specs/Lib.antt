@@ -1,4 +1,3 @@
-pub mod Blocks
 pub mod Control
 pub mod Drives
 pub mod Expanding
@@ -8,8 +7,5 @@ pub mod Powers
 pub mod Reading
 pub mod Shown
 pub mod Sounding
-pub mod Stopped
 pub mod Verifying
 pub mod Volume
-pub mod Writing
-pub mod Layouts

@@ -7,7 +7,7 @@ use Rattle.model_geometry.specs.Geometry.{Shape}
 use Rattle.model_lists.specs.Values.{Dds, FitsState, IsLawfulDds}
 use Rattle.model_places.specs.Places.{Lists}
 use Rattle.ram_layout.specs.Slipping.{SlipTable}
-use Rattle.ram_volume.specs.Layouts.{IsLaidOut}
+use Rattle.ram_transfer.specs.Layouts.{IsLaidOut}
 
 state-prop : (s : DdsState) (n : ℕ) → IsProp (FitsState s n)
 state-prop Formatting n = Prim.hlevel props

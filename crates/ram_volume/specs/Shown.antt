@@ -1,36 +1,15 @@
 -- What a drive shows in each of its states: for the contracts of its calls. (This project's own, as all here.)
-use Rattle.std.specs.Prelude.{ℕ, Some, None, List, []}
-use Rattle.model_geometry.specs.Geometry.{Shape}
-use Rattle.model_medium.specs.Machine.{Machine}
-use Rattle.model_places.specs.Places.{Lists}
 use Rattle.model_drive.specs.Shown.{Shown}
 use Rattle.ram_medium.specs.Laws.{machine_shown}
 use Rattle.ram_medium.specs.declared.blocks.Medium.{Ghosts}
 use Rattle.ram_medium.specs.declared.control.MediumControl.{Ghosts as ControlGhosts}
 use Rattle.ram_lists.specs.Lists.{lists_of}
+use Rattle.ram_transfer.specs.Shown.{shown_without, shown_unformatted, shown_under}
 use Rattle.ram_volume.specs.declared.states.PoweredOff.{PoweredOff}
 use Rattle.ram_volume.specs.declared.states.Ready.{Ready}
 use Rattle.ram_volume.specs.declared.states.NotFormatted.{NotFormatted}
 use Rattle.ram_volume.specs.declared.states.State.{State}
 use Rattle.ram_volume.specs.declared.states.State.TheVariants as states
-
--- what a drive with its power off shows of its medium: it keeps nothing in memory
-abbrev pub shown_without : Shape → Machine → Shown
-shown_without shape machine = record { shape = shape; medium = machine; lists = None; mark = 0; buffer = [] }
-
--- what one with its power on shows, where its disc is not formatted: it buffers nothing
-abbrev pub shown_unformatted : Shape → Machine → ℕ → Shown
-shown_unformatted shape machine mark = record { shape = shape; medium = machine; lists = None; mark = mark; buffer = [] }
-
--- what one shows with these lists in use: its mark is the counter of their structure
-abbrev pub shown_under : Shape → Machine → Lists → List (ℕ × List ℕ) → Shown
-shown_under shape machine lists buffer = record {
-  shape = shape;
-  medium = machine;
-  lists = Some lists;
-  mark = lists.dds.counter;
-  buffer = buffer;
-}
 
 module _ {M : Type 0} {c : ControlGhosts M} {d : Ghosts M} where
   -- what each state shows

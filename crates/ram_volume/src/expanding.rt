@@ -7,7 +7,7 @@ ghost use Rattle.ram_volume.specs.Shown.{shown_ready, shown_state, medium_under}
 ghost use Rattle.ram_volume.specs.Expanding.{ExpandSteps};
 
 use crate::states::{Ready, State};
-use crate::stops::turned_off;
+use crate::stops::stopped;
 use ram_expand::{Grown, grow};
 use ram_medium::MediumControl;
 use ram_sectors::ExpandOut;
@@ -74,7 +74,7 @@ impl<M: MediumControl> Ready<M> {
                 let ready = Ready::over(medium, geometry, lists, workspace);
                 (State::Ready(ready), ExpandOut::NoUpdate { counter })
             }
-            Err(stop) => turned_off(medium, geometry, stop),
+            Err(stop) => stopped(medium, geometry, stop),
         }
     }
 }

@@ -14,18 +14,19 @@ ghost use Rattle.ram_medium.specs.Laws.{machine_shown};
 ghost use Rattle.ram_dds.specs.Dds.{dds_of};
 ghost use Rattle.ram_sdl.specs.Sdl.{sdl_of};
 ghost use Rattle.ram_lists.specs.Lists.{lists_of};
-ghost use Rattle.ram_volume.specs.Shown.{shown_bare, shown_ready, shown_state, shown_unformatted, shown_under, medium_under};
+ghost use Rattle.ram_transfer.specs.Shown.{shown_unformatted, shown_under};
+ghost use Rattle.ram_transfer.specs.Layouts.{IsLaidOut};
+ghost use Rattle.ram_volume.specs.Shown.{shown_bare, shown_ready, shown_state, medium_under};
 ghost use Rattle.ram_volume.specs.Formats.{FormatSteps};
-ghost use Rattle.ram_volume.specs.Layouts.{IsLaidOut};
 
-use crate::memory::Workspace;
 use crate::states::{NotFormatted, Ready, State};
-use crate::stops::turned_off;
+use crate::stops::stopped;
 use ram_format::{FormatHalt, format_lists, kept_entries, repair_lists};
 use ram_lists::Lists;
 use ram_medium::MediumControl;
 use ram_sdl::Sdl;
 use ram_sectors::{FormatOut, Kind};
+use ram_transfer::Workspace;
 use ram_zones::Geometry;
 use std::alloc::Global;
 
@@ -110,7 +111,7 @@ impl<M: MediumControl> NotFormatted<M> {
                 let bare = Self::over(medium, geometry, mark, list, workspace);
                 (State::NotFormatted(bare), FormatOut::NoUpdate { counter })
             }
-            Err(FormatHalt::Stopped { stop }) => turned_off(medium, geometry, stop),
+            Err(FormatHalt::Stopped { stop }) => stopped(medium, geometry, stop),
             Err(FormatHalt::NoMemory) => {
                 let bare = Self::over(medium, geometry, mark, list, workspace);
                 (State::NotFormatted(bare), FormatOut::NoMemory)
@@ -206,7 +207,7 @@ impl<M: MediumControl> Ready<M> {
                 let bare = NotFormatted::over(medium, geometry, mark, lists.sdl, workspace);
                 (State::NotFormatted(bare), FormatOut::NoUpdate { counter })
             }
-            Err(FormatHalt::Stopped { stop }) => turned_off(medium, geometry, stop),
+            Err(FormatHalt::Stopped { stop }) => stopped(medium, geometry, stop),
             Err(FormatHalt::NoMemory) => {
                 let ready = Ready {
                     medium,
@@ -241,7 +242,7 @@ impl<M: MediumControl> Ready<M> {
                 let ready = Ready::over(medium, geometry, lists, workspace);
                 (State::Ready(ready), FormatOut::NoUpdate { counter })
             }
-            Err(stop) => turned_off(medium, geometry, stop),
+            Err(stop) => stopped(medium, geometry, stop),
         }
     }
 }

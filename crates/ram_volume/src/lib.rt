@@ -5,12 +5,9 @@
 mod calls;
 mod control;
 mod expanding;
-mod fetching;
 mod formats;
 mod holding;
-mod homes;
 mod laws;
-mod memory;
 mod power;
 mod reading;
 mod states;

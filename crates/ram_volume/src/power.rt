@@ -9,11 +9,11 @@ ghost use Rattle.model_drive.specs.Power.{PowerCause};
 ghost use Rattle.ram_volume.specs.Shown.{shown_off, shown_bare, shown_ready};
 ghost use Rattle.ram_volume.specs.Powers.{turned_off, shown_after, medium_after, power_out, PowerSteps};
 
-use crate::memory::Memory;
 use crate::states::{NotFormatted, PowerOn, PoweredOff, Ready};
 use ram_copies::Halt;
 use ram_lists::{Found, Lists, mount_lists};
 use ram_medium::{MediumControl, Stop};
+use ram_transfer::Memory;
 use std::alloc::Global;
 
 impl<M: MediumControl> PoweredOff<M> {

@@ -13,14 +13,14 @@ ghost use Rattle.model_volume.proofs.OneProof.{settled-prop};
 ghost use Rattle.ram_dds.specs.Dds.{dds_of};
 ghost use Rattle.ram_sdl.specs.Sdl.{sdl_of};
 ghost use Rattle.ram_lists.specs.Lists.{lists_of};
-ghost use Rattle.ram_volume.specs.Layouts.{IsLaidOut};
+ghost use Rattle.ram_transfer.specs.Layouts.{IsLaidOut};
 ghost use Rattle.ram_volume.specs.OneProof.{lawful_dds-prop, laid_out-prop};
 
-use crate::memory::Workspace;
 use ram_bytes::SECTORS_PER_BLOCK;
 use ram_lists::Lists;
 use ram_medium::MediumControl;
 use ram_sdl::Sdl;
+use ram_transfer::Workspace;
 use ram_zones::Geometry;
 
 /// A drive with its power off. It keeps its medium and the geometry, and nothing else.
@@ -100,7 +100,8 @@ pub enum PowerOn<M: MediumControl> {
 impl<M: MediumControl> PoweredOff<M> {
     ghost use Rattle.std.specs.Prelude.{◌≡◌, IsTrue};
     ghost use Rattle.model_geometry.specs.Geometry.{total};
-    ghost use Rattle.ram_volume.specs.Shown.{shown_off, shown_without};
+    ghost use Rattle.ram_transfer.specs.Shown.{shown_without};
+    ghost use Rattle.ram_volume.specs.Shown.{shown_off};
     ghost use Rattle.ram_medium.specs.Laws.{machine_shown};
 
     /// A drive of this geometry over its medium, whose power is off.

@@ -1,11 +1,12 @@
-//! How a call ends that was stopped: the power is off, nothing is kept in memory, and the answer tells why.
+//! How a call ends that was stopped: the power is off, nothing is kept in memory, and the outcome tells why.
 
 ghost use Rattle.std.specs.Prelude.{◌≡◌, IsTrue};
 ghost use Rattle.model_geometry.specs.Geometry.{total};
 ghost use Rattle.model_stops.specs.declared.Stop.{Stop};
 ghost use Rattle.ram_medium.specs.Laws.{machine_shown};
-ghost use Rattle.ram_volume.specs.Shown.{shown_without, shown_state, medium_under};
-ghost use Rattle.ram_volume.specs.Stopped.{read_stopped_by, write_stopped_by, format_stopped_by, expand_stopped_by};
+ghost use Rattle.ram_transfer.specs.Shown.{shown_without};
+ghost use Rattle.ram_transfer.specs.Stopped.{read_stopped_by, write_stopped_by, format_stopped_by, expand_stopped_by};
+ghost use Rattle.ram_volume.specs.Shown.{shown_state, medium_under};
 
 use crate::states::{PoweredOff, State};
 use model_drive::{ExpandOut, FormatOut, WriteOut};
@@ -13,17 +14,17 @@ use model_sectors::ReadOut;
 use ram_medium::{MediumControl, Stop};
 use ram_zones::Geometry;
 
-/// The answers of a call that may be stopped.
-pub trait Answer {
-    /// The answer of a call that was stopped for this cause.
+/// The outcome of a call that may be stopped.
+pub trait StoppableOut {
+    /// The outcome of a call that was stopped for this cause.
     ghost stopped_by: { Stop → Self };
 
-    /// The answer of a call that was stopped for this cause.
+    /// The outcome of a call that was stopped for this cause.
     fn stopped_by(stop: Stop) -> Self
         ensures { result ≡ stopped_by stop };
 }
 
-impl Answer for ReadOut {
+impl StoppableOut for ReadOut {
     ghost stopped_by = { read_stopped_by };
 
     fn stopped_by(stop: Stop) -> ReadOut {
@@ -35,7 +36,7 @@ impl Answer for ReadOut {
     }
 }
 
-impl Answer for WriteOut {
+impl StoppableOut for WriteOut {
     ghost stopped_by = { write_stopped_by };
 
     fn stopped_by(stop: Stop) -> WriteOut {
@@ -47,7 +48,7 @@ impl Answer for WriteOut {
     }
 }
 
-impl Answer for FormatOut {
+impl StoppableOut for FormatOut {
     ghost stopped_by = { format_stopped_by };
 
     fn stopped_by(stop: Stop) -> FormatOut {
@@ -59,7 +60,7 @@ impl Answer for FormatOut {
     }
 }
 
-impl Answer for ExpandOut {
+impl StoppableOut for ExpandOut {
     ghost stopped_by = { expand_stopped_by };
 
     fn stopped_by(stop: Stop) -> ExpandOut {
@@ -71,8 +72,8 @@ impl Answer for ExpandOut {
     }
 }
 
-/// The drive of a call that was stopped, with its power off, and the answer of the call.
-pub fn turned_off<M: MediumControl, O: Answer>(
+/// The drive of a call that was stopped, with its power off, and the outcome of the call.
+pub fn stopped<M: MediumControl, O: StoppableOut>(
     medium: M,
     geometry: Geometry,
     stop: Stop,
@@ -81,7 +82,7 @@ pub fn turned_off<M: MediumControl, O: Answer>(
     requires off { ¬ IsTrue (M.world medium).power }
     ensures state { shown_state result.0 ≡ shown_without geometry (machine_shown M.world M.arms M.armed_cut medium) }
     ensures medium { medium_under result.0 ≡ medium }
-    ensures answer { result.1 ≡ O.stopped_by stop }
+    ensures out { result.1 ≡ O.stopped_by stop }
 {
     let off = PoweredOff { medium, geometry };
     (State::Off(off), O::stopped_by(stop))

@@ -1,58 +1,19 @@
-//! Verifications of sectors: the home of one logical block after another is read, and nothing of it is given.
+//! Verifications of sectors of a formatted disc.
 
-ghost use Rattle.std.specs.Prelude.{◌≡◌, ◌+◌, ◌≤◌, IsTrue};
-ghost use Rattle.model_geometry.specs.Geometry.{total};
+ghost use Rattle.std.specs.Prelude.{◌≡◌, ◌+◌, ◌≤◌};
 ghost use Rattle.model_medium.specs.Happened.{Happened};
-ghost use Rattle.model_places.specs.Places.{pools_under, capacity_of};
-ghost use Rattle.model_places.specs.Valid.{AreValid};
 ghost use Rattle.model_drive.specs.Shown.{capacity};
 ghost use Rattle.model_drive.specs.Reads.{VerifyCause, ReadCompletes};
 ghost use Rattle.ram_sectors.specs.declared.TheConstants.{VERIFY_LIMIT};
-ghost use Rattle.ram_layout.specs.Slipping.{slip_pools};
-ghost use Rattle.ram_lists.specs.Lists.{lists_of};
-ghost use Rattle.ram_volume.specs.Verifying.{HomesEnd, VerifySteps};
+ghost use Rattle.ram_volume.specs.Verifying.{VerifySteps};
 ghost use Rattle.ram_volume.specs.Shown.{shown_ready, shown_state, medium_under};
 
-use crate::homes::home;
-use crate::reading::ended_at;
 use crate::states::{Ready, State};
-use crate::stops::turned_off;
-use ram_bytes::Block;
-use ram_layout::SlipLayout;
-use ram_lists::Lists;
-use ram_medium::{Medium, MediumControl, Stop, read_whole};
+use crate::stops::stopped;
+use ram_medium::MediumControl;
 use ram_requests::Request;
 use ram_sectors::ReadOut;
-use ram_zones::Geometry;
-
-/// Reads the homes of all blocks of a request, in order. How many were read before one that has no whole bytes, if there
-/// is such a one.
-fn read_homes<M: Medium>(
-    medium: &mut M,
-    geometry: &Geometry,
-    layout: &SlipLayout,
-    lists: &Lists,
-    block: &mut Block,
-    request: Request,
-) -> Result<Option<u32>, Stop>
-    requires size { M.block_count medium.old ≡ total geometry.now }
-    requires on { IsTrue (M.world medium.old).power }
-    requires valid { AreValid geometry.now (lists_of lists.now) }
-    requires pools { slip_pools layout.now ≡ pools_under geometry.now (lists_of lists.now) }
-    requires inside { request.lba + request.n ≤ capacity_of geometry.now (lists_of lists.now) }
-    ensures rule { HomesEnd M.world M.reaches medium.old medium.new
-        geometry.now (lists_of lists.now) request.lba request.n result }
-    ensures as_many { M.block_count medium.new ≡ M.block_count medium.old }
-{
-    for k in 0..request.blocks() {
-        let part = request.part(k);
-        let place = home(geometry, layout, lists, part.block);
-        if !read_whole(medium, place, block)? {
-            return Ok(Some(k));
-        }
-    }
-    Ok(None)
-}
+use ram_transfer::{ended_at, read_homes};
 
 impl<M: MediumControl> Ready<M> {
     /// Verifies the sectors of a request, all of which are the disc's.
@@ -81,7 +42,7 @@ impl<M: MediumControl> Ready<M> {
                 };
                 (State::Ready(ready), out)
             }
-            Err(stop) => turned_off(medium, geometry, stop),
+            Err(stop) => stopped(medium, geometry, stop),
         }
     }
 

@@ -33,7 +33,7 @@ impl<M: MediumControl> Volume<M> {
     ghost use Rattle.model_drive.specs.Shown.{StandsFor};
     ghost use Rattle.ram_medium.specs.Laws.{machine_shown};
     ghost use Rattle.ram_medium.specs.Control.{Fails, Arms, WearRule, with_armed_cut};
-    ghost use Rattle.ram_volume.specs.Shown.{shown_without};
+    ghost use Rattle.ram_transfer.specs.Shown.{shown_without};
     ghost use Rattle.ram_volume.specs.Drives.{shown_by, medium_by};
     ghost use Rattle.ram_volume.specs.Control.{FailOnDrive, FailStands, KeepsMemory};
 
@@ -65,7 +65,8 @@ impl<M: MediumControl> Volume<M> {
     /// Makes a block of the medium dead at its `n`-th use from now on: 1 is the next.
     pub fn wear(&mut self, block: u32, n: u32) -> Arm
         requires { 1 ≤ n }
-        ensures rule { WearRule (total (shown_by self.old).shape) (shown_by self.old).medium (shown_by self.new).medium
+        ensures rule { WearRule (total (shown_by self.old).shape) (shown_by self.old).medium
+            (shown_by self.new).medium
             (record { block = block; left = n }) result }
         ensures told { M.was_told (medium_by self.old) (medium_by self.new) Arms }
         ensures keeps { KeepsMemory (shown_by self.old) (shown_by self.new) }

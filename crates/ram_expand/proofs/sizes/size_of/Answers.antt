@@ -1,4 +1,5 @@
 use Rattle.std.proofs.Common.{arith}
+use Rattle.model_geometry.proofs.ByKind.{slip_room}
 use Rattle.ram_lists.specs.Lists.{lists_of}
 use Rattle.ram_expand.proofs.Sizing.{area_within, is_present, too_large, none_left, not_whole, too_many_spares, is_smaller}
 use Rattle.ram_expand.proofs.sizes.size_of.Goals as goal
@@ -20,6 +21,13 @@ returns-then-capacity-eq0 c = elim c.then-capacity-eq0.branch [
   | then-capacity-eq0-via-else-capacity-eq0+else-capacity-ne0+then-present-capacity w ↦
       too_large c.args.geometry.now (lists_of c.args.lists.now) c.requires c.data_blocks.result c.psa.result c.data_blocks.ensures.count c.psa.ensures.spares c.args.capacity w.if-present-capacity.true
 ]
+
+pub area_for-requires : goal.area_for-requires
+area_for-requires c =
+    let within = area_within c.args.geometry.now (lists_of c.args.lists.now) c.requires c.data_blocks.result c.psa.result c.data_blocks.ensures.count c.psa.ensures.spares in
+    let most = c.if-present-capacity.false in
+    let logical = c.requires.together.secondary.area.some_logical in
+    omega (arith, within, most, logical, slip_room c.args.geometry.now 0, slip_room c.args.geometry.now (lists_of c.args.lists.now).sdl.ssa, c.data_blocks.ensures.count, c.psa.ensures.spares)
 
 pub returns-then-most_spares-psa : goal.returns-then-most_spares-psa
 returns-then-most_spares-psa c =

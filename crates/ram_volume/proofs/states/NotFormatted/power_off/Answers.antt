@@ -1,7 +1,8 @@
 use Rattle.std.proofs.Common.{ap}
 use Rattle.model_medium.specs.Exact.{PowerOff}
 use Rattle.ram_medium.specs.Laws.{machine_shown}
-use Rattle.ram_volume.specs.Shown.{shown_without, shown_bare}
+use Rattle.ram_transfer.specs.Shown.{shown_without}
+use Rattle.ram_volume.specs.Shown.{shown_bare}
 use Rattle.ram_volume.proofs.TurningOff.{goes_off}
 use Rattle.ram_volume.proofs.states.NotFormatted.power_off.Goals as goal
 

@@ -96,13 +96,13 @@ returns-in_default-clause-happened g c = happened_none g.M.Medium.takes c.args.s
 
 pub returns-in-Err-Stopped-clause-cause : goal.returns-in-Err-Stopped-clause-cause
 returns-in-Err-Stopped-clause-cause g c =
-    rw (c.turned_off.ensures.state, c.turned_off.ensures.answer) (full_stopped g.M.Medium.world g.M.Medium.reaches g.M.Medium.takes g.M.MediumControl.arms g.M.MediumControl.armed_cut g.met.M.MediumControl.control_laws c.args.self.geometry c.args.self.medium c.format_lists.new.medium (lists_of c.args.self.lists) c.args.self.workspace.buffer c.args.drop_sdl c.deref.result.now (rw c.deref.ensures.value c.in-Ok.ensures) c.in-Err-Stopped.stop c.args.self.on (rw c.in-Err-Stopped.field-0-is at c.in-Err-Stopped.ensures.rule)).0
+    rw (c.stopped.ensures.state, c.stopped.ensures.out) (full_stopped g.M.Medium.world g.M.Medium.reaches g.M.Medium.takes g.M.MediumControl.arms g.M.MediumControl.armed_cut g.met.M.MediumControl.control_laws c.args.self.geometry c.args.self.medium c.format_lists.new.medium (lists_of c.args.self.lists) c.args.self.workspace.buffer c.args.drop_sdl c.deref.result.now (rw c.deref.ensures.value c.in-Ok.ensures) c.in-Err-Stopped.stop c.args.self.on (rw c.in-Err-Stopped.field-0-is at c.in-Err-Stopped.ensures.rule)).0
 
 pub returns-in-Err-Stopped-clause-step : goal.returns-in-Err-Stopped-clause-step
 returns-in-Err-Stopped-clause-step g c =
-    rw (c.turned_off.ensures.state, c.turned_off.ensures.answer) (full_stopped g.M.Medium.world g.M.Medium.reaches g.M.Medium.takes g.M.MediumControl.arms g.M.MediumControl.armed_cut g.met.M.MediumControl.control_laws c.args.self.geometry c.args.self.medium c.format_lists.new.medium (lists_of c.args.self.lists) c.args.self.workspace.buffer c.args.drop_sdl c.deref.result.now (rw c.deref.ensures.value c.in-Ok.ensures) c.in-Err-Stopped.stop c.args.self.on (rw c.in-Err-Stopped.field-0-is at c.in-Err-Stopped.ensures.rule)).1
+    rw (c.stopped.ensures.state, c.stopped.ensures.out) (full_stopped g.M.Medium.world g.M.Medium.reaches g.M.Medium.takes g.M.MediumControl.arms g.M.MediumControl.armed_cut g.met.M.MediumControl.control_laws c.args.self.geometry c.args.self.medium c.format_lists.new.medium (lists_of c.args.self.lists) c.args.self.workspace.buffer c.args.drop_sdl c.deref.result.now (rw c.deref.ensures.value c.in-Ok.ensures) c.in-Err-Stopped.stop c.args.self.on (rw c.in-Err-Stopped.field-0-is at c.in-Err-Stopped.ensures.rule)).1
 
 pub returns-in-Err-Stopped-clause-happened : goal.returns-in-Err-Stopped-clause-happened
 returns-in-Err-Stopped-clause-happened g c =
-    subst (Happened g.M.Medium.takes c.args.self.medium) (sym c.turned_off.ensures.medium)
+    subst (Happened g.M.Medium.takes c.args.self.medium) (sym c.stopped.ensures.medium)
     (stop_happened g.M.Medium.world g.M.Medium.reaches g.M.Medium.takes g.met.M.Medium.happened c.args.self.medium c.format_lists.new.medium _ c.in-Err-Stopped.stop c.args.self.on (rw c.in-Err-Stopped.field-0-is at c.in-Err-Stopped.ensures.rule).stops)

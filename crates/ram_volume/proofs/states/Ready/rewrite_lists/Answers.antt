@@ -43,15 +43,15 @@ returns-in-Ok-Some-clause-happened g c =
 
 pub returns-in-Err-clause-cause : goal.returns-in-Err-clause-cause
 returns-in-Err-clause-cause g c =
-    rw (c.turned_off.ensures.state, c.turned_off.ensures.answer) (rewrite_stopped g.M.Medium.world g.M.Medium.reaches g.M.Medium.takes g.M.MediumControl.arms g.M.MediumControl.armed_cut g.met.M.MediumControl.control_laws c.args.self.geometry c.args.self.medium c.repair_lists.new.medium (lists_of c.args.self.lists) c.args.self.workspace.buffer
+    rw (c.stopped.ensures.state, c.stopped.ensures.out) (rewrite_stopped g.M.Medium.world g.M.Medium.reaches g.M.Medium.takes g.M.MediumControl.arms g.M.MediumControl.armed_cut g.met.M.MediumControl.control_laws c.args.self.geometry c.args.self.medium c.repair_lists.new.medium (lists_of c.args.self.lists) c.args.self.workspace.buffer
     c.in-Err.stop c.args.self.on c.in-Err.ensures.rule).0
 
 pub returns-in-Err-clause-step : goal.returns-in-Err-clause-step
 returns-in-Err-clause-step g c =
-    rw (c.turned_off.ensures.state, c.turned_off.ensures.answer) (rewrite_stopped g.M.Medium.world g.M.Medium.reaches g.M.Medium.takes g.M.MediumControl.arms g.M.MediumControl.armed_cut g.met.M.MediumControl.control_laws c.args.self.geometry c.args.self.medium c.repair_lists.new.medium (lists_of c.args.self.lists) c.args.self.workspace.buffer
+    rw (c.stopped.ensures.state, c.stopped.ensures.out) (rewrite_stopped g.M.Medium.world g.M.Medium.reaches g.M.Medium.takes g.M.MediumControl.arms g.M.MediumControl.armed_cut g.met.M.MediumControl.control_laws c.args.self.geometry c.args.self.medium c.repair_lists.new.medium (lists_of c.args.self.lists) c.args.self.workspace.buffer
     c.in-Err.stop c.args.self.on c.in-Err.ensures.rule).1
 
 pub returns-in-Err-clause-happened : goal.returns-in-Err-clause-happened
 returns-in-Err-clause-happened g c =
-    subst (Happened g.M.Medium.takes c.args.self.medium) (sym c.turned_off.ensures.medium)
+    subst (Happened g.M.Medium.takes c.args.self.medium) (sym c.stopped.ensures.medium)
     (stop_happened g.M.Medium.world g.M.Medium.reaches g.M.Medium.takes g.met.M.Medium.happened c.args.self.medium c.repair_lists.new.medium _ c.in-Err.stop c.args.self.on c.in-Err.ensures.rule.stops)

@@ -3,7 +3,7 @@ use Rattle.model_medium.specs.Happened.{Happened}
 use Rattle.ram_lists.specs.Lists.{lists_of}
 use Rattle.ram_volume.proofs.VerifyShown.{verified_cause, verified_on, verified_settled, verify_stopped}
 use Rattle.ram_medium.proofs.Parts.{stop_happened}
-use Rattle.ram_volume.proofs.Happening.{verify_happened}
+use Rattle.ram_transfer.proofs.Happening.{verify_happened}
 use Rattle.ram_volume.proofs.states.Ready.verify_request.Goals as goal
 
 pub invariant_of-ready : goal.invariant_of-ready
@@ -31,10 +31,10 @@ returns-in-Ok-clause-happened g c =
 
 pub returns-in-Err-clause-cause : goal.returns-in-Err-clause-cause
 returns-in-Err-clause-cause g c =
-    rw (c.turned_off.ensures.state, c.turned_off.ensures.answer) (verify_stopped g.M.Medium.world g.M.Medium.reaches g.M.Medium.takes g.M.MediumControl.arms g.M.MediumControl.armed_cut g.met.M.MediumControl.control_laws c.args.self.geometry (lists_of c.args.self.lists) c.args.self.workspace.buffer
+    rw (c.stopped.ensures.state, c.stopped.ensures.out) (verify_stopped g.M.Medium.world g.M.Medium.reaches g.M.Medium.takes g.M.MediumControl.arms g.M.MediumControl.armed_cut g.met.M.MediumControl.control_laws c.args.self.geometry (lists_of c.args.self.lists) c.args.self.workspace.buffer
     c.args.self.medium c.read_homes.new.medium c.args.request.lba c.args.request.n c.args.self.on c.requires.inside c.in-Err.stop c.in-Err.ensures.rule)
 
 pub returns-in-Err-clause-happened : goal.returns-in-Err-clause-happened
 returns-in-Err-clause-happened g c =
-    subst (Happened g.M.Medium.takes c.args.self.medium) (sym c.turned_off.ensures.medium)
+    subst (Happened g.M.Medium.takes c.args.self.medium) (sym c.stopped.ensures.medium)
     (stop_happened g.M.Medium.world g.M.Medium.reaches g.M.Medium.takes g.met.M.Medium.happened c.args.self.medium c.read_homes.new.medium _ c.in-Err.stop c.args.self.on c.in-Err.ensures.rule.stops)

@@ -4,7 +4,8 @@ use Rattle.model_medium.specs.Machine.{Machine}
 use Rattle.model_medium.specs.World.{World}
 use Rattle.model_volume.specs.Given.{GivesNone}
 use Rattle.ram_medium.specs.Laws.{machine_shown}
-use Rattle.ram_volume.specs.Shown.{shown_off, shown_without}
+use Rattle.ram_transfer.specs.Shown.{shown_without}
+use Rattle.ram_volume.specs.Shown.{shown_off}
 use Rattle.ram_volume.proofs.Controlling.{stands_armed}
 use Rattle.ram_volume.proofs.states.State.arm_cut.Goals as goal
 

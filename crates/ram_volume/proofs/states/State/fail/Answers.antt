@@ -4,7 +4,8 @@ use Rattle.model_drive.proofs.Dying.{settled_dies}
 use Rattle.ram_medium.specs.Laws.{machine_shown}
 use Rattle.ram_medium.specs.declared.control.FailEnd.TheVariants as fails
 use Rattle.ram_lists.specs.Lists.{lists_of}
-use Rattle.ram_volume.specs.Shown.{shown_without, shown_under, shown_off, shown_ready, shown_bare}
+use Rattle.ram_transfer.specs.Shown.{shown_without, shown_under}
+use Rattle.ram_volume.specs.Shown.{shown_off, shown_ready, shown_bare}
 use Rattle.ram_volume.proofs.Controlling.{cells_die, bare_dies, marked_dies, stands_off, stands_done, stands_failed}
 use Rattle.ram_volume.proofs.states.State.fail.Goals as goal
 

@@ -3,7 +3,8 @@ use Rattle.model_copies.specs.Parts.{AreMarkedWithin}
 use Rattle.model_medium.specs.World.{World}
 use Rattle.model_volume.specs.Given.{GivesNone}
 use Rattle.ram_medium.specs.Laws.{machine_shown}
-use Rattle.ram_volume.specs.Shown.{shown_off, shown_without}
+use Rattle.ram_transfer.specs.Shown.{shown_without}
+use Rattle.ram_volume.specs.Shown.{shown_off}
 use Rattle.ram_volume.proofs.Controlling.{worn_world, stands_armed}
 use Rattle.ram_volume.proofs.states.State.wear.Goals as goal
 

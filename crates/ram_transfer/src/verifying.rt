@@ -1,0 +1,46 @@
+//! Verifications of the blocks of a request: the home of one after another is read, and nothing of it is given.
+
+ghost use Rattle.std.specs.Prelude.{◌≡◌, ◌+◌, ◌≤◌, IsTrue};
+ghost use Rattle.model_geometry.specs.Geometry.{total};
+ghost use Rattle.model_places.specs.Places.{pools_under, capacity_of};
+ghost use Rattle.model_places.specs.Valid.{AreValid};
+ghost use Rattle.ram_layout.specs.Slipping.{slip_pools};
+ghost use Rattle.ram_lists.specs.Lists.{lists_of};
+ghost use Rattle.ram_transfer.specs.Verifying.{HomesEnd};
+
+use crate::homes::home;
+use ram_bytes::Block;
+use ram_layout::SlipLayout;
+use ram_lists::Lists;
+use ram_medium::{Medium, Stop, read_whole};
+use ram_requests::Request;
+use ram_zones::Geometry;
+
+/// Reads the homes of all blocks of a request, in order. How many were read before one that has no whole bytes, if there
+/// is such a one.
+pub fn read_homes<M: Medium>(
+    medium: &mut M,
+    geometry: &Geometry,
+    layout: &SlipLayout,
+    lists: &Lists,
+    block: &mut Block,
+    request: Request,
+) -> Result<Option<u32>, Stop>
+    requires size { M.block_count medium.old ≡ total geometry.now }
+    requires on { IsTrue (M.world medium.old).power }
+    requires valid { AreValid geometry.now (lists_of lists.now) }
+    requires pools { slip_pools layout.now ≡ pools_under geometry.now (lists_of lists.now) }
+    requires inside { request.lba + request.n ≤ capacity_of geometry.now (lists_of lists.now) }
+    ensures rule { HomesEnd M.world M.reaches medium.old medium.new
+        geometry.now (lists_of lists.now) request.lba request.n result }
+    ensures as_many { M.block_count medium.new ≡ M.block_count medium.old }
+{
+    for k in 0..request.blocks() {
+        let part = request.part(k);
+        let place = home(geometry, layout, lists, part.block);
+        if !read_whole(medium, place, block)? {
+            return Ok(Some(k));
+        }
+    }
+    Ok(None)
+}

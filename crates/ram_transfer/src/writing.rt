@@ -1,0 +1,152 @@
+//! Writes of the blocks of a request, one after another, with linear replacement. A block that is covered in part is read,
+//! modified and written.
+
+ghost use Rattle.std.specs.Prelude.{◌≡◌, ◌↔◌, ◌+◌, ◌*◌, ◌<◌, ◌≤◌, IsTrue, MatchResult, length};
+ghost use Rattle.model_medium.specs.Happened.{Happened};
+ghost use Rattle.model_places.specs.Places.{logical_count, capacity_of};
+ghost use Rattle.model_volume.specs.Given.{AreSettled};
+ghost use Rattle.model_drive.specs.declared.WriteOut.TheVariants as outs;
+ghost use Rattle.ram_medium.specs.Laws.{machine_shown};
+ghost use Rattle.ram_layout.specs.Slipping.{slip_pools};
+ghost use Rattle.ram_lists.specs.Lists.{lists_of};
+ghost use Rattle.ram_lists.specs.Fit.{IsFit};
+ghost use Rattle.ram_transfer.specs.Writing.{BringsRest, RestStopped, WritesPart, PartStops, EndsParts, StopsParts};
+
+use crate::fetching::read_home;
+use crate::homes::home;
+use crate::memory::Workspace;
+use model_drive::WriteOut;
+use ram_buffer::BlockBuffer;
+use ram_bytes::Block;
+use ram_lists::Lists;
+use ram_medium::{Medium, MediumControl, Stop};
+use ram_replace::{Outcome, place_block};
+use ram_requests::{Part, Request};
+use ram_zones::Geometry;
+
+/// Reads a block, out of the buffer or from its home, where a request covers it in part. Whether the block can be written.
+fn fetch_rest<M: Medium>(
+    medium: &mut M,
+    buffer: &mut BlockBuffer,
+    block: &mut Block,
+    part: Part,
+    place: u32,
+) -> Result<bool, Stop>
+    requires inside { place < M.block_count medium.old }
+    ensures rule { MatchResult result
+        (BringsRest M.world M.reaches medium.old buffer.old part.request.lba part.request.n part.block
+        place medium.new block.new buffer.new)
+        (RestStopped M.world M.reaches medium.old buffer.old part.request.lba part.request.n part.block
+        place medium.new) }
+    ensures as_many { M.block_count medium.new ≡ M.block_count medium.old }
+{
+    if !part.is_partly() {
+        return Ok(true);
+    }
+    if buffer.lookup(part.block, block) {
+        return Ok(true);
+    }
+    read_home(medium, buffer, block, part.block, place)
+}
+
+/// Writes a part of a request, and buffers its block once its home has it. The answer is that of a write of this part alone.
+fn write_part<M: Medium>(
+    medium: &mut M,
+    geometry: &Geometry,
+    lists: &mut Lists,
+    workspace: &mut Workspace,
+    part: Part,
+    from: &[u8],
+) -> Result<WriteOut, Stop>
+    requires fit { IsFit geometry.now (M.block_count medium.old) (slip_pools workspace.old.layout)
+        workspace.old.cursors
+        lists.old }
+    requires on { IsTrue (M.world medium.old).power }
+    requires settled { AreSettled geometry.now (M.world medium.old).cells (lists_of lists.old) }
+    requires inside { part.block < logical_count geometry.now (lists_of lists.old) }
+    requires whole { length from.now ≡ 2048 * part.request.n }
+    ensures rule { MatchResult result
+        (WritesPart M.world M.reaches geometry.now medium.old medium.new (lists_of lists.old) (lists_of lists.new)
+        workspace.old.buffer workspace.new.buffer part.request.lba part.request.n part.block from.now)
+        (PartStops M.world M.reaches geometry.now medium.old medium.new (lists_of lists.old)
+        workspace.old.buffer part.request.lba part.request.n part.block from.now) }
+    ensures fit { IsFit geometry.now (M.block_count medium.new) (slip_pools workspace.new.layout)
+        workspace.new.cursors
+        lists.new }
+    ensures same_layout { workspace.new.layout ≡ workspace.old.layout }
+{
+    let place = home(geometry, &workspace.layout, lists, part.block);
+    let Workspace {
+        draft,
+        buffer,
+        block,
+        back,
+        scratch,
+        layout,
+        cursors,
+    } = workspace;
+    if !fetch_rest(medium, buffer, block, part, place)? {
+        return Ok(WriteOut::Unread {
+            lba: part.start,
+            block: place,
+        });
+    }
+    let bytes = part.merged(from, block);
+    let placed = place_block(
+        medium, geometry, layout, cursors, lists, draft, part.block, place, bytes, back, scratch,
+    )?;
+    match placed {
+        Outcome::Done => {
+            buffer.put(part.block, back);
+            Ok(WriteOut::Good)
+        }
+        Outcome::NoSpare => Ok(WriteOut::NoSpare { lba: part.start }),
+        Outcome::NoUpdate { counter } => Ok(WriteOut::NoUpdate { counter }),
+    }
+}
+
+/// Whether all that was asked for is written.
+fn is_good(out: WriteOut) -> bool
+    ensures { IsTrue result ↔ (out ≡ outs.Good) }
+{
+    matches!(out, WriteOut::Good)
+}
+
+/// Writes all parts of a request, in order, up to one that is refused.
+pub fn write_parts<M: MediumControl>(
+    medium: &mut M,
+    geometry: &Geometry,
+    lists: &mut Lists,
+    workspace: &mut Workspace,
+    request: Request,
+    from: &[u8],
+) -> Result<WriteOut, Stop>
+    requires fit { IsFit geometry.now (M.block_count medium.old) (slip_pools workspace.old.layout)
+        workspace.old.cursors
+        lists.old }
+    requires on { IsTrue (M.world medium.old).power }
+    requires settled { AreSettled geometry.now (M.world medium.old).cells (lists_of lists.old) }
+    requires inside { request.lba + request.n ≤ capacity_of geometry.now (lists_of lists.old) }
+    requires whole { length from.now ≡ 2048 * request.n }
+    ensures rule { MatchResult result
+        (EndsParts geometry.now (machine_shown M.world M.arms M.armed_cut medium.old)
+        (machine_shown M.world M.arms M.armed_cut medium.new) (lists_of lists.old) workspace.old.buffer
+        request.lba request.n from.now (lists_of lists.new) workspace.new.buffer)
+        (StopsParts geometry.now (machine_shown M.world M.arms M.armed_cut medium.old)
+        (machine_shown M.world M.arms M.armed_cut medium.new) (lists_of lists.old) workspace.old.buffer
+        request.lba request.n from.now) }
+    ensures happened { Happened M.takes medium.old medium.new }
+    ensures fit { IsFit geometry.now (M.block_count medium.new) (slip_pools workspace.new.layout)
+        workspace.new.cursors
+        lists.new }
+    ensures same_layout { workspace.new.layout ≡ workspace.old.layout }
+{
+    for k in 0..request.blocks() {
+        let part = request.part(k);
+        let out = write_part(medium, geometry, lists, workspace, part, from)?;
+        if !is_good(out) {
+            return Ok(out);
+        }
+    }
+    Ok(WriteOut::Good)
+}
