@@ -30,10 +30,10 @@ use Rattle.model_cache.specs.declared.SyncOut.{SyncOut}
 use Rattle.model_cache.specs.declared.SyncOut.TheVariants as syncs
 use Rattle.model_cache.specs.declared.TickOut.{TickOut}
 use Rattle.model_cache.specs.declared.TickOut.TheVariants as ticks
-use Rattle.model_cache.specs.Values.{Values, Contents, Has, MayHave, HasValue, HasBlock, IsTaken, AreTaken, settled_values, no_values, with_older, lifted, candidates_of, written, cached, values_now, is_among}
+use Rattle.model_cache.specs.Values.{Values, Contents, Has, MayHave, HasValue, HasBlock, IsTaken, AreTaken, settled_values, no_values, with_older, lifted, candidates_of, with_written, cached, values_now, is_among}
 use Rattle.model_cache.specs.Shown.{CacheShown, goes_into_cache}
 use Rattle.model_cache.specs.Steps.{ReadContents, VerifyContents, ExpandContents, SyncContents, TickContents, PowerContents, ThroughContents, CachedContents, WriteContents, FormatContents, FormatValues, FullValues}
-use Rattle.model_cache.specs.Falling.{EachValue, FallsTo, IsWithin, FallsWithin, value_written, LiesIn, Misses, HasOneOf}
+use Rattle.model_cache.specs.Falling.{EachValue, FallsTo, AreAmong, FallsWithin, value_written, LiesIn, Misses, HasOneOf}
 use Rattle.model_cache.proofs.Members.{Contains-none, Contains-first, Contains-later, Contains-cases, Contains-passed}
 use Rattle.model_cache.proofs.ReplacedBlocks.{unreached_block, reached_block, missed_block, as_long_as}
 
@@ -186,9 +186,9 @@ module _ (i : ℕ) (v : Values) (lba n : ℕ) where
   ]
 
 -- the new value, or one of those before
-module _ (choices : List (List ℕ)) (i : ℕ) (v : Values) (lba n : ℕ) (bytes : List ℕ) (lies : LiesIn v.disc lba n bytes) (p : IsWithin choices i v) where
+module _ (choices : List (List ℕ)) (i : ℕ) (v : Values) (lba n : ℕ) (bytes : List ℕ) (lies : LiesIn v.disc lba n bytes) (p : AreAmong choices i v) where
   -- no value is added
-  pub kept_within : IsWithin (value_written v lba bytes i ∷ choices) i v
+  pub kept_within : AreAmong (value_written v lba bytes i ∷ choices) i v
   kept_within has held value = Contains-later (value_written v lba bytes i) choices held (p has held value)
 
   -- the block of the disc that is shown
@@ -201,30 +201,30 @@ module _ (choices : List (List ℕ)) (i : ℕ) (v : Values) (lba n : ℕ) (bytes
   has_it : (b : ℕ) → HasBlock (replaced v.disc lba bytes b) i → HasBlock v.disc i
   has_it b has = let long = as_long_as v.disc lba n bytes b lies in omega (arith, has, long)
 
-  pub written_within : (b : ℕ) → IsWithin (value_written v lba bytes i ∷ choices) i (written v lba bytes b)
+  pub written_within : (b : ℕ) → AreAmong (value_written v lba bytes i ∷ choices) i (with_written v lba bytes b)
   written_within b has held (inl e) = shown_within b held (has_it b has) e
   written_within b has held (inr older) =
       kept_within (has_it b has) held (inr ((Contains-passed (λ (x : ℕ × List ℕ). not (is_among (block_with lba) (b - block_with lba) x.0)) v.older (i, held) older).1))
 
-  pub cached_within : IsWithin (value_written v lba bytes i ∷ choices) i (cached v lba n bytes)
+  pub cached_within : AreAmong (value_written v lba bytes i ∷ choices) i (cached v lba n bytes)
   cached_within has held (inl e) = shown_within (block_with lba + blocks_covered lba n) held (has_it (block_with lba + blocks_covered lba n) has) e
   cached_within has held (inr older) = kept_within (has_it (block_with lba + blocks_covered lba n) has) held (older_cached i v lba n held older)
 
   -- a block in which no sector of the request lies
   module _ (misses : Misses lba n i) where
-    pub written_misses : (b : ℕ) → IsWithin choices i (written v lba bytes b)
+    pub written_misses : (b : ℕ) → AreAmong choices i (with_written v lba bytes b)
     written_misses b has held (inl e) = p (has_it b has) held (inl (e ∙ missed_block v.disc lba n bytes b i lies misses))
     written_misses b has held (inr older) =
         p (has_it b has) held (inr ((Contains-passed (λ (x : ℕ × List ℕ). not (is_among (block_with lba) (b - block_with lba) x.0)) v.older (i, held) older).1))
 
-    pub cached_misses : IsWithin choices i (cached v lba n bytes)
+    pub cached_misses : AreAmong choices i (cached v lba n bytes)
     cached_misses has held (inl e) =
         p (has_it (block_with lba + blocks_covered lba n) has) held (inl (e ∙ missed_block v.disc lba n bytes (block_with lba + blocks_covered lba n) i lies misses))
     cached_misses has held (inr older) = p (has_it (block_with lba + blocks_covered lba n) has) held (older_cached i v lba n held older)
 
 -- any write, by what its parts leave
 module _ (P : List ℕ → Type 0) (i : ℕ) (v : Values) (lba n : ℕ) (bytes : List ℕ) (t : Contents)
-    (kept : EachValue P i v) (through : (b : ℕ) → EachValue P i (written v lba bytes b)) (into : EachValue P i (cached v lba n bytes)) where
+    (kept : EachValue P i v) (through : (b : ℕ) → EachValue P i (with_written v lba bytes b)) (into : EachValue P i (cached v lba n bytes)) where
   falls : (w : Values) → EachValue P i w → Has w ≡ t → FallsTo P i t
   falls w within is = subst (FallsTo P i) is (one P i w within)
 
@@ -232,20 +232,20 @@ module _ (P : List ℕ → Type 0) (i : ℕ) (v : Values) (lba n : ℕ) (bytes :
   falls_two w x within within' is = subst (FallsTo P i) is (two P i w x within within')
 
   through_falls : (old new : CacheShown) (out : WriteOut) → ThroughContents old new (λ x. x ≡ t) (Has v) lba n bytes out → FallsTo P i t
-  through_falls old new writes.Good q = falls (written v lba bytes (block_with lba + blocks_covered lba n)) (through (block_with lba + blocks_covered lba n)) q
+  through_falls old new writes.Good q = falls (with_written v lba bytes (block_with lba + blocks_covered lba n)) (through (block_with lba + blocks_covered lba n)) q
   through_falls old new writes.NotFormatted q = falls v kept (q.1)
   through_falls old new (writes.Range known) q = falls v kept q
-  through_falls old new (writes.Unread named block) q = falls (written v lba bytes (block_with named)) (through (block_with named)) q
+  through_falls old new (writes.Unread named block) q = falls (with_written v lba bytes (block_with named)) (through (block_with named)) q
   through_falls old new (writes.NoSpare named) (inl q) = falls v kept (q.1)
-  through_falls old new (writes.NoSpare named) (inr q) = falls (written v lba bytes (block_with named)) (through (block_with named)) (q.1)
+  through_falls old new (writes.NoSpare named) (inr q) = falls (with_written v lba bytes (block_with named)) (through (block_with named)) (q.1)
   through_falls old new (writes.NoUpdate counter) (inl q) = falls v kept (q.1)
-  through_falls old new (writes.NoUpdate counter) (inr q) = falls (written v lba bytes (block_with lba + q.1.block)) (through (block_with lba + q.1.block)) q.1.before
+  through_falls old new (writes.NoUpdate counter) (inr q) = falls (with_written v lba bytes (block_with lba + q.1.block)) (through (block_with lba + q.1.block)) q.1.before
   through_falls old new writes.Cut (inl q) = falls_two v v kept kept (q.1)
-  through_falls old new writes.Cut (inr q) = falls_two (written v lba bytes (block_with lba + q.block)) (written v lba bytes (block_with lba + (q.block + 1)))
+  through_falls old new writes.Cut (inr q) = falls_two (with_written v lba bytes (block_with lba + q.block)) (with_written v lba bytes (block_with lba + (q.block + 1)))
       (through (block_with lba + q.block)) (through (block_with lba + (q.block + 1))) q.either
   through_falls old new writes.Off q = absurd q
   through_falls old new writes.Fault (inl q) = falls_two v v kept kept (q.1)
-  through_falls old new writes.Fault (inr q) = falls_two (written v lba bytes (block_with lba + q.block)) (written v lba bytes (block_with lba + (q.block + 1)))
+  through_falls old new writes.Fault (inr q) = falls_two (with_written v lba bytes (block_with lba + q.block)) (with_written v lba bytes (block_with lba + (q.block + 1)))
       (through (block_with lba + q.block)) (through (block_with lba + (q.block + 1))) q.either
 
   cached_falls : (out : WriteOut) → CachedContents (λ x. x ≡ t) (Has v) lba n bytes out → FallsTo P i t
@@ -271,7 +271,7 @@ pub a_write_adds : (choices : List (List ℕ)) (i : ℕ) (v : Values) (t : Conte
     → WriteContents old new (λ x. x ≡ t) (Has v) lba n bytes out → LiesIn v.disc lba n bytes → FallsWithin choices i (Has v)
     → FallsWithin (value_written v lba bytes i ∷ choices) i t
 a_write_adds choices i v t lba n bytes old new out q lies p =
-    let within : IsWithin choices i v = only (Contains choices) i v p in
+    let within : AreAmong choices i v = only (Contains choices) i v p in
     write_falls (Contains (value_written v lba bytes i ∷ choices)) i v lba n bytes t (kept_within choices i v lba n bytes lies within)
     (written_within choices i v lba n bytes lies within) (cached_within choices i v lba n bytes lies within) old new (goes_into_cache old lba n) out q
 
@@ -280,7 +280,7 @@ pub a_write_misses : (choices : List (List ℕ)) (i : ℕ) (v : Values) (t : Con
     → WriteContents old new (λ x. x ≡ t) (Has v) lba n bytes out → LiesIn v.disc lba n bytes → Misses lba n i → FallsWithin choices i (Has v)
     → FallsWithin choices i t
 a_write_misses choices i v t lba n bytes old new out q lies misses p =
-    let within : IsWithin choices i v = only (Contains choices) i v p in
+    let within : AreAmong choices i v = only (Contains choices) i v p in
     write_falls (Contains choices) i v lba n bytes t within (written_misses choices i v lba n bytes lies within misses)
     (cached_misses choices i v lba n bytes lies within misses) old new (goes_into_cache old lba n) out q
 
@@ -289,7 +289,7 @@ pub through_settles : (i : ℕ) (v : Values) (t : Contents) (lba n : ℕ) (bytes
     → ThroughContents old new (λ x. x ≡ t) (Has v) lba n bytes writes.Good → LiesIn v.disc lba n bytes → IsCovered lba n i
     → FallsWithin (value_written v lba bytes i ∷ []) i t
 through_settles i v t lba n bytes old new q lies covered =
-    subst (FallsWithin (value_written v lba bytes i ∷ []) i) q (one (Contains (value_written v lba bytes i ∷ [])) i (written v lba bytes end) within)
+    subst (FallsWithin (value_written v lba bytes i ∷ []) i) q (one (Contains (value_written v lba bytes i ∷ [])) i (with_written v lba bytes end) within)
   where
     end : ℕ
     end = block_with lba + blocks_covered lba n
@@ -304,7 +304,7 @@ through_settles i v t lba n bytes old new q lies covered =
         (lt-ltb i (block_with lba + (block_with lba + blocks_covered lba n - block_with lba)) (omega (arith, high))) in
         true≢false (sym kept ∙ ap not among)
 
-    within : IsWithin (value_written v lba bytes i ∷ []) i (written v lba bytes (block_with lba + blocks_covered lba n))
+    within : AreAmong (value_written v lba bytes i ∷ []) i (with_written v lba bytes (block_with lba + blocks_covered lba n))
     within has held (inl e) =
         let high = covered.1 in
         subst (Contains (value_written v lba bytes i ∷ [])) (sym (e ∙ reached_block v.disc lba n bytes (block_with lba + blocks_covered lba n) i lies high))
@@ -317,31 +317,31 @@ module _ (choices : List (List ℕ)) (i : ℕ) (shape : Shape) where
   abbrev zeros_too : List (List ℕ)
   zeros_too = block_of (zero_disc shape) i ∷ choices
 
-  zero_within : IsWithin zeros_too i (settled_values (zero_disc shape))
+  zero_within : AreAmong zeros_too i (settled_values (zero_disc shape))
   zero_within = settled_within (Contains zeros_too) i (zero_disc shape) (λ has. Contains-first (block_of (zero_disc shape) i) choices)
 
-  with_zeros : (v : Values) → IsWithin choices i v → IsWithin zeros_too i v
+  with_zeros : (v : Values) → AreAmong choices i v → AreAmong zeros_too i v
   with_zeros v p has held value = Contains-later (block_of (zero_disc shape) i) choices held (p has held value)
 
-  all_with_zeros : (all : List Values) → All (IsWithin choices i) all → All (IsWithin zeros_too i) all
-  all_with_zeros [] p = All-nil (IsWithin zeros_too i)
+  all_with_zeros : (all : List Values) → All (AreAmong choices i) all → All (AreAmong zeros_too i) all
+  all_with_zeros [] p = All-nil (AreAmong zeros_too i)
   all_with_zeros (v ∷ all) p =
-      All-cons (IsWithin zeros_too i) v all (with_zeros v (All-head (IsWithin choices i) v all p)) (all_with_zeros all (All-tail (IsWithin choices i) v all p))
+      All-cons (AreAmong zeros_too i) v all (with_zeros v (All-head (AreAmong choices i) v all p)) (all_with_zeros all (All-tail (AreAmong choices i) v all p))
 
-module _ (choices : List (List ℕ)) (i : ℕ) (t : Contents) (old new : Shown) (v : Values) (p : IsWithin choices i v) where
+module _ (choices : List (List ℕ)) (i : ℕ) (t : Contents) (old new : Shown) (v : Values) (p : AreAmong choices i v) where
   abbrev Zeroed : Type 0
   Zeroed = FallsWithin (zeros_too choices i old.shape) i t
 
-  zeroed : (w : Values) → IsWithin (zeros_too choices i old.shape) i w → Has w ≡ t → Zeroed
+  zeroed : (w : Values) → AreAmong (zeros_too choices i old.shape) i w → Has w ≡ t → Zeroed
   zeroed w within is = subst (FallsWithin (zeros_too choices i old.shape) i) is (one (Contains (zeros_too choices i old.shape)) i w within)
 
-  zeroed_two : (w x : Values) → IsWithin (zeros_too choices i old.shape) i w → IsWithin (zeros_too choices i old.shape) i x → MayHave (w ∷ x ∷ []) ≡ t → Zeroed
+  zeroed_two : (w x : Values) → AreAmong (zeros_too choices i old.shape) i w → AreAmong (zeros_too choices i old.shape) i x → MayHave (w ∷ x ∷ []) ≡ t → Zeroed
   zeroed_two w x within within' is = subst (FallsWithin (zeros_too choices i old.shape) i) is (two (Contains (zeros_too choices i old.shape)) i w x within within')
 
-  kept_too : IsWithin (zeros_too choices i old.shape) i v
+  kept_too : AreAmong (zeros_too choices i old.shape) i v
   kept_too = with_zeros choices i old.shape v p
 
-  none_too : IsWithin (zeros_too choices i old.shape) i no_values
+  none_too : AreAmong (zeros_too choices i old.shape) i no_values
   none_too = none_within (Contains (zeros_too choices i old.shape)) i
 
   stopped_full : (after : Contents) → (MayHave (v ∷ no_values ∷ []) ≡ t) ⊎ (MayHave (no_values ∷ []) ≡ t) ⊎ (MayHave (no_values ∷ settled_values (zero_disc old.shape) ∷ []) ≡ t) → Zeroed

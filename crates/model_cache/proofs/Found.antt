@@ -25,7 +25,7 @@ use Rattle.model_cache.specs.declared.SyncOut.{SyncOut}
 use Rattle.model_cache.specs.declared.SyncOut.TheVariants as syncs
 use Rattle.model_cache.specs.declared.TickOut.{TickOut}
 use Rattle.model_cache.specs.declared.TickOut.TheVariants as ticks
-use Rattle.model_cache.specs.Values.{Values, Contents, Has, MayHave, candidates_of, settled_values, no_values, with_older, written, cached}
+use Rattle.model_cache.specs.Values.{Values, Contents, Has, MayHave, candidates_of, settled_values, no_values, with_older, with_written, cached}
 use Rattle.model_cache.specs.Shown.{CacheShown, goes_into_cache}
 use Rattle.model_cache.specs.Steps.{ReadContents, VerifyContents, StopsFlush, ThroughValues, CachedValues, FullValues, FormatValues, SyncValues, TickValues, ThroughContents, CachedContents, WriteContents, FormatContents, ExpandContents, SyncContents, TickContents, PowerContents}
 
@@ -107,15 +107,15 @@ module _ (after : Contents → Type 0) where
   module _ (v : Values) (lba n : ℕ) (bytes : List ℕ) (old new : CacheShown) where
     -- the values after the covered blocks before this one were written
     abbrev values_to : ℕ → Values
-    values_to block = written v lba bytes (block_with lba + block)
+    values_to block = with_written v lba bytes (block_with lba + block)
 
     refused_found : (out : WriteOut) → ThroughValues after v lba n bytes old new out → FoundBy (λ is. ThroughValues is v lba n bytes old new out)
     refused_found writes.Good step = (Has (values_to (blocks_covered lba n)), step, refl)
     refused_found writes.NotFormatted step = (Has v, step.1, (step.0, refl))
     refused_found (writes.Range known) step = (Has v, step, refl)
-    refused_found (writes.Unread named block) step = (Has (written v lba bytes (block_with named)), step, refl)
+    refused_found (writes.Unread named block) step = (Has (with_written v lba bytes (block_with named)), step, refl)
     refused_found (writes.NoSpare named) (inl p) = (Has v, p.1, inl (p.0, refl))
-    refused_found (writes.NoSpare named) (inr p) = (Has (written v lba bytes (block_with named)), p.1, inr (p.0, refl))
+    refused_found (writes.NoSpare named) (inr p) = (Has (with_written v lba bytes (block_with named)), p.1, inr (p.0, refl))
     refused_found (writes.NoUpdate counter) (inl p) = (Has v, p.1, inl (p.0, refl))
     refused_found (writes.NoUpdate counter) (inr p) =
         (Has (values_to p.1.block), p.1.before, inr (p.0, record { block = p.1.block; covered = p.1.covered; dead = p.1.dead; first = p.1.first; before = refl }))

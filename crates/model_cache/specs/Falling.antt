@@ -15,8 +15,8 @@ abbrev pub FallsTo : (List ℕ → Type 0) → ℕ → Contents → Type 0
 FallsTo so i s = All (EachValue so i) (candidates_of s)
 
 -- if the disc has the block, each of the block's values is one of these
-abbrev pub IsWithin : List (List ℕ) → ℕ → Values → Type 0
-IsWithin choices i v = EachValue (Contains choices) i v
+abbrev pub AreAmong : List (List ℕ) → ℕ → Values → Type 0
+AreAmong choices i v = EachValue (Contains choices) i v
 
 -- whichever disc is found, it has one of these as the block's value, or has no block of this number
 abbrev pub FallsWithin : List (List ℕ) → ℕ → Contents → Type 0

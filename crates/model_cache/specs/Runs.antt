@@ -12,7 +12,7 @@ use Rattle.model_cache.specs.Shown.{CacheShown, IsCacheSound, CacheStandsFor}
 use Rattle.model_cache.specs.Plain.{uncached}
 
 -- A disc in the drive: what the drive shows, which is sound, and one thing that it stands for.
-pub record Loaded : Type 0 where
+pub record CacheLoaded : Type 0 where
   pub shown : CacheShown
   pub contents : Contents
   pub sound : IsSound shown.drive
@@ -21,7 +21,7 @@ pub record Loaded : Type 0 where
 
 -- The disc of an image that was just opened: the cache is off and empty, and the drive stands for the discs of the pairs of
 -- lists that the cells give, in order, each block with one value.
-pub record IsOpenedOn (shape : Shape) (cells : List Cell) (s : Loaded) : Type 0 where
+pub record IsCacheOpenedOn (shape : Shape) (cells : List Cell) (s : CacheLoaded) : Type 0 where
   pub faults : ℕ
   pub shown_is : s.shown ≡ uncached (opened_drive shape cells faults)
   pub all : List Found

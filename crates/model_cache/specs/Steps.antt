@@ -28,7 +28,7 @@ use Rattle.model_cache.specs.declared.SyncOut.{SyncOut}
 use Rattle.model_cache.specs.declared.SyncOut.TheVariants as syncs
 use Rattle.model_cache.specs.declared.TickOut.{TickOut}
 use Rattle.model_cache.specs.declared.TickOut.TheVariants as ticks
-use Rattle.model_cache.specs.Values.{Values, Contents, Has, MayHave, lifted, plain, settled_values, no_values, candidates_of, AreTaken, IsPending, written, cached}
+use Rattle.model_cache.specs.Values.{Values, Contents, Has, MayHave, lifted, plain, settled_values, no_values, candidates_of, AreTaken, IsPending, with_written, cached}
 use Rattle.model_cache.specs.Shown.{CacheShown, goes_into_cache}
 
 -- A block that the request covers is pending.
@@ -61,8 +61,8 @@ module _ (after : Contents → Type 0) (v : Values) where
     pub record StopsThrough : Type 0 where
       pub block : ℕ
       pub covered : block < blocks_covered lba n
-      pub either : after (MayHave (written v lba bytes (block_with lba + block)
-          ∷ written v lba bytes (block_with lba + (block + 1)) ∷ []))
+      pub either : after (MayHave (with_written v lba bytes (block_with lba + block)
+          ∷ with_written v lba bytes (block_with lba + (block + 1)) ∷ []))
 
     -- Through the cache: the list could not be written. The blocks before the first one whose home is dead have their new
     -- values alone.
@@ -71,7 +71,7 @@ module _ (after : Contents → Type 0) (v : Values) where
       pub covered : block < blocks_covered lba n
       pub dead : home_cell new (block_with lba + block) ≡ Dead
       pub first : AreGood new (block_with lba) block
-      pub before : after (Has (written v lba bytes (block_with lba + block)))
+      pub before : after (Has (with_written v lba bytes (block_with lba + block)))
 
     module _ (old new : CacheShown) where
       -- a covered block that was pending could not be written, or its write was stopped
@@ -83,12 +83,12 @@ module _ (after : Contents → Type 0) (v : Values) where
 
       -- What a write through the cache makes of a disc with its values, by its answer.
       abbrev pub ThroughValues : WriteOut → Type 0
-      ThroughValues writes.Good = after (Has (written v lba bytes (block_with lba + blocks_covered lba n)))
+      ThroughValues writes.Good = after (Has (with_written v lba bytes (block_with lba + blocks_covered lba n)))
       ThroughValues writes.NotFormatted = (v.disc ≡ []) × after (Has v)
       ThroughValues (writes.Range known) = after (Has v)
-      ThroughValues (writes.Unread named block) = after (Has (written v lba bytes (block_with named)))
+      ThroughValues (writes.Unread named block) = after (Has (with_written v lba bytes (block_with named)))
       ThroughValues (writes.NoSpare named) = IsRefusedBefore ⊎ (¬ SomePending new lba n
-          × after (Has (written v lba bytes (block_with named))))
+          × after (Has (with_written v lba bytes (block_with named))))
       ThroughValues (writes.NoUpdate counter) = IsRefusedBefore ⊎ (¬ SomePending new lba n × EndsThrough new.drive)
       ThroughValues writes.Cut = StopsBefore ⊎ StopsThrough
       ThroughValues writes.Off = ⊥

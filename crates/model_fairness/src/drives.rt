@@ -35,17 +35,21 @@ pub fn a_blank_disc_gives_up_none()
 /// blocks die.
 pub fn a_drive_gives_up_dead_blocks_alone()
     ensures power { (old new : Shown) (out : PowerOut) → new.shape ≡ old.shape
-        → IsSound new → IsKnown old → IsKnown new → GivesUpDeadAlone old → PowerCause old new out → GivesUpDeadAlone new }
+        → IsSound new → IsKnown old → IsKnown new → GivesUpDeadAlone old → PowerCause old new out
+        → GivesUpDeadAlone new }
     ensures read { (old new : Shown) (lba n : ℕ) (out : ReadOut) → new.shape ≡ old.shape
         → IsSound new → IsKnown new → GivesUpDeadAlone old → ReadCause old new lba n out → GivesUpDeadAlone new }
     ensures verify { (old new : Shown) (lba n : ℕ) (out : ReadOut) → new.shape ≡ old.shape
         → IsSound new → IsKnown new → GivesUpDeadAlone old → VerifyCause old new lba n out → GivesUpDeadAlone new }
     ensures write { (old new : Shown) (lba n : ℕ) (out : WriteOut) → new.shape ≡ old.shape
-        → IsSound new → IsKnown old → IsKnown new → GivesUpDeadAlone old → WriteCause old new lba n out → GivesUpDeadAlone new }
+        → IsSound new → IsKnown old → IsKnown new → GivesUpDeadAlone old → WriteCause old new lba n out
+        → GivesUpDeadAlone new }
     ensures expand { (old new : Shown) (sectors : ℕ) (out : ExpandOut) → new.shape ≡ old.shape
-        → IsSound new → IsKnown old → IsKnown new → GivesUpDeadAlone old → ExpandCause old new sectors out → GivesUpDeadAlone new }
+        → IsSound new → IsKnown old → IsKnown new → GivesUpDeadAlone old → ExpandCause old new sectors out
+        → GivesUpDeadAlone new }
     ensures format { (old new : Shown) (kind : Kind) (out : FormatOut) → new.shape ≡ old.shape
-        → IsSound new → IsKnown old → IsKnown new → GivesUpDeadAlone old → FormatCause old new kind out → GivesUpDeadAlone new }
+        → IsSound new → IsKnown old → IsKnown new → GivesUpDeadAlone old → FormatCause old new kind out
+        → GivesUpDeadAlone new }
     ensures dies { (old new : Shown) → new.shape ≡ old.shape → new.lists ≡ old.lists
         → AreSameOrDead (cells_in old) (cells_in new) → GivesUpDeadAlone old → GivesUpDeadAlone new }
 {}
@@ -55,6 +59,7 @@ pub fn a_drive_gives_up_dead_blocks_alone()
 pub fn no_spare_means_that_none_is_left()
     ensures { (old new : Shown) (lba n named : ℕ) (lists : Lists) → GivesUpDeadAlone new
         → LacksSpare old new lba n named → new.lists ≡ Some lists → (spare : ℕ)
-        → Contains (spares_of new.shape lists (block_with named)) spare → ¬ Contains (replacements lists.sdl.entries) spare
+        → Contains (spares_of new.shape lists (block_with named)) spare
+        → ¬ Contains (replacements lists.sdl.entries) spare
         → cell_at (cells_in new) spare ≡ Dead }
 {}

@@ -27,12 +27,14 @@ pub fn a_stopped_call_loses_one_copy_at_most()
         → LosesOneAtMost old.shape (cells_in old) (cells_in new) version }
     ensures read { (old new : Shown) (lba n most : ℕ) (stop : Stop) (version : Version)
         → StopsInRead old new lba n most stop → LosesOneAtMost old.shape (cells_in old) (cells_in new) version }
-    ensures write { (old new : Shown) (lba n : ℕ) (stop : Stop) → IsKnown old → (stops : StopsInWrite old new lba n stop)
+    ensures write { (old new : Shown) (lba n : ℕ) (stop : Stop) → IsKnown old
+        → (stops : StopsInWrite old new lba n stop)
         → LosesOneAtMost old.shape (cells_in old) (cells_in new) stops.reached.sdl.version }
     ensures expand { (old new : Shown) (sectors : ℕ) (stop : Stop) → IsKnown old
         → (stops : StopsInExpansion old new sectors stop)
         → LosesOneAtMost old.shape (cells_in old) (cells_in new) stops.lists.sdl.version }
-    ensures rewrite { (old new : Shown) (lists : Lists) (stop : Stop) → IsKnown old → StopsInRewrite old new lists stop
+    ensures rewrite { (old new : Shown) (lists : Lists) (stop : Stop) → IsKnown old
+        → StopsInRewrite old new lists stop
         → LosesOneAtMost old.shape (cells_in old) (cells_in new) lists.sdl.version }
     ensures format { (old new : Shown) (drop_sdl : Bool) (stop : Stop) → IsKnown old
         → StopsInFormat old new drop_sdl stop → LosesOneAtMost old.shape (cells_in old) (cells_in new) Two }

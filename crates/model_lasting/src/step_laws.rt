@@ -29,22 +29,27 @@ pub fn a_formatted_disc_stays_formatted()
     ensures power { (old new : Shown) (version : Version) (sizes : List ℕ) (out : PowerOut) → new.shape ≡ old.shape
         → IsSound new → IsKnown old → IsKnown new → StaysFormatted old version sizes → PowerCause old new out
         → KeepsTwoCopies new version → StaysFormatted new version sizes × TellsSize old.shape sizes out }
-    ensures read { (old new : Shown) (version : Version) (sizes : List ℕ) (lba n : ℕ) (out : ReadOut) → new.shape ≡ old.shape
+    ensures read { (old new : Shown) (version : Version) (sizes : List ℕ) (lba n : ℕ) (out : ReadOut)
+        → new.shape ≡ old.shape
         → IsSound new → IsKnown new → StaysFormatted old version sizes → ReadCause old new lba n out
         → StaysFormatted new version sizes }
-    ensures verify { (old new : Shown) (version : Version) (sizes : List ℕ) (lba n : ℕ) (out : ReadOut) → new.shape ≡ old.shape
+    ensures verify { (old new : Shown) (version : Version) (sizes : List ℕ) (lba n : ℕ) (out : ReadOut)
+        → new.shape ≡ old.shape
         → IsSound new → IsKnown new → StaysFormatted old version sizes → VerifyCause old new lba n out
         → StaysFormatted new version sizes }
-    ensures write { (old new : Shown) (version : Version) (sizes : List ℕ) (lba n : ℕ) (out : WriteOut) → new.shape ≡ old.shape
+    ensures write { (old new : Shown) (version : Version) (sizes : List ℕ) (lba n : ℕ) (out : WriteOut)
+        → new.shape ≡ old.shape
         → IsSound old → IsSound new → IsKnown old → IsKnown new → StaysFormatted old version sizes
         → WriteCause old new lba n out → StaysFormatted new version sizes }
-    ensures expand { (old new : Shown) (version : Version) (sizes : List ℕ) (sectors : ℕ) (out : ExpandOut) → new.shape ≡ old.shape
+    ensures expand { (old new : Shown) (version : Version) (sizes : List ℕ) (sectors : ℕ) (out : ExpandOut)
+        → new.shape ≡ old.shape
         → IsSound old → IsSound new → IsKnown old → IsKnown new → StaysFormatted old version sizes
         → ExpandCause old new sectors out → StaysFormatted new version (ssa_for old.shape sectors ∷ sizes) }
     ensures format { (old new : Shown) (version : Version) (sizes : List ℕ) (out : FormatOut) → new.shape ≡ old.shape
         → IsSound old → IsSound new → IsKnown old → IsKnown new → StaysFormatted old version sizes
         → FormatCause old new kinds.Rewrite out → StaysFormatted new version sizes }
-    ensures dies { (old new : Shown) (version : Version) (sizes : List ℕ) → new.shape ≡ old.shape → (IsOn new → IsOn old)
+    ensures dies { (old new : Shown) (version : Version) (sizes : List ℕ) → new.shape ≡ old.shape
+        → (IsOn new → IsOn old)
         → (IsOn new → new.lists ≡ old.lists) → AreSameOrDead (cells_in old) (cells_in new)
         → StaysFormatted old version sizes → StaysFormatted new version sizes }
 {}

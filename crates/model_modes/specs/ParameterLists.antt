@@ -30,8 +30,8 @@ abbrev pub is_no_list_length : ℕ → Bool
 is_no_list_length bytes = not (bytes == 0) && not (bytes == 8) && not (bytes == 20) && not (bytes == 32)
 
 -- A parameter list that is taken: none at all, or one that changes WCE at most. (This project's own.)
-abbrev pub IsTaken : List ℕ → Type 0
-IsTaken bytes = (bytes ≡ []) ⊎ HasCurrentPages bytes
+abbrev pub IsTakenList : List ℕ → Type 0
+IsTakenList bytes = (bytes ≡ []) ⊎ HasCurrentPages bytes
 
 -- the page is a caching page
 abbrev pub is_caching : List ℕ → Bool

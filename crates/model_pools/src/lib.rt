@@ -43,7 +43,8 @@ pub fn each_valid_entry_uses_up_a_spare()
 
 /// The free spares of a logical block are different blocks: those that it may go to and that no entry names.
 pub fn free_spares_are_unnamed()
-    ensures free { (pools : List Pool) (entries : List SdlEntry) (i block : ℕ) → Contains (free_in pools entries i) block
+    ensures free { (pools : List Pool) (entries : List SdlEntry) (i block : ℕ)
+        → Contains (free_in pools entries i) block
         → Contains (spares_in pools) block × (¬ Contains (defectives entries) block)
         × (¬ Contains (replacements entries) block) }
     ensures every { (pools : List Pool) (entries : List SdlEntry) (i block : ℕ)
@@ -73,6 +74,7 @@ pub fn a_move_keeps_entries_valid()
     ensures free { (pools : List Pool) (entries : List SdlEntry) → ArePools pools → AreValidUnder pools entries
         → (i : ℕ) → i < length (logical_in pools) → (tried spare : ℕ) → tried < length (free_in pools entries i)
         → (j block : ℕ)
-        → Contains (free_in pools (entries_moved_in pools entries i (tried_of (free_in pools entries i) tried) spare) j) block
+        → Contains (free_in pools
+        (entries_moved_in pools entries i (tried_of (free_in pools entries i) tried) spare) j) block
         → Contains (free_in pools entries j) block }
 {}

@@ -91,6 +91,7 @@ pub fn of_two_copies_one_is_left()
         → (now : Dds) × (area : ℕ) × HasDdsCopy shape new now area }
     ensures sdl { (shape : Shape) (old new : List Cell) (version : Version) (v w : Sdl) (a b : ℕ)
         → LosesOneSdl shape old new version → a ≢ b → v.version ≡ version → w.version ≡ version
-        → HasSdlCopy shape old v a → SdlLives shape new version a → HasSdlCopy shape old w b → SdlLives shape new version b
+        → HasSdlCopy shape old v a → SdlLives shape new version a → HasSdlCopy shape old w b
+        → SdlLives shape new version b
         → (now : Sdl) × (area : ℕ) × HasSdlCopy shape new now area }
 {}

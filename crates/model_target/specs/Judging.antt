@@ -4,7 +4,7 @@ use Rattle.std.specs.Prelude.{◌≡◌, ℕ, Bool, true, false, ◌&&◌, not, 
 use Rattle.std.specs.List.{find}
 use Rattle.model_commands.specs.declared.Operation.{Operation}
 use Rattle.model_commands.specs.Commands.{operation_of}
-use Rattle.model_modes.specs.ParameterLists.{IsTaken}
+use Rattle.model_modes.specs.ParameterLists.{IsTakenList}
 use Rattle.model_sense.specs.Sense.{sense}
 use Rattle.model_sense.specs.declared.sense.Sense.{Sense}
 use Rattle.model_cdb.specs.declared.commands.Command.{Command}
@@ -61,8 +61,8 @@ hindrances host formatted command =
 
 -- The same as a relation, where a list of mode pages is looked at too. It is 5/26/00 where it is not taken.
 abbrev pub IsAllowed : Host → (formatted : Bool) → (payload : List ℕ) → Command → Result Command Sense → Type 0
-IsAllowed host formatted payload commands.ModeSelect (Ok command) = (command ≡ commands.ModeSelect) × IsTaken payload
-IsAllowed host formatted payload commands.ModeSelect (Err why) = (why ≡ sense 0x5 0x26 0x00) × ¬ IsTaken payload
+IsAllowed host formatted payload commands.ModeSelect (Ok command) = (command ≡ commands.ModeSelect) × IsTakenList payload
+IsAllowed host formatted payload commands.ModeSelect (Err why) = (why ≡ sense 0x5 0x26 0x00) × ¬ IsTakenList payload
 IsAllowed host formatted payload asked_for result =
     result ≡ unless (find (λ r. r.applies) (hindrances host formatted asked_for)) asked_for
 

@@ -35,7 +35,8 @@ pub fn a_power_on_is_told()
 /// With the power off nothing is done, and the four things stay.
 pub fn nothing_is_done_with_the_power_off()
     ensures { (old new : CacheShown) (host later : Host) (cdb payload : List ℕ) (answer : Answered) (data_in : List ℕ)
-        → ¬ IsOn old.drive → IsStep old new (CacheStandsFor old) (CacheStandsFor new) host later cdb payload answer data_in
+        → ¬ IsOn old.drive → IsStep old new (CacheStandsFor old) (CacheStandsFor new) host later cdb payload
+        answer data_in
         → (answer ≡ answers.Off) × (later ≡ host) × (new ≡ old) × (data_in ≡ []) }
 {}
 
@@ -67,7 +68,8 @@ pub fn a_command_that_is_done_is_whole()
 /// A command that is checked has one of fourteen senses, which rise by their numbers.
 pub fn a_command_that_is_checked_has_a_known_sense()
     ensures { (old new : CacheShown) (host later : Host) (cdb payload data_in : List ℕ)
-        (why : AnySense) → IsStep old new (CacheStandsFor old) (CacheStandsFor new) host later cdb payload (answers.Check why) data_in
+        (why : AnySense) → IsStep old new (CacheStandsFor old) (CacheStandsFor new) host later cdb payload
+        (answers.Check why) data_in
         → IsKnownSense why }
 {}
 
@@ -84,7 +86,8 @@ pub fn a_command_lacks_a_spare_where_a_write_does()
 /// CAPACITIES with 304 sectors (formatted and in place, not formatted, and out), and of READ DVD STRUCTURE with three free
 /// primary spares and no supplementary ones.
 pub fn worked_replies()
-    ensures inquiry { inquiry_reply ≡ 0x05 ∷ 0x80 ∷ 0x00 ∷ 0x02 ∷ 0x1f ∷ 0x00 ∷ 0x00 ∷ 0x00 ∷ 0x44 ∷ 0x56 ∷ 0x44 ∷ 0x52
+    ensures inquiry { inquiry_reply
+        ≡ 0x05 ∷ 0x80 ∷ 0x00 ∷ 0x02 ∷ 0x1f ∷ 0x00 ∷ 0x00 ∷ 0x00 ∷ 0x44 ∷ 0x56 ∷ 0x44 ∷ 0x52
         ∷ 0x41 ∷ 0x4d ∷ 0x20 ∷ 0x20 ∷ 0x53 ∷ 0x45 ∷ 0x43 ∷ 0x54 ∷ 0x4f ∷ 0x52 ∷ 0x20 ∷ 0x44 ∷ 0x52 ∷ 0x49 ∷ 0x56
         ∷ 0x45 ∷ 0x20 ∷ 0x20 ∷ 0x20 ∷ 0x20 ∷ 0x31 ∷ 0x2e ∷ 0x30 ∷ 0x30 ∷ [] }
     ensures capacity { capacity_reply 304 ≡ 0x00 ∷ 0x00 ∷ 0x01 ∷ 0x2f ∷ 0x00 ∷ 0x00 ∷ 0x08 ∷ 0x00 ∷ [] }

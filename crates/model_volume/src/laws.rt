@@ -73,7 +73,8 @@ pub fn seen_lists_were_given()
 /// Lists of one version that are settled leave themselves as the only given pair.
 pub fn settled_lists_are_given_alone()
     ensures { (shape : Shape) (cells : List Cell) (lists other : Lists)
-        → AreSettled shape cells lists → lists.sdl.version ≡ lists.dds.version → IsGiven shape cells other → other ≡ lists }
+        → AreSettled shape cells lists → lists.sdl.version ≡ lists.dds.version → IsGiven shape cells other
+        → other ≡ lists }
 {}
 
 /// Between two texts of one list each given pair has the one or the other; with the other list settled, these are two

@@ -3,31 +3,19 @@
 //! code that they try.
 #![tactic(auto)]
 
-mod calls;
-mod cuts;
-mod discs;
 mod doing;
 mod events;
-mod host;
-mod lines;
 mod lists;
 mod numbers;
-mod random;
 mod rows;
-mod sectors;
 mod structures;
 mod version;
 mod work;
 
-pub use calls::{Call, Calls, OfCaching, OfDisc, call_of};
-pub use cuts::answer_row;
 pub use doing::{Taken, add_area, answer_work};
 pub use events::{Controlled, Event, answer_event, event_of, fate_of};
-pub use host::answer_call;
-pub use lines::{Rig, blank, joined, make_lines};
 pub use lists::{Entry, List, entries_of};
 pub use numbers::{byte_all_over, byte_of, number_of, put};
-pub use random::{below, random_fate};
 pub use rows::{Rows, answer_rows};
 pub use structures::{Structure, add_structure};
 pub use version::Version;

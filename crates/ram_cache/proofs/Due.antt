@@ -18,7 +18,7 @@ use Rattle.model_drive.proofs.Courses.{placed_total}
 use Rattle.model_cache.specs.Values.{Contents, Has, MayHave, StandsCached, is_among}
 use Rattle.model_cache.specs.Shown.{CacheShown, AreApart}
 use Rattle.model_cache.specs.Chains.{WritesBack, Flushes, FlushesAll, EndsFlushing, leaves_pending}
-use Rattle.ram_cache.specs.Rooms.{held_at, FirstOf}
+use Rattle.ram_cache.specs.Rooms.{pending_at, FirstOf}
 use Rattle.ram_cache.specs.Flushes.{CanFlush, FlushesAt, FlushContents, FlushedDue, FlushesDue, FlushedSoFar, due_of, left_at}
 use Rattle.ram_cache.proofs.Places.{Contains-held, but_removed, first_due, none_due, inside_at}
 use Rattle.ram_cache.proofs.OneFlush.{not_partly}
@@ -64,13 +64,13 @@ take_past (j ∷ done) m i rest =
 
 module _ (first count : ℕ) where
   due_first : (among : Bool) (shown new : CacheShown) (k : ℕ) → FirstOf shown.pending among first count (Some k) → new.pending ≡ remove shown.pending k
-      → due_of among first count shown ≡ (held_at shown.pending k).0 ∷ due_of among first count new
+      → due_of among first count shown ≡ (pending_at shown.pending k).0 ∷ due_of among first count new
   due_first true shown new k (within, is, before) left =
       first_due (is_among first count) shown.pending k within is before
-      ∙ ap (λ (l : List (ℕ × List ℕ)). (held_at shown.pending k).0 ∷ filter (is_among first count) (numbers_in l)) (sym left)
+      ∙ ap (λ (l : List (ℕ × List ℕ)). (pending_at shown.pending k).0 ∷ filter (is_among first count) (numbers_in l)) (sym left)
   due_first false shown new k (within, is, before) left =
       first_due (λ i. not (is_among first count i)) shown.pending k within (ap not is) (λ j below. ap not (before j below))
-      ∙ ap (λ (l : List (ℕ × List ℕ)). (held_at shown.pending k).0 ∷ filter (λ i. not (is_among first count i)) (numbers_in l)) (sym left)
+      ∙ ap (λ (l : List (ℕ × List ℕ)). (pending_at shown.pending k).0 ∷ filter (λ i. not (is_among first count i)) (numbers_in l)) (sym left)
 
   due_none : (among : Bool) (shown : CacheShown) → FirstOf shown.pending among first count None → due_of among first count shown ≡ []
   due_none true shown none = none_due (is_among first count) shown.pending none
@@ -79,9 +79,9 @@ module _ (first count : ℕ) where
 All-removed : (P : (ℕ × List ℕ) → Type 0) (p : List (ℕ × List ℕ)) (k : ℕ) → All P p → All P (remove p k)
 All-removed P p k all = All-append P (take k p) (drop (suc k) p) (All-take P k p all) (All-drop P (suc k) p all)
 
-pub back : (mid new : CacheShown) (k : ℕ) (out : WriteOut) → k < length mid.pending → FlushesAt mid new k out → WritesBack mid new ((held_at mid.pending k).0) out
+pub back : (mid new : CacheShown) (k : ℕ) (out : WriteOut) → k < length mid.pending → FlushesAt mid new k out → WritesBack mid new ((pending_at mid.pending k).0) out
 back mid new k out within (wrote, left, mode) = record {
-  bytes = (held_at mid.pending k).1;
+  bytes = (pending_at mid.pending k).1;
   was_pending = Contains-held mid.pending k within;
   wrote = wrote.0;
   leaves = wrote.1;
@@ -109,7 +109,7 @@ module _ (start : CacheShown) (among : Bool) (first count : ℕ) (before : Conte
     pub flushed_more : AreApart mid.pending → FlushesAt mid new k writes.Good → new.drive.shape ≡ mid.drive.shape
         → ((s : Contents) → amid s → FlushContents after s writes.Good) → FlushedSoFar start new among first count (turns + 1) before after
     flushed_more apart flushes same step =
-        let i : ℕ = (held_at mid.pending k).0 in
+        let i : ℕ = (pending_at mid.pending k).0 in
         let same_blocks = good_count mid.drive new.drive (16 * i) 16 (flushes.0.0) same in
         let many = far.many in
         record {
@@ -142,7 +142,7 @@ module _ (start : CacheShown) (among : Bool) (first count : ℕ) (before : Conte
       ends : (out : WriteOut) → FlushesAt mid new k out → out ≢ writes.Good → left_at out k mid.pending ≡ leaves_pending out mid.pending
           → EndsFlushing start new (take most (due_of among first count start)) out
       ends out flushes not_good same =
-          let i : ℕ = (held_at mid.pending k).0 in
+          let i : ℕ = (pending_at mid.pending k).0 in
           let without : CacheShown = record mid { pending = remove mid.pending k } in
           let more : ℕ = most - (turns + 1) in
           let many = far.many in
@@ -161,7 +161,7 @@ module _ (start : CacheShown) (among : Bool) (first count : ℕ) (before : Conte
             left = flushes.1 ∙ same;
           }
 
-      inside : (held_at mid.pending k).0 < block_count mid.drive
+      inside : (pending_at mid.pending k).0 < block_count mid.drive
       inside = inside_at mid.pending k (is_first.0) far.can.inside
 
       pub refused : (out : WriteOut) → FlushesAt mid new k out → out ≢ writes.Good → FlushesDue start new among first count most out
@@ -169,7 +169,7 @@ module _ (start : CacheShown) (among : Bool) (first count : ℕ) (before : Conte
       refused writes.NotFormatted flushes not_good = flushes.0.0.unformatted far.can.formatted
       refused (writes.Range known) flushes not_good = let past = flushes.0.0.past in let here = inside in absurd (omega (arith, here, past))
       refused (writes.Unread named block) flushes not_good =
-          not_partly ((held_at mid.pending k).0) (length flushes.0.0.course) (buffered mid.drive) flushes.0.0.is_named.covered flushes.0.0.partly
+          not_partly ((pending_at mid.pending k).0) (length flushes.0.0.course) (buffered mid.drive) flushes.0.0.is_named.covered flushes.0.0.partly
       refused (writes.NoSpare named) flushes not_good = ends (writes.NoSpare named) flushes not_good refl
       refused (writes.NoUpdate counter) flushes not_good = ends (writes.NoUpdate counter) flushes not_good refl
       refused writes.Cut flushes not_good = ends writes.Cut flushes not_good refl

@@ -20,7 +20,7 @@ use Rattle.model_cache.specs.Chains.{FlushesAll, EndsFlushing}
 use Rattle.model_cache.specs.Causes.{CachedCause, CachedCauseOf, LacksRestInCache, ThroughCause, ThroughCauseOf, EndsRest, leaving, leave_first, fresh_blocks}
 use Rattle.model_cache.proofs.Members.{Contains-passed}
 use Rattle.ram_cache.specs.Flushes.{FlushContents, FlushesDue, due_of}
-use Rattle.ram_cache.specs.Staging.{TakesIn, EndsComing, StoppedContents, HasRoomFor}
+use Rattle.ram_cache.specs.Staging.{TakesIn, EndsComing, StoppedContents, HasRoomForBlocks}
 use Rattle.ram_cache.specs.Calls.{goes_in, WritesOn, WritesBy, WritesContents}
 use Rattle.ram_cache.proofs.Fresh.{fresh_total}
 use Rattle.ram_cache.proofs.Through.{flushes_mode}
@@ -86,7 +86,7 @@ module _ (old mid : CacheShown) (lba n leave : ℕ) (leave_is : leave ≡ leave_
   count = blocks_covered lba n
 
   -- then there is room
-  pub has_room : AreApart mid.pending → count ≤ 32 → FlushesDue old mid false first count leave writes.Good → HasRoomFor mid.pending lba n
+  pub has_room : AreApart mid.pending → count ≤ 32 → FlushesDue old mid false first count leave writes.Good → HasRoomForBlocks mid.pending lba n
   has_room apart few rule =
       let total = fresh_total mid.pending first count apart in
       let numbers = length-map mid.pending (λ (x : ℕ × List ℕ). x.0) in

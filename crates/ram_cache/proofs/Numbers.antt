@@ -12,7 +12,7 @@ use Rattle.model_sectors.specs.Requests.{start_in, end_in, merged_in, part_of}
 use Rattle.model_sectors.proofs.Pieces.{length_part_of}
 use Rattle.model_cache.specs.Shown.{AreApart}
 use Rattle.model_cache.proofs.Members.{Contains-none, Contains-first, Contains-later, Contains-cases}
-use Rattle.ram_cache.specs.Rooms.{held_at}
+use Rattle.ram_cache.specs.Rooms.{pending_at}
 
 -- ---- by the numbers alone
 
@@ -47,15 +47,15 @@ apart_numbers (held ∷ p) (other ∷ q) same apart =
 -- ---- how many are among some
 
 pub counted_more : (t : ℕ → Bool) (p : List (ℕ × List ℕ)) (k : ℕ) → k < length p
-    → length (filter t (numbers_in (take (k + 1) p))) ≡ length (filter t (numbers_in (take k p))) + cond (t ((held_at p k).0)) 1 0
+    → length (filter t (numbers_in (take (k + 1) p))) ≡ length (filter t (numbers_in (take k p))) + cond (t ((pending_at p k).0)) 1 0
 counted_more t p k within =
     ap (λ (l : List (ℕ × List ℕ)). length (filter t (numbers_in l))) (take_more p k (0, []) within)
-    ∙ ap (λ (l : List ℕ). length (filter t l)) (map-append (λ (x : ℕ × List ℕ). x.0) (take k p) (held_at p k ∷ []))
-    ∙ ap length (filter-append t (numbers_in (take k p)) ((held_at p k).0 ∷ []))
-    ∙ length-append (filter t (numbers_in (take k p))) (filter t ((held_at p k).0 ∷ []))
-    ∙ ap (λ (m : ℕ). length (filter t (numbers_in (take k p))) + m) (one (t ((held_at p k).0)))
+    ∙ ap (λ (l : List ℕ). length (filter t l)) (map-append (λ (x : ℕ × List ℕ). x.0) (take k p) (pending_at p k ∷ []))
+    ∙ ap length (filter-append t (numbers_in (take k p)) ((pending_at p k).0 ∷ []))
+    ∙ length-append (filter t (numbers_in (take k p))) (filter t ((pending_at p k).0 ∷ []))
+    ∙ ap (λ (m : ℕ). length (filter t (numbers_in (take k p))) + m) (one (t ((pending_at p k).0)))
   where
-    one : (b : Bool) → length (cond b ((held_at p k).0 ∷ []) []) ≡ cond b 1 0
+    one : (b : Bool) → length (cond b ((pending_at p k).0 ∷ []) []) ≡ cond b 1 0
     one true = refl
     one false = refl
 
@@ -96,13 +96,13 @@ merged_long lba n i bytes held some whole long =
 
 -- ---- a change of one pending block
 
-pub same_numbers : (p : List (ℕ × List ℕ)) (k : ℕ) (y : ℕ × List ℕ) → y.0 ≡ (held_at p k).0 → numbers_in (set p k y) ≡ numbers_in p
+pub same_numbers : (p : List (ℕ × List ℕ)) (k : ℕ) (y : ℕ × List ℕ) → y.0 ≡ (pending_at p k).0 → numbers_in (set p k y) ≡ numbers_in p
 same_numbers [] k y same = refl
 same_numbers (held ∷ p) zero y same = ap (λ (n : ℕ). n ∷ numbers_in p) same
 same_numbers (held ∷ p) (suc k) y same = ap (λ (l : List ℕ). held.0 ∷ l) (same_numbers p k y same)
 
 module _ (items : List (ℕ × List ℕ)) (count k : ℕ) (was y : ℕ × List ℕ) (there : k < length (take count items)) (is : was ≡ get_or items k was) (same : y.0 ≡ was.0) where
-  pub held_there : held_at (take count items) k ≡ was
+  pub held_there : pending_at (take count items) k ≡ was
   held_there =
       let below = length-take count items in
       get_or-take count items k (0, []) (omega (arith, there, below)) ∙ sym (get_or_read items k was (omega (arith, there, below)) is (0, []))
@@ -124,11 +124,11 @@ module _ (f : (ℕ × List ℕ) → (ℕ × List ℕ)) (p : List (ℕ × List �
   pub covered_none : p ≡ map f (take 0 p) ++ drop 0 p
   covered_none = refl
 
-  pub covered_more : (ys ys' : List (ℕ × List ℕ)) (k : ℕ) → k < length p → ys ≡ map f (take k p) ++ drop k p → ys' ≡ set ys k (f (held_at ys k))
+  pub covered_more : (ys ys' : List (ℕ × List ℕ)) (k : ℕ) → k < length p → ys ≡ map f (take k p) ++ drop k p → ys' ≡ set ys k (f (pending_at ys k))
       → ys' ≡ map f (take (k + 1) p) ++ drop (k + 1) p
   covered_more ys ys' k within is put =
       let long : length ys ≡ length p = ap length is ∙ length-append (map f (take k p)) (drop k p) ∙ omega (arith, within, length-map (take k p) f, length-take k p, length-drop k p) in
-      put ∙ map_over_more f p ys k (held_at ys k) within is (get_or_default ys k (0, []) (held_at ys k) (omega (arith, within, long)))
+      put ∙ map_over_more f p ys k (pending_at ys k) within is (get_or_default ys k (0, []) (pending_at ys k) (omega (arith, within, long)))
 
   pub covered_all : (ys : List (ℕ × List ℕ)) (k : ℕ) → length p ≤ k → ys ≡ map f (take k p) ++ drop k p → ys ≡ map f p
   covered_all ys k all is = is ∙ ap (λ (l : List (ℕ × List ℕ)). map f l ++ drop k p) (take_all k p all) ∙ ap (λ (l : List (ℕ × List ℕ)). map f p ++ l) (drop_all k p all) ∙ append-nil (map f p)

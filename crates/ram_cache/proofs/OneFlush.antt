@@ -20,7 +20,7 @@ use Rattle.model_cache.specs.Chains.{LeavesSound}
 use Rattle.model_cache.specs.Values.{Values, Contents, Has, MayHave, HasValue, IsTaken, IsPending, IsUnder, StandsCached}
 use Rattle.model_cache.specs.Falling.{LiesIn}
 use Rattle.model_cache.specs.Shown.{AreApart, pending_but}
-use Rattle.ram_cache.specs.Rooms.{held_at}
+use Rattle.ram_cache.specs.Rooms.{pending_at}
 use Rattle.ram_cache.specs.Flushes.{FlushContents, left_at}
 use Rattle.ram_cache.proofs.Places.{Contains-held, but_removed}
 use Rattle.model_cache.proofs.Members.{Contains-kept, Contains-passed}
@@ -128,10 +128,10 @@ not_partly i k buffered covered reads =
 
 -- What the write of a pending block makes of what the drive stands for.
 module _ (old new : Shown) (before after : Standing → Type 0) (p : List (ℕ × List ℕ)) (k : ℕ) (b : List ℕ)
-    (shown : (s : Standing) → before s → StandsFor old s) (on : IsOn old) (there : k < length p) (inside : (held_at p k).0 < block_count old)
-    (apart : AreApart p) (is_block : b ≡ (held_at p k).1) (whole : length b ≡ 32768) where
+    (shown : (s : Standing) → before s → StandsFor old s) (on : IsOn old) (there : k < length p) (inside : (pending_at p k).0 < block_count old)
+    (apart : AreApart p) (is_block : b ≡ (pending_at p k).1) (whole : length b ≡ 32768) where
   abbrev i : ℕ
-  i = (held_at p k).0
+  i = (pending_at p k).0
 
   is_held : Contains p (i, b)
   is_held = subst (λ (l : List ℕ). Contains p (i, l)) (sym is_block) (Contains-held p k there)
@@ -212,6 +212,6 @@ pub left_stopped : (out : WriteOut) (k : ℕ) (p : List (ℕ × List ℕ)) → (
 left_stopped out k p (inl e) = ap (λ o. left_at o k p) (sym e)
 left_stopped out k p (inr e) = ap (λ o. left_at o k p) (sym e)
 
-pub flush_rule : (old new : Shown) (p : List (ℕ × List ℕ)) (k number : ℕ) (out : WriteOut) → number ≡ (held_at p k).0 → LeavesSound old new → WriteCause old new (16 * number) 16 out
-    → WriteCause old new (16 * (held_at p k).0) 16 out × LeavesSound old new
+pub flush_rule : (old new : Shown) (p : List (ℕ × List ℕ)) (k number : ℕ) (out : WriteOut) → number ≡ (pending_at p k).0 → LeavesSound old new → WriteCause old new (16 * number) 16 out
+    → WriteCause old new (16 * (pending_at p k).0) 16 out × LeavesSound old new
 flush_rule old new p k number out is leaves cause = (subst (λ (n : ℕ). WriteCause old new (16 * n) 16 out) is cause, leaves)

@@ -11,7 +11,7 @@ use borrow.Rule.Slice.PartMut.{put_mid, mid_of}
 use Rattle.model_buffer.specs.Buffer.{numbers_in}
 use Rattle.model_cache.specs.Shown.{AreApart, pending_but, pending_below}
 use Rattle.model_cache.proofs.Members.{Contains-none, Contains-first, Contains-later, Contains-cases}
-use Rattle.ram_cache.specs.Rooms.{held_at}
+use Rattle.ram_cache.specs.Rooms.{pending_at}
 
 -- ---- a list without one of its places
 
@@ -72,7 +72,7 @@ apart-removed (held ∷ p) (suc k) apart =
 -- ---- numbers
 
 -- the one at a place is one of the list
-pub Contains-held : (p : List (ℕ × List ℕ)) (k : ℕ) → k < length p → Contains p (held_at p k)
+pub Contains-held : (p : List (ℕ × List ℕ)) (k : ℕ) → k < length p → Contains p (pending_at p k)
 Contains-held p k within = Contains-get_or p k (0, []) within
 
 -- a block whose number is in no other stays out of the others
@@ -88,27 +88,27 @@ others_stay i (held ∷ rest) none =
     is_same false f = absurd (let w = f in cc)
 
 -- the blocks without the one at a place are those with other numbers
-pub but_removed : (p : List (ℕ × List ℕ)) (k : ℕ) → AreApart p → k < length p → pending_but ((held_at p k).0) p ≡ remove p k
+pub but_removed : (p : List (ℕ × List ℕ)) (k : ℕ) → AreApart p → k < length p → pending_but ((pending_at p k).0) p ≡ remove p k
 but_removed [] k apart within = absurd (omega arith)
 but_removed (held ∷ p) zero apart within =
     cond-false (not (held.0 == held.0)) (held ∷ pending_but held.0 p) (pending_but held.0 p) (ap not (eq-eqb held.0 held.0 refl)) ∙ others_stay held.0 p apart.0
 but_removed (held ∷ p) (suc k) apart within =
-    cond-true (not (held.0 == (held_at p k).0)) (held ∷ pending_but ((held_at p k).0) p) (pending_but ((held_at p k).0) p)
-    (ap not (ne_eqb held.0 ((held_at p k).0) (λ e. apart.0 ((held_at p k).1) (subst (λ (n : ℕ). Contains p (n, (held_at p k).1)) (sym e) (Contains-held p k (omega arith))))))
+    cond-true (not (held.0 == (pending_at p k).0)) (held ∷ pending_but ((pending_at p k).0) p) (pending_but ((pending_at p k).0) p)
+    (ap not (ne_eqb held.0 ((pending_at p k).0) (λ e. apart.0 ((pending_at p k).1) (subst (λ (n : ℕ). Contains p (n, (pending_at p k).1)) (sym e) (Contains-held p k (omega arith))))))
     ∙ ap (λ (l : List (ℕ × List ℕ)). held ∷ l) (but_removed p k (apart.1) (omega arith))
 
 -- the numbers that pass a test, of which the first is at this place
-pub first_due : (t : ℕ → Bool) (p : List (ℕ × List ℕ)) (k : ℕ) → k < length p → t ((held_at p k).0) ≡ true → ((j : ℕ) → j < k → t ((held_at p j).0) ≡ false)
-    → filter t (numbers_in p) ≡ (held_at p k).0 ∷ filter t (numbers_in (remove p k))
+pub first_due : (t : ℕ → Bool) (p : List (ℕ × List ℕ)) (k : ℕ) → k < length p → t ((pending_at p k).0) ≡ true → ((j : ℕ) → j < k → t ((pending_at p j).0) ≡ false)
+    → filter t (numbers_in p) ≡ (pending_at p k).0 ∷ filter t (numbers_in (remove p k))
 first_due t [] k within passes before = absurd (omega arith)
 first_due t (held ∷ p) zero within passes before = cond-true (t held.0) (held.0 ∷ filter t (numbers_in p)) (filter t (numbers_in p)) passes
 first_due t (held ∷ p) (suc k) within passes before =
     cond-false (t held.0) (held.0 ∷ filter t (numbers_in p)) (filter t (numbers_in p)) (before 0 (omega arith))
     ∙ first_due t p k (omega arith) passes (λ j below. before (suc j) (omega arith))
-    ∙ ap (λ (l : List ℕ). (held_at p k).0 ∷ l) (sym (cond-false (t held.0) (held.0 ∷ filter t (numbers_in (remove p k))) (filter t (numbers_in (remove p k))) (before 0 (omega arith))))
+    ∙ ap (λ (l : List ℕ). (pending_at p k).0 ∷ l) (sym (cond-false (t held.0) (held.0 ∷ filter t (numbers_in (remove p k))) (filter t (numbers_in (remove p k))) (before 0 (omega arith))))
 
 -- none passes
-pub none_due : (t : ℕ → Bool) (p : List (ℕ × List ℕ)) → ((j : ℕ) → j < length p → t ((held_at p j).0) ≡ false) → filter t (numbers_in p) ≡ []
+pub none_due : (t : ℕ → Bool) (p : List (ℕ × List ℕ)) → ((j : ℕ) → j < length p → t ((pending_at p j).0) ≡ false) → filter t (numbers_in p) ≡ []
 none_due t [] fails = refl
 none_due t (held ∷ p) fails =
     cond-false (t held.0) (held.0 ∷ filter t (numbers_in p)) (filter t (numbers_in p)) (fails 0 (omega arith)) ∙ none_due t p (λ j below. fails (suc j) (omega arith))
@@ -146,23 +146,23 @@ module _ (items new : List (ℕ × List ℕ)) (k count : ℕ) {len : ℕ} (withi
 
 module _ (p : List (ℕ × List ℕ)) (blocks k : ℕ) (within : k < length p) where
   -- one that is not below is no loss
-  pub below_removed : (q : List (ℕ × List ℕ)) → q ≡ remove p k → blocks ≤ (held_at p k).0 → pending_below blocks q ≡ pending_below blocks p
-  below_removed q is past = ap (pending_below blocks) is ∙ filter-removed (λ (x : ℕ × List ℕ). nat_lt x.0 blocks) p k (0, []) within (le-ltb ((held_at p k).0) blocks past)
+  pub below_removed : (q : List (ℕ × List ℕ)) → q ≡ remove p k → blocks ≤ (pending_at p k).0 → pending_below blocks q ≡ pending_below blocks p
+  below_removed q is past = ap (pending_below blocks) is ∙ filter-removed (λ (x : ℕ × List ℕ). nat_lt x.0 blocks) p k (0, []) within (le-ltb ((pending_at p k).0) blocks past)
 
   -- those before it stay
-  pub before_removed : (q : List (ℕ × List ℕ)) → q ≡ remove p k → ((j : ℕ) → j < k → (held_at p j).0 < blocks) → (j : ℕ) → j < k → (held_at q j).0 < blocks
+  pub before_removed : (q : List (ℕ × List ℕ)) → q ≡ remove p k → ((j : ℕ) → j < k → (pending_at p j).0 < blocks) → (j : ℕ) → j < k → (pending_at q j).0 < blocks
   before_removed q is below j before =
-      subst (λ (n : ℕ). n < blocks) (sym (ap (λ (l : List (ℕ × List ℕ)). (held_at l j).0) is ∙ ap (λ (x : ℕ × List ℕ). x.0) (get_or-remove_below p k (0, []) j before within))) (below j before)
+      subst (λ (n : ℕ). n < blocks) (sym (ap (λ (l : List (ℕ × List ℕ)). (pending_at l j).0) is ∙ ap (λ (x : ℕ × List ℕ). x.0) (get_or-remove_below p k (0, []) j before within))) (below j before)
 
   pub shorter_removed : (q : List (ℕ × List ℕ)) → q ≡ remove p k → length q + 1 ≡ length p
   shorter_removed q is = ap (λ (l : List (ℕ × List ℕ)). length l + 1) is ∙ length-remove p k within
 
 -- where all are below, none is dropped
-pub all_kept : (p : List (ℕ × List ℕ)) (blocks : ℕ) → ((j : ℕ) → j < length p → (held_at p j).0 < blocks) → p ≡ pending_below blocks p
-all_kept p blocks below = sym (filter-all (λ (x : ℕ × List ℕ). nat_lt x.0 blocks) p (0, []) (λ j within. lt-ltb ((held_at p j).0) blocks (below j within)))
+pub all_kept : (p : List (ℕ × List ℕ)) (blocks : ℕ) → ((j : ℕ) → j < length p → (pending_at p j).0 < blocks) → p ≡ pending_below blocks p
+all_kept p blocks below = sym (filter-all (λ (x : ℕ × List ℕ). nat_lt x.0 blocks) p (0, []) (λ j within. lt-ltb ((pending_at p j).0) blocks (below j within)))
 
 -- each is one of the disc's
-pub inside_at : {blocks : ℕ} (p : List (ℕ × List ℕ)) (k : ℕ) → k < length p → All (λ (x : ℕ × List ℕ). x.0 < blocks) p → (held_at p k).0 < blocks
+pub inside_at : {blocks : ℕ} (p : List (ℕ × List ℕ)) (k : ℕ) → k < length p → All (λ (x : ℕ × List ℕ). x.0 < blocks) p → (pending_at p k).0 < blocks
 inside_at p k within inside = inside k (0, []) within
 
 pub all_kept_by : (p : List (ℕ × List ℕ)) (blocks : ℕ) → All (λ (x : ℕ × List ℕ). x.0 < blocks) p → p ≡ pending_below blocks p

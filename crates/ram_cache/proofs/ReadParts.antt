@@ -24,7 +24,7 @@ use Rattle.model_cache.specs.Steps.{ReadContents}
 use Rattle.model_cache.specs.Causes.{ReadsPart, ReadsParts, EndsReading, ReadPartsCause, leaves_after_read}
 use Rattle.model_cache.proofs.Members.{Contains-none, Contains-cases}
 use Rattle.ram_requests.proofs.ReadBytes.{done, prefix_none, prefix_more, prefix_all}
-use Rattle.ram_cache.specs.Rooms.{held_at, FirstOf}
+use Rattle.ram_cache.specs.Rooms.{pending_at, FirstOf}
 use Rattle.ram_cache.specs.Reading.{PartContents, ReadSoFar}
 use Rattle.ram_cache.proofs.Places.{Contains-held}
 use Rattle.ram_cache.proofs.Entering.{long_by}
@@ -113,7 +113,7 @@ among_one i x = elim (cases_eq x i) [
     second true b e = refl
     second false b e = e
 
-pub found_at : (p : List (ℕ × List ℕ)) (i k : ℕ) → FirstOf p true i 1 (Some k) → bytes_at i p ≡ Some ((held_at p k).1)
+pub found_at : (p : List (ℕ × List ℕ)) (i k : ℕ) → FirstOf p true i 1 (Some k) → bytes_at i p ≡ Some ((pending_at p k).1)
 found_at [] i k (within, is, before) = absurd (omega (arith, within))
 found_at (held ∷ p) i zero (within, is, before) =
     ap (option_map (λ held. held.1)) (cond-true (held.0 == i) (Some held) (find (λ held. held.0 == i) p) (sym (among_one i held.0) ∙ is))
@@ -138,12 +138,12 @@ none_pending (held ∷ p) i none (bytes, has) = elim (Contains-cases held p (i, 
     differs e = cc
 
 -- the number of the one that was found
-found_number : (p : List (ℕ × List ℕ)) (i k : ℕ) → FirstOf p true i 1 (Some k) → (held_at p k).0 ≡ i
-found_number p i k (within, is, before) = eqb-true ((held_at p k).0) i (sym (among_one i ((held_at p k).0)) ∙ is)
+found_number : (p : List (ℕ × List ℕ)) (i k : ℕ) → FirstOf p true i 1 (Some k) → (pending_at p k).0 ≡ i
+found_number p i k (within, is, before) = eqb-true ((pending_at p k).0) i (sym (among_one i ((pending_at p k).0)) ∙ is)
 
-pub found_block : (p : List (ℕ × List ℕ)) (i k : ℕ) (d : List ℕ) (v : Values) → FirstOf p true i 1 (Some k) → IsUnder p d v → (held_at p k).1 ≡ block_of v.disc i
+pub found_block : (p : List (ℕ × List ℕ)) (i k : ℕ) (d : List ℕ) (v : Values) → FirstOf p true i 1 (Some k) → IsUnder p d v → (pending_at p k).1 ≡ block_of v.disc i
 found_block p i k d v found under =
-    sym (under.last i ((held_at p k).1) (subst (λ (m : ℕ). Contains p (m, (held_at p k).1)) (found_number p i k found) (Contains-held p k (found.0))))
+    sym (under.last i ((pending_at p k).1) (subst (λ (m : ℕ). Contains p (m, (pending_at p k).1)) (found_number p i k found) (Contains-held p k (found.0))))
 
 -- ---- the turns
 

@@ -18,7 +18,7 @@ use Rattle.model_cache.specs.Values.{Values, Has, IsPending, IsUnder, StandsCach
 use Rattle.model_cache.specs.Shown.{CacheShown}
 use Rattle.model_cache.specs.Causes.{ReadsRest, leaves_after_read}
 use Rattle.model_cache.proofs.ReplacedBlocks.{as_sectors}
-use Rattle.ram_cache.specs.Staging.{IsFresh, IsStaged, RestContents, rest_out}
+use Rattle.ram_cache.specs.Staging.{IsNextStaged, IsStaged, RestContents, rest_out}
 use Rattle.ram_cache.proofs.Entering.{long_by}
 
 -- ---- the rest of one block
@@ -80,7 +80,7 @@ pub staged_already : (shown : CacheShown) (lba n i : ℕ) (bytes held : List ℕ
 staged_already shown lba n i bytes held list staged is = record {
   rest = subst (λ (o : Option (List ℕ)). ReadsRest shown shown i (is_partly lba n i) o) (sym is) (none_needed (is_partly lba n i));
   same_pending = refl;
-  fresh = subst (λ (o : Option (List ℕ)). IsFresh lba n bytes i o list list staged staged) (sym is) (refl, refl);
+  fresh = subst (λ (o : Option (List ℕ)). IsNextStaged lba n bytes i o list list staged staged) (sym is) (refl, refl);
 }
   where
     none_needed : (partly : Bool) → ReadsRest shown shown i partly (Some held)

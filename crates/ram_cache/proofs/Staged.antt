@@ -15,7 +15,7 @@ use Rattle.model_cache.specs.Values.{Values, Contents, Has, IsPending}
 use Rattle.model_cache.specs.Shown.{CacheShown, AreApart}
 use Rattle.model_cache.specs.Causes.{ReadsRest, fresh_blocks}
 use Rattle.model_cache.proofs.Members.{Contains-none, Contains-first, Contains-later, Contains-cases}
-use Rattle.ram_cache.specs.Staging.{IsFresh, IsStaged, LacksRestOf, StagedContents, StoppedContents, StagedSoFar, EndsComing, HasRoomFor}
+use Rattle.ram_cache.specs.Staging.{IsNextStaged, IsStaged, LacksRestOf, StagedContents, StoppedContents, StagedSoFar, EndsComing, HasRoomForBlocks}
 use Rattle.ram_cache.proofs.Numbers.{has_number, merged_long}
 use Rattle.ram_cache.proofs.Fresh.{none_at, fresh_some, fresh_none, fresh_rise, fresh_below}
 
@@ -87,7 +87,7 @@ module _ (start : CacheShown) (lba n : ℕ) (bytes : List ℕ) (before : Content
     i = first + k
 
     -- there is room for the block, if it is not pending
-    pub room_next : HasRoomFor start.pending lba n → bytes_at i mid.pending ≡ None → length mid.pending + staged < 32
+    pub room_next : HasRoomForBlocks start.pending lba n → bytes_at i mid.pending ≡ None → length mid.pending + staged < 32
     room_next room none =
         let same = far.same_pending in
         let none' : bytes_at i start.pending ≡ None = subst (λ (l : List (ℕ × List ℕ)). bytes_at i l ≡ None) same none in
@@ -120,7 +120,7 @@ module _ (start : CacheShown) (lba n : ℕ) (bytes : List ℕ) (before : Content
           keeps : KeepsAll mid new
           keeps = rest_keeps mid new i (is_partly lba n i) (bytes_at i mid.pending) far.on far.formatted same one.rest
 
-          by_held : (o : Option (List ℕ)) → bytes_at i mid.pending ≡ o → IsFresh lba n bytes i o list list' staged more
+          by_held : (o : Option (List ℕ)) → bytes_at i mid.pending ≡ o → IsNextStaged lba n bytes i o list list' staged more
               → ((v : Values) → amid (Has v) → StagedContents after v lba n i bytes o list now (Ok more)) → StagedSoFar start new lba n (suc k) bytes list' more before after
           by_held (Some held) is fresh gave = record {
             rests = (mid, far.rests, one.rest);

@@ -16,7 +16,7 @@ use Rattle.model_cache.specs.Steps.{SyncContents}
 use Rattle.model_cache.specs.Chains.{FlushesAll, EndsFlushing, leaves_pending}
 use Rattle.model_cache.specs.Causes.{SyncCauseOf, TickCauseOf, StopsTick, sync_out}
 use Rattle.model_cache.proofs.Members.{Contains-none}
-use Rattle.ram_cache.specs.Rooms.{held_at}
+use Rattle.ram_cache.specs.Rooms.{pending_at}
 use Rattle.ram_cache.specs.Flushes.{CanFlush, FlushesAt, FlushContents, FlushesDue, due_of, left_at, tick_out}
 use Rattle.ram_cache.proofs.Places.{but_removed, inside_at}
 use Rattle.ram_cache.proofs.OneFlush.{not_partly}
@@ -96,30 +96,30 @@ module _ (old new : CacheShown) (few : length old.pending ≤ CACHED_BLOCKS) whe
 -- ---- a tick
 
 module _ (old new : CacheShown) (can : CanFlush old) (apart : AreApart old.pending) (some : 0 < length old.pending) where
-  oldest : pending_in old ≡ (held_at old.pending 0).0 ∷ numbers_in (remove old.pending 0)
+  oldest : pending_in old ≡ (pending_at old.pending 0).0 ∷ numbers_in (remove old.pending 0)
   oldest = first_of old.pending some
     where
-      first_of : (p : List (ℕ × List ℕ)) → 0 < length p → numbers_in p ≡ (held_at p 0).0 ∷ numbers_in (remove p 0)
+      first_of : (p : List (ℕ × List ℕ)) → 0 < length p → numbers_in p ≡ (pending_at p 0).0 ∷ numbers_in (remove p 0)
       first_of [] none = absurd (omega arith)
       first_of (held ∷ p) one = refl
 
-  inside : (held_at old.pending 0).0 < block_count old.drive
+  inside : (pending_at old.pending 0).0 < block_count old.drive
   inside = inside_at old.pending 0 some can.inside
 
   stops : (out : WriteOut) → FlushesAt old new 0 out → left_at out 0 old.pending ≡ leaves_pending out old.pending → StopsTick old new out
   stops out flushes same = record {
     on = can.on;
-    block = (held_at old.pending 0).0;
+    block = (pending_at old.pending 0).0;
     rest = numbers_in (remove old.pending 0);
     oldest = oldest;
     ends = back old new 0 out some flushes;
     left = flushes.1 ∙ same;
   }
 
-  pub tick_cause : (lba : ℕ) (out : WriteOut) → lba ≡ 16 * (held_at old.pending 0).0 → FlushesAt old new 0 out → TickCauseOf old new (tick_out out lba)
+  pub tick_cause : (lba : ℕ) (out : WriteOut) → lba ≡ 16 * (pending_at old.pending 0).0 → FlushesAt old new 0 out → TickCauseOf old new (tick_out out lba)
   tick_cause lba writes.Good is flushes = record {
     on = can.on;
-    block = (held_at old.pending 0).0;
+    block = (pending_at old.pending 0).0;
     rest = numbers_in (remove old.pending 0);
     oldest = oldest;
     lba_is = is;
@@ -128,7 +128,7 @@ module _ (old new : CacheShown) (can : CanFlush old) (apart : AreApart old.pendi
   tick_cause lba writes.NotFormatted is flushes = absurd (flushes.0.0.unformatted can.formatted)
   tick_cause lba (writes.Range known) is flushes = let past = flushes.0.0.past in let here = inside in absurd (omega (arith, here, past))
   tick_cause lba (writes.Unread named block) is flushes =
-      absurd (not_partly ((held_at old.pending 0).0) (length flushes.0.0.course) (buffered old.drive) flushes.0.0.is_named.covered flushes.0.0.partly)
+      absurd (not_partly ((pending_at old.pending 0).0) (length flushes.0.0.course) (buffered old.drive) flushes.0.0.is_named.covered flushes.0.0.partly)
   tick_cause lba (writes.NoSpare named) is flushes = stops (writes.NoSpare named) flushes refl
   tick_cause lba (writes.NoUpdate counter) is flushes = stops (writes.NoUpdate counter) flushes refl
   tick_cause lba writes.Cut is flushes = stops writes.Cut flushes refl

@@ -12,7 +12,7 @@ use Rattle.model_drive.specs.Shown.{StandsFor, block_count, cells_in}
 use Rattle.model_drive.specs.Parts.{IsInRange}
 use Rattle.model_drive.specs.Writes.{WriteCause, WriteStep}
 use Rattle.model_cache.specs.declared.TheConstants.{CACHED_BLOCKS}
-use Rattle.model_cache.specs.Values.{Values, Contents, Has, MayHave, IsPending, IsUnder, IsTaken, StandsCached, is_among, written}
+use Rattle.model_cache.specs.Values.{Values, Contents, Has, MayHave, IsPending, IsUnder, IsTaken, StandsCached, is_among, with_written}
 use Rattle.model_cache.specs.Shown.{CacheShown, pending_in}
 use Rattle.model_cache.specs.Steps.{ThroughContents, ThroughValues, SomePending}
 use Rattle.model_cache.specs.Chains.{LeavesSound, FlushesAll, EndsFlushing, leaves_pending}
@@ -135,11 +135,11 @@ module _ (lba n : ℕ) where
         }
 
         keeps : (v : Values) (d : List ℕ) (p : List (ℕ × List ℕ)) (b : ℕ) → amid (On d) → IsUnder mid.pending d v → b ≤ first + count → p ≡ mid.pending → after (On (replaced d lba bytes b))
-            → StandsCached after p (Has (written v lba bytes b))
+            → StandsCached after p (Has (with_written v lba bytes b))
         keeps v d p b so under few' same step = (
           replaced d lba bytes b,
           step,
-          subst (λ (l : List (ℕ × List ℕ)). IsUnder l (replaced d lba bytes b) (written v lba bytes b)) (sym same)
+          subst (λ (l : List (ℕ × List ℕ)). IsUnder l (replaced d lba bytes b) (with_written v lba bytes b)) (sym same)
               (written_under d v mid.pending under lba n bytes (lies_in d so) none_left b few'),
         )
 
@@ -152,7 +152,7 @@ module _ (lba n : ℕ) where
         none_after : (p : List (ℕ × List ℕ)) → p ≡ mid.pending → (i : ℕ) → IsCovered lba n i → ¬ IsPending p i
         none_after p same i covered pending = none_left i covered (subst (λ (l : List (ℕ × List ℕ)). IsPending l i) same pending)
 
-        taken_at : (v : Values) (d : List ℕ) (b : ℕ) → amid (On d) → IsUnder mid.pending d v → b ≤ first + count → IsTaken (written v lba bytes b) (replaced d lba bytes b)
+        taken_at : (v : Values) (d : List ℕ) (b : ℕ) → amid (On d) → IsUnder mid.pending d v → b ≤ first + count → IsTaken (with_written v lba bytes b) (replaced d lba bytes b)
         taken_at v d b so under few' = written_taken d v mid.pending under lba n bytes (lies_in d so) none_left b few'
 
         pub written_values : (v : Values) (out : WriteOut) → WriteCause mid.drive new.drive lba n out → new.pending ≡ leaves_pending out mid.pending

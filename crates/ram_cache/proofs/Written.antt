@@ -7,7 +7,7 @@ use Rattle.model_sectors.specs.Discs.{block_of, replaced}
 use Rattle.model_sectors.specs.Requests.{block_with, blocks_covered, start_in, end_in, merged_in, IsCovered}
 use Rattle.model_sectors.proofs.Merges.{block_of-with_part, replaced-with_part}
 use Rattle.model_sectors.proofs.Covering.{covered_part}
-use Rattle.model_cache.specs.Values.{Values, HasValue, IsPending, IsTaken, IsUnder, is_among, older_but, written}
+use Rattle.model_cache.specs.Values.{Values, HasValue, IsPending, IsTaken, IsUnder, is_among, older_but, with_written}
 use Rattle.model_cache.specs.Falling.{LiesIn}
 use Rattle.model_cache.proofs.Members.{Contains-kept}
 use Rattle.model_cache.proofs.ReplacedBlocks.{unreached_block, reached_block, missed_block, as_long_as}
@@ -94,20 +94,20 @@ module _ (d : List ℕ) (v : Values) (p : List (ℕ × List ℕ)) (under : IsUnd
       away (inl low) = inl low
       away (inr high) = elim (cases_lt i (block_with lba)) [ inl low ↦ inl low | inr from ↦ inr (omega (arith, high, from)) ]
 
-  pub written_taken : IsTaken (written v lba bytes b) (replaced d lba bytes b)
+  pub written_taken : IsTaken (with_written v lba bytes b) (replaced d lba bytes b)
   written_taken = record {
     as_long = as_long_as v.disc lba n bytes b lies' ∙ under.taken.as_long ∙ sym (as_long_as d lba n bytes b lies);
     each = λ i. elim (reached_or i) [
       | inl (from, below) ↦ inl (sym (alike i from below))
-      | inr out ↦ subst (HasValue (written v lba bytes b) i) (sym (other_written d lba n bytes lies b i out)) (still i out (under.taken.each i))
+      | inr out ↦ subst (HasValue (with_written v lba bytes b) i) (sym (other_written d lba n bytes lies b i out)) (still i out (under.taken.each i))
     ];
   }
     where
-      still : (i : ℕ) → past i → HasValue v i (block_of d i) → HasValue (written v lba bytes b) i (block_of d i)
+      still : (i : ℕ) → past i → HasValue v i (block_of d i) → HasValue (with_written v lba bytes b) i (block_of d i)
       still i out (inl e) = inl (e ∙ sym (other_written v.disc lba n bytes lies' b i out))
       still i out (inr older) = inr (older_stays i (block_of d i) out older)
 
-  pub written_under : IsUnder p (replaced d lba bytes b) (written v lba bytes b)
+  pub written_under : IsUnder p (replaced d lba bytes b) (with_written v lba bytes b)
   written_under = record {
     taken = written_taken;
     inside = λ i held has. let it = under.inside i held has in let long = as_long_as d lba n bytes b lies in omega (arith, it, long);

@@ -11,7 +11,7 @@ use Rattle.model_cache.specs.declared.TickOut.TheVariants as ticks
 use Rattle.model_cache.specs.Values.{Contents, Has, MayHave, is_among}
 use Rattle.model_cache.specs.Shown.{CacheShown, pending_in, dropped}
 use Rattle.model_cache.specs.Chains.{LeavesSound, FlushesAll, EndsFlushing}
-use Rattle.ram_cache.specs.Rooms.{held_at}
+use Rattle.ram_cache.specs.Rooms.{pending_at}
 use Rattle.ram_cache.specs.declared.flushing.Entered.{Entered}
 use Rattle.ram_cache.specs.declared.flushing.Entered.TheVariants as entered
 
@@ -42,7 +42,7 @@ left_at _ k pending = pending
 
 -- The pending block at this place was written to the disc, and it went so.
 abbrev pub FlushesAt : CacheShown → CacheShown → ℕ → WriteOut → Type 0
-FlushesAt old new k out = (WriteCause old.drive new.drive (16 * (held_at old.pending k).0) 16 out × LeavesSound old.drive new.drive)
+FlushesAt old new k out = (WriteCause old.drive new.drive (16 * (pending_at old.pending k).0) 16 out × LeavesSound old.drive new.drive)
     × (new.pending ≡ left_at out k old.pending) × (new.caches ≡ old.caches)
 
 -- What the write of pending blocks makes of what the drive stands for: it shows the same.

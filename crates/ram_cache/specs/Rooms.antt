@@ -16,12 +16,12 @@ abbrev pub room_of : PendingBlocks → ℕ → List ℕ
 room_of pending staged = (slice_index_or pending.rooms.items (pending.count + staged) (0, [])).1
 
 -- the one at this place
-abbrev pub held_at : List (ℕ × List ℕ) → ℕ → ℕ × List ℕ
-held_at pending k = slice_index_or pending k (0, [])
+abbrev pub pending_at : List (ℕ × List ℕ) → ℕ → ℕ × List ℕ
+pending_at pending k = slice_index_or pending k (0, [])
 
 -- The first one of which it is so that its number is one of so many from this one on, or of which it is not so.
 abbrev pub FirstOf : List (ℕ × List ℕ) → (among : Bool) → (first count : ℕ) → Option ℕ → Type 0
 FirstOf pending among first count None =
-    (j : ℕ) → j < length pending → is_among first count ((held_at pending j).0) ≡ (if among then false else true)
-FirstOf pending among first count (Some k) = (k < length pending) × (is_among first count ((held_at pending k).0) ≡ among)
-    × ((j : ℕ) → j < k → is_among first count ((held_at pending j).0) ≡ (if among then false else true))
+    (j : ℕ) → j < length pending → is_among first count ((pending_at pending j).0) ≡ (if among then false else true)
+FirstOf pending among first count (Some k) = (k < length pending) × (is_among first count ((pending_at pending k).0) ≡ among)
+    × ((j : ℕ) → j < k → is_among first count ((pending_at pending j).0) ≡ (if among then false else true))

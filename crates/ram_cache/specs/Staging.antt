@@ -15,16 +15,16 @@ use Rattle.model_cache.specs.Chains.{ReadsDisc, leaves_pending}
 use Rattle.model_cache.specs.Causes.{ReadsRest, ReadsRests, EndsRest, ComesIn, fresh_blocks}
 
 -- A block that is not pending is the next of those to come, with the bytes of the request over some whole ones.
-abbrev pub IsFresh : (lba n : ℕ) → List ℕ → (block : ℕ) → Option (List ℕ) → (was now : List (ℕ × List ℕ)) → (staged more : ℕ) → Type 0
-IsFresh lba n bytes block (Some held) was now staged more = (now ≡ was) × (more ≡ staged)
-IsFresh lba n bytes block None was now staged more =
+abbrev pub IsNextStaged : (lba n : ℕ) → List ℕ → (block : ℕ) → Option (List ℕ) → (was now : List (ℕ × List ℕ)) → (staged more : ℕ) → Type 0
+IsNextStaged lba n bytes block (Some held) was now staged more = (now ≡ was) × (more ≡ staged)
+IsNextStaged lba n bytes block None was now staged more =
     (rest : List ℕ) × (length rest ≡ 32768) × (now ≡ was ++ (block, merged_in lba n bytes block rest) ∷ []) × (more ≡ staged + 1)
 
 -- The block is pending, or is one of those to come.
 pub record IsStaged (old new : CacheShown) (lba n block : ℕ) (bytes : List ℕ) (was now : List (ℕ × List ℕ)) (staged more : ℕ) : Type 0 where
   pub rest : ReadsRest old new block (is_partly lba n block) (bytes_at block old.pending)
   pub same_pending : new.pending ≡ old.pending
-  pub fresh : IsFresh lba n bytes block (bytes_at block old.pending) was now staged more
+  pub fresh : IsNextStaged lba n bytes block (bytes_at block old.pending) was now staged more
 
 -- the rest of the block could not be read
 pub record LacksRestOf (old new : CacheShown) (lba n block : ℕ) (out : WriteOut) : Type 0 where
@@ -118,5 +118,5 @@ StagesAll old new lba n bytes list before after (Err out) =
     EndsComing old new lba n out × ((v : Values) → before (Has v) → StoppedContents after v out)
 
 -- there is room for the covered blocks that are not pending
-abbrev pub HasRoomFor : List (ℕ × List ℕ) → (lba n : ℕ) → Type 0
-HasRoomFor pending lba n = length pending + length (fresh_blocks pending (block_with lba) (blocks_covered lba n)) ≤ 32
+abbrev pub HasRoomForBlocks : List (ℕ × List ℕ) → (lba n : ℕ) → Type 0
+HasRoomForBlocks pending lba n = length pending + length (fresh_blocks pending (block_with lba) (blocks_covered lba n)) ≤ 32

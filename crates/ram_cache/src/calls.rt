@@ -30,7 +30,8 @@ impl<D: Disc> Cached<D> {
 
     /// After a format of the disc, of which it is said whether it leaves nothing pending when it is done.
     fn after_format(&mut self, all: bool, out: FormatOut)
-        ensures left { LeftAfter (D.shows self.old.disc) all out (pending_of self.old.pending) (pending_of self.new.pending) }
+        ensures left { LeftAfter (D.shows self.old.disc) all out (pending_of self.old.pending)
+            (pending_of self.new.pending) }
         ensures same_disc { self.new.disc ≡ self.old.disc }
         ensures same_mode { self.new.on ≡ self.old.on }
     {
@@ -58,7 +59,8 @@ impl<D: Disc> Cached<D> {
 
     /// After an expansion of the disc: the blocks that it lost are not pending.
     fn after_expansion(&mut self, out: ExpandOut)
-        ensures left { LeftExpanded (D.shows self.old.disc) out (pending_of self.old.pending) (pending_of self.new.pending) }
+        ensures left { LeftExpanded (D.shows self.old.disc) out (pending_of self.old.pending)
+            (pending_of self.new.pending) }
         ensures same_disc { self.new.disc ≡ self.old.disc }
         ensures same_mode { self.new.on ≡ self.old.on }
     {

@@ -108,7 +108,8 @@ impl<D: Disc> Cached<D> {
         requires can { CanFlush (shown_by D.Sectors self.old) }
         requires sectors { sectors ≡ capacity (D.shows self.old.disc) }
         ensures rule { FlushesAt (shown_by D.Sectors self.old) (shown_by D.Sectors self.new) k result }
-        ensures step { (s : Contents) → stands_by D.Sectors self.old s → FlushContents (stands_by D.Sectors self.new) s result }
+        ensures step { (s : Contents) → stands_by D.Sectors self.old s
+            → FlushContents (stands_by D.Sectors self.new) s result }
         ensures same_shape { (D.shows self.new.disc).shape ≡ (D.shows self.old.disc).shape }
         ensures underwent { D.underwent self.old.disc self.new.disc }
     {
@@ -136,8 +137,10 @@ impl<D: Disc> Cached<D> {
     ) -> WriteOut
         requires can { CanFlush (shown_by D.Sectors self.old) }
         requires sectors { sectors ≡ capacity (D.shows self.old.disc) }
-        ensures rule { FlushesDue (shown_by D.Sectors self.old) (shown_by D.Sectors self.new) among first count most result }
-        ensures step { (s : Contents) → stands_by D.Sectors self.old s → FlushContents (stands_by D.Sectors self.new) s result }
+        ensures rule { FlushesDue (shown_by D.Sectors self.old) (shown_by D.Sectors self.new) among first count
+            most result }
+        ensures step { (s : Contents) → stands_by D.Sectors self.old s
+            → FlushContents (stands_by D.Sectors self.new) s result }
         ensures same_shape { (D.shows self.new.disc).shape ≡ (D.shows self.old.disc).shape }
         ensures underwent { D.underwent self.old.disc self.new.disc }
     {
@@ -158,7 +161,8 @@ impl<D: Disc> Cached<D> {
     pub(crate) fn synchronize_on(&mut self, sectors: u32) -> SyncOut
         requires ready { IsReady (shown_by D.Sectors self.old) sectors }
         ensures cause { SyncCauseOf (shown_by D.Sectors self.old) (shown_by D.Sectors self.new) result }
-        ensures step { (s : Contents) → stands_by D.Sectors self.old s → SyncContents (stands_by D.Sectors self.new) s result }
+        ensures step { (s : Contents) → stands_by D.Sectors self.old s
+            → SyncContents (stands_by D.Sectors self.new) s result }
         ensures same_shape { (D.shows self.new.disc).shape ≡ (D.shows self.old.disc).shape }
         ensures underwent { D.underwent self.old.disc self.new.disc }
     {
@@ -170,7 +174,8 @@ impl<D: Disc> Cached<D> {
     pub(crate) fn tick_on(&mut self, sectors: u32) -> TickOut
         requires ready { IsReady (shown_by D.Sectors self.old) sectors }
         ensures cause { TickCauseOf (shown_by D.Sectors self.old) (shown_by D.Sectors self.new) result }
-        ensures step { (s : Contents) → stands_by D.Sectors self.old s → TickContents (stands_by D.Sectors self.new) s result }
+        ensures step { (s : Contents) → stands_by D.Sectors self.old s
+            → TickContents (stands_by D.Sectors self.new) s result }
         ensures same_shape { (D.shows self.new.disc).shape ≡ (D.shows self.old.disc).shape }
         ensures underwent { D.underwent self.old.disc self.new.disc }
     {

@@ -38,7 +38,7 @@ pub struct PendingBlocks {
 impl PendingBlocks {
     ghost use Rattle.std.specs.Prelude.{IfOk, IsTrue, ◌↔◌};
     ghost use Rattle.model_cache.specs.Shown.{pending_below};
-    ghost use Rattle.ram_cache.specs.Rooms.{pending_of, staged_of, room_of, held_at, FirstOf};
+    ghost use Rattle.ram_cache.specs.Rooms.{pending_of, staged_of, room_of, pending_at, FirstOf};
 
     /// No pending blocks, and the rooms of as many as there may be.
     pub fn new(alloc: Global) -> Result<PendingBlocks, AllocError>
@@ -68,7 +68,7 @@ impl PendingBlocks {
     /// The number of the one at this place.
     pub fn number(&self, k: usize) -> u32
         requires { k < length (pending_of self.now) }
-        ensures { result ≡ (held_at (pending_of self.now) k).0 }
+        ensures { result ≡ (pending_at (pending_of self.now) k).0 }
     {
         self.rooms[k].0
     }
@@ -76,7 +76,7 @@ impl PendingBlocks {
     /// The bytes of the one at this place.
     pub fn block(&self, k: usize) -> &Block
         requires { k < length (pending_of self.now) }
-        ensures { result.now ≡ (held_at (pending_of self.now) k).1 }
+        ensures { result.now ≡ (pending_at (pending_of self.now) k).1 }
     {
         &self.rooms[k].1
     }
@@ -172,8 +172,8 @@ impl PendingBlocks {
         requires there { k < length (pending_of self.old) }
         requires whole { length from.now ≡ 2048 * part.request.n }
         ensures pending { pending_of self.new ≡ slice_set (pending_of self.old) k (
-          (held_at (pending_of self.old) k).0,
-          merged_in part.request.lba part.request.n from.now part.block ((held_at (pending_of self.old) k).1),
+          (pending_at (pending_of self.old) k).0,
+          merged_in part.request.lba part.request.n from.now part.block ((pending_at (pending_of self.old) k).1),
         ) }
         ensures rest { (staged : ℕ) → staged_of self.new staged ≡ staged_of self.old staged }
     {
@@ -186,7 +186,7 @@ impl PendingBlocks {
         requires there { k < length (pending_of self.old) }
         requires whole { length from.now ≡ 2048 * request.n }
         ensures pending { pending_of self.new
-            ≡ slice_set (pending_of self.old) k (put_over request.lba request.n from.now (held_at (pending_of self.old) k)) }
+            ≡ slice_set (pending_of self.old) k (put_over request.lba request.n from.now (pending_at (pending_of self.old) k)) }
         ensures rest { (staged : ℕ) → staged_of self.new staged ≡ staged_of self.old staged }
     {
         let number = self.number(k);
@@ -202,8 +202,10 @@ impl PendingBlocks {
         requires whole { length from.now ≡ 2048 * request.n }
         requires room { length (pending_of self.old) + staged ≤ 32 }
         requires apart { AreApart (pending_of self.old ++ staged_of self.old staged) }
-        requires long { (i : ℕ) (bytes : List ℕ) → Contains (staged_of self.old staged) (i, bytes) → length bytes ≡ 32768 }
-        ensures { pending_of self.new ≡ map (put_over request.lba request.n from.now) (pending_of self.old) ++ staged_of self.old staged }
+        requires long { (i : ℕ) (bytes : List ℕ) → Contains (staged_of self.old staged) (i, bytes)
+            → length bytes ≡ 32768 }
+        ensures { pending_of self.new
+            ≡ map (put_over request.lba request.n from.now) (pending_of self.old) ++ staged_of self.old staged }
     {
         for k in 0..self.len() {
             self.cover(k, request, from);

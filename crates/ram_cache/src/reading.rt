@@ -28,8 +28,10 @@ impl<D: Disc> Cached<D> {
         requires whole { length into.old ≡ 2048 * part.request.n }
         ensures cause { ReadsPart (shown_by D.Sectors self.old) (shown_by D.Sectors self.new)
             part.request.lba part.request.n part.block None result }
-        ensures step { (v : Values) → ¬ IsPending (pending_of self.old.pending) part.block → stands_by D.Sectors self.old (Has v)
-            → PartContents (stands_by D.Sectors self.new) v part.request.lba part.request.n part.block into.old into.new result }
+        ensures step { (v : Values) → ¬ IsPending (pending_of self.old.pending) part.block
+            → stands_by D.Sectors self.old (Has v)
+            → PartContents (stands_by D.Sectors self.new) v part.request.lba part.request.n part.block into.old
+            into.new result }
         ensures same_shape { (D.shows self.new.disc).shape ≡ (D.shows self.old.disc).shape }
         ensures underwent { D.underwent self.old.disc self.new.disc }
     {
@@ -48,9 +50,11 @@ impl<D: Disc> Cached<D> {
         requires covered { k < blocks_covered request.lba request.n }
         requires whole { length into.old ≡ 2048 * request.n }
         ensures cause { ReadsPart (shown_by D.Sectors self.old) (shown_by D.Sectors self.new) request.lba request.n
-            (block_with request.lba + k) (bytes_at (block_with request.lba + k) (pending_of self.old.pending)) result }
+            (block_with request.lba + k) (bytes_at (block_with request.lba + k) (pending_of self.old.pending))
+            result }
         ensures step { (v : Values) → stands_by D.Sectors self.old (Has v)
-            → PartContents (stands_by D.Sectors self.new) v request.lba request.n (block_with request.lba + k) into.old into.new result }
+            → PartContents (stands_by D.Sectors self.new) v request.lba request.n (block_with request.lba + k)
+            into.old into.new result }
         ensures same_shape { (D.shows self.new.disc).shape ≡ (D.shows self.old.disc).shape }
         ensures underwent { D.underwent self.old.disc self.new.disc }
     {
@@ -68,7 +72,8 @@ impl<D: Disc> Cached<D> {
     fn read_parts(&mut self, request: Request, into: &mut [u8]) -> ReadOut
         requires inside { IsInRange (D.shows self.old.disc) request.lba request.n }
         requires whole { length into.old ≡ 2048 * request.n }
-        ensures cause { ReadPartsCause (shown_by D.Sectors self.old) (shown_by D.Sectors self.new) request.lba request.n result }
+        ensures cause { ReadPartsCause (shown_by D.Sectors self.old) (shown_by D.Sectors self.new) request.lba
+            request.n result }
         ensures step { (s : Contents) → stands_by D.Sectors self.old s
             → ReadContents (stands_by D.Sectors self.new) s request.lba request.n into.new result }
         ensures same_shape { (D.shows self.new.disc).shape ≡ (D.shows self.old.disc).shape }

@@ -9,7 +9,7 @@ ghost use Rattle.model_drive.specs.Writes.{WriteCause, WriteStep};
 ghost use Rattle.model_cache.specs.Chains.{leaves_pending};
 ghost use Rattle.model_cache.specs.Values.{Values, Contents, Has, IsPending};
 ghost use Rattle.model_buffer.specs.Buffer.{bytes_at};
-ghost use Rattle.ram_cache.specs.Staging.{StagesNext, RestOf, RestContents, StagedContents, StagesAll, TakesIn, HasRoomFor, rest_out};
+ghost use Rattle.ram_cache.specs.Staging.{StagesNext, RestOf, RestContents, StagedContents, StagesAll, TakesIn, HasRoomForBlocks, rest_out};
 ghost use Rattle.ram_cache.specs.Calls.{WritesOn, WritesBy, WritesContents};
 ghost use Rattle.model_cache.specs.declared.TheConstants.{CACHED_AT_ONCE};
 ghost use Rattle.model_cache.specs.Steps.{ThroughContents, CachedContents};
@@ -50,9 +50,11 @@ impl<D: Disc> Cached<D> {
         requires whole { length from.now ≡ 2048 * request.n }
         requires ready { IsReady (shown_by D.Sectors self.old) sectors }
         requires inside { IsInRange (D.shows self.old.disc) request.lba request.n }
-        ensures cause { ThroughCauseOf (shown_by D.Sectors self.old) (shown_by D.Sectors self.new) request.lba request.n result }
+        ensures cause { ThroughCauseOf (shown_by D.Sectors self.old) (shown_by D.Sectors self.new) request.lba
+            request.n result }
         ensures step { (s : Contents) → stands_by D.Sectors self.old s
-            → ThroughContents (shown_by D.Sectors self.old) (shown_by D.Sectors self.new) (stands_by D.Sectors self.new) s
+            → ThroughContents (shown_by D.Sectors self.old) (shown_by D.Sectors self.new)
+            (stands_by D.Sectors self.new) s
             request.lba request.n from.now result }
         ensures same_shape { (D.shows self.new.disc).shape ≡ (D.shows self.old.disc).shape }
         ensures underwent { D.underwent self.old.disc self.new.disc }
@@ -75,9 +77,12 @@ impl<D: Disc> Cached<D> {
         requires covered { IsCovered part.request.lba part.request.n part.block }
         requires inside { IsInRange (D.shows self.old.disc) part.request.lba part.request.n }
         requires room { length (pending_of self.old.pending) + staged < 32 }
-        ensures rule { RestOf (shown_by D.Sectors self.old) (shown_by D.Sectors self.new) part.request.lba part.request.n part.block result }
-        ensures step { (v : Values) → ¬ IsPending (pending_of self.old.pending) part.block → stands_by D.Sectors self.old (Has v)
-            → RestContents (stands_by D.Sectors self.new) v part.request.lba part.request.n part.block (room_of self.new.pending staged) result }
+        ensures rule { RestOf (shown_by D.Sectors self.old) (shown_by D.Sectors self.new) part.request.lba
+            part.request.n part.block result }
+        ensures step { (v : Values) → ¬ IsPending (pending_of self.old.pending) part.block
+            → stands_by D.Sectors self.old (Has v)
+            → RestContents (stands_by D.Sectors self.new) v part.request.lba part.request.n part.block
+            (room_of self.new.pending staged) result }
         ensures staged { IsOk result → staged_of self.new.pending staged ≡ staged_of self.old.pending staged }
         ensures same_shape { (D.shows self.new.disc).shape ≡ (D.shows self.old.disc).shape }
         ensures underwent { D.underwent self.old.disc self.new.disc }
@@ -92,9 +97,12 @@ impl<D: Disc> Cached<D> {
         requires covered { IsCovered part.request.lba part.request.n part.block }
         requires inside { IsInRange (D.shows self.old.disc) part.request.lba part.request.n }
         requires room { length (pending_of self.old.pending) + staged < 32 }
-        ensures rule { RestOf (shown_by D.Sectors self.old) (shown_by D.Sectors self.new) part.request.lba part.request.n part.block result }
-        ensures step { (v : Values) → ¬ IsPending (pending_of self.old.pending) part.block → stands_by D.Sectors self.old (Has v)
-            → RestContents (stands_by D.Sectors self.new) v part.request.lba part.request.n part.block (room_of self.new.pending staged) result }
+        ensures rule { RestOf (shown_by D.Sectors self.old) (shown_by D.Sectors self.new) part.request.lba
+            part.request.n part.block result }
+        ensures step { (v : Values) → ¬ IsPending (pending_of self.old.pending) part.block
+            → stands_by D.Sectors self.old (Has v)
+            → RestContents (stands_by D.Sectors self.new) v part.request.lba part.request.n part.block
+            (room_of self.new.pending staged) result }
         ensures staged { IsOk result → staged_of self.new.pending staged ≡ staged_of self.old.pending staged }
         ensures same_shape { (D.shows self.new.disc).shape ≡ (D.shows self.old.disc).shape }
         ensures underwent { D.underwent self.old.disc self.new.disc }
@@ -112,9 +120,11 @@ impl<D: Disc> Cached<D> {
         requires room { length (pending_of self.old.pending) + staged < 32 }
         requires whole { length from.now ≡ 2048 * part.request.n }
         requires none { bytes_at part.block (pending_of self.old.pending) ≡ None }
-        ensures rule { StagesNext (shown_by D.Sectors self.old) (shown_by D.Sectors self.new) part.request.lba part.request.n part.block from.now
+        ensures rule { StagesNext (shown_by D.Sectors self.old) (shown_by D.Sectors self.new) part.request.lba
+            part.request.n part.block from.now
             (staged_of self.old.pending staged) (staged_of self.new.pending) staged result }
-        ensures step { (v : Values) → ¬ IsPending (pending_of self.old.pending) part.block → stands_by D.Sectors self.old (Has v)
+        ensures step { (v : Values) → ¬ IsPending (pending_of self.old.pending) part.block
+            → stands_by D.Sectors self.old (Has v)
             → StagedContents (stands_by D.Sectors self.new) v part.request.lba part.request.n part.block from.now None
             (staged_of self.old.pending staged) (staged_of self.new.pending) result }
         ensures same_shape { (D.shows self.new.disc).shape ≡ (D.shows self.old.disc).shape }
@@ -142,10 +152,12 @@ impl<D: Disc> Cached<D> {
         requires room { bytes_at (block_with request.lba + k) (pending_of self.old.pending) ≡ None
             → length (pending_of self.old.pending) + staged < 32 }
         requires whole { length from.now ≡ 2048 * request.n }
-        ensures rule { StagesNext (shown_by D.Sectors self.old) (shown_by D.Sectors self.new) request.lba request.n (block_with request.lba + k) from.now
+        ensures rule { StagesNext (shown_by D.Sectors self.old) (shown_by D.Sectors self.new) request.lba
+            request.n (block_with request.lba + k) from.now
             (staged_of self.old.pending staged) (staged_of self.new.pending) staged result }
         ensures step { (v : Values) → stands_by D.Sectors self.old (Has v)
-            → StagedContents (stands_by D.Sectors self.new) v request.lba request.n (block_with request.lba + k) from.now
+            → StagedContents (stands_by D.Sectors self.new) v request.lba request.n (block_with request.lba + k)
+            from.now
             (bytes_at (block_with request.lba + k) (pending_of self.old.pending))
             (staged_of self.old.pending staged) (staged_of self.new.pending) result }
         ensures same_shape { (D.shows self.new.disc).shape ≡ (D.shows self.old.disc).shape }
@@ -161,9 +173,10 @@ impl<D: Disc> Cached<D> {
     /// Makes all blocks of a request that are not pending ones to come. How many these are.
     fn stage_all(&mut self, request: Request, from: &[u8]) -> Result<usize, WriteOut>
         requires inside { IsInRange (D.shows self.old.disc) request.lba request.n }
-        requires room { HasRoomFor (pending_of self.old.pending) request.lba request.n }
+        requires room { HasRoomForBlocks (pending_of self.old.pending) request.lba request.n }
         requires whole { length from.now ≡ 2048 * request.n }
-        ensures rule { StagesAll (shown_by D.Sectors self.old) (shown_by D.Sectors self.new) request.lba request.n from.now
+        ensures rule { StagesAll (shown_by D.Sectors self.old) (shown_by D.Sectors self.new) request.lba
+            request.n from.now
             (staged_of self.new.pending) (stands_by D.Sectors self.old) (stands_by D.Sectors self.new) result }
         ensures same_shape { (D.shows self.new.disc).shape ≡ (D.shows self.old.disc).shape }
         ensures underwent { D.underwent self.old.disc self.new.disc }
@@ -181,9 +194,10 @@ impl<D: Disc> Cached<D> {
     /// Takes the covered blocks into the cache, once there is room for them.
     fn take_over(&mut self, request: Request, from: &[u8]) -> WriteOut
         requires inside { IsInRange (D.shows self.old.disc) request.lba request.n }
-        requires room { HasRoomFor (pending_of self.old.pending) request.lba request.n }
+        requires room { HasRoomForBlocks (pending_of self.old.pending) request.lba request.n }
         requires whole { length from.now ≡ 2048 * request.n }
-        ensures rule { TakesIn (shown_by D.Sectors self.old) (shown_by D.Sectors self.new) request.lba request.n from.now result }
+        ensures rule { TakesIn (shown_by D.Sectors self.old) (shown_by D.Sectors self.new) request.lba request.n
+            from.now result }
         ensures step { (s : Contents) → stands_by D.Sectors self.old s
             → CachedContents (stands_by D.Sectors self.new) s request.lba request.n from.now result }
         ensures same_shape { (D.shows self.new.disc).shape ≡ (D.shows self.old.disc).shape }
@@ -205,7 +219,8 @@ impl<D: Disc> Cached<D> {
         requires whole { length from.now ≡ 2048 * request.n }
         requires ready { IsReady (shown_by D.Sectors self.old) sectors }
         requires inside { IsInRange (D.shows self.old.disc) request.lba request.n }
-        ensures cause { CachedCauseOf (shown_by D.Sectors self.old) (shown_by D.Sectors self.new) request.lba request.n from.now result }
+        ensures cause { CachedCauseOf (shown_by D.Sectors self.old) (shown_by D.Sectors self.new) request.lba
+            request.n from.now result }
         ensures step { (s : Contents) → stands_by D.Sectors self.old s
             → CachedContents (stands_by D.Sectors self.new) s request.lba request.n from.now result }
         ensures same_shape { (D.shows self.new.disc).shape ≡ (D.shows self.old.disc).shape }
@@ -234,7 +249,8 @@ impl<D: Disc> Cached<D> {
         requires few { n ≤ TRANSFER_LIMIT }
         requires whole { length from.now ≡ 2048 * n }
         requires ready { IsReady (shown_by D.Sectors self.old) sectors }
-        ensures cause { WritesOn (shown_by D.Sectors self.old) (shown_by D.Sectors self.new) into_cache lba n from.now result }
+        ensures cause { WritesOn (shown_by D.Sectors self.old) (shown_by D.Sectors self.new) into_cache lba n
+            from.now result }
         ensures step { (s : Contents) → stands_by D.Sectors self.old s → WritesContents (shown_by D.Sectors self.old)
             (shown_by D.Sectors self.new) (stands_by D.Sectors self.new) s into_cache lba n from.now result }
         ensures same_shape { (D.shows self.new.disc).shape ≡ (D.shows self.old.disc).shape }
@@ -260,7 +276,8 @@ impl<D: Disc> Cached<D> {
     ) -> WriteOut
         requires few { n ≤ TRANSFER_LIMIT }
         requires whole { length from.now ≡ 2048 * n }
-        ensures cause { WritesBy (shown_by D.Sectors self.old) (shown_by D.Sectors self.new) into_cache lba n from.now result }
+        ensures cause { WritesBy (shown_by D.Sectors self.old) (shown_by D.Sectors self.new) into_cache lba n
+            from.now result }
         ensures step { (s : Contents) → stands_by D.Sectors self.old s → WritesContents (shown_by D.Sectors self.old)
             (shown_by D.Sectors self.new) (stands_by D.Sectors self.new) s into_cache lba n from.now result }
         ensures same_shape { (D.shows self.new.disc).shape ≡ (D.shows self.old.disc).shape }

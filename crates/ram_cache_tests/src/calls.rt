@@ -1,8 +1,9 @@
 //! The calls that a drive with a write cache has beside those of any drive, word for word, and those that are made on its disc
 //! beside the cache.
 
-use ram_by_hand::{OfCaching, OfDisc, answer_call, byte_of, call_of, number_of};
+use ram_by_hand::{byte_of, number_of};
 use ram_cache::Cached;
+use ram_drives_by_hand::{OfCaching, OfDisc, answer_call, call_of};
 use ram_sectors::{Caching, Disc, SyncOut, TRANSFER_LIMIT, TickOut, WriteOut};
 use std::alloc::{AllocError, Global};
 use std::fmt::Write;

@@ -1,8 +1,9 @@
 //! The drive of a row: a write cache over a disc in memory.
 
 use crate::calls::answer_words;
-use ram_by_hand::{Controlled, Rig, Taken};
+use ram_by_hand::{Controlled, Taken};
 use ram_cache::Cached;
+use ram_drives_by_hand::Rig;
 use ram_medium::{Arm, FailEnd, Fate, Medium, MemMedium};
 use ram_sectors::Disc;
 use ram_volume::Volume;

@@ -2,7 +2,8 @@
 
 use crate::drive::{Drive, InMemory};
 use crate::random::answer_random;
-use ram_by_hand::{Rows, answer_row};
+use ram_by_hand::Rows;
+use ram_drives_by_hand::answer_row;
 use ram_medium::MemMedium;
 use ram_volume::Volume;
 use std::alloc::{AllocError, Global};

@@ -9,7 +9,7 @@ use Rattle.ram_medium.specs.Laws.{MediumLaws}
 use Rattle.ram_zones.specs.declared.list_kind.ListKind.{ListKind}
 use Rattle.ram_copies.specs.Values.{ListValue, IsInGrammar}
 use Rattle.ram_copies.specs.Calls.{first_block, second_block, ChangesCopiesAlone}
-use Rattle.ram_copies.specs.Choices.{MayHaveTwo, most_mores, IsBest, OnlyLooks, HasLooked, HaltsLookingAt, held_of}
+use Rattle.ram_copies.specs.Choices.{MayHaveTwo, most_mores, IsBest, OnlyLooks, HasLooked, HaltsLookingAt, held_value_of}
 use Rattle.ram_copies.specs.Chooses.{SawCopies, ChoosesOut, IsChosenCopy, HasChosen, HaltsChoosing, ChooseRule, found_of, chosen_of}
 use Rattle.ram_copies.specs.declared.looks.Held.{Held}
 use Rattle.ram_copies.specs.declared.looks.Choice.{Choice}
@@ -45,8 +45,8 @@ module _ {M : Type 0} (world : M → World) (block_count : M → ℕ) (reaches :
   }
 
   -- the looks came to their end
-  pub chosen_by : {T : Type 0} (value_of : T → ListValue) (best : Option (Held T)) (mark : ℕ) → HasLooked world reaches kind old new shape accepted 4 (held_of value_of best) mark
-      → IfSome best (λ h. IsInGrammar kind (value_of h.value)) → IfSome best (λ h. accepted (value_of h.value)) → HasChosen world reaches kind shape old new accepted (held_of value_of best) mark
+  pub chosen_by : {T : Type 0} (value_of : T → ListValue) (best : Option (Held T)) (mark : ℕ) → HasLooked world reaches kind old new shape accepted 4 (held_value_of value_of best) mark
+      → IfSome best (λ h. IsInGrammar kind (value_of h.value)) → IfSome best (λ h. accepted (value_of h.value)) → HasChosen world reaches kind shape old new accepted (held_value_of value_of best) mark
   chosen_by value_of None mark h in_grammar fits = record {
     out = chooses_out None mark h;
     best_is = λ known value area copy ok. (h.says known).best_is value area copy.is_area.1 copy ok;
@@ -76,12 +76,12 @@ module _ {M : Type 0} (world : M → World) (block_count : M → ℕ) (reaches :
 
 -- the answer of a choice, by its end
 module _ {M : Type 0} (world : M → World) (reaches : M → M → Span → Type 0) (kind : ListKind) (shape : Shape) (old new : M) (accepted : ListValue → Type 0) {T : Type 0} (value_of : T → ListValue) where
-  found_rule : (best : Option (Held T)) (mark : ℕ) → HasChosen world reaches kind shape old new accepted (held_of value_of best) mark → ChooseRule world reaches kind shape old new accepted value_of (found_of best mark)
+  found_rule : (best : Option (Held T)) (mark : ℕ) → HasChosen world reaches kind shape old new accepted (held_value_of value_of best) mark → ChooseRule world reaches kind shape old new accepted value_of (found_of best mark)
   found_rule None mark h = h
   found_rule (Some held) mark h = h
 
   pub choose_rule : (ended : Result (Choice T) Halt)
-      → MatchResult ended (λ found. HasChosen world reaches kind shape old new accepted (held_of value_of found.best) found.mark) (HaltsChoosing world reaches kind shape old new)
+      → MatchResult ended (λ found. HasChosen world reaches kind shape old new accepted (held_value_of value_of found.best) found.mark) (HaltsChoosing world reaches kind shape old new)
       → ChooseRule world reaches kind shape old new accepted value_of (chosen_of ended)
   choose_rule (Ok choice) h = found_rule choice.best choice.mark h
   choose_rule (Err (halts.Stopped stops.Cut)) h = h

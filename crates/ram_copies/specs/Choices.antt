@@ -106,9 +106,9 @@ module _ (kind : ListKind) (shape : Shape) (cells : List Cell) where
       pub mark_is : IsGreatestMarkUpTo k mark
 
 -- a list that is held, with its area, as a value
-abbrev pub held_of : {T : Type 0} → (T → ListValue) → Option (Held T) → Option (ListValue × ℕ)
-held_of value None = None
-held_of value (Some held) = Some (value held.value, held.area)
+abbrev pub held_value_of : {T : Type 0} → (T → ListValue) → Option (Held T) → Option (ListValue × ℕ)
+held_value_of value None = None
+held_value_of value (Some held) = Some (value held.value, held.area)
 
 -- the greater one of a mark and another, if there is one
 abbrev pub higher_of : ℕ → Option ℕ → ℕ

@@ -8,7 +8,7 @@ ghost use Rattle.ram_copies.specs.declared.looks.Seen.{Seen};
 ghost use Rattle.ram_copies.specs.declared.looks.Choice.{Choice};
 ghost use Rattle.ram_copies.specs.declared.halts.Halt.TheVariants.{NoMemory};
 ghost use Rattle.ram_copies.specs.Values.{IsInGrammar, Decodes, mark_of};
-ghost use Rattle.ram_copies.specs.Choices.{BestUpTo, SeenAt, held_of, higher_of, LooksOn, HaltsLookingOn, LooksAt, HaltsLooking};
+ghost use Rattle.ram_copies.specs.Choices.{BestUpTo, SeenAt, held_value_of, higher_of, LooksOn, HaltsLookingOn, LooksAt, HaltsLooking};
 ghost use Rattle.ram_copies.specs.Chooses.{HasChosen, HaltsChoosing};
 
 use crate::blocks::{Accept, ListBlock};
@@ -148,9 +148,9 @@ fn consider<T: ListBlock, A: Accept<T>>(
     ensures accepted { IfSome best (λ h. A.accepted accept.now (T.value h.value))
         → IfSome result (λ h. A.accepted accept.now (T.value h.value)) }
     ensures better { (shape : Shape) (cells : List Cell) (k : ℕ) → area ≡ k + 1
-        → BestUpTo T.LIST shape cells (A.accepted accept.now) k (held_of T.value best)
+        → BestUpTo T.LIST shape cells (A.accepted accept.now) k (held_value_of T.value best)
         → SeenAt T.LIST shape cells (k + 1) (option_map T.value found)
-        → BestUpTo T.LIST shape cells (A.accepted accept.now) (k + 1) (held_of T.value result) }
+        → BestUpTo T.LIST shape cells (A.accepted accept.now) (k + 1) (held_value_of T.value result) }
 {
     let Some(value) = found else {
         return best;
@@ -183,7 +183,7 @@ pub fn look_at_copies<T: ListBlock, M: Medium, A: Accept<T>>(
     requires on { IsTrue (M.world medium.old).power }
     ensures rule { MatchResult result
         (λ found. HasChosen M.world M.reaches T.LIST geometry.now medium.old medium.new
-        (A.accepted accept.now) (held_of T.value found.best) found.mark)
+        (A.accepted accept.now) (held_value_of T.value found.best) found.mark)
         (HaltsChoosing M.world M.reaches T.LIST geometry.now medium.old medium.new) }
     ensures as_many { M.block_count medium.new ≡ M.block_count medium.old }
 {

@@ -75,7 +75,8 @@ fn open_disc<I: Image>(
     len: u64,
     header: &[u8; 16],
 ) -> Result<(ImageMedium<I>, Geometry), (I, OpenFault)>
-    requires { IfSome (I.bytes image) (λ held. (len ≡ length held) × (16 ≤ length held) × (header.now ≡ take 16 held)) }
+    requires { IfSome (I.bytes image)
+        (λ held. (len ≡ length held) × (16 ≤ length held) × (header.now ≡ take 16 held)) }
     ensures { MatchResult result
         (λ opened. IsOpened image opened.0 opened.1)
         (λ refused. IsRefused (I.bytes image) (I.bytes refused.0) (I.faults image) (I.faults refused.0) refused.1) }

@@ -9,7 +9,8 @@ ghost use Rattle.ram_layout.specs.Slipping.{SlipTable, IsSlippingOf, slip_pools}
 
 /// The pools of a table are those of its disc.
 pub fn a_table_has_the_pools_of_its_disc()
-    ensures { (shape : Shape) (dds : Dds) (ssa : ℕ) (table : SlipTable) → IsValidPdl shape dds → IsValidOnSome shape ssa
+    ensures { (shape : Shape) (dds : Dds) (ssa : ℕ) (table : SlipTable) → IsValidPdl shape dds
+        → IsValidOnSome shape ssa
         → IsSlippingOf shape dds (count_of shape ssa) table
         → slip_pools table ≡ pools_of shape dds ssa }
 {}

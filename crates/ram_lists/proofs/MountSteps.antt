@@ -36,7 +36,7 @@ use Rattle.ram_zones.specs.declared.list_kind.ListKind.TheVariants as kinds
 use Rattle.ram_copies.specs.Values.{ListValue, DdsValue, SdlValue}
 use Rattle.ram_copies.proofs.PartsOf.{parts_few}
 use Rattle.ram_copies.specs.Choices.{MayHaveTwo}
-use Rattle.ram_copies.specs.Calls.{StoppedCounts, ChangesCopiesAlone, CallEnds, StoppedWithin, IsExact, Repairs, StopsRepairing, HasPutList, repair_uses, most_repair_uses}
+use Rattle.ram_copies.specs.Calls.{StoppedCounts, ChangesCopiesAlone, CallEnds, StoppedWithin, IsExact, Repairs, StopsRepairing, HasPutList, repair_uses_of, most_repair_uses}
 use Rattle.ram_copies.specs.Chooses.{SawCopies, StopsChoosing, Finds, FindsNone, FindsBest, HasChosen, HaltsChoosing}
 use Rattle.ram_copies.proofs.Areas.{second_no_dds, second_no_sdl}
 use Rattle.ram_copies.proofs.EachList.{dds_exact, dds_may, dds_spares, dds_rewritten, sdl_exact, sdl_may, sdl_rewritten, seconds_rewritten, seconds_stay_by_dds}
@@ -46,7 +46,7 @@ use Rattle.ram_copies.specs.declared.halts.Halt.{Halt}
 use Rattle.ram_copies.specs.declared.halts.Halt.TheVariants as halts
 use Rattle.ram_copies.specs.declared.writes.Purpose.TheVariants.{Repair}
 use Rattle.ram_copies.proofs.Lifting.{exact_of}
-use Rattle.ram_lists.specs.Mounts.{KeepsGiven, RepairsCopies, RepairsParts, WasStopped, EndsWithLists, EndsBare, HaltsMounting}
+use Rattle.ram_lists.specs.Mounts.{KeepsGiven, RepairsCopies, RepairsBothParts, WasStopped, EndsWithLists, EndsBare, HaltsMounting}
 use Rattle.ram_lists.proofs.Mending.{settled_may_hold, dds_in_part, sdl_in_part, dds_to_end, spares_same, sdl_from}
 
 -- ---- cells
@@ -670,12 +670,12 @@ module _ {M : Type 0} (world : M → World) (block_count : M → ℕ) (reaches :
               s_exact : SdlIsExact shape (world four).cells s
               s_exact = sdl_exact shape s (world four).cells all
 
-              gone_four : Gone old four (4 + (4 + mores) + (4 + 2 * rewritten) + repair_uses (SdlValue s) (firsts + seconds))
-              gone_four = gone_then kinds.Sdl old three four (4 + (4 + mores) + (4 + 2 * rewritten)) (repair_uses (SdlValue s) (firsts + seconds)) gone_three done.ends
+              gone_four : Gone old four (4 + (4 + mores) + (4 + 2 * rewritten) + repair_uses_of (SdlValue s) (firsts + seconds))
+              gone_four = gone_then kinds.Sdl old three four (4 + (4 + mores) + (4 + 2 * rewritten)) (repair_uses_of (SdlValue s) (firsts + seconds)) gone_three done.ends
                   (second_keeps four state done.ends.alone (exact_may world reaches shape three four s done.ends.alone s_exact))
 
               stays_both : ListsStayDead two four
-              stays_both = dead_then two three four stays_three (dead_after three four (repair_uses (SdlValue s) (firsts + seconds)) done.ends.continues)
+              stays_both = dead_then two three four stays_three (dead_after three four (repair_uses_of (SdlValue s) (firsts + seconds)) done.ends.continues)
 
               -- the copies of the secondary list were, before their repair, as they were seen
               before_repair : (place : ℕ → ℕ) → ((a : ℕ) → cell_at (world three).cells (place a) ≡ cell_at (world two).cells (place a)) → IsSeen place (world old).cells (world two).cells (world four).cells
@@ -685,7 +685,7 @@ module _ {M : Type 0} (world : M → World) (block_count : M → ℕ) (reaches :
                 | inr dead ↦ inr (same a ∙ dead.0, dead.1)
               ]
 
-              sdl_repaired : RepairsParts shape (world old) (world four) s (repair_uses (SdlValue s) (firsts + seconds))
+              sdl_repaired : RepairsBothParts shape (world old) (world four) s (repair_uses_of (SdlValue s) (firsts + seconds))
               sdl_repaired = record {
                 firsts = firsts;
                 seconds = seconds;
@@ -706,7 +706,7 @@ module _ {M : Type 0} (world : M → World) (block_count : M → ℕ) (reaches :
                 mores = mores;
                 dds_uses = 4 + 2 * rewritten;
                 dds = dds_repaired four stays_both dds_stays;
-                sdl_uses = repair_uses (SdlValue s) (firsts + seconds);
+                sdl_uses = repair_uses_of (SdlValue s) (firsts + seconds);
                 sdl = sdl_repaired;
                 exact = s_exact;
                 ended = record {

@@ -44,7 +44,7 @@ module _ {V : Type 0} (text : V → List ℕ → Type 0) (place : ℕ → ℕ) (
 
 -- The copies of a secondary list were repaired in so many uses: one for each cell, and two for each that was not exactly its
 -- part when it was read, by the first cells and by the second ones.
-pub record RepairsParts (shape : Shape) (old new : World) (sdl : Sdl) (uses : ℕ) : Type 0 where
+pub record RepairsBothParts (shape : Shape) (old new : World) (sdl : Sdl) (uses : ℕ) : Type 0 where
   pub firsts : ℕ
   pub seconds : ℕ
   pub few : firsts ≤ 4
@@ -122,7 +122,7 @@ module _ {M : Type 0} (world : M → World) (reaches : M → M → Span → Type
     pub dds_uses : ℕ
     pub dds : RepairsCopies IsDdsText (dds_block shape) (world old) (world new) lists.dds dds_uses
     pub sdl_uses : ℕ
-    pub sdl : RepairsParts shape (world old) (world new) lists.sdl sdl_uses
+    pub sdl : RepairsBothParts shape (world old) (world new) lists.sdl sdl_uses
     pub exact : SdlIsExact shape (world new).cells lists.sdl
     pub ended : MountHasEnded (8 + mores + (dds_uses + sdl_uses))
     pub finds : FindsLists shape (world old) (world new) lists mores

@@ -1,7 +1,7 @@
 -- What the parts of a target do: for the calls under `execute`. (This project's own, as all here.)
 use Rattle.std.specs.Prelude.{◌≡◌, ℕ, ⊤, Bool, IsTrue, Option, Some, None, List}
 use Rattle.model_drive.specs.Shown.{Shown, IsOn, IsFormatted, capacity}
-use Rattle.model_modes.specs.ParameterLists.{IsTaken}
+use Rattle.model_modes.specs.ParameterLists.{IsTakenList}
 use Rattle.model_cdb.specs.declared.commands.Command.{Command}
 use Rattle.model_cdb.specs.declared.commands.Command.TheVariants as commands
 use Rattle.ram_mmc.specs.declared.target.Look.{Look}
@@ -10,7 +10,7 @@ use Rattle.ram_mmc.specs.declared.target.Look.TheVariants as looks
 -- A command that gives what the disc says of itself has a formatted disc, and one that sets mode pages has a list that is taken.
 abbrev pub CanBeDone : (formatted : Bool) → (payload : List ℕ) → Command → Type 0
 CanBeDone formatted payload (commands.Structure format alloc) = IsTrue formatted
-CanBeDone formatted payload commands.ModeSelect = IsTaken payload
+CanBeDone formatted payload commands.ModeSelect = IsTakenList payload
 CanBeDone formatted payload _ = ⊤
 
 -- the power is on, and the disc has so many sectors, or is not formatted
@@ -19,7 +19,7 @@ IsFormattedAs shown None = IsOn shown × (shown.lists ≡ None)
 IsFormattedAs shown (Some sectors) = IsOn shown × IsFormatted shown × (sectors ≡ capacity shown)
 
 -- what a look at a disc finds
-abbrev pub LookRule : Shown → Look → Type 0
-LookRule shown looks.Off = ¬ IsOn shown
-LookRule shown looks.NotFormatted = IsFormattedAs shown None
-LookRule shown (looks.Formatted sectors) = IsFormattedAs shown (Some sectors)
+abbrev pub DiscLookRule : Shown → Look → Type 0
+DiscLookRule shown looks.Off = ¬ IsOn shown
+DiscLookRule shown looks.NotFormatted = IsFormattedAs shown None
+DiscLookRule shown (looks.Formatted sectors) = IsFormattedAs shown (Some sectors)

@@ -7,7 +7,7 @@ ghost use Rattle.model_drive.specs.Shown.{IsOn, capacity};
 ghost use Rattle.model_cdb.specs.Decoding.{IsWithinLimits};
 ghost use Rattle.model_target.specs.Host.{powered_on, done_by, kept_after, attention_after};
 ghost use Rattle.model_target.specs.Steps.{IsDone, IsAnsweredBy, IsExecuted, IsStep, IsPoweredAgain, host_after};
-ghost use Rattle.ram_mmc.specs.Looks.{CanBeDone, LookRule, IsFormattedAs};
+ghost use Rattle.ram_mmc.specs.Looks.{CanBeDone, DiscLookRule, IsFormattedAs};
 
 use crate::judging::{is_told, judge};
 use crate::replies::{
@@ -258,7 +258,7 @@ fn just_powered() -> Host
 
 /// Looks at a disc. One that has no capacity is not formatted, or off.
 fn look_at<D: Caching>(disc: &D) -> Look
-    ensures rule { LookRule (D.shows disc.now).drive result }
+    ensures rule { DiscLookRule (D.shows disc.now).drive result }
 {
     if let Some(capacity) = disc.capacity() {
         return Look::Formatted(capacity);

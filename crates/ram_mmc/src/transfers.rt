@@ -3,7 +3,7 @@
 ghost use Rattle.std.specs.Prelude.{◌≡◌, ◌*◌, ◌≤◌, [], length, vec_capacity};
 ghost use Rattle.model_commands.specs.declared.TheConstants.{TRANSFER_LIMIT};
 ghost use Rattle.ram_sectors.specs.declared.TheConstants.{VERIFY_LIMIT};
-ghost use Rattle.model_modes.specs.ParameterLists.{IsTaken};
+ghost use Rattle.model_modes.specs.ParameterLists.{IsTakenList};
 ghost use Rattle.model_target.specs.Steps.{read_answer, write_answer, format_answer, expand_answer, sync_answer, IsRead, IsWritten, IsFormatted, IsExpanded, IsVerified, IsSynchronised, IsSelected};
 
 use ram_bytes::SECTOR_BYTES;
@@ -99,7 +99,7 @@ pub fn synchronize<D: Caching>(disc: &mut D) -> Answer
 
 /// Turns the write cache on or off, as a list of mode pages says that is taken.
 pub fn select<D: Caching>(disc: &mut D, payload: &[u8]) -> Answer
-    requires taken { IsTaken payload.now }
+    requires taken { IsTakenList payload.now }
     ensures rule { IsSelected (D.shows disc.old) (D.shows disc.new) (D.stands disc.old) (D.stands disc.new)
         payload.now result [] }
     ensures same_shape { (D.shows disc.new).drive.shape ≡ (D.shows disc.old).drive.shape }

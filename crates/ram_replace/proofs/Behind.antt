@@ -12,7 +12,7 @@ use Rattle.model_pools.proofs.Moved.{home_moved_in}
 use Rattle.model_pools.proofs.Replacements.{Contains-first, Contains-later}
 use Rattle.model_pools.proofs.Shrinks.{named_stays, failed_named, spare_named}
 use Rattle.ram_replace.specs.declared.spares.Found.{Found}
-use Rattle.ram_replace.specs.Spares.{StandsAt, HasTurn}
+use Rattle.ram_replace.specs.Spares.{StandsAt, StandsAtTurn}
 use Rattle.ram_replace.specs.Cursors.{GoesToTurn}
 
 -- each of the first so many was tried
@@ -25,7 +25,7 @@ was_tried free (suc count) j below = elim (cases_eq j count) [
 
 module _ (pools : List Pool) (entries : List SdlEntry) (lawful : ArePools pools) (valid : AreValidUnder pools entries) (i : ℕ) (inside : i < length (logical_in pools))
     (cursors : List ℕ) (fit : CursorsFit pools entries cursors) (its : pool_of pools i < length cursors) (found : Found) (at : StandsAt (free_in pools entries i) found)
-    (turn : HasTurn (is_unnamed entries) (spares_for pools i) found) where
+    (turn : StandsAtTurn (is_unnamed entries) (spares_for pools i) found) where
   abbrev failed : List ℕ
   failed = tried_of (free_in pools entries i) found.tried
 

@@ -15,7 +15,7 @@ pub record StandsAt (free : List ℕ) (found : Found) : Type 0 where
   pub spare_is : found.spare ≡ slice_index free found.tried
 
 -- The spare stands at its turn in the order of its pool, and of those up to it just the free ones were tried.
-pub record HasTurn (is_free : ℕ → Bool) (spares : List ℕ) (found : Found) : Type 0 where
+pub record StandsAtTurn (is_free : ℕ → Bool) (spares : List ℕ) (found : Found) : Type 0 where
   pub here : slice_get spares found.turn ≡ Some found.spare
   pub passed : ArePassed is_free spares (found.tried + 1) (found.turn + 1)
 

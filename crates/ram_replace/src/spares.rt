@@ -7,7 +7,7 @@ ghost use Rattle.model_lists.specs.Values.{defectives};
 ghost use Rattle.model_pools.specs.Pools.{spares_at, is_unnamed, free_at};
 ghost use Rattle.ram_bytes.specs.declared.block.TheConstants.{BLOCK_BYTES};
 ghost use Rattle.ram_spare.specs.Turns.{AreUsed};
-ghost use Rattle.ram_replace.specs.Spares.{FindsSpare, StopsTrying, HasTurn};
+ghost use Rattle.ram_replace.specs.Spares.{FindsSpare, StopsTrying, StandsAtTurn};
 
 use ram_bytes::Block;
 use ram_copies::put_block;
@@ -51,8 +51,9 @@ pub fn find_spare<M: Medium, L: Layout>(
         (StopsTrying M.world M.reaches medium.old medium.new
         (free_at (L.pools layout.now) sdl.now.entries.list pool) from.now) }
     ensures turn { IfOk result (λ found. IfSome found
-        (HasTurn (is_unnamed sdl.now.entries.list) (spares_at (L.pools layout.now) pool))) }
-    ensures back { IfOk result (λ found. IfSome found (λ _. (M.world medium.old).known ≡ true → back.new ≡ from.now)) }
+        (StandsAtTurn (is_unnamed sdl.now.entries.list) (spares_at (L.pools layout.now) pool))) }
+    ensures back { IfOk result
+        (λ found. IfSome found (λ _. (M.world medium.old).known ≡ true → back.new ≡ from.now)) }
     ensures few { length (spares_at (L.pools layout.now) pool) < 4294967296 }
     ensures as_many { M.block_count medium.new ≡ M.block_count medium.old }
 {

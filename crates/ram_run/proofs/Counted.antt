@@ -9,7 +9,7 @@ use Rattle.ram_run.specs.declared.counts.AnswerCounts.{AnswerCounts}
 use Rattle.ram_run.specs.declared.counts.SenseCount.{SenseCount}
 use Rattle.ram_run.specs.declared.reply.Reply.{Reply}
 use Rattle.ram_run.specs.declared.reply.Reply.TheVariants as replies
-use Rattle.ram_run.specs.Counting.{is_same_sense, is_good, is_cut, is_off, is_check, times, count_of, counts_in, raised_by, with_reply, AreAtMost}
+use Rattle.ram_run.specs.Counting.{is_same_sense, is_good, is_cut, is_off, is_check, times, sense_count_of, counts_in, raised_by, with_reply, AreAtMost}
 use Rattle.ram_run.specs.Run.{AnsweredLine}
 
 -- one more where it is so
@@ -38,10 +38,10 @@ row_raised sense n false = refl
 
 -- the counts of all senses after this one came
 rows_raised : (cdb : List ℕ) (given : Sense) (events : List AnsweredLine) (of : List Sense)
-    → map (raised_by given) (map (count_of events) of) ≡ map (row_after (replies.Command cdb (answers.Check given)) events) of
+    → map (raised_by given) (map (sense_count_of events) of) ≡ map (row_after (replies.Command cdb (answers.Check given)) events) of
 rows_raised cdb given events [] = refl
 rows_raised cdb given events (sense ∷ of) =
-    ap (λ (row : SenseCount). row ∷ map (raised_by given) (map (count_of events) of)) (row_raised sense (times (is_check sense) events) (is_same_sense sense given))
+    ap (λ (row : SenseCount). row ∷ map (raised_by given) (map (sense_count_of events) of)) (row_raised sense (times (is_check sense) events) (is_same_sense sense given))
     ∙ ap (λ (rows : List SenseCount). row_after (replies.Command cdb (answers.Check given)) events sense ∷ rows) (rows_raised cdb given events of)
 
 -- the counts of these lines, but with other counts of senses

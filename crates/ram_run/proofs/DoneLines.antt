@@ -17,7 +17,7 @@ use Rattle.model_cache.specs.Values.{Values, Contents, Has, MayHave, candidates_
 use Rattle.model_cache.specs.Shown.{CacheShown, CacheStandsFor, dropped, goes_into_cache}
 use Rattle.model_cache.specs.Causes.{CacheReadBy, CacheReadCause, CachedCause, ThroughCause}
 use Rattle.model_cache.specs.Steps.{ReadContents, CachedContents, ThroughContents}
-use Rattle.model_cache.specs.Falling.{IsWithin, value_written}
+use Rattle.model_cache.specs.Falling.{AreAmong, value_written}
 use Rattle.model_cache.proofs.Members.{Contains-none, Contains-cases}
 use Rattle.model_cache.proofs.Falls.{only, through_settles}
 use Rattle.model_sense.specs.declared.sense.Sense.{Sense}
@@ -284,7 +284,7 @@ module _ (old new : CacheShown) (t : Contents) (lba n at : ℕ) (among : IsAmong
         let there : block_with lba + c.k ≡ block_with at = c.there in
         let falls = through_settles (block_with at) v t lba n payload old new step (record { blocks = r.blocks; as_long = r.long; inside = r.inside; whole = whole })
         (omega (arith, there), omega (arith, there, covered)) in
-        All-weaker (IsWithin (value_written v lba payload (block_with at) ∷ []) (block_with at)) (SoInValues (λ found. found ≡ bytes_of_sector lba payload at) at)
+        All-weaker (AreAmong (value_written v lba payload (block_with at) ∷ []) (block_with at)) (SoInValues (λ found. found ≡ bytes_of_sector lba payload at) at)
         (λ w within has held value. one_value held (within has held value)) (candidates_of t) falls
 
   write_has : (s : Contents) (fua : Bool) (payload : List ℕ) → CacheStandsFor old s → length payload ≡ 2048 * n → GoodWrite old new s t lba n fua payload → StandsWithSector t at (bytes_of_sector lba payload at)

@@ -5,7 +5,7 @@ use Rattle.std.proofs.Common.{arith, refl, sym, ap, ◌∙◌, inl, inr, subst, 
 use Rattle.ram_text.proofs.Puts.{append_known-twice}
 use Rattle.ram_text.specs.ReportLines.{last_text}
 use Rattle.ram_text.specs.Writer.{IsCutShort}
-use Rattle.ram_text.specs.Dialogue.{room_of, sink_of, source_of}
+use Rattle.ram_text.specs.Dialogue.{dialogue_room, sink_of, source_of}
 use Rattle.ram_text.specs.DialogueRoom.{IsEmptyRoom}
 use Rattle.ram_text.specs.declared.dialogue.Dialogue.{Dialogue}
 use Rattle.ram_text.specs.declared.gathered.TheConstants.{GATHERED_ROOM}
@@ -91,7 +91,7 @@ pub not_sink : (ending : Ending) (status : Status) → status ≡ status_of endi
 not_sink ending status is sink other = other (sym (is ∙ ap status_of sink))
 
 -- the lines begin with nothing read and nothing gathered
-pub begins : {S K : Type 0} (sources : Sources S) (sinks : Sinks K) (first : Beginning) (stands : State → Type 0) (dialogue : Dialogue S K) (state : RunState) → IsFresh state → IsEmptyRoom (room_of dialogue)
+pub begins : {S K : Type 0} (sources : Sources S) (sinks : Sinks K) (first : Beginning) (stands : State → Type 0) (dialogue : Dialogue S K) (state : RunState) → IsFresh state → IsEmptyRoom (dialogue_room dialogue)
     → sources.left (source_of dialogue) ≡ Some first.script → sinks.written (sink_of dialogue) ≡ Some first.report
     → StandsFirst first.image stands → Between first stands (run_view sources sinks dialogue state.tally)
 begins sources sinks first stands dialogue state fresh empty left_is written_is start = record {

@@ -15,11 +15,11 @@ use Rattle.model_image.proofs.WholeCells.{cells_of-whole}
 use Rattle.model_drive.specs.Shown.{Shown, StandsFor, cells_in}
 use Rattle.model_drive.specs.Sound.{IsSound}
 use Rattle.model_drive.specs.Runs.{opened_drive}
-use Rattle.model_drive.specs.Runs.{Loaded as LoadedDrive, IsOpenedOn as OpensDriveOn}
+use Rattle.model_drive.specs.Runs.{CacheLoaded as LoadedDrive, IsCacheOpenedOn as OpensDriveOn}
 use Rattle.model_cache.specs.Values.{Contents, plain, StandsCached}
 use Rattle.model_cache.specs.Shown.{CacheShown, CacheStandsFor, IsCacheSound}
 use Rattle.model_cache.specs.Plain.{uncached}
-use Rattle.model_cache.specs.Runs.{Loaded, IsOpenedOn}
+use Rattle.model_cache.specs.Runs.{CacheLoaded, IsCacheOpenedOn}
 use Rattle.model_cache.proofs.SameBlocks.{stands_plainly}
 use Rattle.model_cache.proofs.Members.{Contains-none}
 use Rattle.model_drive.proofs.Opening.{opened_disc}
@@ -59,7 +59,7 @@ same_machine label label' known known' cells cells' power power' uses uses' cuts
 none_sound : (drive : Shown) → IsCacheSound (uncached drive)
 none_sound drive = record { few = search arith; apart = tt; whole = λ i bytes has. absurd (Contains-none (i, bytes) has) }
 
-of_drive : LoadedDrive → Loaded
+of_drive : LoadedDrive → CacheLoaded
 of_drive s = record {
   shown = uncached s.shown;
   contents = plain s.standing;
@@ -110,11 +110,11 @@ module _ {I : Type 0} {d : Images I} (image : I) (medium : ImageMedium I d) (geo
   }
 
 -- a disc that was just opened has the label of its geometry
-opened_labelled : (shape : Shape) (cells : List Cell) (s : Loaded) → IsOpenedOn shape cells s → IsLabelled s.shown.drive
+opened_labelled : (shape : Shape) (cells : List Cell) (s : CacheLoaded) → IsCacheOpenedOn shape cells s → IsLabelled s.shown.drive
 opened_labelled shape cells s opened = ap (λ (x : CacheShown). x.drive.medium.world.label) opened.shown_is ∙ ap label_of (sym (ap (λ (x : CacheShown). x.drive.shape) opened.shown_is))
 
 -- the image that was opened has its cells
-opened_image : (shape : Shape) (bytes : List ℕ) (s : Loaded) → IsDiscImage shape bytes → IsOpenedOn shape (cells_of (total shape) bytes) s → IsImageOf s.shown.drive.shape (cells_in s.shown.drive) bytes
+opened_image : (shape : Shape) (bytes : List ℕ) (s : CacheLoaded) → IsDiscImage shape bytes → IsCacheOpenedOn shape (cells_of (total shape) bytes) s → IsImageOf s.shown.drive.shape (cells_in s.shown.drive) bytes
 opened_image shape bytes s disc opened = subst (λ (x : CacheShown). IsImageOf x.drive.shape (cells_in x.drive) bytes) (sym opened.shown_is) (record { disc = disc; cells_are = refl })
 
 -- a target over a disc that was just opened

@@ -6,7 +6,7 @@ use Rattle.model_sense.specs.declared.sense.Sense.{Sense}
 use Rattle.model_target.specs.Senses.{senses}
 use Rattle.ram_run.specs.declared.counts.AnswerCounts.{AnswerCounts}
 use Rattle.ram_run.specs.declared.state.Tally.{Tally}
-use Rattle.ram_run.specs.Counting.{is_good, is_cut, is_off, is_check, times, count_of, counts_in}
+use Rattle.ram_run.specs.Counting.{is_good, is_cut, is_off, is_check, times, sense_count_of, counts_in}
 use Rattle.ram_run.specs.Progress.{Beginning, SoFar, IsTallied}
 use Rattle.ram_run.specs.Run.{AnsweredLine}
 use Rattle.ram_run.specs.Summary.{count_text, check_text, came_in, summary_text, row_text, tally_text}
@@ -19,10 +19,10 @@ one_row sense n text of false is = ap (λ (l : List ℕ). l ++ flat_map text of)
 
 -- the lines of the senses that came
 rows_text : (events : List AnsweredLine) (of : List Sense)
-    → flat_map row_text (map (count_of events) of) ≡ flat_map (λ sense. check_text sense (times (is_check sense) events)) (filter (came_in events) of)
+    → flat_map row_text (map (sense_count_of events) of) ≡ flat_map (λ sense. check_text sense (times (is_check sense) events)) (filter (came_in events) of)
 rows_text events [] = refl
 rows_text events (sense ∷ of) =
-    ap (λ (l : List ℕ). row_text (count_of events sense) ++ l) (rows_text events of)
+    ap (λ (l : List ℕ). row_text (sense_count_of events sense) ++ l) (rows_text events of)
     ∙ one_row sense (times (is_check sense) events) (λ sense. check_text sense (times (is_check sense) events)) (filter (came_in events) of) (times (is_check sense) events == 0) refl
 
 -- the summary of the lines that were counted

@@ -13,7 +13,7 @@ use Rattle.model_drive.specs.declared.WriteOut.{WriteOut}
 use Rattle.model_drive.specs.declared.WriteOut.TheVariants as writes
 use Rattle.model_drive.specs.Shown.{Shown, StandsFor, StandsBy, cells_in}
 use Rattle.model_drive.specs.Parts.{IsInRange}
-use Rattle.model_cache.specs.Values.{Values, Contents, Has, MayHave, HasValue, HasBlock, written, cached, is_among}
+use Rattle.model_cache.specs.Values.{Values, Contents, Has, MayHave, HasValue, HasBlock, with_written, cached, is_among}
 use Rattle.model_cache.specs.Shown.{CacheShown, CacheStandsFor, goes_into_cache}
 use Rattle.model_cache.specs.Causes.{ThroughCause, CachedCause}
 use Rattle.model_cache.specs.Steps.{ThroughContents, CachedContents}
@@ -78,7 +78,7 @@ module _ (S : List ℕ → Type 0) (at : ℕ) where
     has_it : (r : Lies v.disc lba n) (b : ℕ) → HasBlock (replaced v.disc lba payload b) (block_with at) → HasBlock v.disc (block_with at)
     has_it r b has = let long = as_long_as v.disc lba n payload b (lies_in r) in omega (arith, has, long)
 
-    through_so : (r : Lies v.disc lba n) (b : ℕ) → SoInValues (written v lba payload b)
+    through_so : (r : Lies v.disc lba n) (b : ℕ) → SoInValues (with_written v lba payload b)
     through_so r b has held (inl is) = so_of_block (replaced v.disc lba payload b) held is (replaces r b (has_it r b has))
     through_so r b has held (inr older) =
         kept (has_it r b has) held (inr ((Contains-passed (λ (x : ℕ × List ℕ). not (is_among (block_with lba) (b - block_with lba) x.0)) v.older (block_with at, held) older).1))

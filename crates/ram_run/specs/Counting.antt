@@ -39,8 +39,8 @@ times is_so [] = 0
 times is_so (event ∷ events) = if is_so event.reply then times is_so events + 1 else times is_so events
 
 -- how often a sense came
-abbrev pub count_of : List AnsweredLine → Sense → SenseCount
-count_of events sense = record { sense = sense; times = times (is_check sense) events }
+abbrev pub sense_count_of : List AnsweredLine → Sense → SenseCount
+sense_count_of events sense = record { sense = sense; times = times (is_check sense) events }
 
 -- how the commands of these lines were answered
 abbrev pub counts_in : List AnsweredLine → AnswerCounts
@@ -48,7 +48,7 @@ counts_in events = record {
   good = times is_good events;
   cut = times is_cut events;
   off = times is_off events;
-  checks = map (count_of events) senses;
+  checks = map (sense_count_of events) senses;
 }
 
 -- the count of a sense after this one came

@@ -6,7 +6,7 @@ use Rattle.model_image.specs.Cells.{cells_of}
 use Rattle.model_image.specs.Image.{IsDiscImage, IsImageOf}
 use Rattle.model_cache.specs.Values.{Contents}
 use Rattle.model_cache.specs.Shown.{CacheShown}
-use Rattle.model_cache.specs.Runs.{Loaded, IsOpenedOn}
+use Rattle.model_cache.specs.Runs.{CacheLoaded, IsCacheOpenedOn}
 use Rattle.model_target.specs.declared.host.Host.{Host}
 use Rattle.model_target.specs.Host.{powered_on}
 use Rattle.ram_run.specs.Underwent.{UnderwentEvents}
@@ -16,8 +16,8 @@ use Rattle.ram_run.specs.Underwent.{UnderwentEvents}
 pub record IsOpenedBy (bytes : List ℕ) (shown : CacheShown) (stands : Contents → Type 0) : Type 0 where
   pub shape : Shape
   pub image : IsDiscImage shape bytes
-  pub disc : Loaded
-  pub opened : IsOpenedOn shape (cells_of (total shape) bytes) disc
+  pub disc : CacheLoaded
+  pub opened : IsCacheOpenedOn shape (cells_of (total shape) bytes) disc
   pub shown_is : shown ≡ disc.shown
   pub contents_is : stands disc.contents
 

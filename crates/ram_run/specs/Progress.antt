@@ -6,7 +6,7 @@ use Rattle.ram_text.specs.Lines.{HasNoFeed}
 use Rattle.ram_text.specs.Script.{Reads}
 use Rattle.ram_outside.specs.declared.sink.Sink.{Ghosts as Sinks}
 use Rattle.ram_outside.specs.declared.source.Source.{Ghosts as Sources}
-use Rattle.ram_text.specs.Dialogue.{reading_of, source_of, due_in}
+use Rattle.ram_text.specs.Dialogue.{reader_of, source_of, due_in}
 use Rattle.ram_text.specs.declared.dialogue.Dialogue.{Dialogue}
 use Rattle.ram_text.specs.declared.lines.TheConstants.{SCRIPT_LIMIT}
 use Rattle.ram_text.specs.declared.printing.LastLine.{LastLine}
@@ -68,10 +68,10 @@ module _ {S K : Type 0} (sources : Sources S) (sinks : Sinks K) where
   -- the view of a run with this dialogue, of which so many lines came
   abbrev pub run_view : Dialogue S K → Tally → View
   run_view dialogue tally = record {
-    buffered = (reading_of dialogue).buffered;
+    buffered = (reader_of dialogue).buffered;
     left = sources.left (source_of dialogue);
     due = due_in sources sinks dialogue;
-    taken = (reading_of dialogue).taken;
+    taken = (reader_of dialogue).taken;
     tally = tally;
   }
 

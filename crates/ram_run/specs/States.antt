@@ -7,7 +7,7 @@ use Rattle.model_image.specs.Image.{IsDiscImage, IsImageOf, IsStoppedPress, blan
 use Rattle.model_drive.specs.Shown.{Shown, cells_in}
 use Rattle.model_cache.specs.Values.{Contents}
 use Rattle.model_cache.specs.Shown.{CacheShown}
-use Rattle.model_cache.specs.Runs.{Loaded, IsOpenedOn}
+use Rattle.model_cache.specs.Runs.{CacheLoaded, IsCacheOpenedOn}
 use Rattle.model_target.specs.declared.host.Host.{Host}
 use Rattle.model_target.specs.Host.{powered_on}
 
@@ -18,7 +18,7 @@ IsLabelled shown = shown.medium.world.label ≡ label_of shown.shape
 -- A disc in the drive: what the drive shows and one thing that it stands for, what is remembered for its host, and the
 -- bytes of its image, also those under cells that are not good.
 pub record Served : Type 0 where
-  pub disc : Loaded
+  pub disc : CacheLoaded
   pub host : Host
   pub labelled : IsLabelled disc.shown.drive
   pub bytes : List ℕ
@@ -45,7 +45,7 @@ IsLeft (Disc s) bytes = bytes ≡ s.bytes
 -- A disc of this geometry with these cells, in an image of these bytes, was just inserted: the drive is as when its image
 -- was opened, and its host remembers a power that just came on.
 pub record IsInserted (shape : Shape) (cells : List Cell) (bytes : List ℕ) (s : Served) : Type 0 where
-  pub opened : IsOpenedOn shape cells s.disc
+  pub opened : IsCacheOpenedOn shape cells s.disc
   pub host_is : s.host ≡ powered_on
   pub bytes_are : s.bytes ≡ bytes
 

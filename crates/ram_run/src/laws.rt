@@ -173,7 +173,8 @@ pub fn without_the_cache_a_run_is_that_of_the_disc()
     ensures pressed { (shape : Shape) (s : State) → IsPressedDisc shape s → IsAlone s }
     ensures step { (s t : State) (line : Line) (payload data_in : List ℕ) (outcome : Outcome)
         → Step s line payload outcome data_in t → LeavesAlone line payload → IsAlone s → IsAlone t }
-    ensures run { (s t : State) (events : List AnsweredLine) → Run s events t → LeaveAlone events → IsAlone s → IsAlone t }
+    ensures run { (s t : State) (events : List AnsweredLine) → Run s events t → LeaveAlone events → IsAlone s
+        → IsAlone t }
     ensures powered { (s t : State) (event : AnsweredLine) (known : ℕ) → IsStep s event t → event.line ≡ lines.Power
         → event.reply ≡ replies.Event (told.Ready known) → IsAlone t }
     ensures plain_first { (bytes : List ℕ) (s : State) → IsFirst bytes s

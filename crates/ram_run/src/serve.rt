@@ -1,6 +1,6 @@
 //! The lines of a script, answered one after another.
 ghost use Rattle.std.specs.Prelude.{◌^◌, ◌<◌, ◌≡◌};
-ghost use Rattle.ram_text.specs.Dialogue.{HasSameEnds, reading_of, room_of, sink_of, source_of};
+ghost use Rattle.ram_text.specs.Dialogue.{HasSameEnds, reader_of, dialogue_room, sink_of, source_of};
 ghost use Rattle.ram_text.specs.DialogueRoom.{IsEmptyRoom};
 ghost use Rattle.ram_run.specs.NextLines.{CountsUses};
 ghost use Rattle.ram_run.specs.Counting.{AreAtMost};
@@ -46,7 +46,7 @@ fn answer_line<D: Drive, S: Source, K: Sink>(
         (counts_with S.Source K.Sink dialogue.old (faults_of D.Caching D.Image.Image inserted.old))
         (counts_with S.Source K.Sink dialogue.new (faults_of D.Caching D.Image.Image inserted.new)) result }
     ensures tally { TallyRule state.old.tally state.new.tally result }
-    ensures same_reading { reading_of dialogue.new ≡ reading_of dialogue.old }
+    ensures same_reading { reader_of dialogue.new ≡ reader_of dialogue.old }
     ensures room { HasRoom state.new }
 {
     let outcome = inserted.answer(alloc, line, &state.payload, &mut state.data_in);
@@ -61,7 +61,7 @@ pub fn serve_lines<D: Drive, S: Source, K: Sink>(
     dialogue: &mut Dialogue<S, K>,
 ) -> (Inserted<D>, Result<(), Stopped>)
     requires fresh { IsFresh state.old }
-    requires empty { IsEmptyRoom (room_of dialogue.old) }
+    requires empty { IsEmptyRoom (dialogue_room dialogue.old) }
     requires room { HasRoom state.old }
     ensures same { HasSameEnds dialogue.old dialogue.new }
     ensures ends { (first : Beginning)
@@ -109,7 +109,7 @@ pub fn answer_lines<D: Drive, S: Source, K: Sink>(
     dialogue: &mut Dialogue<S, K>,
 ) -> (D::Image, Result<(), Stopped>)
     requires fresh { IsFresh state.old }
-    requires empty { IsEmptyRoom (room_of dialogue.old) }
+    requires empty { IsEmptyRoom (dialogue_room dialogue.old) }
     requires room { HasRoom state.old }
     ensures same { HasSameEnds dialogue.old dialogue.new }
     ensures leaves { (first : Beginning)
@@ -134,7 +134,7 @@ pub fn serve<D: Drive, S: Source, K: Sink>(
     dialogue: &mut Dialogue<S, K>,
 ) -> (D::Image, Status)
     requires fresh { IsFresh state.old }
-    requires empty { IsEmptyRoom (room_of dialogue.old) }
+    requires empty { IsEmptyRoom (dialogue_room dialogue.old) }
     requires room { HasRoom state.old }
     ensures other { IsNoUsage result.1 }
     ensures same { HasSameEnds dialogue.old dialogue.new }

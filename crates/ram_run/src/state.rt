@@ -1,7 +1,7 @@
 //! The state of a run beside what lies in the drive and what goes between script and report: room for the data of a
 //! command both ways, and how many lines came.
 ghost use Rattle.std.specs.Prelude.{◌≡◌, ◌^◌, ◌<◌, ◌+◌, ℕ, [], IfOk};
-ghost use Rattle.ram_text.specs.Dialogue.{HasSameEnds, AsksNothing, reading_of, sink_of};
+ghost use Rattle.ram_text.specs.Dialogue.{HasSameEnds, AsksNothing, reader_of, sink_of};
 ghost use Rattle.ram_run.specs.Counting.{AreAtMost};
 ghost use Rattle.ram_run.specs.Replies.{PrintsWhere};
 ghost use Rattle.ram_run.specs.RunCounts.{StopCounts, TellCount, counts_with};
@@ -87,7 +87,7 @@ pub fn take_line<S: Source, K: Sink>(
         → NextRule far (run_view S.Source K.Sink dialogue.new state.new.tally) state.new.payload.items result }
     ensures counts { (image : ℕ) → StopCounts (counts_with S.Source K.Sink dialogue.old image)
         (counts_with S.Source K.Sink dialogue.new image) result }
-    ensures takes { TakesBytes (reading_of dialogue.old).taken (reading_of dialogue.new).taken result }
+    ensures takes { TakesBytes (reader_of dialogue.old).taken (reader_of dialogue.new).taken result }
     ensures uses { FoundCountsUses result }
     ensures same_tally { state.new.tally ≡ state.old.tally }
     ensures empty { state.new.data_in.items ≡ [] }

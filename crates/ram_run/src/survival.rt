@@ -16,8 +16,10 @@ ghost use Rattle.ram_run.specs.Survival.{KeepsDisc, KeepDisc, LeavesCapacity, Le
 /// full format, however the line ends, wherever cuts come and whatever blocks die, while at least two copies of each list have
 /// no dead block; also in an image that is handed back and opened again. Only an expansion adds a size that its area may have.
 pub fn a_run_keeps_the_disc_formatted()
-    ensures begins { (s : State) (lists : Lists) → HasInUse s lists → LastsNow s lists.sdl.version (lists.sdl.ssa ∷ []) }
-    ensures step { (s t : State) (line : Line) (payload data_in : List ℕ) (outcome : Outcome) (version : Version) (sizes : List ℕ)
+    ensures begins { (s : State) (lists : Lists) → HasInUse s lists
+        → LastsNow s lists.sdl.version (lists.sdl.ssa ∷ []) }
+    ensures step { (s t : State) (line : Line) (payload data_in : List ℕ) (outcome : Outcome)
+        (version : Version) (sizes : List ℕ)
         → Step s line payload outcome data_in t → KeepsDisc line payload → HasTwoCopies t version
         → LastsNow s version sizes
         → (later : List ℕ) × LastsNow t version later × (LeavesCapacity line payload → later ≡ sizes) }
@@ -38,11 +40,13 @@ pub fn no_cut_loses_the_disc()
     ensures ready { (s t u : State) (lists : Lists) (events : List AnsweredLine) (event : AnsweredLine)
         → HasInUse s lists → Run s events t → KeepDisc events → IsStep t event u → event.line ≡ lines.Power
         → HasTwoCopies u lists.sdl.version → IsReadyOrCut event.reply }
-    ensures capacity { (s : Served) (t u : State) (lists : Lists) (events : List AnsweredLine) (event : AnsweredLine) (known : ℕ)
+    ensures capacity { (s : Served) (t u : State) (lists : Lists) (events : List AnsweredLine)
+        (event : AnsweredLine) (known : ℕ)
         → HasInUse (Disc s) lists → Run (Disc s) events t → KeepDisc events → LeaveCapacity events
         → IsStep t event u → event.line ≡ lines.Power → HasTwoCopies u lists.sdl.version
         → event.reply ≡ replies.Event (told.Ready known) → known ≡ capacity_of s.disc.shown.drive.shape lists }
-    ensures opened_again { (s t u v w : State) (lists : Lists) (earlier later : List AnsweredLine) (event : AnsweredLine)
+    ensures opened_again { (s t u v w : State) (lists : Lists) (earlier later : List AnsweredLine)
+        (event : AnsweredLine)
         (image : List ℕ) → HasInUse s lists → Run s earlier t → KeepDisc earlier → IsLeft t image
         → IsFirst image u → Run u later v → KeepDisc later → IsStep v event w → event.line ≡ lines.Power
         → HasTwoCopies w lists.sdl.version → IsReadyOrCut event.reply }

@@ -17,7 +17,7 @@ use Rattle.model_lists.specs.Values.{pdl_blocks}
 use Rattle.model_pools.specs.Listed.{is_listed}
 use Rattle.ram_runs.specs.declared.Run.{Run}
 use Rattle.ram_runs.specs.Runs.{blocks_in, AreRunsFrom, IsTable, IsCountBelow, end_of, kept_of}
-use Rattle.ram_runs.proofs.Ranges.{range_with_len-append, filter-range_none, filter-range_all}
+use Rattle.model_geometry.proofs.Ranges.{range_with_len-append, filter-range_none, filter-range_all}
 
 -- ---- one more run
 

@@ -71,7 +71,8 @@ pub fn push_kept(
     requires ordered { first ≤ end }
     requires room { vec_len runs.old + (until - before) < vec_capacity runs.old }
     ensures table { IsTable runs.new.items }
-    ensures blocks { blocks_in runs.new.items ≡ blocks_in runs.old.items ++ kept_of (pdl_blocks slipped.now) first (end - first) }
+    ensures blocks { blocks_in runs.new.items
+        ≡ blocks_in runs.old.items ++ kept_of (pdl_blocks slipped.now) first (end - first) }
     ensures behind { end_of 0 runs.new.items ≤ end + 1 }
     ensures more { vec_len runs.new ≤ vec_len runs.old + (until - before) + 1 }
     ensures room { vec_capacity runs.old ≤ vec_capacity runs.new }

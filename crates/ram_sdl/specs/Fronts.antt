@@ -5,7 +5,7 @@ use Rattle.model_lists.specs.Values as values
 use Rattle.model_lists.specs.Values.{IsWithinSdlLimits}
 use Rattle.model_lists.specs.Texts.{IsSdlHeader}
 use Rattle.ram_sdl.specs.declared.header.Header.{Header}
-use Rattle.ram_sdl.specs.Sdl.{IsTextOf}
+use Rattle.ram_sdl.specs.Sdl.{IsSdlTextOf}
 
 -- The block is a first part, and its front says this, within the limits. (This project's own, as all here.)
 abbrev pub IsFrontOf : Header → List ℕ → Type 0
@@ -20,5 +20,5 @@ value_by header entries = record { version = header.version; counter = header.co
 
 -- these entries and the front make the value whose text the blocks are, or nothing does
 abbrev pub AreEntriesBy : Header → Option (List SdlEntry) → List ℕ → Option (List ℕ) → Type 0
-AreEntriesBy header None first second = (value : values.Sdl) → IsTextOf value first second → ⊥
-AreEntriesBy header (Some entries) first second = IsTextOf (value_by header entries) first second
+AreEntriesBy header None first second = (value : values.Sdl) → IsSdlTextOf value first second → ⊥
+AreEntriesBy header (Some entries) first second = IsSdlTextOf (value_by header entries) first second

@@ -18,7 +18,7 @@ entries_of_part One part entries = entries
 entries_of_part Two part entries = if part == 1 then take part_entries entries else drop part_entries entries
 
 -- A front and the entries of one part, as a block. (This project's own.)
-pub record IsPart (e : Version) (k c d s n : ℕ) (entries : List SdlEntry) (block : List ℕ) : Type 0 where
+pub record IsPartBlock (e : Version) (k c d s n : ℕ) (entries : List SdlEntry) (block : List ℕ) : Type 0 where
   pub whole : length block ≡ 32768
   pub header : IsSdlHeader e k c d s n block
   pub list : Spells sdl_entry_bytes 8 entries (drop 32 block)
@@ -28,15 +28,15 @@ abbrev pub IsSdlPart : ℕ → values.Sdl → List ℕ → Type 0
 IsSdlPart part value block = (part ≡ 1 → IsSdlText value block) × (part ≡ 2 → IsSdlSecond value block)
 
 -- the block is a first part after which another follows
-abbrev pub HasMore : List ℕ → Type 0
-HasMore block = (names : ℕ) × IsMore block names
+abbrev pub HasSecondPart : List ℕ → Type 0
+HasSecondPart block = (names : ℕ) × IsMore block names
 
 -- the text of the value is just the blocks that are given: one, or two
-abbrev pub IsTextOf : values.Sdl → List ℕ → Option (List ℕ) → Type 0
-IsTextOf value first None = IsSdlText value first × ¬ IsTwo value
-IsTextOf value first (Some second) = IsSdlText value first × IsTwo value × IsSdlSecond value second
+abbrev pub IsSdlTextOf : values.Sdl → List ℕ → Option (List ℕ) → Type 0
+IsSdlTextOf value first None = IsSdlText value first × ¬ IsTwo value
+IsSdlTextOf value first (Some second) = IsSdlText value first × IsTwo value × IsSdlSecond value second
 
 -- What blocks decode to: the value whose text they are, or nothing where they are the text of none. (This project's own.)
 abbrev pub IsDecodedSdl : Option Sdl → List ℕ → Option (List ℕ) → Type 0
-IsDecodedSdl None first second = (value : values.Sdl) → IsTextOf value first second → ⊥
-IsDecodedSdl (Some found) first second = IsTextOf (sdl_of found) first second
+IsDecodedSdl None first second = (value : values.Sdl) → IsSdlTextOf value first second → ⊥
+IsDecodedSdl (Some found) first second = IsSdlTextOf (sdl_of found) first second

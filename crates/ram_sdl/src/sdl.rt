@@ -6,7 +6,7 @@ ghost use Rattle.std.specs.List.Sorted.{IsStrictlyIncreasing};
 ghost use Rattle.model_lists.specs.Values.{IsLawfulSdl, IsEntryOf, defectives, with_entry, parts_by};
 ghost use Rattle.ram_sdl.specs.EntriesAndRoom.{HasRoomFor};
 ghost use Rattle.model_lists.specs.Texts.{IsMore};
-ghost use Rattle.ram_sdl.specs.Sdl.{sdl_of, entries_of_part, IsPart, IsSdlPart, HasMore, IsDecodedSdl};
+ghost use Rattle.ram_sdl.specs.Sdl.{sdl_of, entries_of_part, IsPartBlock, IsSdlPart, HasSecondPart, IsDecodedSdl};
 
 use crate::entries::SdlEntries;
 use crate::header::{Header, begin_bytes, header_of, names_of};
@@ -56,7 +56,8 @@ fn put_part(header: &Header, part: u32, entries: &[SdlEntry], into: &mut Block)
     requires ssa { header.now.ssa < 2 ^ 16 }
     requires count { header.now.count < 2 ^ 16 }
     requires few { length entries.now ≤ 4092 }
-    ensures { IsPart header.now.version part header.now.counter header.now.dds_counter header.now.ssa header.now.count
+    ensures { IsPartBlock header.now.version part header.now.counter header.now.dds_counter header.now.ssa
+        header.now.count
         entries.now into.new }
 {
     let (begin, others) = into.bytes_mut().split_at_mut(16);
@@ -121,7 +122,7 @@ impl Sdl {
 
     /// Whether the block is the first part of a list of two parts, by its first 32 bytes.
     pub fn more(first: &Block) -> bool
-        ensures { IsTrue result ↔ HasMore first.now }
+        ensures { IsTrue result ↔ HasSecondPart first.now }
     {
         match header_of(first.bytes(), 1) {
             None => false,
@@ -134,7 +135,7 @@ impl Sdl {
 
     /// The counter of a structure that such a first part names.
     pub fn more_mark(first: &Block) -> u32
-        requires { HasMore first.now }
+        requires { HasSecondPart first.now }
         ensures { IsMore first.now result }
     {
         names_of(first.bytes())

@@ -20,12 +20,12 @@ abbrev pub sink_of : {S K : Type 0} → Dialogue S K → K
 sink_of dialogue = dialogue.report.now
 
 -- the room that it works in
-abbrev pub room_of : {S K : Type 0} → Dialogue S K → DialogueRoom
-room_of dialogue = dialogue.room.now
+abbrev pub dialogue_room : {S K : Type 0} → Dialogue S K → DialogueRoom
+dialogue_room dialogue = dialogue.room.now
 
 -- what its reader holds
-abbrev pub reading_of : {S K : Type 0} → Dialogue S K → Reading
-reading_of dialogue = dialogue.room.now.reader
+abbrev pub reader_of : {S K : Type 0} → Dialogue S K → Reading
+reader_of dialogue = dialogue.room.now.reader
 
 -- the text that it has gathered and not handed over
 abbrev pub gathered_of : {S K : Type 0} → Dialogue S K → List ℕ
@@ -39,7 +39,7 @@ pub record HasSameEnds {S K : Type 0} (old new : Dialogue S K) : Type 0 where
 
 -- nothing was asked: the source is as it was, and what was read
 pub record AsksNothing {S K : Type 0} (old new : Dialogue S K) : Type 0 where
-  pub reading : reading_of new ≡ reading_of old
+  pub reading : reader_of new ≡ reader_of old
   pub source : source_of new ≡ source_of old
 
 module _ {S K : Type 0} (sources : Sources S) (sinks : Sinks K) where
@@ -49,8 +49,8 @@ module _ {S K : Type 0} (sources : Sources S) (sinks : Sinks K) where
 
   -- Nothing was due but what is written, unless a whole line was read already; then the next line was looked for.
   pub record LooksOn (old new : Dialogue S K) (next : NextLine) : Type 0 where
-    pub shown : HoldsLine (reading_of old) ⊎ (gathered_of new ≡ [])
-    pub rule : NextLineRule sources (reading_of old) (reading_of new) (source_of old) (source_of new) next
+    pub shown : HoldsLine (reader_of old) ⊎ (gathered_of new ≡ [])
+    pub rule : NextLineRule sources (reader_of old) (reader_of new) (source_of old) (source_of new) next
     pub due : due_in new ≡ due_in old
     pub count : sinks.faults (sink_of new) ≡ sinks.faults (sink_of old)
 
@@ -61,9 +61,9 @@ module _ {S K : Type 0} (sources : Sources S) (sinks : Sinks K) where
     pub count : Rose (sinks.faults (sink_of old)) (sinks.faults (sink_of new))
 
   -- What the search for the next line may do, by its answer.
-  abbrev pub LookRule : Dialogue S K → Dialogue S K → Result NextLine SinkFailed → Type 0
-  LookRule old new (Ok next) = LooksOn old new next
-  LookRule old new (Err failed) = StopsAsking old new
+  abbrev pub SearchRule : Dialogue S K → Dialogue S K → Result NextLine SinkFailed → Type 0
+  SearchRule old new (Ok next) = LooksOn old new next
+  SearchRule old new (Err failed) = StopsAsking old new
 
   -- A text was printed, or cut off by a failure of the sink, and nothing was asked.
   pub record Tells (old new : Dialogue S K) (text : List ℕ) (answer : Print) : Type 0 where

@@ -42,7 +42,7 @@ pub struct Dialogue<'a, S: Source, K: Sink> {
 }
 
 impl<'a, S: Source, K: Sink> Dialogue<'a, S, K> {
-    ghost use Rattle.ram_text.specs.Dialogue.{HasSameEnds, LookRule, Tells, HandsOverAll, reading_of};
+    ghost use Rattle.ram_text.specs.Dialogue.{HasSameEnds, SearchRule, Tells, HandsOverAll, reader_of};
     ghost use Rattle.ram_text.specs.DialogueRoom.{IsBetween};
 
     /// A dialogue between this source and this sink.
@@ -64,7 +64,7 @@ impl<'a, S: Source, K: Sink> Dialogue<'a, S, K> {
     /// sink fails then, nothing is asked.
     pub fn next_line(&mut self) -> Result<NextLine, SinkFailed>
         ensures ends { HasSameEnds self.old self.new }
-        ensures rule { LookRule S.Source K.Sink self.old self.new result }
+        ensures rule { SearchRule S.Source K.Sink self.old self.new result }
     {
         let room = &mut *self.room;
         if !room.reader.has_line() {
@@ -78,7 +78,7 @@ impl<'a, S: Source, K: Sink> Dialogue<'a, S, K> {
 
     /// The line found last, without its line feed; empty where the last answer was no line.
     pub fn line(&self) -> &[u8]
-        ensures { result.now ≡ (reading_of self.now).line }
+        ensures { result.now ≡ (reader_of self.now).line }
     {
         self.room.reader.line()
     }

@@ -24,7 +24,7 @@ use Rattle.model_drive.specs.Shown.{Shown, capacity}
 use Rattle.model_drive.specs.Repairs.{mount_most, RepairsList, RepairsSdl}
 use Rattle.model_drive.specs.Power.{turned_on, MountsAny, MountsLists, MountsNone, RepairsChosenDds, StopsInMount, MountLacksMemory}
 use Rattle.ram_medium.specs.Laws.{ControlLaws, machine_shown}
-use Rattle.ram_lists.specs.Mounts.{KeepsGiven, RepairsCopies, RepairsParts, RepairsChosen, EndsWithLists, EndsBare, WasStopped, WasOutOfMemory}
+use Rattle.ram_lists.specs.Mounts.{KeepsGiven, RepairsCopies, RepairsBothParts, RepairsChosen, EndsWithLists, EndsBare, WasStopped, WasOutOfMemory}
 use Rattle.ram_transfer.specs.Shown.{shown_without, shown_unformatted, shown_under}
 use Rattle.ram_transfer.proofs.Machines.{machine_stops}
 use Rattle.ram_volume.specs.Powers.{PowerSteps}
@@ -59,9 +59,9 @@ module _ {M : Type 0} (world : M → World) (reaches : M → M → Span → Type
         let k = subst (λ (w : World). RepairsCopies text place w (world new) value uses) powers r in
         record { rewritten = k.rewritten; few = k.few; uses_are = k.uses_are; rewrites = k.rewrites }
 
-    repairs_parts : (new : M) (lists : Option Lists) (mark : ℕ) (sdl : Sdl) (uses : ℕ) → RepairsParts shape (world on) (world new) sdl uses → RepairsSdl old (after new lists mark) sdl uses
+    repairs_parts : (new : M) (lists : Option Lists) (mark : ℕ) (sdl : Sdl) (uses : ℕ) → RepairsBothParts shape (world on) (world new) sdl uses → RepairsSdl old (after new lists mark) sdl uses
     repairs_parts new lists mark sdl uses r =
-        let k = subst (λ (w : World). RepairsParts shape w (world new) sdl uses) powers r in
+        let k = subst (λ (w : World). RepairsBothParts shape w (world new) sdl uses) powers r in
         record {
           firsts = k.firsts;
           seconds = k.seconds;

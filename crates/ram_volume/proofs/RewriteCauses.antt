@@ -15,7 +15,7 @@ use Rattle.model_drive.specs.Shown.{Shown}
 use Rattle.model_drive.specs.Repairs.{RepairsList, RepairsSdl, most_rewrite_uses}
 use Rattle.model_drive.specs.Rewriting.{RepairsBoth, StopsInRewrite, RewriteCause}
 use Rattle.ram_medium.specs.Laws.{ControlLaws, machine_shown}
-use Rattle.ram_lists.specs.Mounts.{RepairsCopies, RepairsParts}
+use Rattle.ram_lists.specs.Mounts.{RepairsCopies, RepairsBothParts}
 use Rattle.ram_format.specs.Rewriting.{RepairsBothLists, HaveCopies, LacksCopies, RewriteStopped}
 use Rattle.ram_transfer.specs.Shown.{shown_without, shown_under}
 use Rattle.ram_transfer.proofs.Machines.{machine_continues, machine_stops}
@@ -34,7 +34,7 @@ module _ {M : Type 0} (world : M → World) (reaches : M → M → Span → Type
   repairs : {V : Type 0} (text : V → List ℕ → Type 0) (place : ℕ → ℕ) (value : V) (uses : ℕ) → RepairsCopies text place (world old) (world new) value uses → RepairsList text place before after value uses
   repairs text place value uses r = record { rewritten = r.rewritten; few = r.few; uses_are = r.uses_are; rewrites = r.rewrites }
 
-  repairs_parts : (sdl : Sdl) (uses : ℕ) → RepairsParts shape (world old) (world new) sdl uses → RepairsSdl before after sdl uses
+  repairs_parts : (sdl : Sdl) (uses : ℕ) → RepairsBothParts shape (world old) (world new) sdl uses → RepairsSdl before after sdl uses
   repairs_parts sdl uses r = record {
     firsts = r.firsts;
     seconds = r.seconds;

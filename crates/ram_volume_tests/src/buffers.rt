@@ -1,7 +1,8 @@
 //! Requests over buffers of any blocks, beside a plain list of the blocks that were used last: how many uses each takes.
 
 use crate::drive::{Drive, InMemory};
-use ram_by_hand::{Calls, OfDisc, below, blank, number_of};
+use ram_by_hand::number_of;
+use ram_drives_by_hand::{Calls, OfDisc, below, blank};
 use ram_medium::Fate;
 use ram_sectors::{Kind, ReadOut, WriteOut};
 use rand_core::Rng;

@@ -1,6 +1,7 @@
 //! The drive of a row, over a disc in memory.
 
-use ram_by_hand::{Controlled, OfDisc, Rig, Taken, answer_call, call_of};
+use ram_by_hand::{Controlled, Taken};
+use ram_drives_by_hand::{OfDisc, Rig, answer_call, call_of};
 use ram_medium::{Arm, FailEnd, Fate, Medium, MemMedium};
 use ram_sectors::Disc;
 use ram_volume::Volume;

@@ -2,7 +2,8 @@
 //! or die in its update, for lists of either version. What must come of it is told by rules that know nothing of the drive.
 
 use crate::drive::{Drive, InMemory};
-use ram_by_hand::{Version, add_area, joined, make_lines, number_of};
+use ram_by_hand::{Version, add_area, number_of};
+use ram_drives_by_hand::{joined, make_lines};
 use std::alloc::{AllocError, Global};
 use std::fmt::Write;
 

@@ -1,7 +1,8 @@
 //! Random calls of a drive, with blocks that fail and cuts, beside a plain list of what each sector may be.
 
 use crate::drive::{Drive, InMemory};
-use ram_by_hand::{Calls, OfDisc, below, blank, number_of, random_fate};
+use ram_by_hand::number_of;
+use ram_drives_by_hand::{Calls, OfDisc, below, blank, random_fate};
 use ram_sectors::{FormatOut, Kind, PowerOut, ReadOut, WriteOut};
 use rand_core::Rng;
 use rand_pcg::Pcg32;

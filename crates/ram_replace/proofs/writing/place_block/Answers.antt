@@ -20,7 +20,7 @@ use Rattle.model_pools.specs.Moves.{tried_of}
 use Rattle.model_places.specs.Places.{pools_under, free_spares}
 use Rattle.model_volume.proofs.Moved.{moved_valid}
 use Rattle.ram_sdl.specs.Sdl.{sdl_of}
-use Rattle.ram_replace.specs.Spares.{StandsAt, HasTurn}
+use Rattle.ram_replace.specs.Spares.{StandsAt, StandsAtTurn}
 use Rattle.ram_replace.proofs.Placing.{home_stopped, home_put, spares_stopped, no_spare, last_counter, update_stops, no_copy, spare_put}
 use Rattle.ram_replace.proofs.writing.place_block.Goals as goal
 
@@ -85,7 +85,7 @@ pub returns-clause-fit : goal.returns-clause-fit
 returns-clause-fit g c =
     let rule = rw c.in-Some.is at c.in_ok-found.ensures.rule in
     let at = subst (λ (p : ℕ). StandsAt (free_at (g.L.Layout.pools c.args.layout.now) c.args.lists.now.sdl.entries.list p) c.in-Some.found) c.pool_of-pool.ensures.pool rule.stands in
-    let turn = subst (λ (p : ℕ). HasTurn (is_unnamed c.args.lists.now.sdl.entries.list) (spares_at (g.L.Layout.pools c.args.layout.now) p) c.in-Some.found) c.pool_of-pool.ensures.pool (rw c.in-Some.is at c.in_ok-found.ensures.turn) in
+    let turn = subst (λ (p : ℕ). StandsAtTurn (is_unnamed c.args.lists.now.sdl.entries.list) (spares_at (g.L.Layout.pools c.args.layout.now) p) c.in-Some.found) c.pool_of-pool.ensures.pool (rw c.in-Some.is at c.in_ok-found.ensures.turn) in
     let its : pool_of (g.L.Layout.pools c.args.layout.now) c.args.i < length c.args.cursors.now = omega (arith, c.pool_of-pool.ensures.inside, c.pool_of-pool.ensures.pool, c.requires.fit.one_each) in
     let new_is = c.copy_from.ensures.value ∙ c.draft_moved.ensures.value in
     let has = rw (free_here c.args.geometry.now (lists_of c.args.lists.now) c.requires.fit.valid (g.L.Layout.pools c.args.layout.now) c.requires.fit.pools_are c.args.i c.pool_of-pool.result c.pool_of-pool.ensures.pool) at rule in
@@ -105,7 +105,7 @@ pub returns-clause-cursors : goal.returns-clause-cursors
 returns-clause-cursors g c =
     let rule = rw c.in-Some.is at c.in_ok-found.ensures.rule in
     let at = subst (λ (p : ℕ). StandsAt (free_at (g.L.Layout.pools c.args.layout.now) c.args.lists.now.sdl.entries.list p) c.in-Some.found) c.pool_of-pool.ensures.pool rule.stands in
-    let turn = subst (λ (p : ℕ). HasTurn (is_unnamed c.args.lists.now.sdl.entries.list) (spares_at (g.L.Layout.pools c.args.layout.now) p) c.in-Some.found) c.pool_of-pool.ensures.pool (rw c.in-Some.is at c.in_ok-found.ensures.turn) in
+    let turn = subst (λ (p : ℕ). StandsAtTurn (is_unnamed c.args.lists.now.sdl.entries.list) (spares_at (g.L.Layout.pools c.args.layout.now) p) c.in-Some.found) c.pool_of-pool.ensures.pool (rw c.in-Some.is at c.in_ok-found.ensures.turn) in
     let its : pool_of (g.L.Layout.pools c.args.layout.now) c.args.i < length c.args.cursors.now = omega (arith, c.pool_of-pool.ensures.inside, c.pool_of-pool.ensures.pool, c.requires.fit.one_each) in
     let new_is = c.copy_from.ensures.value ∙ c.draft_moved.ensures.value in
     inr (goes_to_turn (g.L.Layout.pools c.args.layout.now) c.args.lists.now.sdl.entries.list (lawful_here c.args.geometry.now (lists_of c.args.lists.now) c.requires.fit.valid (g.L.Layout.pools c.args.layout.now) c.requires.fit.pools_are) (valid_here c.args.geometry.now (lists_of c.args.lists.now) c.requires.fit.valid (g.L.Layout.pools c.args.layout.now) c.requires.fit.pools_are) c.args.i (logical_here c.args.geometry.now (lists_of c.args.lists.now) c.requires.fit.valid (g.L.Layout.pools c.args.layout.now) c.requires.fit.pools_are c.args.i c.requires.inside) c.args.cursors.now c.requires.fit.cursors_fit its c.in-Some.found at turn (sdl_of c.args.lists.now.sdl) (sdl_of c.copy_from.new.self) c.set.new.self c.pool_of-pool.result refl new_is c.pool_of-pool.ensures.pool c.set.ensures)

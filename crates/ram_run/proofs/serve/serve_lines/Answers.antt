@@ -1,6 +1,6 @@
 use Rattle.std.proofs.Common.{arith, ap, ◌∙◌}
 use Rattle.ram_text.specs.Lines.{Reading}
-use Rattle.ram_text.specs.Dialogue.{reading_of}
+use Rattle.ram_text.specs.Dialogue.{reader_of}
 use Rattle.ram_run.specs.Inserted.{Stands, faults_of}
 use Rattle.ram_run.specs.RunCounts.{counts_with}
 use Rattle.ram_run.specs.Progress.{run_view}
@@ -50,7 +50,7 @@ loop-stopped-preserved g c =
           (counts_with g.S.Source g.K.Sink c.take_line.new.dialogue (faults_of g.D.Caching g.D.Image.Image c.loop-stopped.inserted))
           c.loop-stopped.invariant.counts (rw c.in-Ok-Some.is at (c.take_line.ensures.counts (faults_of g.D.Caching g.D.Image.Image c.loop-stopped.inserted)))) c.in-Ok.ensures.counts;
       room = c.answer_line.ensures.room;
-      few = few_more c.loop-stopped.state.tally c.take_line.new.state.tally c.answer_line.new.state.tally (reading_of c.loop-stopped.dialogue).taken (reading_of c.take_line.new.dialogue).taken (reading_of c.answer_line.new.dialogue).taken c.loop-stopped.invariant.few takes.0 reader tally more;
+      few = few_more c.loop-stopped.state.tally c.take_line.new.state.tally c.answer_line.new.state.tally (reader_of c.loop-stopped.dialogue).taken (reader_of c.take_line.new.dialogue).taken (reader_of c.answer_line.new.dialogue).taken c.loop-stopped.invariant.few takes.0 reader tally more;
       within = omega (arith, takes.1, reader);
     }
 
@@ -70,4 +70,4 @@ returns-in-Err-answer_line-clause-counts g c =
 
 pub returns-in-Err-answer_line-clause-few : goal.returns-in-Err-answer_line-clause-few
 returns-in-Err-answer_line-clause-few g c =
-    few_still c.loop-stopped.state.tally c.take_line.new.state.tally c.answer_line.new.state.tally (reading_of c.loop-stopped.dialogue).taken c.loop-stopped.invariant.few c.loop-stopped.invariant.within c.take_line.ensures.same_tally c.in-Err-answer_line.ensures.tally
+    few_still c.loop-stopped.state.tally c.take_line.new.state.tally c.answer_line.new.state.tally (reader_of c.loop-stopped.dialogue).taken c.loop-stopped.invariant.few c.loop-stopped.invariant.within c.take_line.ensures.same_tally c.in-Err-answer_line.ensures.tally

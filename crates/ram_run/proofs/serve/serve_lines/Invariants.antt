@@ -1,5 +1,5 @@
 use Rattle.std.proofs.Common.{◌≤◌, ◌-◌}
-use Rattle.ram_text.specs.Dialogue.{HasSameEnds, reading_of}
+use Rattle.ram_text.specs.Dialogue.{HasSameEnds, reader_of}
 use Rattle.ram_run.specs.Inserted.{Stands, faults_of}
 use Rattle.ram_run.specs.RunCounts.{SameCounts, counts_with}
 use Rattle.ram_run.specs.RunState.{HasRoom}
@@ -15,9 +15,9 @@ invariant-loop-stopped g l = record {
   counts : SameCounts (counts_with g.S.Source g.K.Sink l.fn.dialogue (faults_of g.D.Caching g.D.Image.Image l.fn.inserted))
       (counts_with g.S.Source g.K.Sink l.dialogue (faults_of g.D.Caching g.D.Image.Image l.inserted));
   room : HasRoom l.state;
-  few : IsFewLines l.state.tally (reading_of l.dialogue).taken;
-  within : (reading_of l.dialogue).taken ≤ 67108864;
+  few : IsFewLines l.state.tally (reader_of l.dialogue).taken;
+  within : (reader_of l.dialogue).taken ≤ 67108864;
 }
 
 abbrev pub decreases-loop-stopped : goal.decreases-loop-stopped
-decreases-loop-stopped g l = 67108864 - (reading_of l.dialogue).taken
+decreases-loop-stopped g l = 67108864 - (reader_of l.dialogue).taken

@@ -2,7 +2,7 @@ use Rattle.std.proofs.Common.{ℕ, List, Option, Some, None, Ok, sym, ◌+◌, s
 use Rattle.model_sectors.specs.Requests.{block_with}
 use Rattle.ram_requests.specs.declared.requests.Request.{Request}
 use Rattle.ram_cache.specs.Caches.{shown_by, stands_by}
-use Rattle.ram_cache.specs.Rooms.{pending_of, staged_of, held_at, FirstOf}
+use Rattle.ram_cache.specs.Rooms.{pending_of, staged_of, pending_at, FirstOf}
 use Rattle.ram_cache.specs.Staging.{StagedContents}
 use Rattle.ram_cache.proofs.ReadParts.{found_at, found_none, none_pending}
 use Rattle.ram_cache.proofs.Rests.{staged_already}
@@ -20,7 +20,7 @@ pub returns-in-Some-clause-rule : goal.returns-in-Some-clause-rule
 returns-in-Some-clause-rule g c =
     let p = pending_of c.args.self.now.pending in
     let i = block_with c.args.request.lba + c.args.k in
-    staged_already (shown_by g.D.Sectors c.args.self.now) c.args.request.lba c.args.request.n i c.args.from.now ((held_at p c.in-Some._place).1) (staged_of c.args.self.now.pending c.args.staged) c.args.staged
+    staged_already (shown_by g.D.Sectors c.args.self.now) c.args.request.lba c.args.request.n i c.args.from.now ((pending_at p c.in-Some._place).1) (staged_of c.args.self.now.pending c.args.staged) c.args.staged
     (found_at p i c.in-Some._place (subst (λ (j : ℕ). FirstOf p true j 1 (Some c.in-Some._place)) c.part-part.ensures.block c.in-Some.ensures))
 
 pub returns-in-Some-clause-step : goal.returns-in-Some-clause-step

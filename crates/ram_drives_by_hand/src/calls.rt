@@ -1,7 +1,7 @@
 //! The calls of a host, word for word, and what makes them: a disc, or a drive with a write cache. Numbers are decimal, and
 //! bytes have two hexadecimal digits.
 
-use crate::numbers::{byte_of, number_of};
+use ram_by_hand::{byte_of, number_of};
 use ram_bytes::Block;
 use ram_sectors::{
     Caching, Disc, DriveCounts, ExpandOut, FormatOut, Kind, PowerOut, ReadOut, TRANSFER_LIMIT,

@@ -1,6 +1,6 @@
 //! What sectors say that were read: the byte of each, and how many in a row have it.
 
-use crate::numbers::byte_all_over;
+use ram_by_hand::byte_all_over;
 use ram_bytes::SECTOR_BYTES;
 use std::alloc::AllocError;
 use std::fmt::Write;

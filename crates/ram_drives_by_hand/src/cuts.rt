@@ -1,7 +1,7 @@
 //! A row that is made once for each use in which the power may be cut, and each fate of the block that is written then.
 
 use crate::lines::{Rig, answer_lines, joined, make_lines};
-use crate::numbers::number_of;
+use ram_by_hand::number_of;
 use ram_medium::Fate;
 use std::alloc::{AllocError, Global};
 use std::fmt::Write;

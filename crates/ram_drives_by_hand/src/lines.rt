@@ -1,9 +1,7 @@
 //! Lines of a row, made one after another with the drive that there is.
 
 use crate::discs::{Inserted, blank_disc, disc_of, numbers};
-use crate::doing::{Taken, answer_work};
-use crate::events::{Controlled, answer_event, event_of};
-use crate::work::{Work, work_of};
+use ram_by_hand::{Controlled, Taken, Work, answer_event, answer_work, event_of, work_of};
 use ram_medium::MemMedium;
 use std::alloc::{AllocError, Global};
 use std::fmt::Write;

@@ -2,7 +2,7 @@
 
 use crate::calls::{Call, Calls};
 use crate::sectors::add_sectors;
-use crate::structures::add_structure;
+use ram_by_hand::add_structure;
 use ram_bytes::Block;
 use ram_sectors::{DriveCounts, Kind, ReadOut};
 use std::alloc::{AllocError, Global};

@@ -1,7 +1,6 @@
 //! Discs that were never written, by the words of a row.
 
-use crate::doing::Taken;
-use crate::numbers::number_of;
+use ram_by_hand::{Taken, number_of};
 use ram_medium::MemMedium;
 use ram_zones::Geometry;
 use std::alloc::{AllocError, Global};
