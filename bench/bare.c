@@ -5,6 +5,8 @@
    blocks, none of them replaced, and have whole bytes. The data of a group lie one after another, as those of a command do.
 
    write         each block is written and read back, and nothing is looked at
+   marked-write  the same, with the state byte of each block written before its data and again after them, as the image asks of
+                 any drive
    read          each block is read to its place, and nothing is looked at
    least-write   the state bytes of 64 blocks are read at a time, and the data of a group of blocks are made; of each block its
                  state byte is written, its data, and its state byte again; then its data are read back
@@ -61,16 +63,20 @@ static void read_states(long i) {
     moved(pread(file, states, STATES, HEADER_BYTES + first_block + i), STATES);
 }
 
-static void least_write(char *data, long first) {
-    memset(data, (char)first, group * BLOCK_BYTES);
-    if (first % STATES == 0)
-        read_states(first);
+static void marked_write(const char *data, long first) {
     for (long k = 0; k < group; k++) {
         write_state(first + k, 2);
         write_data(first + k, data + k * BLOCK_BYTES);
         write_state(first + k, 1);
         read_data(first + k, read_back);
     }
+}
+
+static void least_write(char *data, long first) {
+    memset(data, (char)first, group * BLOCK_BYTES);
+    if (first % STATES == 0)
+        read_states(first);
+    marked_write(data, first);
 }
 
 typedef char Row __attribute__((vector_size(16), aligned(1), may_alias));
@@ -136,6 +142,8 @@ static void once(const char *what, char *data, long first) {
         least_read(data, first);
     else if (strcmp(what, "moved-read") == 0)
         moved_read(data, first);
+    else if (strcmp(what, "marked-write") == 0)
+        marked_write(data, first);
     else if (strcmp(what, "write") == 0)
         for (long k = 0; k < group; k++) {
             write_data(first + k, data + k * BLOCK_BYTES);

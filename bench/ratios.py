@@ -144,10 +144,12 @@ def cache(program, folder, loops):
     idle, cached, direct = best([bench.runs(on + script) for script in ("", into, through)])
     row("16 writes into one block and a synchronisation, beside FUA", (cached - idle) / ROUNDS, (direct - idle) / ROUNDS)
     writes = "".join(write_command(lba, 256, lba) for lba in range(0, 16 * CACHED, 256))
-    waiting, synchronised, bare = best([
+    waiting, synchronised, bare, marked = [time / ROUNDS for time in best([
         bench.runs(on + writes * ROUNDS), bench.runs(on + (writes + SYNCHRONIZE) * ROUNDS),
-        loops.loop("write", bench.image, (1016, 25, CACHED, ROUNDS), CACHED)])
-    row("32 blocks synchronised, beside bare writes and read-backs", (synchronised - waiting) / ROUNDS, bare / ROUNDS, 1.25)
+        *(loops.loop(what, bench.image, (1016, 25, CACHED, ROUNDS), CACHED) for what in ("write", "marked-write"))])]
+    row("32 blocks synchronised, beside bare writes and read-backs", synchronised - waiting, bare, 1.25)
+    row("32 blocks synchronised, beside the same with their state bytes", synchronised - waiting, marked)
+    row("bare writes and read-backs with state bytes, beside without", marked, bare)
     bench.image.unlink()
 
 

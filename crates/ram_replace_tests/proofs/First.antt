@@ -1,0 +1,11 @@
+-- A formatted disc has a first logical block.
+use Rattle.std.specs.Prelude.{◌≡◌, ℕ, ◌<◌, List, length}
+use Rattle.std.proofs.Common.{arith}
+use Rattle.model_geometry.specs.Geometry.{Shape}
+use Rattle.model_pools.specs.Pools.{Pool, logical_in}
+use Rattle.model_places.specs.Places.{Lists, pools_under}
+use Rattle.model_places.specs.Valid.{AreValid}
+use Rattle.ram_replace.proofs.Under.{logical_here}
+
+pub first_inside : (shape : Shape) (lists : Lists) (pools : List Pool) → AreValid shape lists → pools ≡ pools_under shape lists → 0 < length (logical_in pools)
+first_inside shape lists pools valid are = logical_here shape lists valid pools are 0 (let some = valid.together.secondary.area.some_logical in omega (arith, some))
