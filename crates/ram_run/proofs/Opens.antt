@@ -14,8 +14,7 @@ use Rattle.model_image.proofs.Headers.{one_header}
 use Rattle.model_image.proofs.WholeCells.{cells_of-whole}
 use Rattle.model_drive.specs.Shown.{Shown, StandsFor, cells_in}
 use Rattle.model_drive.specs.Sound.{IsSound}
-use Rattle.model_drive.specs.Runs.{opened_drive}
-use Rattle.model_drive.specs.Runs.{CacheLoaded as LoadedDrive, IsCacheOpenedOn as OpensDriveOn}
+use Rattle.model_drive.specs.Runs.{Loaded, opened_drive, IsOpenedOn}
 use Rattle.model_cache.specs.Values.{Contents, plain, StandsCached}
 use Rattle.model_cache.specs.Shown.{CacheShown, CacheStandsFor, IsCacheSound}
 use Rattle.model_cache.specs.Plain.{uncached}
@@ -59,7 +58,7 @@ same_machine label label' known known' cells cells' power power' uses uses' cuts
 none_sound : (drive : Shown) → IsCacheSound (uncached drive)
 none_sound drive = record { few = search arith; apart = tt; whole = λ i bytes has. absurd (Contains-none (i, bytes) has) }
 
-of_drive : LoadedDrive → CacheLoaded
+of_drive : Loaded → CacheLoaded
 of_drive s = record {
   shown = uncached s.shown;
   contents = plain s.standing;
@@ -83,7 +82,7 @@ module _ {I : Type 0} {d : Images I} (image : I) (medium : ImageMedium I d) (geo
         same_machine m.world.label (label_of geometry) m.world.known true m.world.cells disc_cells m.world.power false m.world.uses 0 m.world.cuts 0 m.world.faults (d.faults image) m.arms [] m.cut None
         opened.label_is (opened.as_known ∙ ap is_some known) (opened.cells_are ∙ ap (cells_known (total geometry)) known) opened.off opened.no_uses opened.no_cuts opened.count opened.no_arms opened.no_cut
 
-    loaded : (s : LoadedDrive) × OpensDriveOn geometry disc_cells s × (s.shown ≡ opened_drive geometry disc_cells (d.faults image))
+    loaded : (s : Loaded) × IsOpenedOn geometry disc_cells s × (s.shown ≡ opened_drive geometry disc_cells (d.faults image))
     loaded = opened_disc geometry disc_cells (d.faults image) (length-map-range_with_len (cell_in (total geometry) bytes) 0 (total geometry)) (cells_of-whole (total geometry) bytes disc_there.as_long)
 
     drive_is : shown ≡ loaded.0.shown
