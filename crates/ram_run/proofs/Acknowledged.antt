@@ -1,15 +1,14 @@
 -- What is so of a sector in each value of its block stays so over a line that does not write it, by what the line does.
-use Rattle.std.specs.Prelude.{◌≡◌, ℕ, ◌+◌, ◌*◌, ◌<◌, ◌≤◌, ◌==◌, ◌⊎◌, Bool, true, false, is_some, Result, Ok, Err, List, [], ◌∷◌, length, All}
+use Rattle.std.specs.Prelude.{◌≡◌, ℕ, ◌+◌, ◌*◌, ◌<◌, ◌≤◌, ◌==◌, ◌⊎◌, Bool, true, false, is_some, Result, Ok, Err, List, [], ◌∷◌, length}
 use Rattle.std.specs.Bool.{MatchBool}
-use Rattle.std.specs.List.{Contains}
-use Rattle.std.proofs.Common.{arith, refl, sym, ◌∙◌, inl, inr, subst}
+use Rattle.std.proofs.Common.{arith, refl, sym, inl, inr, subst}
 use Rattle.std.proofs.lemmas.List.Elements.{All-head, All-tail}
 use Rattle.model_geometry.specs.Geometry.{Shape, IsLawful, shape_of}
 use Rattle.model_sectors.specs.Discs.{sectors_of, replaced}
 use Rattle.model_sectors.specs.Requests.{block_with}
 use Rattle.model_sectors.proofs.Pieces.{other_sectors_replaced}
 use Rattle.model_drive.specs.declared.WriteOut.{WriteOut}
-use Rattle.model_cache.specs.Values.{Values, Contents, Has, MayHave, HasBlock}
+use Rattle.model_cache.specs.Values.{Values, Contents, Has, MayHave}
 use Rattle.model_cache.specs.Shown.{CacheShown, CacheStandsFor}
 use Rattle.model_cache.proofs.Falls.{only, read_falls, verify_falls, expand_falls, sync_falls, tick_falls, power_falls}
 use Rattle.model_sense.specs.declared.sense.Sense.{Sense}
@@ -32,7 +31,7 @@ use Rattle.ram_run.specs.Replies.{Outcome}
 use Rattle.ram_run.specs.States.{State, Served, Unopened, Disc}
 use Rattle.ram_run.specs.LineSteps.{PressStep, DiscRule, OnDisc, Step}
 use Rattle.ram_run.specs.Run.{AnsweredLine, Run}
-use Rattle.ram_run.specs.Acknowledged.{bytes_of_sector, Acknowledged, LeavesAsAsked, LeavesAsDecoded, LeavesSector, LeaveSector}
+use Rattle.ram_run.specs.Acknowledged.{Acknowledged, LeavesAsAsked, LeavesAsDecoded, LeavesSector, LeaveSector}
 use Rattle.ram_run.proofs.Decoded.{HasItsData, asks_for, its_data}
 use Rattle.ram_run.proofs.WrittenDiscs.{Lies, SoInBlock, SoInValues, SoInContents, so_shown, written_left, written_off}
 

@@ -1,16 +1,16 @@
 -- To what a sector may fall back when power is lost, over the lines of a run.
-use Rattle.std.specs.Prelude.{◌≡◌, ℕ, ◌+◌, ◌*◌, ◌<◌, ◌≤◌, ◌⊎◌, Bool, true, false, ◌&&◌, not, nat_lt, if◌then◌else◌, Option, Some, None, Result, Ok, Err, List, [], ◌∷◌, length, All}
+use Rattle.std.specs.Prelude.{◌≡◌, ℕ, ◌+◌, ◌*◌, ◌<◌, ◌≤◌, ◌⊎◌, Bool, true, false, ◌&&◌, not, nat_lt, if◌then◌else◌, Option, Some, None, Result, Ok, Err, List, [], ◌∷◌, length}
 use Rattle.std.specs.List.{Contains}
 use Rattle.std.proofs.Common.{arith, refl, sym, ap, ◌∙◌, inl, inr, subst}
 use Rattle.std.proofs.lemmas.Bool.{cases_lt, lt-ltb, le-ltb, true≢false}
 use Rattle.std.proofs.lemmas.List.Elements.{All-head, All-tail}
-use Rattle.model_geometry.specs.Geometry.{Shape, shape_of}
+use Rattle.model_geometry.specs.Geometry.{Shape}
 use Rattle.model_medium.specs.Cells.{Cell}
 use Rattle.model_places.specs.Places.{Lists, logical_count}
 use Rattle.model_drive.specs.Shown.{StandsBy, cells_in}
 use Rattle.model_cache.specs.Shown.{CacheShown, CacheStandsFor}
 use Rattle.model_sectors.specs.Requests.{block_with}
-use Rattle.model_cache.specs.Values.{Contents, Has, MayHave, HasBlock}
+use Rattle.model_cache.specs.Values.{Contents, Has, MayHave}
 use Rattle.model_cache.proofs.Falls.{only}
 use Rattle.model_cache.proofs.Members.{Contains-first, Contains-later}
 use Rattle.model_sense.specs.declared.sense.Sense.{Sense}
@@ -23,7 +23,7 @@ use Rattle.ram_run.specs.Replies.{Outcome}
 use Rattle.ram_run.specs.States.{State, Unopened, Disc}
 use Rattle.ram_run.specs.LineSteps.{Step}
 use Rattle.ram_run.specs.Run.{AnsweredLine, Run}
-use Rattle.ram_run.specs.Acknowledged.{bytes_of_sector, Acknowledged, FallsBackTo, StandsWithSector, HasNow, IsAmong, LeavesAsAsked, LeavesAsDecoded, LeavesSector, WritesAsAsked, WritesAsDecoded, WritesAtMost, WriteAtMost, is_sector_among, choices_asked, choices_with, choices_after}
+use Rattle.ram_run.specs.Acknowledged.{bytes_of_sector, Acknowledged, FallsBackTo, StandsWithSector, HasNow, IsAmong, LeavesAsDecoded, LeavesSector, WritesAsDecoded, WritesAtMost, WriteAtMost, is_sector_among, choices_asked, choices_with, choices_after}
 use Rattle.ram_run.proofs.Acknowledged.{SoInState, step_keeps}
 use Rattle.ram_run.proofs.WrittenDiscs.{SoInBlock, SoInContents, so_shown}
 use Rattle.ram_run.proofs.OldOrNew.{so_weaker, line_writes}

@@ -5,7 +5,6 @@ use Rattle.model_drive.specs.Shown.{Shown}
 use Rattle.model_target.specs.declared.host.Host.{Host}
 use Rattle.ram_outside.specs.declared.image.Image.{Ghosts as Images}
 use Rattle.ram_sectors.specs.Laws.{CachingLaws}
-use Rattle.model_cache.specs.Values.{Contents}
 use Rattle.model_cache.specs.Shown.{CacheShown}
 use Rattle.ram_sectors.specs.declared.caching.Caching.{Ghosts as Drives}
 use Rattle.ram_medium.specs.declared.control.FailEnd.{FailEnd}

@@ -1,6 +1,6 @@
 -- What a disc has in a sector it still has after a line that does not write the sector, while no power is lost.
-use Rattle.std.specs.Prelude.{◌≡◌, ℕ, ◌+◌, ◌*◌, ◌<◌, ◌≤◌, ◌==◌, ◌⊎◌, Bool, true, false, is_some, MatchBool, Result, Ok, Err, List, [], ◌∷◌, length, All}
-use Rattle.std.proofs.Common.{arith, refl, sym, ap, ◌∙◌, inl, inr, subst}
+use Rattle.std.specs.Prelude.{◌≡◌, ℕ, ◌+◌, ◌*◌, ◌<◌, ◌≤◌, ◌==◌, ◌⊎◌, Bool, true, false, is_some, MatchBool, Result, Ok, Err, List, [], ◌∷◌, length}
+use Rattle.std.proofs.Common.{arith, refl, sym, ◌∙◌, inl, inr, subst}
 use Rattle.std.proofs.lemmas.List.Elements.{All-head, All-tail}
 use Rattle.model_geometry.specs.Geometry.{shape_of}
 use Rattle.model_sectors.specs.Discs.{sectors_of, replaced}
@@ -42,11 +42,11 @@ use Rattle.ram_run.specs.Replies.{fail_outcome, tick_outcome, command_outcome}
 use Rattle.ram_run.specs.States.{State, Served, Unopened, Disc}
 use Rattle.ram_run.specs.LineSteps.{DiscRule, OnDisc, Step}
 use Rattle.ram_run.specs.Run.{AnsweredLine, IsStep, Run}
-use Rattle.ram_run.specs.Acknowledged.{bytes_of_sector, HasSector, StandsWithSector, HasNow, WasDone, IsAmong, LeavesAsAsked, LeavesAsDecoded, LeavesSector, LeaveSector, KeepsPower, KeepPower}
+use Rattle.ram_run.specs.Acknowledged.{bytes_of_sector, StandsWithSector, HasNow, WasDone, IsAmong, LeavesAsAsked, LeavesAsDecoded, LeavesSector, LeaveSector, KeepsPower, KeepPower}
 use Rattle.ram_run.proofs.Decoded.{HasItsData, asks_for, its_data}
 use Rattle.ram_run.proofs.Acknowledged.{not_pressed, sector_left}
 use Rattle.ram_run.proofs.Shortened.{front_sector, front_long}
-use Rattle.ram_run.proofs.WrittenDiscs.{Lies, lies}
+use Rattle.ram_run.proofs.WrittenDiscs.{lies}
 use Rattle.ram_run.proofs.DoneLines.{ShowsSector, ShowsNow, line_gives}
 use Rattle.model_sectors.proofs.Pieces.{length_replaced}
 

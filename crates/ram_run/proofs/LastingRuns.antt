@@ -1,10 +1,10 @@
 -- No line but a press and a full format makes a formatted disc unformatted.
-use Rattle.std.specs.Prelude.{◌≡◌, ℕ, ◌==◌, ◌-◌, ◌*◌, Bool, true, false, IsTrue, is_some, Result, Ok, Err, List, [], ◌∷◌, length}
+use Rattle.std.specs.Prelude.{◌≡◌, ℕ, ◌==◌, ◌*◌, Bool, true, false, IsTrue, is_some, Result, Ok, Err, List, [], ◌∷◌}
 use Rattle.std.specs.Bool.{MatchBool}
 use Rattle.std.specs.List.{Contains}
 use Rattle.std.proofs.Common.{arith, zero, suc, refl, sym, ap, ◌∙◌, inl, inr, subst}
 use Rattle.std.proofs.lemmas.List.Elements.{All-head, All-tail}
-use Rattle.model_geometry.specs.Geometry.{Shape, shape_of, total, dds_block, sdl_block}
+use Rattle.model_geometry.specs.Geometry.{Shape, shape_of, total}
 use Rattle.model_lists.specs.declared.versions.Version.{Version}
 use Rattle.model_medium.specs.Cells.{Cell, Dead, cell_at}
 use Rattle.model_medium.specs.World.{World}
@@ -17,12 +17,11 @@ use Rattle.model_drive.proofs.Kept.{read_kept, write_kept}
 use Rattle.model_sectors.specs.declared.PowerOut.{PowerOut}
 use Rattle.model_sectors.specs.declared.PowerOut.TheVariants as powers
 use Rattle.model_places.specs.Places.{Lists, count_of, capacity_of}
-use Rattle.model_survival.specs.Findable.{SdlLives, InTwoAreas, HaveTwoCopies, IsFindable}
-use Rattle.model_image.specs.Image.{IsDiscImage}
+use Rattle.model_survival.specs.Findable.{SdlLives, HaveTwoCopies}
 use Rattle.model_image.specs.Cells.{cells_of}
 use Rattle.model_image.proofs.Headers.{one_header}
 use Rattle.model_drive.specs.declared.Kind.TheVariants as kinds
-use Rattle.model_drive.specs.Shown.{Shown, IsKnown, IsOn, StandsFor, cells_in}
+use Rattle.model_drive.specs.Shown.{Shown, IsKnown, IsOn, cells_in}
 use Rattle.model_drive.specs.Sound.{IsSound}
 use Rattle.model_drive.specs.Parts.{AreSameOrDead}
 use Rattle.model_drive.specs.Expands.{ssa_for}
@@ -36,7 +35,7 @@ use Rattle.model_cdb.specs.declared.commands.Command.TheVariants as commands
 use Rattle.model_cdb.specs.Decoding.{decoded}
 use Rattle.model_target.specs.declared.host.Host.{Host}
 use Rattle.model_target.specs.Judging.{IsJudged}
-use Rattle.model_target.specs.Steps.{WrittenCause, Untouched, TellsStructure, TellsSpares, IsDone, IsAnsweredBy, IsStep as ExecutesTo}
+use Rattle.model_target.specs.Steps.{WrittenCause, TellsStructure, TellsSpares, IsDone, IsAnsweredBy, IsStep as ExecutesTo}
 use Rattle.ram_medium.specs.declared.control.FailEnd.{FailEnd}
 use Rattle.ram_medium.specs.declared.control.FailEnd.TheVariants as fails
 use Rattle.ram_volume.specs.Control.{FailOnDrive}

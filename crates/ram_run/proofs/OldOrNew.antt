@@ -1,7 +1,6 @@
 -- A write of a sector leaves it as it was or with what was sent, whatever the write answers.
-use Rattle.std.specs.Prelude.{◌≡◌, ℕ, ◌+◌, ◌*◌, ◌<◌, ◌≤◌, ◌⊎◌, Bool, is_some, Result, Ok, Err, List, [], ◌∷◌, length, All}
-use Rattle.std.specs.List.{Contains}
-use Rattle.std.proofs.Common.{arith, refl, sym, ◌∙◌, inl, inr, subst}
+use Rattle.std.specs.Prelude.{◌≡◌, ℕ, ◌+◌, ◌*◌, ◌<◌, ◌≤◌, ◌⊎◌, Bool, is_some, Result, Ok, Err, List, length}
+use Rattle.std.proofs.Common.{arith, refl, sym, inl, inr, subst}
 use Rattle.std.proofs.lemmas.Bool.{cases_lt}
 use Rattle.std.proofs.lemmas.List.Elements.{All-weaker}
 use Rattle.model_sectors.specs.Discs.{sectors_of, replaced}
@@ -10,7 +9,6 @@ use Rattle.model_sectors.proofs.Pieces.{sectors_replaced, other_sectors_replaced
 use Rattle.model_cache.specs.Values.{Values, Contents, Has, MayHave, HasBlock, candidates_of}
 use Rattle.model_cache.specs.Shown.{CacheShown, CacheStandsFor}
 use Rattle.model_cache.proofs.Falls.{only}
-use Rattle.model_cache.proofs.Members.{Contains-first, Contains-later}
 use Rattle.model_sense.specs.declared.sense.Sense.{Sense}
 use Rattle.model_sense.specs.declared.answer.Answer.{Answer}
 use Rattle.model_cdb.specs.declared.commands.Command.{Command}

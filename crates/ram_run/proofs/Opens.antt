@@ -13,9 +13,8 @@ use Rattle.model_image.specs.Image.{HasHeader, IsDiscImage, IsImageOf, IsStopped
 use Rattle.model_image.proofs.Headers.{one_header}
 use Rattle.model_image.proofs.WholeCells.{cells_of-whole}
 use Rattle.model_drive.specs.Shown.{Shown, StandsFor, cells_in}
-use Rattle.model_drive.specs.Sound.{IsSound}
 use Rattle.model_drive.specs.Runs.{Loaded, opened_drive, IsOpenedOn}
-use Rattle.model_cache.specs.Values.{Contents, plain, StandsCached}
+use Rattle.model_cache.specs.Values.{plain}
 use Rattle.model_cache.specs.Shown.{CacheShown, CacheStandsFor, IsCacheSound}
 use Rattle.model_cache.specs.Plain.{uncached}
 use Rattle.model_cache.specs.Runs.{CacheLoaded, IsCacheOpenedOn}

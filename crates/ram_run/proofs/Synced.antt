@@ -1,12 +1,10 @@
 -- What was synchronised is acknowledged.
-use Rattle.std.specs.Prelude.{◌≡◌, ℕ, List, [], ◌∷◌}
-use Rattle.std.specs.List.{Contains}
-use Rattle.std.proofs.Common.{refl, sym, inl, inr, subst}
-use Rattle.model_sectors.specs.Discs.{sectors_of}
+use Rattle.std.specs.Prelude.{◌≡◌, ℕ, List}
+use Rattle.std.proofs.Common.{refl, inl, inr, subst}
 use Rattle.model_sectors.specs.Requests.{block_with}
 use Rattle.model_cache.specs.declared.SyncOut.{SyncOut}
 use Rattle.model_cache.specs.declared.SyncOut.TheVariants as syncs
-use Rattle.model_cache.specs.Values.{Values, Contents, Has, MayHave, settled_values}
+use Rattle.model_cache.specs.Values.{Contents, Has, MayHave, settled_values}
 use Rattle.model_cache.specs.Shown.{CacheShown}
 use Rattle.model_cache.specs.Steps.{SyncContents}
 use Rattle.model_cache.specs.Falling.{EachValue}

@@ -1,7 +1,6 @@
 -- What is so of a sector in each value of its block after a write, whatever the write answers.
-use Rattle.std.specs.Prelude.{◌≡◌, ℕ, ◌+◌, ◌-◌, ◌*◌, ◌≤◌, Bool, true, false, not, MatchBool, Option, None, Some, List, [], ◌∷◌, length}
+use Rattle.std.specs.Prelude.{◌≡◌, ℕ, ◌+◌, ◌-◌, ◌*◌, ◌≤◌, Bool, true, false, not, MatchBool, Option, None, Some, List, length}
 use Rattle.std.specs.Option.{option_map_or}
-use Rattle.std.specs.List.{Contains}
 use Rattle.std.proofs.Common.{arith, refl, sym, ap, ◌∙◌, inl, inr, subst}
 use Rattle.model_geometry.specs.Geometry.{Shape}
 use Rattle.model_medium.specs.Cells.{Cell}
@@ -13,7 +12,7 @@ use Rattle.model_drive.specs.declared.WriteOut.{WriteOut}
 use Rattle.model_drive.specs.declared.WriteOut.TheVariants as writes
 use Rattle.model_drive.specs.Shown.{Shown, StandsFor, StandsBy, cells_in}
 use Rattle.model_drive.specs.Parts.{IsInRange}
-use Rattle.model_cache.specs.Values.{Values, Contents, Has, MayHave, HasValue, HasBlock, with_written, cached, is_among}
+use Rattle.model_cache.specs.Values.{Values, Contents, Has, MayHave, HasBlock, with_written, cached, is_among}
 use Rattle.model_cache.specs.Shown.{CacheShown, CacheStandsFor, goes_into_cache}
 use Rattle.model_cache.specs.Causes.{ThroughCause, CachedCause}
 use Rattle.model_cache.specs.Steps.{ThroughContents, CachedContents}

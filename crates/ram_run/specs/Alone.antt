@@ -1,6 +1,6 @@
 -- A drive whose write cache is off and empty, between the lines of a run: it is a drive without a cache. For the law of runs.
 -- (This project's own, as all here.)
-use Rattle.std.specs.Prelude.{◌≡◌, ℕ, false, Result, Ok, Err, List, All}
+use Rattle.std.specs.Prelude.{◌≡◌, ℕ, false, Result, Ok, List, All}
 use Rattle.model_modes.specs.ParameterLists.{caches_after}
 use Rattle.model_sectors.specs.Discs.{Standing}
 use Rattle.model_cache.specs.Values.{Contents, plain}

@@ -1,11 +1,12 @@
 -- What the inserted disc stands for, and what a line leaves of it. For the loop over the lines and the calls below it.
-use Rattle.std.specs.Prelude.{◌≡◌, ℕ, Option, None, Some, List}
+use Rattle.std.specs.Prelude.{◌≡◌, ℕ, Option, None, Some, List, []}
 use Rattle.model_geometry.specs.Geometry.{Shape}
 use Rattle.ram_outside.specs.declared.image.Image.{Ghosts as Images}
 use Rattle.ram_sectors.specs.declared.caching.Caching.{Ghosts as Drives}
 use Rattle.ram_run.specs.declared.inserted.Inserted.{Inserted}
 use Rattle.ram_run.specs.declared.inserted.Inserted.TheVariants as inserts
 use Rattle.ram_text.specs.declared.script.Line.{Line}
+use Rattle.ram_text.specs.declared.script.Line.TheVariants as lines
 use Rattle.ram_run.specs.Replies.{Outcome}
 use Rattle.ram_run.specs.States.{State, Unopened, Disc, IsIn, IsLeft}
 use Rattle.ram_run.specs.LineSteps.{PressStep, Step}
@@ -29,6 +30,11 @@ module _ {D I : Type 0} (drives : Drives D) (images : Images I) where
 abbrev pub LeavesImage : State → Option (List ℕ) → Type 0
 LeavesImage s None = ⊥
 LeavesImage s (Some bytes) = IsLeft s bytes
+
+-- the data before a line: those of the last one where it is a command, which says itself what they are then, and else none
+abbrev pub data_before : Line → (held : List ℕ) → List ℕ
+data_before (lines.Command cdb) held = held
+data_before _ held = []
 
 -- What became of a line, of which the state before it is s, where the inserted disc then stands for some states.
 pub record IsAnswered (s : State) (line : Line) (payload data_in : List ℕ) (after : State → Type 0)

@@ -8,7 +8,7 @@ ghost use Rattle.ram_run.specs.Drive.{IsInsertedTarget};
 ghost use Rattle.ram_run.specs.NextLines.{CountsUses};
 ghost use Rattle.ram_run.specs.Replies.{PrintsWhere, power_outcome, fail_outcome, wear_outcome, tick_outcome, command_outcome};
 ghost use Rattle.ram_run.specs.States.{State};
-ghost use Rattle.ram_run.specs.Inserted.{Stands, LeavesImage, faults_of, IsAnswered, IsPressAnswered};
+ghost use Rattle.ram_run.specs.Inserted.{Stands, LeavesImage, faults_of, data_before, IsAnswered, IsPressAnswered};
 ghost use Rattle.ram_run.specs.RunCounts.{LineCount};
 
 use crate::drive::Drive;
@@ -65,7 +65,7 @@ impl<D: Drive> Inserted<D> {
             (faults_of D.Caching D.Image.Image self.new) result }
         ensures room { vec_capacity data_in.old ≤ vec_capacity data_in.new }
     {
-        data_in.clear();
+        clear_before(&line, data_in);
         match (&mut *self, line) {
             (_, Line::Empty) => Ok(Reply::Nothing),
             (inserted, Line::Press { zones, scale, psa }) => {
@@ -85,8 +85,23 @@ impl<D: Drive> Inserted<D> {
                 let answer = target.execute(alloc, &cdb, payload, data_in);
                 command_outcome(cdb, answer)
             }
-            (Inserted::Image(_), _) => Err(Stopped::NotADisc),
+            (Inserted::Image(_), _) => {
+                data_in.clear();
+                Err(Stopped::NotADisc)
+            }
         }
+    }
+}
+
+/// Empties the data of the line before, unless this one is a command: that one says itself which data it gives, and a read writes
+/// over those of the last one, so no zeros are put in before.
+fn clear_before(line: &Line, data_in: &mut Vec<u8>)
+    ensures items { data_in.new.items ≡ data_before line.now data_in.old.items }
+    ensures room { vec_capacity data_in.old ≤ vec_capacity data_in.new }
+{
+    match line {
+        Line::Command { .. } => {}
+        _ => data_in.clear(),
     }
 }
 

@@ -1,6 +1,6 @@
 //! The state of a run beside what lies in the drive and what goes between script and report: room for the data of a
 //! command both ways, and how many lines came.
-ghost use Rattle.std.specs.Prelude.{◌≡◌, ◌^◌, ◌<◌, ◌+◌, ℕ, [], IfOk};
+ghost use Rattle.std.specs.Prelude.{◌≡◌, ◌^◌, ◌<◌, ◌+◌, ℕ, IfOk};
 ghost use Rattle.ram_text.specs.Dialogue.{HasSameEnds, AsksNothing, reader_of, sink_of};
 ghost use Rattle.ram_run.specs.Counting.{AreAtMost};
 ghost use Rattle.ram_run.specs.Replies.{PrintsWhere};
@@ -90,10 +90,8 @@ pub fn take_line<S: Source, K: Sink>(
     ensures takes { TakesBytes (reader_of dialogue.old).taken (reader_of dialogue.new).taken result }
     ensures uses { FoundCountsUses result }
     ensures same_tally { state.new.tally ≡ state.old.tally }
-    ensures empty { state.new.data_in.items ≡ [] }
     ensures room { HasRoom state.new }
 {
-    state.data_in.clear();
     match dialogue.next_line() {
         Ok(NextLine::Line) => {}
         Ok(NextLine::End) => return Ok(None),

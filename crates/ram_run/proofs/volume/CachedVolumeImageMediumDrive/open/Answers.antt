@@ -1,4 +1,4 @@
-use Rattle.std.proofs.Common.{refl, ap, ◌∙◌}
+use Rattle.std.proofs.Common.{ap, ◌∙◌}
 use Rattle.ram_volume.specs.Drives.{shown_by, medium_by}
 use Rattle.ram_cache.specs.Rooms.{pending_of}
 use Rattle.ram_run.proofs.Opens.{opens}
