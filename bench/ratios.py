@@ -1,5 +1,5 @@
 """Ratios of two times that were measured in turns, each with the most that it is to be."""
-from measuring import (CACHE_ON, FORMAT, POWER, SYNCHRONIZE, Bench, Timed, best, read_command, write_command)
+from measuring import (CACHE_ON, FORMAT, NOTHING, POWER, SYNCHRONIZE, Bench, Timed, best, read_command, write_command)
 
 import discs
 
@@ -133,6 +133,21 @@ def spares(program, folder):
     bench.image.unlink()
 
 
+def synchronisations(bench):
+    """The time of some synchronisations of all that the cache holds, without what a command takes that does nothing."""
+    session = Timed(bench)
+    session.asks(POWER + CACHE_ON)
+    writes = "".join(write_command(lba, 256, lba) for lba in range(0, 16 * CACHED, 256))
+    time = 0
+    for _ in range(ROUNDS):
+        session.asks(writes)
+        answers, one = session.asks(SYNCHRONIZE)
+        assert answers == ["good"], answers
+        time += one - session.asks(NOTHING)[1]
+    session.end()
+    return time
+
+
 def cache(program, folder, loops):
     """What the write cache saves, and what it takes to synchronise it."""
     bench = Bench(program, folder / "cache.img")
@@ -143,12 +158,11 @@ def cache(program, folder, loops):
     through = "".join(write_command(lba, 1, lba, fua=True) for lba in sectors)
     idle, cached, direct = best([bench.runs(on + script) for script in ("", into, through)])
     row("16 writes into one block and a synchronisation, beside FUA", (cached - idle) / ROUNDS, (direct - idle) / ROUNDS)
-    writes = "".join(write_command(lba, 256, lba) for lba in range(0, 16 * CACHED, 256))
-    waiting, synchronised, bare, marked = [time / ROUNDS for time in best([
-        bench.runs(on + writes * ROUNDS), bench.runs(on + (writes + SYNCHRONIZE) * ROUNDS),
+    synchronised, bare, marked = [time / ROUNDS for time in best([
+        lambda: synchronisations(bench),
         *(loops.loop(what, bench.image, (1016, 25, CACHED, ROUNDS), CACHED) for what in ("write", "marked-write"))])]
-    row("32 blocks synchronised, beside bare writes and read-backs", synchronised - waiting, bare, 1.25)
-    row("32 blocks synchronised, beside the same with their state bytes", synchronised - waiting, marked)
+    row("32 blocks synchronised, beside bare writes and read-backs", synchronised, bare, 1.25)
+    row("32 blocks synchronised, beside the same with their state bytes", synchronised, marked)
     row("bare writes and read-backs with state bytes, beside without", marked, bare)
     bench.image.unlink()
 
