@@ -160,23 +160,28 @@ def cache(program, folder, loops):
     row("16 writes into one block and a synchronisation, beside FUA", (cached - idle) / ROUNDS, (direct - idle) / ROUNDS)
     synchronised, bare, marked = [time / ROUNDS for time in best([
         lambda: synchronisations(bench),
-        *(loops.loop(what, bench.image, (1016, 25, CACHED, ROUNDS), CACHED) for what in ("write", "marked-write"))])]
+        *(loops.loop(what, bench.image, (1016, 25, CACHED, ROUNDS), CACHED) for what in ("write", "marked-write"))], 25)]
     row("32 blocks synchronised, beside bare writes and read-backs", synchronised, bare, 1.25)
     row("32 blocks synchronised, beside the same with their state bytes", synchronised, marked)
     row("bare writes and read-backs with state bytes, beside without", marked, bare)
     bench.image.unlink()
 
 
+def pairs(times):
+    return list(zip(times[::2], times[1::2]))
+
+
 def beside(program, other, folder, name, cases):
-    """Reads and writes of both programs: in each case how many blocks a command has, whether they are written, and the bound."""
+    """Reads and writes of both programs: in each case whether blocks are written, how many a command has, and the bound. All cases
+    are measured in turn, since the pace of a machine may change from one to the next."""
     benches = [Bench(each, folder / f"beside{number}.img") for number, each in enumerate((program, other))]
     for bench in benches:
         bench.once(NEW_DISC)
         bench.once(POWER + transfers(True, 1))
-    idle = best([bench.runs(POWER) for bench in benches])
-    for write, blocks, most in cases:
-        times = best([bench.runs(POWER + transfers(write, blocks)) for bench in benches], 15)
-        each = [(time - still) / (BLOCKS * TURNS) for time, still in zip(times, idle)]
+    scripts = [POWER, *(POWER + transfers(write, blocks) for write, blocks, _ in cases)]
+    idle, *times = pairs(best([bench.runs(script) for script in scripts for bench in benches], 25))
+    for (write, blocks, most), both in zip(cases, times):
+        each = [(time - still) / (BLOCKS * TURNS) for time, still in zip(both, idle)]
         row(f"a block {'written' if write else 'read'}, {blocks} a command, beside {name}", *each, most)
     for bench in benches:
         bench.image.unlink()
