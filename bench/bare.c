@@ -1,9 +1,14 @@
 /* The bare system calls for some blocks of a disc's image, and the least that a drive of this image does with them.
-   usage: bare WHAT IMAGE TOTAL FIRST BLOCKS TURNS GROUP KEPT     prints the seconds of the processor that it took
+   usage: bare run IMAGE
+
+   Each line of its input has the words WHAT TOTAL FIRST BLOCKS TURNS GROUP KEPT, and is answered by its number and `good`, as the
+   drive answers, so that both are measured in the same way.
 
    The image has TOTAL blocks. BLOCKS of them from FIRST on are used in turn, in groups of GROUP. They are the disc's logical
    blocks, none of them replaced, and have whole bytes. The data of a group lie one after another, as those of a command do.
 
+   pending       the data of sixteen blocks after another are made and copied to those of the group, as they are pending in a cache
+                 after such commands; nothing is written
    write         each block is written and read back, and nothing is looked at
    marked-write  the same, with the state byte of each block written before its data and again after them, as the image asks of
                  any drive
@@ -18,12 +23,15 @@
 #include <stdio.h>
 #include <stdlib.h>
 #include <string.h>
-#include <time.h>
 #include <unistd.h>
 
 enum { SECTOR_BYTES = 2048, BLOCK_BYTES = 32768, HEADER_BYTES = 16, STATES = 64 };
 
-enum { MOST_KEPT = 8 };
+enum { MOST_GROUP = 64, MOST_KEPT = 8, COMMAND = 16 };
+
+static char data[MOST_GROUP * BLOCK_BYTES];
+
+static char command[COMMAND * BLOCK_BYTES];
 
 static char kept_blocks[MOST_KEPT][BLOCK_BYTES];
 
@@ -63,7 +71,32 @@ static void read_states(long i) {
     moved(pread(file, states, STATES, HEADER_BYTES + first_block + i), STATES);
 }
 
-static void marked_write(const char *data, long first) {
+static void make(long first) {
+    memset(data, (char)first, group * BLOCK_BYTES);
+}
+
+static void take_pending(long first) {
+    for (long k = 0; k < group; k++) {
+        const long at = k % COMMAND;
+        if (at == 0)
+            memset(command, (char)(first + k), sizeof command);
+        memcpy(data + k * BLOCK_BYTES, command + at * BLOCK_BYTES, BLOCK_BYTES);
+    }
+}
+
+static void bare_write(long first) {
+    for (long k = 0; k < group; k++) {
+        write_data(first + k, data + k * BLOCK_BYTES);
+        read_data(first + k, read_back);
+    }
+}
+
+static void bare_read(long first) {
+    for (long k = 0; k < group; k++)
+        read_data(first + k, data + k * BLOCK_BYTES);
+}
+
+static void marked_write(long first) {
     for (long k = 0; k < group; k++) {
         write_state(first + k, 2);
         write_data(first + k, data + k * BLOCK_BYTES);
@@ -72,11 +105,11 @@ static void marked_write(const char *data, long first) {
     }
 }
 
-static void least_write(char *data, long first) {
-    memset(data, (char)first, group * BLOCK_BYTES);
+static void least_write(long first) {
+    make(first);
     if (first % STATES == 0)
         read_states(first);
-    marked_write(data, first);
+    marked_write(first);
 }
 
 typedef char Row __attribute__((vector_size(16), aligned(1), may_alias));
@@ -109,7 +142,7 @@ static int is_fill_moved(char *into, const char *sector) {
     return is_none(found);
 }
 
-static void least_read(char *data, long first) {
+static void least_read(long first) {
     const long passed = group < kept ? 0 : group - kept;
     if (first % STATES == 0)
         read_states(first);
@@ -122,7 +155,7 @@ static void least_read(char *data, long first) {
             fills += is_fill_moved(kept_blocks[(first + k) % MOST_KEPT] + at, data + k * BLOCK_BYTES + at);
 }
 
-static void moved_read(char *data, long first) {
+static void moved_read(long first) {
     if (first % STATES == 0)
         read_states(first);
     for (long k = 0; k < group; k++) {
@@ -135,42 +168,39 @@ static void moved_read(char *data, long first) {
         fills += is_fill(data + at);
 }
 
-static void once(const char *what, char *data, long first) {
-    if (strcmp(what, "least-write") == 0)
-        least_write(data, first);
-    else if (strcmp(what, "least-read") == 0)
-        least_read(data, first);
-    else if (strcmp(what, "moved-read") == 0)
-        moved_read(data, first);
-    else if (strcmp(what, "marked-write") == 0)
-        marked_write(data, first);
+static void once(const char *what, long first) {
+    if (strcmp(what, "pending") == 0)
+        take_pending(first);
     else if (strcmp(what, "write") == 0)
-        for (long k = 0; k < group; k++) {
-            write_data(first + k, data + k * BLOCK_BYTES);
-            read_data(first + k, read_back);
-        }
-    else
-        for (long k = 0; k < group; k++)
-            read_data(first + k, data + k * BLOCK_BYTES);
+        bare_write(first);
+    else if (strcmp(what, "marked-write") == 0)
+        marked_write(first);
+    else if (strcmp(what, "read") == 0)
+        bare_read(first);
+    else if (strcmp(what, "least-write") == 0)
+        least_write(first);
+    else if (strcmp(what, "least-read") == 0)
+        least_read(first);
+    else if (strcmp(what, "moved-read") == 0)
+        moved_read(first);
 }
 
 int main(int count, char **words) {
-    if (count != 9)
+    if (count != 3)
         return 2;
     file = open(words[2], O_RDWR);
-    total = atol(words[3]);
-    first_block = atol(words[4]);
-    long blocks = atol(words[5]), turns = atol(words[6]);
-    group = atol(words[7]);
-    kept = atol(words[8]);
-    char *data = malloc(group * BLOCK_BYTES);
-    memset(data, 0xaa, group * BLOCK_BYTES);
-    struct timespec start, end;
-    clock_gettime(CLOCK_PROCESS_CPUTIME_ID, &start);
-    for (long turn = 0; turn < turns; turn++)
-        for (long first = 0; first + group <= blocks; first += group)
-            once(words[1], data, first);
-    clock_gettime(CLOCK_PROCESS_CPUTIME_ID, &end);
-    printf("%.6f\n", (double)(end.tv_sec - start.tv_sec) + (double)(end.tv_nsec - start.tv_nsec) / 1e9);
+    memset(data, 0xaa, sizeof data);
+    char what[16];
+    long blocks, turns;
+    for (long line = 1;
+         scanf("%15s%ld%ld%ld%ld%ld%ld", what, &total, &first_block, &blocks, &turns, &group, &kept) == 7; line++) {
+        if (group < 1 || group > MOST_GROUP || kept < 1 || kept > MOST_KEPT)
+            return 2;
+        for (long turn = 0; turn < turns; turn++)
+            for (long first = 0; first + group <= blocks; first += group)
+                once(what, first);
+        printf("%ld good\n", line);
+        fflush(stdout);
+    }
     return 0;
 }

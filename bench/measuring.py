@@ -1,6 +1,7 @@
 """The program that is measured, and the loops beside it. A time is that which a processor spent on the work, by the system's count:
 other work on the machine then counts less."""
 import ctypes
+import itertools
 import os
 import subprocess
 import sys
@@ -10,7 +11,7 @@ from pathlib import Path
 HERE = Path(__file__).resolve().parent
 sys.path.append(str(HERE.parent / "tools"))
 
-from dvdram import Session, Statistics  # noqa: E402
+from dvdram import Session, Statistics, rows_after_good  # noqa: E402
 
 # The power goes on, and the first command is told so.
 POWER = "power\ncdb 000000000000\n"
@@ -18,8 +19,6 @@ FORMAT = "cdb 041100000000 hex 000000080000000000000000\n"
 # A list of mode pages that turns the write cache on, and SYNCHRONIZE CACHE.
 CACHE_ON = "cdb 55100000000000001400 hex 0000000000000000080a04000000000000000000\n"
 SYNCHRONIZE = "cdb 35000000000000000000\n"
-# TEST UNIT READY.
-NOTHING = "cdb 000000000000\n"
 
 
 def best(jobs, rounds=9):
@@ -59,31 +58,93 @@ class Bench:
 
 
 class Timed(Session):
-    """A session of the program over an image, of which each part is timed."""
+    """A session of a program over an image, of which each part is timed."""
 
-    def __init__(self, bench):
-        super().__init__([str(bench.program)], str(bench.image), Statistics())
+    def __init__(self, program, image):
+        super().__init__([str(program)], str(image), Statistics())
         clock = ctypes.c_int()
         if ctypes.CDLL(None).clock_getcpuclockid(self.process.pid, ctypes.byref(clock)):
             raise OSError("the processor time of the program cannot be read")
         self.clock = clock.value
 
     def asks(self, script):
-        """Sends these lines, each of which is answered by one line, and gives the answers and the seconds that it took."""
-        lines = script.encode().splitlines()
+        """Sends these lines together, and gives their answers, without the rows behind them, and the seconds that it took."""
+        lines = script.splitlines()
         start = time.clock_gettime(self.clock)
-        answers = [self.answer(self.send(line)) for line in lines]
+        first = self.lines + 1
+        if lines:
+            self.send("\n".join(lines).encode())
+        self.lines = first + len(lines) - 1
+        answers = [self.answer_with_rows(number, line) for number, line in enumerate(lines, first)]
         return answers, time.clock_gettime(self.clock) - start
+
+    def answer_with_rows(self, number, line):
+        answer = self.answer(number)
+        if answer == "good" and line.startswith("cdb "):
+            for _ in range(rows_after_good(bytes.fromhex(line.split()[1]))):
+                self.row()
+        return answer
+
+
+def is_well(answer):
+    return not answer.startswith(("cut", "off", "check"))
+
+
+def piece(session, scripts, before=""):
+    """A job that sends the next of these scripts, and gives the seconds that it took, without the lines before it. All lines are to
+    be answered well."""
+    turns = itertools.cycle(scripts)
+
+    def once():
+        told, _ = session.asks(before)
+        answers, seconds = session.asks(next(turns))
+        assert all(map(is_well, told + answers)), (told, answers)
+        return seconds
+    return once
+
+
+class Measured:
+    """A program over an image, the lines that begin a session of it, and pieces of a session as `piece` has them."""
+
+    def __init__(self, program, image, start, pieces):
+        self.program, self.image, self.start, self.pieces = program, image, start, pieces
+
+    def begin(self):
+        """A new session, and the pieces as jobs."""
+        session = Timed(self.program, self.image)
+        session.asks(self.start)
+        return session, [piece(session, *words) for words in self.pieces]
+
+
+def in_turn(all_measured, rounds, sessions=10):
+    """The seconds that each piece of each of these took, in some sessions, each of so many rounds over all pieces. Where the memory
+    of a program lies may change its pace from one session to the next."""
+    found = []
+    for _ in range(sessions):
+        begun = [one.begin() for one in all_measured]
+        found += [[[job() for job in jobs] for _, jobs in begun] for _ in range(rounds)]
+        for session, _ in begun:
+            session.end()
+    return [list(zip(*times)) for times in zip(*found)]
 
 
 class Loops:
     """The loops of bare.c over the blocks of an image."""
 
     def __init__(self, folder):
-        self.bare = folder / "bare"
-        subprocess.run(["cc", "-O2", "-o", self.bare, HERE / "bare.c"], check=True)
+        self.program = folder / "bare"
+        subprocess.run(["cc", "-O2", "-o", self.program, HERE / "bare.c"], check=True)
 
     def loop(self, what, image, blocks, group, kept=8):
-        """A loop over groups of so many blocks as a job: `blocks` has the total, the first, how many, and how often."""
-        words = [self.bare, what, image, *map(str, (*blocks, group, kept))]
-        return lambda: float(subprocess.run(words, check=True, capture_output=True).stdout)
+        """A loop over groups of so many blocks as a job."""
+        def once():
+            session = Timed(self.program, image)
+            _, seconds = session.asks(loop_line(what, blocks, group, kept))
+            session.end()
+            return seconds
+        return once
+
+
+def loop_line(what, blocks, group, kept=8):
+    """The line that asks for a loop: `blocks` has the total, the first, how many, and how often."""
+    return " ".join(map(str, (what, *blocks, group, kept))) + "\n"

@@ -1,5 +1,9 @@
-"""Ratios of two times that were measured in turns, each with the most that it is to be."""
-from measuring import (CACHE_ON, FORMAT, NOTHING, POWER, SYNCHRONIZE, Bench, Timed, best, read_command, write_command)
+"""Ratios of two times that were measured in turns, each with the most that it is to be. Where pieces of sessions are measured, a
+time is the median of them all."""
+from statistics import median
+
+from measuring import (CACHE_ON, FORMAT, POWER, SYNCHRONIZE, Bench, Measured, Timed, best, in_turn, loop_line, read_command,
+                       write_command)
 
 import discs
 
@@ -14,7 +18,9 @@ FEW = 16
 USES = 2 + 2 + 16
 # How many blocks a command reads.
 READS = 1, 2, 4, 8, 14, 16, 32, 64
-CACHED, ROUNDS = 32, 200
+# The blocks of a piece that is measured, about.
+PIECE = 64
+CACHED = 32
 # In milliseconds.
 MOST_MOUNT = 10.0
 
@@ -34,28 +40,34 @@ def row(what, one, other, most=None):
     print(f"{what:<62}{one * 1e6:>10.2f}{other * 1e6:>12.2f}{ratio:>8.2f}{bound}")
 
 
-def commands(write, blocks):
-    """Commands that write or read each of these logical blocks in turn."""
-    if write:
-        return "".join(write_command(i * 16, 16, turn + i) for turn in range(TURNS) for i in blocks)
-    return "".join(read_command(i * 16, 16) for i in blocks) * TURNS
+def scripts_of(write, starts, count=1):
+    """Scripts of commands that each write or read so many blocks, from each of these logical blocks on. Each script has 64 blocks,
+    or a few less."""
+    lines = [write_command(16 * i, 16 * count, i) if write else read_command(16 * i, 16 * count) for i in starts]
+    several = PIECE // count
+    return ["".join(lines[at:at + several]) for at in range(0, len(lines), several)]
+
+
+def of_a_block(seconds, count=1):
+    """The time of one block, of that of a script of `scripts_of`."""
+    return seconds / (PIECE // count * count)
 
 
 def defects(program, folder):
     """Reads and writes of one block on discs with and without defects, and how long each takes to be mounted."""
     makers = [("4,092 slipped, 4,092 replaced", discs.slipped_and_replaced), ("8,184 replaced", discs.replaced), ("", discs.plain)]
     sets = [("replaced", range(0, BLOCKS * APART, APART)), ("in a row", range(BLOCKS))]
+    cases = [(write, *each) for write in (False, True) for each in sets]
     benches = [Bench(program, folder / f"defects{number}.img") for number, _ in enumerate(makers)]
     for bench, (_, make) in zip(benches, makers):
         make(bench.image)
-        bench.once(POWER + "".join(write_command(i * 16, 16, i) for _, blocks in sets for i in blocks))
-    idle = best([bench.runs(POWER) for bench in benches])
-    for write in False, True:
-        for where, blocks in sets:
-            times = best([bench.runs(POWER + commands(write, blocks)) for bench in benches])
-            *with_defects, without = [(time - still) / (BLOCKS * TURNS) for time, still in zip(times, idle)]
-            for (what, _), each in zip(makers, with_defects):
-                row(f"a block {'written' if write else 'read'}, {where}: {what}", each, without, 1.05)
+        bench.once(POWER + "".join(script for _, starts in sets for script in scripts_of(True, starts)))
+    scripts = [(scripts_of(write, starts),) for write, _, starts in cases]
+    times = in_turn([Measured(program, bench.image, POWER, scripts) for bench in benches], 40)
+    for (write, where, _), each in zip(cases, zip(*times)):
+        *with_defects, without = [of_a_block(median(seconds)) for seconds in each]
+        for (what, _), seconds in zip(makers, with_defects):
+            row(f"a block {'written' if write else 'read'}, {where}: {what}", seconds, without, 1.05)
     mounts(program, folder / "retired.img", benches)
     for bench in benches:
         bench.image.unlink()
@@ -79,7 +91,7 @@ def moves(bench):
     """The time of each write that needs the next spare, from the first of 4,092 to the last, in one run. The last takes no more
     uses than the home, one spare and the list do: the use behind these is cut."""
     discs.press(bench.image, discs.lists_of(discs.GREATEST))
-    session = Timed(bench)
+    session = Timed(bench.program, bench.image)
     session.asks(POWER)
     times = []
     for i, home in enumerate(discs.lists_of(discs.GREATEST).logical[:SPARES]):
@@ -96,7 +108,7 @@ def first_move(bench):
     """The time of the write that needs the last of 4,092 spares, as the first one after the power comes on."""
     lists = discs.lists_of(discs.GREATEST, every=1, count=SPARES - 1)
     discs.press(bench.image, lists)
-    session = Timed(bench)
+    session = Timed(bench.program, bench.image)
     session.asks(f"{POWER}fail {lists.logical[SPARES - 1]}\n")
     answers, time = session.asks(write_command((SPARES - 1) * 16, 16, 0))
     assert answers == ["good"], answers
@@ -106,7 +118,7 @@ def first_move(bench):
 
 def expansions(bench):
     """The time of some updates of the list in use, by expansions, which need no spare."""
-    session = Timed(bench)
+    session = Timed(bench.program, bench.image)
     session.asks(POWER)
     sectors = 16 * (len(discs.GREATEST.data) - SPARES)
     answers, time = session.asks("".join(
@@ -133,55 +145,50 @@ def spares(program, folder):
     bench.image.unlink()
 
 
-def synchronisations(bench):
-    """The time of some synchronisations of all that the cache holds, without what a command takes that does nothing."""
-    session = Timed(bench)
-    session.asks(POWER + CACHE_ON)
-    writes = "".join(write_command(lba, 256, lba) for lba in range(0, 16 * CACHED, 256))
-    time = 0
-    for _ in range(ROUNDS):
-        session.asks(writes)
-        answers, one = session.asks(SYNCHRONIZE)
-        assert answers == ["good"], answers
-        time += one - session.asks(NOTHING)[1]
-    session.end()
-    return time
-
-
 def cache(program, folder, loops):
     """What the write cache saves, and what it takes to synchronise it."""
     bench = Bench(program, folder / "cache.img")
     bench.once(NEW_DISC)
-    on = POWER + CACHE_ON
-    sectors = [lba for _ in range(ROUNDS) for lba in range(16)]
-    into = "".join(write_command(lba, 1, lba) + (SYNCHRONIZE if lba == 15 else "") for lba in sectors)
+    sectors = range(16)
+    into = "".join(write_command(lba, 1, lba) for lba in sectors) + SYNCHRONIZE
     through = "".join(write_command(lba, 1, lba, fua=True) for lba in sectors)
-    idle, cached, direct = best([bench.runs(on + script) for script in ("", into, through)])
-    row("16 writes into one block and a synchronisation, beside FUA", (cached - idle) / ROUNDS, (direct - idle) / ROUNDS)
-    synchronised, bare, marked = [time / ROUNDS for time in best([
-        lambda: synchronisations(bench),
-        *(loops.loop(what, bench.image, (1016, 25, CACHED, ROUNDS), CACHED) for what in ("write", "marked-write"))], 25)]
-    row("32 blocks synchronised, beside bare writes and read-backs", synchronised, bare, 1.25)
-    row("32 blocks synchronised, beside the same with their state bytes", synchronised, marked)
-    row("bare writes and read-backs with state bytes, beside without", marked, bare)
+    times, = in_turn([Measured(program, bench.image, POWER + CACHE_ON, [([into],), ([through],)])], 50)
+    row("16 writes into one block and a synchronisation, beside FUA", *map(median, times))
+    synchronisations(bench, loops)
     bench.image.unlink()
 
 
-def pairs(times):
-    return list(zip(times[::2], times[1::2]))
+def longer(more, less):
+    """The median of what each of these took longer than the one that was measured with it."""
+    return median(one - other for one, other in zip(more, less))
+
+
+def synchronisations(bench, loops):
+    """A synchronisation of all that the cache holds, beside loops over as many blocks: the time of writes and a synchronisation,
+    without that of the writes alone. The data of the loops come in the same way to where they are pending."""
+    writes = "".join(write_command(lba, 256, lba) for lba in range(0, 16 * CACHED, 256))
+    both = writes + SYNCHRONIZE
+    drive = Measured(bench.program, bench.image, POWER + CACHE_ON, [([writes], both), ([both], both)])
+    pending, write, marked = [loop_line(what, (1016, 25, CACHED, 1), CACHED) for what in ("pending", "write", "marked-write")]
+    bare = Measured(loops.program, bench.image, "", [([script], pending + write)
+                                                     for script in (pending, pending + write, pending + marked)])
+    (taken, synchronised), (made, written, written_marked) = in_turn([drive, bare], 50, 20)
+    drive, write, marked = longer(synchronised, taken), longer(written, made), longer(written_marked, made)
+    row("32 blocks synchronised, beside bare writes and read-backs", drive, write, 1.25)
+    row("32 blocks synchronised, beside the same with their state bytes", drive, marked)
+    row("bare writes and read-backs with state bytes, beside without", marked, write)
 
 
 def beside(program, other, folder, name, cases):
-    """Reads and writes of both programs: in each case whether blocks are written, how many a command has, and the bound. All cases
-    are measured in turn, since the pace of a machine may change from one to the next."""
+    """Reads and writes of both programs: in each case whether blocks are written, how many a command has, and the bound."""
     benches = [Bench(each, folder / f"beside{number}.img") for number, each in enumerate((program, other))]
     for bench in benches:
         bench.once(NEW_DISC)
         bench.once(POWER + transfers(True, 1))
-    scripts = [POWER, *(POWER + transfers(write, blocks) for write, blocks, _ in cases)]
-    idle, *times = pairs(best([bench.runs(script) for script in scripts for bench in benches], 25))
-    for (write, blocks, most), both in zip(cases, times):
-        each = [(time - still) / (BLOCKS * TURNS) for time, still in zip(both, idle)]
+    scripts = [(scripts_of(write, range(0, BLOCKS - blocks + 1, blocks), blocks),) for write, blocks, _ in cases]
+    times = in_turn([Measured(bench.program, bench.image, POWER, scripts) for bench in benches], 50)
+    for (write, blocks, most), both in zip(cases, zip(*times)):
+        each = [of_a_block(median(seconds), blocks) for seconds in both]
         row(f"a block {'written' if write else 'read'}, {blocks} a command, beside {name}", *each, most)
     for bench in benches:
         bench.image.unlink()
@@ -194,10 +201,14 @@ def most_of(blocks):
 
 def kept(loops, image, disc):
     """Loops in C that keep the last eight blocks of a read, as the drive does, beside the same that keep the last alone."""
-    for blocks in READS:
-        eight, one = best([loops.loop("moved-read", image, disc, blocks, kept) for kept in (8, 1)])
-        each = BLOCKS * TURNS
-        row(f"a loop that reads {blocks} and keeps eight, beside one that keeps one", eight / each, one / each, most_of(blocks))
+    total, first, blocks, _ = disc
+    starts = range(first, first + blocks, PIECE)
+    pieces = [([loop_line("moved-read", (total, start, PIECE, 1), count, kept) for start in starts],)
+              for count in READS for kept in (8, 1)]
+    times, = in_turn([Measured(loops.program, image, "", pieces)], 50)
+    for count, eight, one in zip(READS, times[::2], times[1::2]):
+        each = [of_a_block(median(seconds), count) for seconds in (eight, one)]
+        row(f"a loop that reads {count} and keeps eight, beside one that keeps one", *each, most_of(count))
 
 
 def transfers(write, blocks):

@@ -2,18 +2,11 @@
 //! `stdin`, and what they must be answered in `stdout`. The README lists the steps, and the rows that have none.
 #![tactic(auto)]
 
-mod bench;
-mod calls;
-mod copies;
-mod copies_reference;
 mod greatest;
-mod memory;
 mod mounts;
 mod mounts_reference;
-mod parts;
 mod rows;
 mod steps;
-mod texts;
 
 use crate::rows::BenchRows;
 use ram_by_hand::answer_rows;

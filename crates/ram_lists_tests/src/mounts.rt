@@ -1,13 +1,11 @@
 //! Mounts of discs with every mixture of copies of one list, beside the plain reference.
 
-use crate::bench::{Bench, DDS_BLOCKS, Fresh, SDL_BLOCKS, blank};
-use crate::calls::Found;
 use crate::mounts_reference::{
     Copied, Copies, Form, Holds, Mount, Text, dds_kinds, expected, sdl_kinds,
 };
-use crate::texts::text_of;
 use ram_by_hand::put;
 use ram_bytes::Block;
+use ram_lists_by_hand::{Bench, DDS_BLOCKS, Found, Fresh, SDL_BLOCKS, blank, text_of};
 use ram_medium::{Fate, ReadEnd};
 use ram_zones::ListKind;
 use std::alloc::{AllocError, Global};
@@ -55,77 +53,89 @@ fn junk(alloc: Global) -> Result<Block, AllocError> {
     Ok(block)
 }
 
-impl<M: Fresh> Bench<M> {
-    /// Lays a copy into a block.
-    fn lay_copy(&mut self, alloc: Global, block: u32, copy: Copied) -> Result<(), AllocError> {
-        match copy.holds {
-            Holds::Torn => {
-                self.taken.medium.arm_cut(1, Fate::Torn);
-                self.put(block, &junk(alloc)?);
-                self.taken.medium.power_on();
-            }
-            Holds::Dead => {
-                self.taken.medium.fail(block);
-            }
-            Holds::Junk => self.put(block, &junk(alloc)?),
-            Holds::List(text) => self.put(block, &bytes_of(alloc, text)?),
+/// Lays a copy into a block.
+fn lay_copy<M: Fresh>(
+    bench: &mut Bench<M>,
+    alloc: Global,
+    block: u32,
+    copy: Copied,
+) -> Result<(), AllocError> {
+    match copy.holds {
+        Holds::Torn => {
+            bench.taken.medium.arm_cut(1, Fate::Torn);
+            bench.put(block, &junk(alloc)?);
+            bench.taken.medium.power_on();
         }
-        if copy.dies > 0 {
-            self.wear(block, copy.dies);
+        Holds::Dead => {
+            bench.taken.medium.fail(block);
         }
-        Ok(())
+        Holds::Junk => bench.put(block, &junk(alloc)?),
+        Holds::List(text) => bench.put(block, &bytes_of(alloc, text)?),
     }
+    if copy.dies > 0 {
+        bench.wear(block, copy.dies);
+    }
+    Ok(())
+}
 
-    /// Lays the copies of a list.
-    fn lay_copies(
-        &mut self,
-        alloc: Global,
-        blocks: [u32; 4],
-        copies: Copies,
-    ) -> Result<(), AllocError> {
-        for (block, copy) in blocks.into_iter().zip(copies) {
-            self.lay_copy(alloc, block, copy)?;
-        }
-        Ok(())
+/// Lays the copies of a list.
+fn lay_copies<M: Fresh>(
+    bench: &mut Bench<M>,
+    alloc: Global,
+    blocks: [u32; 4],
+    copies: Copies,
+) -> Result<(), AllocError> {
+    for (block, copy) in blocks.into_iter().zip(copies) {
+        lay_copy(bench, alloc, block, copy)?;
     }
+    Ok(())
+}
 
-    /// Whether a read of the block finds what the copy holds.
-    fn shows(&mut self, alloc: Global, block: u32, copy: Copied) -> Result<bool, AllocError> {
-        let mut into = Block::zeros(alloc)?;
-        let end = self.look(block, &mut into);
-        match copy.used().holds {
-            Holds::Torn | Holds::Dead => Ok(end == ReadEnd::Unreadable),
-            Holds::Junk => Ok(end == ReadEnd::Done && into.bytes().starts_with(b"junk")),
-            Holds::List(text) => Ok(end == ReadEnd::Done && into.same(&bytes_of(alloc, text)?)),
-        }
+/// Whether a read of the block finds what the copy holds.
+fn shows<M: Fresh>(
+    bench: &mut Bench<M>,
+    alloc: Global,
+    block: u32,
+    copy: Copied,
+) -> Result<bool, AllocError> {
+    let mut into = Block::zeros(alloc)?;
+    let end = bench.look(block, &mut into);
+    match copy.used().holds {
+        Holds::Torn | Holds::Dead => Ok(end == ReadEnd::Unreadable),
+        Holds::Junk => Ok(end == ReadEnd::Done && into.bytes().starts_with(b"junk")),
+        Holds::List(text) => Ok(end == ReadEnd::Done && into.same(&bytes_of(alloc, text)?)),
     }
+}
 
-    /// Whether reads of the blocks find what the copies hold.
-    fn show(
-        &mut self,
-        alloc: Global,
-        blocks: [u32; 4],
-        copies: Copies,
-    ) -> Result<bool, AllocError> {
-        let mut all = true;
-        for (block, copy) in blocks.into_iter().zip(copies) {
-            all = all && self.shows(alloc, block, copy)?;
-        }
-        Ok(all)
+/// Whether reads of the blocks find what the copies hold.
+fn show<M: Fresh>(
+    bench: &mut Bench<M>,
+    alloc: Global,
+    blocks: [u32; 4],
+    copies: Copies,
+) -> Result<bool, AllocError> {
+    let mut all = true;
+    for (block, copy) in blocks.into_iter().zip(copies) {
+        all = all && shows(bench, alloc, block, copy)?;
     }
+    Ok(all)
+}
 
-    /// Whether a mount finds what it is to, in so many uses, and leaves these copies.
-    fn mounts(&mut self, alloc: Global, wanted: &Mount) -> Result<bool, AllocError> {
-        let cut = wanted.uses.saturating_add(1);
-        self.taken.medium.arm_cut(cut, Fate::Old);
-        let found = self.mount(alloc) == wanted.found && self.is_stopped_next(alloc)?;
-        self.taken.medium.power_on();
-        Ok(
-            found
-                && self.show(alloc, DDS_BLOCKS, wanted.dds)?
-                && self.show(alloc, SDL_BLOCKS, wanted.sdl)?,
-        )
-    }
+/// Whether a mount finds what it is to, in so many uses, and leaves these copies.
+fn mounts<M: Fresh>(
+    bench: &mut Bench<M>,
+    alloc: Global,
+    wanted: &Mount,
+) -> Result<bool, AllocError> {
+    let cut = wanted.uses.saturating_add(1);
+    bench.taken.medium.arm_cut(cut, Fate::Old);
+    let found = bench.mount(alloc) == wanted.found && bench.is_stopped_next(alloc)?;
+    bench.taken.medium.power_on();
+    Ok(
+        found
+            && show(bench, alloc, DDS_BLOCKS, wanted.dds)?
+            && show(bench, alloc, SDL_BLOCKS, wanted.sdl)?,
+    )
 }
 
 /// Whether a mount of a disc with these copies does what it is to.
@@ -133,9 +143,9 @@ fn agrees<M: Fresh>(alloc: Global, dds: Copies, sdl: Copies) -> Result<bool, All
     let Some(mut bench) = blank::<M>(alloc, Vec::new(alloc))? else {
         return Ok(false);
     };
-    bench.lay_copies(alloc, DDS_BLOCKS, dds)?;
-    bench.lay_copies(alloc, SDL_BLOCKS, sdl)?;
-    bench.mounts(alloc, &expected(dds, sdl))
+    lay_copies(&mut bench, alloc, DDS_BLOCKS, dds)?;
+    lay_copies(&mut bench, alloc, SDL_BLOCKS, sdl)?;
+    mounts(&mut bench, alloc, &expected(dds, sdl))
 }
 
 /// The copies that the digits of a number name.

@@ -1,6 +1,6 @@
 //! The plain reference of a mount: eight copies in words, and what a mount makes of them.
 
-use crate::calls::Found;
+use ram_lists_by_hand::Found;
 use ram_zones::ListKind;
 
 /// A text of a list.

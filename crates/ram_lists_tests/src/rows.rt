@@ -1,16 +1,12 @@
 //! A row: its steps one after another on a small disc, or one of the kinds of rows that have no steps.
 
-use crate::bench::{Bench, Fresh, blank};
-use crate::copies::{answer_all, answer_cuts, answer_dead, answer_stops};
-use crate::copies_reference::{Answer, Call};
 use crate::greatest::answer_greatest;
-use crate::memory::answer_refused;
+use crate::mounts::{answer_dead, answer_mixtures};
 use crate::steps::{Step, step_of};
-use crate::texts::{Lists, Text, Texts};
-use crate::{mounts, parts};
 use ram_by_hand::{Controlled, Rows, answer_event, answer_work};
 use ram_bytes::Block;
 use ram_dds::DdsPdl;
+use ram_lists_by_hand::{Answer, Bench, Call, Fresh, Lists, Text, Texts, blank};
 use ram_medium::MemMedium;
 use ram_sdl::Sdl;
 use ram_zones::ListKind;
@@ -162,17 +158,9 @@ fn answer_row<M: Fresh + Controlled>(
     answers: &mut String,
 ) -> Result<(), AllocError> {
     match row.trim() {
-        "mixtures of copies" => answer_all::<M>(alloc, answers),
-        "stops of mixtures" => answer_stops::<M>(alloc, answers),
-        "cuts of mixtures" => answer_cuts::<M>(alloc, answers),
-        "dead copies" => answer_dead::<M>(alloc, answers),
+        "mixtures of mounts" => answer_mixtures::<M>(alloc, answers),
+        "dead copies of mounts" => answer_dead::<M>(alloc, answers),
         "greatest list" => answer_greatest(alloc, answers),
-        "memory" => answer_refused::<M>(alloc, answers),
-        "mixtures of mounts" => mounts::answer_mixtures::<M>(alloc, answers),
-        "mixtures of parts" => parts::answer_mixtures::<M>(alloc, answers),
-        "stops of parts" => parts::answer_stops::<M>(alloc, answers),
-        "dead parts" => parts::answer_dead::<M>(alloc, answers),
-        "dead copies of mounts" => mounts::answer_dead::<M>(alloc, answers),
         _ => answer_lines::<M>(alloc, row, answers),
     }
 }

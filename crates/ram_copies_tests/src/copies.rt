@@ -1,9 +1,10 @@
 //! Mixtures of the four copies of a list, each call on them, and each stop of a use, beside the plain reference.
 
-use crate::bench::{Bench, DDS_BLOCKS, Fresh, blank};
-use crate::copies_reference::{Answer, Area, Call, Held, Laid, NEW, NEXT, OLD, Reference, Way};
-use crate::texts::{Lists, Texts, structure_text};
+use crate::copies_reference::{Area, Held, Laid, NEW, NEXT, OLD, Reference, Way};
 use ram_bytes::Block;
+use ram_lists_by_hand::{
+    Answer, Bench, Call, DDS_BLOCKS, Fresh, Lists, Texts, blank, structure_text,
+};
 use ram_medium::{Fate, ReadEnd};
 use std::alloc::{AllocError, Global};
 use std::fmt::Write;
@@ -104,122 +105,129 @@ enum Part {
     Second,
 }
 
-impl<M: Fresh> Bench<M> {
-    /// Lays one block, in one use.
-    fn lay(
-        &mut self,
-        alloc: Global,
-        texts: &Texts,
-        block: u32,
-        part: Part,
-        laid: Laid,
-    ) -> Result<(), AllocError> {
-        if laid == Laid::Torn {
-            self.taken.medium.arm_cut(1, Fate::Torn);
-        }
-        match bytes_of(texts, laid, part) {
-            Some(text) => self.put(block, text),
-            None => self.put(block, &foreign(alloc, texts, block, part)?),
-        }
-        self.taken.medium.power_on();
-        if laid == Laid::Falling {
-            self.wear(block, 1);
-        }
-        Ok(())
+/// Lays one block, in one use.
+fn lay<M: Fresh>(
+    bench: &mut Bench<M>,
+    alloc: Global,
+    texts: &Texts,
+    block: u32,
+    part: Part,
+    laid: Laid,
+) -> Result<(), AllocError> {
+    if laid == Laid::Torn {
+        bench.taken.medium.arm_cut(1, Fate::Torn);
     }
+    match bytes_of(texts, laid, part) {
+        Some(text) => bench.put(block, text),
+        None => bench.put(block, &foreign(alloc, texts, block, part)?),
+    }
+    bench.taken.medium.power_on();
+    if laid == Laid::Falling {
+        bench.wear(block, 1);
+    }
+    Ok(())
+}
 
-    /// Lays the structures under which lists of two blocks lie.
-    fn lay_structures(&mut self, alloc: Global) -> Result<(), AllocError> {
-        let text = structure_text(alloc)?;
-        for block in DDS_BLOCKS {
-            self.put(block, &text);
+/// Lays the structures under which lists of two blocks lie.
+fn lay_structures<M: Fresh>(bench: &mut Bench<M>, alloc: Global) -> Result<(), AllocError> {
+    let text = structure_text(alloc)?;
+    for block in DDS_BLOCKS {
+        bench.put(block, &text);
+    }
+    Ok(())
+}
+
+/// Lays four copies.
+fn lay_copies_of<M: Fresh>(
+    bench: &mut Bench<M>,
+    alloc: Global,
+    texts: &Texts,
+    image: [Area<Laid>; 4],
+) -> Result<(), AllocError> {
+    if texts.lists.under().is_some() {
+        lay_structures(bench, alloc)?;
+    }
+    let seconds = texts.lists.second_blocks();
+    let blocks = texts.lists.first_blocks().into_iter().zip(seconds);
+    for ((first, second), laid) in blocks.zip(image) {
+        lay(bench, alloc, texts, first, Part::First, laid.first)?;
+        if let Some((second, laid)) = second.zip(laid.second) {
+            lay(bench, alloc, texts, second, Part::Second, laid)?;
         }
-        Ok(())
     }
+    Ok(())
+}
 
-    /// Lays four copies.
-    fn lay_copies_of(
-        &mut self,
-        alloc: Global,
-        texts: &Texts,
-        image: [Area<Laid>; 4],
-    ) -> Result<(), AllocError> {
-        if texts.lists.under().is_some() {
-            self.lay_structures(alloc)?;
-        }
-        let seconds = texts.lists.second_blocks();
-        let blocks = texts.lists.first_blocks().into_iter().zip(seconds);
-        for ((first, second), laid) in blocks.zip(image) {
-            self.lay(alloc, texts, first, Part::First, laid.first)?;
-            if let Some((second, laid)) = second.zip(laid.second) {
-                self.lay(alloc, texts, second, Part::Second, laid)?;
-            }
-        }
-        Ok(())
+/// What can be read of one block, in one use.
+fn held<M: Fresh>(
+    bench: &mut Bench<M>,
+    alloc: Global,
+    texts: &Texts,
+    block: u32,
+    part: Part,
+) -> Result<Held, AllocError> {
+    let mut into = Block::zeros(alloc)?;
+    if bench.look(block, &mut into) != ReadEnd::Done {
+        return Ok(Held::Nothing);
     }
+    let counter = match part {
+        Part::First => texts.first_of(&into),
+        Part::Second => texts.second_of(&into),
+    };
+    Ok(match counter {
+        Some(counter) => Held::Text { counter },
+        None => Held::Foreign,
+    })
+}
 
-    /// What can be read of one block, in one use.
-    fn held(
-        &mut self,
-        alloc: Global,
-        texts: &Texts,
-        block: u32,
-        part: Part,
-    ) -> Result<Held, AllocError> {
-        let mut into = Block::zeros(alloc)?;
-        if self.look(block, &mut into) != ReadEnd::Done {
-            return Ok(Held::Nothing);
-        }
-        let counter = match part {
-            Part::First => texts.first_of(&into),
-            Part::Second => texts.second_of(&into),
-        };
-        Ok(match counter {
-            Some(counter) => Held::Text { counter },
-            None => Held::Foreign,
-        })
-    }
+/// What can be read of one copy.
+fn held_in<M: Fresh>(
+    bench: &mut Bench<M>,
+    alloc: Global,
+    texts: &Texts,
+    first: u32,
+    second: Option<u32>,
+) -> Result<Area<Held>, AllocError> {
+    let first = held(bench, alloc, texts, first, Part::First)?;
+    let second = match second {
+        Some(block) => Some(held(bench, alloc, texts, block, Part::Second)?),
+        None => None,
+    };
+    Ok(Area { first, second })
+}
 
-    /// What can be read of one copy.
-    fn held_in(
-        &mut self,
-        alloc: Global,
-        texts: &Texts,
-        first: u32,
-        second: Option<u32>,
-    ) -> Result<Area<Held>, AllocError> {
-        let first = self.held(alloc, texts, first, Part::First)?;
-        let second = match second {
-            Some(block) => Some(self.held(alloc, texts, block, Part::Second)?),
-            None => None,
-        };
-        Ok(Area { first, second })
-    }
+/// What can be read of the four copies, each block in one use.
+fn looks<M: Fresh>(
+    bench: &mut Bench<M>,
+    alloc: Global,
+    texts: &Texts,
+) -> Result<[Area<Held>; 4], AllocError> {
+    let [a, b, c, d] = texts.lists.first_blocks();
+    let [e, f, g, h] = texts.lists.second_blocks();
+    Ok([
+        held_in(bench, alloc, texts, a, e)?,
+        held_in(bench, alloc, texts, b, f)?,
+        held_in(bench, alloc, texts, c, g)?,
+        held_in(bench, alloc, texts, d, h)?,
+    ])
+}
 
-    /// What can be read of the four copies, each block in one use.
-    fn looks(&mut self, alloc: Global, texts: &Texts) -> Result<[Area<Held>; 4], AllocError> {
-        let [a, b, c, d] = texts.lists.first_blocks();
-        let [e, f, g, h] = texts.lists.second_blocks();
-        Ok([
-            self.held_in(alloc, texts, a, e)?,
-            self.held_in(alloc, texts, b, f)?,
-            self.held_in(alloc, texts, c, g)?,
-            self.held_in(alloc, texts, d, h)?,
-        ])
-    }
-
-    /// What happens on the disc.
-    fn tell(&mut self, alloc: Global, texts: &Texts, call: Call) -> Result<Story, AllocError> {
-        let first = self.answer(alloc, texts, call)?;
-        self.taken.medium.power_on();
-        Ok(Story {
-            first,
-            is_stopped_next: self.is_stopped_next(alloc)?,
-            held: self.looks(alloc, texts)?,
-            chosen: self.answer(alloc, texts, CHOOSE)?,
-            repaired: self.answer(alloc, texts, REPAIR)?,
-        })
-    }
+/// What happens on the disc.
+fn tell<M: Fresh>(
+    bench: &mut Bench<M>,
+    alloc: Global,
+    texts: &Texts,
+    call: Call,
+) -> Result<Story, AllocError> {
+    let first = bench.answer(alloc, texts, call)?;
+    bench.taken.medium.power_on();
+    Ok(Story {
+        first,
+        is_stopped_next: bench.is_stopped_next(alloc)?,
+        held: looks(bench, alloc, texts)?,
+        chosen: bench.answer(alloc, texts, CHOOSE)?,
+        repaired: bench.answer(alloc, texts, REPAIR)?,
+    })
 }
 
 /// The text of the other list, of the other part, or bytes of no list.
@@ -261,7 +269,7 @@ fn laid<M: Fresh>(
     let Some(mut bench) = blank::<M>(alloc, failing)? else {
         return Ok(None);
     };
-    bench.lay_copies_of(alloc, texts, case.image)?;
+    lay_copies_of(&mut bench, alloc, texts, case.image)?;
     if let Some(fate) = case.way.fate() {
         bench.taken.medium.arm_cut(case.stop_in.max(1), fate);
     }
@@ -271,7 +279,7 @@ fn laid<M: Fresh>(
 /// What happens in a case.
 fn told<M: Fresh>(alloc: Global, texts: &Texts, case: Case) -> Result<Option<Story>, AllocError> {
     match laid::<M>(alloc, texts, case)? {
-        Some(mut bench) => Ok(Some(bench.tell(alloc, texts, case.call)?)),
+        Some(mut bench) => Ok(Some(tell(&mut bench, alloc, texts, case.call)?)),
         None => Ok(None),
     }
 }

@@ -1,10 +1,9 @@
 //! Mixtures of both parts of the four copies of a secondary list of two blocks, each call on them, and each stop of a use,
 //! beside the plain reference.
 
-use crate::bench::{Fresh, SECOND_BLOCKS};
 use crate::copies::{Tally, all_old, answers_in, kind, texts_of, try_ends, try_stops};
-use crate::copies_reference::{Answer, Area, Call, Laid, NEW, NEXT};
-use crate::texts::{Lists, STRUCTURE, Texts};
+use crate::copies_reference::{Area, Laid, NEW, NEXT};
+use ram_lists_by_hand::{Answer, Call, Fresh, Lists, SECOND_BLOCKS, STRUCTURE, Texts};
 use std::alloc::{AllocError, Global};
 use std::fmt::Write;
 

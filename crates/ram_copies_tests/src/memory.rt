@@ -1,11 +1,9 @@
 //! A choice for which memory is refused.
 
-use crate::bench::{Bench, DDS_BLOCKS, Fresh, blank};
-use crate::copies_reference::Answer;
-use crate::texts::text_of;
 use ram_bytes::Block;
 use ram_copies::ListBlock;
 use ram_dds::DdsPdl;
+use ram_lists_by_hand::{Answer, Bench, DDS_BLOCKS, Fresh, blank, text_of};
 use ram_medium::Fate;
 use ram_zones::ListKind;
 use std::alloc::{AllocError, Global};

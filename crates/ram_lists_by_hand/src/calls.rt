@@ -1,9 +1,9 @@
 //! The calls on the lists of a small disc, each with what it answered.
 
+use crate::answers::{Answer, Call, Found};
 use crate::bench::Bench;
-use crate::copies_reference::{Answer, Call};
 use crate::texts::{Lists, Text, Texts};
-use ram_copies::{Accept, Chosen, ListBlock, Updated, choose, repair, update};
+use ram_copies::{Accept, Chosen, ListBlock, choose, repair, update};
 use ram_dds::DdsPdl;
 use ram_lists::{Mounted, mount};
 use ram_medium::MediumControl;
@@ -24,42 +24,6 @@ impl<T: ListBlock> Accept<T> for Below {
 
     fn accepts(&self, value: &T) -> bool {
         value.counter() < self.most
-    }
-}
-
-/// What a mount found: the counters of both lists, or the mark.
-#[derive(Clone, Copy, Debug, PartialEq, Eq)]
-pub enum Found {
-    Lists(u32, u32),
-    Bare(u32),
-    Cut,
-    Off,
-    Fault,
-    NoMemory,
-}
-
-impl From<Updated> for Answer {
-    fn from(updated: Updated) -> Answer {
-        match updated {
-            Updated::Kept { readable } => Answer::Kept { readable },
-            Updated::NoCopy => Answer::NoCopy,
-            Updated::Cut => Answer::Cut,
-            Updated::Off => Answer::Off,
-            Updated::Fault => Answer::Fault,
-        }
-    }
-}
-
-impl From<Found> for Answer {
-    fn from(found: Found) -> Answer {
-        match found {
-            Found::Lists(_, counter) => Answer::Mounted { counter },
-            Found::Bare(mark) => Answer::Bare { mark },
-            Found::Cut => Answer::Cut,
-            Found::Off => Answer::Off,
-            Found::Fault => Answer::Fault,
-            Found::NoMemory => Answer::NoMemory,
-        }
     }
 }
 

@@ -1,6 +1,6 @@
 //! The plain reference: four copies in words, of one block or of two, and what each call makes of them.
 
-use crate::texts::{Lists, STRUCTURE};
+use ram_lists_by_hand::{Answer, Call, Lists, STRUCTURE};
 use ram_medium::Fate;
 
 /// The counter of the oldest list that a copy holds.
@@ -63,40 +63,6 @@ impl Way {
             Way::Fault => None,
         }
     }
-}
-
-/// A call on the list.
-#[derive(Clone, Copy)]
-pub enum Call {
-    /// A choice among the copies with a lower counter.
-    Choose { most: u32 },
-    /// An update to the list with this counter.
-    Update { counter: u32 },
-    /// A repair to the list with this counter.
-    Repair { counter: u32 },
-    /// A mount of the disc, whose structures are exact.
-    Mount,
-}
-
-/// What a call answers.
-#[derive(Clone, Copy, Debug, PartialEq, Eq)]
-pub enum Answer {
-    Found { counter: u32, area: u32, mark: u32 },
-    Nothing { mark: u32 },
-    Kept { readable: u32 },
-    NoCopy,
-    /// A mount found the secondary list with this counter.
-    Mounted { counter: u32 },
-    /// A mount found no list.
-    Bare { mark: u32 },
-    Cut,
-    Off,
-    Fault,
-    NoMemory,
-    /// The medium is not that of the small disc.
-    NoDisc,
-    /// What was to be written is the text of no list.
-    NoText,
 }
 
 /// What can be read of a block.
