@@ -12,6 +12,8 @@
    write         each block is written and read back, and nothing is looked at
    marked-write  the same, with the state byte of each block written before its data and again after them, as the image asks of
                  any drive
+   kept-write    the same, and what is read back of a block goes into another room than that of the last KEPT before it, as those
+                 are kept
    read          each block is read to its place, and nothing is looked at
    least-write   the state bytes of 64 blocks are read at a time, and the data of a group of blocks are made; of each block its
                  state byte is written, its data, and its state byte again; then its data are read back
@@ -33,7 +35,7 @@ static char data[MOST_GROUP * BLOCK_BYTES];
 
 static char command[COMMAND * BLOCK_BYTES];
 
-static char kept_blocks[MOST_KEPT][BLOCK_BYTES];
+static char kept_blocks[MOST_KEPT + 1][BLOCK_BYTES];
 
 static char *const read_back = kept_blocks[0];
 
@@ -96,13 +98,21 @@ static void bare_read(long first) {
         read_data(first + k, data + k * BLOCK_BYTES);
 }
 
+static void mark_and_write(long i, const char *from, char *back) {
+    write_state(i, 2);
+    write_data(i, from);
+    write_state(i, 1);
+    read_data(i, back);
+}
+
 static void marked_write(long first) {
-    for (long k = 0; k < group; k++) {
-        write_state(first + k, 2);
-        write_data(first + k, data + k * BLOCK_BYTES);
-        write_state(first + k, 1);
-        read_data(first + k, read_back);
-    }
+    for (long k = 0; k < group; k++)
+        mark_and_write(first + k, data + k * BLOCK_BYTES, read_back);
+}
+
+static void kept_write(long first) {
+    for (long k = 0; k < group; k++)
+        mark_and_write(first + k, data + k * BLOCK_BYTES, kept_blocks[(first + k) % (kept + 1)]);
 }
 
 static void least_write(long first) {
@@ -175,6 +185,8 @@ static void once(const char *what, long first) {
         bare_write(first);
     else if (strcmp(what, "marked-write") == 0)
         marked_write(first);
+    else if (strcmp(what, "kept-write") == 0)
+        kept_write(first);
     else if (strcmp(what, "read") == 0)
         bare_read(first);
     else if (strcmp(what, "least-write") == 0)

@@ -91,13 +91,11 @@ def is_well(answer):
 
 
 def piece(session, scripts, before=""):
-    """A job that sends the next of these scripts, and gives the seconds that it took, without the lines before it. All lines are to
-    be answered well."""
-    turns = itertools.cycle(scripts)
-
-    def once():
+    """A job that sends one of these scripts, by the number of its turn, and gives the seconds that it took, without what the lines
+    before it took. All lines are to be answered well."""
+    def once(turn):
         told, _ = session.asks(before)
-        answers, seconds = session.asks(next(turns))
+        answers, seconds = session.asks(scripts[turn % len(scripts)])
         assert all(map(is_well, told + answers)), (told, answers)
         return seconds
     return once
@@ -110,19 +108,23 @@ class Measured:
         self.program, self.image, self.start, self.pieces = program, image, start, pieces
 
     def begin(self):
-        """A new session, and the pieces as jobs."""
+        """A new session, and its pieces as jobs."""
         session = Timed(self.program, self.image)
         session.asks(self.start)
         return session, [piece(session, *words) for words in self.pieces]
 
 
 def in_turn(all_measured, rounds, sessions=10):
-    """The seconds that each piece of each of these took, in some sessions, each of so many rounds over all pieces. Where the memory
-    of a program lies may change its pace from one session to the next."""
-    found = []
-    for _ in range(sessions):
+    """The seconds that each piece of each of these took, in some sessions, each of so many rounds over all pieces: where the memory
+    of a program lies may change its pace from one session to the next. A piece has another script than the one before it, and so
+    finds none of its blocks near. In every other session the last of these comes first."""
+    found, turns = [], itertools.count()
+    for number in range(sessions):
         begun = [one.begin() for one in all_measured]
-        found += [[[job() for job in jobs] for _, jobs in begun] for _ in range(rounds)]
+        order = -1 if number % 2 else 1
+        for _ in range(rounds):
+            times = [[job(next(turns)) for job in jobs] for _, jobs in begun[::order]]
+            found.append(times[::order])
         for session, _ in begun:
             session.end()
     return [list(zip(*times)) for times in zip(*found)]

@@ -169,29 +169,28 @@ def synchronisations(bench, loops):
     writes = "".join(write_command(lba, 256, lba) for lba in range(0, 16 * CACHED, 256))
     both = writes + SYNCHRONIZE
     drive = Measured(bench.program, bench.image, POWER + CACHE_ON, [([writes], both), ([both], both)])
-    pending, write, marked = [loop_line(what, (1016, 25, CACHED, 1), CACHED) for what in ("pending", "write", "marked-write")]
-    bare = Measured(loops.program, bench.image, "", [([script], pending + write)
-                                                     for script in (pending, pending + write, pending + marked)])
-    (taken, synchronised), (made, written, written_marked) = in_turn([drive, bare], 50, 20)
-    drive, write, marked = longer(synchronised, taken), longer(written, made), longer(written_marked, made)
+    pending, *writing = [loop_line(what, (1016, 25, CACHED, 1), CACHED)
+                         for what in ("pending", "write", "marked-write", "kept-write")]
+    bare = Measured(loops.program, bench.image, "", [([pending + line], pending + writing[-1]) for line in ("", *writing)])
+    (taken, synchronised), (made, *written) = in_turn([drive, bare], 50, 20)
+    drive, (write, marked, kept) = longer(synchronised, taken), [longer(times, made) for times in written]
     row("32 blocks synchronised, beside bare writes and read-backs", drive, write, 1.25)
-    row("32 blocks synchronised, beside the same with their state bytes", drive, marked)
-    row("bare writes and read-backs with state bytes, beside without", marked, write)
+    row("the bare writes with state bytes, beside those without", marked, write)
+    row("and with nine rooms in turn for what is read back", kept, write)
 
 
 def beside(program, other, folder, name, cases):
-    """Reads and writes of both programs: in each case whether blocks are written, how many a command has, and the bound."""
-    benches = [Bench(each, folder / f"beside{number}.img") for number, each in enumerate((program, other))]
-    for bench in benches:
-        bench.once(NEW_DISC)
-        bench.once(POWER + transfers(True, 1))
+    """Reads and writes of both programs over one image: in each case whether blocks are written, how many a command has, and the
+    bound."""
+    bench = Bench(program, folder / "beside.img")
+    bench.once(NEW_DISC)
+    bench.once(POWER + transfers(True, 1))
     scripts = [(scripts_of(write, range(0, BLOCKS - blocks + 1, blocks), blocks),) for write, blocks, _ in cases]
-    times = in_turn([Measured(bench.program, bench.image, POWER, scripts) for bench in benches], 50)
+    times = in_turn([Measured(each, bench.image, POWER, scripts) for each in (program, other)], 25, 20)
     for (write, blocks, most), both in zip(cases, zip(*times)):
         each = [of_a_block(median(seconds), blocks) for seconds in both]
         row(f"a block {'written' if write else 'read'}, {blocks} a command, beside {name}", *each, most)
-    for bench in benches:
-        bench.image.unlink()
+    bench.image.unlink()
 
 
 def most_of(blocks):
@@ -208,7 +207,7 @@ def kept(loops, image, disc):
     times, = in_turn([Measured(loops.program, image, "", pieces)], 50)
     for count, eight, one in zip(READS, times[::2], times[1::2]):
         each = [of_a_block(median(seconds), count) for seconds in (eight, one)]
-        row(f"a loop that reads {count} and keeps eight, beside one that keeps one", *each, most_of(count))
+        row(f"a loop that reads {count} and keeps eight, beside one that keeps one", *each)
 
 
 def transfers(write, blocks):
