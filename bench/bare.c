@@ -1,11 +1,11 @@
 /* The bare system calls for some blocks of a disc's image, and the least that a drive of this image does with them.
    usage: bare run IMAGE
 
-   Each line of its input has the words WHAT TOTAL FIRST BLOCKS TURNS GROUP KEPT, and is answered by its number and `good`, as the
-   drive answers, so that both are measured in the same way.
+   Each line of its input has the words WHAT TOTAL FIRST BLOCKS GROUP KEPT, and is answered by its number and `good`, as the drive
+   answers, so that both are measured in the same way.
 
-   The image has TOTAL blocks. BLOCKS of them from FIRST on are used in turn, in groups of GROUP. They are the disc's logical
-   blocks, none of them replaced, and have whole bytes. The data of a group lie one after another, as those of a command do.
+   The image has TOTAL blocks. BLOCKS of them from FIRST on are used, in groups of GROUP. They are the disc's logical blocks, none
+   of them replaced, and have whole bytes. The data of a group lie one after another, as those of a command do.
 
    pending       the data of sixteen blocks after another are made and copied to those of the group, as they are pending in a cache
                  after such commands; nothing is written
@@ -203,14 +203,12 @@ int main(int count, char **words) {
     file = open(words[2], O_RDWR);
     memset(data, 0xaa, sizeof data);
     char what[16];
-    long blocks, turns;
-    for (long line = 1;
-         scanf("%15s%ld%ld%ld%ld%ld%ld", what, &total, &first_block, &blocks, &turns, &group, &kept) == 7; line++) {
+    long blocks;
+    for (long line = 1; scanf("%15s%ld%ld%ld%ld%ld", what, &total, &first_block, &blocks, &group, &kept) == 6; line++) {
         if (group < 1 || group > MOST_GROUP || kept < 1 || kept > MOST_KEPT)
             return 2;
-        for (long turn = 0; turn < turns; turn++)
-            for (long first = 0; first + group <= blocks; first += group)
-                once(what, first);
+        for (long first = 0; first + group <= blocks; first += group)
+            once(what, first);
         printf("%ld good\n", line);
         fflush(stdout);
     }

@@ -86,6 +86,16 @@ class Timed(Session):
         return answer
 
 
+def in_session(program, image, script):
+    """A job that sends this script in a session of its own, and gives the seconds that it took."""
+    def once():
+        session = Timed(program, image)
+        _, seconds = session.asks(script)
+        session.end()
+        return seconds
+    return once
+
+
 def is_well(answer):
     return not answer.startswith(("cut", "off", "check"))
 
@@ -130,23 +140,13 @@ def in_turn(all_measured, rounds, sessions=10):
     return [list(zip(*times)) for times in zip(*found)]
 
 
-class Loops:
-    """The loops of bare.c over the blocks of an image."""
-
-    def __init__(self, folder):
-        self.program = folder / "bare"
-        subprocess.run(["cc", "-O2", "-o", self.program, HERE / "bare.c"], check=True)
-
-    def loop(self, what, image, blocks, group, kept=8):
-        """A loop over groups of so many blocks as a job."""
-        def once():
-            session = Timed(self.program, image)
-            _, seconds = session.asks(loop_line(what, blocks, group, kept))
-            session.end()
-            return seconds
-        return once
+def loops_in(folder):
+    """The program of bare.c, built in this folder."""
+    program = folder / "bare"
+    subprocess.run(["cc", "-O2", "-o", program, HERE / "bare.c"], check=True)
+    return program
 
 
-def loop_line(what, blocks, group, kept=8):
-    """The line that asks for a loop: `blocks` has the total, the first, how many, and how often."""
-    return " ".join(map(str, (what, *blocks, group, kept))) + "\n"
+def loop_line(what, total, first, blocks, group, kept=8):
+    """The line that asks for a loop over so many blocks of a disc, in groups, where so many are kept."""
+    return f"{what} {total} {first} {blocks} {group} {kept}\n"

@@ -1,5 +1,4 @@
-"""Ratios of two times that were measured in turns, each with the most that it is to be. Where pieces of sessions are measured, a
-time is the median of them all."""
+"""Ratios of two times that were measured in turn, each with the most that it is to be. Of pieces of sessions it is the median."""
 from statistics import median
 
 from measuring import (CACHE_ON, FORMAT, POWER, SYNCHRONIZE, Bench, Measured, Timed, best, in_turn, loop_line, read_command,
@@ -7,7 +6,8 @@ from measuring import (CACHE_ON, FORMAT, POWER, SYNCHRONIZE, Bench, Measured, Ti
 
 import discs
 
-BLOCKS, TURNS = 896, 16
+# How many blocks are measured.
+BLOCKS = 896
 NEW_DISC = "press 1 40 16\n" + POWER + FORMAT
 # What is measured is blocks this many logical blocks apart. Each of them is replaced on both discs with defects.
 APART = 128
@@ -46,6 +46,11 @@ def scripts_of(write, starts, count=1):
     lines = [write_command(16 * i, 16 * count, i) if write else read_command(16 * i, 16 * count) for i in starts]
     several = PIECE // count
     return ["".join(lines[at:at + several]) for at in range(0, len(lines), several)]
+
+
+def all_blocks(write, count):
+    """Such scripts for all blocks that are measured."""
+    return scripts_of(write, range(0, BLOCKS - count + 1, count), count)
 
 
 def of_a_block(seconds, count=1):
@@ -145,7 +150,7 @@ def spares(program, folder):
     bench.image.unlink()
 
 
-def cache(program, folder, loops):
+def cache(program, folder, loops, disc):
     """What the write cache saves, and what it takes to synchronise it."""
     bench = Bench(program, folder / "cache.img")
     bench.once(NEW_DISC)
@@ -154,7 +159,7 @@ def cache(program, folder, loops):
     through = "".join(write_command(lba, 1, lba, fua=True) for lba in sectors)
     times, = in_turn([Measured(program, bench.image, POWER + CACHE_ON, [([into],), ([through],)])], 50)
     row("16 writes into one block and a synchronisation, beside FUA", *map(median, times))
-    synchronisations(bench, loops)
+    synchronisations(bench, loops, disc)
     bench.image.unlink()
 
 
@@ -163,15 +168,15 @@ def longer(more, less):
     return median(one - other for one, other in zip(more, less))
 
 
-def synchronisations(bench, loops):
+def synchronisations(bench, loops, disc):
     """A synchronisation of all that the cache holds, beside loops over as many blocks: the time of writes and a synchronisation,
     without that of the writes alone. The data of the loops come in the same way to where they are pending."""
     writes = "".join(write_command(lba, 256, lba) for lba in range(0, 16 * CACHED, 256))
     both = writes + SYNCHRONIZE
     drive = Measured(bench.program, bench.image, POWER + CACHE_ON, [([writes], both), ([both], both)])
-    pending, *writing = [loop_line(what, (1016, 25, CACHED, 1), CACHED)
+    pending, *writing = [loop_line(what, *disc, CACHED, CACHED)
                          for what in ("pending", "write", "marked-write", "kept-write")]
-    bare = Measured(loops.program, bench.image, "", [([pending + line], pending + writing[-1]) for line in ("", *writing)])
+    bare = Measured(loops, bench.image, "", [([pending + line], pending + writing[-1]) for line in ("", *writing)])
     (taken, synchronised), (made, *written) = in_turn([drive, bare], 50, 20)
     drive, (write, marked, kept) = longer(synchronised, taken), [longer(times, made) for times in written]
     row("32 blocks synchronised, beside bare writes and read-backs", drive, write, 1.25)
@@ -184,8 +189,8 @@ def beside(program, other, folder, name, cases):
     bound."""
     bench = Bench(program, folder / "beside.img")
     bench.once(NEW_DISC)
-    bench.once(POWER + transfers(True, 1))
-    scripts = [(scripts_of(write, range(0, BLOCKS - blocks + 1, blocks), blocks),) for write, blocks, _ in cases]
+    bench.once(POWER + "".join(all_blocks(True, 1)))
+    scripts = [(all_blocks(write, blocks),) for write, blocks, _ in cases]
     times = in_turn([Measured(each, bench.image, POWER, scripts) for each in (program, other)], 25, 20)
     for (write, blocks, most), both in zip(cases, zip(*times)):
         each = [of_a_block(median(seconds), blocks) for seconds in both]
@@ -200,22 +205,14 @@ def most_of(blocks):
 
 def kept(loops, image, disc):
     """Loops in C that keep the last eight blocks of a read, as the drive does, beside the same that keep the last alone."""
-    total, first, blocks, _ = disc
-    starts = range(first, first + blocks, PIECE)
-    pieces = [([loop_line("moved-read", (total, start, PIECE, 1), count, kept) for start in starts],)
+    total, first = disc
+    starts = range(first, first + BLOCKS, PIECE)
+    pieces = [([loop_line("moved-read", total, start, PIECE, count, kept) for start in starts],)
               for count in READS for kept in (8, 1)]
-    times, = in_turn([Measured(loops.program, image, "", pieces)], 50)
+    times, = in_turn([Measured(loops, image, "", pieces)], 50)
     for count, eight, one in zip(READS, times[::2], times[1::2]):
         each = [of_a_block(median(seconds), count) for seconds in (eight, one)]
         row(f"a loop that reads {count} and keeps eight, beside one that keeps one", *each)
-
-
-def transfers(write, blocks):
-    """Commands of so many blocks that write or read all of them in turn."""
-    starts = range(0, BLOCKS - blocks + 1, blocks)
-    if write:
-        return "".join(write_command(16 * i, 16 * blocks, turn + i) for turn in range(TURNS) for i in starts)
-    return "".join(read_command(16 * i, 16 * blocks) for i in starts) * TURNS
 
 
 def before_eight(program, other, folder):
