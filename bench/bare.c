@@ -178,23 +178,22 @@ static void moved_read(long first) {
         fills += is_fill(data + at);
 }
 
-static void once(const char *what, long first) {
-    if (strcmp(what, "pending") == 0)
-        take_pending(first);
-    else if (strcmp(what, "write") == 0)
-        bare_write(first);
-    else if (strcmp(what, "marked-write") == 0)
-        marked_write(first);
-    else if (strcmp(what, "kept-write") == 0)
-        kept_write(first);
-    else if (strcmp(what, "read") == 0)
-        bare_read(first);
-    else if (strcmp(what, "least-write") == 0)
-        least_write(first);
-    else if (strcmp(what, "least-read") == 0)
-        least_read(first);
-    else if (strcmp(what, "moved-read") == 0)
-        moved_read(first);
+static const struct {
+    const char *what;
+    void (*over_group)(long first);
+} loops[] = {
+    {"pending", take_pending}, {"write", bare_write},       {"marked-write", marked_write}, {"kept-write", kept_write},
+    {"read", bare_read},       {"least-write", least_write}, {"least-read", least_read},     {"moved-read", moved_read},
+};
+
+enum { LOOPS = sizeof loops / sizeof *loops };
+
+/* The loop of this name, or LOOPS where there is none. */
+static int loop_of(const char *what) {
+    int found = 0;
+    while (found < LOOPS && strcmp(what, loops[found].what) != 0)
+        found++;
+    return found;
 }
 
 int main(int count, char **words) {
@@ -205,10 +204,11 @@ int main(int count, char **words) {
     char what[16];
     long blocks;
     for (long line = 1; scanf("%15s%ld%ld%ld%ld%ld", what, &total, &first_block, &blocks, &group, &kept) == 6; line++) {
-        if (group < 1 || group > MOST_GROUP || kept < 1 || kept > MOST_KEPT)
+        const int loop = loop_of(what);
+        if (loop == LOOPS || group < 1 || group > MOST_GROUP || kept < 1 || kept > MOST_KEPT)
             return 2;
         for (long first = 0; first + group <= blocks; first += group)
-            once(what, first);
+            loops[loop].over_group(first);
         printf("%ld good\n", line);
         fflush(stdout);
     }
