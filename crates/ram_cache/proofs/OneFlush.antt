@@ -195,6 +195,16 @@ module _ (old new : Shown) (before after : Standing → Type 0) (p : List (ℕ �
       (subst (λ (n : ℕ). WriteStep new after (On d) (16 * n) 16 b out) is (step (On d) so)))
   flush_step number left out is e cause step (MayHave all) (ds, so, taken) = absurd ((shown (Off ds) so).1 on)
 
+-- A good write, after which the disc changed to one that stands for all that it stood for.
+pub good_stays : (before after : Standing → Type 0) (left : List (ℕ × List ℕ)) (out : WriteOut) → ((t : Standing) → before t → after t) → out ≡ writes.Good
+    → (s : Contents) → FlushContents (StandsCached before left) s out → FlushContents (StandsCached after left) s out
+good_stays before after left out same is s did =
+    subst (FlushContents (StandsCached after left) s) (sym is) (moved s (subst (FlushContents (StandsCached before left) s) is did))
+  where
+    moved : (s : Contents) → FlushContents (StandsCached before left) s writes.Good → FlushContents (StandsCached after left) s writes.Good
+    moved (Has v) (d, stands, under) = (d, same (On d) stands, under)
+    moved (MayHave all) none = none
+
 -- ---- what is left
 
 pub left_default : (out : WriteOut) (k : ℕ) (p : List (ℕ × List ℕ)) → out ≢ writes.Good → out ≢ writes.Cut → out ≢ writes.Fault → p ≡ left_at out k p

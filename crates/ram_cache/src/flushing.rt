@@ -118,7 +118,10 @@ impl<D: Disc> Cached<D> {
             .disc
             .write(16 * number, 16, self.pending.block(k).bytes());
         match out {
-            WriteOut::Good => self.pending.remove(k),
+            WriteOut::Good => {
+                self.pending.remove(k);
+                self.pending.exchange_room(&mut self.disc);
+            }
             WriteOut::Cut | WriteOut::Fault => self.pending.drop_all(),
             _ => {}
         }

@@ -116,6 +116,17 @@ impl PendingBlocks {
         self.count -= 1;
     }
 
+    /// Exchanges the room that is furthest behind, where a block that is dropped leaves its bytes, for one of the disc's.
+    pub(crate) fn exchange_room<D: Disc>(&mut self, disc: &mut D)
+        requires room { length (pending_of self.old) < 32 }
+        ensures pending { pending_of self.new ≡ pending_of self.old }
+        ensures same { D.shows disc.new ≡ D.shows disc.old }
+        ensures underwent { D.underwent disc.old disc.new }
+    {
+        let room = &mut self.rooms[ROOMS - 1];
+        disc.exchange_room(&mut room.1);
+    }
+
     /// Drops all.
     pub fn drop_all(&mut self)
         ensures { pending_of self.new ≡ [] }

@@ -143,4 +143,10 @@ pub trait Disc: Sectors {
     /// the power is off or the disc is not formatted.
     fn dds_block(&self, into: &mut Block) -> bool
         ensures { DdsRule (Self.shows self.now) into.old into.new result };
+
+    /// Exchanges this room for one that the drive reads into when it reads back. Either may have any bytes. It changes nothing else,
+    /// and is there for speed alone: the room of what was written last is near.
+    fn exchange_room(&mut self, room: &mut Block)
+        ensures same { Self.shows self.new ≡ Self.shows self.old }
+        ensures underwent { Self.underwent self.old self.new };
 }

@@ -16,7 +16,7 @@ ghost use Rattle.ram_lists.specs.Lists.{lists_of};
 ghost use Rattle.ram_transfer.specs.Layouts.{IsLaidOut};
 ghost use Rattle.ram_volume.specs.OneProof.{lawful_dds-prop, laid_out-prop};
 
-use ram_bytes::SECTORS_PER_BLOCK;
+use ram_bytes::{Block, SECTORS_PER_BLOCK};
 use ram_lists::Lists;
 use ram_medium::MediumControl;
 use ram_sdl::Sdl;
@@ -148,6 +148,21 @@ impl<M: MediumControl> NotFormatted<M> {
             workspace: _,
         } = self;
         medium
+    }
+}
+
+impl<M: MediumControl> State<M> {
+    ghost use Rattle.std.specs.Prelude.{◌≡◌};
+    ghost use Rattle.ram_volume.specs.Shown.{shown_state, medium_under};
+
+    /// Exchanges this room for that of what is read back, where the disc is formatted. Either may have any bytes.
+    pub fn exchange_room(&mut self, room: &mut Block)
+        ensures shown { shown_state self.new ≡ shown_state self.old }
+        ensures medium { medium_under self.new ≡ medium_under self.old }
+    {
+        if let State::Ready(ready) = self {
+            std::mem::swap(&mut ready.workspace.back, room);
+        }
     }
 }
 

@@ -201,4 +201,10 @@ impl<M: MediumControl> Disc for Volume<M> {
             Some(State::Off(_) | State::NotFormatted(_)) | None => false,
         }
     }
+
+    fn exchange_room(&mut self, room: &mut Block) {
+        if let Some(state) = &mut self.state {
+            state.exchange_room(room);
+        }
+    }
 }
