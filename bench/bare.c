@@ -12,8 +12,8 @@
    write         each block is written and read back, and nothing is looked at
    marked-write  the same, with the state byte of each block written before its data and again after them, as the image asks of
                  any drive
-   kept-write    the same, and what is read back of a block goes into another room than that of the last KEPT before it, as those
-                 are kept
+   kept-write    the same, and what is read back of the last KEPT blocks is kept. It goes into the room whose data were written last,
+                 and that of the oldest kept block is one for pending data then
    read          each block is read to its place, and nothing is looked at
    least-write   the state bytes of 64 blocks are read at a time, and the data of a group of blocks are made; of each block its
                  state byte is written, its data, and its state byte again; then its data are read back
@@ -37,13 +37,14 @@ static char command[COMMAND * BLOCK_BYTES];
 
 static char kept_blocks[MOST_KEPT + 1][BLOCK_BYTES];
 
-static char *const read_back = kept_blocks[0];
+/* Where the data of each block of a group lie, what is read back, and what was read back of the blocks that are kept. */
+static char *rooms[MOST_GROUP], *read_back, *kept_rooms[MOST_KEPT];
 
 static volatile int fills;
 
 static int file;
 
-static long total, first_block, group, kept;
+static long total, first_block, group, kept, oldest;
 
 static void moved(ssize_t bytes, ssize_t due) {
     if (bytes != due) {
@@ -82,13 +83,13 @@ static void take_pending(long first) {
         const long at = k % COMMAND;
         if (at == 0)
             memset(command, (char)(first + k), sizeof command);
-        memcpy(data + k * BLOCK_BYTES, command + at * BLOCK_BYTES, BLOCK_BYTES);
+        memcpy(rooms[k], command + at * BLOCK_BYTES, BLOCK_BYTES);
     }
 }
 
 static void bare_write(long first) {
     for (long k = 0; k < group; k++) {
-        write_data(first + k, data + k * BLOCK_BYTES);
+        write_data(first + k, rooms[k]);
         read_data(first + k, read_back);
     }
 }
@@ -98,21 +99,27 @@ static void bare_read(long first) {
         read_data(first + k, data + k * BLOCK_BYTES);
 }
 
-static void mark_and_write(long i, const char *from, char *back) {
+static void mark_and_write(long i, const char *from) {
     write_state(i, 2);
     write_data(i, from);
     write_state(i, 1);
-    read_data(i, back);
+    read_data(i, read_back);
 }
 
 static void marked_write(long first) {
     for (long k = 0; k < group; k++)
-        mark_and_write(first + k, data + k * BLOCK_BYTES, read_back);
+        mark_and_write(first + k, rooms[k]);
 }
 
 static void kept_write(long first) {
-    for (long k = 0; k < group; k++)
-        mark_and_write(first + k, data + k * BLOCK_BYTES, kept_blocks[(first + k) % (kept + 1)]);
+    for (long k = 0; k < group; k++) {
+        mark_and_write(first + k, rooms[k]);
+        char *const left = kept_rooms[oldest];
+        kept_rooms[oldest] = read_back;
+        read_back = rooms[k];
+        rooms[k] = left;
+        oldest = (oldest + 1) % kept;
+    }
 }
 
 static void least_write(long first) {
@@ -188,6 +195,14 @@ static const struct {
 
 enum { LOOPS = sizeof loops / sizeof *loops };
 
+static void give_rooms(void) {
+    for (long k = 0; k < MOST_GROUP; k++)
+        rooms[k] = data + k * BLOCK_BYTES;
+    for (long k = 0; k < MOST_KEPT; k++)
+        kept_rooms[k] = kept_blocks[k];
+    read_back = kept_blocks[MOST_KEPT];
+}
+
 /* The loop of this name, or LOOPS where there is none. */
 static int loop_of(const char *what) {
     int found = 0;
@@ -201,6 +216,7 @@ int main(int count, char **words) {
         return 2;
     file = open(words[2], O_RDWR);
     memset(data, 0xaa, sizeof data);
+    give_rooms();
     char what[16];
     long blocks;
     for (long line = 1; scanf("%15s%ld%ld%ld%ld%ld", what, &total, &first_block, &blocks, &group, &kept) == 6; line++) {

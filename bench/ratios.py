@@ -181,7 +181,7 @@ def synchronisations(bench, loops, disc):
     drive, (write, marked, kept) = longer(synchronised, taken), [longer(times, made) for times in written]
     row("32 blocks synchronised, beside bare writes and read-backs", drive, write, 1.25)
     row("the bare writes with state bytes, beside those without", marked, write)
-    row("and with nine rooms in turn for what is read back", kept, write)
+    row("and with what is read back in the room that was written last", kept, write)
 
 
 def beside(program, other, folder, name, cases):
