@@ -40,9 +40,11 @@ impl<M: MediumControl> Ready<M> {
                 let Ready {
                     medium,
                     geometry,
-                    lists: _,
-                    workspace: _,
+                    lists,
+                    workspace,
                 } = self;
+                drop(lists);
+                drop(workspace);
                 (State::Off(PoweredOff { medium, geometry }), FailEnd::Failed)
             }
         }
@@ -67,9 +69,11 @@ impl<M: MediumControl> NotFormatted<M> {
                     medium,
                     geometry,
                     mark: _,
-                    spare_list: _,
-                    workspace: _,
+                    spare_list,
+                    workspace,
                 } = self;
+                drop(spare_list);
+                drop(workspace);
                 (State::Off(PoweredOff { medium, geometry }), FailEnd::Failed)
             }
         }

@@ -73,8 +73,12 @@ impl<M: MediumControl> PoweredOff<M> {
                 spare_list: list,
                 workspace,
             }),
-            Err(Halt::Stopped { stop }) => stopped_on(medium, geometry, stop),
+            Err(Halt::Stopped { stop }) => {
+                stopped_mount(medium, geometry, (list, workspace), stop)
+            }
             Err(Halt::NoMemory) => {
+                drop(list);
+                drop(workspace);
                 medium.power_off();
                 PowerOn::NoMemory(PoweredOff { medium, geometry })
             }
@@ -82,8 +86,13 @@ impl<M: MediumControl> PoweredOff<M> {
     }
 }
 
-/// The drive whose mount was stopped for this cause, with its power off.
-fn stopped_on<M: MediumControl>(medium: M, geometry: Geometry, stop: Stop) -> PowerOn<M>
+/// The drive whose mount was stopped, with its power off, by the cause. What was kept in memory is let go.
+fn stopped_mount<M: MediumControl, K: Drop>(
+    medium: M,
+    geometry: Geometry,
+    kept: K,
+    stop: Stop,
+) -> PowerOn<M>
     requires size { M.block_count medium ≡ total geometry }
     requires off { ¬ IsTrue (M.world medium).power }
     requires was_on { ¬ (stop ≡ stops.Off) }
@@ -91,6 +100,7 @@ fn stopped_on<M: MediumControl>(medium: M, geometry: Geometry, stop: Stop) -> Po
     ensures medium { medium_after result ≡ medium }
     ensures out { StopsPower stop (power_out result) }
 {
+    drop(kept);
     let off = PoweredOff { medium, geometry };
     match stop {
         Stop::Cut => PowerOn::Cut(off),
@@ -125,6 +135,7 @@ impl<M: MediumControl> Ready<M> {
     {
         list.copy_from(&found.sdl);
         workspace.lay_out(&geometry, &found);
+        drop(found.sdl);
         Ready {
             medium,
             geometry,
@@ -146,9 +157,11 @@ impl<M: MediumControl> Ready<M> {
         let Ready {
             mut medium,
             geometry,
-            lists: _,
-            workspace: _,
+            lists,
+            workspace,
         } = self;
+        drop(lists);
+        drop(workspace);
         medium.power_off();
         PoweredOff { medium, geometry }
     }
@@ -166,9 +179,11 @@ impl<M: MediumControl> NotFormatted<M> {
             mut medium,
             geometry,
             mark: _,
-            spare_list: _,
-            workspace: _,
+            spare_list,
+            workspace,
         } = self;
+        drop(spare_list);
+        drop(workspace);
         medium.power_off();
         PoweredOff { medium, geometry }
     }
