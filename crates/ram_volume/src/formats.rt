@@ -123,6 +123,28 @@ impl<M: MediumControl> NotFormatted<M> {
 }
 
 impl<M: MediumControl> Ready<M> {
+    /// A drive of these parts, with these lists in use.
+    fn of_parts(medium: M, geometry: Geometry, lists: Lists, workspace: Workspace) -> Ready<M>
+        requires size { M.block_count medium ≡ total geometry }
+        requires on { IsTrue (M.world medium).power }
+        requires valid { AreValid geometry (lists_of lists) }
+        requires settled { AreSettled geometry (M.world medium).cells (lists_of lists) }
+        requires lawful_dds { IsLawfulDds (dds_of lists.dds) }
+        requires lawful_sdl { IsLawfulSdl (sdl_of lists.sdl) }
+        requires roomy { SDL_LIMIT ≤ lists.sdl.entries.room }
+        requires laid_out { IsLaidOut geometry (lists_of lists) workspace.layout workspace.cursors }
+        ensures shown { shown_ready result ≡ shown_under geometry
+            (machine_shown M.world M.arms M.armed_cut medium) (lists_of lists) workspace.buffer }
+        ensures medium { result.medium ≡ medium }
+    {
+        Ready {
+            medium,
+            geometry,
+            lists,
+            workspace,
+        }
+    }
+
     /// A drive of these parts, with these lists in use. It buffers nothing.
     pub(crate) fn over(
         medium: M,
@@ -143,12 +165,7 @@ impl<M: MediumControl> Ready<M> {
         ensures medium { result.medium ≡ medium }
     {
         workspace.buffer.drop_all();
-        Ready {
-            medium,
-            geometry,
-            lists,
-            workspace,
-        }
+        Self::of_parts(medium, geometry, lists, workspace)
     }
 
     /// A drive of a disc with these new lists, by which its layout is made anew. It buffers nothing.
@@ -239,12 +256,7 @@ impl<M: MediumControl> Ready<M> {
                 (State::NotFormatted(bare), FormatOut::TooMany { found })
             }
             Err(FormatHalt::NoRoom { mark }) => {
-                let ready = Ready {
-                    medium,
-                    geometry,
-                    lists,
-                    workspace,
-                };
+                let ready = Self::of_parts(medium, geometry, lists, workspace);
                 (State::Ready(ready), FormatOut::NoUpdate { counter: mark })
             }
             Err(FormatHalt::NoCopy { counter, mark }) => {
@@ -256,12 +268,7 @@ impl<M: MediumControl> Ready<M> {
                 stopped(medium, geometry, (lists, workspace), stop)
             }
             Err(FormatHalt::NoMemory) => {
-                let ready = Ready {
-                    medium,
-                    geometry,
-                    lists,
-                    workspace,
-                };
+                let ready = Self::of_parts(medium, geometry, lists, workspace);
                 (State::Ready(ready), FormatOut::NoMemory)
             }
         }

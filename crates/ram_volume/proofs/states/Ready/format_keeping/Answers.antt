@@ -9,7 +9,7 @@ use Rattle.ram_lists.specs.Lists.{lists_of}
 use Rattle.ram_format.proofs.Keeps.{are_apart, are_kept}
 use Rattle.ram_volume.specs.Shown.{shown_ready}
 use Rattle.ram_volume.specs.Formats.{FormatSteps}
-use Rattle.ram_volume.proofs.FormatAnswers.{full_good, full_good_steps, full_many, full_many_steps, full_lost, full_lost_steps, lost_leaves, full_stopped}
+use Rattle.ram_volume.proofs.FormatAnswers.{full_good, full_good_steps, full_many, full_many_steps, full_lost, full_lost_steps, lost_leaves, full_stopped, full_unroomy, full_refused}
 use Rattle.model_medium.specs.Happened.{Happened}
 use Rattle.std.proofs.Common.{inl, inr}
 use Rattle.ram_medium.proofs.Parts.{nothing_happened, part_happened, stop_happened}
@@ -81,11 +81,13 @@ returns-in-Err-NoCopy-clause-happened g c =
 
 pub returns-in-Err-NoRoom-clause-happened : goal.returns-in-Err-NoRoom-clause-happened
 returns-in-Err-NoRoom-clause-happened g c =
-    nothing_happened g.M.Medium.world g.M.Medium.reaches g.M.Medium.takes g.met.M.Medium.happened c.args.self.medium c.format_lists.new.medium (rw c.in-Err-NoRoom.field-0-is at c.in-Err-NoRoom.ensures.rule).nothing
+    subst (Happened g.M.Medium.takes c.args.self.medium) (sym c.of_parts-ready.ensures.medium)
+    (nothing_happened g.M.Medium.world g.M.Medium.reaches g.M.Medium.takes g.met.M.Medium.happened c.args.self.medium c.format_lists.new.medium (rw c.in-Err-NoRoom.field-0-is at c.in-Err-NoRoom.ensures.rule).nothing)
 
 pub returns-in-Err-NoMemory-clause-happened : goal.returns-in-Err-NoMemory-clause-happened
 returns-in-Err-NoMemory-clause-happened g c =
-    nothing_happened g.M.Medium.world g.M.Medium.reaches g.M.Medium.takes g.met.M.Medium.happened c.args.self.medium c.format_lists.new.medium (rw c.in-Err-NoMemory.field-0-is at c.in-Err-NoMemory.ensures.rule).nothing
+    subst (Happened g.M.Medium.takes c.args.self.medium) (sym c.of_parts-ready-in-Err-NoMemory.ensures.medium)
+    (nothing_happened g.M.Medium.world g.M.Medium.reaches g.M.Medium.takes g.met.M.Medium.happened c.args.self.medium c.format_lists.new.medium (rw c.in-Err-NoMemory.field-0-is at c.in-Err-NoMemory.ensures.rule).nothing)
 
 pub returns-in-Err-Stopped-clause-cause : goal.returns-in-Err-Stopped-clause-cause
 returns-in-Err-Stopped-clause-cause g c =
@@ -99,3 +101,19 @@ pub returns-in-Err-Stopped-clause-happened : goal.returns-in-Err-Stopped-clause-
 returns-in-Err-Stopped-clause-happened g c =
     subst (Happened g.M.Medium.takes c.args.self.medium) (sym c.stopped.ensures.medium)
     (stop_happened g.M.Medium.world g.M.Medium.reaches g.M.Medium.takes g.met.M.Medium.happened c.args.self.medium c.format_lists.new.medium _ c.in-Err-Stopped.stop c.args.self.on (rw c.in-Err-Stopped.field-0-is at c.in-Err-Stopped.ensures.rule).stops)
+
+pub returns-in-Err-NoRoom-clause-cause : goal.returns-in-Err-NoRoom-clause-cause
+returns-in-Err-NoRoom-clause-cause g c =
+    (full_unroomy g.M.Medium.world g.M.Medium.reaches g.M.Medium.takes g.M.MediumControl.arms g.M.MediumControl.armed_cut g.met.M.MediumControl.control_laws c.args.self.geometry c.args.self.medium c.format_lists.new.medium (lists_of c.args.self.lists) c.args.self.workspace.buffer c.args.drop_sdl c.args.kept.now c.requires c.args.self.valid c.args.self.settled (shown_ready c.of_parts-ready.result) c.of_parts-ready.ensures.shown c.in-Err-NoRoom.mark (rw c.in-Err-NoRoom.field-0-is at c.in-Err-NoRoom.ensures.rule)).0
+
+pub returns-in-Err-NoRoom-clause-step : goal.returns-in-Err-NoRoom-clause-step
+returns-in-Err-NoRoom-clause-step g c =
+    (full_unroomy g.M.Medium.world g.M.Medium.reaches g.M.Medium.takes g.M.MediumControl.arms g.M.MediumControl.armed_cut g.met.M.MediumControl.control_laws c.args.self.geometry c.args.self.medium c.format_lists.new.medium (lists_of c.args.self.lists) c.args.self.workspace.buffer c.args.drop_sdl c.args.kept.now c.requires c.args.self.valid c.args.self.settled (shown_ready c.of_parts-ready.result) c.of_parts-ready.ensures.shown c.in-Err-NoRoom.mark (rw c.in-Err-NoRoom.field-0-is at c.in-Err-NoRoom.ensures.rule)).1
+
+pub returns-in-Err-NoMemory-clause-cause : goal.returns-in-Err-NoMemory-clause-cause
+returns-in-Err-NoMemory-clause-cause g c =
+    (full_refused g.M.Medium.world g.M.Medium.reaches g.M.Medium.takes g.M.MediumControl.arms g.M.MediumControl.armed_cut g.met.M.MediumControl.control_laws c.args.self.geometry c.args.self.medium c.format_lists.new.medium (lists_of c.args.self.lists) c.args.self.workspace.buffer c.args.drop_sdl c.args.kept.now c.requires c.args.self.valid c.args.self.settled (shown_ready c.of_parts-ready-in-Err-NoMemory.result) c.of_parts-ready-in-Err-NoMemory.ensures.shown (rw c.in-Err-NoMemory.field-0-is at c.in-Err-NoMemory.ensures.rule)).0
+
+pub returns-in-Err-NoMemory-clause-step : goal.returns-in-Err-NoMemory-clause-step
+returns-in-Err-NoMemory-clause-step g c =
+    (full_refused g.M.Medium.world g.M.Medium.reaches g.M.Medium.takes g.M.MediumControl.arms g.M.MediumControl.armed_cut g.met.M.MediumControl.control_laws c.args.self.geometry c.args.self.medium c.format_lists.new.medium (lists_of c.args.self.lists) c.args.self.workspace.buffer c.args.drop_sdl c.args.kept.now c.requires c.args.self.valid c.args.self.settled (shown_ready c.of_parts-ready-in-Err-NoMemory.result) c.of_parts-ready-in-Err-NoMemory.ensures.shown (rw c.in-Err-NoMemory.field-0-is at c.in-Err-NoMemory.ensures.rule)).1
