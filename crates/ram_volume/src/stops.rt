@@ -72,7 +72,8 @@ impl StoppableOut for ExpandOut {
     }
 }
 
-/// The drive of a call that was stopped, with its power off, and the outcome of the call. What was kept in memory is let go.
+/// The drive of a call that was stopped, with its power off, and the outcome of the call. What was kept in memory is let
+/// go.
 pub fn stopped<M: MediumControl, K: Drop, O: StoppableOut>(
     medium: M,
     geometry: Geometry,
