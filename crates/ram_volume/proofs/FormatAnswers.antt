@@ -1,5 +1,5 @@
 -- The answers of a format in each state: why they come, and what the drive stands for then.
-use Rattle.std.proofs.Common.{◌≡◌, ℕ, ◌⊎◌, inl, inr, IsTrue, Bool, false, Option, Some, None, List, [], refl}
+use Rattle.std.proofs.Common.{◌≡◌, ℕ, ◌⊎◌, inl, inr, IsTrue, Bool, false, Option, Some, None, List, [], refl, sym, ap, ◌∙◌, subst}
 use Rattle.model_geometry.specs.Geometry.{Shape}
 use Rattle.model_lists.specs.declared.dds.PdlEntry.{PdlEntry}
 use Rattle.model_lists.specs.declared.dds.PdlKind.{PdlKind}
@@ -23,10 +23,11 @@ use Rattle.model_drive.proofs.Powers.{KeepsRight}
 use Rattle.model_drive.proofs.FormatSteps.{format_step}
 use Rattle.ram_medium.specs.Laws.{ControlLaws, machine_shown}
 use Rattle.ram_format.specs.Keeping.{AreAllKept}
-use Rattle.ram_format.specs.Full.{MakesLists, MeetsTooMany, LosesFirst, LosesSecond, LosesThird, LeavesNoLists, FormatStopped}
+use Rattle.ram_format.specs.Full.{MakesLists, HasNoRoom, FormatNoMemory, MeetsTooMany, LosesFirst, LosesSecond, LosesThird, LeavesNoLists, FormatStopped}
 use Rattle.ram_format.specs.Rewriting.{HaveCopies, LacksCopies, RewriteStopped}
 use Rattle.ram_format.proofs.Keeps.{none_kept}
 use Rattle.model_places.specs.Valid.{AreValid}
+use Rattle.model_volume.specs.Given.{AreSettled}
 use Rattle.ram_transfer.specs.Shown.{shown_without, shown_unformatted, shown_under}
 use Rattle.ram_transfer.specs.Stopped.{format_stopped_by}
 use Rattle.ram_volume.specs.Formats.{FormatSteps}
@@ -137,6 +138,21 @@ module _ {M : Type 0} (world : M → World) (reaches : M → M → Span → Type
       full_stopped stops.Cut on was = went_off (kinds.Full drop_sdl) outs.Cut (stop_cause world reaches takes arms armed_cut laws shape (Some lists) mark buffer drop_sdl kept all old new stops.Cut was) was.stops.cut.turns_off
       full_stopped stops.Off on was = absurd (was.stops.was_off on)
       full_stopped stops.Fault on was = went_off (kinds.Full drop_sdl) outs.Fault (stop_cause world reaches takes arms armed_cut laws shape (Some lists) mark buffer drop_sdl kept all old new stops.Fault was) was.counts.turns_off
+
+      -- nothing was done
+      module _ (valid : AreValid shape lists) (settled : AreSettled shape (world old).cells lists) (after : Shown) (is : after ≡ shown_under shape (machine new) lists buffer) where
+        undone : (out : FormatOut) → new ≡ old → (after ≡ ready → FormatCause ready after (kinds.Full drop_sdl) out) → FormatCause ready after (kinds.Full drop_sdl) out × FormatSteps ready after (kinds.Full drop_sdl) out
+        undone out nothing cause =
+            let same : after ≡ ready = is ∙ ap (λ (m : M). shown_under shape (machine m) lists buffer) nothing in
+            (cause same, steps ready after (ap (λ (s : Shown). s.shape) same) (subst KeepsRight (sym same) (under_right shape (machine old) lists buffer valid settled)) (kinds.Full drop_sdl) out (cause same))
+
+        pub full_unroomy : (left : ℕ) → HasNoRoom world reaches shape kept pdl_kinds.G1 mark old new left
+            → FormatCause ready after (kinds.Full drop_sdl) (outs.NoUpdate left) × FormatSteps ready after (kinds.Full drop_sdl) (outs.NoUpdate left)
+        full_unroomy left was = undone (outs.NoUpdate left) was.nothing (λ same. inl (record { was_on = was.was_on; full = was.full; counter_is = was.left_is; nothing = same }))
+
+        pub full_refused : FormatNoMemory world reaches shape kept pdl_kinds.G1 mark old new
+            → FormatCause ready after (kinds.Full drop_sdl) outs.NoMemory × FormatSteps ready after (kinds.Full drop_sdl) outs.NoMemory
+        full_refused was = undone outs.NoMemory was.nothing (λ same. record { was_on = was.was_on; nothing = same })
 
     -- or by writing its lists again
     module _ (valid : AreValid shape lists) where

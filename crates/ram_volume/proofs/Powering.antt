@@ -1,7 +1,7 @@
 -- What turning the power on shows, by how the mount ended.
-use Rattle.std.proofs.Common.{◌≡◌, ℕ, ◌+◌, Bool, true, false, Option, Some, None, List, [], refl, sym, ap, ◌∙◌, subst}
+use Rattle.std.proofs.Common.{◌≡◌, ℕ, ◌+◌, IsTrue, Bool, true, false, Option, Some, None, List, [], refl, sym, ap, ◌∙◌, subst}
 use Rattle.model_geometry.specs.Geometry.{Shape}
-use Rattle.model_lists.specs.Values.{Dds}
+use Rattle.model_lists.specs.Values.{Dds, Sdl}
 use Rattle.model_medium.specs.World.{World, Span, Uses}
 use Rattle.model_medium.specs.Machine.{Machine}
 use Rattle.model_medium.specs.Exact.{Event, PowerOn, PowerOff}
@@ -15,19 +15,19 @@ use Rattle.model_survival.specs.Stops.{StopsMounting}
 use Rattle.model_stops.specs.Stops.{Stops}
 use Rattle.model_stops.specs.declared.Stop.{Stop}
 use Rattle.model_stops.specs.declared.Stop.TheVariants as stops
+use Rattle.model_sectors.specs.declared.PowerOut.{PowerOut}
 use Rattle.model_sectors.specs.declared.PowerOut.TheVariants as outs
-use Rattle.model_lists.specs.Values.{Sdl}
 use Rattle.model_places.specs.Places.{Lists}
 use Rattle.model_drive.proofs.Ends.{stop_off}
 use Rattle.model_drive.proofs.Powers.{power_step}
 use Rattle.model_drive.specs.Shown.{Shown, capacity}
 use Rattle.model_drive.specs.Repairs.{mount_most, RepairsList, RepairsSdl}
-use Rattle.model_drive.specs.Power.{turned_on, MountsAny, MountsLists, MountsNone, RepairsChosenDds, StopsInMount, MountLacksMemory}
+use Rattle.model_drive.specs.Power.{PowerCause, turned_on, MountsAny, MountsLists, MountsNone, RepairsChosenDds, StopsInMount, MountLacksMemory}
 use Rattle.ram_medium.specs.Laws.{ControlLaws, machine_shown}
 use Rattle.ram_lists.specs.Mounts.{KeepsGiven, RepairsCopies, RepairsBothParts, RepairsChosen, EndsWithLists, EndsBare, WasStopped, WasOutOfMemory}
 use Rattle.ram_transfer.specs.Shown.{shown_without, shown_unformatted, shown_under}
 use Rattle.ram_transfer.proofs.Machines.{machine_stops}
-use Rattle.ram_volume.specs.Powers.{PowerSteps}
+use Rattle.ram_volume.specs.Powers.{PowerSteps, StopsPower}
 use Rattle.ram_volume.proofs.Keeping.{off_right, under_right}
 
 module _ {M : Type 0} (world : M → World) (reaches : M → M → Span → Type 0) (takes : M → M → Event → Type 0) (arms : M → List WornBlock) (armed_cut : M → Option ArmedCut)
@@ -97,23 +97,10 @@ module _ {M : Type 0} (world : M → World) (reaches : M → M → Span → Type
       ends = record { reach = reached new (8 + ends.mores + (ends.dds_uses + ends.sdl_uses)) ends.ended.continues.reach; is_on = ends.ended.continues.is_on };
     }
 
-    abbrev under : M → Dds → Sdl → List (ℕ × List ℕ) → Shown
-    under new dds sdl buffer = shown_under shape (machine new) (record { dds = dds; sdl = sdl }) buffer
-
-    module _ (new : M) (found : Lists) (ends : EndsWithLists world reaches shape on new found) (sdl : Sdl) (same : sdl ≡ found.sdl) (buffer : List (ℕ × List ℕ)) (empty : buffer ≡ []) where
-      pub mounted_ready : MountsLists old (under new found.dds sdl buffer) (capacity (under new found.dds sdl buffer))
-      mounted_ready =
-          subst (λ (b : List (ℕ × List ℕ)). MountsLists old (under new found.dds sdl b) (capacity (under new found.dds sdl b))) (sym empty)
-          (subst (λ (s : Sdl). MountsLists old (under new found.dds s []) (capacity (under new found.dds s []))) (sym same) (mounted new found ends))
-
-      steps : PowerSteps old (shown_under shape (machine new) found []) (outs.Ready (capacity (shown_under shape (machine new) found [])))
-      steps s stood =
-          power_step old (shown_under shape (machine new) found []) refl (under_right shape (machine new) found [] ends.finds.valid ends.finds.settled) s stood (outs.Ready _) (mounted new found ends)
-
-      pub ready_steps : PowerSteps old (under new found.dds sdl buffer) (outs.Ready (capacity (under new found.dds sdl buffer)))
-      ready_steps =
-          subst (λ (b : List (ℕ × List ℕ)). PowerSteps old (under new found.dds sdl b) (outs.Ready (capacity (under new found.dds sdl b)))) (sym empty)
-          (subst (λ (s : Sdl). PowerSteps old (under new found.dds s []) (outs.Ready (capacity (under new found.dds s [])))) (sym same) steps)
+    pub ready_steps : (new : M) (found : Lists) → EndsWithLists world reaches shape on new found
+        → PowerSteps old (shown_under shape (machine new) found []) (outs.Ready (capacity (shown_under shape (machine new) found [])))
+    ready_steps new found ends s stood =
+        power_step old (shown_under shape (machine new) found []) refl (under_right shape (machine new) found [] ends.finds.valid ends.finds.settled) s stood (outs.Ready _) (mounted new found ends)
 
     repaired_chosen : (new : M) (mark : ℕ) (chosen : Option Dds) (uses : ℕ) → RepairsChosen shape (world on) (world new) chosen uses → RepairsChosenDds old (after new None mark) chosen uses
     repaired_chosen new mark None uses r = r
@@ -140,22 +127,27 @@ module _ {M : Type 0} (world : M → World) (reaches : M → M → Span → Type
     stops_shown new stop s =
         subst (λ (m : Machine). Stops (λ (m : Machine). m.world) ReachBy m (machine new) mount_most stop) (laws.exactly off on PowerOn turned) (machine_stops world reaches takes arms armed_cut laws on new 48 mount_most refl stop s)
 
-    pub stopped : (new : M) (stop : Stop) → WasStopped world reaches shape on new stop → StopsInMount old (shown_without shape (machine new)) stop
-    stopped new stop was = record {
+    was_stopped : (new : M) (stop : Stop) → WasStopped world reaches shape on new stop → StopsInMount old (shown_without shape (machine new)) stop
+    was_stopped new stop was = record {
       any = any new None 0 was.keeps;
       stopped = record { stops = stops_shown new stop was.stops; no_lists = refl; no_mark = refl; no_buffer = refl };
       left = subst (λ (w : World). w.known ≡ true → StopsMounting shape w.cells (world new).cells) powers was.left;
     }
 
-    pub cut_steps : (new : M) → WasStopped world reaches shape on new stops.Cut → PowerSteps old (shown_without shape (machine new)) outs.Cut
-    cut_steps new was s stood =
-        let cause = stopped new stops.Cut was in
-        power_step old (shown_without shape (machine new)) refl (off_right shape (machine new) (stop_off (turned_on old).medium (machine new) mount_most stops.Cut cause.stopped.stops)) s stood outs.Cut cause
+    -- the power was on before, so that it was no call on a medium without
+    pub was_on : (new : M) (stop : Stop) → WasStopped world reaches shape on new stop → ¬ (stop ≡ stops.Off)
+    was_on new stop was is = (subst (λ (s : Stop). Stops world reaches on new 48 s) is was.stops).was_off was.was_on
 
-    pub fault_steps : (new : M) → WasStopped world reaches shape on new stops.Fault → PowerSteps old (shown_without shape (machine new)) outs.Fault
-    fault_steps new was s stood =
-        let cause = stopped new stops.Fault was in
-        power_step old (shown_without shape (machine new)) refl (off_right shape (machine new) (stop_off (turned_on old).medium (machine new) mount_most stops.Fault cause.stopped.stops)) s stood outs.Fault cause
+    pub fell : (new : M) (stop : Stop) → WasStopped world reaches shape on new stop → ¬ IsTrue (world new).power
+    fell new stop was = stop_off (turned_on old).medium (machine new) mount_most stop (stops_shown new stop was.stops)
+
+    pub stopped : (new : M) (stop : Stop) (out : PowerOut) → StopsPower stop out → WasStopped world reaches shape on new stop
+        → PowerCause old (shown_without shape (machine new)) out × PowerSteps old (shown_without shape (machine new)) out
+    stopped new stops.Cut out is was = subst (λ (o : PowerOut). PowerCause old (before new) o × PowerSteps old (before new) o) (sym is)
+        (was_stopped new stops.Cut was, λ s stood. power_step old (before new) refl (off_right shape (machine new) (fell new stops.Cut was)) s stood outs.Cut (was_stopped new stops.Cut was))
+    stopped new stops.Off out is was = absurd is
+    stopped new stops.Fault out is was = subst (λ (o : PowerOut). PowerCause old (before new) o × PowerSteps old (before new) o) (sym is)
+        (was_stopped new stops.Fault was, λ s stood. power_step old (before new) refl (off_right shape (machine new) (fell new stops.Fault was)) s stood outs.Fault (was_stopped new stops.Fault was))
 
     pub lacks_memory : (mid new : M) → WasOutOfMemory world reaches shape on mid → takes mid new PowerOff → world new ≡ record (world mid) { power = false }
         → MountLacksMemory old (shown_without shape (machine new))

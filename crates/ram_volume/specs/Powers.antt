@@ -1,5 +1,7 @@
 -- What turning the power on and off does: for `power_on` and `power_off`. (This project's own, as all here.)
-use Rattle.std.specs.Prelude.{false, None, []}
+use Rattle.std.specs.Prelude.{◌≡◌, false, None, []}
+use Rattle.model_stops.specs.declared.Stop.{Stop}
+use Rattle.model_stops.specs.declared.Stop.TheVariants as stops
 use Rattle.model_sectors.specs.Discs.{Standing}
 use Rattle.model_sectors.specs.declared.PowerOut.{PowerOut}
 use Rattle.model_sectors.specs.declared.PowerOut.TheVariants as outs
@@ -45,6 +47,12 @@ module _ {M : Type 0} {c : ControlGhosts M} {d : Ghosts M} where
   power_out (powers.Cut off) = outs.Cut
   power_out (powers.Fault off) = outs.Fault
   power_out (powers.NoMemory off) = outs.NoMemory
+
+-- how the turning on ends whose mount was stopped for this cause
+abbrev pub StopsPower : Stop → PowerOut → Type 0
+StopsPower stops.Cut out = out ≡ outs.Cut
+StopsPower stops.Off out = ⊥
+StopsPower stops.Fault out = out ≡ outs.Fault
 
 -- What the drive stands for after that, for each thing that it stood for.
 abbrev pub PowerSteps : Shown → Shown → PowerOut → Type 0

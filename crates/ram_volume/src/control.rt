@@ -7,10 +7,78 @@ ghost use Rattle.model_sectors.specs.Discs.{Standing};
 ghost use Rattle.model_drive.specs.Shown.{StandsFor};
 ghost use Rattle.ram_medium.specs.Control.{Fails, Arms, WearRule, with_armed_cut};
 ghost use Rattle.ram_volume.specs.Control.{KeepsMemory, FailOnDrive, FailStands};
-ghost use Rattle.ram_volume.specs.Shown.{shown_state, medium_under};
+ghost use Rattle.ram_volume.specs.Shown.{shown_off, shown_bare, shown_ready, shown_state, medium_under};
 
 use crate::states::{NotFormatted, PoweredOff, Ready, State};
 use ram_medium::{Arm, FailEnd, Fate, MediumControl};
+
+impl<M: MediumControl> PoweredOff<M> {
+    /// [`State::fail`] with the power off: the state stays in any case.
+    fn fail(mut self, block: u32) -> (State<M>, FailEnd)
+        ensures rule { FailOnDrive (shown_off self) (shown_state result.0) block result.1 }
+        ensures told { M.was_told self.medium (medium_under result.0) (Fails block result.1) }
+        ensures stands { (s : Standing) → StandsFor (shown_off self) s
+            → FailStands (shown_state result.0) s result.1 }
+    {
+        let end = self.medium.fail(block);
+        (State::Off(self), end)
+    }
+}
+
+impl<M: MediumControl> Ready<M> {
+    /// [`State::fail`] of a formatted disc.
+    fn fail(mut self, block: u32) -> (State<M>, FailEnd)
+        ensures rule { FailOnDrive (shown_ready self) (shown_state result.0) block result.1 }
+        ensures told { M.was_told self.medium (medium_under result.0) (Fails block result.1) }
+        ensures stands { (s : Standing) → StandsFor (shown_ready self) s
+            → FailStands (shown_state result.0) s result.1 }
+    {
+        match self.medium.fail(block) {
+            FailEnd::Done => (State::Ready(self), FailEnd::Done),
+            FailEnd::NoBlock { blocks } => (State::Ready(self), FailEnd::NoBlock { blocks }),
+            FailEnd::Failed => {
+                let Ready {
+                    medium,
+                    geometry,
+                    lists,
+                    workspace,
+                } = self;
+                drop(lists);
+                drop(workspace);
+                (State::Off(PoweredOff { medium, geometry }), FailEnd::Failed)
+            }
+        }
+    }
+}
+
+impl<M: MediumControl> NotFormatted<M> {
+    /// [`State::fail`] of a disc that is not formatted.
+    fn fail(mut self, block: u32) -> (State<M>, FailEnd)
+        ensures rule { FailOnDrive (shown_bare self) (shown_state result.0) block result.1 }
+        ensures told { M.was_told self.medium (medium_under result.0) (Fails block result.1) }
+        ensures stands { (s : Standing) → StandsFor (shown_bare self) s
+            → FailStands (shown_state result.0) s result.1 }
+    {
+        match self.medium.fail(block) {
+            FailEnd::Done => (State::NotFormatted(self), FailEnd::Done),
+            FailEnd::NoBlock { blocks } => {
+                (State::NotFormatted(self), FailEnd::NoBlock { blocks })
+            }
+            FailEnd::Failed => {
+                let NotFormatted {
+                    medium,
+                    geometry,
+                    mark: _,
+                    spare_list,
+                    workspace,
+                } = self;
+                drop(spare_list);
+                drop(workspace);
+                (State::Off(PoweredOff { medium, geometry }), FailEnd::Failed)
+            }
+        }
+    }
+}
 
 impl<M: MediumControl> State<M> {
     /// Makes the block of the medium of this number, counted from 0, dead: `Done`. There is no such block, and nothing
@@ -23,39 +91,9 @@ impl<M: MediumControl> State<M> {
             → FailStands (shown_state result.0) s result.1 }
     {
         match self {
-            State::Off(mut off) => {
-                let end = off.medium.fail(block);
-                (State::Off(off), end)
-            }
-            State::Ready(mut ready) => match ready.medium.fail(block) {
-                FailEnd::Done => (State::Ready(ready), FailEnd::Done),
-                FailEnd::NoBlock { blocks } => (State::Ready(ready), FailEnd::NoBlock { blocks }),
-                FailEnd::Failed => {
-                    let Ready {
-                        medium,
-                        geometry,
-                        lists: _,
-                        workspace: _,
-                    } = ready;
-                    (State::Off(PoweredOff { medium, geometry }), FailEnd::Failed)
-                }
-            },
-            State::NotFormatted(mut bare) => match bare.medium.fail(block) {
-                FailEnd::Done => (State::NotFormatted(bare), FailEnd::Done),
-                FailEnd::NoBlock { blocks } => {
-                    (State::NotFormatted(bare), FailEnd::NoBlock { blocks })
-                }
-                FailEnd::Failed => {
-                    let NotFormatted {
-                        medium,
-                        geometry,
-                        mark: _,
-                        spare_list: _,
-                        workspace: _,
-                    } = bare;
-                    (State::Off(PoweredOff { medium, geometry }), FailEnd::Failed)
-                }
-            },
+            State::Off(off) => off.fail(block),
+            State::Ready(ready) => ready.fail(block),
+            State::NotFormatted(bare) => bare.fail(block),
         }
     }
 

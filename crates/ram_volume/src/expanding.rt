@@ -56,8 +56,7 @@ impl<M: MediumControl> Ready<M> {
             &mut work.scratch,
         ) {
             Ok(Grown::Good) => {
-                workspace.lay_out(&geometry, &lists);
-                let ready = Ready::over(medium, geometry, lists, workspace);
+                let ready = Ready::formatted(medium, geometry, lists, workspace);
                 (State::Ready(ready), ExpandOut::Good)
             }
             Ok(Grown::Refused) => {
@@ -74,7 +73,7 @@ impl<M: MediumControl> Ready<M> {
                 let ready = Ready::over(medium, geometry, lists, workspace);
                 (State::Ready(ready), ExpandOut::NoUpdate { counter })
             }
-            Err(stop) => stopped(medium, geometry, stop),
+            Err(stop) => stopped(medium, geometry, (lists, workspace), stop),
         }
     }
 }

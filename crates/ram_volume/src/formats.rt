@@ -1,6 +1,6 @@
 //! Formats of the disc in a drive whose power is on, of either kind.
 
-ghost use Rattle.std.specs.Prelude.{◌≡◌, ◌+◌, ◌≤◌, IsTrue, [], length};
+ghost use Rattle.std.specs.Prelude.{◌≡◌, ◌+◌, ◌≤◌, IsTrue, Some, [], length};
 ghost use Rattle.model_geometry.specs.declared.TheConstants.{SDL_LIMIT};
 ghost use Rattle.model_geometry.specs.Geometry.{total};
 ghost use Rattle.model_lists.specs.Values.{IsLawfulDds, IsLawfulSdl};
@@ -14,6 +14,7 @@ ghost use Rattle.ram_medium.specs.Laws.{machine_shown};
 ghost use Rattle.ram_dds.specs.Dds.{dds_of};
 ghost use Rattle.ram_sdl.specs.Sdl.{sdl_of};
 ghost use Rattle.ram_lists.specs.Lists.{lists_of};
+ghost use Rattle.ram_format.specs.Keeping.{AreAllKept};
 ghost use Rattle.ram_transfer.specs.Shown.{shown_unformatted, shown_under};
 ghost use Rattle.ram_transfer.specs.Layouts.{IsLaidOut};
 ghost use Rattle.ram_volume.specs.Shown.{shown_bare, shown_ready, shown_state, medium_under};
@@ -21,6 +22,7 @@ ghost use Rattle.ram_volume.specs.Formats.{FormatSteps};
 
 use crate::states::{NotFormatted, Ready, State};
 use crate::stops::stopped;
+use ram_dds::PdlEntry;
 use ram_format::{FormatHalt, format_lists, kept_entries, repair_lists};
 use ram_lists::Lists;
 use ram_medium::MediumControl;
@@ -91,9 +93,9 @@ impl<M: MediumControl> NotFormatted<M> {
         } = self;
         let scratch = &mut workspace.scratch;
         match format_lists(alloc, &mut medium, &geometry, &[], true, mark, scratch) {
-            Ok(lists) => {
-                workspace.lay_out(&geometry, &lists);
-                let ready = Ready::over(medium, geometry, lists, workspace);
+            Ok(made) => {
+                drop(list);
+                let ready = Ready::formatted(medium, geometry, made, workspace);
                 (State::Ready(ready), FormatOut::Good)
             }
             Err(FormatHalt::TooMany { found, mark }) => {
@@ -111,7 +113,7 @@ impl<M: MediumControl> NotFormatted<M> {
                 let bare = Self::over(medium, geometry, mark, list, workspace);
                 (State::NotFormatted(bare), FormatOut::NoUpdate { counter })
             }
-            Err(FormatHalt::Stopped { stop }) => stopped(medium, geometry, stop),
+            Err(FormatHalt::Stopped { stop }) => stopped(medium, geometry, (list, workspace), stop),
             Err(FormatHalt::NoMemory) => {
                 let bare = Self::over(medium, geometry, mark, list, workspace);
                 (State::NotFormatted(bare), FormatOut::NoMemory)
@@ -121,6 +123,28 @@ impl<M: MediumControl> NotFormatted<M> {
 }
 
 impl<M: MediumControl> Ready<M> {
+    /// A drive of these parts, with these lists in use.
+    fn of_parts(medium: M, geometry: Geometry, lists: Lists, workspace: Workspace) -> Ready<M>
+        requires size { M.block_count medium ≡ total geometry }
+        requires on { IsTrue (M.world medium).power }
+        requires valid { AreValid geometry (lists_of lists) }
+        requires settled { AreSettled geometry (M.world medium).cells (lists_of lists) }
+        requires lawful_dds { IsLawfulDds (dds_of lists.dds) }
+        requires lawful_sdl { IsLawfulSdl (sdl_of lists.sdl) }
+        requires roomy { SDL_LIMIT ≤ lists.sdl.entries.room }
+        requires laid_out { IsLaidOut geometry (lists_of lists) workspace.layout workspace.cursors }
+        ensures shown { shown_ready result ≡ shown_under geometry
+            (machine_shown M.world M.arms M.armed_cut medium) (lists_of lists) workspace.buffer }
+        ensures medium { result.medium ≡ medium }
+    {
+        Ready {
+            medium,
+            geometry,
+            lists,
+            workspace,
+        }
+    }
+
     /// A drive of these parts, with these lists in use. It buffers nothing.
     pub(crate) fn over(
         medium: M,
@@ -141,12 +165,31 @@ impl<M: MediumControl> Ready<M> {
         ensures medium { result.medium ≡ medium }
     {
         workspace.buffer.drop_all();
-        Ready {
-            medium,
-            geometry,
-            lists,
-            workspace,
-        }
+        Self::of_parts(medium, geometry, lists, workspace)
+    }
+
+    /// A drive of a disc with these new lists, by which its layout is made anew. It buffers nothing.
+    pub(crate) fn formatted(
+        medium: M,
+        geometry: Geometry,
+        lists: Lists,
+        mut workspace: Workspace,
+    ) -> Ready<M>
+        requires size { M.block_count medium ≡ total geometry }
+        requires on { IsTrue (M.world medium).power }
+        requires valid { AreValid geometry (lists_of lists) }
+        requires settled { AreSettled geometry (M.world medium).cells (lists_of lists) }
+        requires lawful_dds { IsLawfulDds (dds_of lists.dds) }
+        requires lawful_sdl { IsLawfulSdl (sdl_of lists.sdl) }
+        requires roomy { SDL_LIMIT ≤ lists.sdl.entries.room }
+        requires layout_roomy { geometry.zones + geometry.psa ≤ workspace.layout.room }
+        requires one_each { length workspace.cursors ≡ 1 }
+        ensures shown { shown_ready result ≡ shown_under geometry
+            (machine_shown M.world M.arms M.armed_cut medium) (lists_of lists) [] }
+        ensures medium { result.medium ≡ medium }
+    {
+        workspace.lay_out(&geometry, &lists);
+        Self::over(medium, geometry, lists, workspace)
     }
 
     /// Formats the disc. A full format certifies the data blocks that it does not keep as defective, leaves zeros in the
@@ -176,6 +219,23 @@ impl<M: MediumControl> Ready<M> {
         let Ok(kept) = kept_entries(alloc, &self.lists, drop_sdl) else {
             return (State::Ready(self), FormatOut::NoMemory);
         };
+        self.format_keeping(alloc, drop_sdl, &kept)
+    }
+
+    /// A full format that keeps these entries.
+    fn format_keeping(
+        self,
+        alloc: Global,
+        drop_sdl: bool,
+        kept: &[PdlEntry],
+    ) -> (State<M>, FormatOut)
+        requires { AreAllKept (Some (lists_of self.lists)) drop_sdl kept.now }
+        ensures cause { FormatCause (shown_ready self) (shown_state result.0) (kinds.Full drop_sdl) result.1 }
+        ensures step { FormatSteps (shown_ready self) (shown_state result.0) (kinds.Full drop_sdl) result.1 }
+        ensures same_shape { (shown_state result.0).shape ≡ self.geometry }
+        ensures happened { Happened M.takes self.medium (medium_under result.0) }
+    {
+        let _ = drop_sdl;
         let Ready {
             mut medium,
             geometry,
@@ -184,37 +244,31 @@ impl<M: MediumControl> Ready<M> {
         } = self;
         let mark = lists.dds.counter;
         let scratch = &mut workspace.scratch;
-        match format_lists(alloc, &mut medium, &geometry, &kept, false, mark, scratch) {
-            Ok(lists) => {
-                workspace.lay_out(&geometry, &lists);
-                let ready = Ready::over(medium, geometry, lists, workspace);
+        match format_lists(alloc, &mut medium, &geometry, kept, false, mark, scratch) {
+            Ok(made) => {
+                drop(lists);
+                let ready = Ready::formatted(medium, geometry, made, workspace);
                 (State::Ready(ready), FormatOut::Good)
             }
             Err(FormatHalt::TooMany { found, mark }) => {
+                drop(lists.dds);
                 let bare = NotFormatted::over(medium, geometry, mark, lists.sdl, workspace);
                 (State::NotFormatted(bare), FormatOut::TooMany { found })
             }
             Err(FormatHalt::NoRoom { mark }) => {
-                let ready = Ready {
-                    medium,
-                    geometry,
-                    lists,
-                    workspace,
-                };
+                let ready = Self::of_parts(medium, geometry, lists, workspace);
                 (State::Ready(ready), FormatOut::NoUpdate { counter: mark })
             }
             Err(FormatHalt::NoCopy { counter, mark }) => {
+                drop(lists.dds);
                 let bare = NotFormatted::over(medium, geometry, mark, lists.sdl, workspace);
                 (State::NotFormatted(bare), FormatOut::NoUpdate { counter })
             }
-            Err(FormatHalt::Stopped { stop }) => stopped(medium, geometry, stop),
+            Err(FormatHalt::Stopped { stop }) => {
+                stopped(medium, geometry, (lists, workspace), stop)
+            }
             Err(FormatHalt::NoMemory) => {
-                let ready = Ready {
-                    medium,
-                    geometry,
-                    lists,
-                    workspace,
-                };
+                let ready = Self::of_parts(medium, geometry, lists, workspace);
                 (State::Ready(ready), FormatOut::NoMemory)
             }
         }
@@ -242,7 +296,7 @@ impl<M: MediumControl> Ready<M> {
                 let ready = Ready::over(medium, geometry, lists, workspace);
                 (State::Ready(ready), FormatOut::NoUpdate { counter })
             }
-            Err(stop) => stopped(medium, geometry, stop),
+            Err(stop) => stopped(medium, geometry, (lists, workspace), stop),
         }
     }
 }

@@ -1,19 +1,32 @@
 //! The power goes on, and off.
 
-ghost use Rattle.std.specs.Prelude.{◌≡◌};
+ghost use Rattle.std.specs.Prelude.{◌≡◌, ◌+◌, ◌≤◌, IsTrue, [], length};
+ghost use Rattle.model_geometry.specs.declared.TheConstants.{SDL_LIMIT};
+ghost use Rattle.model_geometry.specs.Geometry.{total};
+ghost use Rattle.model_lists.specs.Values.{IsLawfulDds, IsLawfulSdl};
+ghost use Rattle.model_stops.specs.declared.Stop.TheVariants as stops;
+ghost use Rattle.model_places.specs.Valid.{AreValid};
+ghost use Rattle.model_volume.specs.Given.{AreSettled};
 ghost use Rattle.model_medium.specs.Exact.{PowerOff};
 ghost use Rattle.model_medium.specs.Happened.{Happened};
 ghost use Rattle.model_sectors.specs.Discs.{Standing, Off, candidates};
 ghost use Rattle.model_drive.specs.Shown.{StandsFor};
 ghost use Rattle.model_drive.specs.Power.{PowerCause};
+ghost use Rattle.ram_medium.specs.Laws.{machine_shown};
+ghost use Rattle.ram_dds.specs.Dds.{dds_of};
+ghost use Rattle.ram_sdl.specs.Sdl.{sdl_of};
+ghost use Rattle.ram_lists.specs.Lists.{lists_of};
+ghost use Rattle.ram_transfer.specs.Shown.{shown_without, shown_under};
 ghost use Rattle.ram_volume.specs.Shown.{shown_off, shown_bare, shown_ready};
-ghost use Rattle.ram_volume.specs.Powers.{turned_off, shown_after, medium_after, power_out, PowerSteps};
+ghost use Rattle.ram_volume.specs.Powers.{turned_off, shown_after, medium_after, power_out, PowerSteps, StopsPower};
 
 use crate::states::{NotFormatted, PowerOn, PoweredOff, Ready};
 use ram_copies::Halt;
 use ram_lists::{Found, Lists, mount_lists};
 use ram_medium::{MediumControl, Stop};
-use ram_transfer::Memory;
+use ram_sdl::Sdl;
+use ram_transfer::{Memory, Workspace};
+use ram_zones::Geometry;
 use std::alloc::Global;
 
 impl<M: MediumControl> PoweredOff<M> {
@@ -25,32 +38,33 @@ impl<M: MediumControl> PoweredOff<M> {
         ensures same_shape { (shown_after result).shape ≡ self.geometry }
         ensures happened { Happened M.takes self.medium (medium_after result) }
     {
+        let Ok(memory) = Memory::new(alloc, &self.geometry) else {
+            return PowerOn::NoMemory(self);
+        };
+        self.mount(alloc, memory)
+    }
+
+    /// Turns the power on, and mounts the disc in a drive that works with this memory.
+    fn mount(self, alloc: Global, memory: Memory) -> PowerOn<M>
+        requires { memory.geometry ≡ self.geometry }
+        ensures cause { PowerCause (shown_off self) (shown_after result) (power_out result) }
+        ensures step { PowerSteps (shown_off self) (shown_after result) (power_out result) }
+        ensures same_shape { (shown_after result).shape ≡ self.geometry }
+        ensures happened { Happened M.takes self.medium (medium_after result) }
+    {
         let PoweredOff {
             mut medium,
             geometry,
         } = self;
-        let Ok(memory) = Memory::new(alloc, &geometry) else {
-            return PowerOn::NoMemory(PoweredOff { medium, geometry });
-        };
         let Memory {
             geometry: _,
-            mut list,
+            list,
             mut workspace,
         } = memory;
         medium.power_on();
         match mount_lists(alloc, &mut medium, &geometry, &mut workspace.scratch) {
             Ok(Found::Lists { lists }) => {
-                list.copy_from(&lists.sdl);
-                workspace.lay_out(&geometry, &lists);
-                PowerOn::Ready(Ready {
-                    medium,
-                    geometry,
-                    lists: Lists {
-                        dds: lists.dds,
-                        sdl: list,
-                    },
-                    workspace,
-                })
+                PowerOn::Ready(Ready::mounted(medium, geometry, lists, list, workspace))
             }
             Ok(Found::Bare { mark }) => PowerOn::NotFormatted(NotFormatted {
                 medium,
@@ -59,13 +73,12 @@ impl<M: MediumControl> PoweredOff<M> {
                 spare_list: list,
                 workspace,
             }),
-            Err(Halt::Stopped { stop: Stop::Cut }) => PowerOn::Cut(PoweredOff { medium, geometry }),
-            Err(Halt::Stopped { stop: Stop::Off }) => unreachable!(),
-            Err(Halt::Stopped { stop: Stop::Fault }) => PowerOn::Fault(PoweredOff {
-                medium,
-                geometry,
-            }),
+            Err(Halt::Stopped { stop }) => {
+                stopped_mount(medium, geometry, (list, workspace), stop)
+            }
             Err(Halt::NoMemory) => {
+                drop(list);
+                drop(workspace);
                 medium.power_off();
                 PowerOn::NoMemory(PoweredOff { medium, geometry })
             }
@@ -73,7 +86,67 @@ impl<M: MediumControl> PoweredOff<M> {
     }
 }
 
+/// The drive whose mount was stopped, with its power off, by the cause. What was kept in memory is let go.
+fn stopped_mount<M: MediumControl, K: Drop>(
+    medium: M,
+    geometry: Geometry,
+    kept: K,
+    stop: Stop,
+) -> PowerOn<M>
+    requires size { M.block_count medium ≡ total geometry }
+    requires off { ¬ IsTrue (M.world medium).power }
+    requires was_on { ¬ (stop ≡ stops.Off) }
+    ensures shown { shown_after result ≡ shown_without geometry (machine_shown M.world M.arms M.armed_cut medium) }
+    ensures medium { medium_after result ≡ medium }
+    ensures out { StopsPower stop (power_out result) }
+{
+    drop(kept);
+    let off = PoweredOff { medium, geometry };
+    match stop {
+        Stop::Cut => PowerOn::Cut(off),
+        Stop::Off => unreachable!(),
+        Stop::Fault => PowerOn::Fault(off),
+    }
+}
+
 impl<M: MediumControl> Ready<M> {
+    /// The drive of a disc whose lists a mount found. The secondary list in use is the one with room for all entries
+    /// that it may come to have. Nothing is buffered.
+    fn mounted(
+        medium: M,
+        geometry: Geometry,
+        found: Lists,
+        mut list: Sdl,
+        mut workspace: Workspace,
+    ) -> Ready<M>
+        requires size { M.block_count medium ≡ total geometry }
+        requires on { IsTrue (M.world medium).power }
+        requires valid { AreValid geometry (lists_of found) }
+        requires settled { AreSettled geometry (M.world medium).cells (lists_of found) }
+        requires lawful_dds { IsLawfulDds (dds_of found.dds) }
+        requires lawful_sdl { IsLawfulSdl (sdl_of found.sdl) }
+        requires list_roomy { SDL_LIMIT ≤ list.entries.room }
+        requires layout_roomy { geometry.zones + geometry.psa ≤ workspace.layout.room }
+        requires one_each { length workspace.cursors ≡ 1 }
+        requires unbuffered { workspace.buffer ≡ [] }
+        ensures shown { shown_ready result ≡ shown_under geometry
+            (machine_shown M.world M.arms M.armed_cut medium) (lists_of found) [] }
+        ensures medium { result.medium ≡ medium }
+    {
+        list.copy_from(&found.sdl);
+        workspace.lay_out(&geometry, &found);
+        drop(found.sdl);
+        Ready {
+            medium,
+            geometry,
+            lists: Lists {
+                dds: found.dds,
+                sdl: list,
+            },
+            workspace,
+        }
+    }
+
     /// Turns the power off. The drive has the disc as its only candidate then.
     pub fn power_off(self) -> PoweredOff<M>
         ensures shows { shown_off result ≡ turned_off (shown_ready self) }
@@ -84,9 +157,11 @@ impl<M: MediumControl> Ready<M> {
         let Ready {
             mut medium,
             geometry,
-            lists: _,
-            workspace: _,
+            lists,
+            workspace,
         } = self;
+        drop(lists);
+        drop(workspace);
         medium.power_off();
         PoweredOff { medium, geometry }
     }
@@ -104,9 +179,11 @@ impl<M: MediumControl> NotFormatted<M> {
             mut medium,
             geometry,
             mark: _,
-            spare_list: _,
-            workspace: _,
+            spare_list,
+            workspace,
         } = self;
+        drop(spare_list);
+        drop(workspace);
         medium.power_off();
         PoweredOff { medium, geometry }
     }

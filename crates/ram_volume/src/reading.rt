@@ -53,7 +53,7 @@ impl<M: MediumControl> Ready<M> {
                 };
                 (State::Ready(ready), out)
             }
-            Err(stop) => stopped(medium, geometry, stop),
+            Err(stop) => stopped(medium, geometry, (lists, workspace), stop),
         }
     }
 

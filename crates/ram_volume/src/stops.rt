@@ -72,10 +72,12 @@ impl StoppableOut for ExpandOut {
     }
 }
 
-/// The drive of a call that was stopped, with its power off, and the outcome of the call.
-pub fn stopped<M: MediumControl, O: StoppableOut>(
+/// The drive of a call that was stopped, with its power off, and the outcome of the call. What was kept in memory is let
+/// go.
+pub fn stopped<M: MediumControl, K: Drop, O: StoppableOut>(
     medium: M,
     geometry: Geometry,
+    kept: K,
     stop: Stop,
 ) -> (State<M>, O)
     requires size { M.block_count medium ≡ total geometry }
@@ -84,6 +86,7 @@ pub fn stopped<M: MediumControl, O: StoppableOut>(
     ensures medium { medium_under result.0 ≡ medium }
     ensures out { result.1 ≡ O.stopped_by stop }
 {
+    drop(kept);
     let off = PoweredOff { medium, geometry };
     (State::Off(off), O::stopped_by(stop))
 }

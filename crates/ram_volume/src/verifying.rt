@@ -42,7 +42,7 @@ impl<M: MediumControl> Ready<M> {
                 };
                 (State::Ready(ready), out)
             }
-            Err(stop) => stopped(medium, geometry, stop),
+            Err(stop) => stopped(medium, geometry, (lists, workspace), stop),
         }
     }
 

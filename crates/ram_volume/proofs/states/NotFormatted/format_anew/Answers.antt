@@ -27,13 +27,13 @@ over-bare-requires-in-Err-NoCopy-clause-bare g c =
 
 pub returns-in-Ok-clause-cause : goal.returns-in-Ok-clause-cause
 returns-in-Ok-clause-cause g c =
-    subst (λ (x : Shown). FormatCause (shown_bare c.args.self) x c.args.kind outs.Good) (sym c.over-ready.ensures.shown)
-    (bare_good g.M.Medium.world g.M.Medium.reaches g.M.Medium.takes g.M.MediumControl.arms g.M.MediumControl.armed_cut g.met.M.MediumControl.control_laws c.args.self.geometry c.args.self.medium c.format_lists.new.medium c.args.self.mark c.args.kind (lists_of c.in-Ok.lists) c.in-Ok.ensures.rule)
+    subst (λ (x : Shown). FormatCause (shown_bare c.args.self) x c.args.kind outs.Good) (sym c.formatted-ready.ensures.shown)
+    (bare_good g.M.Medium.world g.M.Medium.reaches g.M.Medium.takes g.M.MediumControl.arms g.M.MediumControl.armed_cut g.met.M.MediumControl.control_laws c.args.self.geometry c.args.self.medium c.format_lists.new.medium c.args.self.mark c.args.kind (lists_of c.in-Ok.made) c.in-Ok.ensures.rule)
 
 pub returns-in-Ok-clause-step : goal.returns-in-Ok-clause-step
 returns-in-Ok-clause-step g c =
-    subst (λ (x : Shown). FormatSteps (shown_bare c.args.self) x c.args.kind outs.Good) (sym c.over-ready.ensures.shown)
-    (bare_good_steps g.M.Medium.world g.M.Medium.reaches g.M.Medium.takes g.M.MediumControl.arms g.M.MediumControl.armed_cut g.met.M.MediumControl.control_laws c.args.self.geometry c.args.self.medium c.format_lists.new.medium c.args.self.mark c.args.kind (lists_of c.in-Ok.lists) c.in-Ok.ensures.rule)
+    subst (λ (x : Shown). FormatSteps (shown_bare c.args.self) x c.args.kind outs.Good) (sym c.formatted-ready.ensures.shown)
+    (bare_good_steps g.M.Medium.world g.M.Medium.reaches g.M.Medium.takes g.M.MediumControl.arms g.M.MediumControl.armed_cut g.met.M.MediumControl.control_laws c.args.self.geometry c.args.self.medium c.format_lists.new.medium c.args.self.mark c.args.kind (lists_of c.in-Ok.made) c.in-Ok.ensures.rule)
 
 pub returns-in-Err-TooMany-clause-cause : goal.returns-in-Err-TooMany-clause-cause
 returns-in-Err-TooMany-clause-cause g c =
@@ -47,7 +47,7 @@ returns-in-Err-NoCopy-clause-cause g c =
 
 pub returns-in-Ok-clause-happened : goal.returns-in-Ok-clause-happened
 returns-in-Ok-clause-happened g c =
-    subst (Happened g.M.Medium.takes c.args.self.medium) (sym c.over-ready.ensures.medium)
+    subst (Happened g.M.Medium.takes c.args.self.medium) (sym c.formatted-ready.ensures.medium)
     (part_happened g.M.Medium.world g.M.Medium.reaches g.M.Medium.takes g.met.M.Medium.happened c.args.self.medium c.format_lists.new.medium _ c.in-Ok.ensures.rule.goes.continues)
 
 pub returns-in-Err-TooMany-clause-happened : goal.returns-in-Err-TooMany-clause-happened

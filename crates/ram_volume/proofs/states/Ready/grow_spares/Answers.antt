@@ -12,17 +12,17 @@ use Rattle.ram_volume.proofs.states.Ready.grow_spares.Goals as goal
 
 pub returns-in-Ok-Good-clause-cause : goal.returns-in-Ok-Good-clause-cause
 returns-in-Ok-Good-clause-cause g c =
-    subst (λ (x : Shown). ExpandCause (shown_ready c.args.self) x c.args.capacity outs.Good) (sym c.over-ready.ensures.shown)
+    subst (λ (x : Shown). ExpandCause (shown_ready c.args.self) x c.args.capacity outs.Good) (sym c.formatted-ready.ensures.shown)
     (good_cause g.M.Medium.world g.M.Medium.reaches g.M.Medium.takes g.M.MediumControl.arms g.M.MediumControl.armed_cut g.met.M.MediumControl.control_laws c.args.self.geometry (lists_of c.args.self.lists) c.args.self.workspace.buffer c.args.self.medium c.grow.new.medium c.args.capacity (lists_of c.grow.new.lists) (rw c.in-Ok-Good.field-0-is at c.in-Ok-Good.ensures.rule))
 
 pub returns-in-Ok-NoUpdate-clause-cause : goal.returns-in-Ok-NoUpdate-clause-cause
 returns-in-Ok-NoUpdate-clause-cause g c =
-    subst (λ (x : Shown). ExpandCause (shown_ready c.args.self) x c.args.capacity (outs.NoUpdate c.in-Ok-NoUpdate.counter)) (sym c.over-ready-in-Ok-NoUpdate.ensures.shown)
+    subst (λ (x : Shown). ExpandCause (shown_ready c.args.self) x c.args.capacity (outs.NoUpdate c.in-Ok-NoUpdate.counter)) (sym c.over-ready.ensures.shown)
     (vain_cause g.M.Medium.world g.M.Medium.reaches g.M.Medium.takes g.M.MediumControl.arms g.M.MediumControl.armed_cut g.met.M.MediumControl.control_laws c.args.self.geometry (lists_of c.args.self.lists) c.args.self.workspace.buffer c.args.self.medium c.grow.new.medium c.args.capacity (lists_of c.grow.new.lists) c.in-Ok-NoUpdate.counter (rw c.in-Ok-NoUpdate.field-0-is at c.in-Ok-NoUpdate.ensures.rule))
 
 pub returns-in-Ok-Good-clause-happened : goal.returns-in-Ok-Good-clause-happened
 returns-in-Ok-Good-clause-happened g c =
-    subst (Happened g.M.Medium.takes c.args.self.medium) (sym c.over-ready.ensures.medium)
+    subst (Happened g.M.Medium.takes c.args.self.medium) (sym c.formatted-ready.ensures.medium)
     (elim (rw c.in-Ok-Good.field-0-is at c.in-Ok-Good.ensures.rule) [
       | inl keeps ↦ part_happened g.M.Medium.world g.M.Medium.reaches g.M.Medium.takes g.met.M.Medium.happened c.args.self.medium c.grow.new.medium _ keeps.ended.continues
       | inr grown ↦ part_happened g.M.Medium.world g.M.Medium.reaches g.M.Medium.takes g.met.M.Medium.happened c.args.self.medium c.grow.new.medium _ grown.ended.continues
@@ -34,7 +34,7 @@ returns-in-Ok-Refused-clause-happened g c =
 
 pub returns-in-Ok-NoUpdate-clause-happened : goal.returns-in-Ok-NoUpdate-clause-happened
 returns-in-Ok-NoUpdate-clause-happened g c =
-    subst (Happened g.M.Medium.takes c.args.self.medium) (sym c.over-ready-in-Ok-NoUpdate.ensures.medium)
+    subst (Happened g.M.Medium.takes c.args.self.medium) (sym c.over-ready.ensures.medium)
     (part_happened g.M.Medium.world g.M.Medium.reaches g.M.Medium.takes g.met.M.Medium.happened c.args.self.medium c.grow.new.medium _ (rw c.in-Ok-NoUpdate.field-0-is at c.in-Ok-NoUpdate.ensures.rule).ended.continues)
 
 pub returns-in-Err-clause-cause : goal.returns-in-Err-clause-cause
