@@ -30,7 +30,7 @@ world_of {I} {d} medium = record {
 
 -- the same with what is armed on it
 abbrev pub machine_in : {I : Type 0} {d : Ghosts I} → ImageMedium I d → Machine
-machine_in medium = machine_of (world_of medium) (arms_of medium.armed) (armed_cut_of medium.armed)
+machine_in medium = machine_of (world_of medium) (arms_of medium.armed.value) (armed_cut_of medium.armed.value)
 
 -- the bytes of its image, where they are known
 abbrev pub bytes_in : {I : Type 0} {d : Ghosts I} → ImageMedium I d → Option (List ℕ)
@@ -38,7 +38,7 @@ bytes_in {I} {d} medium = d.bytes medium.image
 
 -- whether the next use of a block makes it dead, as one of its arms runs out
 abbrev pub dies_in : {I : Type 0} {d : Ghosts I} → ImageMedium I d → ℕ → Bool
-dies_in medium block = is_killed block (arms_of medium.armed)
+dies_in medium block = is_killed block (arms_of medium.armed.value)
 
 -- What an event does on a medium over an image: exactly what it does on a controllable medium, over a block of the
 -- same disc, and to these bytes of the image alone. (This project's own.)

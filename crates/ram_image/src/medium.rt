@@ -5,17 +5,19 @@ ghost use Rattle.std.specs.Option.{ForSome};
 ghost use Rattle.std.proofs.Props.{props};
 ghost use Rattle.model_geometry.specs.Geometry.{total};
 ghost use Rattle.model_image.specs.Image.{IsDiscImage, IsImageOf};
+ghost use Rattle.model_medium.specs.Machine.{is_killed, arms_after, fate_due, cut_after};
+ghost use Rattle.ram_medium.specs.Countdown.{arms_of, armed_cut_of};
 ghost use Rattle.ram_image.specs.CellCalls.{HaveGoodStates};
 
 use crate::cells::{GoodRow, count_good, kill_cell, kill_where, leave_cell, read_data};
 use ram_bytes::Block;
-use ram_medium::{Arm, Armed, FailEnd, Fate, Medium, MediumControl, ReadEnd, WriteEnd};
+use ram_medium::{Arm, Armed, Due, FailEnd, Fate, Medium, MediumControl, ReadEnd, WriteEnd};
 use ram_outside::{Image, Moved};
 use ram_zones::Geometry;
 use std::mem::swap;
 
-/// The controllable medium of a disc whose blocks lie in an image. It keeps room for one block, and takes no more
-/// memory.
+/// The controllable medium of a disc whose blocks lie in an image. It keeps room for one block and for what is armed, and takes
+/// no more memory.
 pub struct ImageMedium<I: Image> {
     image: I,
     geometry: Geometry,
@@ -23,7 +25,8 @@ pub struct ImageMedium<I: Image> {
     powered: bool,
     uses: u64,
     cuts: u64,
-    armed: Armed,
+    // In memory of its own, of which nothing is moved where a drive hands its medium on.
+    armed: Box<Armed>,
     // The row of blocks that are known to be good, from one on up to another: their state bytes need not be read.
     good_from: u32,
     good_to: u32,
@@ -61,6 +64,16 @@ fn stays_good(known: bool, fate: Fate) -> bool
     }
 }
 
+/// Counts a use of the block on what is armed. What is due.
+fn count_use(armed: &mut Box<Armed>, block: u32) -> Due
+    ensures dies { result.dies ≡ is_killed block (arms_of armed.old.value) }
+    ensures due { result.cut ≡ fate_due (armed_cut_of armed.old.value) }
+    ensures arms { arms_of armed.new.value ≡ arms_after block (arms_of armed.old.value) }
+    ensures cut { armed_cut_of armed.new.value ≡ cut_after (armed_cut_of armed.old.value) }
+{
+    armed.count(block)
+}
+
 /// What a look at the state byte of a block finds.
 enum Looked {
     /// The block has whole bytes.
@@ -82,8 +95,10 @@ impl<I: Image> ImageMedium<I> {
     ghost use Rattle.ram_image.specs.Begun.{IsNew, ImageBeginRule, BeginBytes, LookRule, ReadOnRule, WriteCutRule, WriteCutBytes, LeaveRule, LeaveBytes};
 
     /// The medium of a disc of this geometry over its image, with the power off, nothing counted and nothing armed.
-    pub(crate) fn new(image: I, geometry: Geometry, room: Block) -> Self
-        requires { ForSome (I.bytes image) (IsDiscImage geometry) }
+    pub(crate) fn new(image: I, geometry: Geometry, room: Block, armed: Box<Armed>) -> Self
+        requires disc { ForSome (I.bytes image) (IsDiscImage geometry) }
+        requires arms { arms_of armed.value ≡ [] }
+        requires cut { armed_cut_of armed.value ≡ None }
         ensures { IsNew image geometry result }
     {
         ImageMedium {
@@ -93,7 +108,7 @@ impl<I: Image> ImageMedium<I> {
             powered: false,
             uses: 0,
             cuts: 0,
-            armed: Armed::new(),
+            armed,
             good_from: 0,
             good_to: 0,
         }
@@ -132,7 +147,7 @@ impl<I: Image> ImageMedium<I> {
         ensures same_room { self.new.room ≡ self.old.room }
     {
         self.uses = self.uses.saturating_add(1);
-        let due = self.armed.count(block);
+        let due = count_use(&mut self.armed, block);
         self.good_to = kept_where(self.good_to, !due.dies);
         match kill_where(&mut self.image, self.geometry.total(), block, due.dies) {
             Moved::Failed => {
@@ -370,7 +385,7 @@ impl<I: Image> Medium for ImageMedium<I> {
 
     ghost laws = { record {
       none = λ medium. record {
-        reach = reach_none (machine_in medium) medium.armed.to_come;
+        reach = reach_none (machine_in medium) medium.armed.value.to_come;
         happened = happened_none ImageTakes medium;
       };
       adds_up = λ a b c j k one two. record {
@@ -389,14 +404,13 @@ impl<I: Image> Medium for ImageMedium<I> {
 
 impl<I: Image> MediumControl for ImageMedium<I> {
     ghost use Rattle.model_geometry.specs.Geometry.{total};
-    ghost use Rattle.ram_medium.specs.Countdown.{arms_of, armed_cut_of};
     ghost use Rattle.ram_medium.specs.Control.{FailRule, WearRule, with_armed_cut};
     ghost use Rattle.ram_image.specs.EventBytes.{FailBytes, ToldBytes};
     ghost use Rattle.ram_image.specs.Medium.{shape_of_medium, machine_in, bytes_in};
 
-    ghost arms = { λ medium. arms_of medium.armed };
+    ghost arms = { λ medium. arms_of medium.armed.value };
 
-    ghost armed_cut = { λ medium. armed_cut_of medium.armed };
+    ghost armed_cut = { λ medium. armed_cut_of medium.armed.value };
 
     ghost was_told = { λ old new told. ToldBytes (bytes_in old) (bytes_in new) told };
 
@@ -446,8 +460,8 @@ impl<I: Image> MediumControl for ImageMedium<I> {
     ghost control_laws = { record {
       exactly = λ a b event takes. takes.exactly;
       reach = λ a b k one. one.reach;
-      to_come = λ medium. medium.armed.to_come;
-      arms_to_come = λ medium. medium.armed.arms_to_come;
-      few = λ medium. medium.armed.few;
+      to_come = λ medium. medium.armed.value.to_come;
+      arms_to_come = λ medium. medium.armed.value.arms_to_come;
+      few = λ medium. medium.armed.value.few;
     } };
 }

@@ -1,14 +1,16 @@
 //! Opening an image that is there. It reads the image, and changes none of its bytes.
 
-ghost use Rattle.std.specs.Prelude.{◌≡◌, ◌≤◌, MatchResult, IfSome, length, take};
+ghost use Rattle.std.specs.Prelude.{◌≡◌, ◌≤◌, MatchResult, IfOk, IfSome, None, [], length, take};
+ghost use Rattle.ram_medium.specs.Countdown.{arms_of, armed_cut_of};
 ghost use Rattle.ram_image.specs.Opening.{HeaderRule, IsOpened, IsRefused};
 
 use crate::header::{HEADER_BYTES, geometry_of, image_len};
 use crate::medium::ImageMedium;
 use ram_bytes::Block;
+use ram_medium::Armed;
 use ram_outside::{Image, Length, Moved};
 use ram_zones::Geometry;
-use std::alloc::Global;
+use std::alloc::{AllocError, Global};
 use thiserror::Error;
 
 /// Why an image was not opened.
@@ -23,7 +25,7 @@ pub enum OpenFault {
     /// It failed, and counted it.
     #[error("the image failed")]
     Fault,
-    /// There was no memory for one block.
+    /// There was no memory for one block, or for what may be armed.
     #[error("out of memory")]
     NoMemory,
 }
@@ -68,6 +70,13 @@ fn find_header<I: Image>(image: &mut I) -> HeaderFound
     }
 }
 
+/// The memory of a medium: room for one block, and for what is armed, which is nothing.
+fn room_and_arms(alloc: Global) -> Result<(Block, Box<Armed>), AllocError>
+    ensures { IfOk result (λ memory. (arms_of memory.1.value ≡ []) × (armed_cut_of memory.1.value ≡ None)) }
+{
+    Ok((Block::zeros(alloc)?, Box::new(alloc, Armed::new())?))
+}
+
 /// Opens an image of so many bytes with these at its front.
 fn open_disc<I: Image>(
     alloc: Global,
@@ -87,8 +96,8 @@ fn open_disc<I: Image>(
     if len != image_len(&geometry) {
         return Err((image, OpenFault::Length { len }));
     }
-    match Block::zeros(alloc) {
+    match room_and_arms(alloc) {
         Err(_) => Err((image, OpenFault::NoMemory)),
-        Ok(room) => Ok((ImageMedium::new(image, geometry, room), geometry)),
+        Ok((room, armed)) => Ok((ImageMedium::new(image, geometry, room, armed), geometry)),
     }
 }

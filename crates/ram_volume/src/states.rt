@@ -144,9 +144,11 @@ impl<M: MediumControl> NotFormatted<M> {
             medium,
             geometry: _,
             mark: _,
-            spare_list: _,
-            workspace: _,
+            spare_list,
+            workspace,
         } = self;
+        drop(spare_list);
+        drop(workspace);
         medium
     }
 }
@@ -188,9 +190,11 @@ impl<M: MediumControl> Ready<M> {
         let Ready {
             medium,
             geometry: _,
-            lists: _,
-            workspace: _,
+            lists,
+            workspace,
         } = self;
+        drop(lists);
+        drop(workspace);
         medium
     }
 }

@@ -14,5 +14,5 @@ invariant_of-self-in-Done-clause-disc g c =
 pub invariant_of-self-in-Done-clause-good : goal.invariant_of-self-in-Done-clause-good
 invariant_of-self-in-Done-clause-good g c =
     subst (λ (end : ℕ). ForSome (g.I.Image.bytes c.kill_where.new.image) (λ held. HaveGoodStates held c.args.self.now.good_from end)) (sym c.kept_where-self.ensures)
-    (good_after_kill (total c.args.self.now.geometry) c.args.block c.args.self.now.good_from c.args.self.now.good_to c.count-due.result.dies (g.I.Image.bytes c.args.self.now.image) (g.I.Image.bytes c.kill_where.new.image)
+    (good_after_kill (total c.args.self.now.geometry) c.args.block c.args.self.now.good_from c.args.self.now.good_to c.count_use-due.result.dies (g.I.Image.bytes c.args.self.now.image) (g.I.Image.bytes c.kill_where.new.image)
     c.args.self.now.good (rw c.total.ensures.blocks at c.in-Done.ensures.rule.0))

@@ -24,11 +24,11 @@ invariant_of-self-in-Failed-clause-disc g c =
 pub returns-in-Done-clause-rule : goal.returns-in-Done-clause-rule
 returns-in-Done-clause-rule g c =
     machine_left (label_of c.args.self.now.geometry) (total c.args.self.now.geometry) c.args.block c.args.from.now c.args.self.now.uses c.args.self.now.cuts
-    (g.I.Image.faults c.args.self.now.image) (g.I.Image.faults c.leave_cell.new.image) (arms_of c.args.self.now.armed) (armed_cut_of c.args.self.now.armed) c.args.self.now.powered c.args.fate
+    (g.I.Image.faults c.args.self.now.image) (g.I.Image.faults c.leave_cell.new.image) (arms_of c.args.self.now.armed.value) (armed_cut_of c.args.self.now.armed.value) c.args.self.now.powered c.args.fate
     (g.I.Image.bytes c.args.self.now.image) (g.I.Image.bytes c.leave_cell.new.image) (rw c.total.ensures.blocks at c.in-Done.ensures.rule.0) c.in-Done.ensures.rule.1
 
 pub returns-in-Failed-clause-rule : goal.returns-in-Failed-clause-rule
 returns-in-Failed-clause-rule g c =
     machine_stopped (label_of c.args.self.now.geometry) (total c.args.self.now.geometry) c.args.block c.args.from.now c.args.self.now.uses c.args.self.now.cuts
-    (g.I.Image.faults c.args.self.now.image) (g.I.Image.faults c.leave_cell.new.image) (arms_of c.args.self.now.armed) (armed_cut_of c.args.self.now.armed) c.args.self.now.powered
+    (g.I.Image.faults c.args.self.now.image) (g.I.Image.faults c.leave_cell.new.image) (arms_of c.args.self.now.armed.value) (armed_cut_of c.args.self.now.armed.value) c.args.self.now.powered
     (g.I.Image.bytes c.args.self.now.image) (g.I.Image.bytes c.leave_cell.new.image) c.requires.inside (rw c.total.ensures.blocks at c.in-Failed.ensures.rule.0) c.in-Failed.ensures.rule.1

@@ -12,7 +12,7 @@ invariant_of-self-in-Failed-clause-good g c = λ x e. c.args.self.now.good x (sy
 
 pub returns-in-Blocks-eq0-clause-rule : goal.returns-in-Blocks-eq0-clause-rule
 returns-in-Blocks-eq0-clause-rule g c = (
-  exactly_same (label_of c.args.self.now.geometry) (total c.args.self.now.geometry) _ _ c.args.self.now.powered c.args.self.now.uses c.args.self.now.cuts _ _ (arms_of c.args.self.now.armed) (armed_cut_of c.args.self.now.armed)
+  exactly_same (label_of c.args.self.now.geometry) (total c.args.self.now.geometry) _ _ c.args.self.now.powered c.args.self.now.uses c.args.self.now.cuts _ _ (arms_of c.args.self.now.armed.value) (armed_cut_of c.args.self.now.armed.value)
       c.in-Blocks-eq0.ensures.0.same c.in-Blocks-eq0.ensures.0.count,
   not_good_found (total c.args.self.now.geometry) c.args.block c.requires _ _ c.in-Blocks-eq0.ensures.0.same
       (none_good (total c.args.self.now.geometry) c.args.block c.in-Blocks-eq0.field-0 c.in-Blocks-eq0.field-0-test (g.I.Image.bytes c.args.self.now.image) (rw c.total.ensures.blocks at c.in-Blocks-eq0.ensures.3)),

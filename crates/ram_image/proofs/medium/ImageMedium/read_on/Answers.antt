@@ -13,7 +13,7 @@ returns-in-NotGood-clause-rule g c = (c.in-NotGood.ensures.rule.0, c.in-NotGood.
 
 pub returns-in-Done-clause-rule : goal.returns-in-Done-clause-rule
 returns-in-Done-clause-rule g c = (
-  exactly_same (label_of c.look_at.new.self.geometry) (total c.look_at.new.self.geometry) _ _ c.look_at.new.self.powered c.look_at.new.self.uses c.look_at.new.self.cuts _ _ (arms_of c.look_at.new.self.armed) (armed_cut_of c.look_at.new.self.armed)
+  exactly_same (label_of c.look_at.new.self.geometry) (total c.look_at.new.self.geometry) _ _ c.look_at.new.self.powered c.look_at.new.self.uses c.look_at.new.self.cuts _ _ (arms_of c.look_at.new.self.armed.value) (armed_cut_of c.look_at.new.self.armed.value)
       c.in-Done.ensures.0.same c.in-Done.ensures.0.count ∙ c.in-Good.ensures.rule.0,
   subst (λ (o : Option (List ℕ)). OnTrue (is_some o) (cell_at (cells_known (total c.look_at.new.self.geometry) (g.I.Image.bytes c.read_data.new.image)) c.args.block ≡ Good c.read_data.new.into)) c.in-Good.ensures.bytes
       (cell_found (total c.look_at.new.self.geometry) c.args.block (λ cell. cell ≡ Good c.read_data.new.into) (subst (λ (s : Shape). c.args.block < total s) (sym c.in-Good.ensures.same_shape) c.requires.inside) _ _ c.in-Done.ensures.0.same

@@ -12,4 +12,4 @@ returns-clause-rule g c =
 pub returns-clause-continues : goal.returns-clause-continues
 returns-clause-continues g c =
     read_by ImageTakes machine_in c.args.self.now c.read_block.new.self _ c.read_block.ensures c.read_block.result
-    (read_continues (machine_in c.args.self.now) (machine_in c.read_block.new.self) c.args.block c.args.into.now c.read_block.new.into c.read_block.result c.args.self.now.armed.to_come c.read_block.ensures.exactly)
+    (read_continues (machine_in c.args.self.now) (machine_in c.read_block.new.self) c.args.block c.args.into.now c.read_block.new.into c.read_block.result c.args.self.now.armed.value.to_come c.read_block.ensures.exactly)

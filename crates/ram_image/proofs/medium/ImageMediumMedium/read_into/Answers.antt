@@ -14,4 +14,4 @@ returns-clause-rule g c =
 pub returns-clause-continues : goal.returns-clause-continues
 returns-clause-continues g c =
     read_by ImageTakes machine_in c.args.self.now c.read_bytes.new.self _ c.read_bytes.ensures.event c.read_bytes.result
-    (read_continues (machine_in c.args.self.now) (machine_in c.read_bytes.new.self) c.args.block [] (bytes_read c.read_bytes.result c.read_bytes.new.into) c.read_bytes.result c.args.self.now.armed.to_come c.read_bytes.ensures.event.exactly)
+    (read_continues (machine_in c.args.self.now) (machine_in c.read_bytes.new.self) c.args.block [] (bytes_read c.read_bytes.result c.read_bytes.new.into) c.read_bytes.result c.args.self.now.armed.value.to_come c.read_bytes.ensures.event.exactly)

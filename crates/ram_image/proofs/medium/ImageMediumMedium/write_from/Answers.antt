@@ -9,4 +9,4 @@ returns-clause-rule g c = write_rule (machine_in c.args.self.now) (machine_in c.
 pub returns-clause-continues : goal.returns-clause-continues
 returns-clause-continues g c =
     write_by ImageTakes machine_in c.args.self.now c.write_bytes.new.self _ c.write_bytes.ensures c.write_bytes.result
-    (write_continues (machine_in c.args.self.now) (machine_in c.write_bytes.new.self) c.args.block c.args.from.now c.write_bytes.result c.args.self.now.armed.to_come c.write_bytes.ensures.exactly)
+    (write_continues (machine_in c.args.self.now) (machine_in c.write_bytes.new.self) c.args.block c.args.from.now c.write_bytes.result c.args.self.now.armed.value.to_come c.write_bytes.ensures.exactly)
