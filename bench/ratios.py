@@ -168,17 +168,23 @@ def longer(more, less):
     return median(one - other for one, other in zip(more, less))
 
 
+def synchronised(drive, bare):
+    """What a synchronisation took, and what each loop of writes did, once: without what the writes or the data before them took."""
+    (taken, both), (made, *written) = in_turn([drive, bare], 50, 20)
+    return longer(both, taken), *[longer(times, made) for times in written]
+
+
 def synchronisations(bench, loops, disc):
-    """A synchronisation of all that the cache holds, beside loops over as many blocks: the time of writes and a synchronisation,
-    without that of the writes alone. The data of the loops come in the same way to where they are pending."""
+    """A synchronisation of all that the cache holds, beside loops over as many blocks. The data of the loops come in the same way to
+    where they are pending. It is measured five times, since a slower pace of the machine, which may last some seconds, costs the
+    drive more than the loops; the medians count."""
     writes = "".join(write_command(lba, 256, lba) for lba in range(0, 16 * CACHED, 256))
     both = writes + SYNCHRONIZE
     drive = Measured(bench.program, bench.image, POWER + CACHE_ON, [([writes], both), ([both], both)])
     pending, *writing = [loop_line(what, *disc, CACHED, CACHED)
                          for what in ("pending", "write", "marked-write", "kept-write")]
     bare = Measured(loops, bench.image, "", [([pending + line], pending + writing[-1]) for line in ("", *writing)])
-    (taken, synchronised), (made, *written) = in_turn([drive, bare], 50, 20)
-    drive, (write, marked, kept) = longer(synchronised, taken), [longer(times, made) for times in written]
+    drive, write, marked, kept = map(median, zip(*[synchronised(drive, bare) for _ in range(5)]))
     row("32 blocks synchronised, beside bare writes and read-backs", drive, write, 1.25)
     row("the bare writes with state bytes, beside those without", marked, write)
     row("and with what is read back in the room that was written last", kept, write)
