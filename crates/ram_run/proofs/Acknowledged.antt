@@ -30,7 +30,8 @@ use Rattle.ram_run.specs.Control.{contents_after_fail}
 use Rattle.ram_run.specs.Replies.{Outcome}
 use Rattle.ram_run.specs.States.{State, Served, Unopened, Disc}
 use Rattle.ram_run.specs.LineSteps.{PressStep, DiscRule, OnDisc, Step}
-use Rattle.ram_run.specs.Run.{AnsweredLine, Run}
+use Rattle.ram_run.specs.Answered.{AnsweredLine}
+use Rattle.ram_run.specs.Run.{Run}
 use Rattle.ram_run.specs.Acknowledged.{Acknowledged, LeavesAsAsked, LeavesAsDecoded, LeavesSector, LeaveSector}
 use Rattle.ram_run.proofs.Decoded.{HasItsData, asks_for, its_data}
 use Rattle.ram_run.proofs.WrittenDiscs.{Lies, SoInBlock, SoInValues, SoInContents, so_shown, written_left, written_off}

@@ -51,7 +51,8 @@ use Rattle.ram_run.specs.Control.{contents_after_fail}
 use Rattle.ram_run.specs.Replies.{Outcome, power_outcome, tick_outcome}
 use Rattle.ram_run.specs.States.{State, Served, Unopened, Disc, IsFirst, IsLeft, IsInserted, IsPressedDisc, IsHalfPressed, IsPressedUnopened}
 use Rattle.ram_run.specs.LineSteps.{KeepsRest, PowerLine, FailLine, WearLine, CutLine, TickLine, PressStep, DiscRule, DiscStep, OnDisc, LineBytes, Step}
-use Rattle.ram_run.specs.Run.{AnsweredLine, IsStep, Run}
+use Rattle.ram_run.specs.Answered.{AnsweredLine}
+use Rattle.ram_run.specs.Run.{IsStep, Run}
 use Rattle.ram_run.specs.Alone.{StandsAlone, IsAlone, LeavesAloneAsDecoded, LeavesAlone, LeaveAlone}
 use Rattle.ram_run.specs.PlainCommands.{PlainAnswer, PlainRead, PlainWrite, PlainVerification, PlainFormat, PlainExpansion, PlainStructure, PlainSpares, PlainDone, PlainlyAnswered, PlainCommand}
 use Rattle.ram_run.specs.PlainRuns.{PlainServed, PlainState, PlainImage, PlainDisc, IsPlainlyLeft, IsPlainlyInserted, IsPlainlyFirst, IsServedPlainly, IsInPlainly, stands_after_fail, KeepsPlainly, PlainPower, PlainFail, PlainWear, PlainCut, PlainTick, PlainRule, PlainDiscStep, OnPlainDisc, IsPlainlyPressed, IsUnopenedPlainly, IsHalfPlainly, PlainPress, PlainStep, PlainRun}

@@ -20,7 +20,8 @@ use Rattle.ram_run.specs.NextLines.{IsNextLine, ComesNext}
 use Rattle.ram_run.specs.Replies.{Outcome}
 use Rattle.ram_run.specs.States.{State, Served, Unopened, Disc, IsFirst, IsPressedDisc}
 use Rattle.ram_run.specs.LineSteps.{PressStep, OnDisc, Step}
-use Rattle.ram_run.specs.Run.{AnsweredLine, IsStep, Run, Reaches, script_text}
+use Rattle.ram_run.specs.Answered.{AnsweredLine, Reaches, script_text}
+use Rattle.ram_run.specs.Run.{IsStep, Run}
 use Rattle.model_counts.specs.Counts.{Rose}
 use Rattle.ram_run.specs.RunCounts.{Counts}
 use Rattle.ram_run.specs.Progress.{Beginning, SoFar, IsLast}

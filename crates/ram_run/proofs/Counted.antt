@@ -10,7 +10,7 @@ use Rattle.ram_run.specs.declared.counts.SenseCount.{SenseCount}
 use Rattle.ram_run.specs.declared.reply.Reply.{Reply}
 use Rattle.ram_run.specs.declared.reply.Reply.TheVariants as replies
 use Rattle.ram_run.specs.Counting.{is_same_sense, is_good, is_cut, is_off, is_check, times, sense_count_of, counts_in, raised_by, with_reply, AreAtMost}
-use Rattle.ram_run.specs.Run.{AnsweredLine}
+use Rattle.ram_run.specs.Answered.{AnsweredLine}
 
 -- one more where it is so
 abbrev one_if : Bool → ℕ → ℕ

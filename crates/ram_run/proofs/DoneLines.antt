@@ -37,7 +37,8 @@ use Rattle.ram_run.specs.declared.stopped.Stopped.TheVariants as stopped
 use Rattle.ram_run.specs.Replies.{command_outcome}
 use Rattle.ram_run.specs.States.{State, Served, Unopened, Disc}
 use Rattle.ram_run.specs.LineSteps.{OnDisc, Step}
-use Rattle.ram_run.specs.Run.{AnsweredLine, IsStep, Run}
+use Rattle.ram_run.specs.Answered.{AnsweredLine}
+use Rattle.ram_run.specs.Run.{IsStep, Run}
 use Rattle.ram_run.specs.Acknowledged.{bytes_of_sector, HasSector, Acknowledged, StandsWithSector, HasNow, GoesThrough, WasDone, IsAmong, LeaveSector}
 use Rattle.ram_run.proofs.Decoded.{asks_for, same_asked, its_data}
 use Rattle.ram_run.proofs.Acknowledged.{run_keeps, as_so, so_acknowledged}

@@ -11,7 +11,8 @@ use Rattle.model_sense.specs.declared.answer.Answer.TheVariants as answers
 use Rattle.model_cdb.specs.declared.commands.Command.TheVariants as commands
 use Rattle.model_target.specs.Steps.{IsExpanded, expand_answer}
 use Rattle.ram_run.specs.States.{State, Unopened, Disc}
-use Rattle.ram_run.specs.Run.{AnsweredLine, IsStep}
+use Rattle.ram_run.specs.Answered.{AnsweredLine}
+use Rattle.ram_run.specs.Run.{IsStep}
 use Rattle.ram_run.specs.Acknowledged.{HasSector, StandsWithSector, HasNow, WasDone}
 use Rattle.ram_run.proofs.DoneLines.{Done, line_done}
 use Rattle.ram_run.proofs.Shortened.{front_sector}

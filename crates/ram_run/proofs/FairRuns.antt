@@ -46,7 +46,8 @@ use Rattle.ram_run.specs.declared.stopped.Stopped.TheVariants as stopped
 use Rattle.ram_run.specs.Replies.{Outcome}
 use Rattle.ram_run.specs.States.{State, Served, Unopened, Disc, IsFirst, IsInserted, IsPressedDisc, IsHalfPressed, IsPressedUnopened}
 use Rattle.ram_run.specs.LineSteps.{PressStep, DiscRule, OnDisc, Step}
-use Rattle.ram_run.specs.Run.{AnsweredLine, Run}
+use Rattle.ram_run.specs.Answered.{AnsweredLine}
+use Rattle.ram_run.specs.Run.{Run}
 use Rattle.ram_run.specs.Fairness.{FairNow}
 use Rattle.ram_run.proofs.SoundChains.{contents_known}
 

@@ -22,7 +22,8 @@ use Rattle.ram_text.specs.declared.script.Line.TheVariants as lines
 use Rattle.ram_run.specs.Replies.{Outcome}
 use Rattle.ram_run.specs.States.{State, Unopened, Disc}
 use Rattle.ram_run.specs.LineSteps.{Step}
-use Rattle.ram_run.specs.Run.{AnsweredLine, Run}
+use Rattle.ram_run.specs.Answered.{AnsweredLine}
+use Rattle.ram_run.specs.Run.{Run}
 use Rattle.ram_run.specs.Acknowledged.{bytes_of_sector, Acknowledged, FallsBackTo, StandsWithSector, HasNow, IsAmong, LeavesAsDecoded, LeavesSector, WritesAsDecoded, WritesAtMost, WriteAtMost, is_sector_among, choices_asked, choices_with, choices_after}
 use Rattle.ram_run.proofs.Acknowledged.{SoInState, step_keeps}
 use Rattle.ram_run.proofs.WrittenDiscs.{SoInBlock, SoInContents, so_shown}

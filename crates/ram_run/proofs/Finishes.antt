@@ -24,7 +24,7 @@ use Rattle.ram_run.specs.declared.status.Status.TheVariants as statuses
 use Rattle.ram_run.specs.Replies.{Outcome}
 use Rattle.ram_run.specs.States.{State}
 use Rattle.ram_run.specs.Inserted.{LeavesImage}
-use Rattle.ram_run.specs.Run.{report_text}
+use Rattle.ram_run.specs.Answered.{report_text}
 use Rattle.ram_run.specs.Starts.{StandsFirst}
 use Rattle.ram_run.specs.RunState.{IsFresh}
 use Rattle.ram_run.specs.Progress.{Beginning, SoFar, View, Between, IsReported, IsReportedInPart, ComesOut, IsLast, Ending, last_line, IsLastIfAny, EndsBetween, EndsInLine, Ends, due_before, run_view}

@@ -23,7 +23,8 @@ use Rattle.model_cache.proofs.Chained.{flushed}
 use Rattle.model_cache.proofs.Falls.{only}
 use Rattle.model_cdb.specs.declared.commands.Command.TheVariants as commands
 use Rattle.ram_run.specs.States.{State, Served, Unopened, Disc, IsLeft}
-use Rattle.ram_run.specs.Run.{AnsweredLine, IsStep}
+use Rattle.ram_run.specs.Answered.{AnsweredLine}
+use Rattle.ram_run.specs.Run.{IsStep}
 use Rattle.ram_run.specs.Acknowledged.{bytes_of_sector, Acknowledged, StandsWithSector, HasNow, GoesThrough, WasDone, IsAmong, HasInCells, HasInImage}
 use Rattle.ram_run.proofs.Images.{image_left}
 use Rattle.ram_run.proofs.SoundChains.{contents_known, StaysWell, stays_well}

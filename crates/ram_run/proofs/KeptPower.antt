@@ -41,7 +41,8 @@ use Rattle.ram_run.specs.Control.{contents_after_fail}
 use Rattle.ram_run.specs.Replies.{fail_outcome, tick_outcome, command_outcome}
 use Rattle.ram_run.specs.States.{State, Served, Unopened, Disc}
 use Rattle.ram_run.specs.LineSteps.{DiscRule, OnDisc, Step}
-use Rattle.ram_run.specs.Run.{AnsweredLine, IsStep, Run}
+use Rattle.ram_run.specs.Answered.{AnsweredLine}
+use Rattle.ram_run.specs.Run.{IsStep, Run}
 use Rattle.ram_run.specs.Acknowledged.{bytes_of_sector, StandsWithSector, HasNow, WasDone, IsAmong, LeavesAsAsked, LeavesAsDecoded, LeavesSector, LeaveSector, KeepsPower, KeepPower}
 use Rattle.ram_run.proofs.Decoded.{HasItsData, asks_for, its_data}
 use Rattle.ram_run.proofs.Acknowledged.{not_pressed, sector_left}

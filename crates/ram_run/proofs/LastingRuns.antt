@@ -47,7 +47,8 @@ use Rattle.ram_run.specs.declared.reply.Reply.TheVariants as replies
 use Rattle.ram_run.specs.Replies.{Outcome, power_outcome}
 use Rattle.ram_run.specs.States.{State, Served, Unopened, Disc, IsLeft, IsFirst}
 use Rattle.ram_run.specs.LineSteps.{DiscRule, OnDisc, Step}
-use Rattle.ram_run.specs.Run.{AnsweredLine, IsStep, Run}
+use Rattle.ram_run.specs.Answered.{AnsweredLine}
+use Rattle.ram_run.specs.Run.{IsStep, Run}
 use Rattle.ram_run.specs.Survival.{KeepsAsAsked, KeepsAsDecoded, KeepsDisc, KeepDisc, AsksNoExpansion, LeavesCapacity, LeaveCapacity, HasInUse, HasTwoCopies, LastsNow, IsReadyOrCut}
 use Rattle.ram_run.proofs.Images.{image_left}
 use Rattle.ram_run.proofs.SoundChains.{contents_known, IsWell}

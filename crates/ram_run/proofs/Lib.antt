@@ -38,3 +38,16 @@ pub mod KeptPower
 pub mod Synced
 pub mod FallenBack
 pub mod Alone
+pub mod CacheModes
+pub mod SectorNow
+pub mod SectorMatching
+pub mod SectorWritten
+pub mod SectorFormatted
+pub mod SectorCommands
+pub mod SectorTurns
+pub mod SectorRuns
+pub mod SectorOpened
+pub mod Promised
+pub mod SectorAgain
+pub mod SectorSettled
+pub mod SectorNothing

@@ -21,7 +21,8 @@ use Rattle.ram_run.specs.declared.stopped.Stopped.TheVariants as stopped
 use Rattle.ram_run.specs.Replies.{tick_outcome, command_outcome}
 use Rattle.ram_run.specs.States.{State, Unopened, Disc}
 use Rattle.ram_run.specs.LineSteps.{OnDisc, Step}
-use Rattle.ram_run.specs.Run.{AnsweredLine, IsStep}
+use Rattle.ram_run.specs.Answered.{AnsweredLine}
+use Rattle.ram_run.specs.Run.{IsStep}
 use Rattle.ram_run.specs.Fairness.{FairNow, WasToldNoSpare, HasNoSpareLeft}
 use Rattle.ram_run.proofs.FairRuns.{step_fair}
 

@@ -14,7 +14,8 @@ use Rattle.model_sense.specs.declared.answer.Answer.TheVariants as answers
 use Rattle.model_cdb.specs.declared.commands.Command.TheVariants as commands
 use Rattle.model_target.specs.Steps.{IsSynchronised, sync_answer}
 use Rattle.ram_run.specs.States.{State, Unopened, Disc}
-use Rattle.ram_run.specs.Run.{AnsweredLine, IsStep}
+use Rattle.ram_run.specs.Answered.{AnsweredLine}
+use Rattle.ram_run.specs.Run.{IsStep}
 use Rattle.ram_run.specs.Acknowledged.{Acknowledged, StandsWithSector, HasNow, WasDone}
 use Rattle.ram_run.proofs.WrittenDiscs.{SoInBlock, SoInContents, so_of_block}
 use Rattle.ram_run.proofs.DoneLines.{Done, line_done}

@@ -32,7 +32,8 @@ use Rattle.ram_run.specs.declared.reply.Reply.TheVariants as replies
 use Rattle.ram_run.specs.Replies.{tick_outcome}
 use Rattle.ram_run.specs.States.{State, Served, Unopened, Disc, IsLeft}
 use Rattle.ram_run.specs.LineSteps.{TickLine, Step}
-use Rattle.ram_run.specs.Run.{AnsweredLine, IsStep}
+use Rattle.ram_run.specs.Answered.{AnsweredLine}
+use Rattle.ram_run.specs.Run.{IsStep}
 use Rattle.ram_run.specs.Acknowledged.{bytes_of_sector, HasSector, StandsWithSector, HasNow, WasDone, HasInImage, HasHomeInCells, HasBlockInImage, IsPendingIn}
 use Rattle.ram_run.proofs.Images.{image_left}
 use Rattle.ram_run.proofs.InImage.{agreed_cell}

@@ -16,7 +16,7 @@ use Rattle.ram_run.specs.Replies.{Outcome}
 use Rattle.ram_run.specs.Counting.{with_reply}
 use Rattle.ram_run.specs.States.{State}
 use Rattle.ram_run.specs.Inserted.{IsAnswered}
-use Rattle.ram_run.specs.Run.{AnsweredLine, EndsWithBytes, answers_of, script_text, report_text, line_text}
+use Rattle.ram_run.specs.Answered.{AnsweredLine, EndsWithBytes, answers_of, script_text, report_text, line_text}
 use Rattle.ram_run.specs.RunCounts.{LineCount}
 use Rattle.ram_run.specs.Progress.{Beginning, SoFar, View, Between, Taken, Ending, EndsBetween, EndsCutOff, EndsInLine, Ends, TurnsTo, IsStoppedAt, IsStop, IsReplied, TellRule, lines_before}
 

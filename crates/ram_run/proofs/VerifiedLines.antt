@@ -20,7 +20,8 @@ use Rattle.model_sense.specs.declared.answer.Answer.TheVariants as answers
 use Rattle.model_cdb.specs.declared.commands.Command.TheVariants as commands
 use Rattle.model_target.specs.Steps.{IsVerified}
 use Rattle.ram_run.specs.States.{State, Unopened, Disc, IsLeft}
-use Rattle.ram_run.specs.Run.{AnsweredLine, IsStep}
+use Rattle.ram_run.specs.Answered.{AnsweredLine}
+use Rattle.ram_run.specs.Run.{IsStep}
 use Rattle.ram_run.specs.Acknowledged.{Acknowledged, WasDone, IsAmong, HasInImage}
 use Rattle.ram_run.proofs.Images.{image_left}
 use Rattle.ram_run.proofs.SoundChains.{contents_known}

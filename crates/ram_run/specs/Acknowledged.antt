@@ -23,7 +23,7 @@ use Rattle.ram_text.specs.declared.printing.Event.TheVariants as events
 use Rattle.ram_run.specs.declared.reply.Reply.{Reply}
 use Rattle.ram_run.specs.declared.reply.Reply.TheVariants as replies
 use Rattle.ram_run.specs.States.{State, Unopened, Disc}
-use Rattle.ram_run.specs.Run.{AnsweredLine}
+use Rattle.ram_run.specs.Answered.{AnsweredLine}
 
 -- the bytes of this sector, among those of the sectors from lba on
 abbrev pub bytes_of_sector : (lba : ℕ) → List ℕ → (at : ℕ) → List ℕ

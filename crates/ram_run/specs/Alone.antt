@@ -13,7 +13,7 @@ use Rattle.model_cdb.specs.Decoding.{decoded}
 use Rattle.ram_text.specs.declared.script.Line.{Line}
 use Rattle.ram_text.specs.declared.script.Line.TheVariants as lines
 use Rattle.ram_run.specs.States.{State, Unopened, Disc}
-use Rattle.ram_run.specs.Run.{AnsweredLine}
+use Rattle.ram_run.specs.Answered.{AnsweredLine}
 
 -- the cache is off and empty, and each block has one value
 pub record StandsAlone (shown : CacheShown) (contents : Contents) : Type 0 where

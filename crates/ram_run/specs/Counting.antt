@@ -7,7 +7,7 @@ use Rattle.ram_run.specs.declared.counts.AnswerCounts.{AnswerCounts}
 use Rattle.ram_run.specs.declared.counts.SenseCount.{SenseCount}
 use Rattle.ram_run.specs.declared.reply.Reply.{Reply}
 use Rattle.ram_run.specs.declared.reply.Reply.TheVariants as replies
-use Rattle.ram_run.specs.Run.{AnsweredLine}
+use Rattle.ram_run.specs.Answered.{AnsweredLine}
 
 -- whether both have the same key, code and qualifier; their information may differ (this project's own, as all here)
 abbrev pub is_same_sense : Sense → Sense → Bool

@@ -21,7 +21,7 @@ use Rattle.ram_run.specs.Replies.{Outcome}
 use Rattle.ram_run.specs.States.{State}
 use Rattle.ram_run.specs.LineSteps.{Step}
 use Rattle.ram_run.specs.Inserted.{LeavesImage}
-use Rattle.ram_run.specs.Run.{report_text}
+use Rattle.ram_run.specs.Answered.{report_text}
 use Rattle.ram_run.specs.RunCounts.{Counts, SameCounts, OnlySourceRose, OnlySinkRose, OnlyImageRose, SourceAndSinkRose, ImageAndSinkRose}
 use Rattle.ram_run.specs.Progress.{Beginning, SoFar, IsReported, IsLast, Ending, due_before, last_line}
 

@@ -14,7 +14,7 @@ use Rattle.ram_text.specs.declared.printing.Event.TheVariants as events
 use Rattle.ram_text.specs.declared.script.Line.TheVariants as lines
 use Rattle.ram_run.specs.declared.reply.Reply.TheVariants as replies
 use Rattle.ram_run.specs.States.{State, Unopened, Disc}
-use Rattle.ram_run.specs.Run.{AnsweredLine}
+use Rattle.ram_run.specs.Answered.{AnsweredLine}
 
 -- The disc in the drive gives up dead blocks alone, by the lists in use and by all that it may give. An image that is no disc's has
 -- none.

@@ -9,6 +9,7 @@ pub mod Drive
 pub mod Lying
 pub mod Inserted
 pub mod NextLines
+pub mod Answered
 pub mod Run
 pub mod RunCounts
 pub mod Summary
@@ -26,3 +27,4 @@ pub mod Survival
 pub mod Alone
 pub mod PlainCommands
 pub mod PlainRuns
+pub mod Promise

@@ -33,7 +33,7 @@ use Rattle.ram_run.specs.Replies.{Outcome, event, power_outcome, fail_outcome, w
 use Rattle.ram_run.specs.NextLines.{IsLine}
 use Rattle.ram_run.specs.States.{State, Served, Unopened, Disc, IsLabelled}
 use Rattle.ram_run.specs.LineSteps.{LineBytes}
-use Rattle.ram_run.specs.Run.{AnsweredLine}
+use Rattle.ram_run.specs.Answered.{AnsweredLine}
 use Rattle.ram_run.specs.PlainCommands.{PlainCommand}
 
 -- ---- states

@@ -21,7 +21,8 @@ use Rattle.ram_run.specs.Replies.{Outcome}
 use Rattle.ram_run.specs.Counting.{counts_in, with_reply}
 use Rattle.ram_run.specs.States.{State, IsFirst}
 use Rattle.ram_run.specs.LineSteps.{Step}
-use Rattle.ram_run.specs.Run.{AnsweredLine, Run, Reaches, answers_of, answered_in, line_text, report_text}
+use Rattle.ram_run.specs.Answered.{AnsweredLine, Reaches, answers_of, answered_in, line_text, report_text}
+use Rattle.ram_run.specs.Run.{Run}
 
 -- What came first: the script, what was written before, and the image's bytes. (This project's own, as all here.)
 pub record Beginning : Type 0 where

@@ -7,7 +7,7 @@ use Rattle.ram_text.specs.ReportLines.{sense_code}
 use Rattle.ram_run.specs.declared.counts.SenseCount.{SenseCount}
 use Rattle.ram_run.specs.declared.state.Tally.{Tally}
 use Rattle.ram_run.specs.Counting.{is_good, is_cut, is_off, is_check, times}
-use Rattle.ram_run.specs.Run.{AnsweredLine}
+use Rattle.ram_run.specs.Answered.{AnsweredLine}
 
 -- these words, a number, and the end of the line (this project's own, as all here)
 abbrev pub count_text : List ℕ → ℕ → List ℕ

@@ -16,7 +16,7 @@ use Rattle.ram_text.specs.declared.script.Line.TheVariants as lines
 use Rattle.ram_run.specs.declared.reply.Reply.{Reply}
 use Rattle.ram_run.specs.declared.reply.Reply.TheVariants as replies
 use Rattle.ram_run.specs.States.{State, Unopened, Disc}
-use Rattle.ram_run.specs.Run.{AnsweredLine}
+use Rattle.ram_run.specs.Answered.{AnsweredLine}
 
 -- a command makes no disc anew: it is no full format
 abbrev pub KeepsAsAsked : Command → Type 0

@@ -9,6 +9,7 @@ pub mod help;
 mod inserted;
 mod kept;
 pub mod laws;
+pub mod promise;
 mod reply;
 pub mod run;
 mod seed;

@@ -1,6 +1,6 @@
 //! What a line is answered, and how that is printed.
 ghost use Rattle.ram_text.specs.Dialogue.{Tells};
-ghost use Rattle.ram_run.specs.Run.{line_text};
+ghost use Rattle.ram_run.specs.Answered.{line_text};
 ghost use Rattle.ram_run.specs.Replies.{CanPrint};
 
 use ram_bytes::Cdb;

@@ -5,6 +5,7 @@ ghost use Rattle.ram_run.specs.Progress.{Beginning};
 ghost use Rattle.ram_run.specs.Completes.{IsInLanguage, BeginsWithDisc, NoneRose, IsComplete};
 ghost use Rattle.ram_run.specs.Words.{IsRunOf, IsRunImage, IsGenerateOf, IsHelp, IsVersion, UsageRule, FormRule, IsNotOpened, UntouchedByUsage, TellsText, AsksOnce, around};
 ghost use Rattle.ram_run.specs.Endings.{IsBeginning, IsUnopened, IsNoUsage, StandsWith, StatusCounts, aftermath_of};
+ghost use Rattle.ram_run.specs.Promise.{KeepsBytes};
 ghost use Rattle.ram_run.specs.Generating.{BeginsFrom, Generates, AsksUnread};
 
 use crate::generate::generate_image;
@@ -81,6 +82,11 @@ pub fn run<S: Source, K: Sink, O: Opener>(
         ⊎ (IsUnopened result × IsNotOpened
         (around S.Source K.Sink O.Opener script.old report.old opener.old)
         (around S.Source K.Sink O.Opener script.new report.new opener.new)) }
+    ensures promise { (first : Beginning) → IsRunImage (map (λ word. word.now) words.now)
+        → IsBeginning O.Image.bytes first
+        (around S.Source K.Sink O.Opener script.old report.old opener.old) O.returned_known
+        → KeepsBytes first.script first.report first.image
+        (around S.Source K.Sink O.Opener script.new report.new opener.new).written }
     ensures completes { (first : Beginning) → IsRunImage (map (λ word. word.now) words.now)
         → IsBeginning O.Image.bytes first
         (around S.Source K.Sink O.Opener script.old report.old opener.old) O.returned_known

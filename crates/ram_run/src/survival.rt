@@ -9,7 +9,8 @@ ghost use Rattle.ram_run.specs.declared.reply.Reply.TheVariants as replies;
 ghost use Rattle.ram_run.specs.Replies.{Outcome};
 ghost use Rattle.ram_run.specs.States.{State, Served, Disc, IsFirst, IsLeft};
 ghost use Rattle.ram_run.specs.LineSteps.{Step};
-ghost use Rattle.ram_run.specs.Run.{AnsweredLine, IsStep, Run};
+ghost use Rattle.ram_run.specs.Answered.{AnsweredLine};
+ghost use Rattle.ram_run.specs.Run.{IsStep, Run};
 ghost use Rattle.ram_run.specs.Survival.{KeepsDisc, KeepDisc, LeavesCapacity, LeaveCapacity, HasInUse, HasTwoCopies, LastsNow, IsReadyOrCut};
 
 /// No power cut loses the disc. It begins formatted wherever lists are in use, and stays so over each line but a press and a

@@ -5,10 +5,17 @@ use Rattle.ram_run.specs.Generating.{BeginsFrom, Generates}
 use Rattle.ram_run.specs.Words.{IsNotOpened, IsGenerateOf, AsksOnce, around}
 use Rattle.ram_run.proofs.Completes.{completes}
 use Rattle.ram_run.proofs.Few.{one_generate}
+use Rattle.ram_run.proofs.Promised.{promised_by_run}
 use Rattle.ram_run.proofs.run.run.Goals as goal
 
 pub returns-in-Some-Run-clause-run : goal.returns-in-Some-Run-clause-run
 returns-in-Some-Run-clause-run g c first words known = c.run_image.ensures.run first known
+
+pub returns-in-Some-Run-clause-promise : goal.returns-in-Some-Run-clause-promise
+returns-in-Some-Run-clause-promise g c first words known =
+    let before = around g.S.Source g.K.Sink g.O.Opener c.args.script.now c.args.report.now c.args.opener.now in
+    let after = around g.S.Source g.K.Sink g.O.Opener c.run_image.new.script c.run_image.new.report c.run_image.new.opener in
+    promised_by_run g.O.Image.Image.bytes first before after g.O.Opener.returned_known c.run_image.result known (c.run_image.ensures.run first known)
 
 pub returns-in-Some-Run-clause-completes : goal.returns-in-Some-Run-clause-completes
 returns-in-Some-Run-clause-completes g c first words known language begins none =
