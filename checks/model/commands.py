@@ -118,6 +118,19 @@ def is_taken_by_mode_select(data: bytes) -> bool:
     return not any(data[6:8]) and all(without_cache(page) in IN_FORCE.values() for page in pages_of(data))
 
 
+def judge_fields(block: Block, data: bytes) -> None:
+    """Raises the first reason why a known command is refused by its command block, the length of its data, or the list of a
+    format: whatever the drive is then, and whatever the disc."""
+    if block.is_too_short or not block.has_lawful_fields:
+        raise Check(5, 0x24, 0x00)
+    if block.code == Code.MODE_SENSE and block.bytes[2] >> 6 == 3:
+        raise Check(5, 0x39, 0x00)
+    if len(data) != block.takes or block.code == Code.MODE_SELECT and len(data) not in (0, 8, 20, 32):
+        raise Check(5, 0x1a, 0x00)
+    if block.code == Code.FORMAT_UNIT and (data[2:4] != b"\0\x08" or data[8] >> 2 > 1):
+        raise Check(5, 0x26, 0x00)
+
+
 @dataclass
 class Target:
     """A drive with what is remembered for its host."""
@@ -153,14 +166,7 @@ class Target:
         if self.attention and code not in UNTOLD:
             self.attention = False
             raise Check(*ATTENTION[:3])
-        if block.is_too_short or not block.has_lawful_fields:
-            raise Check(5, 0x24, 0x00)
-        if code == Code.MODE_SENSE and block.bytes[2] >> 6 == 3:
-            raise Check(5, 0x39, 0x00)
-        if len(data) != block.takes or code == Code.MODE_SELECT and len(data) not in (0, 8, 20, 32):
-            raise Check(5, 0x1a, 0x00)
-        if code == Code.FORMAT_UNIT and (data[2:4] != b"\0\x08" or data[8] >> 2 > 1):
-            raise Check(5, 0x26, 0x00)
+        judge_fields(block, data)
         if code == Code.MODE_SELECT and not is_taken_by_mode_select(data):
             raise Check(5, 0x26, 0x00)
         if code == Code.START_STOP_UNIT and block.bytes[4] & 0x03 == 0x02 and self.prevented:
