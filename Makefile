@@ -27,7 +27,7 @@ install: all
 	$(INSTALL) -m 644 tools/dvdram*.py $(lib)
 	$(INSTALL) -m 644 tools/sg/dvdram_sg.c $(lib)/sg
 	$(INSTALL) -m 644 tools/completion.bash $(completions)/ram_drive
-	$(INSTALL) -m 644 $(addprefix docs/,$(pages)) $(man1)
+	$(INSTALL) -m 644 $(addprefix man/,$(pages)) $(man1)
 	for command in $(commands); do \
 	    $(INSTALL) -m 755 tools/$$command $(lib) && ln -sf ../lib/ram_drive/$$command $(bin) && \
 	    ln -sf ram_drive $(completions)/$$command || exit; \
