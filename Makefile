@@ -22,9 +22,9 @@ check:
 	.ci/run
 
 install: all
-	$(INSTALL) -d $(bin) $(lib)/sg $(man1) $(completions)
+	$(INSTALL) -d $(bin) $(lib)/dvdram $(lib)/sg $(man1) $(completions)
 	$(INSTALL) -m 755 $(program) $(bin)/ram_drive
-	$(INSTALL) -m 644 tools/dvdram*.py $(lib)
+	$(INSTALL) -m 644 tools/dvdram/*.py $(lib)/dvdram
 	$(INSTALL) -m 644 tools/sg/dvdram_sg.c $(lib)/sg
 	$(INSTALL) -m 644 tools/completion.bash $(completions)/ram_drive
 	$(INSTALL) -m 644 $(addprefix man/,$(pages)) $(man1)

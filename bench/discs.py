@@ -1,7 +1,7 @@
 """Images of discs with defect lists, as they are measured. All blocks but those of the lists are blank, or dead."""
 from measuring import HERE  # noqa: F401  (the path to the tools)
 
-from dvdram_lists import BLOCK, MOST_SPARES, Geometry, Lists, Secondary, Structure
+from dvdram.lists import BLOCK, MOST_SPARES, Geometry, Lists, Secondary, Structure
 
 GREATEST = Geometry(35, 100, MOST_SPARES)
 

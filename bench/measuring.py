@@ -11,7 +11,7 @@ from pathlib import Path
 HERE = Path(__file__).resolve().parent
 sys.path.append(str(HERE.parent / "tools"))
 
-from dvdram import Session, Statistics, rows_after_good  # noqa: E402
+from dvdram.protocol import Session, Statistics, rows_after_good  # noqa: E402
 
 # The power goes on, and the first command is told so.
 POWER = "power\ncdb 000000000000\n"

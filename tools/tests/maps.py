@@ -8,8 +8,8 @@ from dataclasses import replace
 from pathlib import Path
 from typing import cast
 
-from dvdram_disc import HEADER, Disc, State
-from dvdram_lists import BLOCK, MOST_SPARES, VERSIONS, Geometry, Secondary, Structure
+from dvdram.disc import HEADER, Disc, State
+from dvdram.lists import BLOCK, MOST_SPARES, VERSIONS, Geometry, Secondary, Structure
 from support import TOOLS, Wrongs, done, run_script, unlike
 
 GEOMETRY = Geometry(1, 1, 4)

@@ -5,25 +5,23 @@ import os
 import random
 from pathlib import Path
 
-import dvdram_drive
 from dvdram import Ended, Refused
-from dvdram_drive import FORMAT, Drive
+from dvdram.drive import FORMAT, RENEW_AT, Drive
 from support import PROGRAM, Wrongs, random_bytes, run_script, unlike
 
 SIZE = 304 * 2048
 
 
-def drive_over(image: str) -> Drive:
+def drive_over(image: str, renew_at: int = RENEW_AT) -> Drive:
     """A drive over a new disc, which is formatted."""
     run_script(image, f"press 1 1 4\npower\ncdb 000000000000\n{FORMAT}\n")
-    return Drive([str(PROGRAM)], image)
+    return Drive([str(PROGRAM)], image, renew_at=renew_at)
 
 
 def renewals() -> Wrongs:
     """A session is renewed before its script is full, with the power as it was; one with something armed is put off."""
     data, back = memoryview(random_bytes(random.Random(3), SIZE)), bytearray(SIZE)
-    drive, most = drive_over("disc.img"), dvdram_drive.RENEW_AT
-    dvdram_drive.RENEW_AT = 200_000
+    drive = drive_over("disc.img", renew_at=200_000)
     try:
         for at in range(0, SIZE, 38 * 2048):
             drive.write(at // 2048, data[at:at + 38 * 2048])
@@ -40,7 +38,6 @@ def renewals() -> Wrongs:
         drive.renew()
         yield from unlike("the power after a renewal without it", drive.say("cdb 000000000000"), ["off"])
     finally:
-        dvdram_drive.RENEW_AT = most
         drive.end()
 
 

@@ -7,7 +7,7 @@ import signal
 import subprocess
 from pathlib import Path
 
-from dvdram_disc import HEADER
+from dvdram.disc import HEADER
 from support import (PLUGIN, PROGRAM, SECONDS, TOOLS, Server, Wrongs, children_of, done, is_free, random_bytes, run_script,
                      unlike, wait_until)
 
@@ -127,7 +127,7 @@ def accidents() -> Wrongs:
 
 def refusal(*words: str, program: Path | str = PROGRAM) -> str:
     """The end of the one line that a plugin tells that does not serve."""
-    told = done(PLUGIN, "-f", "-U", "other.sock", f"program={program}", *words).stdout.splitlines()
+    told = done(PLUGIN, "-f", "-U", "other.sock", f"program={program}", *words).stdout.split("\n\n")[0].splitlines()
     return told[0].rpartition("/")[2] if len(told) == 1 else "\n".join(told)
 
 
@@ -142,12 +142,12 @@ def bad_parameters() -> Wrongs:
             (("image=raw",), "raw holds no disc: press=ZONES,SCALE,SPARES makes one"),
             (("image=bare.img",), "bare.img is not formatted: format=yes formats it"),
             (("image=bare.img", "format=yes", "control=left.ctl"), "left.ctl: there is a file of that name"),
-            (("image=new.img", "press=1,1,400"), "error: press=1,1,400: no disc has these numbers"),
-            (("image=new.img", "press=1,1"), "error: press=1,1: it has three numbers, ZONES,SCALE,SPARES"),
-            (("image=new.img", "format=maybe"), "error: format=maybe: it is one of yes, no"),
+            (("image=new.img", "press=1,1,400"), "Wrong: press=1,1,400: no disc has these numbers"),
+            (("image=new.img", "press=1,1"), "Wrong: press=1,1: it has three numbers, ZONES,SCALE,SPARES"),
+            (("image=new.img", "format=maybe"), "Wrong: format=maybe: it is one of yes, no"),
             (("image=new.img", "size=1"),
-             "error: size is no parameter: there are image, press, format, force, program, control, poweroff"),
-            ((), "error: image=FILE is missing")):
+             "Wrong: size is no parameter: there are image, press, format, force, program, control, poweroff"),
+            ((), "Wrong: image=FILE is missing")):
         found = refusal(*words)
         yield from unlike(" ".join(words), found[-len(due):], due)
     for program, due in (("no-program", "no-program: there is no such program"), ("/bin/true", "true: it is no drive")):

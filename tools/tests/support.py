@@ -16,7 +16,7 @@ from functools import lru_cache
 from pathlib import Path
 from typing import Callable, Iterator
 
-from dvdram_control import exchange
+from dvdram.control import exchange
 
 TOOLS = Path(__file__).resolve().parent.parent
 ROOT = TOOLS.parent

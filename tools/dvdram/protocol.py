@@ -11,6 +11,8 @@ import subprocess
 from dataclasses import dataclass, fields
 from typing import cast
 
+from . import Ended, NoLine
+
 SECTOR = 2048
 LINE_LIMIT = 70_000
 PIPE = 1 << 20
@@ -21,23 +23,6 @@ NUMBER = r"\d{1,10}"
 FORMS = re.compile(
     rf"power|tick|fail {NUMBER}|wear {NUMBER} {NUMBER}|cut {NUMBER} (?:old|new|torn)"
     rf"|cdb {HEX}{{1,16}}(?: (?:fill|count) {HEX}| hex {HEX}+)?", re.ASCII)
-
-
-class Refused(Exception):
-    """The drive's answer to a command, where it is not `good`: `check K/AA/QQ`, `cut` or `off`."""
-
-    def __init__(self, answer: str) -> None:
-        super().__init__(f"the drive answered: {answer}")
-        self.answer = answer
-        self.sense = answer.split()[1] if answer.startswith("check ") else None
-
-
-class Ended(Exception):
-    """The program could not be run, or ended before its answer."""
-
-
-class NoLine(Exception):
-    """The line is none of the forms that a person may send."""
 
 
 @dataclass

@@ -5,9 +5,9 @@ import json
 from itertools import groupby
 from typing import Iterator
 
-from dvdram_disc import Block, Disc, Role, State
+from .disc import Block, Disc, Role, State
+from .protocol import SECTOR
 
-SECTOR = 2048
 COLUMNS = 64
 CELL = 12
 

@@ -9,7 +9,8 @@ from collections import deque
 from functools import wraps
 from typing import Any, Callable, Iterable, Iterator, TypeVar
 
-from dvdram import SECTOR, Ended, Refused, Session, Statistics, line_of, rows_after_good
+from . import Ended, Refused
+from .protocol import SECTOR, Session, Statistics, line_of, rows_after_good
 
 BLOCK_SECTORS = 16
 MOST_SECTORS = 1024  # in one command that reads or writes
@@ -41,10 +42,11 @@ def in_session(call: Callable[..., T]) -> Callable[..., T]:
 
 
 class Drive:
-    """A drive over an image. A session is begun when it is needed first. Each call raises `Ended` and `Refused`."""
+    """A drive over an image. A session is begun when it is needed first, and another after so many bytes. Each call
+    raises `Ended` and `Refused`."""
 
-    def __init__(self, program: list[str], image: str, is_on: bool = True) -> None:
-        self.program, self.image = program, image
+    def __init__(self, program: list[str], image: str, is_on: bool = True, renew_at: int = RENEW_AT) -> None:
+        self.program, self.image, self.renew_at = program, image, renew_at
         self.session: Session | None = None
         self.is_on, self.has_attention = is_on, False
         self.armed: list[str] = []
@@ -86,7 +88,7 @@ class Drive:
 
     def make_room(self, size: int) -> None:
         """Renews a session that has no room for so many bytes. One in which something is armed goes on as long as it can."""
-        if self.live.sent + size > (SCRIPT_LIMIT if self.armed else RENEW_AT):
+        if self.live.sent + size > (SCRIPT_LIMIT if self.armed else self.renew_at):
             self.renew()
 
     def serve_host(self, size: int) -> None:

@@ -6,14 +6,11 @@ from dataclasses import dataclass
 from enum import Enum
 from functools import cached_property
 
-from dvdram_lists import BLOCK, Geometry, Lists, choose
+from . import NoDisc
+from .lists import BLOCK, Geometry, Lists, choose
 
 SIGNATURE = b"DVDRAM01"
 HEADER = 16
-
-
-class NoDisc(Exception):
-    """The file is no image of a disc."""
 
 
 class State(Enum):

@@ -9,16 +9,12 @@ import subprocess
 from dataclasses import dataclass, fields
 from pathlib import Path
 
-from dvdram import Ended, Refused
-from dvdram_disc import Disc, NoDisc, State
-from dvdram_drive import FORMAT, IS_READY, Drive
+from . import Ended, NoDisc, Refused, Wrong
+from .disc import Disc, State
+from .drive import FORMAT, IS_READY, Drive
 
-HERE = Path(__file__).resolve().parent
+TOOLS = Path(__file__).resolve().parent.parent
 CHOICES = {"format": ("yes", "no"), "force": ("yes", "no"), "poweroff": ("stay", "again", "exit")}
-
-
-class Wrong(Exception):
-    """A parameter, an image or a request that cannot be taken; its text says why."""
 
 
 @dataclass
@@ -54,7 +50,7 @@ class Parameters:
 
 def find_program(words: Parameters) -> list[str]:
     """The program: the one named, that of this checkout, the one installed beside these tools, or one on the path."""
-    places = (HERE.parent / "drive", HERE.parent.parent / "bin" / "ram_drive")
+    places = (TOOLS.parent / "drive", TOOLS.parent.parent / "bin" / "ram_drive")
     found = words.program or next((str(place) for place in places if place.is_file()), "ram_drive")
     program = shutil.which(found)
     if not program:

@@ -13,15 +13,12 @@ from io import BufferedRWPair
 from threading import Lock, Thread
 from typing import Callable, List
 
-from dvdram import LINE_LIMIT, Ended, NoLine
-from dvdram_disc import Disc, NoDisc, State
-from dvdram_drive import Drive
+from . import Ended, NoDisc, NoLine, SocketInUse
+from .disc import Disc, State
+from .drive import Drive
+from .protocol import LINE_LIMIT
 
 Answerer = Callable[[str], List[str]]
-
-
-class SocketInUse(Exception):
-    """The path of the socket cannot be taken."""
 
 
 class Listener:

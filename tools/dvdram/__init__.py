@@ -1,0 +1,36 @@
+"""The drive as a disk: what speaks to the program, reads its images, and serves it to others.
+
+`protocol` has a session of the program, and `drive` a drive that lives on over several. `lists` and `disc` read an
+image, and `pictures` shows it. `prepare` gets a disc ready to be served, `control` has the socket of a person, and
+`plugin` the calls of nbdkit. `ram_ctl` and `ram_map` are the commands of these names.
+"""
+from __future__ import annotations
+
+
+class Refused(Exception):
+    """The drive's answer to a command, where it is not `good`: `check K/AA/QQ`, `cut` or `off`."""
+
+    def __init__(self, answer: str) -> None:
+        super().__init__(f"the drive answered: {answer}")
+        self.answer = answer
+        self.sense = answer.split()[1] if answer.startswith("check ") else None
+
+
+class Ended(Exception):
+    """The program could not be run, or ended before its answer."""
+
+
+class NoLine(Exception):
+    """The line is none of the forms that a person may send."""
+
+
+class NoDisc(Exception):
+    """The file is no image of a disc."""
+
+
+class SocketInUse(Exception):
+    """The path of the control socket cannot be taken."""
+
+
+class Wrong(Exception):
+    """A parameter, an image or a request that cannot be taken; its text says why."""
