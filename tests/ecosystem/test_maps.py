@@ -3,14 +3,14 @@ from __future__ import annotations
 
 import json
 import random
-import shutil
+import unittest
 from dataclasses import replace
 from pathlib import Path
 from typing import cast
 
 from dvdram.disc import HEADER, Disc, State
 from dvdram.lists import BLOCK, MOST_SPARES, VERSIONS, Geometry, Secondary, Structure
-from support import TOOLS, Wrongs, done, run_script, unlike
+from support import TOOLS, FolderTest, done, needs, run_script
 
 GEOMETRY = Geometry(1, 1, 4)
 IMAGES = 200
@@ -116,71 +116,88 @@ def by_program(path: Path) -> tuple[int, list[int | None]]:
     return sectors, homes
 
 
-def hostile() -> Wrongs:
-    """The map names the same sectors and homes as the program finds, whatever the lists are."""
-    made, tried = Path("made.img"), Path("tried.img")
-    run_script(made, MADE)
-    plain = Image(made)
-    for block in GEOMETRY.data:
-        plain.put(block, bytes((block,)) * BLOCK, plain.bytes[HEADER + block])
-    plain.save(made)
-    seen: set[tuple[int, tuple[int | None, ...]]] = set()
-    for number in range(IMAGES):
-        chance, image = random.Random(number), Image(made)
-        image.take_version(1 if number % 3 == 2 else 2)
-        for _ in range(1 + chance.randrange(3)):
-            mislead(image, chance)
-        image.save(tried)
-        with Disc(str(tried)) as disc:
-            homes = disc.lists.homes if disc.lists else []
-            mapped = disc.sectors, [home if disc.states[home] is State.GOOD else None for home in homes]
-        found = by_program(tried)
-        seen.add((found[0], tuple(found[1])))
-        yield from unlike(f"hostile image {number}", mapped, found)
-    if len(seen) < 12:
-        yield f"the hostile images give {len(seen)} discs alone"
-
-
-def texts() -> Wrongs:
-    """A secondary list is the text of its blocks, with its entries in the parts where they belong, and no other blocks are."""
-    for version, count in ((1, 0), (1, MOST_SPARES), (2, 0), (2, MOST_SPARES), (2, MOST_SPARES + 1), (2, 2 * MOST_SPARES)):
-        what = f"a list of version {version} with {count} retired spares"
-        value = Secondary(version, 7, 2, 0, tuple((block, None) for block in range(count)))
-        parts, other = value.encode(), replace(value, counter=8).encode()
-        yield from unlike(f"entries in each part of {what}", [sum(text[32::8]) for text in parts],
-                          [min(count, MOST_SPARES), max(count - MOST_SPARES, 0)][:version])
-        yield from unlike(what, Secondary.decode([*parts, None]), value)
-        for blocks in ([None, parts[-1]], [parts[0], None], [parts[0], other[-1]], [other[0], parts[-1]], [parts[-1], parts[0]]):
-            due = None if version == 2 or not blocks[0] else value if blocks[0] == parts[0] else replace(value, counter=8)
-            yield from unlike(f"other blocks than those of {what}", Secondary.decode([*blocks]), due)
-    for version in VERSIONS:
-        full = tuple((block, None) for block in range(MOST_SPARES * version + 1))
-        yield from unlike("a list with too many entries", Secondary(version, 7, 2, 0, full).is_lawful(), False)
-        yield from unlike("a list with too many spares", Secondary(version, 7, 2, len(full), ()).is_lawful(), False)
-
-
 def shown(form: str) -> str:
     return done(TOOLS / "ram-map", "disc.img", f"--output={form}").stdout
 
 
-def outputs() -> Wrongs:
-    """Each output says what became of the blocks of a disc."""
-    run_script("disc.img", MADE)
-    runs = json.loads(shown("json"))
-    yield from unlike("the runs cover the disc", sum(run["length"] for run in runs), GEOMETRY.total)
-    named = {run["start"]: (run["role"], run["state"], run.get("sector"), run.get("with")) for run in runs}
-    for block, due in {15: ("replaced", "dead", 48, 11), 11: ("replacement", "good", 48, 15), 20: ("slipped", "dead", None, None),
-                       9: ("spare", "good", None, None), 12: ("data", "dead", 0, None)}.items():
-        yield from unlike(f"block {block} of the map", named.get(block), due)
-    yield from unlike("the map file", shown("ddrescue").splitlines()[4:],
-                      ["0x00000000  0x00008000  -", "0x00008000  0x00080000  +"])
-    Path("disc.map").write_text(shown("ddrescue"), encoding="utf-8")
-    if shutil.which("ddrescuelog"):
-        yield from unlike("bad blocks by ddrescuelog", done("ddrescuelog", "-b2048", "-l-", "disc.map").stdout.split(),
-                          [str(sector) for sector in range(16)])
-    yield from unlike("squares of the picture", shown("svg").count("<title>block "), GEOMETRY.total)
-    with Disc("disc.img") as disc:
-        version = disc.lists and disc.lists.secondary.version
-    yield from unlike("signs of the characters", shown("term").splitlines()[2][:8], "DSDSSS--" if version == 2 else "DSDS----")
-    told = done(TOOLS / "ram-map", "disc.map").stdout
-    yield from unlike("a file that holds no disc", told, "ram-map: disc.map holds no disc\n")
+class Maps(FolderTest):
+    """The map beside the program."""
+
+    def test_hostile_images(self) -> None:
+        """The map names the same sectors and homes as the program finds, whatever the lists are."""
+        made, tried = Path("made.img"), Path("tried.img")
+        run_script(made, MADE)
+        plain = Image(made)
+        for block in GEOMETRY.data:
+            plain.put(block, bytes((block,)) * BLOCK, plain.bytes[HEADER + block])
+        plain.save(made)
+        seen: set[tuple[int, tuple[int | None, ...]]] = set()
+        for number in range(IMAGES):
+            chance, image = random.Random(number), Image(made)
+            image.take_version(1 if number % 3 == 2 else 2)
+            for _ in range(1 + chance.randrange(3)):
+                mislead(image, chance)
+            image.save(tried)
+            with Disc(str(tried)) as disc:
+                homes = disc.lists.homes if disc.lists else []
+                mapped = disc.sectors, [home if disc.states[home] is State.GOOD else None for home in homes]
+            found = by_program(tried)
+            seen.add((found[0], tuple(found[1])))
+            with self.subTest("a hostile image", number=number):
+                self.assertEqual(mapped, found)
+        self.assertGreaterEqual(len(seen), 12, "how many discs the hostile images give")
+
+    def test_outputs(self) -> None:
+        """Each output says what became of the blocks of a disc."""
+        run_script("disc.img", MADE)
+        runs = json.loads(shown("json"))
+        self.assertEqual(sum(run["length"] for run in runs), GEOMETRY.total, "the runs cover the disc")
+        named = {run["start"]: (run["role"], run["state"], run.get("sector"), run.get("with")) for run in runs}
+        for block, due in {
+                15: ("replaced", "dead", 48, 11), 11: ("replacement", "good", 48, 15),
+                20: ("slipped", "dead", None, None), 9: ("spare", "good", None, None), 12: ("data", "dead", 0, None)}.items():
+            self.assertEqual(named.get(block), due, f"block {block}")
+        self.assertEqual(shown("ddrescue").splitlines()[4:],
+                         ["0x00000000  0x00008000  -", "0x00008000  0x00080000  +"])
+        self.assertEqual(shown("svg").count("<title>block "), GEOMETRY.total, "squares of the picture")
+        with Disc("disc.img") as disc:
+            version = disc.lists and disc.lists.secondary.version
+        self.assertEqual(shown("term").splitlines()[2][:8], "DSDSSS--" if version == 2 else "DSDS----")
+        Path("no.img").write_text("no disc", encoding="ascii")
+        self.assertEqual(done(TOOLS / "ram-map", "no.img").stdout, "ram-map: no.img holds no disc\n")
+
+    @needs("ddrescuelog")
+    def test_map_file(self) -> None:
+        """ddrescuelog reads the map file, and finds the bad blocks in it."""
+        run_script("disc.img", MADE)
+        Path("disc.map").write_text(shown("ddrescue"), encoding="utf-8")
+        self.assertEqual(done("ddrescuelog", "-b2048", "-l-", "disc.map").stdout.split(), [str(k) for k in range(16)])
+
+
+class Texts(unittest.TestCase):
+    """The texts of the secondary list."""
+
+    def test_parts(self) -> None:
+        """A list is the text of its blocks, with its entries in the parts where they belong, and no other blocks are."""
+        for version, count in ((1, 0), (1, MOST_SPARES), (2, 0), (2, MOST_SPARES), (2, MOST_SPARES + 1), (2, 2 * MOST_SPARES)):
+            with self.subTest(version=version, retired=count):
+                value = Secondary(version, 7, 2, 0, tuple((block, None) for block in range(count)))
+                self.assertEqual([sum(text[32::8]) for text in value.encode()],
+                                 [min(count, MOST_SPARES), max(count - MOST_SPARES, 0)][:version], "entries in each part")
+                self.assertEqual(Secondary.decode([*value.encode(), None]), value)
+                self.other_blocks(value, replace(value, counter=8))
+
+    def other_blocks(self, value: Secondary, other: Secondary) -> None:
+        """Blocks that are not those of a list, but some of them, or some of another one."""
+        parts, others = value.encode(), other.encode()
+        for blocks in ([None, parts[-1]], [parts[0], None], [parts[0], others[-1]], [others[0], parts[-1]],
+                       [parts[-1], parts[0]]):
+            one = value if blocks[0] == parts[0] else other
+            self.assertEqual(Secondary.decode([*blocks]), None if value.version == 2 or not blocks[0] else one)
+
+    def test_limits(self) -> None:
+        """A list has no more entries and no more spares than there is room for."""
+        for version in VERSIONS:
+            full = tuple((block, None) for block in range(MOST_SPARES * version + 1))
+            self.assertFalse(Secondary(version, 7, 2, 0, full).is_lawful(), "a list with too many entries")
+            self.assertFalse(Secondary(version, 7, 2, len(full), ()).is_lawful(), "a list with too many spares")

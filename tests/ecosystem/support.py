@@ -1,4 +1,4 @@
-"""What the parts of checks/ecosystem share: the program, its tools, a served drive, and what is told of a part."""
+"""What the tests of the tools share: the program, its tools, a served drive, and a folder for each test."""
 from __future__ import annotations
 
 import fcntl
@@ -10,33 +10,52 @@ import socket
 import subprocess
 import tempfile
 import time
+import unittest
 from contextlib import suppress
-from dataclasses import dataclass
-from functools import lru_cache
+from functools import lru_cache, wraps
 from pathlib import Path
-from typing import Callable, Iterator
+from typing import Any, Callable
 
 from dvdram.control import exchange
 
-TOOLS = Path(__file__).resolve().parent.parent
-ROOT = TOOLS.parent
+ROOT = Path(__file__).resolve().parents[2]
+TOOLS = ROOT / "tools"
 PROGRAM = ROOT / "crates" / "ram_drive" / "out" / "ram_drive"
 PLUGIN = TOOLS / "nbdkit-dvdram-plugin"
 SECONDS = 120  # within which one thing comes or ends, on a machine that is busy with others too: what takes longer hangs
 
-Wrongs = Iterator[str]
+NBD = ("nbdkit", "nbdkit-plugin-python")
+FILES = (*NBD, "nbdfuse", "fuse", "mkfs.fat", "fsck.fat", "mcopy")
 
 
-@dataclass(frozen=True)
-class Part:
-    """A part of the check: the tools that it needs, and what it finds wrong in a folder of its own."""
+class FolderTest(unittest.TestCase):
+    """Tests that run in a folder of their own, and that are stopped where they do not end."""
 
-    name: str
-    needs: tuple[str, ...]
-    run: Callable[[], Wrongs]
+    def setUp(self) -> None:
+        self.addCleanup(signal.signal, signal.SIGALRM, signal.signal(signal.SIGALRM, too_long))
+        self.addCleanup(signal.alarm, 0)
+        folder = Path(tempfile.mkdtemp())
+        self.addCleanup(clear, folder)
+        self.addCleanup(os.chdir, os.getcwd())
+        os.chdir(folder)
+        signal.alarm(5 * SECONDS)
 
-    def missing(self) -> list[str]:
-        return [tool for tool in self.needs if not is_there(tool)]
+
+def too_long(*_: object) -> None:
+    raise TimeoutError("it does not end")
+
+
+def needs(*tools: str) -> Callable[[Callable[[Any], None]], Callable[[Any], None]]:
+    """A test that is left out where one of these tools is missing."""
+    def decorate(test: Callable[[Any], None]) -> Callable[[Any], None]:
+        @wraps(test)
+        def run(case: unittest.TestCase) -> None:
+            missing = [tool for tool in tools if not is_there(tool)]
+            if missing:
+                raise unittest.SkipTest(", ".join(missing))
+            test(case)
+        return run
+    return decorate
 
 
 @lru_cache(maxsize=None)
@@ -75,12 +94,6 @@ def run_script(image: str | Path, script: str) -> list[str]:
     """The report of this script over an image, by lines."""
     return subprocess.run([PROGRAM, "run", image], input=script.encode(), stdout=subprocess.PIPE,
                           timeout=SECONDS, check=False).stdout.decode().splitlines()
-
-
-def unlike(what: str, found: object, due: object) -> Wrongs:
-    """Says that something is not what is due."""
-    if found != due:
-        yield f"{what}: {found!r} in place of {due!r}"
 
 
 def wait_until(holds: Callable[[], bool], what: str) -> None:

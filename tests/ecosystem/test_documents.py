@@ -1,0 +1,96 @@
+"""What the documents show of the tools: the session of docs/BLOCK_DEVICE.md, the lines of README, and the picture."""
+from __future__ import annotations
+
+import re
+import subprocess
+from pathlib import Path
+
+from support import FILES, NBD, ROOT, SECONDS, TOOLS, FolderTest, done, needs, run_script
+
+PAGE = ROOT / "docs" / "BLOCK_DEVICE.md"
+BLOCKS = re.compile(r"^```console\n(.*?)^```$", re.M | re.S)
+QUICK = re.compile(r"^## (?:Quick start|Use it as a disk)\n.*?^```(?:text)?\n(.*?)^```$", re.M | re.S)
+MARK = "@@@"
+# Blocks are slipped, replaced and retired, spares are added, one block is torn, and one is dead that nobody has written since.
+PICTURED = """press 3 3 24
+fail 60
+fail 61
+fail 190
+power
+cdb 000000000000
+cdb 041100000000 hex 000000080000000000000800
+cdb 041100000000 hex 0000000800000c0004000000
+fail 40
+fail 41
+fail 121
+fail 29
+cdb aa0000000000000004000000 fill aa
+cdb aa0000000400000004000000 fill bb
+fail 100
+fail 146
+cut 1 torn
+cdb aa0000000800000000100000 fill cc
+"""
+
+
+def steps_of(text: str) -> list[tuple[str, str]]:
+    """Each command of the blocks, with what stands below it."""
+    parts = re.split(r"^\$ (.*)\n", "".join(BLOCKS.findall(text)), flags=re.M)
+    return list(zip(parts[1::2], parts[2::2]))
+
+
+class Documents(FolderTest):
+    """The documents of the tools."""
+
+    @needs(*FILES, "nbdinfo")
+    def test_session(self) -> None:
+        """Each command of the session prints what stands below it."""
+        steps = steps_of(PAGE.read_text(encoding="utf-8"))
+        Path("tools").symlink_to(TOOLS)
+        script = "".join(f"{command}\necho '{MARK}'\n" for command, _ in steps)
+        with open("printed", "w+", encoding="utf-8") as printed:
+            subprocess.run(["bash", "-c", script], stdin=subprocess.DEVNULL, stdout=printed, stderr=subprocess.STDOUT,
+                           timeout=4 * SECONDS, check=False)
+            printed.seek(0)
+            found = printed.read().split(f"{MARK}\n")
+        self.assertGreater(len(steps), 20)
+        self.assertEqual(len(found), len(steps) + 1)
+        for (command, due), one in zip(steps, found):
+            with self.subTest(command):
+                self.assertEqual(one, due)
+
+    @needs(*NBD, "nbdinfo")
+    def test_quick_starts(self) -> None:
+        """The three lines of the page and of README work as they stand."""
+        lines = [QUICK.findall(path.read_text(encoding="utf-8")) for path in (PAGE, ROOT / "README.md")]
+        quick = lines[0][0]
+        self.assertIn(quick, "".join(lines[1]), "the lines in README.md")
+        Path("tools").symlink_to(TOOLS)
+        script = quick.replace("plugin ", "plugin -P disk.pid ") + "kill $(cat disk.pid)\n"
+        told = done("bash", "-c", script).stdout
+        for due in ("export-size: 32178176", "block_size_minimum: 2048", "failed\ndead 25\n"):
+            self.assertIn(due, told)
+
+    def test_picture(self) -> None:
+        """docs/disc.svg is what the map makes of this disc."""
+        run_script("disc.img", PICTURED)
+        shown = done(TOOLS / "ram-map", "disc.img", "--output=svg").stdout
+        self.assertTrue((ROOT / "docs" / "disc.svg").read_text(encoding="utf-8") == shown)
+
+    @needs(*NBD, "nbdinfo", "make")
+    def test_installation(self) -> None:
+        """What `make install` puts under PREFIX and DESTDIR works there, and `make uninstall` leaves no file."""
+        folder = Path("stage").absolute()
+        words = ["make", "-C", str(ROOT), f"DESTDIR={folder}", "PREFIX=/opt/drive"]
+        told = done(*words, "install")
+        self.assertEqual(told.returncode, 0, told.stdout)
+        place = folder / "opt" / "drive"
+        for name in ("man/man1/ram_drive.1", "man/man1/nbdkit-dvdram-plugin.1", "man/man1/ram-map.1",
+                     "bash-completion/completions/ram-ctl"):
+            self.assertTrue((place / "share" / name).is_file(), name)
+        plugin = place / "bin" / "nbdkit-dvdram-plugin"
+        words_of_plugin = "-U", "-", "image=disc.img", "press=1,1,4", "format=yes", "--run", 'nbdinfo --size "$uri"'
+        self.assertEqual(done(plugin, *words_of_plugin).stdout, "622592\n")
+        self.assertIn("304 sectors", done(place / "bin" / "ram-map", "disc.img").stdout)
+        self.assertEqual(done(*words, "uninstall").returncode, 0)
+        self.assertEqual([str(path) for path in folder.rglob("*") if not path.is_dir()], [], "files that are left")
