@@ -3,9 +3,9 @@
 //! tell of the program. The exit status tells how the run ended.
 #![tactic(auto)]
 
+use ram_machine::status::Status;
 use ram_outside::{FileOpener, StdSink, StdSource};
 use ram_run::run::run;
-use ram_run::status::Status;
 use std::fs::File;
 use std::os::unix::fs::FileExt;
 use std::process::ExitCode;

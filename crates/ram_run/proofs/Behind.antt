@@ -1,5 +1,5 @@
 -- What had failed when the sink failed in the end, by how the lines had ended.
-use Rattle.ram_run.specs.declared.stopped.Stopped.TheVariants as stopped
+use Rattle.ram_machine.specs.declared.stopped.Stopped.TheVariants as stopped
 use Rattle.std.specs.Prelude.{Err}
 use Rattle.ram_run.specs.RunCounts.{Counts, OnlySinkRose, SourceAndSinkRose, ImageAndSinkRose}
 use Rattle.ram_run.specs.Progress.{Ending}

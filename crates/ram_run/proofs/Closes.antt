@@ -3,8 +3,8 @@ use Rattle.std.specs.Prelude.{◌≡◌, ℕ, Bool, true, Option, Some, IfSome, 
 use Rattle.std.specs.Bool.{OnTrue}
 use Rattle.std.proofs.Common.{arith, inl, inr, sym, ap, subst}
 use Rattle.model_counts.specs.Counts.{counted}
-use Rattle.ram_run.specs.declared.status.Status.{Status}
-use Rattle.ram_run.specs.declared.status.Status.TheVariants as statuses
+use Rattle.ram_machine.specs.declared.status.Status.{Status}
+use Rattle.ram_machine.specs.declared.status.Status.TheVariants as statuses
 use Rattle.ram_run.specs.RunCounts.{Counts, counts_of, OnlySinkRose, SourceAndSinkRose, ImageAndSinkRose}
 use Rattle.ram_run.specs.Words.{Surroundings}
 use Rattle.ram_run.specs.Progress.{Beginning, SoFar}

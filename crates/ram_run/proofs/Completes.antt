@@ -6,27 +6,27 @@ use Rattle.ram_text.specs.Lines.{line_feed, HasNoFeed}
 use Rattle.ram_text.specs.ScriptWords.{words_of, without_return}
 use Rattle.ram_text.specs.Script.{IsForm, Reads}
 use Rattle.ram_text.specs.declared.lines.TheConstants.{LINE_LIMIT}
-use Rattle.ram_text.specs.declared.printing.Event.TheVariants as events
-use Rattle.ram_text.specs.declared.printing.LastLine.{LastLine}
-use Rattle.ram_text.specs.declared.printing.LastLine.TheVariants as lasts
+use Rattle.ram_report.specs.declared.printing.Event.TheVariants as events
+use Rattle.ram_report.specs.declared.printing.LastLine.{LastLine}
+use Rattle.ram_report.specs.declared.printing.LastLine.TheVariants as lasts
 use Rattle.ram_text.specs.declared.script.Line.{Line}
 use Rattle.ram_text.specs.declared.script.Line.TheVariants as lines
-use Rattle.ram_run.specs.declared.reply.Reply.{Reply}
-use Rattle.ram_run.specs.declared.reply.Reply.TheVariants as replies
-use Rattle.ram_run.specs.declared.stopped.Stopped.TheVariants as stopped
-use Rattle.ram_run.specs.declared.status.Status.{Status}
-use Rattle.ram_run.specs.declared.status.Status.TheVariants as statuses
+use Rattle.ram_machine.specs.declared.reply.Reply.{Reply}
+use Rattle.ram_machine.specs.declared.reply.Reply.TheVariants as replies
+use Rattle.ram_machine.specs.declared.stopped.Stopped.TheVariants as stopped
+use Rattle.ram_machine.specs.declared.status.Status.{Status}
+use Rattle.ram_machine.specs.declared.status.Status.TheVariants as statuses
 use Rattle.ram_run.specs.NextLines.{IsNextLine, ComesNext}
-use Rattle.ram_run.specs.Replies.{Outcome}
-use Rattle.ram_run.specs.States.{State, Served, Unopened, Disc, IsFirst, IsPressedDisc}
-use Rattle.ram_run.specs.LineSteps.{PressStep, OnDisc, Step}
+use Rattle.ram_machine.specs.Replies.{Outcome}
+use Rattle.ram_machine.specs.States.{State, Served, Unopened, Disc, IsFirst, IsPressedDisc}
+use Rattle.ram_machine.specs.LineSteps.{PressStep, OnDisc, Step}
 use Rattle.ram_run.specs.Answered.{AnsweredLine, Reaches, script_text}
-use Rattle.ram_run.specs.Run.{IsStep, Run}
+use Rattle.ram_run.specs.Run.{IsLineStep, LineRun}
 use Rattle.model_counts.specs.Counts.{Rose}
 use Rattle.ram_run.specs.RunCounts.{Counts}
 use Rattle.ram_run.specs.Progress.{Beginning, SoFar, IsLast}
 use Rattle.ram_run.specs.Endings.{IsUnopened, IsOfScript, Aftermath, SinkRose, StandsWith, StatusCounts}
-use Rattle.ram_run.proofs.Answering.{distinct, disc_answers}
+use Rattle.ram_machine.proofs.Answering.{distinct, disc_answers}
 use Rattle.ram_run.specs.Completes.{BeginsLine, ReadsOn, IsInLanguage, lines_text, AreSilent, IsLawfulPress, BeginsWithPress, BeginsWithDisc, NoneRose, IsComplete}
 
 -- a line feed within the front of a list
@@ -99,11 +99,11 @@ stays_disc s (lines.Press zones scale psa) payload reply data_in t step =
 stays_disc s line payload reply data_in t step = on_disc_leaves s line payload (Ok reply) data_in t step
 
 -- a run leaves a disc where there was one
-run_leaves : (s : Served) (events : List AnsweredLine) (now : State) → Run (Disc s) events now → (disc : Served) × (now ≡ Disc disc)
+run_leaves : (s : Served) (events : List AnsweredLine) (now : State) → LineRun (Disc s) events now → (disc : Served) × (now ≡ Disc disc)
 run_leaves s [] now run = (s, run)
 run_leaves s (event ∷ events) now run =
     let before = run_leaves s events run.0 run.1 in
-    stays_disc before.0 event.line event.payload event.reply event.data_in now (subst (λ x. Step x event.line event.payload (Ok event.reply) event.data_in now) before.1 run.2.step)
+    stays_disc before.0 event.step.line event.step.payload event.step.reply event.step.data_in now (subst (λ x. Step x event.step.line event.step.payload (Ok event.step.reply) event.step.data_in now) before.1 run.2.step)
 
 -- a line that says nothing has no data
 empty_form : (words : List (List ℕ)) (payload : List ℕ) → IsForm words lines.Empty payload → payload ≡ []
@@ -169,24 +169,24 @@ module _ (bytes script : List ℕ) (press : BeginsWithPress script) where
       press (raws_of events) rest raw line payload silent (whole ∙ ap (λ text. text ++ rest) (same_text events)) next reads
 
   -- one event more
-  continues_silent : (event : AnsweredLine) (events : List AnsweredLine) (rest : List ℕ) (before now : State) → IsStep before event now → script ≡ script_text events ++ ((event.raw ++ line_feed ∷ []) ++ rest)
+  continues_silent : (event : AnsweredLine) (events : List AnsweredLine) (rest : List ℕ) (before now : State) → IsLineStep before event now → script ≡ script_text events ++ ((event.raw ++ line_feed ∷ []) ++ rest)
       → ((disc : Served) × (before ≡ Disc disc)) ⊎ ((before ≡ Unopened bytes) × AreSilent (raws_of events))
       → ((disc : Served) × (now ≡ Disc disc)) ⊎ ((now ≡ Unopened bytes) × AreSilent (raws_of (event ∷ events)))
   continues_silent event events rest before now step whole (inl disc) =
-      inl (stays_disc disc.0 event.line event.payload event.reply event.data_in now (subst (λ x. Step x event.line event.payload (Ok event.reply) event.data_in now) disc.1 step.step))
+      inl (stays_disc disc.0 event.step.line event.step.payload event.step.reply event.step.data_in now (subst (λ x. Step x event.step.line event.step.payload (Ok event.step.reply) event.step.data_in now) disc.1 step.step))
   continues_silent event events rest before now step whole (inr silent) =
       elim (
-      first_leaves event.line event.raw event.payload event.reply event.data_in now
-      (subst (λ x. Step x event.line event.payload (Ok event.reply) event.data_in now) silent.0 step.step) step.reads
-      (after_silent events ((event.raw ++ line_feed ∷ []) ++ rest) event.raw event.line event.payload silent.1 whole
-      (record { line = step.line; after = rest; parts = inl (append_assoc event.raw (line_feed ∷ []) rest) }) step.reads)
+      first_leaves event.step.line event.raw event.step.payload event.step.reply event.step.data_in now
+      (subst (λ x. Step x event.step.line event.step.payload (Ok event.step.reply) event.step.data_in now) silent.0 step.step) step.read.reads
+      (after_silent events ((event.raw ++ line_feed ∷ []) ++ rest) event.raw event.step.line event.step.payload silent.1 whole
+      (record { line = step.read.line; after = rest; parts = inl (append_assoc event.raw (line_feed ∷ []) rest) }) step.read.reads)
       ) [
         | inl disc ↦ inl disc
-        | inr empty ↦ inr (empty.0, (silent.1, step.line, empty.1))
+        | inr empty ↦ inr (empty.0, (silent.1, step.read.line, empty.1))
       ]
 
   -- there is a disc, or all lines so far say nothing
-  silent_so_far : (events : List AnsweredLine) (rest : List ℕ) (now : State) → Run (Unopened bytes) events now → script ≡ script_text events ++ rest
+  silent_so_far : (events : List AnsweredLine) (rest : List ℕ) (now : State) → LineRun (Unopened bytes) events now → script ≡ script_text events ++ rest
       → ((disc : Served) × (now ≡ Disc disc)) ⊎ ((now ≡ Unopened bytes) × AreSilent (raws_of events))
   silent_so_far [] rest now run whole = inr (run, tt)
   silent_so_far (event ∷ events) rest now run whole =
@@ -205,7 +205,7 @@ module _ (bytes script : List ℕ) (press : BeginsWithPress script) where
   first_answers (lines.Command cdb) payload data_in t step is = needs_none (lines.Command cdb) tt is
 
   -- no line lacks a disc
-  lacks_none : (events : List AnsweredLine) (rest : List ℕ) (now : State) (line : Line) (payload data_in : List ℕ) (t : State) → Run (Unopened bytes) events now → Reaches script events rest
+  lacks_none : (events : List AnsweredLine) (rest : List ℕ) (now : State) (line : Line) (payload data_in : List ℕ) (t : State) → LineRun (Unopened bytes) events now → Reaches script events rest
       → ComesNext script rest line payload → Step now line payload (Err stopped.NotADisc) data_in t → ⊥
   lacks_none events rest now line payload data_in t run (inr ended) next step = nothing_follows rest next.raw ended.0 next.comes.next
   lacks_none events rest now line payload data_in t run (inl whole) next step =
@@ -218,7 +218,7 @@ module _ (bytes script : List ℕ) (press : BeginsWithPress script) where
 
 -- where the run begins with a disc, or with the press of one, no line lacks a disc
 has_disc : (first : Beginning) → BeginsWithDisc first → (start : State) → IsFirst first.image start → (events : List AnsweredLine) (rest : List ℕ) (now : State) (line : Line) (payload data_in : List ℕ) (t : State)
-    → Run start events now → Reaches first.script events rest → ComesNext first.script rest line payload → Step now line payload (Err stopped.NotADisc) data_in t → ⊥
+    → LineRun start events now → Reaches first.script events rest → ComesNext first.script rest line payload → Step now line payload (Err stopped.NotADisc) data_in t → ⊥
 has_disc first begins (Disc s) starts events rest now line payload data_in t run lines next step =
     let disc = run_leaves s events now run in disc_answers disc.0 line payload data_in t (subst (λ x. Step x line payload (Err stopped.NotADisc) data_in t) disc.1 step)
 has_disc first (inl image) (Unopened bytes) starts events rest now line payload data_in t run lines next step = starts.1 image.0 image.1

@@ -7,8 +7,8 @@ use Rattle.model_sense.specs.declared.answer.Answer.TheVariants as answers
 use Rattle.model_target.specs.Senses.{senses}
 use Rattle.ram_run.specs.declared.counts.AnswerCounts.{AnswerCounts}
 use Rattle.ram_run.specs.declared.counts.SenseCount.{SenseCount}
-use Rattle.ram_run.specs.declared.reply.Reply.{Reply}
-use Rattle.ram_run.specs.declared.reply.Reply.TheVariants as replies
+use Rattle.ram_machine.specs.declared.reply.Reply.{Reply}
+use Rattle.ram_machine.specs.declared.reply.Reply.TheVariants as replies
 use Rattle.ram_run.specs.Counting.{is_same_sense, is_good, is_cut, is_off, is_check, times, sense_count_of, counts_in, raised_by, with_reply, AreAtMost}
 use Rattle.ram_run.specs.Answered.{AnsweredLine}
 
@@ -60,8 +60,8 @@ by_reply (replies.Command cdb (answers.Check given)) events =
     ap (λ (rows : List SenseCount). with_checks events rows) (rows_raised cdb given events senses)
 
 -- one line more
-pub one_counted : (event : AnsweredLine) (events : List AnsweredLine) → with_reply (counts_in events) event.reply ≡ counts_in (event ∷ events)
-one_counted event events = by_reply event.reply events
+pub one_counted : (event : AnsweredLine) (events : List AnsweredLine) → with_reply (counts_in events) event.step.reply ≡ counts_in (event ∷ events)
+one_counted event events = by_reply event.step.reply events
 
 -- nothing is above a higher bound
 pub at_most_still : (counts : AnswerCounts) (n m : ℕ) → AreAtMost counts n → n ≤ m → AreAtMost counts m

@@ -3,12 +3,13 @@ use Rattle.std.specs.Prelude.{◌≡◌, ℕ, ◌≤◌, ◌⊎◌, Option, Ok, 
 use Rattle.std.proofs.Common.{arith, refl, sym, ◌∙◌, inl, inr, subst}
 use Rattle.model_counts.specs.Counts.{Rose}
 use Rattle.ram_run.specs.declared.state.Tally.{Tally}
-use Rattle.ram_run.specs.declared.stopped.Stopped.{Stopped}
-use Rattle.ram_run.specs.declared.stopped.Stopped.TheVariants as stopped
-use Rattle.ram_run.specs.declared.status.Status.{Status}
-use Rattle.ram_run.specs.declared.status.Status.TheVariants as statuses
-use Rattle.ram_run.specs.Replies.{Outcome}
-use Rattle.ram_run.specs.RunCounts.{Counts, counts_of, SameCounts, WhyCounts, StopCounts, TellCount, LineCount}
+use Rattle.ram_machine.specs.declared.stopped.Stopped.{Stopped}
+use Rattle.ram_machine.specs.declared.stopped.Stopped.TheVariants as stopped
+use Rattle.ram_machine.specs.declared.status.Status.{Status}
+use Rattle.ram_machine.specs.declared.status.Status.TheVariants as statuses
+use Rattle.ram_machine.specs.Replies.{Outcome}
+use Rattle.ram_run.specs.RunCounts.{Counts, counts_of, SameCounts, WhyCounts, StopCounts, TellCount}
+use Rattle.ram_machine.specs.LineFaults.{LineCount}
 use Rattle.ram_run.specs.Progress.{View, Ending, TellRule}
 use Rattle.ram_run.specs.Endings.{status_of, SinkRose, StatusCounts, EndsWhole, FinishRule, sink_view}
 use Rattle.ram_run.proofs.Behind.{Behind}

@@ -2,30 +2,30 @@
 use Rattle.std.specs.Prelude.{◌≡◌, ℕ, ◌+◌, ◌≤◌, ◌⊎◌, Option, None, Some, Ok, Err, List, [], ◌++◌, length, take, drop}
 use Rattle.std.specs.Io.KnownBytes.{append_known, prepend_known}
 use Rattle.std.proofs.Common.{arith, refl, sym, ap, ◌∙◌, inl, inr, subst, append_assoc, append-nil, length-append, take-append-drop}
-use Rattle.ram_text.proofs.Puts.{append_known-twice}
-use Rattle.ram_text.specs.ReportLines.{last_text}
-use Rattle.ram_text.specs.Writer.{IsCutShort}
+use Rattle.ram_report.proofs.Puts.{append_known-twice}
+use Rattle.ram_report.specs.ReportLines.{last_text}
+use Rattle.ram_report.specs.Writer.{IsCutShort}
 use Rattle.ram_text.specs.Dialogue.{dialogue_room, sink_of, source_of}
 use Rattle.ram_text.specs.DialogueRoom.{IsEmptyRoom}
 use Rattle.ram_text.specs.declared.dialogue.Dialogue.{Dialogue}
-use Rattle.ram_text.specs.declared.gathered.TheConstants.{GATHERED_ROOM}
+use Rattle.ram_report.specs.declared.gathered.TheConstants.{GATHERED_ROOM}
 use Rattle.ram_outside.specs.declared.sink.Sink.{Ghosts as Sinks}
 use Rattle.ram_outside.specs.declared.source.Source.{Ghosts as Sources}
 use Rattle.model_counts.specs.Counts.{Rose}
-use Rattle.ram_text.specs.declared.gathered.Print.TheVariants as prints
-use Rattle.ram_text.specs.declared.printing.LastLine.{LastLine}
-use Rattle.ram_text.specs.declared.printing.LastLine.TheVariants as lasts
+use Rattle.ram_report.specs.declared.gathered.Print.TheVariants as prints
+use Rattle.ram_report.specs.declared.printing.LastLine.{LastLine}
+use Rattle.ram_report.specs.declared.printing.LastLine.TheVariants as lasts
 use Rattle.ram_run.specs.declared.state.RunState.{RunState}
 use Rattle.ram_run.specs.declared.state.Tally.{Tally}
-use Rattle.ram_run.specs.declared.stopped.Stopped.{Stopped}
-use Rattle.ram_run.specs.declared.stopped.Stopped.TheVariants as stopped
-use Rattle.ram_run.specs.declared.status.Status.{Status}
-use Rattle.ram_run.specs.declared.status.Status.TheVariants as statuses
-use Rattle.ram_run.specs.Replies.{Outcome}
-use Rattle.ram_run.specs.States.{State}
-use Rattle.ram_run.specs.Inserted.{LeavesImage}
+use Rattle.ram_machine.specs.declared.stopped.Stopped.{Stopped}
+use Rattle.ram_machine.specs.declared.stopped.Stopped.TheVariants as stopped
+use Rattle.ram_machine.specs.declared.status.Status.{Status}
+use Rattle.ram_machine.specs.declared.status.Status.TheVariants as statuses
+use Rattle.ram_machine.specs.Replies.{Outcome}
+use Rattle.ram_machine.specs.States.{State}
+use Rattle.ram_machine.specs.Inserted.{LeavesImage}
 use Rattle.ram_run.specs.Answered.{report_text}
-use Rattle.ram_run.specs.Starts.{StandsFirst}
+use Rattle.ram_machine.specs.Starts.{StandsFirst}
 use Rattle.ram_run.specs.RunState.{IsFresh}
 use Rattle.ram_run.specs.Progress.{Beginning, SoFar, View, Between, IsReported, IsReportedInPart, ComesOut, IsLast, Ending, last_line, IsLastIfAny, EndsBetween, EndsInLine, Ends, due_before, run_view}
 use Rattle.ram_run.specs.Endings.{status_of, whole_text, text_if_any, last_of, LastLineRule, IsEnded, ComesToThis, IsStoppedInLine, IsWrittenInPart, IsReportCutOff, IsCutBySource, IsNearlyWritten, StandsWith, aftermath, sink_view, EndsAtSink, EndsWhole, FinishRule}

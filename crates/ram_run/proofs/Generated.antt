@@ -3,15 +3,15 @@ use Rattle.std.specs.Prelude.{◌≡◌, ℕ, ◌+◌, Bool, Option, Some, IfSom
 use Rattle.std.specs.Io.KnownBytes.{append_known}
 use Rattle.std.proofs.Common.{arith, refl, sym, ◌∙◌, inl, inr, subst}
 use Rattle.model_counts.specs.Counts.{Rose}
-use Rattle.ram_text.specs.declared.printing.LastLine.TheVariants as lasts
+use Rattle.ram_report.specs.declared.printing.LastLine.TheVariants as lasts
 use Rattle.ram_run.specs.declared.state.Tally.{Tally}
-use Rattle.ram_run.specs.declared.stopped.Stopped.{Stopped}
-use Rattle.ram_run.specs.declared.stopped.Stopped.TheVariants as stopped
-use Rattle.ram_run.specs.declared.status.Status.{Status}
-use Rattle.ram_run.specs.declared.status.Status.TheVariants as statuses
-use Rattle.ram_run.specs.States.{State}
-use Rattle.ram_run.specs.Inserted.{LeavesImage}
-use Rattle.ram_run.specs.Starts.{StartCount}
+use Rattle.ram_machine.specs.declared.stopped.Stopped.{Stopped}
+use Rattle.ram_machine.specs.declared.stopped.Stopped.TheVariants as stopped
+use Rattle.ram_machine.specs.declared.status.Status.{Status}
+use Rattle.ram_machine.specs.declared.status.Status.TheVariants as statuses
+use Rattle.ram_machine.specs.States.{State}
+use Rattle.ram_machine.specs.Inserted.{LeavesImage}
+use Rattle.ram_machine.specs.Starts.{StartCount}
 use Rattle.ram_run.specs.Progress.{Beginning, View, Ending, Ends}
 use Rattle.ram_run.specs.RunCounts.{StopCounts, counts_of}
 use Rattle.ram_run.specs.Words.{Surroundings}

@@ -7,8 +7,9 @@ use Rattle.ram_text.specs.Script.{IsForm, Reads}
 use Rattle.ram_text.specs.declared.script.Line.{Line}
 use Rattle.ram_text.specs.declared.script.Line.TheVariants as lines
 use Rattle.ram_run.specs.declared.state.Tally.{Tally}
-use Rattle.ram_run.specs.declared.stopped.Stopped.TheVariants as stopped
-use Rattle.ram_run.specs.NextLines.{CountsUses, IsNextLine, IsNextWithin}
+use Rattle.ram_machine.specs.declared.stopped.Stopped.TheVariants as stopped
+use Rattle.ram_run.specs.NextLines.{IsNextLine, IsNextWithin}
+use Rattle.ram_machine.specs.LineSteps.{CountsUses}
 use Rattle.ram_run.specs.Progress.{Beginning, SoFar, View, IsReported, IsTallied, IsAt, Taken, IsStoppedAt, unread}
 
 -- what follows a line that was taken from what is left

@@ -1,32 +1,37 @@
 -- The promise, from what stands with each status of a run.
-use Rattle.std.specs.Prelude.{◌≡◌, ℕ, ◌⊎◌, Bool, false, Option, None, Some, Err, List, [], ◌++◌}
+use Rattle.std.specs.Prelude.{◌≡◌, ℕ, ◌⊎◌, Bool, false, Option, None, Some, Err, List, [], ◌∷◌, ◌++◌}
 use Rattle.std.proofs.Common.{refl, sym, ap, ◌∙◌, inl, inr}
 use Rattle.std.proofs.lemmas.List.{append-nil}
-use Rattle.std.proofs.lemmas.List.Elements.{All-nil}
+use Rattle.std.specs.List.{All}
+use Rattle.std.proofs.lemmas.List.Elements.{All-nil, All-cons}
 use Rattle.model_cache.proofs.Members.{Contains-none}
-use Rattle.ram_text.specs.declared.printing.LastLine.{LastLine}
-use Rattle.ram_text.specs.declared.printing.LastLine.TheVariants as lasts
-use Rattle.ram_run.specs.declared.status.Status.{Status}
-use Rattle.ram_run.specs.declared.status.Status.TheVariants as statuses
-use Rattle.ram_run.specs.declared.stopped.Stopped.TheVariants as stopped
-use Rattle.ram_run.specs.States.{State, IsFirst}
-use Rattle.ram_run.specs.Answered.{AnsweredLine, report_text}
-use Rattle.ram_run.specs.Run.{Run}
+use Rattle.ram_report.specs.declared.printing.LastLine.{LastLine}
+use Rattle.ram_report.specs.declared.printing.LastLine.TheVariants as lasts
+use Rattle.ram_machine.specs.declared.status.Status.{Status}
+use Rattle.ram_machine.specs.declared.status.Status.TheVariants as statuses
+use Rattle.ram_machine.specs.declared.stopped.Stopped.TheVariants as stopped
+use Rattle.ram_machine.specs.States.{State}
+use Rattle.ram_run.specs.Answered.{AnsweredLine, IsRead, report_text, steps_of}
+use Rattle.ram_run.specs.Run.{LineRun}
 use Rattle.ram_run.specs.RunCounts.{Counts}
-use Rattle.ram_run.specs.Replies.{Outcome}
+use Rattle.ram_machine.specs.Replies.{Outcome}
 use Rattle.ram_run.specs.Progress.{Beginning, SoFar, IsReported}
 use Rattle.ram_run.specs.Words.{Surroundings, IsNotOpened}
 use Rattle.ram_run.specs.Endings.{Aftermath, IsEnded, IsStoppedInLine, IsWrittenInPart, StandsWith, IsBeginning, IsUnopened, aftermath_of, whole_text}
-use Rattle.ram_run.specs.Promise.{Register, IsRegister, IsRead, last_words, KeepsBytes}
-use Rattle.ram_run.proofs.SectorRuns.{run_turns, run_read}
-use Rattle.ram_run.proofs.SectorOpened.{opens}
+use Rattle.ram_run.specs.Promise.{last_words, KeepsBytes}
+use Rattle.ram_machine.specs.Runs.{Run}
+use Rattle.ram_machine.specs.Register.{Register}
+use Rattle.ram_machine.proofs.SectorOpened.{registers}
 
--- each sector is a register over a run
-pub registers : (image : List ℕ) (s t : State) (events : List AnsweredLine) (at : ℕ) → IsFirst image s → Run s events t → IsRegister image events at
-registers image s t events at first run =
-    let opened = opens image at s first in
-    let turned = run_turns at s t events opened.register opened.matches run in
-    record { first = opened.register; last = turned.after; opened = opened.opened; turns = turned.rule }
+-- the lines of a run are lines of the language
+run_read : (first last : State) (events : List AnsweredLine) → LineRun first events last → All IsRead events
+run_read first last [] run = All-nil IsRead
+run_read first last (event ∷ events) run = All-cons IsRead event events run.2.read (run_read first run.0 events run.1)
+
+-- and their steps are a run of the machine
+run_of : (first last : State) (events : List AnsweredLine) → LineRun first events last → Run first (steps_of events) last
+run_of first last [] run = run
+run_of first last (event ∷ events) run = (run.0, run_of first run.0 events run.1, run.2.step)
 
 module _ (first : Beginning) where
   abbrev Keeps : Option (List ℕ) → Type 0
@@ -38,7 +43,7 @@ module _ (first : Beginning) where
     rest = far.rest;
     lines = far.lines;
     reads = run_read far.start far.now far.events far.run;
-    registers = λ at. registers first.image far.start far.now far.events at far.starts far.run;
+    registers = λ at. registers first.image far.start far.now (steps_of far.events) at far.starts (run_of far.start far.now far.events far.run);
     bytes = bytes;
     more = more;
     last = last;

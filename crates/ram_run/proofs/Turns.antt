@@ -5,19 +5,19 @@ use Rattle.std.proofs.Common.{arith, sym, ap, ◌∙◌, inl, inr, subst, append
 use Rattle.ram_text.specs.Lines.{line_feed}
 use Rattle.ram_run.specs.declared.counts.AnswerCounts.{AnswerCounts}
 use Rattle.ram_text.specs.declared.script.Line.{Line}
-use Rattle.ram_run.specs.declared.reply.Reply.{Reply}
+use Rattle.ram_machine.specs.declared.reply.Reply.{Reply}
 use Rattle.ram_run.specs.declared.state.Tally.{Tally}
-use Rattle.ram_run.specs.declared.stopped.Stopped.{Stopped}
-use Rattle.ram_run.specs.declared.stopped.Stopped.TheVariants as stopped
-use Rattle.ram_run.proofs.Answering.{lacks_same}
+use Rattle.ram_machine.specs.declared.stopped.Stopped.{Stopped}
+use Rattle.ram_machine.specs.declared.stopped.Stopped.TheVariants as stopped
+use Rattle.ram_machine.proofs.Answering.{lacks_same}
 use Rattle.ram_run.proofs.Counted.{one_counted}
 use Rattle.ram_run.specs.NextLines.{ComesNext}
-use Rattle.ram_run.specs.Replies.{Outcome}
+use Rattle.ram_machine.specs.Replies.{Outcome}
 use Rattle.ram_run.specs.Counting.{with_reply}
-use Rattle.ram_run.specs.States.{State}
-use Rattle.ram_run.specs.Inserted.{IsAnswered}
+use Rattle.ram_machine.specs.States.{State}
+use Rattle.ram_machine.specs.Inserted.{IsAnswered}
 use Rattle.ram_run.specs.Answered.{AnsweredLine, EndsWithBytes, answers_of, script_text, report_text, line_text}
-use Rattle.ram_run.specs.RunCounts.{LineCount}
+use Rattle.ram_machine.specs.LineFaults.{LineCount}
 use Rattle.ram_run.specs.Progress.{Beginning, SoFar, View, Between, Taken, Ending, EndsBetween, EndsCutOff, EndsInLine, Ends, TurnsTo, IsStoppedAt, IsStop, IsReplied, TellRule, lines_before}
 
 -- the script after one line more
@@ -41,13 +41,13 @@ before_within report (event ∷ events) = omega (
   arith,
   length-append report (report_text events),
   length-append report (report_text (event ∷ events)),
-  length-append (report_text events) (line_text (length events + 1) event.reply event.data_in),
+  length-append (report_text events) (line_text (length events + 1) event.step.reply event.step.data_in),
 )
 
 module _ (first : Beginning) (far : SoFar first) (view : View) (line : Line) (payload : List ℕ) (t : Taken far view line payload) (stands : State → Type 0) (data_in : List ℕ) where
   -- the line with what it is answered
   abbrev event : Reply → AnsweredLine
-  event reply = record { raw = t.raw; line = line; payload = payload; reply = reply; data_in = data_in }
+  event reply = record { raw = t.raw; step = record { line = line; payload = payload; reply = reply; data_in = data_in } }
 
   -- the lines with this one
   abbrev one_more : (reply : Reply) → IsAnswered far.now line payload data_in stands (Ok reply) → SoFar first
@@ -57,7 +57,7 @@ module _ (first : Beginning) (far : SoFar first) (view : View) (line : Line) (pa
     now = answered.state;
     rest = t.comes.next.after;
     starts = far.starts;
-    run = (far.now, far.run, record { line = t.comes.next.line; reads = t.reads; step = answered.step });
+    run = (far.now, far.run, record { read = record { line = t.comes.next.line; reads = t.reads }; step = answered.step });
     lines = reaches_more (EndsWithBytes far.events) first.script (script_text far.events) far.rest t.raw t.comes.next.after far.lines t.comes.next.parts;
     within = t.comes.within;
   }

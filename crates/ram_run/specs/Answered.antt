@@ -2,19 +2,28 @@
 -- knows no state.
 use Rattle.std.specs.Prelude.{◌≡◌, ℕ, ◌+◌, ◌<◌, ◌⊎◌, List, [], ◌∷◌, ◌++◌, length}
 use Rattle.ram_text.specs.Lines.{line_feed}
-use Rattle.ram_text.specs.ReportLines.{numbered, event_words, answer_text}
-use Rattle.ram_text.specs.declared.script.Line.{Line}
-use Rattle.ram_run.specs.declared.reply.Reply.{Reply}
-use Rattle.ram_run.specs.declared.reply.Reply.TheVariants as replies
+use Rattle.ram_report.specs.ReportLines.{numbered, event_words, answer_text}
+use Rattle.ram_text.specs.Script.{Reads}
+use Rattle.ram_machine.specs.declared.reply.Reply.{Reply}
+use Rattle.ram_machine.specs.declared.reply.Reply.TheVariants as replies
+use Rattle.ram_machine.specs.Answered.{AnsweredStep}
+use Rattle.ram_run.specs.NextLines.{IsLine}
 
--- One line that was answered: its bytes, what they read as, the data that go with it, what it is answered, and the data that a
--- command gave. (This project's own, as all here.)
+-- One line of the script that was answered: its bytes, and the step of the machine that they asked for. (This project's own, as all
+-- here.)
 pub record AnsweredLine : Type 0 where
   pub raw : List ℕ
-  pub line : Line
-  pub payload : List ℕ
-  pub reply : Reply
-  pub data_in : List ℕ
+  pub step : AnsweredStep
+
+-- the steps of these lines
+abbrev pub steps_of : List AnsweredLine → List AnsweredStep
+steps_of [] = []
+steps_of (event ∷ events) = event.step ∷ steps_of events
+
+-- the line is one of the script's language, and reads as its step says
+pub record IsRead (event : AnsweredLine) : Type 0 where
+  pub line : IsLine event.raw
+  pub reads : Reads event.raw event.step.line event.step.payload
 
 -- the bytes of the script that the lines took, each with its line feed
 abbrev pub script_text : List AnsweredLine → List ℕ
@@ -30,7 +39,7 @@ line_text number (replies.Command cdb answer) data_in = answer_text number answe
 -- The text of all answers. Lines are numbered from 1 on.
 abbrev pub report_text : List AnsweredLine → List ℕ
 report_text [] = []
-report_text (event ∷ events) = report_text events ++ line_text (length events + 1) event.reply event.data_in
+report_text (event ∷ events) = report_text events ++ line_text (length events + 1) event.step.reply event.step.data_in
 
 -- whether a line has an answer: 1 where it has
 abbrev pub answers_of : Reply → ℕ
@@ -41,7 +50,7 @@ answers_of (replies.Command cdb answer) = 1
 -- how many lines have an answer
 abbrev pub answered_in : List AnsweredLine → ℕ
 answered_in [] = 0
-answered_in (event ∷ events) = answered_in events + answers_of event.reply
+answered_in (event ∷ events) = answered_in events + answers_of event.step.reply
 
 -- the newest of the lines took some bytes beside a line feed
 abbrev pub EndsWithBytes : List AnsweredLine → Type 0

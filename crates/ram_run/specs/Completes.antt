@@ -8,8 +8,8 @@ use Rattle.ram_text.specs.Script.{Reads}
 use Rattle.ram_text.specs.declared.lines.TheConstants.{SCRIPT_LIMIT}
 use Rattle.ram_text.specs.declared.script.Line.{Line}
 use Rattle.ram_text.specs.declared.script.Line.TheVariants as lines
-use Rattle.ram_run.specs.declared.status.Status.{Status}
-use Rattle.ram_run.specs.declared.status.Status.TheVariants as statuses
+use Rattle.ram_machine.specs.declared.status.Status.{Status}
+use Rattle.ram_machine.specs.declared.status.Status.TheVariants as statuses
 use Rattle.ram_run.specs.NextLines.{IsLine, IsNextLine}
 use Rattle.ram_run.specs.Progress.{Beginning}
 use Rattle.ram_run.specs.RunCounts.{Counts}

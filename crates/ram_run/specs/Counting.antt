@@ -5,8 +5,8 @@ use Rattle.model_sense.specs.declared.answer.Answer.TheVariants as answers
 use Rattle.model_target.specs.Senses.{senses}
 use Rattle.ram_run.specs.declared.counts.AnswerCounts.{AnswerCounts}
 use Rattle.ram_run.specs.declared.counts.SenseCount.{SenseCount}
-use Rattle.ram_run.specs.declared.reply.Reply.{Reply}
-use Rattle.ram_run.specs.declared.reply.Reply.TheVariants as replies
+use Rattle.ram_machine.specs.declared.reply.Reply.{Reply}
+use Rattle.ram_machine.specs.declared.reply.Reply.TheVariants as replies
 use Rattle.ram_run.specs.Answered.{AnsweredLine}
 
 -- whether both have the same key, code and qualifier; their information may differ (this project's own, as all here)
@@ -36,7 +36,7 @@ is_check sense _ = false
 -- how many lines were answered so
 abbrev pub times : (Reply → Bool) → List AnsweredLine → ℕ
 times is_so [] = 0
-times is_so (event ∷ events) = if is_so event.reply then times is_so events + 1 else times is_so events
+times is_so (event ∷ events) = if is_so event.step.reply then times is_so events + 1 else times is_so events
 
 -- how often a sense came
 abbrev pub sense_count_of : List AnsweredLine → Sense → SenseCount

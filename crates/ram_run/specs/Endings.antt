@@ -3,24 +3,24 @@ use Rattle.std.specs.Prelude.{◌≡◌, ℕ, ◌+◌, ◌≤◌, ◌⊎◌, Boo
 use Rattle.std.specs.Io.KnownBytes.{append_known, prepend_known}
 use Rattle.model_counts.specs.Counts.{Rose}
 use Rattle.ram_text.specs.Lines.{HasNoFeed}
-use Rattle.ram_text.specs.ReportLines.{last_text}
-use Rattle.ram_text.specs.Writer.{PrintRule}
-use Rattle.ram_text.specs.declared.gathered.Print.{Print}
-use Rattle.ram_text.specs.declared.gathered.TheConstants.{GATHERED_ROOM}
-use Rattle.ram_text.specs.declared.gathered.Print.TheVariants as prints
-use Rattle.ram_text.specs.declared.printing.LastLine.{LastLine}
-use Rattle.ram_text.specs.declared.printing.LastLine.TheVariants as lasts
+use Rattle.ram_report.specs.ReportLines.{last_text}
+use Rattle.ram_report.specs.Writer.{PrintRule}
+use Rattle.ram_report.specs.declared.gathered.Print.{Print}
+use Rattle.ram_report.specs.declared.gathered.TheConstants.{GATHERED_ROOM}
+use Rattle.ram_report.specs.declared.gathered.Print.TheVariants as prints
+use Rattle.ram_report.specs.declared.printing.LastLine.{LastLine}
+use Rattle.ram_report.specs.declared.printing.LastLine.TheVariants as lasts
 use Rattle.ram_text.specs.declared.script.Line.{Line}
 use Rattle.ram_run.specs.declared.state.Tally.{Tally}
-use Rattle.ram_run.specs.declared.stopped.Stopped.TheVariants as stopped
-use Rattle.ram_run.specs.declared.status.Status.{Status}
-use Rattle.ram_run.specs.declared.status.Status.TheVariants as statuses
+use Rattle.ram_machine.specs.declared.stopped.Stopped.TheVariants as stopped
+use Rattle.ram_machine.specs.declared.status.Status.{Status}
+use Rattle.ram_machine.specs.declared.status.Status.TheVariants as statuses
 use Rattle.ram_run.specs.Words.{Surroundings}
 use Rattle.ram_run.specs.NextLines.{ComesNext}
-use Rattle.ram_run.specs.Replies.{Outcome}
-use Rattle.ram_run.specs.States.{State}
-use Rattle.ram_run.specs.LineSteps.{Step}
-use Rattle.ram_run.specs.Inserted.{LeavesImage}
+use Rattle.ram_machine.specs.Replies.{Outcome}
+use Rattle.ram_machine.specs.States.{State}
+use Rattle.ram_machine.specs.LineSteps.{Step}
+use Rattle.ram_machine.specs.Inserted.{LeavesImage}
 use Rattle.ram_run.specs.Answered.{report_text}
 use Rattle.ram_run.specs.RunCounts.{Counts, SameCounts, OnlySourceRose, OnlySinkRose, OnlyImageRose, SourceAndSinkRose, ImageAndSinkRose}
 use Rattle.ram_run.specs.Progress.{Beginning, SoFar, IsReported, IsLast, Ending, due_before, last_line}

@@ -6,14 +6,14 @@ use Rattle.ram_generate.specs.Script.{script_from}
 use Rattle.ram_outside.specs.Opener.{opener_view}
 use Rattle.ram_outside.specs.declared.opener.Opener.{Ghosts as Openers}
 use Rattle.ram_outside.specs.declared.sink.Sink.{Ghosts as Sinks}
-use Rattle.ram_text.specs.declared.printing.LastLine.{LastLine}
-use Rattle.ram_text.specs.declared.printing.LastLine.TheVariants as lasts
+use Rattle.ram_report.specs.declared.printing.LastLine.{LastLine}
+use Rattle.ram_report.specs.declared.printing.LastLine.TheVariants as lasts
 use Rattle.ram_run.specs.declared.state.Tally.{Tally}
-use Rattle.ram_run.specs.declared.status.Status.{Status}
-use Rattle.ram_run.specs.declared.status.Status.TheVariants as statuses
-use Rattle.ram_run.specs.declared.stopped.Stopped.TheVariants as stopped
-use Rattle.ram_run.specs.Replies.{Outcome}
-use Rattle.ram_run.specs.Inserted.{LeavesImage}
+use Rattle.ram_machine.specs.declared.status.Status.{Status}
+use Rattle.ram_machine.specs.declared.status.Status.TheVariants as statuses
+use Rattle.ram_machine.specs.declared.stopped.Stopped.TheVariants as stopped
+use Rattle.ram_machine.specs.Replies.{Outcome}
+use Rattle.ram_machine.specs.Inserted.{LeavesImage}
 use Rattle.ram_run.specs.RunCounts.{counts_of}
 use Rattle.ram_run.specs.Progress.{Beginning, SoFar, IsTallied, IsLastIfAny, Ending, last_line}
 use Rattle.ram_run.specs.Endings.{ComesToThis, IsOfScript, IsUnopened, bytes_returned, status_of}

@@ -4,7 +4,6 @@ use Rattle.ram_text.specs.Lines.{line_feed, HasNoFeed}
 use Rattle.ram_text.specs.Script.{Reads}
 use Rattle.ram_text.specs.declared.lines.TheConstants.{LINE_LIMIT, SCRIPT_LIMIT}
 use Rattle.ram_text.specs.declared.script.Line.{Line}
-use Rattle.ram_text.specs.declared.script.Line.TheVariants as lines
 
 -- the bytes are one line: none is a line feed, and they are within the limit (this project's own, as all here)
 pub record IsLine (raw : List ℕ) : Type 0 where
@@ -50,9 +49,3 @@ pub record ComesNext (script rest : List ℕ) (line : Line) (payload : List ℕ)
   pub raw : List ℕ
   pub comes : IsNextWithin script rest raw
   pub reads : Reads raw line payload
-
--- an arm or a cut that the line sets falls at a use from the next one on
-abbrev pub CountsUses : Line → Type 0
-CountsUses (lines.Wear block n) = 1 ≤ n
-CountsUses (lines.Cut n fate) = 1 ≤ n
-CountsUses _ = Unit {0}

@@ -9,20 +9,20 @@ use Rattle.ram_outside.specs.declared.source.Source.{Ghosts as Sources}
 use Rattle.ram_text.specs.Dialogue.{reader_of, source_of, due_in}
 use Rattle.ram_text.specs.declared.dialogue.Dialogue.{Dialogue}
 use Rattle.ram_text.specs.declared.lines.TheConstants.{SCRIPT_LIMIT}
-use Rattle.ram_text.specs.declared.printing.LastLine.{LastLine}
-use Rattle.ram_text.specs.declared.printing.LastLine.TheVariants as lasts
+use Rattle.ram_report.specs.declared.printing.LastLine.{LastLine}
+use Rattle.ram_report.specs.declared.printing.LastLine.TheVariants as lasts
 use Rattle.ram_text.specs.declared.script.Line.{Line}
-use Rattle.ram_run.specs.declared.reply.Reply.{Reply}
+use Rattle.ram_machine.specs.declared.reply.Reply.{Reply}
 use Rattle.ram_run.specs.declared.state.Tally.{Tally}
-use Rattle.ram_run.specs.declared.stopped.Stopped.{Stopped}
-use Rattle.ram_run.specs.declared.stopped.Stopped.TheVariants as stopped
-use Rattle.ram_run.specs.NextLines.{IsWithinLimit, IsNextWithin, IsNextUnread, PassesLineLimit, PassesScriptLimit, ComesNext, CountsUses}
-use Rattle.ram_run.specs.Replies.{Outcome}
+use Rattle.ram_machine.specs.declared.stopped.Stopped.{Stopped}
+use Rattle.ram_machine.specs.declared.stopped.Stopped.TheVariants as stopped
+use Rattle.ram_run.specs.NextLines.{IsWithinLimit, IsNextWithin, IsNextUnread, PassesLineLimit, PassesScriptLimit, ComesNext}
+use Rattle.ram_machine.specs.LineSteps.{CountsUses, Step}
+use Rattle.ram_machine.specs.Replies.{Outcome}
 use Rattle.ram_run.specs.Counting.{counts_in, with_reply}
-use Rattle.ram_run.specs.States.{State, IsFirst}
-use Rattle.ram_run.specs.LineSteps.{Step}
+use Rattle.ram_machine.specs.States.{State, IsFirst}
 use Rattle.ram_run.specs.Answered.{AnsweredLine, Reaches, answers_of, answered_in, line_text, report_text}
-use Rattle.ram_run.specs.Run.{Run}
+use Rattle.ram_run.specs.Run.{LineRun}
 
 -- What came first: the script, what was written before, and the image's bytes. (This project's own, as all here.)
 pub record Beginning : Type 0 where
@@ -38,7 +38,7 @@ pub record SoFar (first : Beginning) : Type 0 where
   pub now : State
   pub rest : List ℕ
   pub starts : IsFirst first.image start
-  pub run : Run start events now
+  pub run : LineRun start events now
   pub lines : Reaches first.script events rest
   pub within : IsWithinLimit first.script rest
 

@@ -5,9 +5,9 @@ use Rattle.ram_outside.specs.declared.sink.Sink.{Ghosts as Sinks}
 use Rattle.ram_outside.specs.declared.source.Source.{Ghosts as Sources}
 use Rattle.ram_text.specs.Dialogue.{sink_of, source_of}
 use Rattle.ram_text.specs.declared.dialogue.Dialogue.{Dialogue}
-use Rattle.ram_run.specs.declared.reply.Reply.{Reply}
-use Rattle.ram_run.specs.declared.stopped.Stopped.{Stopped}
-use Rattle.ram_run.specs.declared.stopped.Stopped.TheVariants as stopped
+use Rattle.ram_machine.specs.declared.reply.Reply.{Reply}
+use Rattle.ram_machine.specs.declared.stopped.Stopped.{Stopped}
+use Rattle.ram_machine.specs.declared.stopped.Stopped.TheVariants as stopped
 
 -- The counts of source, sink and image. (This project's own, as all here.)
 pub record Counts : Type 0 where
@@ -82,11 +82,3 @@ SinkCount faults faults' _ = faults' ≡ faults
 abbrev pub TellCount : ℕ → ℕ → Result Reply Stopped → Result (Unit {0}) Stopped → Type 0
 TellCount faults faults' (Ok reply) result = SinkCount faults faults' result
 TellCount faults faults' (Err why) result = faults' ≡ faults
-
--- The image's count, by what became of a line: it rose exactly where the image failed. Nothing else can fail in a line.
-abbrev pub LineCount : ℕ → ℕ → Result Reply Stopped → Type 0
-LineCount faults faults' (Ok reply) = faults' ≡ faults
-LineCount faults faults' (Err stopped.NotADisc) = faults' ≡ faults
-LineCount faults faults' (Err stopped.NoMemory) = faults' ≡ faults
-LineCount faults faults' (Err stopped.ImageFault) = Rose faults faults'
-LineCount faults faults' (Err why) = ⊥

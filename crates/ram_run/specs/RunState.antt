@@ -3,7 +3,7 @@ use Rattle.std.specs.Prelude.{◌≡◌, ◌+◌, ◌≤◌, Result, Ok, Err, []
 use Rattle.ram_text.specs.declared.payload.TheConstants.{PAYLOAD_ROOM}
 use Rattle.ram_run.specs.declared.state.RunState.{RunState}
 use Rattle.ram_run.specs.declared.state.Tally.{Tally}
-use Rattle.ram_run.specs.declared.stopped.Stopped.{Stopped}
+use Rattle.ram_machine.specs.declared.stopped.Stopped.{Stopped}
 use Rattle.ram_run.specs.Counting.{AreAtMost, counts_in}
 
 -- no line came yet (this project's own, as all here)

@@ -3,7 +3,7 @@ use Rattle.std.specs.Prelude.{ℕ, ◌==◌, not, if◌then◌else◌, Bool, Lis
 use Rattle.std.specs.List.{flat_map}
 use Rattle.model_sense.specs.declared.sense.Sense.{Sense}
 use Rattle.model_target.specs.Senses.{senses}
-use Rattle.ram_text.specs.ReportLines.{sense_code}
+use Rattle.ram_report.specs.ReportLines.{sense_code}
 use Rattle.ram_run.specs.declared.counts.SenseCount.{SenseCount}
 use Rattle.ram_run.specs.declared.state.Tally.{Tally}
 use Rattle.ram_run.specs.Counting.{is_good, is_cut, is_off, is_check, times}

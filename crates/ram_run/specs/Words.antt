@@ -12,8 +12,8 @@ use Rattle.ram_text.specs.ScriptWords.{decimal_value}
 use Rattle.ram_run.specs.RunCounts.{Counts, counts_of}
 use Rattle.ram_run.specs.declared.run.Form.{Form}
 use Rattle.ram_run.specs.declared.run.Form.TheVariants as forms
-use Rattle.ram_run.specs.declared.status.Status.{Status}
-use Rattle.ram_run.specs.declared.status.Status.TheVariants as statuses
+use Rattle.ram_machine.specs.declared.status.Status.{Status}
+use Rattle.ram_machine.specs.declared.status.Status.TheVariants as statuses
 
 -- the words are `run` and this name of an image (this project's own, as all here)
 abbrev pub IsRunOf : List ℕ → List (List ℕ) → Type 0

@@ -2,7 +2,7 @@
 ghost use Rattle.std.specs.Prelude.{◌≡◌, ◌<◌, ◌-◌, ◌^◌, None, [], All, map};
 ghost use Rattle.ram_run.specs.Counting.{is_same_sense, counts_in, raised_by, with_reply, AreAtMost};
 
-use crate::reply::Reply;
+use ram_machine::Reply;
 use ram_mmc::Answer;
 use ram_sense::Sense;
 use ram_sense::codes::{

@@ -4,10 +4,11 @@ ghost use Rattle.ram_text.specs.Dialogue.{HasSameEnds, AsksNothing, due_in, sink
 ghost use Rattle.ram_run.specs.Endings.{status_of, sink_view, IsNoUsage, LastLineRule, FinishRule};
 
 use crate::state::Tally;
-use crate::status::Status;
-use crate::stopped::Stopped;
+use ram_machine::Stopped;
+use ram_machine::status::Status;
 use ram_outside::{Sink, Source};
-use ram_text::{Dialogue, LastLine, Print};
+use ram_report::{LastLine, Print};
+use ram_text::Dialogue;
 
 /// The status that an ending is told by.
 pub fn status_of(ending: Result<(), Stopped>) -> Status

@@ -2,22 +2,15 @@
 #![tactic(auto)]
 
 mod counts;
-mod drive;
 mod ending;
 mod generate;
 pub mod help;
-mod inserted;
 mod kept;
-pub mod laws;
+mod printing;
 pub mod promise;
-mod reply;
 pub mod run;
 mod seed;
 mod serve;
 mod state;
-pub mod status;
-mod stopped;
 mod summary;
-pub mod survival;
 mod telling;
-mod volume;

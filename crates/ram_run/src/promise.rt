@@ -1,50 +1,13 @@
-//! Laws of runs, by their scripts and reports alone: each sector is a register, which shows its bytes and no others.
-ghost use Rattle.std.specs.Prelude.{◌≡◌, ℕ, Bool, true, None, Some, List, ◌∷◌};
-ghost use Rattle.std.specs.List.{Contains};
-ghost use Rattle.model_sectors.specs.Discs.{zeros};
-ghost use Rattle.model_cdb.specs.declared.commands.Command.TheVariants as commands;
-ghost use Rattle.ram_run.specs.Acknowledged.{bytes_of_sector, WasDone, LeaveSector, is_sector_among, choices_after};
-ghost use Rattle.ram_run.specs.States.{State, IsFirst, IsLeft};
-ghost use Rattle.ram_run.specs.Answered.{AnsweredLine};
-ghost use Rattle.ram_run.specs.Run.{Run};
+//! That what stands with each status of a run keeps the promise.
+ghost use Rattle.ram_machine.specs.declared.status.Status.{Status};
 ghost use Rattle.ram_run.specs.RunCounts.{Counts};
 ghost use Rattle.ram_run.specs.Progress.{Beginning};
 ghost use Rattle.ram_run.specs.Endings.{Aftermath, StandsWith};
-ghost use Rattle.ram_run.specs.declared.status.Status.{Status};
-ghost use Rattle.ram_run.specs.Promise.{Register, goes_through, Turn, Turns, IsRegister, HasSettled, IsRegisterAgain, KeepsBytes};
+ghost use Rattle.ram_run.specs.Promise.{KeepsBytes};
 
-/// Each sector is a register over a run, from the image's bytes on, and over the next run from where the first one left it. So what
-/// stands with each status keeps the promise.
-pub fn each_sector_is_a_register()
-    ensures run { (image : List ℕ) (s t : State) (events : List AnsweredLine) (at : ℕ)
-        → IsFirst image s → Run s events t → IsRegister image events at }
-    ensures again { (image left : List ℕ) (s t u v : State) (events later : List AnsweredLine) (at : ℕ)
-        → IsFirst image s → Run s events t → IsLeft t left → IsFirst left u → Run u later v
-        → IsRegisterAgain image events later at }
-    ensures promise { (first : Beginning) (after : Aftermath) (old new : Counts) (status : Status)
+/// Each sector is a register over the lines that a run answered, however it ended.
+pub fn each_status_keeps_the_promise()
+    ensures { (first : Beginning) (after : Aftermath) (old new : Counts) (status : Status)
         → StandsWith first after old new status
         → KeepsBytes first.script first.report first.image after.written }
-{}
-
-/// What the register says, in a user's words. A write through the write cache that is answered Good settles the bytes that it sends;
-/// what is settled stays so over all lines that do not write the sector, whatever fails and wherever the power is lost; and a read that
-/// is answered Good shows it.
-pub fn settled_bytes_are_shown()
-    ensures settles { (at : ℕ) (r after : Register) (event : AnsweredLine) (lba n : ℕ) (fua : Bool)
-        → Turn at r event.line event.payload event.reply event.data_in after → WasDone event (commands.Write lba n fua)
-        → is_sector_among lba n at ≡ true → goes_through r lba n fua ≡ true
-        → HasSettled after (bytes_of_sector lba event.payload at) }
-    ensures stays { (at : ℕ) (bytes : List ℕ) (r after : Register) (events : List AnsweredLine)
-        → Turns at r events after → LeaveSector at events → HasSettled r bytes → HasSettled after bytes }
-    ensures shown { (at : ℕ) (r after : Register) (event : AnsweredLine) (lba n : ℕ) (bytes : List ℕ)
-        → Turn at r event.line event.payload event.reply event.data_in after → WasDone event (commands.Read lba n)
-        → is_sector_among lba n at ≡ true → HasSettled r bytes → bytes_of_sector lba event.data_in at ≡ bytes }
-{}
-
-/// A sector never has other bytes than zeros, those that it might have at first, and those that a line sent to it: from the register
-/// alone.
-pub fn nothing_else_is_shown()
-    ensures { (at : ℕ) (r after : Register) (events : List AnsweredLine) (found : List ℕ)
-        → Turns at r events after → r.now ≡ None → after.now ≡ Some found
-        → Contains (choices_after at events (zeros 2048 ∷ r.falls)) found }
 {}

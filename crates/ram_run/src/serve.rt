@@ -2,23 +2,19 @@
 ghost use Rattle.std.specs.Prelude.{◌^◌, ◌<◌, ◌≡◌};
 ghost use Rattle.ram_text.specs.Dialogue.{HasSameEnds, reader_of, dialogue_room, sink_of, source_of};
 ghost use Rattle.ram_text.specs.DialogueRoom.{IsEmptyRoom};
-ghost use Rattle.ram_run.specs.NextLines.{CountsUses};
+ghost use Rattle.ram_machine.specs.LineSteps.{CountsUses};
 ghost use Rattle.ram_run.specs.Counting.{AreAtMost};
-ghost use Rattle.ram_run.specs.Inserted.{Stands, faults_of};
+ghost use Rattle.ram_machine.specs.Inserted.{Stands, faults_of};
 ghost use Rattle.ram_run.specs.RunCounts.{StopCounts, counts_with};
 ghost use Rattle.ram_run.specs.RunState.{IsFresh, HasRoom, TallyRule};
 ghost use Rattle.ram_run.specs.Progress.{Beginning, SoFar, Between, Taken, TurnsTo, Ends, run_view};
 ghost use Rattle.ram_run.specs.Generating.{LeavesBy};
-ghost use Rattle.ram_run.specs.Starts.{StartRule};
 ghost use Rattle.ram_run.specs.Endings.{Begins, IsNoUsage, StandsWith, StatusCounts, aftermath};
 
-use crate::drive::Drive;
 use crate::ending::{finish, status_of};
-use crate::inserted::{Inserted, insert};
 use crate::state::{RunState, take_line, tell};
-use crate::status::Status;
-use crate::stopped::Stopped;
-use ram_image::OpenFault;
+use ram_machine::status::Status;
+use ram_machine::{Drive, Inserted, Stopped, begin};
 use ram_outside::{Image, Sink, Source};
 use ram_text::{Dialogue, Line};
 use std::alloc::Global;
@@ -84,20 +80,6 @@ pub fn serve_lines<D: Drive, S: Source, K: Sink>(
                 Err(stopped) => return (inserted, Err(stopped)),
             },
         }
-    }
-}
-
-/// What lies in the drive when a run begins: a disc where the image holds one. Where the image failed, or there is no
-/// memory, it is handed back with the reason.
-fn begin<D: Drive>(alloc: Global, image: D::Image) -> Result<Inserted<D>, (D::Image, Stopped)>
-    ensures { StartRule D.Caching D.lies_in D.Image.Image image result }
-{
-    match insert::<D>(alloc, image) {
-        Ok(target) => Ok(Inserted::Disc(target)),
-        Err((image, fault)) => match fault {
-            OpenFault::Header | OpenFault::Length { .. } => Ok(Inserted::Image(image)),
-            OpenFault::Fault | OpenFault::NoMemory => Err((image, Stopped::from(fault))),
-        },
     }
 }
 

@@ -3,16 +3,17 @@
 ghost use Rattle.std.specs.Prelude.{◌≡◌, ◌^◌, ◌<◌, ◌+◌, ℕ, IfOk};
 ghost use Rattle.ram_text.specs.Dialogue.{HasSameEnds, AsksNothing, reader_of, sink_of};
 ghost use Rattle.ram_run.specs.Counting.{AreAtMost};
-ghost use Rattle.ram_run.specs.Replies.{PrintsWhere};
+ghost use Rattle.ram_machine.specs.Replies.{PrintsWhere};
 ghost use Rattle.ram_run.specs.RunCounts.{StopCounts, TellCount, counts_with};
 ghost use Rattle.ram_run.specs.RunState.{IsFresh, HasRoom, TallyRule};
 ghost use Rattle.ram_run.specs.Progress.{Beginning, SoFar, IsAt, NextRule, FoundCountsUses, TakesBytes, TellRule, run_view, tally_with};
 
 use crate::counts::AnswerCounts;
-use crate::reply::{Reply, print_reply};
-use crate::stopped::{Stopped, printed};
+use crate::printing::{print_reply, printed};
+use ram_machine::{Reply, Stopped};
 use ram_outside::{Sink, Source};
-use ram_text::{Dialogue, Line, NextLine, PAYLOAD_ROOM, SinkFailed, parse_line};
+use ram_report::SinkFailed;
+use ram_text::{Dialogue, Line, NextLine, PAYLOAD_ROOM, parse_line};
 use std::alloc::{AllocError, Global};
 
 /// How many lines came so far.

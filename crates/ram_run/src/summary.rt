@@ -6,7 +6,7 @@ ghost use Rattle.ram_run.specs.Summary.{count_text, row_text, tally_text};
 use crate::counts::SenseCount;
 use crate::state::Tally;
 use ram_generate::{add, add_number};
-use ram_text::digits_of;
+use ram_report::digits_of;
 use std::alloc::{AllocError, Global};
 
 /// The summary of the lines that were counted, of the script of this number: `generated N`, `good A`, `cut C`, `off D`,

@@ -2,9 +2,9 @@
 ghost use Rattle.ram_run.specs.Endings.{IsNoUsage};
 ghost use Rattle.ram_run.specs.Words.{WritesText, TextCount};
 
-use crate::status::Status;
+use ram_machine::status::Status;
 use ram_outside::Sink;
-use ram_text::hand_over;
+use ram_report::hand_over;
 
 /// Writes a text to the report. It takes no memory.
 pub fn write_text<K: Sink>(report: &mut K, text: &[u8]) -> Status

@@ -1,6 +1,6 @@
 //! A long reply with each allocation length, which would be too many rows.
 use crate::runs::{PIECE, run_script};
-use ram_run::status::Status;
+use ram_machine::status::Status;
 use std::alloc::{AllocError, Global};
 use std::fmt::Write;
 use std::ops::Range;

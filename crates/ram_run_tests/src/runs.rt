@@ -1,8 +1,8 @@
 //! One run over objects in memory, and what it leaves.
 use crate::made::Comments;
+use ram_machine::status::Status;
 use ram_outside::{MemImage, MemOpener, MemSink, MemSource, Opener, Sink, Source};
 use ram_run::run::run;
-use ram_run::status::Status;
 use std::alloc::{AllocError, Global};
 
 /// The words of the program in each run.

@@ -2,14 +2,9 @@ pub mod Feeds
 pub mod Cuts
 pub mod Fills
 pub mod Answers
-pub mod Puts
-pub mod OneByte
-pub mod Prints
 pub mod WordSteps
 pub mod HexPairs
 pub mod HexSteps
 pub mod ScriptReadings
 pub mod Forms
-pub mod Turns
-pub mod Distinct
 pub mod Limits

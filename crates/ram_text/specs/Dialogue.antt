@@ -4,11 +4,11 @@ use Rattle.model_counts.specs.Counts.{Rose}
 use Rattle.ram_outside.specs.declared.sink.Sink.{Ghosts as Sinks}
 use Rattle.ram_outside.specs.declared.source.Source.{Ghosts as Sources}
 use Rattle.ram_text.specs.Lines.{Reading, HoldsLine, NextLineRule}
-use Rattle.ram_text.specs.Writer.{FlushRule, PrintRule, due}
+use Rattle.ram_report.specs.Writer.{FlushRule, PrintRule, due}
 use Rattle.ram_text.specs.declared.dialogue.Dialogue.{Dialogue}
 use Rattle.ram_text.specs.declared.dialogue.DialogueRoom.{DialogueRoom}
-use Rattle.ram_text.specs.declared.gathered.Print.{Print}
-use Rattle.ram_text.specs.declared.gathered.SinkFailed.{SinkFailed}
+use Rattle.ram_report.specs.declared.gathered.Print.{Print}
+use Rattle.ram_report.specs.declared.gathered.SinkFailed.{SinkFailed}
 use Rattle.ram_text.specs.declared.lines.NextLine.{NextLine}
 
 -- the source that its lines come from (this project's own, as all here)

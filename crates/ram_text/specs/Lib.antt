@@ -1,11 +1,8 @@
 pub mod Lines
 pub mod LineReader
 pub mod Steps
-pub mod Writer
-pub mod Reports
 pub mod Dialogue
 pub mod DialogueRoom
 pub mod ScriptWords
 pub mod Script
 pub mod ScriptReading
-pub mod ReportLines

@@ -1,14 +1,14 @@
 //! Both ends of a run: the script that comes, line by line, and the report that goes. The source and the sink are reached
 //! through it alone, and nothing is asked of the source while text is gathered for the sink.
 ghost use Rattle.std.specs.Prelude.{◌≡◌, IfOk};
-ghost use Rattle.ram_text.specs.ReportLines.{numbered, event_words, answer_text, last_text, IsPrinted, IsAddressed};
+ghost use Rattle.ram_report.specs.ReportLines.{numbered, event_words, answer_text, last_text, IsPrinted, IsAddressed};
 
-use crate::gathered::{Print, SinkFailed};
 use crate::lines::{LineReader, NextLine};
-use crate::printing::{Event, LastLine, print_answer, print_event, print_last};
-use crate::report::ReportWriter;
 use ram_bytes::Cdb;
 use ram_outside::{Sink, Source};
+use ram_report::{
+    Event, LastLine, Print, ReportWriter, SinkFailed, print_answer, print_event, print_last,
+};
 use ram_sense::Answer;
 use std::alloc::{AllocError, Global};
 

@@ -1,13 +1,11 @@
-//! Laws of the script language and of the report, for whoever relies on their definitions.
+//! Laws of the script language, for whoever relies on its definitions.
 ghost use Rattle.std.specs.Prelude.{◌≡◌, ◌≢◌, ◌<◌, ℕ, Option, Some, List, [], ◌∷◌, ◌++◌, length, All};
 ghost use Rattle.ram_text.specs.ScriptWords.{words_of, space};
 ghost use Rattle.ram_text.specs.Lines.{GivesLine, LineIsTooLong, ScriptIsTooLong};
 ghost use Rattle.ram_text.specs.Script.{Reads};
-ghost use Rattle.ram_text.specs.ReportLines.{answer_words, HasWords};
 ghost use Rattle.ram_text.specs.declared.lines.TheConstants.{LINE_LIMIT, SCRIPT_LIMIT};
 ghost use Rattle.ram_text.specs.declared.payload.TheConstants.{PAYLOAD_ROOM};
 ghost use Rattle.ram_text.specs.declared.script.Line.{Line as Read};
-ghost use Rattle.model_sense.specs.declared.answer.Answer.{Answer as Reported};
 
 /// How many bytes a line has at most, a script, and the data of a command.
 pub fn limits_are_these()
@@ -38,9 +36,4 @@ pub fn words_stand_between_spaces()
     ensures first { (word rest : List ℕ) → 0 < length word → All (λ byte. byte ≢ space) word
         → words_of (word ++ space ∷ rest) ≡ word ∷ words_of rest }
     ensures last { (word : List ℕ) → 0 < length word → All (λ byte. byte ≢ space) word → words_of word ≡ word ∷ [] }
-{}
-
-/// Two answers to commands that read the same are the same, with all parts of their sense.
-pub fn answers_are_distinct()
-    ensures { (a b : Reported) → HasWords a → HasWords b → answer_words a ≡ answer_words b → a ≡ b }
 {}

@@ -4,12 +4,12 @@ ghost use Rattle.std.specs.Prelude.{◌≡◌, ◌↔◌, ℕ, ◌+◌, ◌-◌,
 ghost use Rattle.ram_outside.specs.Source.{TakeRule};
 ghost use Rattle.ram_text.specs.Lines.{Reading, HoldsLine, NextLineRule, HasNoFeed, IsFirstFeed};
 ghost use Rattle.ram_text.specs.Steps.{IsOpen, CutRule, FillRule, LastLineBytes, PassedFirst};
-ghost use Rattle.ram_text.specs.Reports.{gathered_in};
+ghost use Rattle.ram_report.specs.Reports.{gathered_in};
 ghost use Rattle.ram_text.specs.declared.lines.TheConstants.{LINE_LIMIT, SCRIPT_LIMIT, PIECE, ROOM};
 
-use crate::report::ReportWriter;
 use memchr::memchr;
 use ram_outside::{Source, Take};
+use ram_report::ReportWriter;
 use std::alloc::{AllocError, Global};
 use std::marker::Model;
 

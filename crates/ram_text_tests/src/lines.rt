@@ -1,11 +1,12 @@
 //! Rows on the lines that a source gives.
 ghost use Rattle.std.specs.Prelude.{◌≡◌, []};
-ghost use Rattle.ram_text.specs.Reports.{gathered_in};
+ghost use Rattle.ram_report.specs.Reports.{gathered_in};
 
 use crate::escapes::{add_bytes, bytes_of};
 use crate::made::Made;
 use ram_outside::{MemSource, Source};
-use ram_text::{LineReader, NextLine, ReportWriter};
+use ram_report::ReportWriter;
+use ram_text::{LineReader, NextLine};
 use std::alloc::{AllocError, Global};
 use std::fmt::Write;
 

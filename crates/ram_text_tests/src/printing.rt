@@ -1,16 +1,16 @@
 //! Rows on what is printed: the text of one answer, of one last line, or of a line.
 ghost use Rattle.std.specs.Prelude.{IfSome};
-ghost use Rattle.ram_text.specs.ReportLines.{IsPrinted};
+ghost use Rattle.ram_report.specs.ReportLines.{IsPrinted};
 
 use crate::data::data_of;
 use crate::lines::number_of;
 use ram_bytes::Cdb;
 use ram_outside::{MemSink, Sink};
-use ram_sense::codes::{INVALID_FIELD_IN_PARAMETERS, POWER_ON_OCCURRED, unrecovered_read_error};
-use ram_sense::{Answer, Sense};
-use ram_text::{
+use ram_report::{
     Event, LastLine, Print, ReportWriter, print_answer, print_event, print_last, print_line,
 };
+use ram_sense::codes::{INVALID_FIELD_IN_PARAMETERS, POWER_ON_OCCURRED, unrecovered_read_error};
+use ram_sense::{Answer, Sense};
 use std::alloc::{AllocError, Global};
 use std::fmt::Write;
 

@@ -1,4 +1,4 @@
-use Rattle.ram_run.specs.Inserted.{Stands, faults_of}
+use Rattle.ram_machine.specs.Inserted.{Stands, faults_of}
 use Rattle.ram_run.specs.Progress.{run_view}
 use Rattle.ram_run.proofs.Turns.{answered_line}
 use Rattle.ram_run.proofs.serve.answer_line.Goals as goal

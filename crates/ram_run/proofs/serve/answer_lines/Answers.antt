@@ -1,5 +1,5 @@
 use Rattle.ram_text.specs.Dialogue.{sink_of, source_of}
-use Rattle.ram_run.specs.Inserted.{Stands}
+use Rattle.ram_machine.specs.Inserted.{Stands}
 use Rattle.ram_run.specs.Progress.{run_view}
 use Rattle.ram_run.proofs.Finishes.{begins}
 use Rattle.ram_run.proofs.Generated.{leaves_by, not_begun, not_begun_counts}

@@ -1,5 +1,5 @@
 use Rattle.ram_text.specs.Dialogue.{due_in, sink_of, source_of}
-use Rattle.ram_run.specs.Inserted.{Stands, faults_of}
+use Rattle.ram_machine.specs.Inserted.{Stands, faults_of}
 use Rattle.ram_run.specs.Progress.{run_view}
 use Rattle.ram_run.specs.RunCounts.{counts_of, counts_with}
 use Rattle.ram_run.proofs.CountsRise.{behind, status_counts}

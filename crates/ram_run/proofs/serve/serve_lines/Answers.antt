@@ -1,7 +1,7 @@
 use Rattle.std.proofs.Common.{arith, ap, ◌∙◌}
 use Rattle.ram_text.specs.Lines.{Reading}
 use Rattle.ram_text.specs.Dialogue.{reader_of}
-use Rattle.ram_run.specs.Inserted.{Stands, faults_of}
+use Rattle.ram_machine.specs.Inserted.{Stands, faults_of}
 use Rattle.ram_run.specs.RunCounts.{counts_with}
 use Rattle.ram_run.specs.Progress.{run_view}
 use Rattle.ram_run.proofs.CountsRise.{none_rose, why_counts}

@@ -1,6 +1,6 @@
 use Rattle.std.proofs.Common.{◌≤◌, ◌-◌}
 use Rattle.ram_text.specs.Dialogue.{HasSameEnds, reader_of}
-use Rattle.ram_run.specs.Inserted.{Stands, faults_of}
+use Rattle.ram_machine.specs.Inserted.{Stands, faults_of}
 use Rattle.ram_run.specs.RunCounts.{SameCounts, counts_with}
 use Rattle.ram_run.specs.RunState.{HasRoom}
 use Rattle.ram_run.specs.Progress.{Beginning, Between, run_view}

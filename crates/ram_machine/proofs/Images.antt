@@ -1,0 +1,21 @@
+-- The bytes of an image that a disc in the drive lies in.
+use Rattle.std.specs.Prelude.{◌≡◌, ℕ, false, true, Option, None, Some, List}
+use Rattle.std.proofs.Common.{refl, sym, ◌∙◌, subst}
+use Rattle.model_image.specs.Image.{IsImageOf}
+use Rattle.model_drive.specs.Shown.{Shown, IsKnown, cells_in}
+use Rattle.ram_machine.specs.Drive.{HasCells}
+use Rattle.ram_machine.specs.States.{Served, Disc, IsLabelled, IsLeft}
+
+-- the image that a disc leaves has its cells
+pub image_left : (s : Served) (bytes : List ℕ) → IsLeft (Disc s) bytes → IsImageOf s.disc.shown.drive.shape (cells_in s.disc.shown.drive) bytes
+image_left s bytes left = subst (λ b. IsImageOf s.disc.shown.drive.shape (cells_in s.disc.shown.drive) b) (sym left) s.image
+
+-- a drive whose cells are known lies in bytes that are known, and that have these cells
+pub record LiesThere (shown : Shown) (image : Option (List ℕ)) : Type 0 where
+  pub bytes : List ℕ
+  pub known : image ≡ Some bytes
+  pub image_is : IsImageOf shown.shape (cells_in shown) bytes
+
+pub lies_there : (shown : Shown) (image : Option (List ℕ)) → IsKnown shown → IsLabelled shown → HasCells shown.medium.world image → LiesThere shown image
+lies_there shown None known labelled unknown = let clash : false ≡ true = sym unknown ∙ known in absurd cc
+lies_there shown (Some bytes) known labelled has = record { bytes = bytes; known = refl; image_is = has shown.shape labelled }

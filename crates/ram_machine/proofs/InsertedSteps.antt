@@ -1,0 +1,74 @@
+-- What a line leaves of the inserted disc.
+use Rattle.std.specs.Prelude.{◌≡◌, ℕ, Option, Some, List}
+use Rattle.std.proofs.Common.{refl, sym, ap, ◌∙◌, subst}
+use Rattle.model_drive.specs.Shown.{Shown}
+use Rattle.model_target.specs.declared.host.Host.{Host}
+use Rattle.ram_outside.specs.declared.image.Image.{Ghosts as Images}
+use Rattle.ram_sectors.specs.Laws.{CachingLaws}
+use Rattle.model_cache.specs.Shown.{CacheShown}
+use Rattle.ram_sectors.specs.declared.caching.Caching.{Ghosts as Drives}
+use Rattle.ram_medium.specs.declared.control.FailEnd.{FailEnd}
+use Rattle.ram_medium.specs.declared.control.FailEnd.TheVariants as fails
+use Rattle.ram_mmc.specs.declared.target.Target.{Target}
+use Rattle.ram_machine.specs.declared.inserted.Inserted.TheVariants as inserts
+use Rattle.ram_text.specs.declared.script.Line.{Line}
+use Rattle.ram_volume.specs.Control.{FailOnDrive}
+use Rattle.ram_text.specs.declared.script.Line.TheVariants as lines
+use Rattle.ram_machine.specs.Replies.{Outcome}
+use Rattle.ram_machine.specs.States.{State, Served, Unopened, Disc, IsIn, IsLabelled}
+use Rattle.ram_machine.specs.Drive.{DriveLaws}
+use Rattle.ram_machine.specs.LineSteps.{DiscRule, DiscStep, LineBytes, Step}
+use Rattle.ram_machine.specs.Inserted.{Stands, IsAnswered}
+use Rattle.ram_machine.proofs.Images.{lies_there}
+use Rattle.ram_machine.proofs.SoundChains.{contents_known}
+use Rattle.ram_machine.proofs.StatesAfter.{rule_found}
+use Rattle.ram_machine.proofs.Labels.{stays_labelled}
+
+-- the failure of a block leaves the geometry
+pub fail_shape : (old new : Shown) (block : ℕ) (end : FailEnd) → FailOnDrive old new block end → new.shape ≡ old.shape
+fail_shape old new block fails.Done p = p.1.same_shape
+fail_shape old new block (fails.NoBlock blocks) p = p.1.same_shape
+fail_shape old new block fails.Failed p = p.1.same_shape
+
+-- what a line does on a disc is its step
+disc_step : (s t : Served) (line : Line) (payload : List ℕ) (outcome : Outcome) (data_in : List ℕ) → DiscStep s t line payload outcome data_in → Step (Disc s) line payload outcome data_in (Disc t)
+disc_step s t lines.Empty payload outcome data_in step = absurd step.rule
+disc_step s t (lines.Press zones scale psa) payload outcome data_in step = absurd step.rule
+disc_step s t _ payload outcome data_in step = step
+
+module _ {D I : Type 0} (drives : Drives D) (lies_in : D → Option (List ℕ)) (images : Images I) (laws : CachingLaws drives.shows drives.stands) (lying : DriveLaws drives.shows drives.underwent lies_in) (old new : Target D) (line : Line) (payload : List ℕ) (outcome : Outcome) (data_in : List ℕ)
+    (rule : DiscRule (drives.shows old.disc) (drives.shows new.disc) (drives.stands old.disc) (drives.stands new.disc) old.host new.host line payload outcome data_in)
+    (same_shape : (drives.shows new.disc).drive.shape ≡ (drives.shows old.disc).drive.shape) (bytes : LineBytes line outcome (drives.shows old.disc).drive (lies_in old.disc) (drives.shows new.disc).drive (lies_in new.disc)) where
+  -- the disc that a line leaves
+  disc_left : (s : Served) → IsIn (drives.shows old.disc) (drives.stands old.disc) old.host (lies_in old.disc) s
+      → (t : Served) × DiscStep s t line payload outcome data_in × IsIn (drives.shows new.disc) (drives.stands new.disc) new.host (lies_in new.disc) t
+  disc_left s is =
+      let found = rule_found (drives.shows old.disc) (drives.shows new.disc) (drives.stands old.disc) (drives.stands new.disc) old.host new.host s.disc.contents is.contents_is line payload outcome data_in rule in
+      let labelled : IsLabelled (drives.shows new.disc).drive =
+      stays_labelled (drives.shows old.disc) (drives.shows new.disc) (drives.stands old.disc) (drives.stands new.disc) old.host new.host line payload outcome data_in rule same_shape
+      (subst (λ (shown : CacheShown). IsLabelled shown.drive) (sym is.shown_is) s.labelled) in
+      let stands = (laws.as_shown new.disc found.0).0 found.1 in
+      let there = lies_there (drives.shows new.disc).drive (lies_in new.disc) (contents_known (drives.shows new.disc) found.0 stands) labelled (lying.has_cells new.disc) in
+      let t : Served = record {
+        disc = record { shown = drives.shows new.disc; contents = found.0; sound = laws.drive_sound new.disc; cache_sound = laws.sound new.disc; stands = stands };
+        host = new.host;
+        labelled = labelled;
+        bytes = there.bytes;
+        image = there.image_is;
+      } in (
+        t,
+        record {
+          same_shape = same_shape ∙ ap (λ (shown : CacheShown). shown.drive.shape) is.shown_is;
+          rule = subst (λ (host : Host). DiscRule s.disc.shown (drives.shows new.disc) (λ x. x ≡ s.disc.contents) (λ x. x ≡ found.0) host new.host line payload outcome data_in) is.host_is
+              (subst (λ (shown : CacheShown). DiscRule shown (drives.shows new.disc) (λ x. x ≡ s.disc.contents) (λ x. x ≡ found.0) old.host new.host line payload outcome data_in) is.shown_is found.2);
+          bytes = subst (λ (shown : CacheShown). LineBytes line outcome shown.drive (Some s.bytes) (drives.shows new.disc).drive (Some there.bytes)) is.shown_is
+              (subst (λ (o : Option (List ℕ)). LineBytes line outcome (drives.shows old.disc).drive o (drives.shows new.disc).drive (Some there.bytes)) is.bytes_are
+              (subst (LineBytes line outcome (drives.shows old.disc).drive (lies_in old.disc) (drives.shows new.disc).drive) there.known bytes));
+        },
+        record { shown_is = refl; contents_is = found.1; host_is = refl; bytes_are = there.known },
+      )
+
+  -- the same of the inserted disc
+  pub inserted_left : (s : State) → Stands drives lies_in images (inserts.Disc old) s → IsAnswered s line payload data_in (Stands drives lies_in images (inserts.Disc new)) outcome
+  inserted_left (Unopened bytes) stands = absurd stands
+  inserted_left (Disc s) stands = let left = disc_left s stands in record { state = Disc left.0; step = disc_step s left.0 line payload outcome data_in left.1; stands = left.2 }

@@ -1,0 +1,474 @@
+-- No line but a press and a full format makes a formatted disc unformatted.
+use Rattle.std.specs.Prelude.{◌≡◌, ℕ, ◌==◌, ◌*◌, Bool, true, false, IsTrue, is_some, Result, Ok, Err, List, [], ◌∷◌}
+use Rattle.std.specs.Bool.{MatchBool}
+use Rattle.std.specs.List.{Contains}
+use Rattle.std.proofs.Common.{arith, zero, suc, refl, sym, ap, ◌∙◌, inl, inr, subst}
+use Rattle.std.proofs.lemmas.List.Elements.{All-head, All-tail}
+use Rattle.model_geometry.specs.Geometry.{Shape, shape_of, total}
+use Rattle.model_lists.specs.declared.versions.Version.{Version}
+use Rattle.model_medium.specs.Cells.{Cell, Dead, cell_at}
+use Rattle.model_medium.specs.World.{World}
+use Rattle.model_medium.specs.Machine.{Machine}
+use Rattle.model_drive.specs.declared.WriteOut.{WriteOut}
+use Rattle.model_cache.specs.Values.{Contents}
+use Rattle.model_cache.specs.Shown.{CacheShown}
+use Rattle.model_cache.proofs.Chained.{HoldsOfChains, of_read, of_write, of_through, of_sync, of_tick}
+use Rattle.model_drive.proofs.Kept.{read_kept, write_kept}
+use Rattle.model_sectors.specs.declared.PowerOut.{PowerOut}
+use Rattle.model_sectors.specs.declared.PowerOut.TheVariants as powers
+use Rattle.model_places.specs.Places.{Lists, count_of, capacity_of}
+use Rattle.model_survival.specs.Findable.{SdlLives, HaveTwoCopies}
+use Rattle.model_image.specs.Cells.{cells_of}
+use Rattle.model_image.proofs.Headers.{one_header}
+use Rattle.model_drive.specs.declared.Kind.TheVariants as kinds
+use Rattle.model_drive.specs.Shown.{Shown, IsKnown, IsOn, cells_in}
+use Rattle.model_drive.specs.Sound.{IsSound}
+use Rattle.model_drive.specs.Parts.{AreSameOrDead}
+use Rattle.model_drive.specs.Expands.{ssa_for}
+use Rattle.model_lasting.specs.Lasting.{KeepsTwoCopies, StaysFormatted, TellsSize, DeadStay}
+use Rattle.model_lasting.proofs.Staying.{begins, power_stays, read_stays, verify_stays, write_stays, expand_stays, format_stays, dies_stays}
+use Rattle.model_lasting.proofs.DeadCells.{power_dead, read_dead, verify_dead, write_dead, expand_dead, format_dead}
+use Rattle.model_sense.specs.declared.sense.Sense.{Sense}
+use Rattle.model_sense.specs.declared.answer.Answer.{Answer}
+use Rattle.model_cdb.specs.declared.commands.Command.{Command}
+use Rattle.model_cdb.specs.declared.commands.Command.TheVariants as commands
+use Rattle.model_cdb.specs.Decoding.{decoded}
+use Rattle.model_target.specs.declared.host.Host.{Host}
+use Rattle.model_target.specs.Judging.{IsJudged}
+use Rattle.model_target.specs.Steps.{WrittenCause, TellsStructure, TellsSpares, IsDone, IsAnsweredBy, IsStep as ExecutesTo}
+use Rattle.ram_medium.specs.declared.control.FailEnd.{FailEnd}
+use Rattle.ram_medium.specs.declared.control.FailEnd.TheVariants as fails
+use Rattle.ram_volume.specs.Control.{FailOnDrive}
+use Rattle.ram_report.specs.declared.printing.Event.TheVariants as events
+use Rattle.ram_text.specs.declared.script.Line.{Line}
+use Rattle.ram_text.specs.declared.script.Line.TheVariants as lines
+use Rattle.ram_machine.specs.declared.reply.Reply.{Reply}
+use Rattle.ram_machine.specs.declared.reply.Reply.TheVariants as replies
+use Rattle.ram_machine.specs.Replies.{Outcome, power_outcome}
+use Rattle.ram_machine.specs.States.{State, Served, Unopened, Disc, IsLeft, IsFirst}
+use Rattle.ram_machine.specs.LineSteps.{DiscRule, OnDisc, Step}
+use Rattle.ram_machine.specs.Runs.{IsStep, Run}
+use Rattle.ram_machine.specs.Answered.{AnsweredStep}
+use Rattle.ram_machine.specs.Survival.{KeepsAsAsked, KeepsAsDecoded, KeepsDisc, KeepDisc, AsksNoExpansion, LeavesCapacity, LeaveCapacity, HasInUse, HasTwoCopies, LastsNow, IsReadyOrCut}
+use Rattle.ram_machine.proofs.Images.{image_left}
+use Rattle.ram_machine.proofs.SoundChains.{contents_known, IsWell}
+use Rattle.ram_machine.proofs.Decoded.{asks_for}
+use Rattle.ram_machine.proofs.Acknowledged.{not_pressed}
+use Rattle.ram_machine.proofs.FairRuns.{cells_die, worn_world}
+
+-- ---- dead cells stay dead
+
+die_dead : (old new : List Cell) → AreSameOrDead old new → (block : ℕ) → cell_at old block ≡ Dead → cell_at new block ≡ Dead
+die_dead old new dies block dead = elim (dies block) [ inl same ↦ same ∙ dead | inr is ↦ is ]
+
+module _ (old new : Shown) where
+  same_dead : new ≡ old → DeadStay old new
+  same_dead is block dead = ap (λ (s : Shown). cell_at (cells_in s) block) is ∙ dead
+
+  world_dead : new.medium.world ≡ old.medium.world → DeadStay old new
+  world_dead is block dead = ap (λ (w : World). cell_at w.cells block) is ∙ dead
+
+  fail_dead : (block : ℕ) (end : FailEnd) → FailOnDrive old new block end → DeadStay old new
+  fail_dead block fails.Done p = die_dead (cells_in old) (cells_in new) (cells_die (total old.shape) old.medium new.medium block fails.Done p.0)
+  fail_dead block (fails.NoBlock blocks) p = die_dead (cells_in old) (cells_in new) (cells_die (total old.shape) old.medium new.medium block (fails.NoBlock blocks) p.0)
+  fail_dead block fails.Failed p = die_dead (cells_in old) (cells_in new) (cells_die (total old.shape) old.medium new.medium block fails.Failed p.0)
+
+-- over calls of the disc, one after another
+stays_dead : HoldsOfChains (λ faulted a b. DeadStay a b)
+stays_dead = record {
+  none = λ s block dead. dead;
+  join = λ faulted a b c first then block dead. then block (first block dead);
+  read = λ a b lba n out leaves cause. read_dead a b lba n out cause;
+  write = λ a b lba n out leaves cause. write_dead a b lba n out cause;
+}
+
+module _ (old new : CacheShown) (before after : Contents → Type 0) where
+  cache_dead : new ≡ old → DeadStay old.drive new.drive
+  cache_dead is block dead = ap (λ (s : CacheShown). cell_at (cells_in s.drive) block) is ∙ dead
+
+  written_dead : (lba n : ℕ) (payload : List ℕ) (fua : Bool) (out : WriteOut) → WrittenCause old new lba n payload fua out → DeadStay old.drive new.drive
+  written_dead lba n payload true out cause = of_through (λ faulted a b. DeadStay a b) stays_dead lba n old new out cause
+  written_dead lba n payload false out cause = of_write (λ faulted a b. DeadStay a b) stays_dead lba n payload old new out cause
+
+  told_dead : (structure : Bool) (alloc : ℕ) (answer : Answer) (data_in : List ℕ)
+      → MatchBool structure (TellsStructure old new before after alloc answer data_in) (TellsSpares old new before after alloc answer data_in) → DeadStay old.drive new.drive
+  told_dead true alloc answer data_in p = cache_dead p.is_answered.untouched.same
+  told_dead false alloc answer data_in p = cache_dead p.untouched.same
+
+  done_dead : (host : Host) (payload : List ℕ) (command : Command) (answer : Answer) (data_in : List ℕ) → IsDone old new before after host payload command answer data_in → DeadStay old.drive new.drive
+  done_dead host payload commands.TestUnitReady answer data_in p = cache_dead p.untouched.same
+  done_dead host payload (commands.RequestSense alloc) answer data_in p = cache_dead p.untouched.same
+  done_dead host payload (commands.Format kind) answer data_in p = format_dead old.drive new.drive kind p.out p.cause.0
+  done_dead host payload (commands.Expand sectors) answer data_in p = expand_dead old.drive new.drive sectors p.out p.cause.0
+  done_dead host payload (commands.Inquiry alloc) answer data_in p = cache_dead p.untouched.same
+  done_dead host payload (commands.StartStop start eject) answer data_in p = cache_dead p.untouched.same
+  done_dead host payload (commands.Prevent on) answer data_in p = cache_dead p.untouched.same
+  done_dead host payload (commands.FormatCapacities alloc) answer data_in p = cache_dead p.untouched.same
+  done_dead host payload commands.ReadCapacity answer data_in p = cache_dead p.untouched.same
+  done_dead host payload (commands.Read lba n) answer data_in p = of_read (λ faulted a b. DeadStay a b) stays_dead lba n old new p.out p.cause
+  done_dead host payload (commands.Write lba n fua) answer data_in p = written_dead lba n payload fua p.out p.cause
+  done_dead host payload (commands.Verify lba n) answer data_in p = verify_dead old.drive new.drive lba n p.out p.cause.0
+  done_dead host payload commands.Synchronize answer data_in p = of_sync (λ faulted a b. DeadStay a b) stays_dead old new p.out p.cause
+  done_dead host payload (commands.Configuration rt start alloc) answer data_in p = cache_dead p.untouched.same
+  done_dead host payload commands.ModeSelect answer data_in p = λ block dead. ap (λ (s : CacheShown). cell_at (cells_in s.drive) block) p.mode ∙ dead
+  done_dead host payload (commands.ModeSense control page alloc) answer data_in p = cache_dead p.untouched.same
+  done_dead host payload (commands.Structure format alloc) answer data_in p = told_dead (format == 0x08) alloc answer data_in p
+
+  judged_dead : (host : Host) (payload : List ℕ) (judged : Result Command Sense) (answer : Answer) (data_in : List ℕ) → IsAnsweredBy old new before after host payload judged answer data_in → DeadStay old.drive new.drive
+  judged_dead host payload (Err why) answer data_in p = cache_dead p.untouched.same
+  judged_dead host payload (Ok command) answer data_in p = done_dead host payload command answer data_in p
+
+  command_dead : (host later : Host) (cdb payload : List ℕ) (answer : Answer) (data_in : List ℕ) → ExecutesTo old new before after host later cdb payload answer data_in → DeadStay old.drive new.drive
+  command_dead host later cdb payload answer data_in (inl off) = cache_dead off.1.is_answered.untouched.same
+  command_dead host later cdb payload answer data_in (inr on) = judged_dead host payload on.1.judged answer data_in on.1.is_answered
+
+  line_dead : (host later : Host) (line : Line) (payload : List ℕ) (outcome : Outcome) (data_in : List ℕ) → DiscRule old new before after host later line payload outcome data_in → DeadStay old.drive new.drive
+  line_dead host later lines.Power payload outcome data_in p = power_dead old.drive new.drive p.0.out p.0.powered.cause.0
+  line_dead host later (lines.Fail block) payload outcome data_in p = fail_dead old.drive new.drive block p.0.end p.0.rule
+  line_dead host later (lines.Wear block n) payload outcome data_in p = world_dead old.drive new.drive (worn_world _ old.drive.medium new.drive.medium (record { block = block; left = n }) p.0.end p.0.rule)
+  line_dead host later (lines.Cut n fate) payload outcome data_in p = world_dead old.drive new.drive (ap (λ (m : Machine). m.world) p.0.armed)
+  line_dead host later lines.Tick payload outcome data_in p = of_tick (λ faulted a b. DeadStay a b) stays_dead old new p.0.out p.0.cause
+  line_dead host later (lines.Command cdb) payload outcome data_in p = command_dead host later cdb payload p.answer data_in p.step
+  line_dead host later _ payload outcome data_in p = absurd p
+
+-- so what has two copies had them before
+two_before : (old new : Shown) (version : Version) → new.shape ≡ old.shape → DeadStay old new → KeepsTwoCopies new version → KeepsTwoCopies old version
+two_before old new version same stay two = by_shape (subst (λ (s : Shape). HaveTwoCopies s (cells_in new) version) same two)
+  where
+    alive : (block : ℕ) → ¬ (cell_at (cells_in new) block ≡ Dead) → ¬ (cell_at (cells_in old) block ≡ Dead)
+    alive block lives dead = lives (stay block dead)
+
+    lives_before : (area : ℕ) → SdlLives old.shape (cells_in new) version area → SdlLives old.shape (cells_in old) version area
+    lives_before area lives = record { first = alive _ lives.first; second = λ two'. alive _ (lives.second two') }
+
+    by_shape : HaveTwoCopies old.shape (cells_in new) version → HaveTwoCopies old.shape (cells_in old) version
+    by_shape h = record {
+      of_dds = record {
+        lower = h.of_dds.lower;
+        upper = h.of_dds.upper;
+        differ = h.of_dds.differ;
+        is_lower = h.of_dds.is_lower;
+        is_upper = h.of_dds.is_upper;
+        in_lower = alive _ h.of_dds.in_lower;
+        in_upper = alive _ h.of_dds.in_upper;
+      };
+      of_sdl = record {
+        lower = h.of_sdl.lower;
+        upper = h.of_sdl.upper;
+        differ = h.of_sdl.differ;
+        is_lower = h.of_sdl.is_lower;
+        is_upper = h.of_sdl.is_upper;
+        in_lower = lives_before h.of_sdl.lower h.of_sdl.in_lower;
+        in_upper = lives_before h.of_sdl.upper h.of_sdl.in_upper;
+      };
+    }
+
+-- ---- a line on a formatted disc
+
+-- it stays so, with these sizes, or with one more where the line leaves not the capacity
+abbrev pub LastsOn : Shown → Version → List ℕ → Type 0 → Type 0
+LastsOn new version sizes leaves = (later : List ℕ) × StaysFormatted new version later × (leaves → later ≡ sizes)
+
+module _ (old new : Shown) (same : new.shape ≡ old.shape) (version : Version) (sizes : List ℕ) (s : StaysFormatted old version sizes) where
+  fail_lasts : (block : ℕ) (end : FailEnd) → FailOnDrive old new block end → StaysFormatted new version sizes
+  fail_lasts block fails.Done p = dies_stays old new version sizes same s (λ on. subst (λ (m : Machine). IsTrue m.world.power) p.0.1 on) (λ on. p.1.same_lists) (cells_die (total old.shape) old.medium new.medium block fails.Done p.0)
+  fail_lasts block (fails.NoBlock blocks) p = dies_stays old new version sizes same s (λ on. subst (λ (m : Machine). IsTrue m.world.power) p.0.2 on) (λ on. p.1.same_lists) (cells_die (total old.shape) old.medium new.medium block (fails.NoBlock blocks) p.0)
+  fail_lasts block fails.Failed p = dies_stays old new version sizes same s (λ on. absurd (p.0.1.turns_off on)) (λ on. absurd (p.0.1.turns_off on)) (cells_die (total old.shape) old.medium new.medium block fails.Failed p.0)
+
+  still_lasts : new.lists ≡ old.lists → new.medium.world ≡ old.medium.world → StaysFormatted new version sizes
+  still_lasts kept world = dies_stays old new version sizes same s (λ on. subst (λ (w : World). IsTrue w.power) world on) (λ on. kept) (λ block. inl (ap (λ (w : World). cell_at w.cells block) world))
+
+-- over calls of the disc, one after another
+abbrev StaysOn : Version → List ℕ → Bool → Shown → Shown → Type 0
+StaysOn version sizes faulted a b = (shape : Shape) → IsWell shape a × StaysFormatted a version sizes → IsWell shape b × StaysFormatted b version sizes
+
+stays_on : (version : Version) (sizes : List ℕ) → HoldsOfChains (StaysOn version sizes)
+stays_on version sizes = record {
+  none = λ s shape on. on;
+  join = λ faulted a b c first then shape on. then shape (first shape on);
+  read = λ a b lba n out leaves cause shape on.
+      let known = (read_kept a b lba n out cause).as_known ∙ on.0.known in (
+        record { sound = leaves.sound; known = known; same_shape = leaves.same_shape ∙ on.0.same_shape },
+        read_stays a b version sizes leaves.same_shape on.1 leaves.sound known lba n out cause,
+      );
+  write = λ a b lba n out leaves cause shape on.
+      let known = (write_kept a b lba n out cause).as_known ∙ on.0.known in (
+        record { sound = leaves.sound; known = known; same_shape = leaves.same_shape ∙ on.0.same_shape },
+        write_stays a b version sizes leaves.same_shape on.1 leaves.sound known on.0.sound on.0.known lba n out cause,
+      );
+}
+
+module _ (old new : CacheShown) (same : new.drive.shape ≡ old.drive.shape) (was_sound : IsSound old.drive) (sound : IsSound new.drive) (was_known : IsKnown old.drive) (is_known : IsKnown new.drive)
+    (version : Version) (sizes : List ℕ) (s : StaysFormatted old.drive version sizes) (before after : Contents → Type 0) where
+  was_on : IsWell old.drive.shape old.drive × StaysFormatted old.drive version sizes
+  was_on = (record { sound = was_sound; known = was_known; same_shape = refl }, s)
+
+  as_sized : {leaves : Type 0} → StaysFormatted new.drive version sizes → LastsOn new.drive version sizes leaves
+  as_sized stays = (sizes, stays, λ _. refl)
+
+  untouched_lasts : {leaves : Type 0} → new ≡ old → LastsOn new.drive version sizes leaves
+  untouched_lasts is = as_sized (subst (λ (x : CacheShown). StaysFormatted x.drive version sizes) (sym is) s)
+
+  written_lasts : (lba n : ℕ) (payload : List ℕ) (fua : Bool) (out : WriteOut) → WrittenCause old new lba n payload fua out → StaysFormatted new.drive version sizes
+  written_lasts lba n payload true out cause = (of_through (StaysOn version sizes) (stays_on version sizes) lba n old new out cause old.drive.shape was_on).1
+  written_lasts lba n payload false out cause = (of_write (StaysOn version sizes) (stays_on version sizes) lba n payload old new out cause old.drive.shape was_on).1
+
+  told_lasts : (structure : Bool) (alloc : ℕ) (answer : Answer) (data_in : List ℕ) {leaves : Type 0}
+      → MatchBool structure (TellsStructure old new before after alloc answer data_in) (TellsSpares old new before after alloc answer data_in) → LastsOn new.drive version sizes leaves
+  told_lasts true alloc answer data_in p = untouched_lasts p.is_answered.untouched.same
+  told_lasts false alloc answer data_in p = untouched_lasts p.untouched.same
+
+  done_lasts : (host : Host) (payload : List ℕ) (command : Command) (answer : Answer) (data_in : List ℕ) → KeepsAsAsked command → IsDone old new before after host payload command answer data_in
+      → LastsOn new.drive version sizes (AsksNoExpansion (Ok command))
+  done_lasts host payload commands.TestUnitReady answer data_in keeps p = untouched_lasts p.untouched.same
+  done_lasts host payload (commands.RequestSense alloc) answer data_in keeps p = untouched_lasts p.untouched.same
+  done_lasts host payload (commands.Format (kinds.Full drop_sdl)) answer data_in keeps p = absurd keeps
+  done_lasts host payload (commands.Format kinds.Rewrite) answer data_in keeps p = as_sized (format_stays old.drive new.drive version sizes same s sound is_known was_sound was_known p.out p.cause.0)
+  done_lasts host payload (commands.Expand sectors) answer data_in keeps p = (ssa_for old.drive.shape sectors ∷ sizes, expand_stays old.drive new.drive version sizes same s sound is_known was_sound was_known sectors p.out p.cause.0, λ none. absurd none)
+  done_lasts host payload (commands.Inquiry alloc) answer data_in keeps p = untouched_lasts p.untouched.same
+  done_lasts host payload (commands.StartStop start eject) answer data_in keeps p = untouched_lasts p.untouched.same
+  done_lasts host payload (commands.Prevent on) answer data_in keeps p = untouched_lasts p.untouched.same
+  done_lasts host payload (commands.FormatCapacities alloc) answer data_in keeps p = untouched_lasts p.untouched.same
+  done_lasts host payload commands.ReadCapacity answer data_in keeps p = untouched_lasts p.untouched.same
+  done_lasts host payload (commands.Read lba n) answer data_in keeps p = as_sized (of_read (StaysOn version sizes) (stays_on version sizes) lba n old new p.out p.cause old.drive.shape was_on).1
+  done_lasts host payload (commands.Write lba n fua) answer data_in keeps p = as_sized (written_lasts lba n payload fua p.out p.cause)
+  done_lasts host payload (commands.Verify lba n) answer data_in keeps p = as_sized (verify_stays old.drive new.drive version sizes same s sound is_known lba n p.out p.cause.0)
+  done_lasts host payload commands.Synchronize answer data_in keeps p = as_sized (of_sync (StaysOn version sizes) (stays_on version sizes) old new p.out p.cause old.drive.shape was_on).1
+  done_lasts host payload (commands.Configuration rt start alloc) answer data_in keeps p = untouched_lasts p.untouched.same
+  done_lasts host payload commands.ModeSelect answer data_in keeps p = as_sized (subst (λ (x : CacheShown). StaysFormatted x.drive version sizes) (sym p.mode) s)
+  done_lasts host payload (commands.ModeSense control page alloc) answer data_in keeps p = untouched_lasts p.untouched.same
+  done_lasts host payload (commands.Structure format alloc) answer data_in keeps p = told_lasts (format == 0x08) alloc answer data_in p
+
+  judged_lasts : (host : Host) (formatted : Bool) (cdb payload : List ℕ) (judged : Result Command Sense) (answer : Answer) (data_in : List ℕ) → IsJudged host formatted cdb payload judged
+      → IsAnsweredBy old new before after host payload judged answer data_in → KeepsAsDecoded (decoded cdb payload) → LastsOn new.drive version sizes (AsksNoExpansion (decoded cdb payload))
+  judged_lasts host formatted cdb payload (Err why) answer data_in judged p keeps = untouched_lasts p.untouched.same
+  judged_lasts host formatted cdb payload (Ok command) answer data_in judged p keeps =
+      let asks : decoded cdb payload ≡ Ok command = asks_for host formatted cdb payload command judged in
+      subst (λ (d : Result Command Sense). LastsOn new.drive version sizes (AsksNoExpansion d)) (sym asks)
+      (done_lasts host payload command answer data_in (subst KeepsAsDecoded asks keeps) p)
+
+  command_lasts : (host later : Host) (cdb payload : List ℕ) (answer : Answer) (data_in : List ℕ) → ExecutesTo old new before after host later cdb payload answer data_in
+      → KeepsAsDecoded (decoded cdb payload) → LastsOn new.drive version sizes (AsksNoExpansion (decoded cdb payload))
+  command_lasts host later cdb payload answer data_in (inl off) keeps = untouched_lasts off.1.is_answered.untouched.same
+  command_lasts host later cdb payload answer data_in (inr on) keeps =
+      judged_lasts host (is_some old.drive.lists) cdb payload on.1.judged answer data_in on.1.is_judged on.1.is_answered keeps
+
+  line_lasts : (host later : Host) (line : Line) (payload : List ℕ) (outcome : Outcome) (data_in : List ℕ) → DiscRule old new before after host later line payload outcome data_in
+      → KeepsDisc line payload → KeepsTwoCopies new.drive version → LastsOn new.drive version sizes (LeavesCapacity line payload)
+  line_lasts host later lines.Power payload outcome data_in p keeps two = as_sized (power_stays old.drive new.drive version sizes same s sound is_known was_known p.0.out p.0.powered.cause.0 two).0
+  line_lasts host later (lines.Fail block) payload outcome data_in p keeps two = as_sized (fail_lasts old.drive new.drive same version sizes s block p.0.end p.0.rule)
+  line_lasts host later (lines.Wear block n) payload outcome data_in p keeps two =
+      as_sized (still_lasts old.drive new.drive same version sizes s p.0.keeps.memory.same_lists (worn_world _ old.drive.medium new.drive.medium (record { block = block; left = n }) p.0.end p.0.rule))
+  line_lasts host later (lines.Cut n fate) payload outcome data_in p keeps two = as_sized (still_lasts old.drive new.drive same version sizes s p.0.keeps.memory.same_lists (ap (λ (m : Machine). m.world) p.0.armed))
+  line_lasts host later lines.Tick payload outcome data_in p keeps two = as_sized (of_tick (StaysOn version sizes) (stays_on version sizes) old new p.0.out p.0.cause old.drive.shape was_on).1
+  line_lasts host later (lines.Command cdb) payload outcome data_in p keeps two = command_lasts host later cdb payload p.answer data_in p.step keeps
+  line_lasts host later _ payload outcome data_in p keeps two = absurd p
+
+-- ---- states
+
+abbrev pub Lasts : State → Version → List ℕ → Type 0 → Type 0
+Lasts t version sizes leaves = (later : List ℕ) × LastsNow t version later × (leaves → later ≡ sizes)
+
+stays_same : (s t : State) (version : Version) (sizes : List ℕ) {leaves : Type 0} → t ≡ s → LastsNow s version sizes → Lasts t version sizes leaves
+stays_same s t version sizes is lasts = (sizes, subst (λ (x : State). LastsNow x version sizes) (sym is) lasts, λ _. refl)
+
+on_disc_lasts : (s : Served) (t : State) (line : Line) (payload : List ℕ) (outcome : Outcome) (data_in : List ℕ) (version : Version) (sizes : List ℕ) → OnDisc (Disc s) line payload outcome data_in t
+    → KeepsDisc line payload → HasTwoCopies t version → LastsNow (Disc s) version sizes → Lasts t version sizes (LeavesCapacity line payload)
+on_disc_lasts s (Unopened bytes) line payload outcome data_in version sizes step keeps two lasts = absurd step
+on_disc_lasts s (Disc t) line payload outcome data_in version sizes step keeps two lasts =
+    line_lasts s.disc.shown t.disc.shown step.same_shape s.disc.sound t.disc.sound (contents_known s.disc.shown s.disc.contents s.disc.stands) (contents_known t.disc.shown t.disc.contents t.disc.stands) version sizes lasts
+    (λ x. x ≡ s.disc.contents) (λ x. x ≡ t.disc.contents) s.host t.host line payload outcome data_in step.rule keeps two
+
+pub step_lasts : (s t : State) (line : Line) (payload data_in : List ℕ) (outcome : Outcome) (version : Version) (sizes : List ℕ) → Step s line payload outcome data_in t
+    → KeepsDisc line payload → HasTwoCopies t version → LastsNow s version sizes → Lasts t version sizes (LeavesCapacity line payload)
+step_lasts (Unopened bytes) t line payload data_in outcome version sizes step keeps two lasts = absurd lasts
+step_lasts (Disc s) t lines.Empty payload data_in outcome version sizes step keeps two lasts = stays_same (Disc s) t version sizes step.2 lasts
+step_lasts (Disc s) t (lines.Press zones scale psa) payload data_in outcome version sizes step keeps two lasts =
+    stays_same (Disc s) t version sizes (not_pressed (Disc s) t (shape_of zones scale psa) outcome step.0 keeps) lasts
+step_lasts (Disc s) t line payload data_in outcome version sizes step keeps two lasts = on_disc_lasts s t line payload outcome data_in version sizes step keeps two lasts
+
+on_disc_two : (s t : State) (line : Line) (payload : List ℕ) (outcome : Outcome) (data_in : List ℕ) (version : Version) → OnDisc s line payload outcome data_in t
+    → HasTwoCopies t version → HasTwoCopies s version
+on_disc_two (Unopened bytes) t line payload outcome data_in version step two = subst (λ (x : State). HasTwoCopies x version) step.2 two
+on_disc_two (Disc s) (Unopened bytes) line payload outcome data_in version step two = absurd two
+on_disc_two (Disc s) (Disc t) line payload outcome data_in version step two = two_before s.disc.shown.drive t.disc.shown.drive version step.same_shape
+    (line_dead s.disc.shown t.disc.shown (λ x. x ≡ s.disc.contents) (λ x. x ≡ t.disc.contents) s.host t.host line payload outcome data_in step.rule) two
+
+-- what has two copies after a line had them before it
+step_two : (s t : State) (line : Line) (payload data_in : List ℕ) (outcome : Outcome) (version : Version) → Step s line payload outcome data_in t → KeepsDisc line payload
+    → HasTwoCopies t version → HasTwoCopies s version
+step_two s t lines.Empty payload data_in outcome version step keeps two = subst (λ (x : State). HasTwoCopies x version) step.2 two
+step_two s t (lines.Press zones scale psa) payload data_in outcome version step keeps two =
+    subst (λ (x : State). HasTwoCopies x version) (not_pressed s t (shape_of zones scale psa) outcome step.0 keeps) two
+step_two s t line payload data_in outcome version step keeps two = on_disc_two s t line payload outcome data_in version step two
+
+-- ---- a run
+
+abbrev Keeps : AnsweredStep → Type 0
+Keeps event = KeepsDisc event.line event.payload
+
+abbrev Leaves : AnsweredStep → Type 0
+Leaves event = LeavesCapacity event.line event.payload
+
+run_two : (s t : State) (events : List AnsweredStep) (version : Version) → Run s events t → KeepDisc events → HasTwoCopies t version → HasTwoCopies s version
+run_two s t [] version run keeps two = subst (λ (x : State). HasTwoCopies x version) run two
+run_two s t (event ∷ events) version run keeps two =
+    run_two s run.0 events version run.1 (All-tail Keeps event events keeps)
+    (step_two run.0 t event.line event.payload event.data_in (Ok event.reply) version run.2 (All-head Keeps event events keeps) two)
+
+pub run_lasts : (s t : State) (events : List AnsweredStep) (version : Version) (sizes : List ℕ) → Run s events t → KeepDisc events → HasTwoCopies t version → LastsNow s version sizes
+    → Lasts t version sizes (LeaveCapacity events)
+run_lasts s t [] version sizes run keeps two lasts = stays_same s t version sizes run lasts
+run_lasts s t (event ∷ events) version sizes run keeps two lasts =
+    let first = All-head Keeps event events keeps in
+    let earlier = run_lasts s run.0 events version sizes run.1 (All-tail Keeps event events keeps)
+    (step_two run.0 t event.line event.payload event.data_in (Ok event.reply) version run.2 first two) lasts in
+    let last = step_lasts run.0 t event.line event.payload event.data_in (Ok event.reply) version earlier.0 run.2 first two earlier.1 in
+    (last.0, last.1, λ leaves. last.2 (All-head Leaves event events leaves) ∙ earlier.2 (All-tail Leaves event events leaves))
+
+-- ---- a disc of its geometry stays in the drive
+
+abbrev HasShape : Shape → State → Type 0
+HasShape shape (Unopened bytes) = ⊥
+HasShape shape (Disc s) = s.disc.shown.drive.shape ≡ shape
+
+in_use_shape : (s : State) (lists : Lists) → HasInUse s lists → (shape : Shape) × HasShape shape s
+in_use_shape (Unopened bytes) lists is = absurd is
+in_use_shape (Disc s) lists is = (s.disc.shown.drive.shape, refl)
+
+module _ (shape : Shape) where
+  on_disc_shape : (s : Served) (t : State) (line : Line) (payload : List ℕ) (outcome : Outcome) (data_in : List ℕ) → OnDisc (Disc s) line payload outcome data_in t → s.disc.shown.drive.shape ≡ shape → HasShape shape t
+  on_disc_shape s (Unopened bytes) line payload outcome data_in step has = absurd step
+  on_disc_shape s (Disc t) line payload outcome data_in step has = step.same_shape ∙ has
+
+  step_shape : (s t : State) (line : Line) (payload data_in : List ℕ) (outcome : Outcome) → Step s line payload outcome data_in t → KeepsDisc line payload → HasShape shape s → HasShape shape t
+  step_shape (Unopened bytes) t line payload data_in outcome step keeps has = absurd has
+  step_shape (Disc s) t lines.Empty payload data_in outcome step keeps has = subst (HasShape shape) (sym step.2) has
+  step_shape (Disc s) t (lines.Press zones scale psa) payload data_in outcome step keeps has = subst (HasShape shape) (sym (not_pressed (Disc s) t (shape_of zones scale psa) outcome step.0 keeps)) has
+  step_shape (Disc s) t line payload data_in outcome step keeps has = on_disc_shape s t line payload outcome data_in step has
+
+  run_shape : (s t : State) (events : List AnsweredStep) → Run s events t → KeepDisc events → HasShape shape s → HasShape shape t
+  run_shape s t [] run keeps has = subst (HasShape shape) (sym run) has
+  run_shape s t (event ∷ events) run keeps has =
+      step_shape run.0 t event.line event.payload event.data_in (Ok event.reply) run.2 (All-head Keeps event events keeps) (run_shape s run.0 events run.1 (All-tail Keeps event events keeps) has)
+
+-- ---- the beginning, and the image that is handed back
+
+pub now_begins : (s : State) (lists : Lists) → HasInUse s lists → LastsNow s lists.sdl.version (lists.sdl.ssa ∷ [])
+now_begins (Unopened bytes) lists is = absurd is
+now_begins (Disc s) lists is = begins s.disc.shown.drive lists s.disc.sound (contents_known s.disc.shown s.disc.contents s.disc.stands) is
+
+-- an image of these cells, opened
+same_cells : (s t : Served) (bytes : List ℕ) → IsLeft (Disc s) bytes → IsFirst bytes (Disc t) → (t.disc.shown.drive.shape ≡ s.disc.shown.drive.shape) × (cells_in t.disc.shown.drive ≡ cells_in s.disc.shown.drive) × ¬ IsOn t.disc.shown.drive
+same_cells s t bytes left first =
+    let image = image_left s bytes left in
+    let shape : first.0 ≡ s.disc.shown.drive.shape = one_header first.0 s.disc.shown.drive.shape bytes first.1.has_header image.disc.has_header in (
+      ap (λ (x : CacheShown). x.drive.shape) first.2.opened.shown_is ∙ shape,
+      ap (λ (x : CacheShown). cells_in x.drive) first.2.opened.shown_is ∙ ap (λ (z : Shape). cells_of (total z) bytes) shape ∙ image.cells_are,
+      λ on. (let off : false ≡ true = subst (λ (x : CacheShown). IsOn x.drive) first.2.opened.shown_is on in cc),
+    )
+
+pub image_lasts : (s t : State) (bytes : List ℕ) (version : Version) (sizes : List ℕ) → LastsNow s version sizes → IsLeft s bytes → IsFirst bytes t → LastsNow t version sizes
+image_lasts (Unopened held) t bytes version sizes lasts left first = absurd lasts
+image_lasts (Disc s) (Unopened held) bytes version sizes lasts left first = absurd (first.1 s.disc.shown.drive.shape (image_left s bytes left).disc)
+image_lasts (Disc s) (Disc t) bytes version sizes lasts left first =
+    let same = same_cells s t bytes left first in
+    dies_stays s.disc.shown.drive t.disc.shown.drive version sizes same.0 lasts (λ on. absurd (same.2 on)) (λ on. absurd (same.2 on)) (λ block. inl (ap (λ (cells : List Cell). cell_at cells block) same.1))
+
+image_two : (shape : Shape) (s t : State) (bytes : List ℕ) (version : Version) → HasShape shape s → IsLeft s bytes → IsFirst bytes t → HasTwoCopies t version → HasTwoCopies s version
+image_two shape (Unopened held) t bytes version has left first two = absurd has
+image_two shape (Disc s) (Unopened held) bytes version has left first two = absurd two
+image_two shape (Disc s) (Disc t) bytes version has left first two =
+    let same = same_cells s t bytes left first in
+    two_before s.disc.shown.drive t.disc.shown.drive version same.0 (λ block dead. ap (λ (cells : List Cell). cell_at cells block) same.1 ∙ dead) two
+
+-- ---- a `power` line
+
+ready_or_cut : (shape : Shape) (sizes : List ℕ) (out : PowerOut) (reply : Reply) → TellsSize shape sizes out → Ok reply ≡ power_outcome out → IsReadyOrCut reply
+ready_or_cut shape sizes (powers.Ready known) reply tells is = subst IsReadyOrCut (let same : replies.Event (events.Ready known) ≡ reply = cc in same) tt
+ready_or_cut shape sizes powers.NotFormatted reply tells is = absurd tells
+ready_or_cut shape sizes powers.Cut reply tells is = subst IsReadyOrCut (let same : replies.Event events.Cut ≡ reply = cc in same) tt
+ready_or_cut shape sizes powers.Fault reply tells is = absurd cc
+ready_or_cut shape sizes powers.NoMemory reply tells is = absurd cc
+
+-- what it told of the sizes, and its answer
+pub record PowersOn (shape : Shape) (sizes : List ℕ) (reply : Reply) : Type 0 where
+  pub out : PowerOut
+  pub tells : TellsSize shape sizes out
+  pub outcome_is : Ok reply ≡ power_outcome out
+
+power_on_disc : (s : Served) (t : State) (reply : Reply) (payload data_in : List ℕ) (version : Version) (sizes : List ℕ) → OnDisc (Disc s) lines.Power payload (Ok reply) data_in t
+    → HasTwoCopies t version → StaysFormatted s.disc.shown.drive version sizes → PowersOn s.disc.shown.drive.shape sizes reply
+power_on_disc s (Unopened bytes) reply payload data_in version sizes step two lasts = absurd step
+power_on_disc s (Disc t) reply payload data_in version sizes step two lasts = record {
+  out = step.rule.0.out;
+  tells = (power_stays s.disc.shown.drive t.disc.shown.drive version sizes step.same_shape lasts t.disc.sound (contents_known t.disc.shown t.disc.contents t.disc.stands)
+      (contents_known s.disc.shown s.disc.contents s.disc.stands) step.rule.0.out step.rule.0.powered.cause.0 two).1;
+  outcome_is = step.rule.0.outcome_is;
+}
+
+power_line : (s : Served) (t : State) (event : AnsweredStep) (version : Version) (sizes : List ℕ) → StaysFormatted s.disc.shown.drive version sizes → IsStep (Disc s) event t → event.line ≡ lines.Power
+    → HasTwoCopies t version → PowersOn s.disc.shown.drive.shape sizes event.reply
+power_line s t event version sizes lasts step is two =
+    power_on_disc s t event.reply event.payload event.data_in version sizes (subst (λ (line : Line). Step (Disc s) line event.payload (Ok event.reply) event.data_in t) is step) two lasts
+
+pub power_lasts : (s t : State) (event : AnsweredStep) (version : Version) (sizes : List ℕ) → LastsNow s version sizes → IsStep s event t → event.line ≡ lines.Power → HasTwoCopies t version → IsReadyOrCut event.reply
+power_lasts (Unopened bytes) t event version sizes lasts step is two = absurd lasts
+power_lasts (Disc s) t event version sizes lasts step is two =
+    let on = power_line s t event version sizes lasts step is two in
+    ready_or_cut s.disc.shown.drive.shape sizes on.out event.reply on.tells on.outcome_is
+
+-- ---- whole runs
+
+-- the sizes and the state before a `power` line at the end of a run
+before_power : (s t u : State) (events : List AnsweredStep) (event : AnsweredStep) (version : Version) (sizes : List ℕ) → LastsNow s version sizes → Run s events t → KeepDisc events → IsStep t event u
+    → event.line ≡ lines.Power → HasTwoCopies u version → Lasts t version sizes (LeaveCapacity events)
+before_power s t u events event version sizes lasts run keeps step is two =
+    run_lasts s t events version sizes run keeps (step_two t u event.line event.payload event.data_in (Ok event.reply) version step (subst (λ (line : Line). KeepsDisc line event.payload) (sym is) tt) two) lasts
+
+pub ready_at_the_end : (s t u : State) (lists : Lists) (events : List AnsweredStep) (event : AnsweredStep) → HasInUse s lists → Run s events t → KeepDisc events → IsStep t event u
+    → event.line ≡ lines.Power → HasTwoCopies u lists.sdl.version → IsReadyOrCut event.reply
+ready_at_the_end s t u lists events event in_use run keeps step is two =
+    let lasts = before_power s t u events event lists.sdl.version (lists.sdl.ssa ∷ []) (now_begins s lists in_use) run keeps step is two in
+    power_lasts t u event lists.sdl.version lasts.0 lasts.1 step is two
+
+pub ready_again : (s t u v w : State) (lists : Lists) (earlier later : List AnsweredStep) (event : AnsweredStep) (image : List ℕ) → HasInUse s lists → Run s earlier t → KeepDisc earlier → IsLeft t image
+    → IsFirst image u → Run u later v → KeepDisc later → IsStep v event w → event.line ≡ lines.Power → HasTwoCopies w lists.sdl.version → IsReadyOrCut event.reply
+ready_again s t u v w lists earlier later event image in_use run keeps left first run' keeps' step is two =
+    let two_v = step_two v w event.line event.payload event.data_in (Ok event.reply) lists.sdl.version step (subst (λ (line : Line). KeepsDisc line event.payload) (sym is) tt) two in
+    let two_u = run_two u v later lists.sdl.version run' keeps' two_v in
+    let of_shape = in_use_shape s lists in_use in
+    let two_t = image_two of_shape.0 t u image lists.sdl.version (run_shape of_shape.0 s t earlier run keeps of_shape.1) left first two_u in
+    let one = run_lasts s t earlier lists.sdl.version (lists.sdl.ssa ∷ []) run keeps two_t (now_begins s lists in_use) in
+    let opened = image_lasts t u image lists.sdl.version one.0 one.1 left first in
+    let other = run_lasts u v later lists.sdl.version one.0 run' keeps' two_v opened in
+    power_lasts v w event lists.sdl.version other.0 other.1 step is two
+
+-- the capacity that is told is that of one size
+only_one : (one other : ℕ) → Contains (one ∷ []) other → other ≡ one
+only_one one other (zero, within, is) = sym is
+only_one one other (suc k, within, is) = absurd (omega (arith, within))
+
+told_size : (shape : Shape) (ssa : ℕ) (out : PowerOut) (known : ℕ) → TellsSize shape (ssa ∷ []) out → Ok (replies.Event (events.Ready known)) ≡ power_outcome out → known ≡ count_of shape ssa * 16
+told_size shape ssa (powers.Ready told) known tells is =
+    let same : known ≡ told = cc in
+    same ∙ tells.2 ∙ ap (λ (n : ℕ). count_of shape n * 16) (only_one ssa tells.0 tells.1)
+told_size shape ssa powers.NotFormatted known tells is = absurd tells
+told_size shape ssa powers.Cut known tells is = absurd cc
+told_size shape ssa powers.Fault known tells is = absurd cc
+told_size shape ssa powers.NoMemory known tells is = absurd cc
+
+power_size : (shape : Shape) (s u : State) (event : AnsweredStep) (version : Version) (ssa known : ℕ) → HasShape shape s → LastsNow s version (ssa ∷ []) → IsStep s event u → event.line ≡ lines.Power
+    → HasTwoCopies u version → event.reply ≡ replies.Event (events.Ready known) → known ≡ count_of shape ssa * 16
+power_size shape (Unopened bytes) u event version ssa known has lasts step is two told = absurd has
+power_size shape (Disc s) u event version ssa known has lasts step is two told =
+    let on = power_line s u event version (ssa ∷ []) lasts step is two in
+    told_size shape ssa on.out known (subst (λ (z : Shape). TellsSize z (ssa ∷ []) on.out) has on.tells) (ap Ok (sym told) ∙ on.outcome_is)
+
+pub capacity_at_the_end : (s : Served) (t u : State) (lists : Lists) (earlier : List AnsweredStep) (event : AnsweredStep) (known : ℕ) → HasInUse (Disc s) lists → Run (Disc s) earlier t → KeepDisc earlier
+    → LeaveCapacity earlier → IsStep t event u → event.line ≡ lines.Power → HasTwoCopies u lists.sdl.version → event.reply ≡ replies.Event (events.Ready known)
+    → known ≡ capacity_of s.disc.shown.drive.shape lists
+capacity_at_the_end s t u lists earlier event known in_use run keeps leaves step is two told =
+    let lasts = before_power (Disc s) t u earlier event lists.sdl.version (lists.sdl.ssa ∷ []) (now_begins (Disc s) lists in_use) run keeps step is two in
+    power_size s.disc.shown.drive.shape t u event lists.sdl.version lists.sdl.ssa known (run_shape s.disc.shown.drive.shape (Disc s) t earlier run keeps refl)
+    (subst (LastsNow t lists.sdl.version) (lasts.2 leaves) lasts.1) step is two told

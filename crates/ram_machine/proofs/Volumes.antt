@@ -1,0 +1,32 @@
+-- What a write cache over a volume over the medium in an image is as a drive of a run.
+use Rattle.std.specs.Prelude.{◌≡◌, ℕ, Bool, false, List, [], ◌∷◌}
+use Rattle.std.proofs.Common.{refl}
+use Rattle.model_sectors.specs.Discs.{Standing, On, Off}
+use Rattle.model_drive.specs.Shown.{Shown, StandsFor}
+use Rattle.model_cache.specs.Plain.{uncached}
+use Rattle.model_cache.specs.Shown.{CacheShown}
+use Rattle.model_cache.specs.Values.{Contents, Has, MayHave, StandsCached}
+use Rattle.ram_medium.specs.declared.control.FailEnd.{FailEnd}
+use Rattle.ram_medium.specs.declared.control.FailEnd.TheVariants as fails
+use Rattle.ram_volume.specs.Control.{FailStands}
+use Rattle.ram_machine.specs.Control.{contents_after_fail}
+
+module _ (old new : Shown) (pending : List (ℕ × List ℕ)) where
+  -- what the disc stands for stays, so what the drive with the cache stands for does
+  pub cached_stays : (s : Contents) → ((t : Standing) → StandsFor old t → StandsFor new t) → StandsCached (StandsFor old) pending s → StandsCached (StandsFor new) pending s
+  cached_stays (Has v) keeps stands = (stands.0, keeps (On stands.0) stands.1, stands.2)
+  cached_stays (MayHave all) keeps stands = (stands.0, keeps (Off stands.0) stands.1, stands.2)
+
+  -- a block was made dead: the same, and where the power went off the disc below is one that is taken from the values
+  pub cached_fails : (s : Contents) (end : FailEnd) → ((t : Standing) → StandsFor old t → FailStands new t end) → StandsCached (StandsFor old) pending s
+      → StandsCached (StandsFor new) pending (contents_after_fail s end)
+  cached_fails (Has v) fails.Done falls stands = (stands.0, falls (On stands.0) stands.1, stands.2)
+  cached_fails (Has v) (fails.NoBlock blocks) falls stands = (stands.0, falls (On stands.0) stands.1, stands.2)
+  cached_fails (Has v) fails.Failed falls stands = (stands.0 ∷ [], falls (On stands.0) stands.1, (stands.2.taken, refl))
+  cached_fails (MayHave all) fails.Done falls stands = (stands.0, falls (Off stands.0) stands.1, stands.2)
+  cached_fails (MayHave all) (fails.NoBlock blocks) falls stands = (stands.0, falls (Off stands.0) stands.1, stands.2)
+  cached_fails (MayHave all) fails.Failed falls stands = (stands.0, falls (Off stands.0) stands.1, stands.2)
+
+-- a cache that was just made over a drive is off, and nothing is pending
+pub fresh_cache : (drive shown : Shown) (p : List (ℕ × List ℕ)) (on : Bool) → drive ≡ shown → p ≡ [] → on ≡ false → (let cached : CacheShown = record { drive = drive; pending = p; caches = on } in cached) ≡ uncached shown
+fresh_cache drive shown p on is none off = rw (is, none, off) refl

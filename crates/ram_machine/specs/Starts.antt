@@ -1,0 +1,31 @@
+-- What a run begins with. For the call that opens the image of a run.
+use Rattle.std.specs.Prelude.{◌≡◌, ℕ, Option, Some, Result, Ok, Err, List}
+use Rattle.model_counts.specs.Counts.{Rose}
+use Rattle.ram_outside.specs.declared.image.Image.{Ghosts as Images}
+use Rattle.ram_sectors.specs.declared.caching.Caching.{Ghosts as Drives}
+use Rattle.ram_machine.specs.declared.inserted.Inserted.{Inserted}
+use Rattle.ram_machine.specs.declared.stopped.Stopped.{Stopped}
+use Rattle.ram_machine.specs.declared.stopped.Stopped.TheVariants as stopped
+use Rattle.ram_machine.specs.States.{State, IsFirst}
+use Rattle.ram_machine.specs.Inserted.{Stands, faults_of}
+
+-- The inserted disc stands for what a run over these bytes begins with. (This project's own, as all here.)
+pub record StandsFirst (bytes : List ℕ) (stands : State → Type 0) : Type 0 where
+  pub state : State
+  pub first : IsFirst bytes state
+  pub stands_first : stands state
+
+-- why a run stops before its first line: the image failed and counted it, or there was no memory
+abbrev pub StartCount : ℕ → ℕ → Stopped → Type 0
+StartCount faults faults' stopped.ImageFault = Rose faults faults'
+StartCount faults faults' stopped.NoMemory = faults' ≡ faults
+StartCount faults faults' _ = ⊥
+
+module _ {D I : Type 0} (drives : Drives D) (lies_in : D → Option (List ℕ)) (images : Images I) where
+  -- What a run begins with, or why it stops; then the image has the bytes that it had.
+  abbrev pub StartRule : I → Result (Inserted D I) (I × Stopped) → Type 0
+  StartRule image (Ok inserted) =
+      ((bytes : List ℕ) → images.bytes image ≡ Some bytes → StandsFirst bytes (Stands drives lies_in images inserted))
+      × (faults_of drives images inserted ≡ images.faults image)
+  StartRule image (Err refused) =
+      (images.bytes refused.0 ≡ images.bytes image) × StartCount (images.faults image) (images.faults refused.0) refused.1

@@ -1,0 +1,74 @@
+//! A drive as the lines of a script work with it: a disc, and what a script does to the medium below it.
+ghost use Rattle.std.specs.Prelude.{◌≡◌, ℕ, ◌≤◌, Option, List, MatchResult};
+ghost use Rattle.model_geometry.specs.Geometry.{total};
+ghost use Rattle.model_cache.specs.Values.{Contents};
+ghost use Rattle.model_cache.specs.Causes.{KeepsCache};
+ghost use Rattle.ram_image.specs.EventBytes.{FailBytes};
+ghost use Rattle.ram_image.specs.Opening.{IsRefused};
+ghost use Rattle.ram_medium.specs.Control.{WearRule, with_armed_cut};
+ghost use Rattle.ram_volume.specs.Control.{KeepsMemory, FailOnDrive};
+ghost use Rattle.ram_machine.specs.Drive.{OpensDrive, DriveLaws};
+ghost use Rattle.ram_machine.specs.Control.{contents_after_fail};
+
+use ram_image::OpenFault;
+use ram_medium::{Arm, FailEnd, Fate};
+use ram_outside::Image;
+use ram_sectors::Caching;
+use std::alloc::Global;
+
+/// A drive with a write cache over a medium that lies in an image, and that can be made to fail. What is done to the medium
+/// leaves the cache as it is.
+pub trait Drive: Caching {
+    /// The image.
+    type Image: Image;
+
+    /// The bytes of the image, also those under cells that are not good, where they are known.
+    ghost lies_in: { Self → Option (List ℕ) };
+
+    /// The drive over the disc that the image holds, with the power off. Else the image is handed back with the bytes
+    /// that it had, and the reason: it has no disc's header or length, it failed, or there was no memory.
+    fn open(alloc: Global, image: Self::Image) -> Result<Self, (Self::Image, OpenFault)>
+        ensures { MatchResult result (λ drive. OpensDrive (Self.Image.bytes image)
+            (Self.Image.faults image) (Self.shows drive) (Self.stands drive) (lies_in drive))
+            (λ refused. IsRefused (Self.Image.bytes image) (Self.Image.bytes refused.0)
+            (Self.Image.faults image) (Self.Image.faults refused.0) refused.1) };
+
+    /// The image, with the bytes in which the drive lay.
+    fn into_image(self) -> Self::Image
+        ensures count { Self.Image.faults result ≡ (Self.shows self).drive.medium.world.faults }
+        ensures bytes { Self.Image.bytes result ≡ lies_in self };
+
+    /// Makes block `block` of the medium dead, counted from 0, with the power on or off: `Done`. There is no such block:
+    /// `NoBlock`, with how many there are. The image failed: `Failed`, and the power is off. What is kept in memory stays,
+    /// unless the power goes off.
+    fn fail(&mut self, block: u32) -> FailEnd
+        ensures rule { FailOnDrive (Self.shows self.old).drive (Self.shows self.new).drive block result }
+        ensures cache { KeepsCache (Self.shows self.old) (Self.shows self.new) }
+        ensures bytes { FailBytes block (lies_in self.old) (lies_in self.new) result }
+        ensures stands { (s : Contents) → Self.stands self.old s
+            → Self.stands self.new (contents_after_fail s result) };
+
+    /// Makes block `block` of the medium dead at its `n`-th use from now on, the next one being the first: `Set`. There
+    /// is no such block: `NoBlock`. As many arms stand as can, 64: `Full`.
+    fn wear(&mut self, block: u32, n: u32) -> Arm
+        requires { 1 ≤ n }
+        ensures rule { WearRule (total (Self.shows self.old).drive.shape) (Self.shows self.old).drive.medium
+            (Self.shows self.new).drive.medium (record { block = block; left = n }) result }
+        ensures bytes { lies_in self.new ≡ lies_in self.old }
+        ensures keeps { KeepsMemory (Self.shows self.old).drive (Self.shows self.new).drive }
+        ensures cache { KeepsCache (Self.shows self.old) (Self.shows self.new) }
+        ensures stands { (s : Contents) → Self.stands self.old s → Self.stands self.new s };
+
+    /// Cuts the power at the `n`-th use of any block from now on, the next one being the first, with this fate of a write
+    /// that is cut. The cut takes the place of one that was armed.
+    fn arm_cut(&mut self, n: u32, fate: Fate)
+        requires { 1 ≤ n }
+        ensures rule { (Self.shows self.new).drive.medium
+            ≡ with_armed_cut n fate (Self.shows self.old).drive.medium }
+        ensures bytes { lies_in self.new ≡ lies_in self.old }
+        ensures keeps { KeepsMemory (Self.shows self.old).drive (Self.shows self.new).drive }
+        ensures cache { KeepsCache (Self.shows self.old) (Self.shows self.new) }
+        ensures stands { (s : Contents) → Self.stands self.old s → Self.stands self.new s };
+
+    ghost drive_laws: { DriveLaws Self.shows Self.underwent lies_in };
+}

@@ -1,0 +1,231 @@
+//! The inserted disc, and what one line does with it: the drive is worked on where it lies, and only a press takes its
+//! image out.
+ghost use Rattle.std.specs.Prelude.{◌≡◌, ◌≤◌, MatchResult, vec_capacity};
+ghost use Rattle.model_geometry.specs.Geometry.{shape_of};
+ghost use Rattle.ram_text.specs.declared.payload.TheConstants.{PAYLOAD_ROOM};
+ghost use Rattle.ram_image.specs.Opening.{IsRefused};
+ghost use Rattle.ram_machine.specs.Drive.{IsInsertedTarget};
+ghost use Rattle.ram_machine.specs.LineSteps.{CountsUses};
+ghost use Rattle.ram_machine.specs.Replies.{PrintsWhere, power_outcome, fail_outcome, wear_outcome, tick_outcome, command_outcome};
+ghost use Rattle.ram_machine.specs.States.{State};
+ghost use Rattle.ram_machine.specs.Inserted.{Stands, LeavesImage, faults_of, data_before, IsAnswered, IsPressAnswered};
+ghost use Rattle.ram_machine.specs.LineFaults.{LineCount};
+ghost use Rattle.ram_machine.specs.Starts.{StartRule};
+
+use crate::drive::Drive;
+use crate::reply::Reply;
+use crate::stopped::Stopped;
+use core::mem::replace_with;
+use ram_bytes::{Block, Cdb};
+use ram_image::{OpenFault, PressOut, press};
+use ram_medium::{Arm, FailEnd};
+use ram_mmc::{Answer, Target};
+use ram_outside::Image;
+use ram_report::Event;
+use ram_sectors::{PowerOut, TickOut};
+use ram_text::Line;
+use ram_zones::Geometry;
+use std::alloc::Global;
+
+/// What lies in the drive: an image that was not opened as a disc, or a disc with what is remembered for its host.
+pub enum Inserted<D: Drive> {
+    /// An image that was not opened.
+    Image(D::Image),
+    /// A disc.
+    Disc(Target<D>),
+}
+
+impl<D: Drive> Inserted<D> {
+    /// The image, as it is left.
+    pub fn into_image(self) -> D::Image
+        ensures count { D.Image.faults result ≡ faults_of D.Caching D.Image.Image self }
+        ensures left { (s : State) → Stands D.Caching D.lies_in D.Image.Image self s
+            → LeavesImage s (D.Image.bytes result) }
+    {
+        match self {
+            Inserted::Image(image) => image,
+            Inserted::Disc(target) => target.into_disc().into_image(),
+        }
+    }
+
+    /// What a line does, with its data in `payload`. The data that a command gives are then in `data_in`, and what it held
+    /// before does not matter.
+    pub fn answer(
+        &mut self,
+        alloc: Global,
+        line: Line,
+        payload: &[u8],
+        data_in: &mut Vec<u8>,
+    ) -> Result<Reply, Stopped>
+        requires uses { CountsUses line }
+        requires room { PAYLOAD_ROOM ≤ vec_capacity data_in.old }
+        ensures step { (s : State) → Stands D.Caching D.lies_in D.Image.Image self.old s
+            → IsAnswered s line payload.now data_in.new.items
+            (Stands D.Caching D.lies_in D.Image.Image self.new) result }
+        ensures printable { PrintsWhere result }
+        ensures count { LineCount (faults_of D.Caching D.Image.Image self.old)
+            (faults_of D.Caching D.Image.Image self.new) result }
+        ensures room { vec_capacity data_in.old ≤ vec_capacity data_in.new }
+    {
+        clear_before(&line, data_in);
+        match (&mut *self, line) {
+            (_, Line::Empty) => Ok(Reply::Nothing),
+            (inserted, Line::Press { zones, scale, psa }) => {
+                replace_with(inserted, (alloc, zones, scale, psa), press_disc::<D>)
+            }
+            (Inserted::Disc(target), Line::Power) => power_outcome(target.power(alloc)),
+            (Inserted::Disc(target), Line::Fail { block }) => fail_outcome(target.disc.fail(block)),
+            (Inserted::Disc(target), Line::Wear { block, n }) => {
+                wear_outcome(target.disc.wear(block, n))
+            }
+            (Inserted::Disc(target), Line::Cut { n, fate }) => {
+                target.disc.arm_cut(n, fate);
+                Ok(Reply::Event(Event::Armed))
+            }
+            (Inserted::Disc(target), Line::Tick) => tick_outcome(target.disc.tick()),
+            (Inserted::Disc(target), Line::Command { cdb }) => {
+                let answer = target.execute(alloc, &cdb, payload, data_in);
+                command_outcome(cdb, answer)
+            }
+            (Inserted::Image(_), _) => {
+                data_in.clear();
+                Err(Stopped::NotADisc)
+            }
+        }
+    }
+}
+
+/// Empties the data of the line before, unless this one is a command: that one says itself which data it gives, and a read writes
+/// over those of the last one, so no zeros are put in before.
+fn clear_before(line: &Line, data_in: &mut Vec<u8>)
+    ensures items { data_in.new.items ≡ data_before line.now data_in.old.items }
+    ensures room { vec_capacity data_in.old ≤ vec_capacity data_in.new }
+{
+    match line {
+        Line::Command { .. } => {}
+        _ => data_in.clear(),
+    }
+}
+
+/// How the turning on of the power comes out.
+fn power_outcome(out: PowerOut) -> Result<Reply, Stopped>
+    ensures { result ≡ power_outcome out }
+{
+    match out {
+        PowerOut::Ready { capacity } => Ok(Reply::Event(Event::Ready { capacity })),
+        PowerOut::NotFormatted => Ok(Reply::Event(Event::NotFormatted)),
+        PowerOut::Cut => Ok(Reply::Event(Event::Cut)),
+        PowerOut::Fault => Err(Stopped::ImageFault),
+        PowerOut::NoMemory => Err(Stopped::NoMemory),
+    }
+}
+
+/// How the failure of a block comes out.
+fn fail_outcome(end: FailEnd) -> Result<Reply, Stopped>
+    ensures { result ≡ fail_outcome end }
+{
+    match end {
+        FailEnd::Done => Ok(Reply::Event(Event::Failed)),
+        FailEnd::NoBlock { .. } => Ok(Reply::Event(Event::NoSuchBlock)),
+        FailEnd::Failed => Err(Stopped::ImageFault),
+    }
+}
+
+/// How the arming of a block comes out.
+fn wear_outcome(end: Arm) -> Result<Reply, Stopped>
+    ensures { result ≡ wear_outcome end }
+{
+    match end {
+        Arm::Set => Ok(Reply::Event(Event::Armed)),
+        Arm::NoBlock { .. } => Ok(Reply::Event(Event::NoSuchBlock)),
+        Arm::Full => Ok(Reply::Event(Event::Full)),
+    }
+}
+
+/// How the write of the oldest pending block comes out.
+fn tick_outcome(out: TickOut) -> Result<Reply, Stopped>
+    ensures { result ≡ tick_outcome out }
+{
+    match out {
+        TickOut::Idle => Ok(Reply::Event(Event::Idle)),
+        TickOut::Written { lba } => Ok(Reply::Event(Event::Written { lba })),
+        TickOut::NoSpare { lba } => Ok(Reply::Event(Event::NoSpare { lba })),
+        TickOut::NoUpdate { .. } => Ok(Reply::Event(Event::NoUpdate)),
+        TickOut::Cut => Ok(Reply::Event(Event::Cut)),
+        TickOut::Off => Ok(Reply::Event(Event::Off)),
+        TickOut::Fault => Err(Stopped::ImageFault),
+    }
+}
+
+/// How the answer of a command comes out.
+fn command_outcome(cdb: Cdb, answer: Answer) -> Result<Reply, Stopped>
+    ensures { result ≡ command_outcome cdb answer }
+{
+    match answer {
+        Answer::Good | Answer::Check(_) | Answer::Cut | Answer::Off => {
+            Ok(Reply::Command { cdb, answer })
+        }
+        Answer::Fault => Err(Stopped::ImageFault),
+        Answer::NoMemory => Err(Stopped::NoMemory),
+    }
+}
+
+/// The disc that an image holds, with what is remembered for its host when its power just came on. Else the image is
+/// handed back with the bytes that it had, and the reason. Room for the text of the disc's structure is taken first.
+fn insert<D: Drive>(alloc: Global, image: D::Image) -> Result<Target<D>, (D::Image, OpenFault)>
+    ensures { MatchResult result
+        (λ target. IsInsertedTarget (D.Image.bytes image) (D.Image.faults image)
+        (D.shows target.disc) (D.stands target.disc) (D.lies_in target.disc) target.host)
+        (λ refused. IsRefused (D.Image.bytes image) (D.Image.bytes refused.0)
+        (D.Image.faults image) (D.Image.faults refused.0) refused.1) }
+{
+    let Ok(block) = Block::zeros(alloc) else {
+        return Err((image, OpenFault::NoMemory));
+    };
+    match D::open(alloc, image) {
+        Ok(disc) => Ok(Target::new(disc, block)),
+        Err(refused) => Err(refused),
+    }
+}
+
+/// What lies in the drive when a run begins: a disc where the image holds one. Where the image failed, or there is no
+/// memory, it is handed back with the reason.
+pub fn begin<D: Drive>(alloc: Global, image: D::Image) -> Result<Inserted<D>, (D::Image, Stopped)>
+    ensures { StartRule D.Caching D.lies_in D.Image.Image image result }
+{
+    match insert::<D>(alloc, image) {
+        Ok(target) => Ok(Inserted::Disc(target)),
+        Err((image, fault)) => match fault {
+            OpenFault::Header | OpenFault::Length { .. } => Ok(Inserted::Image(image)),
+            OpenFault::Fault | OpenFault::NoMemory => Err((image, Stopped::from(fault))),
+        },
+    }
+}
+
+/// Presses a disc of so many zones, this scale and so many primary spares, in this order, on the image that lies in the
+/// drive, where they are within their limits.
+fn press_disc<D: Drive>(
+    inserted: Inserted<D>,
+    wanted: (Global, u32, u32, u32),
+) -> (Inserted<D>, Result<Reply, Stopped>)
+    ensures step { (s : State) → Stands D.Caching D.lies_in D.Image.Image inserted s
+        → IsPressAnswered s (shape_of wanted.1 wanted.2 wanted.3)
+        (Stands D.Caching D.lies_in D.Image.Image result.0) result.1 }
+    ensures printable { PrintsWhere result.1 }
+    ensures count { LineCount (faults_of D.Caching D.Image.Image inserted)
+        (faults_of D.Caching D.Image.Image result.0) result.1 }
+{
+    let (alloc, zones, scale, psa) = wanted;
+    let Ok(geometry) = Geometry::new(zones, scale, psa) else {
+        return (inserted, Ok(Reply::Event(Event::NotPressed)));
+    };
+    let mut image = inserted.into_image();
+    match press(&mut image, &geometry) {
+        PressOut::Failed => return (Inserted::Image(image), Err(Stopped::ImageFault)),
+        PressOut::Done => {}
+    }
+    match insert::<D>(alloc, image) {
+        Ok(target) => (Inserted::Disc(target), Ok(Reply::Event(Event::Pressed))),
+        Err((image, fault)) => (Inserted::Image(image), Err(Stopped::from(fault))),
+    }
+}

@@ -1,0 +1,34 @@
+//! How a run ends, and the exit status that tells it.
+ghost use Rattle.std.specs.Prelude.{◌≡◌};
+
+/// How a run ended. Its number is the exit status of the program. (This project's own.)
+#[derive(Clone, Copy, Debug, PartialEq, Eq)]
+pub enum Status {
+    /// The script was read to its end, and every line was answered.
+    Done = 0,
+    /// The words are none of the program's forms.
+    Usage = 2,
+    /// A line of the script is not in its language, or passes a limit.
+    Script = 3,
+    /// The opener or the image failed.
+    ImageFault = 4,
+    /// The source of the script failed.
+    SourceFault = 5,
+    /// The sink of the report failed. It goes before every other status but `Usage`.
+    SinkFault = 6,
+    /// There was no memory.
+    NoMemory = 7,
+    /// A line needs a disc: the image holds none, and no lawful press came before.
+    NotADisc = 8,
+}
+
+impl Status {
+    ghost use Rattle.ram_machine.specs.Statuses.{exit_number};
+
+    /// The exit status of the program.
+    pub fn exit_number(self) -> u8
+        ensures { result ≡ exit_number self }
+    {
+        self as u8
+    }
+}

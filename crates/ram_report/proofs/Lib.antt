@@ -1,0 +1,5 @@
+pub mod Puts
+pub mod OneByte
+pub mod Prints
+pub mod Turns
+pub mod Distinct

@@ -1,0 +1,13 @@
+-- One text after another, or a prefix of the first.
+use Rattle.std.proofs.Common.{codes}
+use Rattle.std.proofs.lemmas.Result.{err_from_is_err_and}
+use Rattle.ram_report.proofs.Prints.{put_then, cut_first}
+use Rattle.ram_report.proofs.printing.parts.put_line.Goals as goal
+
+pub returns : goal.returns
+returns g c = put_then _ _ _ _ _ _ (c.args.text.now) (codes "\n") c.in_ok-put.ensures _ c.put-2.ensures
+
+pub returns-in_err-put : goal.returns-in_err-put
+returns-in_err-put g c =
+    let p = err_from_is_err_and c.from_residual.result c.from_residual.ensures.1 in
+    rw p.1 (cut_first _ _ _ _ (c.args.text.now) (codes "\n") c.in_err-put.ensures)

@@ -1,0 +1,3 @@
+pub mod Writer
+pub mod Reports
+pub mod ReportLines

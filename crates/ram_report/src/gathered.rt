@@ -1,0 +1,133 @@
+//! Text that is gathered on its way to a sink. It touches its own bytes, and the sink's by `put` alone.
+ghost use Rattle.std.specs.Prelude.{◌≡◌, ◌+◌, ◌<◌, ◌≤◌, ℕ, Option, List, [], ◌++◌, length, IfOk, MatchBool};
+ghost use Rattle.ram_report.specs.Writer.{TextRule, PrintRule, FlushRule, HandOverRule, due};
+ghost use Rattle.ram_report.specs.declared.gathered.TheConstants.{GATHERED_ROOM};
+
+use ram_outside::{Put, Sink};
+use std::alloc::{AllocError, Global};
+use std::marker::Model;
+
+/// How many bytes are gathered at most before they are handed to the sink.
+pub const GATHERED_ROOM: usize = 65_536;
+
+/// The answer of a call that prints.
+#[derive(Clone, Copy, Debug, PartialEq, Eq)]
+pub enum Print {
+    /// The whole text is due.
+    Done,
+    /// The sink failed, and counted it.
+    Failed,
+}
+
+/// The sink failed, and counted it: how a call that prints fails inside.
+#[derive(Clone, Copy, Debug, PartialEq, Eq)]
+pub struct SinkFailed;
+
+/// The answer of a call that prints, by how it went inside.
+pub(crate) fn printed(outcome: Result<(), SinkFailed>) -> Print
+    ensures { (before after : Option (List ℕ)) (faults faults' : ℕ) (text : List ℕ)
+        → TextRule before after faults faults' text outcome → PrintRule before after faults faults' text result }
+{
+    match outcome {
+        Ok(()) => Print::Done,
+        Err(SinkFailed) => Print::Failed,
+    }
+}
+
+/// Text on its way to a sink: it is gathered, and handed over in large pieces. Its room is taken once, when it is
+/// made.
+#[derive(Drop)]
+pub struct Gathered {
+    bytes: Vec<u8>,
+    sent: usize,
+}
+
+impl Model for Gathered {
+    ghost use Rattle.std.specs.Prelude.{ℕ, List, ◌≤◌, drop, vec_len, vec_capacity};
+
+    ghost Value = { List ℕ };
+
+    ghost view = { λ g. drop g.sent g.bytes.items };
+
+    ghost invariant = { λ g. (g.sent ≤ vec_len g.bytes) × (vec_len g.bytes ≤ 65536) × (65536 ≤ vec_capacity g.bytes) };
+}
+
+impl Gathered {
+    /// Nothing is gathered.
+    pub fn new(alloc: Global) -> Result<Gathered, AllocError>
+        ensures { IfOk result (λ gathered. gathered ≡ []) }
+    {
+        Ok(Gathered {
+            bytes: Vec::with_capacity(alloc, GATHERED_ROOM)?,
+            sent: 0,
+        })
+    }
+
+    /// Puts a text behind what is gathered; where it does not fit, what is gathered goes to the sink first. A text
+    /// longer than the room goes to the sink at once.
+    pub fn put<K: Sink>(&mut self, sink: &mut K, text: &[u8]) -> Result<(), SinkFailed>
+        ensures rule { TextRule (due (K.written sink.old) self.old) (due (K.written sink.new) self.new)
+            (K.faults sink.old) (K.faults sink.new) text.now result }
+        ensures few { length self.new ≤ GATHERED_ROOM }
+    {
+        if self.gather(text) {
+            return Ok(());
+        }
+        match self.flush(sink) {
+            Print::Done => {}
+            Print::Failed => return Err(SinkFailed),
+        }
+        if self.gather(text) {
+            return Ok(());
+        }
+        match hand_over(sink, text) {
+            Ok(()) => Ok(()),
+            Err(_) => Err(SinkFailed),
+        }
+    }
+
+    /// Hands over what is gathered.
+    pub fn flush<K: Sink>(&mut self, sink: &mut K) -> Print
+        ensures rule { FlushRule (due (K.written sink.old) self.old) (due (K.written sink.new) self.new)
+            self.new (K.faults sink.old) (K.faults sink.new) result }
+        ensures few { length self.new ≤ GATHERED_ROOM }
+    {
+        match hand_over(sink, &self.bytes[self.sent..]) {
+            Ok(()) => {
+                self.bytes.clear();
+                self.sent = 0;
+                Print::Done
+            }
+            Err(count) => {
+                self.sent += count;
+                Print::Failed
+            }
+        }
+    }
+
+    // Puts the text behind what is gathered, if it fits.
+    fn gather(&mut self, text: &[u8]) -> bool
+        ensures rule { MatchBool result (self.new ≡ self.old ++ text.now) (self.new ≡ self.old) }
+        ensures few { length self.new ≤ GATHERED_ROOM }
+    {
+        if text.len() > GATHERED_ROOM - self.bytes.len() {
+            return false;
+        }
+        self.bytes.extend_from_slice(text).is_ok()
+    }
+}
+
+/// Hands the sink the whole text, or tells how many bytes it took before it failed, and counted it.
+pub fn hand_over<K: Sink>(sink: &mut K, text: &[u8]) -> Result<(), usize>
+    ensures { HandOverRule (K.written sink.old) (K.written sink.new)
+        (K.faults sink.old) (K.faults sink.new) text.now result }
+{
+    let mut sent = 0;
+    while sent < text.len() {
+        match sink.put(&text[sent..]) {
+            Put::Took(count) => sent += count,
+            Put::Failed => return Err(sent),
+        }
+    }
+    Ok(())
+}

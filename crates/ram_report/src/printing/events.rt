@@ -1,0 +1,66 @@
+//! The answers to lines that are no commands: `pressed`, `ready`, `cut` and the like. Text alone.
+ghost use Rattle.std.specs.Prelude.{◌++◌, codes};
+ghost use Rattle.ram_report.specs.Reports.{Prints, PutsText};
+ghost use Rattle.ram_report.specs.ReportLines.{numbered, event_words};
+
+use crate::gathered::{Print, SinkFailed, printed};
+use crate::printing::Event;
+use crate::printing::parts::print_counted;
+use crate::report::ReportWriter;
+use ram_outside::Sink;
+
+/// Prints the answer to a line that is no command.
+pub fn print_event<K: Sink>(
+    writer: &mut ReportWriter,
+    sink: &mut K,
+    number: u64,
+    event: &Event,
+) -> Print
+    ensures { Prints K.Sink writer.old sink.old writer.new sink.new
+        (numbered number (event_words event.now)) result }
+{
+    printed(put_event(writer, sink, number, event))
+}
+
+/// The same, by how it went.
+fn put_event<K: Sink>(
+    writer: &mut ReportWriter,
+    sink: &mut K,
+    number: u64,
+    event: &Event,
+) -> Result<(), SinkFailed>
+    ensures { PutsText K.Sink writer.old sink.old writer.new sink.new
+        (numbered number (event_words event.now)) result }
+{
+    writer.put_number(sink, number)?;
+    print_event_words(writer, sink, event)
+}
+
+/// Prints the words of an event, after a space, and ends the line.
+fn print_event_words<K: Sink>(
+    writer: &mut ReportWriter,
+    sink: &mut K,
+    event: &Event,
+) -> Result<(), SinkFailed>
+    ensures { PutsText K.Sink writer.old sink.old writer.new sink.new
+        (codes " " ++ event_words event.now ++ codes "\n") result }
+{
+    match event {
+        Event::Pressed => writer.put(sink, b" pressed\n"),
+        Event::NotPressed => writer.put(sink, b" not pressed\n"),
+        Event::Ready { capacity } => print_counted(writer, sink, b" ready ", *capacity as u64),
+        Event::NotFormatted => writer.put(sink, b" not formatted\n"),
+        Event::Cut => writer.put(sink, b" cut\n"),
+        Event::Failed => writer.put(sink, b" failed\n"),
+        Event::NoSuchBlock => writer.put(sink, b" no such block\n"),
+        Event::Armed => writer.put(sink, b" armed\n"),
+        Event::Full => writer.put(sink, b" full\n"),
+        Event::Idle => writer.put(sink, b" idle\n"),
+        Event::Written { lba } => print_counted(writer, sink, b" written ", *lba as u64),
+        Event::NoSpare { lba } => {
+            print_counted(writer, sink, b" check 3/32/00 info ", *lba as u64)
+        }
+        Event::NoUpdate => writer.put(sink, b" check 3/32/01\n"),
+        Event::Off => writer.put(sink, b" off\n"),
+    }
+}

@@ -1,0 +1,71 @@
+//! The writer of a report: texts, numbers and hexadecimal digits, behind what is due. It touches what is gathered,
+//! and the sink by `put` alone.
+ghost use Rattle.std.specs.Prelude.{◌≡◌, ◌*◌, ◌≤◌, [], decimal, length, vec_len, IfOk};
+ghost use Rattle.hex.specs.Hex.{encode_lower};
+ghost use Rattle.ram_report.specs.declared.gathered.TheConstants.{GATHERED_ROOM};
+
+use crate::gathered::{Gathered, Print, SinkFailed};
+use crate::hexadecimal::encode_prefix;
+use itoa::Buffer;
+use ram_bytes::SECTOR_BYTES;
+use ram_outside::Sink;
+use std::alloc::{AllocError, Global};
+
+/// Writes a report to a sink. Texts are gathered, and handed over when 64 KiB are full or when told to. At all
+/// times what the sink has written is a prefix of the text that is due. Its room is taken when it is made.
+#[derive(Drop)]
+pub struct ReportWriter {
+    gathered: Gathered,
+    digits: Vec<u8>,
+
+    /// No more is gathered than there is room for.
+    pub ghost few: { length gathered ≤ GATHERED_ROOM },
+    /// There is room for the digits of a sector.
+    ghost row: { vec_len digits ≡ 4096 },
+}
+
+impl ReportWriter {
+    ghost use Rattle.ram_report.specs.Reports.{PutsText, HandsOver, gathered_in};
+
+    /// A writer with nothing gathered.
+    pub fn new(alloc: Global) -> Result<ReportWriter, AllocError>
+        ensures { IfOk result (λ writer. gathered_in writer ≡ []) }
+    {
+        Ok(ReportWriter {
+            gathered: Gathered::new(alloc)?,
+            digits: vec![in alloc; 0; 2 * SECTOR_BYTES]?,
+        })
+    }
+
+    /// Puts a text behind what is due. Where the sink fails, a prefix of the text is.
+    pub fn put<K: Sink>(&mut self, sink: &mut K, text: &[u8]) -> Result<(), SinkFailed>
+        ensures { PutsText K.Sink self.old sink.old self.new sink.new text.now result }
+    {
+        self.gathered.put(sink, text)
+    }
+
+    /// Hands the sink what is gathered.
+    pub fn flush<K: Sink>(&mut self, sink: &mut K) -> Print
+        ensures { HandsOver K.Sink self.old sink.old self.new sink.new result }
+    {
+        self.gathered.flush(sink)
+    }
+
+    /// Puts a number in decimal digits behind what is due.
+    pub fn put_number<K: Sink>(&mut self, sink: &mut K, number: u64) -> Result<(), SinkFailed>
+        ensures { PutsText K.Sink self.old sink.old self.new sink.new (decimal number) result }
+    {
+        let mut buffer = Buffer::new();
+        self.gathered.put(sink, buffer.format(number).as_bytes())
+    }
+
+    /// Puts bytes in lower-case hexadecimal digits behind what is due, at most a sector's.
+    pub fn put_hex<K: Sink>(&mut self, sink: &mut K, bytes: &[u8]) -> Result<(), SinkFailed>
+        requires { length bytes.now ≤ SECTOR_BYTES }
+        ensures { PutsText K.Sink self.old sink.old self.new sink.new (encode_lower bytes.now) result }
+    {
+        let len = 2 * bytes.len();
+        encode_prefix(bytes, &mut self.digits);
+        self.gathered.put(sink, &self.digits[..len])
+    }
+}

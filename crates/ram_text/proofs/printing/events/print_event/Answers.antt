@@ -1,5 +1,0 @@
--- As it went inside.
-use Rattle.ram_text.proofs.printing.events.print_event.Goals as goal
-
-pub returns : goal.returns
-returns g c = c.printed.ensures _ _ _ _ _ c.put_event.ensures
