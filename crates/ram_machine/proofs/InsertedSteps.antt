@@ -5,7 +5,8 @@ use Rattle.model_drive.specs.Shown.{Shown}
 use Rattle.model_target.specs.declared.host.Host.{Host}
 use Rattle.ram_outside.specs.declared.image.Image.{Ghosts as Images}
 use Rattle.ram_sectors.specs.Laws.{CachingLaws}
-use Rattle.model_cache.specs.Shown.{CacheShown}
+use Rattle.model_cache.specs.Values.{Contents}
+use Rattle.model_cache.specs.Shown.{CacheShown, CacheStandsFor}
 use Rattle.ram_sectors.specs.declared.caching.Caching.{Ghosts as Drives}
 use Rattle.ram_medium.specs.declared.control.FailEnd.{FailEnd}
 use Rattle.ram_medium.specs.declared.control.FailEnd.TheVariants as fails
@@ -17,7 +18,7 @@ use Rattle.ram_text.specs.declared.script.Line.TheVariants as lines
 use Rattle.ram_machine.specs.Replies.{Outcome}
 use Rattle.ram_machine.specs.States.{State, Served, Unopened, Disc, IsIn, IsLabelled}
 use Rattle.ram_machine.specs.Drive.{DriveLaws}
-use Rattle.ram_machine.specs.LineSteps.{DiscRule, DiscStep, LineBytes, Step}
+use Rattle.ram_machine.specs.LineSteps.{DiscRule, DiscStep, LeadsOn, LineBytes, Step}
 use Rattle.ram_machine.specs.Inserted.{Stands, IsAnswered}
 use Rattle.ram_machine.proofs.Images.{lies_there}
 use Rattle.ram_machine.proofs.SoundChains.{contents_known}
@@ -39,6 +40,21 @@ disc_step s t _ payload outcome data_in step = step
 module _ {D I : Type 0} (drives : Drives D) (lies_in : D → Option (List ℕ)) (images : Images I) (laws : CachingLaws drives.shows drives.stands) (lying : DriveLaws drives.shows drives.underwent lies_in) (old new : Target D) (line : Line) (payload : List ℕ) (outcome : Outcome) (data_in : List ℕ)
     (rule : DiscRule (drives.shows old.disc) (drives.shows new.disc) (drives.stands old.disc) (drives.stands new.disc) old.host new.host line payload outcome data_in)
     (same_shape : (drives.shows new.disc).drive.shape ≡ (drives.shows old.disc).drive.shape) (bytes : LineBytes line outcome (drives.shows old.disc).drive (lies_in old.disc) (drives.shows new.disc).drive (lies_in new.disc)) where
+  -- from whatever it stood for
+  leads_on : (s t : Served) → IsIn (drives.shows old.disc) (drives.stands old.disc) old.host (lies_in old.disc) s → drives.shows new.disc ≡ t.disc.shown → new.host ≡ t.host
+      → (before : Contents) → CacheStandsFor s.disc.shown before → LeadsOn s t line payload outcome data_in before
+  leads_on s t is shown_is host_is before stood =
+      let held = (laws.as_shown old.disc before).1 (subst (λ (shown : CacheShown). CacheStandsFor shown before) (sym is.shown_is) stood) in
+      let found = rule_found (drives.shows old.disc) (drives.shows new.disc) (drives.stands old.disc) (drives.stands new.disc) old.host new.host before held line payload outcome data_in rule in
+      record {
+        after = found.0;
+        stands = subst (λ (shown : CacheShown). CacheStandsFor shown found.0) shown_is ((laws.as_shown new.disc found.0).0 found.1);
+        rule = subst (λ (shown : CacheShown). DiscRule shown t.disc.shown (λ x. x ≡ before) (λ x. x ≡ found.0) s.host t.host line payload outcome data_in) is.shown_is
+            (subst (λ (shown : CacheShown). DiscRule (drives.shows old.disc) shown (λ x. x ≡ before) (λ x. x ≡ found.0) s.host t.host line payload outcome data_in) shown_is
+            (subst (λ (host : Host). DiscRule (drives.shows old.disc) (drives.shows new.disc) (λ x. x ≡ before) (λ x. x ≡ found.0) host t.host line payload outcome data_in) is.host_is
+            (subst (λ (host : Host). DiscRule (drives.shows old.disc) (drives.shows new.disc) (λ x. x ≡ before) (λ x. x ≡ found.0) old.host host line payload outcome data_in) host_is found.2)));
+      }
+
   -- the disc that a line leaves
   disc_left : (s : Served) → IsIn (drives.shows old.disc) (drives.stands old.disc) old.host (lies_in old.disc) s
       → (t : Served) × DiscStep s t line payload outcome data_in × IsIn (drives.shows new.disc) (drives.stands new.disc) new.host (lies_in new.disc) t
@@ -64,6 +80,7 @@ module _ {D I : Type 0} (drives : Drives D) (lies_in : D → Option (List ℕ)) 
           bytes = subst (λ (shown : CacheShown). LineBytes line outcome shown.drive (Some s.bytes) (drives.shows new.disc).drive (Some there.bytes)) is.shown_is
               (subst (λ (o : Option (List ℕ)). LineBytes line outcome (drives.shows old.disc).drive o (drives.shows new.disc).drive (Some there.bytes)) is.bytes_are
               (subst (LineBytes line outcome (drives.shows old.disc).drive (lies_in old.disc) (drives.shows new.disc).drive) there.known bytes));
+          each = λ before stood. leads_on s t is refl refl before stood;
         },
         record { shown_is = refl; contents_is = found.1; host_is = refl; bytes_are = there.known },
       )

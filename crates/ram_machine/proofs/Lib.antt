@@ -27,12 +27,15 @@ pub mod Synced
 pub mod FallenBack
 pub mod Alone
 pub mod CacheModes
+pub mod SectorValues
 pub mod SectorNow
 pub mod SectorMatching
 pub mod SectorWritten
 pub mod SectorFormatted
 pub mod SectorCommands
 pub mod SectorTurns
+pub mod SectorFilled
+pub mod SectorBoth
 pub mod SectorRuns
 pub mod SectorOpened
 pub mod SectorAgain

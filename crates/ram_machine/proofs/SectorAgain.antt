@@ -1,22 +1,20 @@
 -- The register of a sector when an image that a run handed back was opened again.
 use Rattle.std.specs.Prelude.{◌≡◌, ℕ, ◌-◌, ◌*◌, ◌<◌, Option, None, Some, List, [], ◌∷◌, length, map, slice_index}
 use Rattle.std.specs.List.{All, Contains}
-use Rattle.std.proofs.Common.{arith, sym, ap, ◌∙◌, inl, inr, subst}
+use Rattle.std.proofs.Common.{arith, refl, sym, ap, ◌∙◌, inl, inr, subst}
 use Rattle.std.proofs.lemmas.List.Elements.{All-head, All-tail}
-use Rattle.std.proofs.lemmas.List.FromFn.{get_or-map-range_with_len, length-map-range_with_len}
 use Rattle.model_geometry.specs.Geometry.{Shape, total}
 use Rattle.model_medium.specs.Cells.{Cell, Blank, Good, Torn, Dead, cell_at, AreWhole}
 use Rattle.model_image.specs.Cells.{cells_of}
 use Rattle.model_image.specs.Image.{IsDiscImage}
 use Rattle.model_image.proofs.Headers.{one_header}
 use Rattle.model_image.proofs.WholeCells.{cells_of-whole}
-use Rattle.model_sectors.specs.Discs.{Agrees, block_of, sectors_of, zeros, bytes_or_zeros}
+use Rattle.model_sectors.specs.Discs.{Agrees, block_of, sectors_of}
 use Rattle.model_sectors.specs.Requests.{block_with}
-use Rattle.model_sectors.proofs.Fitting.{length_first_disc, block_of_first_disc}
 use Rattle.model_places.specs.Places.{Lists, logical_count, home_of}
 use Rattle.model_volume.specs.Given.{IsGiven}
 use Rattle.model_volume.specs.Covers.{FitsUnder, SomeFit}
-use Rattle.model_volume.specs.Starts.{Found, IsFound, homes_under, disc_under}
+use Rattle.model_volume.specs.Starts.{Found, IsFound}
 use Rattle.model_volume.proofs.GivenFacts.{settled_alone}
 use Rattle.model_drive.specs.Shown.{StandsBy, cells_in}
 use Rattle.model_cache.specs.Values.{Values, Contents, Has, MayHave, HasBlock, IsTaken, AreTaken, plain}
@@ -29,11 +27,13 @@ use Rattle.ram_machine.specs.Answered.{AnsweredStep}
 use Rattle.ram_machine.specs.SectorBytes.{bytes_of_sector}
 use Rattle.ram_machine.proofs.Images.{image_left}
 use Rattle.ram_machine.proofs.WrittenDiscs.{SoInBlock, SoInValues, SoInContents, block_sector}
-use Rattle.ram_machine.specs.Register.{Register, reopened, IsRegisterAgain}
-use Rattle.ram_machine.proofs.SectorNow.{now_in}
+use Rattle.ram_machine.specs.Register.{Lost, Register, reopened, IsRegisterAgain}
+use Rattle.ram_machine.proofs.SectorValues.{bytes_under, falls_under}
+use Rattle.ram_machine.proofs.SectorFilled.{filled, filled_under, filled_long}
+use Rattle.ram_machine.proofs.SectorBoth.{Held}
 use Rattle.ram_machine.proofs.SectorMatching.{so_weaker}
 use Rattle.ram_machine.proofs.SectorRuns.{MatchesState, run_turns}
-use Rattle.ram_machine.proofs.SectorOpened.{zeros_in, place_fits, all_so, opens}
+use Rattle.ram_machine.proofs.SectorOpened.{value_in, filled_sector, held_opened, opens}
 
 module _ (at : ℕ) (S : List ℕ → Type 0) (shape : Shape) (cells : List Cell) where
   abbrev i : ℕ
@@ -64,38 +64,26 @@ module _ (at : ℕ) (S : List ℕ → Type 0) (shape : Shape) (cells : List Cell
     so = taken_so v disc taken so;
   }
 
-  -- the disc that lists show has of a sector what such a disc has, or zeros
-  module _ (whole : AreWhole cells) (found : Found) (nought : S (zeros 2048)) (fit : Fits found.lists) where
-    abbrev homes : List ℕ
-    homes = homes_under shape found.lists
+  -- the home that lists give a block has of its sector what such a disc has, if it can be read
+  by_cell : (fill : ℕ) (cell : Cell) (block : List ℕ) → S (filled fill 2048) → Agrees cell block → S (bytes_of_sector (16 * i) block at) → S (bytes_under (filled fill 2048) (value_in at cell))
+  by_cell fill Blank block nought agrees so = nought
+  by_cell fill (Good held) block nought agrees so = subst (λ (b : List ℕ). S (bytes_of_sector (16 * i) b at)) (sym agrees) so
+  by_cell fill Torn block nought agrees so = nought
+  by_cell fill Dead block nought agrees so = nought
 
-    home_in : i < logical_count shape found.lists → slice_index homes i ≡ home_of shape found.lists i
-    home_in h = get_or-map-range_with_len (home_of shape found.lists) 0 (logical_count shape found.lists) i i 0 h (omega arith)
-
-    by_cell : (cell : Cell) (block : List ℕ) → Agrees cell block → S (bytes_of_sector (16 * i) block at) → S (bytes_of_sector (16 * i) (bytes_or_zeros cell) at)
-    by_cell Blank block agrees so = subst S (sym (zeros_in 32768 (at - 16 * i) (place_fits at))) nought
-    by_cell (Good held) block agrees so = subst (λ (b : List ℕ). S (bytes_of_sector (16 * i) b at)) (sym agrees) so
-    by_cell Torn block agrees so = subst S (sym (zeros_in 32768 (at - 16 * i) (place_fits at))) nought
-    by_cell Dead block agrees so = subst S (sym (zeros_in 32768 (at - 16 * i) (place_fits at))) nought
-
-    shown_so : HasBlock (disc_under shape cells found) i → S (sectors_of (disc_under shape cells found) at 1)
-    shown_so has =
-        let many : length homes ≡ logical_count shape found.lists = length-map-range_with_len (home_of shape found.lists) 0 (logical_count shape found.lists) in
-        let long : length (disc_under shape cells found) ≡ 32768 * length homes = length_first_disc homes cells (λ j bytes h e. whole (slice_index homes j) bytes e) in
-        let inside : i < logical_count shape found.lists = omega (arith, has, long, many) in
-        let block : block_of (disc_under shape cells found) i ≡ bytes_or_zeros (cell_at cells (slice_index homes i)) =
-        block_of_first_disc homes cells i (λ j bytes h e. whole (slice_index homes j) bytes e) (omega (arith, inside, many)) in
-        let other : length fit.disc ≡ 32768 * logical_count shape found.lists = fit.fits.as_long in
-        let agrees : Agrees (cell_at cells (slice_index homes i)) (block_of fit.disc i) = subst (λ (b : ℕ). Agrees (cell_at cells b) (block_of fit.disc i)) (sym (home_in inside)) (fit.fits.agrees i inside) in
-        let so : S (bytes_of_sector (16 * i) (block_of fit.disc i) at) = subst S (sym (block_sector fit.disc at)) (fit.so (omega (arith, inside, other))) in
-        subst S (ap (λ (b : List ℕ). bytes_of_sector (16 * i) b at) (sym block) ∙ block_sector (disc_under shape cells found) at)
-        (by_cell (cell_at cells (slice_index homes i)) (block_of fit.disc i) agrees so)
+  shown_so : (fill : ℕ) (whole : AreWhole cells) (found : Found) → S (filled fill 2048) → Fits found.lists → HasBlock (filled_under fill shape cells whole found) i → S (sectors_of (filled_under fill shape cells whole found) at 1)
+  shown_so fill whole found nought fit has =
+      let long = filled_long fill shape cells whole found in
+      let inside : i < logical_count shape found.lists = omega (arith, has, long) in
+      let other : length fit.disc ≡ 32768 * logical_count shape found.lists = fit.fits.as_long in
+      let so : S (bytes_of_sector (16 * i) (block_of fit.disc i) at) = subst S (sym (block_sector fit.disc at)) (fit.so (omega (arith, inside, other))) in
+      subst S (sym (filled_sector at fill shape cells whole found has)) (by_cell fill (cell_at cells (home_of shape found.lists i)) (block_of fit.disc i) nought (fit.fits.agrees i inside) so)
 
   -- all of them
-  all_shown : (whole : AreWhole cells) (nought : S (zeros 2048)) (fit : (lists : Lists) → IsGiven shape cells lists → Fits lists) (all : List Found) → ((found : Found) → Contains all found → IsFound shape cells found)
-      → (disc : List ℕ) → Contains (map (disc_under shape cells) all) disc → HasBlock disc i → S (sectors_of disc at 1)
-  all_shown whole nought fit [] each disc has block = absurd (Contains-none disc has)
-  all_shown whole nought fit (found ∷ all) each disc has block = elim (Contains-cases (disc_under shape cells found) (map (disc_under shape cells) all) disc has) [
+  all_shown : (fill : ℕ) (whole : AreWhole cells) (nought : S (filled fill 2048)) (fit : (lists : Lists) → IsGiven shape cells lists → Fits lists) (all : List Found) → ((found : Found) → Contains all found → IsFound shape cells found)
+      → (disc : List ℕ) → Contains (map (filled_under fill shape cells whole) all) disc → HasBlock disc i → S (sectors_of disc at 1)
+  all_shown fill whole nought fit [] each disc has block = absurd (Contains-none disc has)
+  all_shown fill whole nought fit (found ∷ all) each disc has block = elim (Contains-cases (filled_under fill shape cells whole found) (map (filled_under fill shape cells whole) all) disc has) [
     | inl is ↦
         let f = each found (Contains-first found all) in
         let given : IsGiven shape cells found.lists = record {
@@ -107,8 +95,8 @@ module _ (at : ℕ) (S : List ℕ → Type 0) (shape : Shape) (cells : List Cell
           valid = f.valid;
           some_whole = f.some_whole;
         } in
-        subst (λ (d : List ℕ). HasBlock d i → S (sectors_of d at 1)) is (shown_so whole found nought (fit found.lists given)) block
-    | inr more ↦ all_shown whole nought fit all (λ f there. each f (Contains-later found all f there)) disc more block
+        subst (λ (d : List ℕ). HasBlock d i → S (sectors_of d at 1)) is (shown_so fill whole found nought (fit found.lists given)) block
+    | inr more ↦ all_shown fill whole nought fit all (λ f there. each f (Contains-later found all f there)) disc more block
   ]
 
 -- what a drive stands for fits under each of the lists that its cells give
@@ -119,38 +107,31 @@ fits_now at S shown (Has v) stood so lists given =
 fits_now at S shown (MayHave all) stood so lists given =
     pick at S shown.drive.shape (cells_in shown.drive) lists all stood.0 stood.2 so (stood.1.2 lists given)
 
--- the discs of an image that is opened again
-again_so : (at : ℕ) (S : List ℕ → Type 0) (s : Served) (shape : Shape) (cells : List Cell) → shape ≡ s.disc.shown.drive.shape → cells ≡ cells_in s.disc.shown.drive → AreWhole cells → S (zeros 2048) → SoInContents S at s.disc.contents
-    → (all : List Found) → ((found : Found) → Contains all found → IsFound shape cells found) → (disc : List ℕ) → Contains (map (disc_under shape cells) all) disc → HasBlock disc (block_with at) → S (sectors_of disc at 1)
-again_so at S s shape cells same_shape same_cells whole nought so all each =
-    all_shown at S shape cells whole nought
-    (λ lists. subst (λ (z : Shape). IsGiven z cells lists → Fits at S z cells lists) (sym same_shape)
-    (subst (λ (c : List Cell). IsGiven s.disc.shown.drive.shape c lists → Fits at S s.disc.shown.drive.shape c lists) (sym same_cells)
-    (fits_now at S s.disc.shown s.disc.contents s.disc.stands so lists)))
-    all each
-
-pub again : (at : ℕ) (s t : State) (left : List ℕ) (r : Register) → MatchesState at s r → IsLeft s left → IsFirst left t → MatchesState at t (reopened r)
-again at (Unopened held) (Unopened bytes) left r was is first = λ shape. subst (λ (b : List ℕ). ¬ IsDiscImage shape b) (sym first.0) (first.1 shape)
-again at (Unopened held) (Disc t) left r was is first = absurd (was first.0 (subst (IsDiscImage first.0) is first.1))
-again at (Disc s) (Unopened bytes) left r was is first = absurd (first.1 s.disc.shown.drive.shape (image_left s left is).disc)
-again at (Disc s) (Disc t) left r was is first =
+-- the register then, where a lost sector has such bytes
+held_again : (fill at : ℕ) (s t : Served) (left : List ℕ) (r : Register) → Held (filled fill 2048) at s.disc.shown r → left ≡ s.bytes → (first : IsFirst left (Disc t)) → Held (filled fill 2048) at t.disc.shown (reopened r)
+held_again fill at s t left r was is first =
     let image = image_left s left is in
     let shape : Shape = first.0 in
     let same : shape ≡ s.disc.shown.drive.shape = one_header shape s.disc.shown.drive.shape left first.1.has_header image.disc.has_header in
     let cells : List Cell = cells_of (total shape) left in
     let same_cells : cells ≡ cells_in s.disc.shown.drive = ap (λ (z : Shape). cells_of (total z) left) same ∙ image.cells_are in
+    let whole = cells_of-whole (total shape) left first.1.as_long in
     let opened = first.2.opened in
-    let discs : List (List ℕ) = map (disc_under shape cells) opened.all in
-    let stands = opened.contents_is ∙ ap plain opened.starts.standing_is in
-    let falls : List (List ℕ) = zeros 2048 ∷ r.falls in
-    record {
-      now = sym (ap (now_in at) stands);
-      falls = subst (SoInContents (Contains falls) at) (sym stands)
-          (all_so at (Contains falls) discs
-          (again_so at (Contains falls) s shape cells same same_cells (cells_of-whole (total shape) left first.1.as_long) (Contains-first (zeros 2048) r.falls)
-          (so_weaker (Contains r.falls) (Contains falls) at (λ found has. Contains-later (zeros 2048) r.falls found has) s.disc.contents was.falls) opened.all opened.starts.each));
-      caches = sym (ap (λ (x : CacheShown). x.caches) opened.shown_is);
-    }
+    let lost : List ℕ = filled fill 2048 in
+    let S : List ℕ → Type 0 = Contains (falls_under lost (Lost ∷ r.falls)) in
+    let so : SoInContents S at was.contents = so_weaker (Contains (falls_under lost r.falls)) S at (λ found has. Contains-later lost (falls_under lost r.falls) found has) was.contents was.matches.falls in
+    held_opened fill at shape cells whole t.disc opened (reopened r) (ap (λ (x : CacheShown). cells_in x.drive) opened.shown_is) (ap (λ (x : CacheShown). x.drive.shape) opened.shown_is) refl refl
+    (all_shown at S shape cells fill whole (Contains-first lost (falls_under lost r.falls))
+    (λ lists. subst (λ (z : Shape). IsGiven z cells lists → Fits at S z cells lists) (sym same)
+    (subst (λ (c : List Cell). IsGiven s.disc.shown.drive.shape c lists → Fits at S s.disc.shown.drive.shape c lists) (sym same_cells)
+    (fits_now at S s.disc.shown was.contents was.stands so lists)))
+    opened.all opened.starts.each)
+
+pub again : (at : ℕ) (s t : State) (left : List ℕ) (r : Register) → MatchesState at s r → IsLeft s left → IsFirst left t → MatchesState at t (reopened r)
+again at (Unopened held) (Unopened bytes) left r was is first = λ shape. subst (λ (b : List ℕ). ¬ IsDiscImage shape b) (sym first.0) (first.1 shape)
+again at (Unopened held) (Disc t) left r was is first = absurd (was first.0 (subst (IsDiscImage first.0) is first.1))
+again at (Disc s) (Unopened bytes) left r was is first = absurd (first.1 s.disc.shown.drive.shape (image_left s left is).disc)
+again at (Disc s) (Disc t) left r was is first = record { one = held_again 0 at s t left r was.one is first; other = held_again 1 at s t left r was.other is first }
 
 -- two runs, one after another
 pub registers_again : (image left : List ℕ) (s t u v : State) (events later : List AnsweredStep) (at : ℕ) → IsFirst image s → Run s events t → IsLeft t left → IsFirst left u → Run u later v

@@ -14,7 +14,8 @@ use Rattle.model_drive.specs.Parts.{IsInRange}
 use Rattle.model_modes.specs.ParameterLists.{caches_after}
 use Rattle.model_cache.specs.declared.SyncOut.{SyncOut}
 use Rattle.model_cache.specs.declared.SyncOut.TheVariants as syncs
-use Rattle.model_cache.specs.Values.{Values, Contents, Has, MayHave, settled_values}
+use Rattle.model_places.specs.Places.{Lists}
+use Rattle.model_cache.specs.Values.{Values, Contents, Has, MayHave, settled_values, no_values}
 use Rattle.model_cache.specs.Shown.{CacheShown, CacheStandsFor, dropped, goes_into_cache}
 use Rattle.model_cache.specs.Causes.{CacheReadBy, CacheReadCause, CachedCause, ThroughCause}
 use Rattle.model_cache.specs.Steps.{ReadContents, SyncContents, CachedContents, ThroughContents}
@@ -37,12 +38,13 @@ use Rattle.ram_machine.specs.SectorBytes.{bytes_of_sector, is_sector_among}
 use Rattle.ram_machine.proofs.Acknowledged.{sector_left, write_keeps}
 use Rattle.ram_machine.proofs.Decoded.{HasItsData, asks_for, its_data}
 use Rattle.ram_machine.proofs.WrittenDiscs.{lies, SoInBlock, SoInContents, so_of_block}
-use Rattle.ram_machine.specs.Register.{Register, settled, gone, synchronised, left_by, goes_through, is_midway, AfterWrite, AfterFull, AfterRewrite, AfterFormat, Shows, AfterGood, AfterOther, AfterCommand}
+use Rattle.ram_machine.specs.Register.{Value, Bytes, Register, settled, gone, synchronised, left_by, goes_through, is_midway, AfterWrite, AfterGood, AfterOther, AfterCommand}
+use Rattle.ram_machine.proofs.SectorValues.{bytes_under, now_under, falls_under}
 use Rattle.ram_machine.proofs.SectorNow.{now_of, now_in, now_same, some_inside, Stays, here, read_stays, verify_stays, sync_stays, Expanded, expand_now}
 use Rattle.ram_machine.proofs.CacheModes.{SameMode, read_mode, write_mode, sync_mode}
 use Rattle.ram_machine.proofs.SectorMatching.{Matches, Turned, by_rule, stays, goes, settles, leaves}
 use Rattle.ram_machine.proofs.SectorWritten.{write_turn}
-use Rattle.ram_machine.proofs.SectorFormatted.{format_turn}
+use Rattle.ram_machine.proofs.SectorFormatted.{FullUnder, FormatUnder, format_turn}
 
 -- the bytes of a sector among those of several
 sector_among : (disc : List ℕ) (lba n at : ℕ) → IsAmong lba n at → bytes_of_sector lba (sectors_of disc lba n) at ≡ sectors_of disc at 1
@@ -83,13 +85,31 @@ is_apart lba n at is = elim (cases_lt at lba) [
   ]
 ]
 
-module _ (at : ℕ) (old new : CacheShown) (s t : Contents) (r : Register) (stood : CacheStandsFor old s) (was : Matches at old s r) where
+-- what a good read shows of a register, and what a command leaves of it, where a lost sector has these bytes
+module _ (lost : List ℕ) (at : ℕ) (lists : Option Lists) (t : Contents) (r : Register) where
+  pub record ShowsUnder (lba n : ℕ) (data_in : List ℕ) : Type 0 where
+    pub whole : length data_in ≡ 2048 * n
+    pub shown : is_sector_among lba n at ≡ true → now_under lost r.now ≡ Some (bytes_of_sector lba data_in at)
+
+  abbrev pub OtherUnder : Command → (payload data_in : List ℕ) → Answer → Register → Type 0
+  OtherUnder (commands.Read lba n) payload data_in answers.Good after = ShowsUnder lba n data_in × (after ≡ r)
+  OtherUnder asked payload data_in answer after = AfterOther at r asked payload data_in answer after
+
+  abbrev pub CommandUnder : Result Command Sense → (payload data_in : List ℕ) → Answer → Register → Type 0
+  CommandUnder (Ok (commands.Format kind)) payload data_in answer after = FormatUnder lists t r kind answer after
+  CommandUnder (Ok (commands.Read lba n)) payload data_in answer after = OtherUnder (commands.Read lba n) payload data_in answer after
+  CommandUnder asked payload data_in answer after = AfterCommand at r asked payload data_in answer after
+
+module _ (lost : List ℕ) (at : ℕ) (old new : CacheShown) (s t : Contents) (r : Register) (stood : CacheStandsFor old s) (was : Matches lost at old s r) where
   abbrev To : (Register → Type 0) → Type 0
-  To Rule = Turned at new t Rule
+  To Rule = Turned lost at new t Rule
+
+  abbrev After : Result Command Sense → (payload data_in : List ℕ) → Answer → Register → Type 0
+  After = CommandUnder lost at old.drive.lists t r
 
   -- ---- what leaves all as it was
   untouched : (Untouched old new (λ x. x ≡ s) (λ x. x ≡ t)) → To (λ after. after ≡ r)
-  untouched p = stays at old new s t r was (ap (λ (x : CacheShown). x.caches) p.same) (here at s t (p.stands s refl)) (subst (SoInContents (Contains r.falls) at) (p.stands s refl) was.falls)
+  untouched p = stays lost at old new s t r was (ap (λ (x : CacheShown). x.caches) p.same) (here at s t (p.stands s refl)) (subst (SoInContents (Contains (falls_under lost r.falls)) at) (p.stands s refl) was.falls)
 
   -- what is answered Off or with a check, and does nothing, whatever it was
   abbrev IsQuiet : Answer → Type 0
@@ -102,7 +122,7 @@ module _ (at : ℕ) (old new : CacheShown) (s t : Contents) (r : Register) (stoo
   quiet_check false Other = refl
 
   quiet_write : (among through : Bool) (bytes : List ℕ) (answer : Answer) → IsQuiet answer → MatchBool among (AfterWrite r through bytes answer r) (r ≡ left_by answer r)
-  quiet_write true true bytes (answers.Check why) quiet = quiet_check (is_midway why) (r ≡ settled r bytes)
+  quiet_write true true bytes (answers.Check why) quiet = quiet_check (is_midway why) (r ≡ settled r (Bytes bytes))
   quiet_write true false bytes (answers.Check why) quiet = refl
   quiet_write false through bytes (answers.Check why) quiet = refl
   quiet_write true true bytes answers.Off quiet = refl
@@ -113,8 +133,8 @@ module _ (at : ℕ) (old new : CacheShown) (s t : Contents) (r : Register) (stoo
   quiet_write among through bytes answers.Fault quiet = absurd quiet
   quiet_write among through bytes answers.NoMemory quiet = absurd quiet
 
-  quiet_full : (answer : Answer) → IsQuiet answer → AfterFull r answer r
-  quiet_full (answers.Check why) quiet = quiet_check (why.asc == 0x31) (r ≡ gone r)
+  quiet_full : (answer : Answer) → IsQuiet answer → FullUnder t r answer r
+  quiet_full (answers.Check why) quiet = quiet_check (why.asc == 0x31) ((r ≡ gone r) × (t ≡ Has no_values))
   quiet_full answers.Off quiet = refl
   quiet_full answers.Good quiet = absurd quiet
   quiet_full answers.Cut quiet = absurd quiet
@@ -129,13 +149,18 @@ module _ (at : ℕ) (old new : CacheShown) (s t : Contents) (r : Register) (stoo
   quiet_left answers.Fault quiet = absurd quiet
   quiet_left answers.NoMemory quiet = absurd quiet
 
-  quiet_rewrite : (now : Option (List ℕ)) (answer : Answer) → IsQuiet answer → AfterRewrite now r answer r
-  quiet_rewrite (Some bytes) answer quiet = quiet_left answer quiet
-  quiet_rewrite None answer quiet = inl (quiet_left answer quiet)
+  quiet_format : (lists : Option Lists) (kind : Kind) (answer : Answer) → IsQuiet answer → FormatUnder lists t r kind answer r
+  quiet_format lists (kinds.Full drop_sdl) answer quiet = quiet_full answer quiet
+  quiet_format None kinds.Rewrite answer quiet = quiet_full answer quiet
+  quiet_format (Some lists) kinds.Rewrite answer quiet = quiet_left answer quiet
 
-  quiet_format : (kind : Kind) (answer : Answer) → IsQuiet answer → AfterFormat r kind answer r
-  quiet_format (kinds.Full drop_sdl) answer quiet = quiet_full answer quiet
-  quiet_format kinds.Rewrite answer quiet = quiet_rewrite r.now answer quiet
+  quiet_read : (lba n : ℕ) (payload data_in : List ℕ) (answer : Answer) → IsQuiet answer → OtherUnder lost at old.drive.lists t r (commands.Read lba n) payload data_in answer r
+  quiet_read lba n payload data_in (answers.Check why) quiet = refl
+  quiet_read lba n payload data_in answers.Off quiet = refl
+  quiet_read lba n payload data_in answers.Good quiet = absurd quiet
+  quiet_read lba n payload data_in answers.Cut quiet = absurd quiet
+  quiet_read lba n payload data_in answers.Fault quiet = absurd quiet
+  quiet_read lba n payload data_in answers.NoMemory quiet = absurd quiet
 
   quiet_other : (asked : Command) (payload data_in : List ℕ) (answer : Answer) → IsQuiet answer → AfterOther at r asked payload data_in answer r
   quiet_other asked payload data_in (answers.Check why) quiet = refl
@@ -145,10 +170,10 @@ module _ (at : ℕ) (old new : CacheShown) (s t : Contents) (r : Register) (stoo
   quiet_other asked payload data_in answers.Fault quiet = absurd quiet
   quiet_other asked payload data_in answers.NoMemory quiet = absurd quiet
 
-  quiet_command : (d : Result Command Sense) (payload data_in : List ℕ) (answer : Answer) → IsQuiet answer → data_in ≡ [] → AfterCommand at r d payload data_in answer r
+  quiet_command : (d : Result Command Sense) (payload data_in : List ℕ) (answer : Answer) → IsQuiet answer → data_in ≡ [] → After d payload data_in answer r
   quiet_command (Err why) payload data_in answer quiet none = (none, quiet_left answer quiet)
   quiet_command (Ok (commands.Write lba n fua)) payload data_in answer quiet none = quiet_write (is_sector_among lba n at) (goes_through r lba n fua) (bytes_of_sector lba payload at) answer quiet
-  quiet_command (Ok (commands.Format kind)) payload data_in answer quiet none = quiet_format kind answer quiet
+  quiet_command (Ok (commands.Format kind)) payload data_in answer quiet none = quiet_format old.drive.lists kind answer quiet
   quiet_command (Ok commands.TestUnitReady) payload data_in answer quiet none = quiet_other commands.TestUnitReady payload data_in answer quiet
   quiet_command (Ok (commands.RequestSense alloc)) payload data_in answer quiet none = quiet_other (commands.RequestSense alloc) payload data_in answer quiet
   quiet_command (Ok (commands.Expand sectors)) payload data_in answer quiet none = quiet_other (commands.Expand sectors) payload data_in answer quiet
@@ -157,7 +182,7 @@ module _ (at : ℕ) (old new : CacheShown) (s t : Contents) (r : Register) (stoo
   quiet_command (Ok (commands.Prevent on)) payload data_in answer quiet none = quiet_other (commands.Prevent on) payload data_in answer quiet
   quiet_command (Ok (commands.FormatCapacities alloc)) payload data_in answer quiet none = quiet_other (commands.FormatCapacities alloc) payload data_in answer quiet
   quiet_command (Ok commands.ReadCapacity) payload data_in answer quiet none = quiet_other commands.ReadCapacity payload data_in answer quiet
-  quiet_command (Ok (commands.Read lba n)) payload data_in answer quiet none = quiet_other (commands.Read lba n) payload data_in answer quiet
+  quiet_command (Ok (commands.Read lba n)) payload data_in answer quiet none = quiet_read lba n payload data_in answer quiet
   quiet_command (Ok (commands.Verify lba n)) payload data_in answer quiet none = quiet_other (commands.Verify lba n) payload data_in answer quiet
   quiet_command (Ok commands.Synchronize) payload data_in answer quiet none = quiet_other commands.Synchronize payload data_in answer quiet
   quiet_command (Ok (commands.Configuration rt start alloc)) payload data_in answer quiet none = quiet_other (commands.Configuration rt start alloc) payload data_in answer quiet
@@ -165,11 +190,11 @@ module _ (at : ℕ) (old new : CacheShown) (s t : Contents) (r : Register) (stoo
   quiet_command (Ok (commands.ModeSense control page alloc)) payload data_in answer quiet none = quiet_other (commands.ModeSense control page alloc) payload data_in answer quiet
   quiet_command (Ok (commands.Structure format alloc)) payload data_in answer quiet none = quiet_other (commands.Structure format alloc) payload data_in answer quiet
 
-  quiet_answered : (d : Result Command Sense) (payload data_in : List ℕ) (answer due : Answer) → IsQuiet due → IsAnswered old new (λ x. x ≡ s) (λ x. x ≡ t) answer due data_in [] → To (λ after. AfterCommand at r d payload data_in answer after)
+  quiet_answered : (d : Result Command Sense) (payload data_in : List ℕ) (answer due : Answer) → IsQuiet due → IsAnswered old new (λ x. x ≡ s) (λ x. x ≡ t) answer due data_in [] → To (λ after. After d payload data_in answer after)
   quiet_answered d payload data_in answer due quiet p =
-      by_rule at new t (λ after. after ≡ r) (λ after. AfterCommand at r d payload data_in answer after)
-      (λ after is. subst (λ (x : Register). AfterCommand at r d payload data_in answer x) (sym is)
-      (subst (λ (a : Answer). AfterCommand at r d payload data_in a r) (sym p.answer_is) (quiet_command d payload data_in due quiet p.data_is)))
+      by_rule lost at new t (λ after. after ≡ r) (λ after. After d payload data_in answer after)
+      (λ after is. subst (λ (x : Register). After d payload data_in answer x) (sym is)
+      (subst (λ (a : Answer). After d payload data_in a r) (sym p.answer_is) (quiet_command d payload data_in due quiet p.data_is)))
       (untouched p.untouched)
 
   -- ---- commands that are done
@@ -177,7 +202,7 @@ module _ (at : ℕ) (old new : CacheShown) (s t : Contents) (r : Register) (stoo
   told : (asked : Command) (payload data_in reply : List ℕ) (answer : Answer) → AfterGood at r asked payload data_in r → IsAnswered old new (λ x. x ≡ s) (λ x. x ≡ t) answer answers.Good data_in reply
       → To (λ after. AfterOther at r asked payload data_in answer after)
   told asked payload data_in reply answer good p =
-      by_rule at new t (λ after. after ≡ r) (λ after. AfterOther at r asked payload data_in answer after)
+      by_rule lost at new t (λ after. after ≡ r) (λ after. AfterOther at r asked payload data_in answer after)
       (λ after is. subst (λ (x : Register). AfterOther at r asked payload data_in answer x) (sym is)
       (subst (λ (a : Answer). AfterOther at r asked payload data_in a r) (sym p.answer_is) good))
       (untouched p.untouched)
@@ -192,7 +217,7 @@ module _ (at : ℕ) (old new : CacheShown) (s t : Contents) (r : Register) (stoo
   other_left asked payload data_in answers.NoMemory bad after is = is
 
   -- a read
-  shows : (lba n : ℕ) (v : Values) (data_in : List ℕ) → CacheStandsFor old (Has v) → r.now ≡ now_of at v.disc → CacheReadCause old new lba n reads.Good → data_in ≡ sectors_of v.disc lba n → Shows at r lba n data_in
+  shows : (lba n : ℕ) (v : Values) (data_in : List ℕ) → CacheStandsFor old (Has v) → now_under lost r.now ≡ now_of at v.disc → CacheReadCause old new lba n reads.Good → data_in ≡ sectors_of v.disc lba n → ShowsUnder lost at old.drive.lists t r lba n data_in
   shows lba n v data_in stands now cause is =
       let room = lies old v lba n stands (inside_by (dropped old).pending (dropped old) new lba n cause) in
       record {
@@ -209,8 +234,8 @@ module _ (at : ℕ) (old new : CacheShown) (s t : Contents) (r : Register) (stoo
       there inside = ap (λ (b : Bool). if b then None else Some (sectors_of v.disc at 1)) (le-ltb (length v.disc) (2048 * (at + 1)) inside)
 
   -- by how it went
-  read_out : (c : Contents) (lba n : ℕ) (bytes payload : List ℕ) (out : ReadOut) → CacheStandsFor old c → r.now ≡ now_in at c → CacheReadCause old new lba n out → ReadContents (λ x. x ≡ t) c lba n bytes out
-      → (after : Register) → after ≡ left_by (read_answer out) r → AfterOther at r (commands.Read lba n) payload (data_read out bytes) (read_answer out) after
+  read_out : (c : Contents) (lba n : ℕ) (bytes payload : List ℕ) (out : ReadOut) → CacheStandsFor old c → now_under lost r.now ≡ now_in at c → CacheReadCause old new lba n out → ReadContents (λ x. x ≡ t) c lba n bytes out
+      → (after : Register) → after ≡ left_by (read_answer out) r → OtherUnder lost at old.drive.lists t r (commands.Read lba n) payload (data_read out bytes) (read_answer out) after
   read_out (Has v) lba n bytes payload reads.Good stands now cause step after is = (shows lba n v bytes stands now cause step.0, is)
   read_out (MayHave all) lba n bytes payload reads.Good stands now cause step after is = absurd step
   read_out c lba n bytes payload reads.NotFormatted stands now cause step after is = is
@@ -220,26 +245,27 @@ module _ (at : ℕ) (old new : CacheShown) (s t : Contents) (r : Register) (stoo
   read_out c lba n bytes payload reads.Off stands now cause step after is = is
   read_out c lba n bytes payload reads.Fault stands now cause step after is = is
 
-  read_turn : (lba n : ℕ) (payload data_in : List ℕ) (answer : Answer) → IsPrinted answer → IsRead old new (λ x. x ≡ s) (λ x. x ≡ t) lba n answer data_in → To (λ after. AfterOther at r (commands.Read lba n) payload data_in answer after)
+  read_turn : (lba n : ℕ) (payload data_in : List ℕ) (answer : Answer) → IsPrinted answer → IsRead old new (λ x. x ≡ s) (λ x. x ≡ t) lba n answer data_in → To (λ after. OtherUnder lost at old.drive.lists t r (commands.Read lba n) payload data_in answer after)
   read_turn lba n payload data_in answer printed p =
-      subst (λ (a : Answer). To (λ after. AfterOther at r (commands.Read lba n) payload data_in a after)) (sym p.answer_is)
-      (subst (λ (d : List ℕ). To (λ after. AfterOther at r (commands.Read lba n) payload d (read_answer p.out) after)) (sym p.data_is)
-      (by_rule at new t (λ after. after ≡ left_by (read_answer p.out) r) (λ after. AfterOther at r (commands.Read lba n) payload (data_read p.out p.bytes) (read_answer p.out) after)
+      subst (λ (a : Answer). To (λ after. OtherUnder lost at old.drive.lists t r (commands.Read lba n) payload data_in a after)) (sym p.answer_is)
+      (subst (λ (d : List ℕ). To (λ after. OtherUnder lost at old.drive.lists t r (commands.Read lba n) payload d (read_answer p.out) after)) (sym p.data_is)
+      (by_rule lost at new t (λ after. after ≡ left_by (read_answer p.out) r) (λ after. OtherUnder lost at old.drive.lists t r (commands.Read lba n) payload (data_read p.out p.bytes) (read_answer p.out) after)
       (read_out s lba n p.bytes payload p.out stood was.now p.cause (p.step s refl))
-      (leaves at old new s t r was (read_mode old new lba n p.out p.cause) (read_answer p.out) (subst IsPrinted p.answer_is printed)
-      (read_stays at s t lba n p.bytes p.out (p.step s refl)) (read_falls (SoInBlock (Contains r.falls) at) (block_with at) s t lba n p.bytes p.out (p.step s refl) was.falls))))
+      (leaves lost at old new s t r was (read_mode old new lba n p.out p.cause) (read_answer p.out) (subst IsPrinted p.answer_is printed)
+      (read_stays at s t lba n p.bytes p.out (p.step s refl)) (read_falls (SoInBlock (Contains (falls_under lost r.falls)) at) (block_with at) s t lba n p.bytes p.out (p.step s refl) was.falls))))
 
   -- a synchronisation
   sync_good : (c : Contents) → c ≡ s → SyncContents (λ x. x ≡ t) c syncs.Good → SameMode old new → To (λ after. after ≡ synchronised r.now r)
   sync_good (Has v) is step mode = by_now r.now refl
     where
-      by_now : (now : Option (List ℕ)) → r.now ≡ now → To (λ after. after ≡ synchronised now r)
+      by_now : (now : Option Value) → r.now ≡ now → To (λ after. after ≡ synchronised now r)
       by_now None none =
-          stays at old new s t r was mode (sym (ap (now_in at) step) ∙ ap (now_in at) is)
-          (sync_falls (SoInBlock (Contains r.falls) at) (block_with at) (Has v) t syncs.Good step (subst (SoInContents (Contains r.falls) at) (sym is) was.falls))
-      by_now (Some bytes) some =
-          let now : now_of at v.disc ≡ Some bytes = ap (now_in at) is ∙ sym was.now ∙ some in
-          settles at old new s t r was mode bytes (sym (ap (now_in at) step) ∙ now)
+          stays lost at old new s t r was mode (sym (ap (now_in at) step) ∙ ap (now_in at) is)
+          (sync_falls (SoInBlock (Contains (falls_under lost r.falls)) at) (block_with at) (Has v) t syncs.Good step (subst (SoInContents (Contains (falls_under lost r.falls)) at) (sym is) was.falls))
+      by_now (Some value) some =
+          let bytes : List ℕ = bytes_under lost value in
+          let now : now_of at v.disc ≡ Some bytes = ap (now_in at) is ∙ sym was.now ∙ ap (now_under lost) some in
+          settles lost at old new s t r was mode value (sym (ap (now_in at) step) ∙ now)
           (subst (SoInContents (Contains (bytes ∷ [])) at) step
           (one (SoInBlock (Contains (bytes ∷ [])) at) (block_with at) (settled_values v.disc)
           (settled_within (SoInBlock (Contains (bytes ∷ [])) at) (block_with at) v.disc (λ has.
@@ -250,9 +276,9 @@ module _ (at : ℕ) (old new : CacheShown) (s t : Contents) (r : Register) (stoo
   sync_other : (payload data_in : List ℕ) (out : SyncOut) → ¬ (sync_answer out ≡ answers.Good) → IsPrinted (sync_answer out) → SameMode old new → SyncContents (λ x. x ≡ t) s out
       → To (λ after. AfterOther at r commands.Synchronize payload data_in (sync_answer out) after)
   sync_other payload data_in out bad printed mode step =
-      by_rule at new t (λ after. after ≡ left_by (sync_answer out) r) (λ after. AfterOther at r commands.Synchronize payload data_in (sync_answer out) after)
+      by_rule lost at new t (λ after. after ≡ left_by (sync_answer out) r) (λ after. AfterOther at r commands.Synchronize payload data_in (sync_answer out) after)
       (other_left commands.Synchronize payload data_in (sync_answer out) bad)
-      (leaves at old new s t r was mode (sync_answer out) printed (sync_stays at s t out step) (sync_falls (SoInBlock (Contains r.falls) at) (block_with at) s t out step was.falls))
+      (leaves lost at old new s t r was mode (sync_answer out) printed (sync_stays at s t out step) (sync_falls (SoInBlock (Contains (falls_under lost r.falls)) at) (block_with at) s t out step was.falls))
 
   sync_out : (payload data_in : List ℕ) (out : SyncOut) → IsPrinted (sync_answer out) → SameMode old new → SyncContents (λ x. x ≡ t) s out
       → To (λ after. AfterOther at r commands.Synchronize payload data_in (sync_answer out) after)
@@ -270,16 +296,16 @@ module _ (at : ℕ) (old new : CacheShown) (s t : Contents) (r : Register) (stoo
       (sync_out payload data_in p.out (subst IsPrinted p.answer_is printed) (sync_mode old new p.out p.cause) (p.step s refl))
 
   -- an expansion
-  expand_by : (sectors : ℕ) (payload data_in : List ℕ) (answer : Answer) → IsPrinted answer → SameMode old new → Expanded at sectors answer s t → SoInContents (Contains r.falls) at t
+  expand_by : (sectors : ℕ) (payload data_in : List ℕ) (answer : Answer) → IsPrinted answer → SameMode old new → Expanded at sectors answer s t → SoInContents (Contains (falls_under lost r.falls)) at t
       → To (λ after. AfterOther at r (commands.Expand sectors) payload data_in answer after)
   expand_by sectors payload data_in answers.Good printed mode now so = below (nat_lt at sectors) refl
     where
       below : (b : Bool) → nat_lt at sectors ≡ b → To (λ after. after ≡ (if b then r else gone r))
-      below true is = stays at old new s t r was mode (now ∙ ap (λ (b : Bool). if b then now_in at s else None) is) so
-      below false is = goes at old new s t r was mode (now ∙ ap (λ (b : Bool). if b then now_in at s else None) is) so
-  expand_by sectors payload data_in (answers.Check why) printed mode now so = stays at old new s t r was mode now so
-  expand_by sectors payload data_in answers.Cut printed mode now so = goes at old new s t r was mode now so
-  expand_by sectors payload data_in answers.Off printed mode now so = stays at old new s t r was mode now so
+      below true is = stays lost at old new s t r was mode (now ∙ ap (λ (b : Bool). if b then now_in at s else None) is) so
+      below false is = goes lost at old new s t r was mode (now ∙ ap (λ (b : Bool). if b then now_in at s else None) is) so
+  expand_by sectors payload data_in (answers.Check why) printed mode now so = stays lost at old new s t r was mode now so
+  expand_by sectors payload data_in answers.Cut printed mode now so = goes lost at old new s t r was mode now so
+  expand_by sectors payload data_in answers.Off printed mode now so = stays lost at old new s t r was mode now so
   expand_by sectors payload data_in answers.Fault printed mode now so = absurd printed
   expand_by sectors payload data_in answers.NoMemory printed mode now so = absurd printed
 
@@ -288,7 +314,7 @@ module _ (at : ℕ) (old new : CacheShown) (s t : Contents) (r : Register) (stoo
   expand_turn sectors payload data_in answer printed p =
       subst (λ (a : Answer). To (λ after. AfterOther at r (commands.Expand sectors) payload data_in a after)) (sym p.answer_is)
       (expand_by sectors payload data_in (expand_answer p.out) (subst IsPrinted p.answer_is printed) p.cause.2 (expand_now at s t sectors p.out (p.step s refl))
-      (expand_falls (SoInBlock (Contains r.falls) at) (block_with at) s t sectors p.out (p.step s refl) was.falls))
+      (expand_falls (SoInBlock (Contains (falls_under lost r.falls)) at) (block_with at) s t sectors p.out (p.step s refl) was.falls))
 
   -- a write of other sectors
   module _ (lba n : ℕ) (payload : List ℕ) (whole : length payload ≡ 2048 * n) (apart : (at < lba) ⊎ (lba + n ≤ at)) where
@@ -347,11 +373,11 @@ module _ (at : ℕ) (old new : CacheShown) (s t : Contents) (r : Register) (stoo
 
       by_test : (test : Bool) → is_sector_among lba n at ≡ test
           → To (λ after. MatchBool test (AfterWrite r (goes_through r lba n fua) (bytes_of_sector lba payload at) (write_answer p.out) after) (after ≡ left_by (write_answer p.out) r))
-      by_test true is = write_turn at lba n payload whole (is_among lba n at is) old new t r fua s p.out stood was told_printed p.cause (p.step s refl)
+      by_test true is = write_turn lost at lba n payload whole (is_among lba n at is) old new t r fua s p.out stood was told_printed p.cause (p.step s refl)
       by_test false is =
-          leaves at old new s t r was (write_mode fua old new lba n payload p.out p.cause) (write_answer p.out) told_printed
+          leaves lost at old new s t r was (write_mode fua old new lba n payload p.out p.cause) (write_answer p.out) told_printed
           (write_stays lba n payload whole (is_apart lba n at is) fua s p.out stood p.cause (p.step s refl))
-          (write_keeps (Contains r.falls) at old new s t lba n fua payload p.out stood whole (is_apart lba n at is) p.cause (p.step s refl) was.falls)
+          (write_keeps (Contains (falls_under lost r.falls)) at old new s t lba n fua payload p.out stood whole (is_apart lba n at is) p.cause (p.step s refl) was.falls)
 
   -- a list of mode pages
   select_turn : (payload data_in : List ℕ) (answer : Answer) → IsSelected old new (λ x. x ≡ s) (λ x. x ≡ t) payload answer data_in → To (λ after. AfterOther at r commands.ModeSelect payload data_in answer after)
@@ -361,7 +387,7 @@ module _ (at : ℕ) (old new : CacheShown) (s t : Contents) (r : Register) (stoo
         rule = refl;
         matches = record {
           now = was.now ∙ sym (here at s t (p.stands s refl));
-          falls = subst (SoInContents (Contains r.falls) at) (p.stands s refl) was.falls;
+          falls = subst (SoInContents (Contains (falls_under lost r.falls)) at) (p.stands s refl) was.falls;
           caches = ap (caches_after payload) was.caches ∙ sym (ap (λ (x : CacheShown). x.caches) p.mode);
         };
       })
@@ -371,10 +397,10 @@ module _ (at : ℕ) (old new : CacheShown) (s t : Contents) (r : Register) (stoo
       → To (λ after. AfterOther at r (commands.Verify lba n) payload data_in answer after)
   verify_turn lba n payload data_in answer printed p =
       subst (λ (a : Answer). To (λ after. AfterOther at r (commands.Verify lba n) payload data_in a after)) (sym p.answer_is)
-      (by_rule at new t (λ after. after ≡ left_by (read_answer p.out) r) (λ after. AfterOther at r (commands.Verify lba n) payload data_in (read_answer p.out) after)
+      (by_rule lost at new t (λ after. after ≡ left_by (read_answer p.out) r) (λ after. AfterOther at r (commands.Verify lba n) payload data_in (read_answer p.out) after)
       (verified (read_answer p.out))
-      (leaves at old new s t r was p.cause.2 (read_answer p.out) (subst IsPrinted p.answer_is printed)
-      (verify_stays at s t p.out (p.step s refl)) (verify_falls (SoInBlock (Contains r.falls) at) (block_with at) s t p.out (p.step s refl) was.falls)))
+      (leaves lost at old new s t r was p.cause.2 (read_answer p.out) (subst IsPrinted p.answer_is printed)
+      (verify_stays at s t p.out (p.step s refl)) (verify_falls (SoInBlock (Contains (falls_under lost r.falls)) at) (block_with at) s t p.out (p.step s refl) was.falls)))
     where
       verified : (a : Answer) (after : Register) → after ≡ left_by a r → AfterOther at r (commands.Verify lba n) payload data_in a after
       verified answers.Good after is = is
@@ -385,12 +411,12 @@ module _ (at : ℕ) (old new : CacheShown) (s t : Contents) (r : Register) (stoo
       verified answers.NoMemory after is = is
 
   done_turn : (host : Host) (payload data_in : List ℕ) (command : Command) (answer : Answer) → IsPrinted answer → HasItsData payload command → IsDone old new (λ x. x ≡ s) (λ x. x ≡ t) host payload command answer data_in
-      → To (λ after. AfterCommand at r (Ok command) payload data_in answer after)
+      → To (λ after. After (Ok command) payload data_in answer after)
   done_turn host payload data_in commands.TestUnitReady answer printed given p = told commands.TestUnitReady payload data_in _ answer refl p
   done_turn host payload data_in (commands.RequestSense alloc) answer printed given p = told (commands.RequestSense alloc) payload data_in _ answer refl p
   done_turn host payload data_in (commands.Format kind) answer printed given p =
-      subst (λ (a : Answer). To (λ after. AfterFormat r kind a after)) (sym p.answer_is)
-      (format_turn at old new t r p.cause.2 s kind p.out stood was (subst IsPrinted p.answer_is printed) (p.step s refl))
+      subst (λ (a : Answer). To (λ after. FormatUnder old.drive.lists t r kind a after)) (sym p.answer_is)
+      (format_turn lost at old new t r p.cause.2 s kind p.out stood was (subst IsPrinted p.answer_is printed) (p.step s refl))
   done_turn host payload data_in (commands.Expand sectors) answer printed given p = expand_turn sectors payload data_in answer printed p
   done_turn host payload data_in (commands.Inquiry alloc) answer printed given p = told (commands.Inquiry alloc) payload data_in _ answer refl p
   done_turn host payload data_in (commands.StartStop start eject) answer printed given p = told (commands.StartStop start eject) payload data_in _ answer refl p
@@ -412,15 +438,15 @@ module _ (at : ℕ) (old new : CacheShown) (s t : Contents) (r : Register) (stoo
       structure false q = told (commands.Structure format alloc) payload data_in _ answer refl q
 
   judged_turn : (host : Host) (formatted : Bool) (cdb payload data_in : List ℕ) (judged : Result Command Sense) (answer : Answer) → IsPrinted answer → IsJudged host formatted cdb payload judged
-      → IsAnsweredBy old new (λ x. x ≡ s) (λ x. x ≡ t) host payload judged answer data_in → To (λ after. AfterCommand at r (decoded cdb payload) payload data_in answer after)
+      → IsAnsweredBy old new (λ x. x ≡ s) (λ x. x ≡ t) host payload judged answer data_in → To (λ after. After (decoded cdb payload) payload data_in answer after)
   judged_turn host formatted cdb payload data_in (Err why) answer printed is p = quiet_answered (decoded cdb payload) payload data_in answer (answers.Check why) tt p
   judged_turn host formatted cdb payload data_in (Ok command) answer printed is p =
       let asks : decoded cdb payload ≡ Ok command = asks_for host formatted cdb payload command is in
-      subst (λ (d : Result Command Sense). To (λ after. AfterCommand at r d payload data_in answer after)) (sym asks)
+      subst (λ (d : Result Command Sense). To (λ after. After d payload data_in answer after)) (sym asks)
       (done_turn host payload data_in command answer printed (its_data cdb payload command asks) p)
 
   pub command_turn : (host later : Host) (cdb payload data_in : List ℕ) (answer : Answer) → IsPrinted answer → ExecutesTo old new (λ x. x ≡ s) (λ x. x ≡ t) host later cdb payload answer data_in
-      → To (λ after. AfterCommand at r (decoded cdb payload) payload data_in answer after)
+      → To (λ after. After (decoded cdb payload) payload data_in answer after)
   command_turn host later cdb payload data_in answer printed (inl off) = quiet_answered (decoded cdb payload) payload data_in answer answers.Off tt off.1.is_answered
   command_turn host later cdb payload data_in answer printed (inr on) =
       judged_turn host (is_some old.drive.lists) cdb payload data_in on.1.judged answer printed on.1.is_judged on.1.is_answered

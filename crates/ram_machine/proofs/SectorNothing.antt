@@ -21,14 +21,38 @@ use Rattle.ram_machine.specs.SectorBytes.{bytes_of_sector, is_sector_among}
 use Rattle.model_drive.specs.declared.Kind.{Kind}
 use Rattle.model_drive.specs.declared.Kind.TheVariants as kinds
 use Rattle.model_sectors.specs.Discs.{zeros}
-use Rattle.ram_machine.specs.Register.{or_else, is_midway, AfterFull, AfterRewrite, AfterFormat, Register, settled, gone, powered, synchronised, left_by, left_in, goes_through, AfterWrite, AfterGood, AfterOther, AfterCommand, AfterPower, AfterPress, Turn, Turns}
+use Rattle.ram_machine.specs.Register.{or_else, is_midway, AfterFull, AfterRewrite, AfterFormat, Value, Bytes, Lost, bytes_in, Register, settled, gone, powered, synchronised, left_by, left_in, goes_through, AfterWrite, AfterGood, AfterOther, AfterCommand, AfterPower, AfterPress, Turn, Turns}
+
+-- the bytes of a value are among these
+abbrev pub IsIn : List (List ℕ) → Value → Type 0
+IsIn choices (Bytes bytes) = Contains choices bytes
+IsIn choices Lost = Unit {0}
+
+later_in : (bytes : List ℕ) (choices : List (List ℕ)) (value : Value) → IsIn choices value → IsIn (bytes ∷ choices) value
+later_in bytes choices (Bytes found) there = Contains-later bytes choices found there
+later_in bytes choices Lost there = tt
+
+first_in : (first : Value) (values : List Value) → IsIn (bytes_in (first ∷ values)) first
+first_in (Bytes bytes) values = Contains-first bytes (bytes_in values)
+first_in Lost values = tt
+
+past_first : (first : Value) (values : List Value) (value : Value) → IsIn (bytes_in values) value → IsIn (bytes_in (first ∷ values)) value
+past_first (Bytes bytes) values value there = later_in bytes (bytes_in values) value there
+past_first Lost values value there = there
+
+in_bytes : (values : List Value) (value : Value) → Contains values value → IsIn (bytes_in values) value
+in_bytes [] value there = absurd (Contains-none value there)
+in_bytes (first ∷ values) value there = elim (Contains-cases first values value there) [
+  | inl is ↦ subst (IsIn (bytes_in (first ∷ values))) is (first_in first values)
+  | inr more ↦ past_first first values value (in_bytes values value more)
+]
 
 module _ (at : ℕ) where
   -- what it has now, and what it may have, is one of these
   pub record Among (r : Register) (choices : List (List ℕ)) : Type 0 where
     pub zero : Contains choices (zeros 2048)
-    pub shows : (found : List ℕ) → r.now ≡ Some found → Contains choices found
-    pub falls : (found : List ℕ) → Contains r.falls found → Contains choices found
+    pub shows : (found : Value) → r.now ≡ Some found → IsIn choices found
+    pub falls : (found : Value) → Contains r.falls found → IsIn choices found
 
   carried : (choices : List (List ℕ)) (r after : Register) → after ≡ r → Among r choices → Among after choices
   carried choices r after is has = subst (λ (q : Register). Among q choices) (sym is) has
@@ -36,30 +60,30 @@ module _ (at : ℕ) where
   more : (choices : List (List ℕ)) (bytes : List ℕ) (r : Register) → Among r choices → Among r (bytes ∷ choices)
   more choices bytes r has = record {
     zero = Contains-later bytes choices (zeros 2048) has.zero;
-    shows = λ found is. Contains-later bytes choices found (has.shows found is);
-    falls = λ found there. Contains-later bytes choices found (has.falls found there);
+    shows = λ found is. later_in bytes choices found (has.shows found is);
+    falls = λ found there. later_in bytes choices found (has.falls found there);
   }
 
-  none_found : (P : List ℕ → Type 0) (found : List ℕ) → None ≡ Some found → P found
+  none_found : (P : Value → Type 0) (found : Value) → None ≡ Some found → P found
   none_found P found is = absurd (let clash : None ≡ Some found = is in cc)
 
-  in_one : (choices : List (List ℕ)) (one : List ℕ) → Contains choices one → (found : List ℕ) → Contains (one ∷ []) found → Contains choices found
-  in_one choices one has found there = elim (Contains-cases one [] found there) [ inl same ↦ subst (Contains choices) same has | inr none ↦ absurd (Contains-none found none) ]
+  in_one : (choices : List (List ℕ)) (one : Value) → IsIn choices one → (found : Value) → Contains (one ∷ []) found → IsIn choices found
+  in_one choices one has found there = elim (Contains-cases one [] found there) [ inl same ↦ subst (IsIn choices) same has | inr none ↦ absurd (Contains-none found none) ]
 
-  some_found : (choices : List (List ℕ)) (one : List ℕ) → Contains choices one → (found : List ℕ) → Some one ≡ Some found → Contains choices found
-  some_found choices one has found is = subst (Contains choices) (let same : one ≡ found = cc in same) has
+  some_found : (choices : List (List ℕ)) (one : Value) → IsIn choices one → (found : Value) → Some one ≡ Some found → IsIn choices found
+  some_found choices one has found is = subst (IsIn choices) (let same : one ≡ found = cc in same) has
 
   is_gone : (choices : List (List ℕ)) (r : Register) → Among r choices → Among (gone r) choices
-  is_gone choices r has = record { zero = has.zero; shows = none_found (Contains choices); falls = has.falls }
+  is_gone choices r has = record { zero = has.zero; shows = none_found (IsIn choices); falls = has.falls }
 
-  is_settled : (choices : List (List ℕ)) (r : Register) (bytes : List ℕ) → Contains choices bytes → Among r choices → Among (settled r bytes) choices
-  is_settled choices r bytes there has = record { zero = has.zero; shows = some_found choices bytes there; falls = in_one choices bytes there }
+  is_settled : (choices : List (List ℕ)) (r : Register) (value : Value) → IsIn choices value → Among r choices → Among (settled r value) choices
+  is_settled choices r value there has = record { zero = has.zero; shows = some_found choices value there; falls = in_one choices value there }
 
-  is_or_else : (choices : List (List ℕ)) (r : Register) (bytes : List ℕ) → Contains choices bytes → Among r choices → Among (or_else r bytes) choices
-  is_or_else choices r bytes there has = record {
+  is_or_else : (choices : List (List ℕ)) (r : Register) (value : Value) → IsIn choices value → Among r choices → Among (or_else r value) choices
+  is_or_else choices r value there has = record {
     zero = has.zero;
     shows = has.shows;
-    falls = λ found held. elim (Contains-cases bytes r.falls found held) [ inl same ↦ subst (Contains choices) same there | inr older ↦ has.falls found older ];
+    falls = λ found held. elim (Contains-cases value r.falls found held) [ inl same ↦ subst (IsIn choices) same there | inr older ↦ has.falls found older ];
   }
 
   by_answer : (choices : List (List ℕ)) (r : Register) (answer : Answer) → Among r choices → Among (left_by answer r) choices
@@ -92,12 +116,12 @@ module _ (at : ℕ) where
   by_reply choices r (replies.Event events.Off) has = has
 
   off : (choices : List (List ℕ)) (r after : Register) → after ≡ powered r None r.falls → Among r choices → Among after choices
-  off choices r after is has = carried choices (powered r None r.falls) after is (record { zero = has.zero; shows = none_found (Contains choices); falls = has.falls })
+  off choices r after is has = carried choices (powered r None r.falls) after is (record { zero = has.zero; shows = none_found (IsIn choices); falls = has.falls })
 
   by_power : (choices : List (List ℕ)) (r after : Register) (reply : Reply) → AfterPower at r reply after → Among r choices → Among after choices
   by_power choices r after (replies.Event (events.Ready capacity)) is has = found (nat_lt at capacity) is
     where
-      found : (b : Bool) → MatchBool b ((one : List ℕ) × Contains r.falls one × (after ≡ powered r (Some one) (one ∷ []))) (after ≡ powered r None r.falls) → Among after choices
+      found : (b : Bool) → MatchBool b ((one : Value) × Contains r.falls one × (after ≡ powered r (Some one) (one ∷ []))) (after ≡ powered r None r.falls) → Among after choices
       found true (one, there, same) =
           carried choices (powered r (Some one) (one ∷ [])) after same
           (record { zero = has.zero; shows = some_found choices one (has.falls one there); falls = in_one choices one (has.falls one there) })
@@ -106,7 +130,7 @@ module _ (at : ℕ) where
 
   by_press : (choices : List (List ℕ)) (r after : Register) (reply : Reply) → AfterPress r reply after → Among r choices → Among after choices
   by_press choices r after (replies.Event events.Pressed) is has =
-      carried choices (powered r None []) after is (record { zero = has.zero; shows = none_found (Contains choices); falls = λ found none. absurd (Contains-none found none) })
+      carried choices (powered r None []) after is (record { zero = has.zero; shows = none_found (IsIn choices); falls = λ found none. absurd (Contains-none found none) })
   by_press choices r after _ is has = carried choices r after is has
 
   -- a format
@@ -116,18 +140,18 @@ module _ (at : ℕ) where
   by_check choices r after false is has = carried choices r after is has
 
   by_full : (choices : List (List ℕ)) (r after : Register) (answer : Answer) → AfterFull r answer after → Among r choices → Among after choices
-  by_full choices r after answers.Good (inl is) has = carried choices (settled r (zeros 2048)) after is (is_settled choices r (zeros 2048) has.zero has)
+  by_full choices r after answers.Good (inl is) has = carried choices (settled r (Bytes (zeros 2048))) after is (is_settled choices r (Bytes (zeros 2048)) has.zero has)
   by_full choices r after answers.Good (inr is) has =
-      carried choices (gone (settled r (zeros 2048))) after is (is_gone choices (settled r (zeros 2048)) (is_settled choices r (zeros 2048) has.zero has))
+      carried choices (gone (settled r (Bytes (zeros 2048)))) after is (is_gone choices (settled r (Bytes (zeros 2048))) (is_settled choices r (Bytes (zeros 2048)) has.zero has))
   by_full choices r after (answers.Check why) is has = by_check choices r after (why.asc == 0x31) is has
   by_full choices r after answers.Cut is has =
-      carried choices (gone (or_else r (zeros 2048))) after is (is_gone choices (or_else r (zeros 2048)) (is_or_else choices r (zeros 2048) has.zero has))
+      carried choices (gone (or_else r (Bytes (zeros 2048)))) after is (is_gone choices (or_else r (Bytes (zeros 2048))) (is_or_else choices r (Bytes (zeros 2048)) has.zero has))
   by_full choices r after answers.Off is has = carried choices r after is has
   by_full choices r after answers.Fault is has = carried choices r after is has
   by_full choices r after answers.NoMemory is has = carried choices r after is has
 
-  by_rewrite : (choices : List (List ℕ)) (now : Option (List ℕ)) (r after : Register) (answer : Answer) → AfterRewrite now r answer after → Among r choices → Among after choices
-  by_rewrite choices (Some bytes) r after answer is has = left choices r after answer is has
+  by_rewrite : (choices : List (List ℕ)) (now : Option Value) (r after : Register) (answer : Answer) → AfterRewrite now r answer after → Among r choices → Among after choices
+  by_rewrite choices (Some value) r after answer is has = left choices r after answer is has
   by_rewrite choices None r after answer (inl is) has = left choices r after answer is has
   by_rewrite choices None r after answer (inr full) has = by_full choices r after answer full has
 
@@ -136,18 +160,18 @@ module _ (at : ℕ) where
   by_format choices kinds.Rewrite r after answer rewrite has = by_rewrite choices r.now r after answer rewrite has
 
   -- a write of the sector
-  by_midway : (choices : List (List ℕ)) (r after : Register) (bytes : List ℕ) (b : Bool) → MatchBool b ((after ≡ r) ⊎ (after ≡ settled r bytes)) (after ≡ r) → Contains choices bytes → Among r choices → Among after choices
+  by_midway : (choices : List (List ℕ)) (r after : Register) (bytes : List ℕ) (b : Bool) → MatchBool b ((after ≡ r) ⊎ (after ≡ settled r (Bytes bytes))) (after ≡ r) → Contains choices bytes → Among r choices → Among after choices
   by_midway choices r after bytes true (inl is) there has = carried choices r after is has
-  by_midway choices r after bytes true (inr is) there has = carried choices (settled r bytes) after is (is_settled choices r bytes there has)
+  by_midway choices r after bytes true (inr is) there has = carried choices (settled r (Bytes bytes)) after is (is_settled choices r (Bytes bytes) there has)
   by_midway choices r after bytes false is there has = carried choices r after is has
 
   by_write : (choices : List (List ℕ)) (through : Bool) (r after : Register) (bytes : List ℕ) (answer : Answer) → AfterWrite r through bytes answer after → Contains choices bytes → Among r choices → Among after choices
-  by_write choices true r after bytes answers.Good is there has = carried choices (settled r bytes) after is (is_settled choices r bytes there has)
+  by_write choices true r after bytes answers.Good is there has = carried choices (settled r (Bytes bytes)) after is (is_settled choices r (Bytes bytes) there has)
   by_write choices true r after bytes (answers.Check why) is there has = by_midway choices r after bytes (is_midway why) is there has
-  by_write choices true r after bytes answers.Cut is there has = carried choices (gone (or_else r bytes)) after is (is_gone choices (or_else r bytes) (is_or_else choices r bytes there has))
+  by_write choices true r after bytes answers.Cut is there has = carried choices (gone (or_else r (Bytes bytes))) after is (is_gone choices (or_else r (Bytes bytes)) (is_or_else choices r (Bytes bytes) there has))
   by_write choices false r after bytes answers.Good is there has =
-      carried choices (or_else (record r { now = Some bytes }) bytes) after is
-      (is_or_else choices (record r { now = Some bytes }) bytes there (record { zero = has.zero; shows = some_found choices bytes there; falls = has.falls }))
+      carried choices (or_else (record r { now = Some (Bytes bytes) }) (Bytes bytes)) after is
+      (is_or_else choices (record r { now = Some (Bytes bytes) }) (Bytes bytes) there (record { zero = has.zero; shows = some_found choices (Bytes bytes) there; falls = has.falls }))
   by_write choices false r after bytes (answers.Check why) is there has = carried choices r after is has
   by_write choices false r after bytes answers.Cut is there has = carried choices (gone r) after is (is_gone choices r has)
   by_write choices true r after bytes answers.Off is there has = carried choices r after is has
@@ -163,9 +187,9 @@ module _ (at : ℕ) where
   by_among choices false through r after bytes answer p has = left choices r after answer p has
 
   -- other commands
-  by_sync : (choices : List (List ℕ)) (now : Option (List ℕ)) (r : Register) → r.now ≡ now → Among r choices → Among (synchronised now r) choices
+  by_sync : (choices : List (List ℕ)) (now : Option Value) (r : Register) → r.now ≡ now → Among r choices → Among (synchronised now r) choices
   by_sync choices None r is has = has
-  by_sync choices (Some bytes) r is has = is_settled choices r bytes (has.shows bytes is) has
+  by_sync choices (Some value) r is has = is_settled choices r value (has.shows value is) has
 
   by_test : (choices : List (List ℕ)) (r after : Register) (b : Bool) → after ≡ (if b then r else gone r) → Among r choices → Among after choices
   by_test choices r after true is has = carried choices r after is has
@@ -227,11 +251,11 @@ module _ (at : ℕ) where
       by_line (choices_after at answered choices) turns.0 after event.line event.payload event.reply event.data_in turns.2 (by_lines choices r turns.0 answered turns.1 has)
 
   -- what it has then is zeros, one that it might have at first, or one that was sent
-  pub one_of_them : (r after : Register) (answered : List AnsweredStep) (found : List ℕ) → Turns at r answered after → r.now ≡ None → after.now ≡ Some found
-      → Contains (choices_after at answered (zeros 2048 ∷ r.falls)) found
+  pub one_of_them : (r after : Register) (answered : List AnsweredStep) (found : List ℕ) → Turns at r answered after → r.now ≡ None → after.now ≡ Some (Bytes found)
+      → Contains (choices_after at answered (zeros 2048 ∷ bytes_in r.falls)) found
   one_of_them r after answered found turns none is =
-      (by_lines (zeros 2048 ∷ r.falls) r after answered turns (record {
-        zero = Contains-first (zeros 2048) r.falls;
-        shows = λ other some. none_found (Contains (zeros 2048 ∷ r.falls)) other (sym none ∙ some);
-        falls = λ other there. Contains-later (zeros 2048) r.falls other there;
-      })).shows found is
+      (by_lines (zeros 2048 ∷ bytes_in r.falls) r after answered turns (record {
+        zero = Contains-first (zeros 2048) (bytes_in r.falls);
+        shows = λ other some. none_found (IsIn (zeros 2048 ∷ bytes_in r.falls)) other (sym none ∙ some);
+        falls = λ other there. later_in (zeros 2048) (bytes_in r.falls) other (in_bytes r.falls other there);
+      })).shows (Bytes found) is

@@ -15,7 +15,7 @@ use Rattle.model_image.specs.Image.{IsDiscImage, blank_cells}
 use Rattle.model_sectors.specs.Discs.{Standing}
 use Rattle.model_volume.specs.Starts.{Found, IsFound, IsDiscStart}
 use Rattle.model_drive.specs.Shown.{StandsBy, cells_in, block_count}
-use Rattle.model_cache.specs.Values.{Has, settled_values, plain}
+use Rattle.model_cache.specs.Values.{Contents, Has, MayHave, settled_values, plain}
 use Rattle.model_cache.specs.Shown.{CacheShown, CacheStandsFor}
 use Rattle.model_cache.proofs.Members.{Contains-first}
 use Rattle.ram_report.specs.declared.printing.Event.TheVariants as events
@@ -25,19 +25,21 @@ use Rattle.ram_machine.specs.declared.reply.Reply.{Reply}
 use Rattle.ram_machine.specs.declared.reply.Reply.TheVariants as replies
 use Rattle.ram_machine.specs.declared.stopped.Stopped.TheVariants as stopped
 use Rattle.ram_machine.specs.States.{State, Served, Unopened, Disc, IsPressedDisc}
-use Rattle.ram_machine.specs.LineSteps.{PressStep, OnDisc, Step}
+use Rattle.ram_machine.specs.LineSteps.{PressStep, LeadsOn, OnDisc, Step}
 use Rattle.ram_machine.specs.Runs.{Run}
 use Rattle.ram_machine.specs.Answered.{AnsweredStep}
 use Rattle.ram_machine.proofs.WrittenDiscs.{SoInValues, SoInContents}
 use Rattle.ram_machine.specs.Register.{Register, left_in, powered, AfterPress, Turn, Turns}
 use Rattle.ram_machine.proofs.SectorNow.{now_in}
-use Rattle.ram_machine.proofs.SectorMatching.{Matches}
-use Rattle.ram_machine.proofs.SectorTurns.{done, same_reply, rule_turn}
+use Rattle.ram_machine.proofs.SectorMatching.{Matches, Turned}
+use Rattle.ram_machine.proofs.SectorFormatted.{none_now as no_lists}
+use Rattle.ram_machine.proofs.SectorTurns.{done, same_reply, TurnUnder, rule_turn}
+use Rattle.ram_machine.proofs.SectorBoth.{one_lost, other_lost, Held, HeldBoth, none_now, line_both}
 
 -- the register is that of a state
 abbrev pub MatchesState : (at : ℕ) → State → Register → Type 0
 MatchesState at (Unopened image) r = (shape : Shape) → ¬ IsDiscImage shape image
-MatchesState at (Disc s) r = Matches at s.disc.shown s.disc.contents r
+MatchesState at (Disc s) r = HeldBoth at s.disc.shown r
 
 -- a line turns it, and it is that of the state then
 pub record TurnedTo (at : ℕ) (t : State) (Rule : Register → Type 0) : Type 0 where
@@ -77,11 +79,18 @@ off_none at shape cells all standing start = ap (λ (x : Standing). now_in at (p
 
 pressed_matches : (at : ℕ) (r : Register) (shape : Shape) (t : State) → IsPressedDisc shape t → MatchesState at t (powered r None [])
 pressed_matches at r shape (Unopened bytes) is = absurd is
-pressed_matches at r shape (Disc s) is = record {
-  now = sym (ap (now_in at) is.opened.contents_is ∙ off_none at shape (blank_cells shape) is.opened.all is.opened.standing is.opened.starts);
-  falls = subst (SoInContents (Contains []) at) (sym is.opened.contents_is) (no_candidates at (Contains []) shape is.opened.all is.opened.standing is.opened.starts);
-  caches = sym (ap (λ (x : CacheShown). x.caches) is.opened.shown_is);
-}
+pressed_matches at r shape (Disc s) is = record { one = held one_lost; other = held other_lost }
+  where
+    held : (lost : List ℕ) → Held lost at s.disc.shown (powered r None [])
+    held lost = record {
+      contents = s.disc.contents;
+      stands = s.disc.stands;
+      matches = record {
+        now = sym (ap (now_in at) is.opened.contents_is ∙ off_none at shape (blank_cells shape) is.opened.all is.opened.standing is.opened.starts);
+        falls = subst (SoInContents (Contains []) at) (sym is.opened.contents_is) (no_candidates at (Contains []) shape is.opened.all is.opened.standing is.opened.starts);
+        caches = sym (ap (λ (x : CacheShown). x.caches) is.opened.shown_is);
+      };
+    }
 
 module _ (at : ℕ) (r : Register) where
   press_turn : (s t : State) (shape : Shape) (reply : Reply) → PressStep s shape (Ok reply) t → MatchesState at s r → TurnedTo at t (λ after. AfterPress r reply after)
@@ -90,16 +99,30 @@ module _ (at : ℕ) (r : Register) where
   press_turn s t shape _ step was = absurd step
 
   -- ---- a line
+  -- where no lists are in use it has nothing
+  nothing_now : (lost : List ℕ) (old : CacheShown) (c : Contents) → CacheStandsFor old c → Matches lost at old c r → old.drive.lists ≡ None → r.now ≡ None
+  nothing_now lost old (Has v) stands was none = none_now lost r.now (was.now ∙ no_lists at old v stands none)
+  nothing_now lost old (MayHave all) stands was none = none_now lost r.now was.now
+
+  -- what one of the things that the drive stood for says of the line
+  turned_by : (lost : List ℕ) (s t : Served) (line : Line) (payload data_in : List ℕ) (reply : Reply) (before : Contents) (stood : CacheStandsFor s.disc.shown before) → Matches lost at s.disc.shown before r
+      → (leads : LeadsOn s t line payload (Ok reply) data_in before) → Turned lost at t.disc.shown leads.after (λ a. TurnUnder lost at s.disc.shown.drive.lists leads.after r line payload reply data_in a)
+  turned_by lost s t line payload data_in reply before stood was leads =
+      rule_turn lost at s.disc.shown t.disc.shown before leads.after r stood was s.host t.host line payload reply data_in leads.stands
+      (λ disc is. whole_long t.disc.shown disc (subst (CacheStandsFor t.disc.shown) is leads.stands))
+      leads.rule
+
   disc_turn : (s : Served) (t : State) (line : Line) (payload data_in : List ℕ) (reply : Reply) → MatchesState at (Disc s) r → OnDisc (Disc s) line payload (Ok reply) data_in t
       → TurnedTo at t (λ after. Turn at r line payload reply data_in after)
   disc_turn s (Unopened image) line payload data_in reply was step = absurd step
   disc_turn s (Disc t) line payload data_in reply was step =
-      let turned = rule_turn at s.disc.shown t.disc.shown s.disc.contents t.disc.contents r s.disc.stands was s.host t.host line payload reply data_in t.disc.stands
-      (λ disc is.
-      let stands : CacheStandsFor t.disc.shown (Has (settled_values disc)) = subst (CacheStandsFor t.disc.shown) is t.disc.stands in
-      whole_long t.disc.shown disc stands)
-      step.rule in
-      record { after = turned.after; rule = turned.rule; matches = turned.matches }
+      let one = step.each was.one.contents was.one.stands in
+      let other = step.each was.other.contents was.other.stands in
+      let turned = line_both at t.disc.shown one.after other.after one.stands other.stands r s.disc.shown.drive.lists line payload reply data_in
+      (nothing_now one_lost s.disc.shown was.one.contents was.one.stands was.one.matches)
+      (turned_by one_lost s t line payload data_in reply was.one.contents was.one.stands was.one.matches one)
+      (turned_by other_lost s t line payload data_in reply was.other.contents was.other.stands was.other.matches other) in
+      record { after = turned.after; rule = turned.rule; matches = turned.held }
 
   other_turn : (s t : State) (line : Line) (payload data_in : List ℕ) (reply : Reply) → MatchesState at s r → OnDisc s line payload (Ok reply) data_in t → TurnedTo at t (λ after. Turn at r line payload reply data_in after)
   other_turn (Unopened image) t line payload data_in reply was step = absurd (let clash : Ok reply ≡ Err stopped.NotADisc = step.0 in cc)

@@ -20,7 +20,7 @@ use Rattle.ram_machine.specs.declared.reply.Reply.TheVariants as replies
 use Rattle.ram_machine.specs.Answered.{AnsweredStep}
 use Rattle.ram_machine.specs.Acknowledged.{WasDone, LeavesAsDecoded, LeavesSector, LeaveSector}
 use Rattle.ram_machine.specs.SectorBytes.{bytes_of_sector, is_sector_among}
-use Rattle.ram_machine.specs.Register.{Register, settled, gone, powered, synchronised, left_by, left_in, goes_through, AfterWrite, AfterGood, AfterOther, AfterCommand, AfterPower, AfterPress, Turn, Turns, HasSettled}
+use Rattle.ram_machine.specs.Register.{Value, Bytes, Register, settled, gone, powered, synchronised, left_by, left_in, goes_through, AfterWrite, AfterGood, AfterOther, AfterCommand, AfterPower, AfterPress, Turn, Turns, HasSettled}
 
 module _ (at : ℕ) (bytes : List ℕ) where
   abbrev Has : Register → Type 0
@@ -59,13 +59,13 @@ module _ (at : ℕ) (bytes : List ℕ) where
   by_reply r (replies.Event events.Off) has = has
 
   -- these are the bytes
-  alone : (one : List ℕ) → one ≡ bytes → (found : List ℕ) → Contains (one ∷ []) found → found ≡ bytes
+  alone : (one : Value) → one ≡ Bytes bytes → (found : Value) → Contains (one ∷ []) found → found ≡ Bytes bytes
   alone one is found there = elim (Contains-cases one [] found there) [ inl same ↦ sym same ∙ is | inr none ↦ absurd (Contains-none found none) ]
 
-  now_them : (now : List ℕ) (r : Register) (caches : Bool) → now ≡ bytes → Has (record { now = Some now; falls = now ∷ []; caches = caches })
+  now_them : (now : Value) (r : Register) (caches : Bool) → now ≡ Bytes bytes → Has (record { now = Some now; falls = now ∷ []; caches = caches })
   now_them now r caches is = record { shows = λ found some. (let same : now ≡ found = cc in sym same) ∙ is; falls = alone now is }
 
-  by_sync : (r : Register) (now : Option (List ℕ)) → r.now ≡ now → Has r → Has (synchronised now r)
+  by_sync : (r : Register) (now : Option Value) → r.now ≡ now → Has r → Has (synchronised now r)
   by_sync r None is has = has
   by_sync r (Some now) is has = now_them now r r.caches (has.shows now is)
 
@@ -79,7 +79,7 @@ module _ (at : ℕ) (bytes : List ℕ) where
   by_power : (r after : Register) (reply : Reply) → AfterPower at r reply after → Has r → Has after
   by_power r after (replies.Event (events.Ready capacity)) is has = found (nat_lt at capacity) is
     where
-      found : (b : Bool) → MatchBool b ((one : List ℕ) × Contains r.falls one × (after ≡ powered r (Some one) (one ∷ []))) (after ≡ powered r None r.falls) → Has after
+      found : (b : Bool) → MatchBool b ((one : Value) × Contains r.falls one × (after ≡ powered r (Some one) (one ∷ []))) (after ≡ powered r None r.falls) → Has after
       found true (one, there, same) = carried (powered r (Some one) (one ∷ [])) after same (now_them one r false (has.falls one there))
       found false same = off r after same has
   by_power r after _ is has = off r after is has
@@ -173,10 +173,13 @@ pub shows_settled : (at : ℕ) (r after : Register) (event : AnsweredStep) (lba 
     → is_sector_among lba n at ≡ true → HasSettled r bytes → bytes_of_sector lba event.data_in at ≡ bytes
 shows_settled at r after event lba n bytes turn done among has =
     let good = good_turn at r after event (commands.Read lba n) turn done in
-    has.shows (bytes_of_sector lba event.data_in at) (good.0.shown among)
+    same_bytes (bytes_of_sector lba event.data_in at) bytes (has.shows (Bytes (bytes_of_sector lba event.data_in at)) (good.0.shown among))
+  where
+    same_bytes : (a b : List ℕ) → Bytes a ≡ Bytes b → a ≡ b
+    same_bytes a b is = cc
 
 -- a write through the cache settles what it sent
-through_case : (r after : Register) (among through : Bool) (bytes : List ℕ) → among ≡ true → through ≡ true → MatchBool among (AfterWrite r through bytes answers.Good after) (after ≡ r) → after ≡ settled r bytes
+through_case : (r after : Register) (among through : Bool) (bytes : List ℕ) → among ≡ true → through ≡ true → MatchBool among (AfterWrite r through bytes answers.Good after) (after ≡ r) → after ≡ settled r (Bytes bytes)
 through_case r after true true bytes is also p = p
 through_case r after true false bytes is also p = absurd (true≢false (sym also))
 through_case r after false through bytes is also p = absurd (true≢false (sym is))
@@ -186,4 +189,4 @@ pub settles : (at : ℕ) (r after : Register) (event : AnsweredStep) (lba n : �
 settles at r after event lba n fua turn done among goes =
     let sent : List ℕ = bytes_of_sector lba event.payload at in
     let good = good_turn at r after event (commands.Write lba n fua) turn done in
-    subst (λ (q : Register). HasSettled q sent) (sym (through_case r after (is_sector_among lba n at) (goes_through r lba n fua) sent among goes good)) (now_them at sent sent r r.caches refl)
+    subst (λ (q : Register). HasSettled q sent) (sym (through_case r after (is_sector_among lba n at) (goes_through r lba n fua) sent among goes good)) (now_them at sent (Bytes sent) r r.caches refl)

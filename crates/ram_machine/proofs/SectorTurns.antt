@@ -1,5 +1,5 @@
 -- A line, and a run, and the register of a sector.
-use Rattle.std.specs.Prelude.{◌≡◌, ℕ, ◌+◌, ◌*◌, ◌<◌, Bool, false, nat_lt, MatchBool, None, Some, Ok, List, [], ◌∷◌, length}
+use Rattle.std.specs.Prelude.{◌≡◌, ℕ, ◌+◌, ◌*◌, ◌<◌, Bool, false, nat_lt, MatchBool, Option, None, Some, Ok, List, [], ◌∷◌, length}
 use Rattle.std.specs.List.{Contains}
 use Rattle.std.proofs.Common.{arith, refl, sym, ap, ◌∙◌, inl, inr, subst}
 use Rattle.std.proofs.lemmas.Bool.{cases_lt, lt-ltb, le-ltb}
@@ -7,6 +7,7 @@ use Rattle.model_sectors.specs.Discs.{block_of, sectors_of}
 use Rattle.model_sectors.specs.Requests.{block_with}
 use Rattle.model_sectors.specs.declared.PowerOut.{PowerOut}
 use Rattle.model_sectors.specs.declared.PowerOut.TheVariants as powers
+use Rattle.model_places.specs.Places.{Lists}
 use Rattle.model_drive.specs.Shown.{block_count}
 use Rattle.model_drive.specs.Power.{PowerCause}
 use Rattle.model_cache.specs.declared.TickOut.{TickOut}
@@ -34,11 +35,12 @@ use Rattle.ram_machine.specs.Control.{contents_after_fail}
 use Rattle.ram_machine.specs.Replies.{Outcome, power_outcome, fail_outcome, wear_outcome, tick_outcome, command_outcome, event}
 use Rattle.ram_machine.specs.LineSteps.{DiscRule}
 use Rattle.ram_machine.proofs.WrittenDiscs.{SoInBlock, SoInContents, so_of_block, block_sector}
-use Rattle.ram_machine.specs.Register.{Register, left_by, left_in, powered, AfterCommand, AfterPower, Turn}
+use Rattle.ram_machine.specs.Register.{Value, Register, left_by, left_in, powered, AfterPower, Turn}
+use Rattle.ram_machine.proofs.SectorValues.{falls_under, has_bytes}
 use Rattle.ram_machine.proofs.SectorNow.{now_in, now_there, now_gone, here, tick_answer, tick_stays}
 use Rattle.ram_machine.proofs.CacheModes.{SameMode, tick_mode}
 use Rattle.ram_machine.proofs.SectorMatching.{Matches, Turned, by_rule, stays, leaves}
-use Rattle.ram_machine.proofs.SectorCommands.{command_turn}
+use Rattle.ram_machine.proofs.SectorCommands.{CommandUnder, command_turn}
 
 -- a line that came out with a reply
 abbrev pub done : Reply → Outcome
@@ -56,23 +58,29 @@ printed_reply cdb reply answers.Off is = (tt, let same : reply ≡ replies.Comma
 printed_reply cdb reply answers.Fault is = absurd cc
 printed_reply cdb reply answers.NoMemory is = absurd cc
 
-module _ (at : ℕ) (old new : CacheShown) (s t : Contents) (r : Register) (stood : CacheStandsFor old s) (was : Matches at old s r) where
+-- what a line leaves of a register, where a lost sector has these bytes
+abbrev pub TurnUnder : (lost : List ℕ) (at : ℕ) → Option Lists → (t : Contents) → Register → Line → (payload : List ℕ) → Reply → (data_in : List ℕ) → Register → Type 0
+TurnUnder lost at lists t r (lines.Command cdb) payload reply data_in after =
+    (answer : Answer) × (reply ≡ replies.Command cdb answer) × CommandUnder lost at lists t r (decoded cdb payload) payload data_in answer after
+TurnUnder lost at lists t r line payload reply data_in after = Turn at r line payload reply data_in after
+
+module _ (lost : List ℕ) (at : ℕ) (old new : CacheShown) (s t : Contents) (r : Register) (stood : CacheStandsFor old s) (was : Matches lost at old s r) where
   abbrev To : (Register → Type 0) → Type 0
-  To Rule = Turned at new t Rule
+  To Rule = Turned lost at new t Rule
 
   -- ---- a `power` line
   -- its reply, by how it went
   abbrev IsPowerReply : PowerOut → Reply → Type 0
   IsPowerReply out reply = Ok reply ≡ power_outcome out
 
-  off_now : new.caches ≡ false → now_in at t ≡ None → SoInContents (Contains r.falls) at t → To (λ after. after ≡ powered r None r.falls)
+  off_now : new.caches ≡ false → now_in at t ≡ None → SoInContents (Contains (falls_under lost r.falls)) at t → To (λ after. after ≡ powered r None r.falls)
   off_now off none so = record { after = powered r None r.falls; rule = refl; matches = record { now = sym none; falls = so; caches = sym off } }
 
   -- a disc that is ready has one value of each block
   abbrev FindsIn : Bool → Register → Type 0
-  FindsIn has after = MatchBool has ((bytes : List ℕ) × Contains r.falls bytes × (after ≡ powered r (Some bytes) (bytes ∷ []))) (after ≡ powered r None r.falls)
+  FindsIn has after = MatchBool has ((value : Value) × Contains r.falls value × (after ≡ powered r (Some value) (value ∷ []))) (after ≡ powered r None r.falls)
 
-  ready_now : (known : ℕ) → new.caches ≡ false → HasOneBy (SoInBlock (Contains r.falls) at) (block_with at) t → known ≡ block_count new.drive * 16
+  ready_now : (known : ℕ) → new.caches ≡ false → HasOneBy (SoInBlock (Contains (falls_under lost r.falls)) at) (block_with at) t → known ≡ block_count new.drive * 16
       → ((disc : List ℕ) → t ≡ Has (settled_values disc) → length disc ≡ 32768 * block_count new.drive) → To (λ after. FindsIn (nat_lt at known) after)
   ready_now known off found told whole = elim (cases_lt at known) [
     | inr out ↦
@@ -83,8 +91,8 @@ module _ (at : ℕ) (old new : CacheShown) (s t : Contents) (r : Register) (stoo
           rule = refl;
           matches = record {
             now = sym (ap (now_in at) found.is ∙ now_gone at found.disc past);
-            falls = subst (SoInContents (Contains r.falls) at) (sym found.is)
-                (one (SoInBlock (Contains r.falls) at) (block_with at) (settled_values found.disc) (settled_within (SoInBlock (Contains r.falls) at) (block_with at) found.disc found.one));
+            falls = subst (SoInContents (Contains (falls_under lost r.falls)) at) (sym found.is)
+                (one (SoInBlock (Contains (falls_under lost r.falls)) at) (block_with at) (settled_values found.disc) (settled_within (SoInBlock (Contains (falls_under lost r.falls)) at) (block_with at) found.disc found.one));
             caches = sym off;
           };
         })
@@ -92,15 +100,17 @@ module _ (at : ℕ) (old new : CacheShown) (s t : Contents) (r : Register) (stoo
         let long : length found.disc ≡ 32768 * block_count new.drive = whole found.disc found.is in
         let has : HasBlock found.disc (block_with at) = omega (arith, inside, told, long) in
         let bytes : List ℕ = sectors_of found.disc at 1 in
+        let held = has_bytes lost r.falls bytes (subst (Contains (falls_under lost r.falls)) (block_sector found.disc at) (found.one has)) in
         subst (λ (b : Bool). To (λ after. FindsIn b after)) (sym (lt-ltb at known inside)) (record {
-          after = powered r (Some bytes) (bytes ∷ []);
-          rule = (bytes, subst (Contains r.falls) (block_sector found.disc at) (found.one has), refl);
+          after = powered r (Some held.value) (held.value ∷ []);
+          rule = (held.value, held.among, refl);
           matches = record {
-            now = sym (ap (now_in at) found.is ∙ now_there at found.disc (omega (arith, has)));
-            falls = subst (SoInContents (Contains (bytes ∷ [])) at) (sym found.is)
+            now = ap Some held.has ∙ sym (ap (now_in at) found.is ∙ now_there at found.disc (omega (arith, has)));
+            falls = subst (λ (b : List ℕ). SoInContents (Contains (b ∷ [])) at t) (sym held.has)
+                (subst (SoInContents (Contains (bytes ∷ [])) at) (sym found.is)
                 (one (SoInBlock (Contains (bytes ∷ [])) at) (block_with at) (settled_values found.disc)
                 (settled_within (SoInBlock (Contains (bytes ∷ [])) at) (block_with at) found.disc
-                (λ there. so_of_block (Contains (bytes ∷ [])) at found.disc (block_of found.disc (block_with at)) refl (Contains-first bytes []))));
+                (λ there. so_of_block (Contains (bytes ∷ [])) at found.disc (block_of found.disc (block_with at)) refl (Contains-first bytes [])))));
             caches = sym off;
           };
         })
@@ -110,13 +120,13 @@ module _ (at : ℕ) (old new : CacheShown) (s t : Contents) (r : Register) (stoo
       → PowerContents new.drive (λ x. x ≡ t) s out → To (λ after. AfterPower at r reply after)
   power_turn reply (powers.Ready known) is off cause whole step =
       subst (λ (x : Reply). To (λ after. AfterPower at r x after)) (let same : replies.Event (events.Ready known) ≡ reply = cc in same)
-      (ready_now known off (power_finds_one (SoInBlock (Contains r.falls) at) (block_with at) new.drive s t known step was.falls) cause.known_is whole)
+      (ready_now known off (power_finds_one (SoInBlock (Contains (falls_under lost r.falls)) at) (block_with at) new.drive s t known step was.falls) cause.known_is whole)
   power_turn reply powers.NotFormatted is off cause whole step =
       subst (λ (x : Reply). To (λ after. AfterPower at r x after)) (let same : replies.Event events.NotFormatted ≡ reply = cc in same)
-      (off_now off (sym (ap (now_in at) step) ∙ now_gone at [] (omega arith)) (power_falls (SoInBlock (Contains r.falls) at) (block_with at) new.drive s t powers.NotFormatted step was.falls))
+      (off_now off (sym (ap (now_in at) step) ∙ now_gone at [] (omega arith)) (power_falls (SoInBlock (Contains (falls_under lost r.falls)) at) (block_with at) new.drive s t powers.NotFormatted step was.falls))
   power_turn reply powers.Cut is off cause whole step =
       subst (λ (x : Reply). To (λ after. AfterPower at r x after)) (let same : replies.Event events.Cut ≡ reply = cc in same)
-      (off_now off (sym (ap (now_in at) step)) (power_falls (SoInBlock (Contains r.falls) at) (block_with at) new.drive s t powers.Cut step was.falls))
+      (off_now off (sym (ap (now_in at) step)) (power_falls (SoInBlock (Contains (falls_under lost r.falls)) at) (block_with at) new.drive s t powers.Cut step was.falls))
   power_turn reply powers.Fault is off cause whole step = absurd cc
   power_turn reply powers.NoMemory is off cause whole step = absurd cc
 
@@ -125,7 +135,7 @@ module _ (at : ℕ) (old new : CacheShown) (s t : Contents) (r : Register) (stoo
   event_stays reply mode is uncut = by_reply reply uncut
     where
       kept : To (λ after. after ≡ r)
-      kept = stays at old new s t r was mode (here at s t is) (subst (SoInContents (Contains r.falls) at) is was.falls)
+      kept = stays lost at old new s t r was mode (here at s t is) (subst (SoInContents (Contains (falls_under lost r.falls)) at) is was.falls)
 
       by_reply : (x : Reply) → ¬ (x ≡ replies.Event events.Cut) → To (λ after. after ≡ left_in x r)
       by_reply replies.Nothing bad = kept
@@ -169,8 +179,8 @@ module _ (at : ℕ) (old new : CacheShown) (s t : Contents) (r : Register) (stoo
       kept : (o : TickOut) (x : Reply) → IsPrinted (tick_answer o) → x ≡ reply → TickContents (λ y. y ≡ t) s o → left_by (tick_answer o) r ≡ left_in x r → To (λ after. after ≡ left_in reply r)
       kept o x printed same went agrees =
           subst (λ (y : Reply). To (λ after. after ≡ left_in y r)) same
-          (by_rule at new t (λ after. after ≡ left_by (tick_answer o) r) (λ after. after ≡ left_in x r) (λ after e. e ∙ agrees)
-          (leaves at old new s t r was mode (tick_answer o) printed (tick_stays at s t o went) (tick_falls (SoInBlock (Contains r.falls) at) (block_with at) s t o went was.falls)))
+          (by_rule lost at new t (λ after. after ≡ left_by (tick_answer o) r) (λ after. after ≡ left_in x r) (λ after e. e ∙ agrees)
+          (leaves lost at old new s t r was mode (tick_answer o) printed (tick_stays at s t o went) (tick_falls (SoInBlock (Contains (falls_under lost r.falls)) at) (block_with at) s t o went was.falls)))
 
       by_out : (o : TickOut) → Ok reply ≡ tick_outcome o → TickContents (λ y. y ≡ t) s o → To (λ after. after ≡ left_in reply r)
       by_out ticks.Idle e went = kept ticks.Idle (replies.Event events.Idle) tt (replied (replies.Event events.Idle) e) went refl
@@ -184,27 +194,27 @@ module _ (at : ℕ) (old new : CacheShown) (s t : Contents) (r : Register) (stoo
   -- ---- any line on a disc
   pub rule_turn : (host later : Host) (line : Line) (payload : List ℕ) (reply : Reply) (data_in : List ℕ) → CacheStandsFor new t
       → ((disc : List ℕ) → t ≡ Has (settled_values disc) → length disc ≡ 32768 * block_count new.drive)
-      → DiscRule old new (λ x. x ≡ s) (λ x. x ≡ t) host later line payload (Ok reply) data_in → To (λ after. Turn at r line payload reply data_in after)
+      → DiscRule old new (λ x. x ≡ s) (λ x. x ≡ t) host later line payload (Ok reply) data_in → To (λ after. TurnUnder lost at old.drive.lists t r line payload reply data_in after)
   rule_turn host later lines.Power payload reply data_in stands whole p =
-      by_rule at new t (λ after. AfterPower at r reply after) (λ after. (data_in ≡ []) × AfterPower at r reply after) (λ after q. (p.1, q))
+      by_rule lost at new t (λ after. AfterPower at r reply after) (λ after. (data_in ≡ []) × AfterPower at r reply after) (λ after q. (p.1, q))
       (power_turn reply p.0.out p.0.outcome_is p.0.powered.cause.1.1 p.0.powered.cause.0 whole (p.0.powered.step s refl))
   rule_turn host later (lines.Fail block) payload reply data_in stands whole p =
-      by_rule at new t (λ after. after ≡ left_in reply r) (λ after. (data_in ≡ []) × (after ≡ left_in reply r)) (λ after q. (p.1, q))
+      by_rule lost at new t (λ after. after ≡ left_in reply r) (λ after. (data_in ≡ []) × (after ≡ left_in reply r)) (λ after q. (p.1, q))
       (event_stays reply p.0.cache.1 (same_after_fail reply p.0.end p.0.outcome_is (p.0.stands s refl)) (uncut_fail reply p.0.end p.0.outcome_is))
   rule_turn host later (lines.Wear block n) payload reply data_in stands whole p =
-      by_rule at new t (λ after. after ≡ left_in reply r) (λ after. (data_in ≡ []) × (after ≡ left_in reply r)) (λ after q. (p.1, q))
+      by_rule lost at new t (λ after. after ≡ left_in reply r) (λ after. (data_in ≡ []) × (after ≡ left_in reply r)) (λ after q. (p.1, q))
       (event_stays reply p.0.keeps.cache.1 (p.0.keeps.stands s refl) (uncut_wear reply p.0.end p.0.outcome_is))
   rule_turn host later (lines.Cut n fate) payload reply data_in stands whole p =
-      by_rule at new t (λ after. after ≡ left_in reply r) (λ after. (data_in ≡ []) × (after ≡ left_in reply r)) (λ after q. (p.1, q))
+      by_rule lost at new t (λ after. after ≡ left_in reply r) (λ after. (data_in ≡ []) × (after ≡ left_in reply r)) (λ after q. (p.1, q))
       (event_stays reply p.0.keeps.cache.1 (p.0.keeps.stands s refl) (let is : Ok reply ≡ event events.Armed = p.0.outcome_is in λ cut. cc))
   rule_turn host later lines.Tick payload reply data_in stands whole p =
-      by_rule at new t (λ after. after ≡ left_in reply r) (λ after. (data_in ≡ []) × (after ≡ left_in reply r)) (λ after q. (p.1, q))
+      by_rule lost at new t (λ after. after ≡ left_in reply r) (λ after. (data_in ≡ []) × (after ≡ left_in reply r)) (λ after q. (p.1, q))
       (tick_turn reply p.0.out p.0.outcome_is (tick_mode old new p.0.out p.0.cause) (p.0.step s refl))
   rule_turn host later (lines.Command cdb) payload reply data_in stands whole p =
       let is = printed_reply cdb reply p.answer p.outcome_is in
-      by_rule at new t (λ after. AfterCommand at r (decoded cdb payload) payload data_in p.answer after)
-      (λ after. (answer : Answer) × (reply ≡ replies.Command cdb answer) × AfterCommand at r (decoded cdb payload) payload data_in answer after)
+      by_rule lost at new t (λ after. CommandUnder lost at old.drive.lists t r (decoded cdb payload) payload data_in p.answer after)
+      (λ after. (answer : Answer) × (reply ≡ replies.Command cdb answer) × CommandUnder lost at old.drive.lists t r (decoded cdb payload) payload data_in answer after)
       (λ after q. (p.answer, is.1, q))
-      (command_turn at old new s t r stood was host later cdb payload data_in p.answer is.0 p.step)
+      (command_turn lost at old new s t r stood was host later cdb payload data_in p.answer is.0 p.step)
   rule_turn host later lines.Empty payload reply data_in stands whole p = absurd p
   rule_turn host later (lines.Press zones scale psa) payload reply data_in stands whole p = absurd p

@@ -23,7 +23,8 @@ use Rattle.ram_report.specs.ReportLines.{IsPrinted}
 use Rattle.ram_machine.specs.Acknowledged.{IsAmong}
 use Rattle.ram_machine.specs.SectorBytes.{bytes_of_sector}
 use Rattle.ram_machine.proofs.WrittenDiscs.{Lies, lies, SoInBlock, SoInValues, SoInContents, so_shown, so_of_block}
-use Rattle.ram_machine.specs.Register.{Register, settled, or_else, goes_through, is_midway, AfterWrite}
+use Rattle.ram_machine.specs.Register.{Bytes, Register, settled, or_else, goes_through, is_midway, AfterWrite}
+use Rattle.ram_machine.proofs.SectorValues.{falls_under}
 use Rattle.ram_machine.proofs.SectorNow.{now_of, now_in, now_there, now_same, here}
 use Rattle.ram_machine.proofs.CacheModes.{SameMode, write_mode}
 use Rattle.ram_machine.proofs.SectorMatching.{Matches, Turned, so_weaker, stays, goes, goes_or_else, settles}
@@ -207,49 +208,49 @@ module _ (at lba n : ℕ) (payload : List ℕ) (whole : length payload ≡ 2048 
     into writes.Fault cause step = tt
 
 -- what is left of the register then
-module _ (at : ℕ) (old new : CacheShown) (s t : Contents) (r : Register) (was : Matches at old s r) (mode : SameMode old new) (bytes : List ℕ) where
+module _ (lost : List ℕ) (at : ℕ) (old new : CacheShown) (s t : Contents) (r : Register) (was : Matches lost at old s r) (mode : SameMode old new) (bytes : List ℕ) where
   abbrev To : (through : Bool) → Answer → Type 0
-  To through answer = Turned at new t (λ after. AfterWrite r through bytes answer after)
+  To through answer = Turned lost at new t (λ after. AfterWrite r through bytes answer after)
 
-  kept_or : (why_left : (now_in at t ≡ now_in at s) × SoInContents (Contains r.falls) at t) → Turned at new t (λ after. after ≡ r)
-  kept_or (same, so) = stays at old new s t r was mode same so
+  kept_or : (why_left : (now_in at t ≡ now_in at s) × SoInContents (Contains (falls_under lost r.falls)) at t) → Turned lost at new t (λ after. after ≡ r)
+  kept_or (same, so) = stays lost at old new s t r was mode same so
 
-  checked : (midway : Bool) → MatchBool midway (IsLeft at bytes r.falls s t ⊎ IsDone at bytes r.falls s t) (IsLeft at bytes r.falls s t)
-      → Turned at new t (λ after. MatchBool midway ((after ≡ r) ⊎ (after ≡ settled r bytes)) (after ≡ r))
-  checked true (inl (same, so)) = let q = stays at old new s t r was mode same so in record { after = q.after; rule = inl q.rule; matches = q.matches }
-  checked true (inr (is, so)) = let q = settles at old new s t r was mode bytes is so in record { after = q.after; rule = inr q.rule; matches = q.matches }
-  checked false (same, so) = stays at old new s t r was mode same so
+  checked : (midway : Bool) → MatchBool midway (IsLeft at bytes (falls_under lost r.falls) s t ⊎ IsDone at bytes (falls_under lost r.falls) s t) (IsLeft at bytes (falls_under lost r.falls) s t)
+      → Turned lost at new t (λ after. MatchBool midway ((after ≡ r) ⊎ (after ≡ settled r (Bytes bytes))) (after ≡ r))
+  checked true (inl (same, so)) = let q = stays lost at old new s t r was mode same so in record { after = q.after; rule = inl q.rule; matches = q.matches }
+  checked true (inr (is, so)) = let q = settles lost at old new s t r was mode (Bytes bytes) is so in record { after = q.after; rule = inr q.rule; matches = q.matches }
+  checked false (same, so) = stays lost at old new s t r was mode same so
 
-  turned_through : (answer : Answer) → IsPrinted answer → WroteThrough at bytes r.falls s t answer → To true answer
-  turned_through answers.Good printed (is, so) = settles at old new s t r was mode bytes is so
+  turned_through : (answer : Answer) → IsPrinted answer → WroteThrough at bytes (falls_under lost r.falls) s t answer → To true answer
+  turned_through answers.Good printed (is, so) = settles lost at old new s t r was mode (Bytes bytes) is so
   turned_through (answers.Check why) printed p = checked (is_midway why) p
-  turned_through answers.Cut printed (none, so) = goes_or_else at old new s t r was mode bytes none so
-  turned_through answers.Off printed (same, so) = stays at old new s t r was mode same so
+  turned_through answers.Cut printed (none, so) = goes_or_else lost at old new s t r was mode (Bytes bytes) none so
+  turned_through answers.Off printed (same, so) = stays lost at old new s t r was mode same so
   turned_through answers.Fault printed p = absurd printed
   turned_through answers.NoMemory printed p = absurd printed
 
-  turned_into : (answer : Answer) → IsPrinted answer → WroteInto at bytes r.falls s t answer → To false answer
+  turned_into : (answer : Answer) → IsPrinted answer → WroteInto at bytes (falls_under lost r.falls) s t answer → To false answer
   turned_into answers.Good printed (is, so) = record {
-    after = or_else (record r { now = Some bytes }) bytes;
+    after = or_else (record r { now = Some (Bytes bytes) }) (Bytes bytes);
     rule = refl;
     matches = record { now = sym is; falls = so; caches = was.caches ∙ sym mode };
   }
-  turned_into (answers.Check why) printed (same, so) = stays at old new s t r was mode same so
-  turned_into answers.Cut printed (none, so) = goes at old new s t r was mode none so
-  turned_into answers.Off printed (same, so) = stays at old new s t r was mode same so
+  turned_into (answers.Check why) printed (same, so) = stays lost at old new s t r was mode same so
+  turned_into answers.Cut printed (none, so) = goes lost at old new s t r was mode none so
+  turned_into answers.Off printed (same, so) = stays lost at old new s t r was mode same so
   turned_into answers.Fault printed p = absurd printed
   turned_into answers.NoMemory printed p = absurd printed
 
 -- a write that covers the sector
-module _ (at lba n : ℕ) (payload : List ℕ) (whole : length payload ≡ 2048 * n) (among : IsAmong lba n at) (old new : CacheShown) (t : Contents) (r : Register) where
+module _ (lost : List ℕ) (at lba n : ℕ) (payload : List ℕ) (whole : length payload ≡ 2048 * n) (among : IsAmong lba n at) (old new : CacheShown) (t : Contents) (r : Register) where
   abbrev Goes : (through : Bool) → Answer → Type 0
-  Goes through answer = Turned at new t (λ after. AfterWrite r through (bytes_of_sector lba payload at) answer after)
+  Goes through answer = Turned lost at new t (λ after. AfterWrite r through (bytes_of_sector lba payload at) answer after)
 
-  off_goes : (through : Bool) (all : List Values) → Matches at old (MayHave all) r → SameMode old new → MayHave all ≡ t → Goes through answers.Off
-  off_goes true all was mode is = stays at old new (MayHave all) t r was mode (here at (MayHave all) t is) (subst (SoInContents (Contains r.falls) at) is was.falls)
-  off_goes false all was mode is = stays at old new (MayHave all) t r was mode (here at (MayHave all) t is) (subst (SoInContents (Contains r.falls) at) is was.falls)
+  off_goes : (through : Bool) (all : List Values) → Matches lost at old (MayHave all) r → SameMode old new → MayHave all ≡ t → Goes through answers.Off
+  off_goes true all was mode is = stays lost at old new (MayHave all) t r was mode (here at (MayHave all) t is) (subst (SoInContents (Contains (falls_under lost r.falls)) at) is was.falls)
+  off_goes false all was mode is = stays lost at old new (MayHave all) t r was mode (here at (MayHave all) t is) (subst (SoInContents (Contains (falls_under lost r.falls)) at) is was.falls)
 
-  through_off : (through : Bool) (all : List Values) (out : WriteOut) → Matches at old (MayHave all) r → SameMode old new → ThroughContents old new (λ x. x ≡ t) (MayHave all) lba n payload out → Goes through (write_answer out)
+  through_off : (through : Bool) (all : List Values) (out : WriteOut) → Matches lost at old (MayHave all) r → SameMode old new → ThroughContents old new (λ x. x ≡ t) (MayHave all) lba n payload out → Goes through (write_answer out)
   through_off through all writes.Off was mode step = off_goes through all was mode step
   through_off through all writes.Good was mode step = absurd step
   through_off through all writes.NotFormatted was mode step = absurd step
@@ -260,7 +261,7 @@ module _ (at lba n : ℕ) (payload : List ℕ) (whole : length payload ≡ 2048 
   through_off through all writes.Cut was mode step = absurd step
   through_off through all writes.Fault was mode step = absurd step
 
-  into_off : (through : Bool) (all : List Values) (out : WriteOut) → Matches at old (MayHave all) r → SameMode old new → CachedContents (λ x. x ≡ t) (MayHave all) lba n payload out → Goes through (write_answer out)
+  into_off : (through : Bool) (all : List Values) (out : WriteOut) → Matches lost at old (MayHave all) r → SameMode old new → CachedContents (λ x. x ≡ t) (MayHave all) lba n payload out → Goes through (write_answer out)
   into_off through all writes.Off was mode step = off_goes through all was mode step
   into_off through all writes.Good was mode step = absurd step
   into_off through all writes.NotFormatted was mode step = absurd step
@@ -271,27 +272,27 @@ module _ (at lba n : ℕ) (payload : List ℕ) (whole : length payload ≡ 2048 
   into_off through all writes.Cut was mode step = absurd step
   into_off through all writes.Fault was mode step = absurd step
 
-  through_turn : (s : Contents) (out : WriteOut) → CacheStandsFor old s → Matches at old s r → SameMode old new → IsPrinted (write_answer out) → ThroughCause old new lba n out
+  through_turn : (s : Contents) (out : WriteOut) → CacheStandsFor old s → Matches lost at old s r → SameMode old new → IsPrinted (write_answer out) → ThroughCause old new lba n out
       → ThroughContents old new (λ x. x ≡ t) s lba n payload out → Goes true (write_answer out)
   through_turn (Has v) out stood was mode printed cause step =
-      turned_through at old new (Has v) t r was mode (bytes_of_sector lba payload at) (write_answer out) printed
-      (through at lba n payload whole among old new t r.falls v stood (only (SoInBlock (Contains r.falls) at) (block_with at) v was.falls) out cause step)
+      turned_through lost at old new (Has v) t r was mode (bytes_of_sector lba payload at) (write_answer out) printed
+      (through at lba n payload whole among old new t (falls_under lost r.falls) v stood (only (SoInBlock (Contains (falls_under lost r.falls)) at) (block_with at) v was.falls) out cause step)
   through_turn (MayHave all) out stood was mode printed cause step = through_off true all out was mode step
 
-  into_turn : (s : Contents) (out : WriteOut) → CacheStandsFor old s → Matches at old s r → SameMode old new → IsPrinted (write_answer out) → CachedCause old new lba n payload out
+  into_turn : (s : Contents) (out : WriteOut) → CacheStandsFor old s → Matches lost at old s r → SameMode old new → IsPrinted (write_answer out) → CachedCause old new lba n payload out
       → CachedContents (λ x. x ≡ t) s lba n payload out → Goes false (write_answer out)
   into_turn (Has v) out stood was mode printed cause step =
-      turned_into at old new (Has v) t r was mode (bytes_of_sector lba payload at) (write_answer out) printed
-      (into at lba n payload whole among old new t r.falls v stood (only (SoInBlock (Contains r.falls) at) (block_with at) v was.falls) out cause step)
+      turned_into lost at old new (Has v) t r was mode (bytes_of_sector lba payload at) (write_answer out) printed
+      (into at lba n payload whole among old new t (falls_under lost r.falls) v stood (only (SoInBlock (Contains (falls_under lost r.falls)) at) (block_with at) v was.falls) out cause step)
   into_turn (MayHave all) out stood was mode printed cause step = into_off false all out was mode step
 
-  by_mode : (into_cache : Bool) (s : Contents) (out : WriteOut) → CacheStandsFor old s → Matches at old s r → SameMode old new → IsPrinted (write_answer out)
+  by_mode : (into_cache : Bool) (s : Contents) (out : WriteOut) → CacheStandsFor old s → Matches lost at old s r → SameMode old new → IsPrinted (write_answer out)
       → MatchBool into_cache (CachedCause old new lba n payload out) (ThroughCause old new lba n out)
       → MatchBool into_cache (CachedContents (λ x. x ≡ t) s lba n payload out) (ThroughContents old new (λ x. x ≡ t) s lba n payload out) → Goes (not into_cache) (write_answer out)
   by_mode true s out stood was mode printed cause step = into_turn s out stood was mode printed cause step
   by_mode false s out stood was mode printed cause step = through_turn s out stood was mode printed cause step
 
-  pub write_turn : (fua : Bool) (s : Contents) (out : WriteOut) → CacheStandsFor old s → Matches at old s r → IsPrinted (write_answer out)
+  pub write_turn : (fua : Bool) (s : Contents) (out : WriteOut) → CacheStandsFor old s → Matches lost at old s r → IsPrinted (write_answer out)
       → WrittenCause old new lba n payload fua out → WrittenContents old new lba n payload (λ x. x ≡ t) s fua out → Goes (goes_through r lba n fua) (write_answer out)
   write_turn true s out stood was printed cause step = through_turn s out stood was (write_mode true old new lba n payload out cause) printed cause step
   write_turn false s out stood was printed cause step =

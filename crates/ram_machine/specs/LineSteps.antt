@@ -6,7 +6,7 @@ use Rattle.model_sectors.specs.declared.PowerOut.{PowerOut}
 use Rattle.model_drive.specs.Shown.{Shown}
 use Rattle.model_cache.specs.declared.TickOut.{TickOut}
 use Rattle.model_cache.specs.Values.{Contents}
-use Rattle.model_cache.specs.Shown.{CacheShown}
+use Rattle.model_cache.specs.Shown.{CacheShown, CacheStandsFor}
 use Rattle.model_cache.specs.Causes.{TickCause, KeepsCache}
 use Rattle.model_cache.specs.Steps.{TickContents}
 use Rattle.model_target.specs.declared.host.Host.{Host}
@@ -118,7 +118,14 @@ LineBytes (lines.Wear block n) outcome old before new after = after ≡ before
 LineBytes (lines.Cut n fate) outcome old before new after = after ≡ before
 LineBytes _ outcome old before new after = ⊥
 
--- the same between two discs of one geometry, with the bytes of their images
+-- From this the line leads by its rule to something that the drive stands for afterwards.
+pub record LeadsOn (s t : Served) (line : Line) (payload : List ℕ) (outcome : Outcome) (data_in : List ℕ)
+    (before : Contents) : Type 0 where
+  pub after : Contents
+  pub stands : CacheStandsFor t.disc.shown after
+  pub rule : DiscRule s.disc.shown t.disc.shown (λ x. x ≡ before) (λ x. x ≡ after) s.host t.host line payload outcome data_in
+
+-- The same between two discs of one geometry, with the bytes of their images; and so from each other thing that the drive may stand for.
 pub record DiscStep (s t : Served) (line : Line) (payload : List ℕ) (outcome : Outcome)
     (data_in : List ℕ) : Type 0 where
   pub same_shape : t.disc.shown.drive.shape ≡ s.disc.shown.drive.shape
@@ -126,6 +133,7 @@ pub record DiscStep (s t : Served) (line : Line) (payload : List ℕ) (outcome :
       line payload outcome data_in
   pub bytes : LineBytes line outcome s.disc.shown.drive (Some s.bytes)
       t.disc.shown.drive (Some t.bytes)
+  pub each : (before : Contents) → CacheStandsFor s.disc.shown before → LeadsOn s t line payload outcome data_in before
 
 -- the same in any state: without a disc the line cannot be answered
 abbrev pub OnDisc : State → Line → List ℕ → Outcome → List ℕ → State → Type 0

@@ -23,29 +23,34 @@ use Rattle.ram_machine.specs.declared.reply.Reply.TheVariants as replies
 use Rattle.ram_machine.specs.Answered.{AnsweredStep}
 use Rattle.ram_machine.specs.SectorBytes.{bytes_of_sector, is_sector_among}
 
+-- What a sector has: bytes; or it is lost, and no read of it is good until it is written.
+pub data Value : Type 0 where
+  Bytes : List ℕ → Value
+  Lost : Value
+
 -- One sector. A read that is good shows the bytes that it has now; where it has none, no read of it is good. If the power is lost it
 -- may have each of the others afterwards. And whether the write cache is on.
 pub record Register : Type 0 where
-  pub now : Option (List ℕ)
-  pub falls : List (List ℕ)
+  pub now : Option Value
+  pub falls : List Value
   pub caches : Bool
 
--- it has these bytes, and no loss of power changes that
-abbrev pub settled : Register → List ℕ → Register
-settled r bytes = record r { now = Some bytes; falls = bytes ∷ [] }
+-- it has this, and no loss of power changes that
+abbrev pub settled : Register → Value → Register
+settled r value = record r { now = Some value; falls = value ∷ [] }
 
--- after a loss of power it may have these too
-abbrev pub or_else : Register → List ℕ → Register
-or_else r bytes = record r { falls = bytes ∷ r.falls }
+-- after a loss of power it may have this too
+abbrev pub or_else : Register → Value → Register
+or_else r value = record r { falls = value ∷ r.falls }
 
--- it has no bytes now: the power is off, no disc is formatted, or the disc has no such sector
+-- it has nothing now: the power is off, no disc is formatted, or the disc has no such sector
 abbrev pub gone : Register → Register
 gone r = record r { now = None }
 
 -- what it has now is all that it may have
-abbrev pub synchronised : Option (List ℕ) → Register → Register
+abbrev pub synchronised : Option Value → Register → Register
 synchronised None r = r
-synchronised (Some bytes) r = settled r bytes
+synchronised (Some value) r = settled r value
 
 -- A write goes through the write cache: with FUA, where the cache is off, and where it covers many blocks of 16 sectors.
 abbrev pub goes_through : Register → (lba n : ℕ) → (fua : Bool) → Bool
@@ -63,24 +68,24 @@ is_midway why = why.asc == 0x11 || why.asc == 0x32
 -- A write of these bytes. Done, the sector has them; they are settled where the write went through the cache. One through the cache
 -- that was refused midway or cut may have written the sector or not. No other writes it.
 abbrev pub AfterWrite : Register → (through : Bool) → List ℕ → Answer → Register → Type 0
-AfterWrite r true bytes answers.Good after = after ≡ settled r bytes
+AfterWrite r true bytes answers.Good after = after ≡ settled r (Bytes bytes)
 AfterWrite r true bytes (answers.Check why) after =
-    MatchBool (is_midway why) ((after ≡ r) ⊎ (after ≡ settled r bytes)) (after ≡ r)
-AfterWrite r true bytes answers.Cut after = after ≡ gone (or_else r bytes)
-AfterWrite r false bytes answers.Good after = after ≡ or_else (record r { now = Some bytes }) bytes
+    MatchBool (is_midway why) ((after ≡ r) ⊎ (after ≡ settled r (Bytes bytes))) (after ≡ r)
+AfterWrite r true bytes answers.Cut after = after ≡ gone (or_else r (Bytes bytes))
+AfterWrite r false bytes answers.Good after = after ≡ or_else (record r { now = Some (Bytes bytes) }) (Bytes bytes)
 AfterWrite r through bytes answer after = after ≡ left_by answer r
 
 -- A full format. Done, the sector has zeros, or the disc has no such sector; one that was cut may have come so far or not, and one that
 -- failed (3/31/01) may leave no disc.
 abbrev pub AfterFull : Register → Answer → Register → Type 0
-AfterFull r answers.Good after = (after ≡ settled r (zeros 2048)) ⊎ (after ≡ gone (settled r (zeros 2048)))
+AfterFull r answers.Good after = (after ≡ settled r (Bytes (zeros 2048))) ⊎ (after ≡ gone (settled r (Bytes (zeros 2048))))
 AfterFull r (answers.Check why) after = MatchBool (why.asc == 0x31) ((after ≡ r) ⊎ (after ≡ gone r)) (after ≡ r)
-AfterFull r answers.Cut after = after ≡ gone (or_else r (zeros 2048))
+AfterFull r answers.Cut after = after ≡ gone (or_else r (Bytes (zeros 2048)))
 AfterFull r answer after = after ≡ r
 
--- A rewriting format leaves a sector that has bytes as it is. Of a disc that is not formatted it is a full one.
-abbrev pub AfterRewrite : Option (List ℕ) → Register → Answer → Register → Type 0
-AfterRewrite (Some bytes) r answer after = after ≡ left_by answer r
+-- A rewriting format leaves a sector that has something as it is. Of a disc that is not formatted it is a full one.
+abbrev pub AfterRewrite : Option Value → Register → Answer → Register → Type 0
+AfterRewrite (Some value) r answer after = after ≡ left_by answer r
 AfterRewrite None r answer after = (after ≡ left_by answer r) ⊎ AfterFull r answer after
 
 abbrev pub AfterFormat : Register → Kind → Answer → Register → Type 0
@@ -90,7 +95,7 @@ AfterFormat r kinds.Rewrite answer after = AfterRewrite r.now r answer after
 -- A read that is good gives as many sectors as it asks for, and of this one, if it is among them, the bytes that it has now.
 pub record Shows (at : ℕ) (r : Register) (lba n : ℕ) (data_in : List ℕ) : Type 0 where
   pub whole : length data_in ≡ 2048 * n
-  pub shown : is_sector_among lba n at ≡ true → r.now ≡ Some (bytes_of_sector lba data_in at)
+  pub shown : is_sector_among lba n at ≡ true → r.now ≡ Some (Bytes (bytes_of_sector lba data_in at))
 
 -- A command that was answered Good, but a write and a format: a read, a synchronisation, an expansion to so many sectors, and a list
 -- of mode pages, which may turn the cache on or off.
@@ -115,13 +120,14 @@ AfterCommand at r (Ok (commands.Write lba n fua)) payload data_in answer after =
 AfterCommand at r (Ok (commands.Format kind)) payload data_in answer after = AfterFormat r kind answer after
 AfterCommand at r (Ok asked) payload data_in answer after = AfterOther at r asked payload data_in answer after
 
--- The power went off, and on again, and the cache is off. Where a disc is ready that has the sector, it has one of its values.
-abbrev pub powered : Register → Option (List ℕ) → List (List ℕ) → Register
+-- The power went off, and on again, and the cache is off. Where a disc is ready that has the sector, it has one of those that
+-- it might have.
+abbrev pub powered : Register → Option Value → List Value → Register
 powered r now falls = record { now = now; falls = falls; caches = false }
 
 abbrev pub AfterPower : (at : ℕ) → Register → Reply → Register → Type 0
 AfterPower at r (replies.Event (events.Ready capacity)) after = MatchBool (nat_lt at capacity)
-    ((bytes : List ℕ) × Contains r.falls bytes × (after ≡ powered r (Some bytes) (bytes ∷ [])))
+    ((value : Value) × Contains r.falls value × (after ≡ powered r (Some value) (value ∷ [])))
     (after ≡ powered r None r.falls)
 AfterPower at r _ after = after ≡ powered r None r.falls
 
@@ -149,16 +155,17 @@ Turns at first [] last = last ≡ first
 Turns at first (event ∷ events) last =
     (before : Register) × Turns at first events before × Turn at before event.line event.payload event.reply event.data_in last
 
--- these are bytes that the sector may have in an image: zeros, or those at its place in some block
-abbrev pub MayHold : List ℕ → (at : ℕ) → List ℕ → Type 0
-MayHold image at bytes = (bytes ≡ zeros 2048)
-    ⊎ ((total : ℕ) × (block : ℕ) × (length image ≡ image_len total) × (block < total)
-    × (bytes ≡ take 2048 (drop (data_place total block + 2048 * (at % 16)) image)))
+-- The sector may have this in an image: it is lost, or has the bytes at its place in some block.
+abbrev pub MayHold : List ℕ → (at : ℕ) → Value → Type 0
+MayHold image at Lost = Unit {0}
+MayHold image at (Bytes bytes) =
+    (total : ℕ) × (block : ℕ) × (length image ≡ image_len total) × (block < total)
+    × (bytes ≡ take 2048 (drop (data_place total block + 2048 * (at % 16)) image))
 
 -- What it is when an image of these bytes was opened: the power is off.
 pub record IsOpened (image : List ℕ) (at : ℕ) (r : Register) : Type 0 where
   pub off : r.now ≡ None
-  pub held : (bytes : List ℕ) → Contains r.falls bytes → MayHold image at bytes
+  pub held : (value : Value) → Contains r.falls value → MayHold image at value
   pub uncached : r.caches ≡ false
 
 -- The sector is a register over these lines, from an image of these bytes on.
@@ -168,14 +175,20 @@ pub record IsRegister (image : List ℕ) (events : List AnsweredStep) (at : ℕ)
   pub opened : IsOpened image at first
   pub turns : Turns at first events last
 
--- Whatever comes, but a write of the sector, it shows these bytes or none. (For laws alone.)
+-- Whatever comes, but a write of the sector, it has these bytes or nothing. (For laws alone.)
 pub record HasSettled (r : Register) (bytes : List ℕ) : Type 0 where
-  pub shows : (found : List ℕ) → r.now ≡ Some found → found ≡ bytes
-  pub falls : (found : List ℕ) → Contains r.falls found → found ≡ bytes
+  pub shows : (found : Value) → r.now ≡ Some found → found ≡ Bytes bytes
+  pub falls : (found : Value) → Contains r.falls found → found ≡ Bytes bytes
 
--- The image was handed back, and opened by another run: what could not be read of it counts as zeros there.
+-- the bytes among these values (for laws alone)
+abbrev pub bytes_in : List Value → List (List ℕ)
+bytes_in [] = []
+bytes_in (Bytes bytes ∷ values) = bytes ∷ bytes_in values
+bytes_in (Lost ∷ values) = bytes_in values
+
+-- The image was handed back, and opened by another run: what cannot be read of it is lost there.
 abbrev pub reopened : Register → Register
-reopened r = record { now = None; falls = zeros 2048 ∷ r.falls; caches = false }
+reopened r = record { now = None; falls = Lost ∷ r.falls; caches = false }
 
 -- The same over two runs, of which the second goes on with the image that the first left.
 pub record IsRegisterAgain (image : List ℕ) (events later : List AnsweredStep) (at : ℕ) : Type 0 where

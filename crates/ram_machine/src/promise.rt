@@ -8,7 +8,7 @@ ghost use Rattle.ram_machine.specs.SectorBytes.{bytes_of_sector, is_sector_among
 ghost use Rattle.ram_machine.specs.States.{State, IsFirst, IsLeft};
 ghost use Rattle.ram_machine.specs.Runs.{Run};
 ghost use Rattle.ram_machine.specs.Answered.{AnsweredStep};
-ghost use Rattle.ram_machine.specs.Register.{Register, goes_through, Turn, Turns, IsRegister, HasSettled, IsRegisterAgain};
+ghost use Rattle.ram_machine.specs.Register.{Register, Bytes, bytes_in, goes_through, Turn, Turns, IsRegister, HasSettled, IsRegisterAgain};
 
 /// Each sector is a register over a run, from the image's bytes on, and over the next run from where the first one left it.
 pub fn each_sector_is_a_register()
@@ -38,6 +38,6 @@ pub fn settled_bytes_are_shown()
 /// alone.
 pub fn nothing_else_is_shown()
     ensures { (at : ℕ) (r after : Register) (events : List AnsweredStep) (found : List ℕ)
-        → Turns at r events after → r.now ≡ None → after.now ≡ Some found
-        → Contains (choices_after at events (zeros 2048 ∷ r.falls)) found }
+        → Turns at r events after → r.now ≡ None → after.now ≡ Some (Bytes found)
+        → Contains (choices_after at events (zeros 2048 ∷ bytes_in r.falls)) found }
 {}
