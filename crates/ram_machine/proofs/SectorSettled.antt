@@ -1,5 +1,5 @@
 -- What a register has settled it shows, over all lines that do not write the sector: from the register alone.
-use Rattle.std.specs.Prelude.{◌≡◌, ℕ, ◌+◌, ◌<◌, ◌≤◌, ◌⊎◌, Bool, true, false, ◌&&◌, not, nat_lt, if◌then◌else◌, MatchBool, Option, None, Some, Result, Ok, Err, List, [], ◌∷◌}
+use Rattle.std.specs.Prelude.{◌≡◌, ℕ, ◌+◌, ◌*◌, ◌<◌, ◌≤◌, ◌⊎◌, Bool, true, false, ◌&&◌, not, nat_lt, if◌then◌else◌, MatchBool, Option, None, Some, Result, Ok, Err, List, [], ◌∷◌, length}
 use Rattle.std.specs.List.{Contains}
 use Rattle.std.proofs.Common.{refl, sym, ap, ◌∙◌, inl, inr, subst}
 use Rattle.std.proofs.lemmas.Bool.{lt-ltb, le-ltb, true≢false}
@@ -177,6 +177,10 @@ shows_settled at r after event lba n bytes turn done among has =
   where
     same_bytes : (a b : List ℕ) → Bytes a ≡ Bytes b → a ≡ b
     same_bytes a b is = cc
+
+-- and gives as many sectors as were asked for
+pub read_whole : (at : ℕ) (r after : Register) (event : AnsweredStep) (lba n : ℕ) → Turn at r event.line event.payload event.reply event.data_in after → WasDone event (commands.Read lba n) → length event.data_in ≡ 2048 * n
+read_whole at r after event lba n turn done = let good = good_turn at r after event (commands.Read lba n) turn done in good.0.whole
 
 -- a write through the cache settles what it sent
 through_case : (r after : Register) (among through : Bool) (bytes : List ℕ) → among ≡ true → through ≡ true → MatchBool among (AfterWrite r through bytes answers.Good after) (after ≡ r) → after ≡ settled r (Bytes bytes)

@@ -1,5 +1,5 @@
 //! Laws of runs, by their scripts and reports alone: each sector is a register, which shows its bytes and no others.
-ghost use Rattle.std.specs.Prelude.{◌≡◌, ℕ, Bool, true, None, Some, List, ◌∷◌};
+ghost use Rattle.std.specs.Prelude.{◌≡◌, ℕ, ◌*◌, Bool, true, None, Some, List, ◌∷◌, length};
 ghost use Rattle.std.specs.List.{Contains};
 ghost use Rattle.model_sectors.specs.Discs.{zeros};
 ghost use Rattle.model_cdb.specs.declared.commands.Command.TheVariants as commands;
@@ -21,7 +21,7 @@ pub fn each_sector_is_a_register()
 
 /// What the register says, in a user's words. A write through the write cache that is answered Good settles the bytes that it sends;
 /// what is settled stays so over all lines that do not write the sector, whatever fails and wherever the power is lost; and a read that
-/// is answered Good shows it.
+/// is answered Good shows it, and gives as many sectors as were asked for.
 pub fn settled_bytes_are_shown()
     ensures settles { (at : ℕ) (r after : Register) (event : AnsweredStep) (lba n : ℕ) (fua : Bool)
         → Turn at r event.line event.payload event.reply event.data_in after → WasDone event (commands.Write lba n fua)
@@ -32,6 +32,9 @@ pub fn settled_bytes_are_shown()
     ensures shown { (at : ℕ) (r after : Register) (event : AnsweredStep) (lba n : ℕ) (bytes : List ℕ)
         → Turn at r event.line event.payload event.reply event.data_in after → WasDone event (commands.Read lba n)
         → is_sector_among lba n at ≡ true → HasSettled r bytes → bytes_of_sector lba event.data_in at ≡ bytes }
+    ensures whole { (at : ℕ) (r after : Register) (event : AnsweredStep) (lba n : ℕ)
+        → Turn at r event.line event.payload event.reply event.data_in after → WasDone event (commands.Read lba n)
+        → length event.data_in ≡ 2048 * n }
 {}
 
 /// A sector never has other bytes than zeros, those that it might have at first, and those that a line sent to it: from the register

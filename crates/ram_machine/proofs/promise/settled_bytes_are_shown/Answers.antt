@@ -1,4 +1,4 @@
-use Rattle.ram_machine.proofs.SectorSettled.{settles, stays_settled, shows_settled}
+use Rattle.ram_machine.proofs.SectorSettled.{settles, stays_settled, shows_settled, read_whole}
 use Rattle.ram_machine.proofs.promise.settled_bytes_are_shown.Goals as goal
 
 pub returns-clause-settles : goal.returns-clause-settles
@@ -9,3 +9,6 @@ returns-clause-stays c = stays_settled
 
 pub returns-clause-shown : goal.returns-clause-shown
 returns-clause-shown c = shows_settled
+
+pub returns-clause-whole : goal.returns-clause-whole
+returns-clause-whole c = read_whole
