@@ -1,5 +1,7 @@
-"""The program that is measured, and the loops beside it. A time is that which a processor spent on the work, by the system's count:
-other work on the machine then counts less."""
+"""The program that is measured, and the loops beside it. A time is that which a processor spent on the work,
+by the system's count: other work on the machine then counts less."""
+from __future__ import annotations
+
 import ctypes
 import itertools
 import os
@@ -7,6 +9,7 @@ import subprocess
 import sys
 import time
 from pathlib import Path
+from typing import Callable, List, NamedTuple, Sequence, Tuple
 
 HERE = Path(__file__).resolve().parent
 sys.path.append(str(HERE.parent / "tools"))
@@ -20,39 +23,46 @@ FORMAT = "cdb 041100000000 hex 000000080000000000000000\n"
 CACHE_ON = "cdb 55100000000000001400 hex 0000000000000000080a04000000000000000000\n"
 SYNCHRONIZE = "cdb 35000000000000000000\n"
 
+Job = Callable[[], float]
+"""What is measured: it gives the seconds that it took."""
+Turn = Callable[[int], float]
+"""The same by the number of its turn."""
 
-def best(jobs, rounds=9):
-    """The least that each of these took, of some rounds over all of them: the pace of a machine may change."""
+
+def best(jobs: Sequence[Job], rounds: int = 9) -> List[float]:
+    """The least that each of these took, of some rounds over all of them: the pace of a machine may
+    change."""
     times = [[job() for job in jobs] for _ in range(rounds)]
     return [min(each) for each in zip(*times)]
 
 
-def read_command(lba, sectors):
+def read_command(lba: int, sectors: int) -> str:
     return f"cdb 2800{lba:08x}00{sectors:04x}00\n"
 
 
-def write_command(lba, sectors, byte, fua=False):
+def write_command(lba: int, sectors: int, byte: int, fua: bool = False) -> str:
     return f"cdb 2a{8 if fua else 0:02x}{lba:08x}00{sectors:04x}00 fill {byte % 256:02x}\n"
 
 
 class Bench:
     """A program over an image."""
 
-    def __init__(self, program, image):
+    def __init__(self, program: Path, image: Path) -> None:
         self.program, self.image = program, image
 
-    def once(self, script):
+    def once(self, script: str) -> float:
         """Runs a script, and gives the seconds that it took."""
         words = self.image.with_suffix(".script")
-        words.write_text(script)
-        with words.open() as lines:
-            process = subprocess.Popen([self.program, "run", self.image], stdin=lines, stdout=subprocess.DEVNULL)
+        words.write_text(script, encoding="ascii")
+        with words.open("rb") as lines:
+            command = [str(self.program), "run", str(self.image)]
+            process = subprocess.Popen(command, stdin=lines, stdout=subprocess.DEVNULL)
             _, process.returncode, usage = os.wait4(process.pid, 0)
         if process.returncode:
             raise SystemExit(f"{self.program} ended with status {process.returncode}")
-        return usage.ru_utime + usage.ru_stime
+        return float(usage.ru_utime + usage.ru_stime)
 
-    def runs(self, script):
+    def runs(self, script: str) -> Job:
         """A run of this script as a job."""
         return lambda: self.once(script)
 
@@ -60,15 +70,16 @@ class Bench:
 class Timed(Session):
     """A session of a program over an image, of which each part is timed."""
 
-    def __init__(self, program, image):
+    def __init__(self, program: Path, image: Path) -> None:
         super().__init__([str(program)], str(image), Statistics())
         clock = ctypes.c_int()
         if ctypes.CDLL(None).clock_getcpuclockid(self.process.pid, ctypes.byref(clock)):
             raise OSError("the processor time of the program cannot be read")
         self.clock = clock.value
 
-    def asks(self, script):
-        """Sends these lines together, and gives their answers, without the rows behind them, and the seconds that it took."""
+    def asks(self, script: str) -> Tuple[List[str], float]:
+        """Sends these lines together, and gives their answers, without the rows behind them, and the seconds
+        that it took."""
         lines = script.splitlines()
         start = time.clock_gettime(self.clock)
         first = self.lines + 1
@@ -78,7 +89,7 @@ class Timed(Session):
         answers = [self.answer_with_rows(number, line) for number, line in enumerate(lines, first)]
         return answers, time.clock_gettime(self.clock) - start
 
-    def answer_with_rows(self, number, line):
+    def answer_with_rows(self, number: int, line: str) -> str:
         answer = self.answer(number)
         if answer == "good" and line.startswith("cdb "):
             for _ in range(rows_after_good(bytes.fromhex(line.split()[1]))):
@@ -86,9 +97,9 @@ class Timed(Session):
         return answer
 
 
-def in_session(program, image, script):
-    """A job that sends this script in a session of its own, and gives the seconds that it took."""
-    def once():
+def in_session(program: Path, image: Path, script: str) -> Job:
+    """A job that sends this script in a session of its own."""
+    def once() -> float:
         session = Timed(program, image)
         _, seconds = session.asks(script)
         session.end()
@@ -96,39 +107,50 @@ def in_session(program, image, script):
     return once
 
 
-def is_well(answer):
+def is_well(answer: str) -> bool:
     return not answer.startswith(("cut", "off", "check"))
 
 
-def piece(session, scripts, before=""):
-    """A job that sends one of these scripts, by the number of its turn, and gives the seconds that it took, without what the lines
-    before it took. All lines are to be answered well."""
-    def once(turn):
-        told, _ = session.asks(before)
-        answers, seconds = session.asks(scripts[turn % len(scripts)])
-        assert all(map(is_well, told + answers)), (told, answers)
-        return seconds
-    return once
+class Piece(NamedTuple):
+    """A piece of a session: one of these scripts is sent, by the number of its turn. The lines before it are
+    sent too, and what they take does not count."""
+
+    scripts: List[str]
+    before: str = ""
+
+    def of(self, session: Timed) -> Turn:
+        """The piece as a job. All lines are to be answered well."""
+        def once(turn: int) -> float:
+            told, _ = session.asks(self.before)
+            answers, seconds = session.asks(self.scripts[turn % len(self.scripts)])
+            assert all(map(is_well, told + answers)), (told, answers)
+            return seconds
+        return once
 
 
-class Measured:
-    """A program over an image, the lines that begin a session of it, and pieces of a session as `piece` has them."""
+class Measured(NamedTuple):
+    """A program over an image, the lines that begin a session of it, and pieces of the session."""
 
-    def __init__(self, program, image, start, pieces):
-        self.program, self.image, self.start, self.pieces = program, image, start, pieces
+    program: Path
+    image: Path
+    start: str
+    pieces: List[Piece]
 
-    def begin(self):
+    def begin(self) -> Tuple[Timed, List[Turn]]:
         """A new session, and its pieces as jobs."""
         session = Timed(self.program, self.image)
         session.asks(self.start)
-        return session, [piece(session, *words) for words in self.pieces]
+        return session, [piece.of(session) for piece in self.pieces]
 
 
-def in_turn(all_measured, rounds, sessions=10):
-    """The seconds that each piece of each of these took, in some sessions, each of so many rounds over all pieces: where the memory
-    of a program lies may change its pace from one session to the next. A piece has another script than the one before it, and so
-    finds none of its blocks near. In every other session the last of these comes first."""
-    found, turns = [], itertools.count()
+def in_turn(all_measured: Sequence[Measured], rounds: int,
+            sessions: int = 10) -> List[List[Tuple[float, ...]]]:
+    """The seconds that each piece of each of these took, in some sessions, each of so many rounds over all
+    pieces: where the memory of a program lies may change its pace from one session to the next. A piece has
+    another script than the one before it, and so finds none of its blocks near. In every other session the
+    last of these comes first."""
+    found: List[List[List[float]]] = []
+    turns = itertools.count()
     for number in range(sessions):
         begun = [one.begin() for one in all_measured]
         order = -1 if number % 2 else 1
@@ -140,13 +162,15 @@ def in_turn(all_measured, rounds, sessions=10):
     return [list(zip(*times)) for times in zip(*found)]
 
 
-def loops_in(folder):
+def loops_in(folder: Path) -> Path:
     """The program of bare.c, built in this folder."""
     program = folder / "bare"
     subprocess.run(["cc", "-O2", "-o", program, HERE / "bare.c"], check=True)
     return program
 
 
-def loop_line(what, total, first, blocks, group, kept=8):
-    """The line that asks for a loop over so many blocks of a disc, in groups, where so many are kept."""
+def loop_line(what: str, disc: Tuple[int, int], blocks: int, group: int, kept: int = 8) -> str:
+    """The line that asks for a loop over so many blocks, in groups, where so many are kept. Of the disc is
+    said how many blocks it has, and with which of them the loop begins."""
+    total, first = disc
     return f"{what} {total} {first} {blocks} {group} {kept}\n"

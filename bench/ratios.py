@@ -1,84 +1,97 @@
-"""Ratios of two times that were measured in turn, each with the most that it is to be. Of pieces of sessions it is the median."""
-from statistics import median
+"""Ratios of two times that were measured in turn, each with the most that it is to be. Of pieces of sessions
+it is the median."""
+from __future__ import annotations
 
-from measuring import (CACHE_ON, FORMAT, POWER, SYNCHRONIZE, Bench, Measured, Timed, best, in_turn, loop_line, read_command,
-                       write_command)
+from pathlib import Path
+from statistics import median
+from typing import Iterable, List, Optional, Sequence, Tuple
 
 import discs
+from dvdram.lists import MOST_SPARES
+from measuring import (CACHE_ON, FORMAT, POWER, SYNCHRONIZE, Bench, Measured, Piece, Timed, best, in_turn,
+                       loop_line, read_command, write_command)
 
 # How many blocks are measured.
 BLOCKS = 896
 NEW_DISC = "press 1 40 16\n" + POWER + FORMAT
-# What is measured is blocks this many logical blocks apart. Each of them is replaced on both discs with defects.
+# What is measured is blocks this many logical blocks apart. Each of them is replaced on both discs with
+# defects.
 APART = 128
-SPARES = discs.MOST_SPARES
+SPARES = MOST_SPARES
 # The writes at the start and at the end of a run of many that are measured.
 FEW = 16
-# The uses of the medium for a write that needs a spare: two each for the home and the spare, eight for each part of the list.
+# The uses of the medium for a write that needs a spare: two each for the home and the spare, eight for each
+# part of the list.
 USES = 2 + 2 + 16
 # How many blocks a command reads.
 READS = 1, 2, 4, 8, 14, 16, 32, 64
 # The blocks of a piece that is measured, about.
-PIECE = 64
+IN_PIECE = 64
 CACHED = 32
 # In milliseconds.
 MOST_MOUNT = 10.0
 
+Case = Tuple[bool, int, float]
+"""Whether blocks are written, how many a command has, and the most that the ratio is to be."""
 
-def head():
+
+def head() -> None:
     print(f"\n{'what':<62}{'us':>10}{'beside us':>12}{'ratio':>8}{'at most':>9}")
 
 
-def exceeds(found, most):
+def exceeds(found: float, most: float) -> str:
     return "" if found <= most else "  exceeded"
 
 
-def row(what, one, other, most=None):
+def row(what: str, one: float, other: float, most: Optional[float] = None) -> None:
     """Prints two times in microseconds, and their ratio."""
     ratio = one / other
     bound = "" if most is None else f"{most:>9.2f}{exceeds(ratio, most)}"
     print(f"{what:<62}{one * 1e6:>10.2f}{other * 1e6:>12.2f}{ratio:>8.2f}{bound}")
 
 
-def scripts_of(write, starts, count=1):
-    """Scripts of commands that each write or read so many blocks, from each of these logical blocks on. Each script has 64 blocks,
-    or a few less."""
-    lines = [write_command(16 * i, 16 * count, i) if write else read_command(16 * i, 16 * count) for i in starts]
-    several = PIECE // count
+def scripts_of(write: bool, starts: Iterable[int], count: int = 1) -> List[str]:
+    """Scripts of commands that each write or read so many blocks, from each of these logical blocks on. Each
+    script has 64 blocks, or a few less."""
+    lines = [write_command(16 * i, 16 * count, i) if write else read_command(16 * i, 16 * count)
+             for i in starts]
+    several = IN_PIECE // count
     return ["".join(lines[at:at + several]) for at in range(0, len(lines), several)]
 
 
-def all_blocks(write, count):
+def all_blocks(write: bool, count: int) -> List[str]:
     """Such scripts for all blocks that are measured."""
     return scripts_of(write, range(0, BLOCKS - count + 1, count), count)
 
 
-def of_a_block(seconds, count=1):
+def of_a_block(seconds: float, count: int = 1) -> float:
     """The time of one block, of that of a script of `scripts_of`."""
-    return seconds / (PIECE // count * count)
+    return seconds / (IN_PIECE // count * count)
 
 
-def defects(program, folder):
-    """Reads and writes of one block on discs with and without defects, and how long each takes to be mounted."""
-    makers = [("4,092 slipped, 4,092 replaced", discs.slipped_and_replaced), ("8,184 replaced", discs.replaced), ("", discs.plain)]
+def defects(program: Path, folder: Path) -> None:
+    """Reads and writes of one block on discs with and without defects, and how long each takes to be
+    mounted."""
+    makers = [("4,092 slipped, 4,092 replaced", discs.slipped_and_replaced),
+              ("8,184 replaced", discs.replaced), ("", discs.plain)]
     sets = [("replaced", range(0, BLOCKS * APART, APART)), ("in a row", range(BLOCKS))]
     cases = [(write, *each) for write in (False, True) for each in sets]
     benches = [Bench(program, folder / f"defects{number}.img") for number, _ in enumerate(makers)]
     for bench, (_, make) in zip(benches, makers):
         make(bench.image)
         bench.once(POWER + "".join(script for _, starts in sets for script in scripts_of(True, starts)))
-    scripts = [(scripts_of(write, starts),) for write, _, starts in cases]
-    times = in_turn([Measured(program, bench.image, POWER, scripts) for bench in benches], 40)
+    pieces = [Piece(scripts_of(write, starts)) for write, _, starts in cases]
+    times = in_turn([Measured(program, bench.image, POWER, pieces) for bench in benches], 40)
     for (write, where, _), each in zip(cases, zip(*times)):
         *with_defects, without = [of_a_block(median(seconds)) for seconds in each]
-        for (what, _), seconds in zip(makers, with_defects):
-            row(f"a block {'written' if write else 'read'}, {where}: {what}", seconds, without, 1.05)
+        for (what, _), one in zip(makers, with_defects):
+            row(f"a block {'written' if write else 'read'}, {where}: {what}", one, without, 1.05)
     mounts(program, folder / "retired.img", benches)
     for bench in benches:
         bench.image.unlink()
 
 
-def mounts(program, path, benches):
+def mounts(program: Path, path: Path, benches: Sequence[Bench]) -> None:
     """Prints how long a mount of each disc with full lists takes."""
     discs.retired(path)
     several = 20
@@ -88,13 +101,14 @@ def mounts(program, path, benches):
     often = best([bench.runs("power\n" * (1 + several)) for bench in all_benches])
     for name, one, many in zip(names, once, often):
         mount = (many - one) / several * 1e3
-        print(f"{f'the power goes on, {name}':<62}{mount:>10.2f} ms{MOST_MOUNT:>28.2f} ms{exceeds(mount, MOST_MOUNT)}")
+        bound = f"{MOST_MOUNT:>28.2f} ms{exceeds(mount, MOST_MOUNT)}"
+        print(f"{f'the power goes on, {name}':<62}{mount:>10.2f} ms{bound}")
     path.unlink()
 
 
-def moves(bench):
-    """The time of each write that needs the next spare, from the first of 4,092 to the last, in one run. The last takes no more
-    uses than the home, one spare and the list do: the use behind these is cut."""
+def moves(bench: Bench) -> List[float]:
+    """The time of each write that needs the next spare, from the first of 4,092 to the last, in one run. The
+    last takes no more uses than the home, one spare and the list do: the use behind these is cut."""
     discs.press(bench.image, discs.lists_of(discs.GREATEST))
     session = Timed(bench.program, bench.image)
     session.asks(POWER)
@@ -109,8 +123,9 @@ def moves(bench):
     return times
 
 
-def first_move(bench):
-    """The time of the write that needs the last of 4,092 spares, as the first one after the power comes on."""
+def first_move(bench: Bench) -> float:
+    """The time of the write that needs the last of 4,092 spares, as the first one after the power comes
+    on."""
     lists = discs.lists_of(discs.GREATEST, every=1, count=SPARES - 1)
     discs.press(bench.image, lists)
     session = Timed(bench.program, bench.image)
@@ -121,7 +136,7 @@ def first_move(bench):
     return time
 
 
-def expansions(bench):
+def expansions(bench: Bench) -> float:
     """The time of some updates of the list in use, by expansions, which need no spare."""
     session = Timed(bench.program, bench.image)
     session.asks(POWER)
@@ -133,15 +148,17 @@ def expansions(bench):
     return time
 
 
-def spares(program, folder):
-    """The write that needs the last spare beside the one that needs the first, with the longer list told apart."""
+def spares(program: Path, folder: Path) -> None:
+    """The write that needs the last spare beside the one that needs the first, with the longer list told
+    apart."""
     bench = Bench(program, folder / "spares.img")
     rounds = []
     for _ in range(5):
         times = moves(bench)
         long_list = expansions(bench)
         discs.plain(bench.image)
-        rounds.append((sum(times[:FEW]), sum(times[-FEW:]), long_list, expansions(bench), FEW * first_move(bench)))
+        short_list = expansions(bench)
+        rounds.append((sum(times[:FEW]), sum(times[-FEW:]), long_list, short_list, FEW * first_move(bench)))
     first, last, long_list, short_list, anew = [min(times) / FEW for times in zip(*rounds)]
     row("a write that needs the last of 4,092 spares, beside the first", last, first)
     row("an update of a list of 4,092 entries, beside one of none", long_list, short_list)
@@ -150,84 +167,95 @@ def spares(program, folder):
     bench.image.unlink()
 
 
-def cache(program, folder, loops, disc):
+def cache(program: Path, folder: Path, loops: Path, disc: Tuple[int, int]) -> None:
     """What the write cache saves, and what it takes to synchronise it."""
     bench = Bench(program, folder / "cache.img")
     bench.once(NEW_DISC)
     sectors = range(16)
     into = "".join(write_command(lba, 1, lba) for lba in sectors) + SYNCHRONIZE
     through = "".join(write_command(lba, 1, lba, fua=True) for lba in sectors)
-    times, = in_turn([Measured(program, bench.image, POWER + CACHE_ON, [([into],), ([through],)])], 50)
-    row("16 writes into one block and a synchronisation, beside FUA", *map(median, times))
+    pieces = [Piece([into]), Piece([through])]
+    times, = in_turn([Measured(program, bench.image, POWER + CACHE_ON, pieces)], 50)
+    cached, past = map(middle, times)
+    row("16 writes into one block and a synchronisation, beside FUA", cached, past)
     synchronisations(bench, loops, disc)
     bench.image.unlink()
 
 
-def longer(more, less):
+def middle(seconds: Iterable[float]) -> float:
+    """The median of some times."""
+    return median(seconds)
+
+
+def longer(more: Sequence[float], less: Sequence[float]) -> float:
     """The median of what each of these took longer than the one that was measured with it."""
     return median(one - other for one, other in zip(more, less))
 
 
-def synchronised(drive, bare):
-    """What a synchronisation took, and what each loop of writes did, once: without what the writes or the data before them took."""
+def synchronised(drive: Measured, bare: Measured) -> List[float]:
+    """What a synchronisation took, and what each loop of writes did, once: without what the writes or the
+    data before them took."""
     (taken, both), (made, *written) = in_turn([drive, bare], 50, 20)
-    return longer(both, taken), *[longer(times, made) for times in written]
+    return [longer(both, taken), *[longer(times, made) for times in written]]
 
 
-def synchronisations(bench, loops, disc):
-    """A synchronisation of all that the cache holds, beside loops over as many blocks. The data of the loops come in the same way to
-    where they are pending. It is measured five times, since a slower pace of the machine, which may last some seconds, costs the
-    drive more than the loops; the medians count."""
+def synchronisations(bench: Bench, loops: Path, disc: Tuple[int, int]) -> None:
+    """A synchronisation of all that the cache holds, beside loops over as many blocks. The data of the loops
+    come in the same way to where they are pending. It is measured five times, since a slower pace of the
+    machine, which may last some seconds, costs the drive more than the loops; the medians count."""
     writes = "".join(write_command(lba, 256, lba) for lba in range(0, 16 * CACHED, 256))
     both = writes + SYNCHRONIZE
-    drive = Measured(bench.program, bench.image, POWER + CACHE_ON, [([writes], both), ([both], both)])
-    pending, *writing = [loop_line(what, *disc, CACHED, CACHED)
+    begun = [Piece([writes], both), Piece([both], both)]
+    drive = Measured(bench.program, bench.image, POWER + CACHE_ON, begun)
+    pending, *writing = [loop_line(what, disc, CACHED, CACHED)
                          for what in ("pending", "write", "marked-write", "kept-write")]
-    bare = Measured(loops, bench.image, "", [([pending + line], pending + writing[-1]) for line in ("", *writing)])
-    drive, write, marked, kept = map(median, zip(*[synchronised(drive, bare) for _ in range(5)]))
-    row("32 blocks synchronised, beside bare writes and read-backs", drive, write, 1.25)
+    pieces = [Piece([pending + line], pending + writing[-1]) for line in ("", *writing)]
+    bare = Measured(loops, bench.image, "", pieces)
+    whole, write, marked, same = map(middle, zip(*[synchronised(drive, bare) for _ in range(5)]))
+    row("32 blocks synchronised, beside bare writes and read-backs", whole, write, 1.25)
     row("the bare writes with state bytes, beside those without", marked, write)
-    row("and with what is read back in the room that was written last", kept, write)
+    row("and with what is read back in the room that was written last", same, write)
 
 
-def beside(program, other, folder, name, cases):
-    """Reads and writes of both programs over one image: in each case whether blocks are written, how many a command has, and the
-    bound."""
+def beside(program: Path, other: Path, folder: Path, name: str, cases: Sequence[Case]) -> None:
+    """Reads and writes of both programs over one image, in each case."""
     bench = Bench(program, folder / "beside.img")
     bench.once(NEW_DISC)
     bench.once(POWER + "".join(all_blocks(True, 1)))
-    scripts = [(all_blocks(write, blocks),) for write, blocks, _ in cases]
-    times = in_turn([Measured(each, bench.image, POWER, scripts) for each in (program, other)], 25, 20)
+    pieces = [Piece(all_blocks(write, blocks)) for write, blocks, _ in cases]
+    times = in_turn([Measured(each, bench.image, POWER, pieces) for each in (program, other)], 25, 20)
     for (write, blocks, most), both in zip(cases, zip(*times)):
-        each = [of_a_block(median(seconds), blocks) for seconds in both]
-        row(f"a block {'written' if write else 'read'}, {blocks} a command, beside {name}", *each, most)
+        this, that = (of_a_block(median(seconds), blocks) for seconds in both)
+        row(f"a block {'written' if write else 'read'}, {blocks} a command, beside {name}", this, that, most)
     bench.image.unlink()
 
 
-def most_of(blocks):
-    """The most that a read of so many blocks may take with eight blocks buffered, beside one with the last alone."""
+def most_of(blocks: int) -> float:
+    """The most that a read of so many blocks may take with eight blocks buffered, beside one with the last
+    alone."""
     return 1.05 if blocks == 1 else 1.15 if blocks < 16 else 1.07
 
 
-def kept(loops, image, disc):
-    """Loops in C that keep the last eight blocks of a read, as the drive does, beside the same that keep the last alone."""
+def kept(loops: Path, image: Path, disc: Tuple[int, int]) -> None:
+    """Loops in C that keep the last eight blocks of a read, as the drive does, beside the same that keep the
+    last alone."""
     total, first = disc
-    starts = range(first, first + BLOCKS, PIECE)
-    pieces = [([loop_line("moved-read", total, start, PIECE, count, kept) for start in starts],)
-              for count in READS for kept in (8, 1)]
+    starts = range(first, first + BLOCKS, IN_PIECE)
+    pieces = [Piece([loop_line("moved-read", (total, start), IN_PIECE, count, some) for start in starts])
+              for count in READS for some in (8, 1)]
     times, = in_turn([Measured(loops, image, "", pieces)], 50)
     for count, eight, one in zip(READS, times[::2], times[1::2]):
-        each = [of_a_block(median(seconds), count) for seconds in (eight, one)]
-        row(f"a loop that reads {count} and keeps eight, beside one that keeps one", *each)
+        many, few = (of_a_block(median(seconds), count) for seconds in (eight, one))
+        row(f"a loop that reads {count} and keeps eight, beside one that keeps one", many, few)
 
 
-def before_eight(program, other, folder):
+def before_eight(program: Path, other: Path, folder: Path) -> None:
     """Beside a program that keeps one block in its buffer."""
     cases = [(False, blocks, most_of(blocks)) for blocks in READS]
     beside(program, other, folder, "one buffered", cases)
 
 
-def before_cache(program, other, folder):
+def before_cache(program: Path, other: Path, folder: Path) -> None:
     """Beside a program that has no write cache."""
     cases = [(write, blocks, 1.02) for write in (False, True) for blocks in (1, 4, 16, 64)]
     beside(program, other, folder, "no cache", cases)
