@@ -64,7 +64,8 @@ class CachedDrive(Drive):
                 except Check:
                     raise Check(*UNREADABLE, part.first) from None
             new = data[SECTOR * part.in_request:SECTOR * (part.in_request + part.sectors)]
-            blocks[part.logical] = old[:SECTOR * part.in_block] + new + old[SECTOR * (part.in_block + part.sectors):]
+            begin, end = SECTOR * part.in_block, SECTOR * (part.in_block + part.sectors)
+            blocks[part.logical] = old[:begin] + new + old[end:]
         self.pending.update(blocks)
 
     def synchronize(self) -> None:
@@ -97,4 +98,5 @@ class CachedDrive(Drive):
 
     def expand(self, sectors: int) -> None:
         super().expand(sectors)
-        self.pending = {logical: block for logical, block in self.pending.items() if SECTORS_IN_BLOCK * logical < sectors}
+        self.pending = {logical: block
+                        for logical, block in self.pending.items() if SECTORS_IN_BLOCK * logical < sectors}

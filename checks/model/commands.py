@@ -49,10 +49,11 @@ WRITES = (Code.WRITE_10, Code.WRITE_AND_VERIFY, Code.WRITE_12)
 TRANSFERS = (*READS, *WRITES, Code.VERIFY)
 UNTOLD = (Code.REQUEST_SENSE, Code.INQUIRY, Code.GET_CONFIGURATION)
 """The commands that do not wait for the attention."""
-NEED_FORMATTED = (*TRANSFERS, Code.TEST_UNIT_READY, Code.READ_CAPACITY, Code.SYNCHRONIZE_CACHE, Code.READ_DVD_STRUCTURE)
+NEED_FORMATTED = (*TRANSFERS, Code.TEST_UNIT_READY, Code.READ_CAPACITY, Code.SYNCHRONIZE_CACHE,
+                  Code.READ_DVD_STRUCTURE)
 ALLOCATIONS = {
-    Code.REQUEST_SENSE: (4, 1), Code.INQUIRY: (3, 2), Code.READ_FORMAT_CAPACITIES: (7, 2), Code.GET_CONFIGURATION: (7, 2),
-    Code.MODE_SENSE: (7, 2), Code.READ_DVD_STRUCTURE: (8, 2),
+    Code.REQUEST_SENSE: (4, 1), Code.INQUIRY: (3, 2), Code.READ_FORMAT_CAPACITIES: (7, 2),
+    Code.GET_CONFIGURATION: (7, 2), Code.MODE_SENSE: (7, 2), Code.READ_DVD_STRUCTURE: (8, 2),
 }
 """Where the allocation length stands, and in how many bytes."""
 
@@ -119,8 +120,8 @@ def is_taken_by_mode_select(data: bytes) -> bool:
 
 
 def judge_fields(block: Block, data: bytes) -> None:
-    """Raises the first reason why a known command is refused by its command block, the length of its data, or the list of a
-    format: whatever the drive is then, and whatever the disc."""
+    """Raises the first reason why a known command is refused by its command block, the length of its data, or
+    the list of a format: whatever the drive is then, and whatever the disc."""
     if block.is_too_short or not block.has_lawful_fields:
         raise Check(5, 0x24, 0x00)
     if block.code == Code.MODE_SENSE and block.bytes[2] >> 6 == 3:
@@ -188,7 +189,8 @@ class Target:
         if block.code in READS:
             return self.drive.read(block.first, block.sectors)
         if block.code in WRITES:
-            self.drive.write(block.first, data, block.code == Code.WRITE_AND_VERIFY or bool(block.bytes[1] & 0x08))
+            self.drive.write(block.first, data,
+                             block.code == Code.WRITE_AND_VERIFY or bool(block.bytes[1] & 0x08))
         elif block.code == Code.VERIFY:
             self.drive.verify(block.first, block.sectors)
         elif block.code == Code.SYNCHRONIZE_CACHE:
@@ -205,7 +207,8 @@ class Target:
             Code.REQUEST_SENSE: self.sense,
             Code.INQUIRY: lambda: INQUIRY,
             Code.READ_FORMAT_CAPACITIES: self.format_capacities,
-            Code.READ_CAPACITY: lambda: (self.drive.sectors - 1).to_bytes(4, "big") + SECTOR.to_bytes(4, "big"),
+            Code.READ_CAPACITY: lambda: (self.drive.sectors - 1).to_bytes(4, "big")
+            + SECTOR.to_bytes(4, "big"),
             Code.GET_CONFIGURATION: lambda: self.configuration(number(block.bytes, 2, 2)),
             Code.MODE_SENSE: lambda: mode_pages(block.bytes[2], self.drive.caches),
             Code.READ_DVD_STRUCTURE: lambda: self.structure(block.bytes[7]),
@@ -248,7 +251,8 @@ class Target:
         assert lists is not None
         if which == 0x08:
             return bytes.fromhex("08020000") + lists.structure.text[:SECTOR]
-        numbers = (len(lists.free(lists.primary)), len(lists.free(lists.supplementary)), len(lists.supplementary))
+        numbers = (len(lists.free(lists.primary)), len(lists.free(lists.supplementary)),
+                   len(lists.supplementary))
         return bytes.fromhex("000e0000") + b"".join(count.to_bytes(4, "big") for count in numbers)
 
 

@@ -1,4 +1,5 @@
-"""Lines of scripts that are drawn at random: those that fail blocks and cut the power, and commands of a host."""
+"""Lines of scripts that are drawn at random: those that fail blocks and cut the power, and commands of a
+host."""
 from __future__ import annotations
 
 from random import Random
@@ -29,16 +30,16 @@ class Lines:
     def transfer(self) -> str:
         """Something that uses the medium."""
         draws: Dict[Callable[[], str], float] = {
-            self.write: 8, self.read: 8, self.verify: 1, self.full_format: 1, self.rewriting_format: 1, self.expansion: 1,
-            self.on: 2, self.tick: 2, self.synchronization: 1,
+            self.write: 8, self.read: 8, self.verify: 1, self.full_format: 1, self.rewriting_format: 1,
+            self.expansion: 1, self.on: 2, self.tick: 2, self.synchronization: 1,
         }
         return self.one_of(draws)()
 
     def line(self) -> str:
         draws: Dict[Callable[[], str], float] = {
             self.transfer: 20, self.fail: 2, self.wear: 2, self.cut: 0.5, self.query: 6, self.ejection: 1.5,
-            self.mode_select: 1, self.cache: 1, self.any_command: 1, self.spoiled_command: 1.5, self.no_answer: 0.5, self.press: 0.15,
-            self.no_disc: 0.15,
+            self.mode_select: 1, self.cache: 1, self.any_command: 1, self.spoiled_command: 1.5,
+            self.no_answer: 0.5, self.press: 0.15, self.no_disc: 0.15,
         }
         return self.one_of(draws)()
 
@@ -48,8 +49,8 @@ class Lines:
         return f"press {self.geometry.zones} {self.geometry.scale} {self.geometry.spares}"
 
     def no_disc(self) -> str:
-        return self.random.choice(["press 0 1 1", "press 36 1 1", "press 1 101 1", "press 1 1 23", "press 1 1 0",
-                                   "press 35 100 4093", "press 4294967295 1 1"])
+        return self.random.choice(["press 0 1 1", "press 36 1 1", "press 1 101 1", "press 1 1 23",
+                                   "press 1 1 0", "press 35 100 4093", "press 4294967295 1 1"])
 
     def on(self) -> str:
         return "power" if self.random.random() < 0.1 else "power\ncdb 000000000000"
@@ -61,9 +62,10 @@ class Lines:
         """A block of the medium: of a list, one of the first or last data blocks, or any."""
         geometry, data = self.geometry, self.geometry.data_blocks
         return self.random.choices(
-            [self.random.choice(geometry.structure_blocks), self.random.choice(self.random.choice(geometry.secondary_blocks)),
-             self.random.choice(data[:geometry.spares + 3]), self.random.choice(data[-4:]), self.random.choice(data),
-             self.random.randrange(geometry.blocks + 2)], [2, 2, 8, 2, 2, 1])[0]
+            [self.random.choice(geometry.structure_blocks),
+             self.random.choice(self.random.choice(geometry.secondary_blocks)),
+             self.random.choice(data[:geometry.spares + 3]), self.random.choice(data[-4:]),
+             self.random.choice(data), self.random.randrange(geometry.blocks + 2)], [2, 2, 8, 2, 2, 1])[0]
 
     def fail(self) -> str:
         return f"fail {self.block()}"
@@ -80,8 +82,9 @@ class Lines:
 
     def no_form(self) -> str:
         long = self.random.choice(["#".ljust(70_001), "#".rjust(70_001), "#".ljust(70_002)])
-        return self.random.choice([" # a", "Power", "tick 1", "Tick", "press 1 1", "wear 13 0", "cut 0 old", "fail 4294967296", "cut 1 New", "cdb 0",
-                                   "cdb " + "00" * 17, "cdb 00 fill", "cdb 00 hex 0", "cdb\t00", "power\t", "\tpower", long, long])
+        return self.random.choice([" # a", "Power", "tick 1", "Tick", "press 1 1", "wear 13 0", "cut 0 old",
+                                   "fail 4294967296", "cut 1 New", "cdb 0", "cdb " + "00" * 17, "cdb 00 fill",
+                                   "cdb 00 hex 0", "cdb\t00", "power\t", "\tpower", long, long])
 
     # Commands.
 
@@ -91,18 +94,20 @@ class Lines:
         return f"cdb {digits} {data}".rstrip()
 
     def span(self) -> Tuple[int, int]:
-        """The first sector of a request, and how many: near the first blocks, or the end of the disc, or outside of it."""
+        """The first sector of a request, and how many: near the first blocks, or the end of the disc, or
+        outside of it."""
         count = self.random.choice([0, 1, 1, 2, 5, 15, 16, 16, 16, 17, 32, self.random.randint(1, 80)])
-        first = self.random.choice([0, 0, 16, 16, 32, 48, 8, 15, 31, self.random.randrange(64), self.sectors - count,
-                                    self.random.randrange(self.sectors + 1)])
+        first = self.random.choice([0, 0, 16, 16, 32, 48, 8, 15, 31, self.random.randrange(64),
+                                    self.sectors - count, self.random.randrange(self.sectors + 1)])
         if self.random.random() < 0.02:
-            return self.random.choice([(0, 1_025), (self.sectors, 0), (self.sectors + 1, 0), (self.sectors, 1),
-                                       (2 ** 32 - 1, 1), (2 ** 32 - 1, 0), (0, 65_535)])
+            return self.random.choice([(0, 1_025), (self.sectors, 0), (self.sectors + 1, 0),
+                                       (self.sectors, 1), (2 ** 32 - 1, 1), (2 ** 32 - 1, 0), (0, 65_535)])
         return max(first, 0), count
 
     def request(self, code: Code, first: int, count: int, data: str = "") -> str:
         long = code in (Code.READ_12, Code.WRITE_12)
-        numbers = first.to_bytes(4, "big") + (count.to_bytes(4, "big") if long else b"\0" + count.to_bytes(2, "big"))
+        counted = count.to_bytes(4, "big") if long else b"\0" + count.to_bytes(2, "big")
+        numbers = first.to_bytes(4, "big") + counted
         return self.cdb(code, self.random.choice([0, 0, 8]), *numbers, *bytes(2 if long else 1), data=data)
 
     def read(self) -> str:
@@ -125,7 +130,8 @@ class Lines:
     def cache(self) -> str:
         """The write cache is turned on, or off."""
         byte = self.random.choice([0x04, 0x04, 0x04, 0x00])
-        return self.cdb(Code.MODE_SELECT, 0x10, *bytes(5), 0, 20, 0, data=f"hex {'00' * 8}080a{byte:02x}{'00' * 9}")
+        return self.cdb(Code.MODE_SELECT, 0x10, *bytes(5), 0, 20, 0,
+                        data=f"hex {'00' * 8}080a{byte:02x}{'00' * 9}")
 
     def full_format(self) -> str:
         forgets = self.random.choice([0x11, 0x19])
@@ -136,21 +142,23 @@ class Lines:
 
     def expansion(self) -> str:
         less = 16 * self.random.randrange(40)
-        capacity = self.random.choice([self.sectors - 16, self.sectors - 32, self.sectors - less, self.sectors, self.sectors + 16,
-                                       16, 0, 17])
-        return self.cdb(Code.FORMAT_UNIT, 0x11, 0, 0, 0, 0, data=f"hex 00000008{max(capacity, 0):08x}04000000")
+        capacity = self.random.choice([self.sectors - 16, self.sectors - 32, self.sectors - less,
+                                       self.sectors, self.sectors + 16, 16, 0, 17])
+        return self.cdb(Code.FORMAT_UNIT, 0x11, 0, 0, 0, 0,
+                        data=f"hex 00000008{max(capacity, 0):08x}04000000")
 
     def query(self) -> str:
         """A command that only replies, with an allocation length that is often too small for the reply."""
         long, short = self.random.choice([0, 1, 8, 255, 4_096]), self.random.choice([0, 3, 18, 255])
         length = [long >> 8, long & 0xff]
         page = self.random.choice([0x01, 0x08, 0x3f, 0x41, 0x48, 0x7f, 0x81, 0xbf, 0xc1, 0x05, 0xff])
-        kind, first, which = self.random.randrange(4), self.random.choice([0, 0, 1]), self.random.choice([0x08, 0x0a, 0x0a, 0x00])
+        kind, first = self.random.randrange(4), self.random.choice([0, 0, 1])
+        which = self.random.choice([0x08, 0x0a, 0x0a, 0x00])
         return self.random.choice([
             self.cdb(Code.TEST_UNIT_READY, *bytes(5)), self.cdb(Code.REQUEST_SENSE, 0, 0, 0, short, 0),
             self.cdb(Code.REQUEST_SENSE, 0, 0, 0, 18, 0), self.cdb(Code.INQUIRY, 0, 0, *length, 0),
-            self.cdb(Code.READ_FORMAT_CAPACITIES, *bytes(6), *length, 0), self.cdb(Code.READ_CAPACITY, *bytes(9)),
-            self.cdb(Code.SYNCHRONIZE_CACHE, *bytes(9)),
+            self.cdb(Code.READ_FORMAT_CAPACITIES, *bytes(6), *length, 0),
+            self.cdb(Code.READ_CAPACITY, *bytes(9)), self.cdb(Code.SYNCHRONIZE_CACHE, *bytes(9)),
             self.cdb(Code.GET_CONFIGURATION, kind, 0, first, 0, 0, 0, *length, 0),
             self.cdb(Code.MODE_SENSE, 0, page, 0, 0, 0, 0, *length, 0),
             self.cdb(Code.READ_DVD_STRUCTURE, 0, 0, 0, 0, 0, 0, which, *length, 0, 0),
@@ -170,10 +178,12 @@ class Lines:
         return "\n".join([*lines, ejection, *self.several(self.query, 0, 2)])
 
     def mode_select(self) -> str:
-        choices: List[List[int]] = [[], [0x01], [0x08], [0x01, 0x08], [0x08, 0x81], [0x88, 0x88], [0x09], [0x01, 0x08, 0x01]]
+        choices: List[List[int]] = [[], [0x01], [0x08], [0x01, 0x08], [0x08, 0x81], [0x88, 0x88], [0x09],
+                                    [0x01, 0x08, 0x01]]
         pages = self.random.choice(choices)
         in_force = {0x01: b"\x0a\x80", 0x08: bytes([0x0a, self.random.choice([0, 4])])}
-        data = bytearray(8) + b"".join(bytes([page]) + in_force.get(page & 0x7f, b"").ljust(11, b"\0") for page in pages)
+        data = bytearray(8) + b"".join(bytes([page]) + in_force.get(page & 0x7f, b"").ljust(11, b"\0")
+                                       for page in pages)
         if self.random.random() < 0.3:
             data[self.random.randrange(len(data))] ^= 1 << self.random.randrange(8)
         said = self.one_of({len(data): 5, self.random.choice([0, 8, 20, 32, 21, 65_535]): 1})
@@ -183,9 +193,11 @@ class Lines:
 
     def any_command(self) -> str:
         """A command block of random bytes, mostly of a code that the drive has."""
-        code, length = self.random.choice([*CODES, self.random.randrange(256)]), self.random.choice([0, 5, 9, 11, 15])
+        code = self.random.choice([*CODES, self.random.randrange(256)])
+        length = self.random.choice([0, 5, 9, 11, 15])
         rest = [self.random.choice([0, 0, 0, 1, 8, self.random.randrange(256)]) for _ in range(length)]
-        data = self.random.choice(["", "", f"fill {self.random.randrange(256):02x}", "count fe", "hex 00", "hex " + "00" * 12])
+        data = self.random.choice(["", "", f"fill {self.random.randrange(256):02x}", "count fe", "hex 00",
+                                   "hex " + "00" * 12])
         return f"cdb {bytes([code, *rest]).hex()} {data}".rstrip()
 
     def unknown(self) -> str:
@@ -194,11 +206,13 @@ class Lines:
 
     def spoiled_command(self) -> str:
         """A command in which a digit is another, or some are missing, or more follow."""
-        words = self.random.choice([self.read, self.write, self.full_format, self.expansion, self.query])().split(" ")
+        words = self.random.choice([self.read, self.write, self.full_format, self.expansion,
+                                    self.query])().split(" ")
         at = self.random.choice([1, len(words) - 1])
         word, place = words[at], self.random.randrange(len(words[at]))
         if at == 1 and self.random.random() < 0.3:
-            words[at] = word[:2 * self.random.randrange(1, 7)] if self.random.random() < 0.5 else (word + "00ff")[:32]
+            is_shorter = self.random.random() < 0.5
+            words[at] = word[:2 * self.random.randrange(1, 7)] if is_shorter else (word + "00ff")[:32]
         elif all(digit in "0123456789abcdefABCDEF" for digit in word):
             words[at] = word[:place] + self.random.choice("01248f") + word[place + 1:]
         return " ".join(words)

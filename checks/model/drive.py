@@ -4,8 +4,8 @@ from __future__ import annotations
 from dataclasses import dataclass, replace
 from typing import Callable, Dict, Iterator, List, NamedTuple, Optional, Tuple
 
-from .lists import (LAST_COUNTER, MADE, SECTORS_IN_BLOCK, Kind, Lists, Secondary, Slipped, Structure, goes_on, named_structure,
-                    structure_fits)
+from .lists import (LAST_COUNTER, MADE, SECTORS_IN_BLOCK, Kind, Lists, Secondary, Slipped, Structure, goes_on,
+                    named_structure, structure_fits)
 from .medium import BLOCK, SECTOR, Medium
 
 Copies = List[List[Tuple[int, bytes]]]
@@ -42,7 +42,8 @@ NO_UPDATE = (3, 0x32, 0x01)
 
 @dataclass(frozen=True)
 class Part:
-    """What a request has of one logical block: its sectors, counted from the beginning of the request and of the block."""
+    """What a request has of one logical block: its sectors, counted from the beginning of the request and of
+    the block."""
     logical: int
     first: int
     in_request: int
@@ -132,7 +133,8 @@ class Drive:
             self.on_copies(self.mend, self.secondary_copies(self.lists.secondary))
 
     def read_secondaries(self) -> List[Secondary]:
-        """The secondary lists of the areas. The mark is the greatest counter of a structure that one of them names."""
+        """The secondary lists of the areas. The mark is the greatest counter of a structure that one of them
+        names."""
         found, self.mark = [], 0
         for first_block, second_block in self.medium.geometry.secondary_blocks:
             first = self.medium.read(first_block)
@@ -217,14 +219,17 @@ class Drive:
     def rewrite(self, lists: Lists) -> None:
         self.buffered = {}
         repaired = [self.on_copies(self.mend, copies)
-                    for copies in (self.structure_copies(lists.structure), self.secondary_copies(lists.secondary))]
+                    for copies in (self.structure_copies(lists.structure),
+                                   self.secondary_copies(lists.secondary))]
         if not all(repaired):
             raise Check(*FORMAT_FAILED)
 
     @staticmethod
     def kept(lists: Lists, forgets: bool) -> Dict[int, int]:
         """The blocks that a full format keeps as defective, with their kinds."""
-        found: Dict[int, int] = {} if forgets else {block: Kind.SECONDARY_LIST for block, _ in lists.secondary.entries}
+        found: Dict[int, int] = {}
+        if not forgets:
+            found = {block: Kind.SECONDARY_LIST for block, _ in lists.secondary.entries}
         return {**found, **{entry.block: entry.kind for entry in lists.structure.entries}}
 
     def format_fully(self, defects: Dict[int, int], kind: Kind) -> None:
@@ -273,5 +278,6 @@ class Drive:
         old, blocks = self.lists, sectors // SECTORS_IN_BLOCK
         spares = old.secondary.spares + len(old.logical) - blocks
         given_up = set(old.logical[blocks:])
-        entries = tuple((block, None if block in given_up else spare) for block, spare in old.secondary.entries)
+        entries = tuple((block, None if block in given_up else spare)
+                        for block, spare in old.secondary.entries)
         self.update_secondary(replace(old.secondary, spares=spares, entries=entries))

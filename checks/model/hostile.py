@@ -20,8 +20,8 @@ class Hand:
     def change(self) -> bytes:
         """The image after some changes."""
         changes: List[Tuple[Callable[[], None], int]] = [
-            (self.header, 3), (self.length, 1), (self.states, 4), (self.list_byte, 4), (self.data, 1), (self.copy, 2),
-            (self.counters, 4),
+            (self.header, 3), (self.length, 1), (self.states, 4), (self.list_byte, 4), (self.data, 1),
+            (self.copy, 2), (self.counters, 4),
         ]
         for change in self.random.choices([one for one, _ in changes], [weight for _, weight in changes],
                                           k=self.random.randint(1, 4)):
@@ -33,7 +33,8 @@ class Hand:
         self.medium.set_state(block, State.GOOD)
 
     def header(self) -> None:
-        self.medium.image[self.random.choice([0, 7, 9, 11, 13, 13, 13, 14, 15, 15, 15])] = self.random.choice([0, 1, 2, 3, 0xff])
+        byte = self.random.choice([0, 1, 2, 3, 0xff])
+        self.medium.image[self.random.choice([0, 7, 9, 11, 13, 13, 13, 14, 15, 15, 15])] = byte
 
     def length(self) -> None:
         if self.random.random() < 0.5:
@@ -42,7 +43,8 @@ class Hand:
             del self.medium.image[-1]
 
     def any_block(self) -> int:
-        return self.random.choice([self.random.choice(self.lists), self.random.randrange(self.geometry.blocks)])
+        return self.random.choice([self.random.choice(self.lists),
+                                   self.random.randrange(self.geometry.blocks)])
 
     def states(self) -> None:
         for block in (self.any_block() for _ in range(4)):
@@ -59,7 +61,8 @@ class Hand:
     def data(self) -> None:
         """Random bytes in a data block."""
         block = self.random.choice(self.geometry.data_blocks)
-        self.medium.image[self.medium.bytes_at(block)] = self.random.getrandbits(8 * BLOCK).to_bytes(BLOCK, "big")
+        data = self.random.getrandbits(8 * BLOCK).to_bytes(BLOCK, "big")
+        self.medium.image[self.medium.bytes_at(block)] = data
 
     def copy(self) -> None:
         """A copy of a list in the place of another."""
@@ -67,8 +70,10 @@ class Hand:
         self.put(target, bytes(self.medium.image[self.medium.bytes_at(source)]))
 
     def counters(self) -> None:
-        """Lists as they are, at another counter: the structure together with its secondary lists, or these alone."""
-        counter, moves = self.random.choice([0, 1, LAST_COUNTER - 2, LAST_COUNTER - 1, LAST_COUNTER]), self.random.random() < 0.5
+        """Lists as they are, at another counter: the structure together with its secondary lists, or these
+        alone."""
+        counter = self.random.choice([0, 1, LAST_COUNTER - 2, LAST_COUNTER - 1, LAST_COUNTER])
+        moves = self.random.random() < 0.5
         for block in self.lists:
             data = bytes(self.medium.image[self.medium.bytes_at(block)])
             if block not in self.geometry.structure_blocks:
@@ -77,4 +82,5 @@ class Hand:
                 at = 4
             else:
                 continue
-            self.medium.image[self.medium.bytes_at(block)] = data[:at] + counter.to_bytes(4, "big") + data[at + 4:]
+            data = data[:at] + counter.to_bytes(4, "big") + data[at + 4:]
+            self.medium.image[self.medium.bytes_at(block)] = data

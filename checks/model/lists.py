@@ -15,7 +15,8 @@ VERSIONS = (1, 2)
 MADE = 2
 """The version that a full format makes."""
 MOST_IN_PART = 4_092
-"""How many entries a part of the secondary list has at most, and how many supplementary spares there are for each part."""
+"""How many entries a part of the secondary list has at most, and how many supplementary spares there are for
+each part."""
 
 
 def number(block: bytes, at: int, length: int) -> int:
@@ -66,7 +67,8 @@ class Structure:
         if block is None:
             return None
         count = number(block, 2_050, 2)
-        entries = tuple(Slipped(block[at], number(block, at + 1, 3)) for at in range(2_052, 2_052 + 4 * count, 4)
+        entries = tuple(Slipped(block[at], number(block, at + 1, 3))
+                        for at in range(2_052, 2_052 + 4 * count, 4)
                         if at < BLOCK)
         found = cls(block[2], block[3] == 0x80, number(block, 4, 4), number(block, 8, 2), entries)
         return found if found.is_text and found.text == block else None
@@ -74,7 +76,8 @@ class Structure:
     @property
     def is_text(self) -> bool:
         return (self.version in VERSIONS
-                and 1 <= self.spares <= MOST_SPARES and len(self.entries) <= (self.spares if self.formatted else 0)
+                and 1 <= self.spares <= MOST_SPARES
+                and len(self.entries) <= (self.spares if self.formatted else 0)
                 and all(entry.kind in tuple(Kind) for entry in self.entries) and rises(self.blocks))
 
     @cached_property
@@ -84,7 +87,8 @@ class Structure:
 
 @dataclass(frozen=True)
 class Secondary:
-    """The secondary list: each defective block with its replacement, or with none if it is a spare that is retired."""
+    """The secondary list: each defective block with its replacement, or with none if it is a spare that is
+    retired."""
     version: int
     counter: int
     structure: int
@@ -109,7 +113,8 @@ class Secondary:
 
     @classmethod
     def of(cls, first: Optional[bytes], second: Optional[bytes]) -> Optional[Secondary]:
-        """The secondary list whose text these bytes are, if there is one. The second block counts for a list of two parts."""
+        """The secondary list whose text these bytes are, if there is one. The second block counts for a list
+        of two parts."""
         if first is None or first[2] not in VERSIONS:
             return None
         parts = [first, second][:first[2]]
@@ -123,7 +128,8 @@ class Secondary:
     @property
     def is_text(self) -> bool:
         most = MOST_IN_PART * self.version
-        return (self.spares <= most and len(self.entries) <= most and rises([block for block, _ in self.entries])
+        return (self.spares <= most and len(self.entries) <= most
+                and rises([block for block, _ in self.entries])
                 and all((spare or 0) < 2 ** 24 for _, spare in self.entries))
 
     @cached_property
@@ -133,7 +139,8 @@ class Secondary:
 
 def entries_at(part: bytes, count: int) -> List[Tuple[int, Optional[int]]]:
     """The first entries in a part of the secondary list."""
-    return [(number(part, at + 1, 3), None if part[at] else number(part, at + 4, 4)) for at in range(32, 32 + 8 * count, 8)]
+    return [(number(part, at + 1, 3), None if part[at] else number(part, at + 4, 4))
+            for at in range(32, 32 + 8 * count, 8)]
 
 
 def goes_on(first: Optional[bytes]) -> bool:
@@ -144,7 +151,8 @@ def goes_on(first: Optional[bytes]) -> bool:
 
 
 def named_structure(first: Optional[bytes]) -> Optional[int]:
-    """The counter of the structure that the first block of a secondary list names, whatever its second one is."""
+    """The counter of the structure that the first block of a secondary list names, whatever its second one
+    is."""
     if first is not None and (goes_on(first) or Secondary.of(first, None)):
         return number(first, 8, 4)
     return None
@@ -214,7 +222,8 @@ class Lists:
     @property
     def is_valid(self) -> bool:
         """Whether the secondary list is valid under the structure."""
-        if (self.secondary.version, self.secondary.structure) != (self.structure.version, self.structure.counter):
+        named = self.secondary.version, self.secondary.structure
+        if named != (self.structure.version, self.structure.counter):
             return False
         spares, data = self.structure.spares + self.secondary.spares, len(self.geometry.data_blocks)
         if spares > self.most_spares or spares >= data or len(set(self.named)) < len(self.named):

@@ -57,7 +57,8 @@ class Geometry:
 
     @property
     def header(self) -> bytes:
-        return SIGNATURE + b"".join(number.to_bytes(2, "big") for number in (self.zones, self.scale, self.spares, 0))
+        return SIGNATURE + b"".join(number.to_bytes(2, "big")
+                                    for number in (self.zones, self.scale, self.spares, 0))
 
     @cached_property
     def data_blocks(self) -> List[int]:
@@ -89,8 +90,10 @@ class Geometry:
 
     @property
     def secondary_blocks(self) -> List[Tuple[int, int]]:
-        """The two blocks of the secondary list in each area. The second is in use where the list has two parts."""
-        return [(1, 4), (3, 5), (self.lead_out + 1, self.lead_out + 4), (self.lead_out + 3, self.lead_out + 5)]
+        """The two blocks of the secondary list in each area. The second is in use where the list has two
+        parts."""
+        return [(1, 4), (3, 5), (self.lead_out + 1, self.lead_out + 4),
+                (self.lead_out + 3, self.lead_out + 5)]
 
     @property
     def list_blocks(self) -> List[int]:
@@ -156,7 +159,8 @@ class Medium:
             self.set_state(block, State.GOOD)
 
     def _is_cut_in_use_of(self, block: int) -> Optional[Fate]:
-        """Counts a use, first for the wears of the block and then for the cut: the fate, where the power is cut in it."""
+        """Counts a use, first for the wears of the block and then for the cut: the fate, where the power is
+        cut in it."""
         for wear in self.wears:
             wear.left -= wear.block == block
         if any(wear.left == 0 for wear in self.wears):

@@ -15,9 +15,10 @@ LONGEST_SCRIPT = 67_108_864
 LONGEST_BLOCK = 16
 LARGEST_NUMBER = 4_294_967_295
 WORDS = {"NUMBER": "([0-9]{1,10})", "HEX": "((?:[0-9a-fA-F]{2})+)", "XX": "([0-9a-fA-F]{2})"}
-FORMS = ("(press) NUMBER NUMBER NUMBER", "(power)", "(tick)", "(fail) NUMBER", "(wear) NUMBER NUMBER", "(cut) NUMBER (old|new|torn)",
-         "(cdb) HEX", "(cdb) HEX (fill|count) XX", "(cdb) HEX (hex) HEX")
-PATTERNS = [re.compile(re.sub("NUMBER|HEX|XX", lambda word: WORDS[str(word.group())], form)) for form in FORMS]
+FORMS = ("(press) NUMBER NUMBER NUMBER", "(power)", "(tick)", "(fail) NUMBER", "(wear) NUMBER NUMBER",
+         "(cut) NUMBER (old|new|torn)", "(cdb) HEX", "(cdb) HEX (fill|count) XX", "(cdb) HEX (hex) HEX")
+PATTERNS = [re.compile(re.sub("NUMBER|HEX|XX", lambda word: WORDS[str(word.group())], form))
+            for form in FORMS]
 
 
 class Status(IntEnum):
@@ -47,7 +48,8 @@ class Line(NamedTuple):
     @property
     def is_within_limits(self) -> bool:
         least = 1 if self.name in ("wear", "cut") else 0
-        return all(number <= LARGEST_NUMBER for number in self.numbers) and min(self.numbers[-1:], default=1) >= least
+        return all(number <= LARGEST_NUMBER
+                   for number in self.numbers) and min(self.numbers[-1:], default=1) >= least
 
 
 def line_of(line: bytes) -> Optional[Line]:
@@ -97,7 +99,8 @@ def data_of(line: Line) -> bytes:
     if line.kind == "fill":
         return line.data * takes
     if line.kind == "count":
-        return b"".join(bytes([(line.data[0] + at // SECTOR) % 256]) * min(takes - at, SECTOR) for at in range(0, takes, SECTOR))
+        return b"".join(bytes([(line.data[0] + at // SECTOR) % 256]) * min(takes - at, SECTOR)
+                        for at in range(0, takes, SECTOR))
     return line.data
 
 

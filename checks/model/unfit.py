@@ -1,4 +1,5 @@
-"""Lists that are laid on a disc by hand: a pair that fits, and beside it or instead of it lists with a flaw."""
+"""Lists that are laid on a disc by hand: a pair that fits, and beside it or instead of it lists with a
+flaw."""
 from __future__ import annotations
 
 from dataclasses import replace
@@ -9,7 +10,8 @@ from .lists import LAST_COUNTER, MOST_IN_PART, VERSIONS, Lists, Secondary, Slipp
 from .medium import BLOCK, SECTOR, Geometry, Medium, State
 
 Texts = List[Optional[bytes]]
-"""What is laid in an area: the text of the structure, and that of each part of the secondary list. None is a dead block."""
+"""What is laid in an area: the text of the structure, and that of each part of the secondary list. None is a
+dead block."""
 
 
 class Hand:
@@ -20,15 +22,17 @@ class Hand:
         self.geometry = geometry
 
     def image(self) -> bytes:
-        """A disc with lists: in some areas a pair that fits, in the others one with a flaw or with other counters."""
+        """A disc with lists: in some areas a pair that fits, in the others one with a flaw or with other
+        counters."""
         medium = Medium(self.geometry.blank(), self.geometry)
         fit = self.fit()
-        areas = self.random.choices([[self.texts(fit)] * 4, [self.flawed(fit)] * 4, [self.foreign(fit)] * 4, self.mixed(fit),
-                                     self.fronts(fit)], [6, 4, 2, 2, 3])[0]
+        areas = self.random.choices([[self.texts(fit)] * 4, [self.flawed(fit)] * 4, [self.foreign(fit)] * 4,
+                                     self.mixed(fit), self.fronts(fit)], [6, 4, 2, 2, 3])[0]
         places: List[List[int]] = [[], [0], [0], [0], [0, 1], [0, 3], [1, 2], [3]]
         for place in self.random.choice(places):
             areas[place] = self.flawed(fit)
-        for texts, structure, parts in zip(areas, self.geometry.structure_blocks, self.geometry.secondary_blocks):
+        for texts, structure, parts in zip(areas, self.geometry.structure_blocks,
+                                           self.geometry.secondary_blocks):
             for text, block in zip(texts, (structure, *parts)):
                 self.lay(medium, block, text)
         for block in self.random.sample(self.geometry.data_blocks, len(self.geometry.data_blocks) * 2 // 3):
@@ -50,15 +54,18 @@ class Hand:
         structure = Structure(self.random.choice(VERSIONS), True, first, spares, entries)
         more = self.random.choice([0, 0, 1, 2, len(data) - spares - 1])
         counter = self.random.choice([1, 1, 5, LAST_COUNTER - 1, LAST_COUNTER])
-        secondary = Secondary(structure.version, counter, structure.counter, min(more, len(data) - spares - 1))
+        secondary = Secondary(structure.version, counter, structure.counter,
+                              min(more, len(data) - spares - 1))
         lists = Lists(self.geometry, structure, secondary)
         return replace(lists, secondary=replace(lists.secondary, entries=self.fitting_entries(lists)))
 
     def fitting_entries(self, lists: Lists) -> Tuple[Tuple[int, Optional[int]], ...]:
-        free = self.random.sample(lists.free_spares, min(len(lists.free_spares), self.random.choice([0, 0, 1, 2, 3])))
+        free = self.random.sample(lists.free_spares,
+                                  min(len(lists.free_spares), self.random.choice([0, 0, 1, 2, 3])))
         replaced = self.random.sample(lists.logical, min(len(lists.logical), len(free)))
         pairs: List[Tuple[int, Optional[int]]] = [
-            (block, spare) if self.random.random() < 0.7 else (spare, None) for block, spare in zip(replaced, free)]
+            (block, spare) if self.random.random() < 0.7 else (spare, None)
+            for block, spare in zip(replaced, free)]
         return tuple((block, dict(pairs)[block]) for block in sorted(dict(pairs)))
 
     def texts(self, lists: Lists) -> Texts:
@@ -69,13 +76,16 @@ class Hand:
         return [lists.structure.text, *parts]
 
     def foreign(self, lists: Lists) -> Texts:
-        """The lists of a disc that has another number of spares, whose structure is newer than the secondary list says."""
+        """The lists of a disc that has another number of spares, whose structure is newer than the secondary
+        list says."""
         structure = lists.structure
-        other = replace(structure, spares=structure.spares + 1, counter=min(structure.counter + 1, LAST_COUNTER))
+        other = replace(structure, spares=structure.spares + 1,
+                        counter=min(structure.counter + 1, LAST_COUNTER))
         return [other.text, *self.texts(lists)[1:]]
 
     def mixed(self, lists: Lists) -> List[Texts]:
-        """The lists, but in two areas a newer one, of which one area has lost the second part, and the other the first."""
+        """The lists, but in two areas a newer one, of which one area has lost the second part, and the other
+        the first."""
         newer = replace(lists.secondary, counter=min(lists.secondary.counter + 1, LAST_COUNTER))
         parts: Texts = list(replace(newer, entries=self.fitting_entries(lists)).texts)
         areas = [self.texts(lists) for _ in range(4)]
@@ -85,14 +95,16 @@ class Hand:
         return areas
 
     def fronts(self, lists: Lists) -> List[Texts]:
-        """In each area the first part of a list that names a structure, mostly another one, and no second part of it. It may have
-        a flaw, most often in the first bytes, by which a drive sees whether there is a second part."""
+        """In each area the first part of a list that names a structure, mostly another one, and no second
+        part of it. It may have a flaw, most often in the first bytes, by which a drive sees whether there is
+        a second part."""
         fit = replace(lists.secondary, version=2)
         named = min(fit.structure + self.random.choice([0, 9, 9]), LAST_COUNTER)
-        first, second = replace(fit, structure=named, spares=self.random.choice([fit.spares, 2 * MOST_IN_PART])).texts
+        first, second = replace(fit, structure=named,
+                                spares=self.random.choice([fit.spares, 2 * MOST_IN_PART])).texts
         flaws = [first, first[:12] + b"\x1f\xf9" + first[14:], first[:14] + b"\x1f\xf9" + first[16:],
-                 first[:14] + b"\x1f\xf8" + first[16:], self.spoiled(first, [0, 1, 2, 3]), self.spoiled(first, [16, 17, 31]),
-                 self.spoiled(first, [32, 35, BLOCK - 1])]
+                 first[:14] + b"\x1f\xf8" + first[16:], self.spoiled(first, [0, 1, 2, 3]),
+                 self.spoiled(first, [16, 17, 31]), self.spoiled(first, [32, 35, BLOCK - 1])]
         behind: List[Texts] = [[], [None], [fit.texts[1]], [second]]
         flaw, rest = self.random.choice(flaws), self.random.choice(behind)
         return [[lists.structure.text, flaw, *rest]] * 4
@@ -107,7 +119,8 @@ class Hand:
         return [structure, *self.flawed_secondary(lists)]
 
     def other_counter(self, counter: int) -> int:
-        return self.random.choice([counter, max(counter - 1, 0), *[min(counter + 1, LAST_COUNTER)] * 3, 0, LAST_COUNTER])
+        return self.random.choice([counter, max(counter - 1, 0), *[min(counter + 1, LAST_COUNTER)] * 3, 0,
+                                   LAST_COUNTER])
 
     def spoiled(self, text: bytes, places: List[int]) -> bytes:
         """A text in which one byte is another."""
@@ -116,7 +129,8 @@ class Hand:
 
     def outside(self) -> int:
         """A block that is no data block."""
-        return self.random.choice([0, 7, 8, self.geometry.lead_out - 1, self.geometry.lead_out, self.geometry.blocks, 2 ** 24 - 1])
+        return self.random.choice([0, 7, 8, self.geometry.lead_out - 1, self.geometry.lead_out,
+                                   self.geometry.blocks, 2 ** 24 - 1])
 
     def any_of(self, blocks: List[int]) -> int:
         return self.random.choice(blocks) if blocks else self.outside()
@@ -131,7 +145,8 @@ class Hand:
             lambda: replace(fit, version=3 - fit.version, counter=other): 3,
             lambda: replace(fit, counter=other, formatted=False, entries=()): 2,
             lambda: replace(fit, formatted=False, entries=entries): 3,
-            lambda: replace(fit, spares=self.random.choice([0, fit.spares + 1, fit.spares + 1, 4_093]), counter=other): 7,
+            lambda: replace(fit, spares=self.random.choice([0, fit.spares + 1, fit.spares + 1, 4_093]),
+                            counter=other): 7,
             lambda: replace(fit, entries=tuple(outside), counter=other): 3,
             lambda: replace(fit, entries=tuple(Slipped(2, block) for block in data[:fit.spares + 1])): 1,
             lambda: replace(fit, entries=tuple(reversed((*entries[:1], Slipped(0, data[-1]))))): 3,
@@ -141,19 +156,24 @@ class Hand:
         }
         if self.random.random() < 0.3:
             last = 2_052 + 4 * len(fit.entries)
-            places = [0, 1, 2, 3, 10, SECTOR - 1, SECTOR + 1, SECTOR + 3, last, BLOCK - 1, BLOCK - 1, BLOCK - 1]
+            places = [0, 1, 2, 3, 10, SECTOR - 1, SECTOR + 1, SECTOR + 3, last, BLOCK - 1, BLOCK - 1,
+                      BLOCK - 1]
             return self.spoiled(fit.text, places)
         return self.random.choices(list(draws), list(draws.values()))[0]().text
 
     def flawed_parts(self, fit: Secondary) -> Texts:
-        """The two parts of a list, which do not belong together, or one of which is not there or has a flaw."""
+        """The two parts of a list, which do not belong together, or one of which is not there or has a
+        flaw."""
         first, second = fit.texts
-        older, newer = (replace(fit, counter=min(max(fit.counter + step, 0), LAST_COUNTER)).texts for step in (-1, 1))
-        long = replace(fit, entries=tuple((block, None) for block in range(MOST_IN_PART + self.random.choice([0, 1, 2])))).texts
+        older, newer = (replace(fit, counter=min(max(fit.counter + step, 0), LAST_COUNTER)).texts
+                        for step in (-1, 1))
+        many = range(MOST_IN_PART + self.random.choice([0, 1, 2]))
+        long = replace(fit, entries=tuple((block, None) for block in many)).texts
         spoiled = self.spoiled(second, [0, 1, 2, 3, 7, 11, 12, 13, 14, 15, 16, 31, 32, BLOCK - 1])
         draws: List[Texts] = [
-            [first], [first, None], [None, second], [newer[0], second], [first, newer[1]], [first, older[1]], [second, first],
-            [first, first], [second, second], [long[0], second], [*long], [first, spoiled], [first, spoiled],
+            [first], [first, None], [None, second], [newer[0], second], [first, newer[1]], [first, older[1]],
+            [second, first], [first, first], [second, second], [long[0], second], [*long], [first, spoiled],
+            [first, spoiled],
         ]
         return self.random.choice(draws)
 
@@ -168,7 +188,8 @@ class Hand:
             lambda: replace(fit, counter=self.other_counter(fit.counter)): 3,
             lambda: replace(fit, structure=self.other_counter(fit.structure)): 5,
             lambda: replace(fit, version=3 - fit.version): 2,
-            lambda: replace(fit, spares=self.random.choice([most, most + 1, MOST_IN_PART + 1]), entries=()): 1,
+            lambda: replace(fit, spares=self.random.choice([most, most + 1, MOST_IN_PART + 1]),
+                            entries=()): 1,
             lambda: replace(fit, spares=data - lists.structure.spares, entries=()): 3,
             lambda: self.with_entries(fit, (logical, None)): 2,
             lambda: self.with_entries(fit, (spare, other)): 1,
@@ -178,7 +199,9 @@ class Hand:
             lambda: self.with_entries(fit, (logical, spare), (spare, None)): 2,
             lambda: self.with_entries(fit, (logical, self.outside())): 1,
             lambda: self.with_entries(fit, (self.outside(), self.random.choice([None, spare]))): 2,
-            lambda: self.with_entries(fit, (self.any_of(lists.structure.blocks), self.random.choice([None, spare]))): 1,
+            lambda: self.with_entries(fit,
+                                      (self.any_of(lists.structure.blocks),
+                                       self.random.choice([None, spare]))): 1,
             lambda: replace(fit, entries=((second, spare), (logical, other))): 1,
             lambda: replace(fit, entries=((logical, spare), (logical, other))): 1,
         }

@@ -22,7 +22,8 @@ ROOT = Path(__file__).resolve().parents[2]
 TOOLS = ROOT / "tools"
 PROGRAM = ROOT / "crates" / "ram_drive" / "out" / "ram_drive"
 PLUGIN = TOOLS / "nbdkit-dvdram-plugin"
-SECONDS = 120  # within which one thing comes or ends, on a machine that is busy with others too: what takes longer hangs
+SECONDS = 120
+"""In which a thing comes or ends, on a machine that is busy with others too: what takes longer hangs."""
 
 NBD = ("nbdkit", "nbdkit-plugin-python")
 FILES = (*NBD, "nbdfuse", "fuse", "mkfs.fat", "fsck.fat", "mcopy")
@@ -87,7 +88,8 @@ def random_bytes(chance: random.Random, count: int) -> bytes:
 def done(*words: str | Path, env: dict[str, str] | None = None) -> subprocess.CompletedProcess[str]:
     """Runs a command to its end; all that it printed stands together."""
     return subprocess.run([str(word) for word in words], stdin=subprocess.DEVNULL, stdout=subprocess.PIPE,
-                          stderr=subprocess.STDOUT, text=True, errors="replace", timeout=SECONDS, check=False, env=env)
+                          stderr=subprocess.STDOUT, text=True, errors="replace", timeout=SECONDS, check=False,
+                          env=env)
 
 
 def run_script(image: str | Path, script: str) -> list[str]:
@@ -106,7 +108,8 @@ def wait_until(holds: Callable[[], bool], what: str) -> None:
 
 
 def is_free(image: str | Path) -> bool:
-    """Whether no drive has locked this image. One that serves a single command may live on for a while after it."""
+    """Whether no drive has locked this image. One that serves a single command may live on for a while after
+    it."""
     with open(image, "rb") as file:
         try:
             fcntl.flock(file, fcntl.LOCK_SH | fcntl.LOCK_NB)
@@ -140,7 +143,8 @@ def unmount(folder: str | Path, *options: str) -> bool:
 
 
 def clear(folder: Path) -> None:
-    """Removes a folder, and before it what is mounted in it, and a server that serves an image of it still."""
+    """Removes a folder, and before it what is mounted in it, and a server that serves an image of it
+    still."""
     for mount in mounts_in(folder):
         if not unmount(mount, "-z"):
             done("umount", "-l", mount)
@@ -163,7 +167,8 @@ class Mount:
         try:
             wait_until(lambda: self.disk.exists() or self.process.poll() is not None, "nbdfuse mounts")
             if not self.disk.exists():
-                raise RuntimeError(f"nbdfuse ends with status {self.process.returncode}, and nothing is mounted")
+                status = self.process.returncode
+                raise RuntimeError(f"nbdfuse ends with status {status}, and nothing is mounted")
         except Exception:
             self.process.kill()
             raise

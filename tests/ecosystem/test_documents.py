@@ -1,4 +1,5 @@
-"""What the documents show of the tools: the session of docs/BLOCK_DEVICE.md, the lines of README, and the picture."""
+"""What the documents show of the tools: the session of docs/BLOCK_DEVICE.md, the lines of README, and the
+picture."""
 from __future__ import annotations
 
 import re
@@ -11,7 +12,8 @@ PAGE = ROOT / "docs" / "BLOCK_DEVICE.md"
 BLOCKS = re.compile(r"^```console\n(.*?)^```$", re.M | re.S)
 QUICK = re.compile(r"^## (?:Quick start|Use it as a disk)\n.*?^```(?:text)?\n(.*?)^```$", re.M | re.S)
 MARK = "@@@"
-# Blocks are slipped, replaced and retired, spares are added, one block is torn, and one is dead that nobody has written since.
+# Blocks are slipped, replaced and retired, spares are added, one block is torn, and one is dead that nobody
+# has written since.
 PICTURED = """press 3 3 24
 fail 60
 fail 61
@@ -49,8 +51,8 @@ class Documents(FolderTest):
         Path("tools").symlink_to(TOOLS)
         script = "".join(f"{command}\necho '{MARK}'\n" for command, _ in steps)
         with open("printed", "w+", encoding="utf-8") as printed:
-            subprocess.run(["bash", "-c", script], stdin=subprocess.DEVNULL, stdout=printed, stderr=subprocess.STDOUT,
-                           timeout=4 * SECONDS, check=False)
+            subprocess.run(["bash", "-c", script], stdin=subprocess.DEVNULL, stdout=printed,
+                           stderr=subprocess.STDOUT, timeout=4 * SECONDS, check=False)
             printed.seek(0)
             found = printed.read().split(f"{MARK}\n")
         self.assertGreater(len(steps), 20)
@@ -79,7 +81,8 @@ class Documents(FolderTest):
 
     @needs(*NBD, "nbdinfo", "make")
     def test_installation(self) -> None:
-        """What `make install` puts under PREFIX and DESTDIR works there, and `make uninstall` leaves no file."""
+        """What `make install` puts under PREFIX and DESTDIR works there, and `make uninstall` leaves no
+        file."""
         folder = Path("stage").absolute()
         words = ["make", "-C", str(ROOT), f"DESTDIR={folder}", "PREFIX=/opt/drive"]
         told = done(*words, "install")
@@ -89,8 +92,10 @@ class Documents(FolderTest):
                      "bash-completion/completions/ram-ctl"):
             self.assertTrue((place / "share" / name).is_file(), name)
         plugin = place / "bin" / "nbdkit-dvdram-plugin"
-        words_of_plugin = "-U", "-", "image=disc.img", "press=1,1,4", "format=yes", "--run", 'nbdinfo --size "$uri"'
-        self.assertEqual(done(plugin, *words_of_plugin).stdout, "622592\n")
+        size = done(plugin, "-U", "-", "image=disc.img", "press=1,1,4", "format=yes",
+                    "--run", 'nbdinfo --size "$uri"').stdout
+        self.assertEqual(size, "622592\n")
         self.assertIn("304 sectors", done(place / "bin" / "ram-map", "disc.img").stdout)
         self.assertEqual(done(*words, "uninstall").returncode, 0)
-        self.assertEqual([str(path) for path in folder.rglob("*") if not path.is_dir()], [], "files that are left")
+        self.assertEqual([str(path) for path in folder.rglob("*") if not path.is_dir()], [],
+                         "files that are left")

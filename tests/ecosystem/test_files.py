@@ -17,8 +17,8 @@ DEAD = 35, 36, 38, 40, 41, 43, 45, 46, 32, 31  # blocks that have no file yet, a
 
 
 def is_copied(*words: str) -> bool:
-    """Copies a file to the disc or from it. Each write is synced, else the system acknowledges what it only keeps in memory;
-    and mcopy has to tell nothing, for its exit status may be 0 after a failed write."""
+    """Copies a file to the disc or from it. Each write is synced, else the system acknowledges what it only
+    keeps in memory; and mcopy has to tell nothing, for its exit status may be 0 after a failed write."""
     Path("mtools.conf").write_text(f'drive d: file="{DISK.absolute()}" sync\n', encoding="utf-8")
     settings = {**os.environ, "MTOOLSRC": "mtools.conf"}
     copied = done("mcopy", "-n", "-o", *words, env=settings)
@@ -32,7 +32,8 @@ def runs_of(role: str, state: str) -> list[dict[str, Any]]:
 
 
 def heal(server: Server) -> None:
-    """Writes each dead block of data whole, as docs/BLOCK_DEVICE.md has it, and has the file system repaired."""
+    """Writes each dead block of data whole, as docs/BLOCK_DEVICE.md has it, and has the file system
+    repaired."""
     for run in runs_of("data", "dead"):
         for block in range(run["length"]):
             server.io(f"write -z {(run['sector'] + 16 * block) * 2048} 32k")
@@ -41,15 +42,16 @@ def heal(server: Server) -> None:
 
 @dataclass
 class Tally:
-    """What happened to the copies: how many files were kept, how many copies failed at first, and how many cuts fell in one."""
+    """What happened to the copies: how many files were kept, how many copies failed at first, and how many
+    cuts fell in one."""
 
     kept: dict[str, bytes] = field(default_factory=dict)
     failed: int = 0
     cuts: int = 0
 
     def copy(self, server: Server, mount: Mount, name: str, arm: str | None) -> bool:
-        """Copies a file to the disc with a cut armed, if one is named. What failed is healed and done again: whether that
-        could be done."""
+        """Copies a file to the disc with a cut armed, if one is named. What failed is healed and done again:
+        whether that could be done."""
         server.tell(*([arm] if arm else []))
         is_done = is_copied(name, f"d:{name}")
         self.cuts += bool(arm) and f"armed {arm}" not in server.tell("list")
@@ -68,20 +70,22 @@ class FileSystem(FolderTest):
 
     @needs(*FILES, "qemu-io")
     def test_through_failures(self) -> None:
-        """Files are copied while free blocks die and the power is cut; what failed is healed and done again. How often a
-        copy uses the medium, and for what, depends on how the system reads ahead and puts writes together. But each uses
-        it at least once, so that the first cut falls; and no file fills a block, so that the first copy into a dead one
-        fails."""
+        """Files are copied while free blocks die and the power is cut; what failed is healed and done again.
+        How often a copy uses the medium, and for what, depends on how the system reads ahead and puts writes
+        together. But each uses it at least once, so that the first cut falls; and no file fills a block, so
+        that the first copy into a dead one fails."""
         chance, tally = random.Random(5), Tally()
         DISK.parent.mkdir()
-        with Server("image=disc.img", *NEW, options=("--filter=blocksize",)) as server, Mount(DISK, server.uri) as mount:
+        options = ("--filter=blocksize",)
+        with Server("image=disc.img", *NEW, options=options) as server, Mount(DISK, server.uri) as mount:
             self.assertEqual(done("mkfs.fat", "-S", "2048", "-s", "1", DISK).returncode, 0)
             server.tell(*(f"fail {block}" for block in DEAD))
             for number in range(COPIES):
                 name = f"FILE{number}.BIN"
                 Path(name).write_bytes(random_bytes(chance, chance.randrange(1, 30_000)))
                 arm = f"cut {number} {chance.choice(('old', 'new'))}" if number % 2 else None
-                self.assertTrue(tally.copy(server, mount, name, arm), f"{name} after it failed and was healed")
+                self.assertTrue(tally.copy(server, mount, name, arm),
+                                f"{name} after it failed and was healed")
             server.tell("power")
             mount.again()
             self.assertEqual(done("fsck.fat", "-n", DISK).returncode, 0)

@@ -50,7 +50,8 @@ class Image:
     def take_version(self, version: int) -> None:
         """Gives the lists this version. What is in the second blocks belongs to no list of the first one."""
         for structure, blocks in zip(GEOMETRY.structure_blocks, GEOMETRY.secondary_blocks):
-            whole, parts = Structure.decode(self.text(structure)), Secondary.decode([self.text(block) for block in blocks])
+            whole = Structure.decode(self.text(structure))
+            parts = Secondary.decode([self.text(block) for block in blocks])
             if whole and parts:
                 self.put(structure, replace(whole, version=version).encode())
                 for block, text in zip(blocks, replace(parts, version=version).encode()):
@@ -58,9 +59,11 @@ class Image:
 
 
 def mislead(image: Image, chance: random.Random) -> None:
-    """Changes some blocks of the copies of one list to the same text, and makes some of the others unreadable."""
-    copies: list[tuple[int, ...]] = [(block,) for block in GEOMETRY.structure_blocks]
-    copies = chance.choice((copies, [*GEOMETRY.secondary_blocks]))
+    """Changes some blocks of the copies of one list to the same text, and makes some of the others
+    unreadable."""
+    structures: list[tuple[int, ...]] = [(block,) for block in GEOMETRY.structure_blocks]
+    secondaries: list[tuple[int, ...]] = [*GEOMETRY.secondary_blocks]
+    copies = chance.choice((structures, secondaries))
     texts = changed([image.text(block) for block in chance.choice(copies)], chance)
     for block, text in (pair for blocks in copies for pair in zip(blocks, texts)):
         if chance.randrange(3):
@@ -70,7 +73,8 @@ def mislead(image: Image, chance: random.Random) -> None:
 
 
 def changed(texts: list[bytes], chance: random.Random) -> list[bytes]:
-    """The texts of a list with one bit of one of them flipped, or those of a list that differs in one thing."""
+    """The texts of a list with one bit of one of them flipped, or those of a list that differs in one
+    thing."""
     structure, secondary = Structure.decode(texts[0]), Secondary.decode([*texts])
     if structure and chance.randrange(2):
         return [changed_structure(structure, chance).encode()]
@@ -78,13 +82,15 @@ def changed(texts: list[bytes], chance: random.Random) -> list[bytes]:
         return changed_secondary(secondary, chance).encode()
     which = chance.randrange(len(texts))
     flipped = bytearray(texts[which])
-    flipped[chance.choice((*range(0, 64, 3), 2047, 2048, 2051, 2055, 2060, BLOCK - 1))] ^= 1 << chance.randrange(8)
+    place = chance.choice((*range(0, 64, 3), 2047, 2048, 2051, 2055, 2060, BLOCK - 1))
+    flipped[place] ^= 1 << chance.randrange(8)
     return [*texts[:which], bytes(flipped), *texts[which + 1:]]
 
 
 def changed_structure(old: Structure, chance: random.Random) -> Structure:
     """A structure that differs in one thing, which may be one that no disc has."""
-    slipped = tuple((chance.randrange(3), block) for block in sorted(chance.sample(range(7, 34), chance.randrange(4))))
+    slipped = tuple((chance.randrange(3), block)
+                    for block in sorted(chance.sample(range(7, 34), chance.randrange(4))))
     return chance.choice((replace(old, counter=old.counter + 1), replace(old, version=3 - old.version),
                           replace(old, is_formatted=not old.is_formatted),
                           replace(old, spares=chance.randrange(6)), replace(old, entries=slipped)))
@@ -97,15 +103,17 @@ def changed_secondary(old: Secondary, chance: random.Random) -> Secondary:
     spares = tuple((block, other if other is None or chance.randrange(2) else chance.choice((9, 10, 11, 31)))
                    for block, other in old.entries)
     moved = tuple(zip(sorted(chance.sample(range(12, 30), 3)), chance.sample((9, 10, 11, 30, 31), 3)))
-    return chance.choice((replace(old, counter=old.counter + chance.randrange(1, 3)), replace(old, entries=pairs),
-                          replace(old, version=3 - old.version), replace(old, version=3 - old.version, entries=moved),
+    return chance.choice((replace(old, counter=old.counter + chance.randrange(1, 3)),
+                          replace(old, entries=pairs), replace(old, version=3 - old.version),
+                          replace(old, version=3 - old.version, entries=moved),
                           replace(old, entries=moved), replace(old, counter=old.counter + 1, entries=moved),
                           replace(old, entries=spares), replace(old, spares=chance.randrange(25)),
                           replace(old, structure_counter=old.structure_counter + chance.choice((-1, 1)))))
 
 
 def by_program(path: Path) -> tuple[int, list[int | None]]:
-    """How many sectors the program finds, and the block in which it finds each logical block, where it can be read."""
+    """How many sectors the program finds, and the block in which it finds each logical block, where it can be
+    read."""
     reads = "".join(f"cdb 28{0:02x}{16 * block:08x}00000100\n" for block in range(len(GEOMETRY.data)))
     first, _, *rows = run_script(path, f"power\ncdb 000000000000\n{reads}")
     sectors = int(first.split()[2]) if "ready" in first else 0
@@ -152,10 +160,12 @@ class Maps(FolderTest):
         run_script("disc.img", MADE)
         runs = json.loads(shown("json"))
         self.assertEqual(sum(run["length"] for run in runs), GEOMETRY.total, "the runs cover the disc")
-        named = {run["start"]: (run["role"], run["state"], run.get("sector"), run.get("with")) for run in runs}
+        named = {run["start"]: (run["role"], run["state"], run.get("sector"), run.get("with"))
+                 for run in runs}
         for block, due in {
                 15: ("replaced", "dead", 48, 11), 11: ("replacement", "good", 48, 15),
-                20: ("slipped", "dead", None, None), 9: ("spare", "good", None, None), 12: ("data", "dead", 0, None)}.items():
+                20: ("slipped", "dead", None, None), 9: ("spare", "good", None, None),
+                12: ("data", "dead", 0, None)}.items():
             self.assertEqual(named.get(block), due, f"block {block}")
         self.assertEqual(shown("ddrescue").splitlines()[4:],
                          ["0x00000000  0x00008000  -", "0x00008000  0x00080000  +"])
@@ -171,33 +181,40 @@ class Maps(FolderTest):
         """ddrescuelog reads the map file, and finds the bad blocks in it."""
         run_script("disc.img", MADE)
         Path("disc.map").write_text(shown("ddrescue"), encoding="utf-8")
-        self.assertEqual(done("ddrescuelog", "-b2048", "-l-", "disc.map").stdout.split(), [str(k) for k in range(16)])
+        self.assertEqual(done("ddrescuelog", "-b2048", "-l-", "disc.map").stdout.split(),
+                         [str(k) for k in range(16)])
 
 
 class Texts(unittest.TestCase):
     """The texts of the secondary list."""
 
     def test_parts(self) -> None:
-        """A list is the text of its blocks, with its entries in the parts where they belong, and no other blocks are."""
-        for version, count in ((1, 0), (1, MOST_SPARES), (2, 0), (2, MOST_SPARES), (2, MOST_SPARES + 1), (2, 2 * MOST_SPARES)):
+        """A list is the text of its blocks, with its entries in the parts where they belong, and no other
+        blocks are."""
+        for version, count in ((1, 0), (1, MOST_SPARES), (2, 0), (2, MOST_SPARES), (2, MOST_SPARES + 1),
+                               (2, 2 * MOST_SPARES)):
             with self.subTest(version=version, retired=count):
                 value = Secondary(version, 7, 2, 0, tuple((block, None) for block in range(count)))
                 self.assertEqual([sum(text[32::8]) for text in value.encode()],
-                                 [min(count, MOST_SPARES), max(count - MOST_SPARES, 0)][:version], "entries in each part")
+                                 [min(count, MOST_SPARES), max(count - MOST_SPARES, 0)][:version],
+                                 "entries in each part")
                 self.assertEqual(Secondary.decode([*value.encode(), None]), value)
                 self.other_blocks(value, replace(value, counter=8))
 
     def other_blocks(self, value: Secondary, other: Secondary) -> None:
         """Blocks that are not those of a list, but some of them, or some of another one."""
         parts, others = value.encode(), other.encode()
-        for blocks in ([None, parts[-1]], [parts[0], None], [parts[0], others[-1]], [others[0], parts[-1]],
-                       [parts[-1], parts[0]]):
-            one = value if blocks[0] == parts[0] else other
-            self.assertEqual(Secondary.decode([*blocks]), None if value.version == 2 or not blocks[0] else one)
+        pairs: list[tuple[bytes | None, bytes | None]] = [
+            (None, parts[-1]), (parts[0], None), (parts[0], others[-1]), (others[0], parts[-1]),
+            (parts[-1], parts[0])]
+        for first, second in pairs:
+            one = value if first == parts[0] else other
+            self.assertEqual(Secondary.decode([first, second]), one if value.version == 1 and first else None)
 
     def test_limits(self) -> None:
         """A list has no more entries and no more spares than there is room for."""
         for version in VERSIONS:
             full = tuple((block, None) for block in range(MOST_SPARES * version + 1))
             self.assertFalse(Secondary(version, 7, 2, 0, full).is_lawful(), "a list with too many entries")
-            self.assertFalse(Secondary(version, 7, 2, len(full), ()).is_lawful(), "a list with too many spares")
+            self.assertFalse(Secondary(version, 7, 2, len(full), ()).is_lawful(),
+                             "a list with too many spares")

@@ -1,4 +1,5 @@
-"""The protocol of the pipes: sessions are renewed, answers that are cut short are told, and their rows are counted rightly."""
+"""The protocol of the pipes: sessions are renewed, answers that are cut short are told, and their rows are
+counted rightly."""
 from __future__ import annotations
 
 import os
@@ -30,7 +31,8 @@ class Protocol(FolderTest):
     """Sessions of the program."""
 
     def test_renewals(self) -> None:
-        """A session is renewed before its script is full, with the power as it was; one with something armed is put off."""
+        """A session is renewed before its script is full, with the power as it was; one with something armed
+        is put off."""
         data, back = memoryview(random_bytes(random.Random(3), SIZE)), bytearray(SIZE)
         drive = drive_over("disc.img", renew_at=200_000)
         self.addCleanup(drive.end)
@@ -50,9 +52,14 @@ class Protocol(FolderTest):
         self.assertEqual(drive.say("cdb 000000000000"), ["off"], "the power after a renewal without it")
 
     def test_answers_cut_short(self) -> None:
-        """Where the program ends in the middle of an answer, or answers another line, that is told, and nothing waits."""
+        """Where the program ends in the middle of an answer, or answers another line, that is told, and
+        nothing waits."""
         for name, answer in CUT_SHORT.items():
-            more = "cat >/dev/null\n" if name.startswith("another") else "" if name == "nothing" else "read a; read b; read c\n"
+            more = "read a; read b; read c\n"
+            if name.startswith("another"):
+                more = "cat >/dev/null\n"
+            elif name == "nothing":
+                more = ""
             Path("fake").write_text(f"#!/bin/sh\n{answer}\n{more}", encoding="ascii")
             os.chmod("fake", 0o755)
             with self.subTest(name), self.assertRaises(Ended):
@@ -64,17 +71,21 @@ class Protocol(FolderTest):
         self.addCleanup(drive.end)
         drive.say("cdb 000000000000")
         blocks = [f"{code}000000{n:02x}00" for code in ("03", "12") for n in (0, 1, 18, 36, 255)]
-        blocks += [f"{code}{n:04x}00" for code in ("23000000000000", "46000000000000", "5a003f00000000") for n in (0, 1, 8, 300)]
+        blocks += [f"{code}{n:04x}00" for code in ("23000000000000", "46000000000000", "5a003f00000000")
+                   for n in (0, 1, 8, 300)]
         blocks += [f"ad000000000000{form}{n:04x}0000" for form in ("08", "0a") for n in (0, 4, 2052, 4000)]
-        blocks += ["25000000000000000000", "28000000000f00000300", "2800000000000000000000", "a80000000001000000110000",
-                   "2f000000000000013000", "35000000000000000000", "ff", "28", "280000000000000500", "12", "1e0000000100"]
+        blocks += ["25000000000000000000", "28000000000f00000300", "2800000000000000000000",
+                   "a80000000001000000110000", "2f000000000000013000", "35000000000000000000", "ff", "28",
+                   "280000000000000500", "12",
+                   "1e0000000100"]
         for block in blocks:
             with self.subTest(f"cdb {block}"):
                 drive.say(f"cdb {block}")
                 self.assertEqual(drive.say("fail 99"), ["no such block"])
 
     def test_refusals(self) -> None:
-        """The first answer that is not good is raised, and the lines sent ahead do not get the drive out of step."""
+        """The first answer that is not good is raised, and the lines sent ahead do not get the drive out of
+        step."""
         drive, data = drive_over("disc.img"), memoryview(random_bytes(random.Random(4), SIZE))
         self.addCleanup(drive.end)
         for spare in (9, 10, 11, 12, 15):

@@ -12,8 +12,10 @@ NEW = "press=1,1,4", "format=yes"
 # What is called, its exit status, and what it has to tell.
 STEPS = (
     ("sg_turs -v DEV", 6, "Power on"), ("sg_turs DEV", 0, ""),
-    ("sg_inq DEV", 0, "Product identification: SECTOR DRIVE"), ("sg_inq DEV", 0, "Peripheral device type: cd/dvd"),
-    ("sg_readcap DEV", 0, "Last LBA=303 (0x12f), Number of logical blocks=304"), ("sg_readcap DEV", 0, "length=2048 bytes"),
+    ("sg_inq DEV", 0, "Product identification: SECTOR DRIVE"),
+    ("sg_inq DEV", 0, "Peripheral device type: cd/dvd"),
+    ("sg_readcap DEV", 0, "Last LBA=303 (0x12f), Number of logical blocks=304"),
+    ("sg_readcap DEV", 0, "length=2048 bytes"),
     ("sg_modes DEV", 0, "Read-Write error recovery, page_control: current\n 00     01 0a 80 00"),
     ("sg_modes DEV", 0, "Caching"), ("sg_get_config DEV", 0, "Current profile: DVD-RAM"),
     ("sg_verify --lba=0 --count=16 DEV", 0, ""), ("sg_verify --lba=400 --count=1 -v DEV", 22, "out of range"),
@@ -40,19 +42,22 @@ class ByOthers(FolderTest):
         named = REASON.findall((ROOT / "docs" / "REPORT.md").read_text(encoding="utf-8"))
         self.assertEqual(len(named), 15, "reasons in docs/REPORT.md")
         for key, code, more, name in named:
-            told = done("sg_decode_sense", *f"70 0 {key} 0 0 0 0 a 0 0 0 0 {code} {more} 0 0 0 0".split()).stdout
+            told = done("sg_decode_sense",
+                        *f"70 0 {key} 0 0 0 0 a 0 0 0 0 {code} {more} 0 0 0 0".split()).stdout
             if key != "0":
                 with self.subTest(f"{key}/{code}/{more}"):
                     self.assertIn(name.lower(), told.lower())
 
     @needs(*NBD, "cc", "sg_inq")
     def test_replies(self) -> None:
-        """sg3_utils does commands over a served drive, and reads the same from its replies as the documents say."""
+        """sg3_utils does commands over a served drive, and reads the same from its replies as the documents
+        say."""
         library = Path("dvdram_sg.so").absolute()
         words = "-O2 -Wall -Wextra -Werror -shared -fPIC -o".split()
         self.assertEqual(done("cc", *words, library, TOOLS / "sg" / "dvdram_sg.c", "-ldl").stdout, "")
         with Server("image=disc.img", *NEW) as server:
-            settings = {**os.environ, "LD_PRELOAD": str(library), "DVDRAM_CONTROL": str(server.control.absolute())}
+            settings = {**os.environ, "LD_PRELOAD": str(library),
+                        "DVDRAM_CONTROL": str(server.control.absolute())}
             Path("block").write_bytes(b"\x5a" * 32768)
             server.tell("power")
             self.does(STEPS, settings)

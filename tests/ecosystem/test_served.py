@@ -8,8 +8,8 @@ import subprocess
 from pathlib import Path
 
 from dvdram.disc import HEADER
-from support import (NBD, PLUGIN, PROGRAM, SECONDS, TOOLS, FolderTest, Server, children_of, done, is_free, needs,
-                     random_bytes, run_script, wait_until)
+from support import (NBD, PLUGIN, PROGRAM, SECONDS, TOOLS, FolderTest, Server, children_of, done, is_free,
+                     needs, random_bytes, run_script, wait_until)
 
 SIZE = 304 * 2048
 NEW = "press=1,1,4", "format=yes"
@@ -20,8 +20,9 @@ FAILURES = (  # lines for the control socket, and with @ commands of a client
     ("fail 14", "failed"), ("@read 32k 2k", f"read failed: {CUT}"),
     ("@write -P 1 32k 2k", f"write failed: {CUT}"),
     ("@write -P 1 32k 32k", WROTE(32768)), ("@read -P 1 32k 32k", READ(32768)),
-    ("list", "dead 14"), ("fail 9", "failed"), ("fail 10", "failed"), ("fail 11", "failed"), ("fail 12", "failed"),
-    ("@write -P 2 64k 32k", WROTE(65536)), ("@write -P 2 32k 32k", "write failed: No space left on device"),
+    ("list", "dead 14"), ("fail 9", "failed"), ("fail 10", "failed"), ("fail 11", "failed"),
+    ("fail 12", "failed"), ("@write -P 2 64k 32k", WROTE(65536)),
+    ("@write -P 2 32k 32k", "write failed: No space left on device"),
     ("cut 1 torn", "armed"), ("list", "dead 9|dead 10|dead 11|dead 12|dead 14|armed cut 1 torn"),
     ("@write -P 3 64k 32k", f"write failed: {CUT}"), ("@read 64k 32k", f"read failed: {CUT}"),
     ("list", "dead 9|dead 10|dead 11|dead 12|dead 14|torn 15"),
@@ -72,7 +73,8 @@ class Client:
 
 def refusal(*words: str, program: Path | str = PROGRAM) -> str:
     """The end of the one line that a plugin tells that does not serve."""
-    told = done(PLUGIN, "-f", "-U", "other.sock", f"program={program}", *words).stdout.split("\n\n")[0].splitlines()
+    told = done(PLUGIN, "-f", "-U", "other.sock", f"program={program}",
+                *words).stdout.split("\n\n")[0].splitlines()
     return told[0].rpartition("/")[2] if len(told) == 1 else "\n".join(told)
 
 
@@ -108,7 +110,8 @@ class Served(FolderTest):
 
     @needs(*NBD, "nbdinfo", "qemu-io")
     def test_failures(self) -> None:
-        """Blocks die and the power is cut under a client, which is told the errors of docs/BLOCK_DEVICE.md."""
+        """Blocks die and the power is cut under a client, which is told the errors of
+        docs/BLOCK_DEVICE.md."""
         with Server("image=disc.img", *NEW) as server:
             client = Client(server)
             for line, due in FAILURES:
@@ -121,7 +124,8 @@ class Served(FolderTest):
             self.assertNotIn("Traceback", server.told())
         with Server("image=disc.img", "poweroff=again") as server:
             self.assertEqual(server.tell("cut 1 new"), ["armed"])
-            self.assertEqual(server.io("write -P 5 0 32k", "read -P 5 0 32k"), [f"write failed: {CUT}", READ(0)])
+            self.assertEqual(server.io("write -P 5 0 32k", "read -P 5 0 32k"),
+                             [f"write failed: {CUT}", READ(0)])
         with Server("image=disc.img", "poweroff=exit") as server:
             server.tell("cut now")
             self.assertEqual(server.process.wait(SECONDS), 0)
@@ -136,7 +140,8 @@ class Served(FolderTest):
             self.assertEqual(server.tell("cdb 000000000000"), ["the program ended with status -9"])
             self.assertEqual(server.io("read -P 6 0 32k"), [READ(0)], "a read after that")
             self.assertEqual(server.tell("stats")[-1:], ["restarts 1"])
-            told = server.tell("press 1 1 4", "wear 3 0", "cdb 0", "fail 4294967296", "# no", "walk", "fail 99")
+            told = server.tell("press 1 1 4", "wear 3 0", "cdb 0", "fail 4294967296", "# no", "walk",
+                               "fail 99")
             self.assertEqual(told, ["not in the script language"] * 5 + ["no such block"])
             self.assertEqual(server.tell("cdb 00 hex " + "00" * 35000), ["too long"])
             self.assertEqual(server.tell("wear 13 9", "cut 5 old", "list", "disarm", "list"),
@@ -158,7 +163,8 @@ class Served(FolderTest):
         for words, due in REFUSED:
             with self.subTest(words):
                 self.assertEqual(refusal(*words.split())[-len(due):], due)
-        for program, due in (("no-program", "no-program: there is no such program"), ("/bin/true", "true: it is no drive")):
+        for program, due in (("no-program", "no-program: there is no such program"),
+                             ("/bin/true", "true: it is no drive")):
             self.assertEqual(refusal("image=bare.img", program=program)[-len(due):], due)
 
     @needs(*NBD)

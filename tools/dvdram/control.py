@@ -1,7 +1,7 @@
 """The control socket: a second channel to a drive, on which a person lets blocks die and cuts the power.
 
-Each line is answered by some lines and an empty one. Beside the lines of the script but `press` there are `stats`, `list`,
-`disarm` and `cut now`.
+Each line is answered by some lines and an empty one. Beside the lines of the script but `press` there are
+`stats`, `list`, `disarm` and `cut now`.
 """
 from __future__ import annotations
 
@@ -22,7 +22,8 @@ Answerer = Callable[[str], List[str]]
 
 
 class Listener:
-    """A socket at a path. One that was left there, and that nobody serves, is removed. Raises `SocketInUse`."""
+    """A socket at a path. One that was left there, and that nobody serves, is removed. Raises
+    `SocketInUse`."""
 
     def __init__(self, path: str) -> None:
         self.path = path
@@ -98,10 +99,12 @@ def answer_line(drive: Drive, line: str) -> list[str]:
 
 
 def list_blocks(drive: Drive) -> list[str]:
-    """The dead and the torn blocks, and what was armed; what was armed for a block that is dead by now is left out."""
+    """The dead and the torn blocks, and what was armed; what was armed for a block that is dead by now is
+    left out."""
     with Disc(drive.image) as disc:
         states = disc.states
-    bad = [f"{state.value} {block}" for block, state in enumerate(states) if state in (State.DEAD, State.TORN)]
+    bad = [f"{state.value} {block}"
+           for block, state in enumerate(states) if state in (State.DEAD, State.TORN)]
     dead = {f"wear {block}" for block, state in enumerate(states) if state is State.DEAD}
     return bad + [f"armed {arm}" for arm in drive.armed if arm.rpartition(" ")[0] not in dead]
 

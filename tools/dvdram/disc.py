@@ -1,4 +1,5 @@
-"""A disc in its image: the state of each block, and what each is by the lists that a mount would choose. Only reads."""
+"""A disc in its image: the state of each block, and what each is by the lists that a mount would choose. Only
+reads."""
 from __future__ import annotations
 
 import os
@@ -44,7 +45,8 @@ class Role(Enum):
 
 @dataclass
 class Block:
-    """A block of the medium. `sector` is the first of its logical block, `partner` the other one of a replacement."""
+    """A block of the medium. `sector` is the first of its logical block, `partner` the other one of a
+    replacement."""
 
     role: Role
     state: State
@@ -66,7 +68,8 @@ class Disc:
             self.file = os.dup(file.fileno())
         try:
             self.geometry = self.read_geometry()
-            self.states = [STATES.get(byte, State.TORN) for byte in os.pread(self.file, self.geometry.total, HEADER)]
+            self.states = [STATES.get(byte, State.TORN)
+                           for byte in os.pread(self.file, self.geometry.total, HEADER)]
         except NoDisc:
             self.close()
             raise NoDisc(f"{path} holds no disc") from None
@@ -109,7 +112,8 @@ class Disc:
         return blocks
 
     def fixed_roles(self) -> list[Role]:
-        """What the blocks are by the geometry, and by the version of the lists: in version 1 the secondary one has one part."""
+        """What the blocks are by the geometry, and by the version of the lists: in version 1 the secondary
+        one has one part."""
         geometry = self.geometry
         roles = [Role.LEAD_IN] * 8 + [Role.UNFORMATTED] * (geometry.lead_out - 8) + [Role.LEAD_OUT] * 8
         for block in geometry.guards:

@@ -1,4 +1,5 @@
-"""A drive that lives on over several runs of the program: what a host and a person ask of it, as lines of the script.
+"""A drive that lives on over several runs of the program: what a host and a person ask of it, as lines of the
+script.
 
 A new session is begun before a script passes its limit, or where the program ended, with the power as it was.
 """
@@ -42,8 +43,8 @@ def in_session(call: Callable[..., T]) -> Callable[..., T]:
 
 
 class Drive:
-    """A drive over an image. A session is begun when it is needed first, and another after so many bytes. Each call
-    raises `Ended` and `Refused`."""
+    """A drive over an image. A session is begun when it is needed first, and another after so many bytes.
+    Each call raises `Ended` and `Refused`."""
 
     def __init__(self, program: list[str], image: str, is_on: bool = True, renew_at: int = RENEW_AT) -> None:
         self.program, self.image, self.renew_at = program, image, renew_at
@@ -79,7 +80,8 @@ class Drive:
 
     @in_session
     def renew(self) -> None:
-        """Begins a new session with the power as it was. What was armed is dropped, and so is what is buffered."""
+        """Begins a new session with the power as it was. What was armed is dropped, and so is what is
+        buffered."""
         if self.is_on:
             self.exchange(SYNCHRONIZE)
         self.end()
@@ -87,12 +89,14 @@ class Drive:
         self.begin()
 
     def make_room(self, size: int) -> None:
-        """Renews a session that has no room for so many bytes. One in which something is armed goes on as long as it can."""
+        """Renews a session that has no room for so many bytes. One in which something is armed goes on as
+        long as it can."""
         if self.live.sent + size > (SCRIPT_LIMIT if self.armed else self.renew_at):
             self.renew()
 
     def serve_host(self, size: int) -> None:
-        """Makes room for a host's commands of so many bytes, and takes the attention, of which a host is not told."""
+        """Makes room for a host's commands of so many bytes, and takes the attention, of which a host is not
+        told."""
         self.make_room(size + LINE_ROOM)
         if self.has_attention:
             self.exchange(IS_READY)
@@ -107,12 +111,14 @@ class Drive:
         if words[0] == "press" and text == "pressed":
             self.is_on = False
         if text == "armed":
-            self.armed = [arm for arm in self.armed if words[0] != "cut" or not arm.startswith("cut")] + [line]
+            kept = [arm for arm in self.armed if words[0] != "cut" or not arm.startswith("cut")]
+            self.armed = [*kept, line]
         count = rows_after_good(bytes.fromhex(words[1])) if words[0] == "cdb" and text == "good" else 0
         return [text, *(self.live.row().decode() for _ in range(count))]
 
     def answer_to(self, number: int) -> str:
-        """The answer to the line of this number. Heeds that the power was cut, and that an attention was told."""
+        """The answer to the line of this number. Heeds that the power was cut, and that an attention was
+        told."""
         answer = self.live.answer(number)
         if answer == "cut":
             self.is_on = False
@@ -122,7 +128,8 @@ class Drive:
         return answer
 
     def do(self, lines: Iterable[bytes]) -> None:
-        """Sends commands without rows, several ahead. Where an answer is not good, no more are sent, and it is raised."""
+        """Sends commands without rows, several ahead. Where an answer is not good, no more are sent, and it
+        is raised."""
         waiting: deque[int] = deque()
         answers: list[str] = []
         for line in lines:
@@ -144,7 +151,8 @@ class Drive:
 
     @in_session
     def say(self, text: str) -> list[str]:
-        """The answer to a line of a person, with its rows; none to an empty line and a comment. Raises `NoLine`."""
+        """The answer to a line of a person, with its rows; none to an empty line and a comment. Raises
+        `NoLine`."""
         if not text.strip(" ") or text.startswith("#"):
             return []
         return self.command(line_of(text))
@@ -207,7 +215,8 @@ class Drive:
 
 
 def bytes_of(row: bytes, sector: int) -> bytes:
-    """The bytes of a sector, by its row of the report. Raises `Ended` where it is another row, or not all of it."""
+    """The bytes of a sector, by its row of the report. Raises `Ended` where it is another row, or not all of
+    it."""
     front = b"sector %d " % sector
     form, _, digits = row[len(front):].partition(b" ")
     if not row.startswith(front) or (form, len(digits)) not in ((b"fill", 2), (b"hex", 2 * SECTOR)):
@@ -217,7 +226,8 @@ def bytes_of(row: bytes, sector: int) -> bytes:
 
 
 def parts(sector: int, count: int, most: int = MOST_SECTORS) -> Iterator[tuple[int, int]]:
-    """The parts of a request, of at most so many sectors, which end with a logical block: the first sector, and how many."""
+    """The parts of a request, of at most so many sectors, which end with a logical block: the first sector,
+    and how many."""
     end = sector + count
     while sector < end:
         some = min(end - sector, most - sector % BLOCK_SECTORS)
@@ -226,7 +236,8 @@ def parts(sector: int, count: int, most: int = MOST_SECTORS) -> Iterator[tuple[i
 
 
 def write_lines(sector: int, data: memoryview) -> Iterator[bytes]:
-    """The commands of a write: one for each logical block, but for a row of them whose bytes are all equal."""
+    """The commands of a write: one for each logical block, but for a row of them whose bytes are all
+    equal."""
     row: tuple[int, int, int] | None = None
     at = 0
     for first, count in parts(sector, len(data) // SECTOR, BLOCK_SECTORS):

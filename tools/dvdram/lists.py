@@ -1,6 +1,7 @@
 """The two defect lists of a disc: their texts, which of them are valid, and which a mount chooses.
 
-A copy is one only where all its bytes are the text of a list, so a block is decoded, spelled again and compared.
+A copy is one only where all its bytes are the text of a list, so a block is decoded, spelled again and
+compared.
 """
 from __future__ import annotations
 
@@ -30,7 +31,8 @@ class Geometry:
     def data(self) -> list[int]:
         """The data blocks: all of each zone but its first and its last."""
         starts = accumulate(self.sizes, initial=8)
-        return [block for start, size in zip(starts, self.sizes) for block in range(start + 1, start + size - 1)]
+        return [block for start, size in zip(starts, self.sizes)
+                for block in range(start + 1, start + size - 1)]
 
     @property
     def lead_out(self) -> int:
@@ -51,8 +53,10 @@ class Geometry:
 
     @property
     def secondary_blocks(self) -> list[tuple[int, int]]:
-        """The blocks of the four copies of the secondary list: of the first part, and of the second where it has two."""
-        return [(1, 4), (3, 5), (self.lead_out + 1, self.lead_out + 4), (self.lead_out + 3, self.lead_out + 5)]
+        """The blocks of the four copies of the secondary list: of the first part, and of the second where it
+        has two."""
+        return [(1, 4), (3, 5), (self.lead_out + 1, self.lead_out + 4),
+                (self.lead_out + 3, self.lead_out + 5)]
 
     def is_lawful(self) -> bool:
         return (1 <= self.zones <= 35 and 1 <= self.scale <= 100
@@ -73,7 +77,8 @@ def rises(blocks: list[int]) -> bool:
 
 @dataclass(frozen=True)
 class Structure:
-    """The disc definition structure with the primary list: pairs of a kind and a block that is slipped over."""
+    """The disc definition structure with the primary list: pairs of a kind and a block that is slipped
+    over."""
 
     version: int
     counter: int
@@ -91,16 +96,18 @@ class Structure:
         return value if value.is_lawful() and value.encode() == text else None
 
     def encode(self) -> bytes:
-        head = bytes((10, 10, self.version, 128 if self.is_formatted else 0)) + big(self.counter, 4) + big(self.spares, 2)
+        front = bytes((10, 10, self.version, 128 if self.is_formatted else 0))
+        head = (front + big(self.counter, 4) + big(self.spares, 2)).ljust(2048, b"\0")
         entries = b"".join(bytes((kind,)) + big(block, 3) for kind, block in self.entries)
-        return (head.ljust(2048, b"\0") + bytes((0, 1)) + big(len(self.entries), 2) + entries).ljust(BLOCK, b"\0")
+        return (head + bytes((0, 1)) + big(len(self.entries), 2) + entries).ljust(BLOCK, b"\0")
 
     @property
     def slipped(self) -> list[int]:
         return [block for _, block in self.entries]
 
     def is_lawful(self) -> bool:
-        return (self.version in VERSIONS and 1 <= self.spares <= MOST_SPARES and len(self.entries) <= self.spares
+        return (self.version in VERSIONS and 1 <= self.spares <= MOST_SPARES
+                and len(self.entries) <= self.spares
                 and (self.is_formatted or not self.entries) and rises(self.slipped)
                 and all(kind <= 2 for kind, _ in self.entries))
 
@@ -110,7 +117,8 @@ class Structure:
 
 @dataclass(frozen=True)
 class Secondary:
-    """The secondary list: pairs of a dead block and what replaces it, which is none for a spare that is retired."""
+    """The secondary list: pairs of a dead block and what replaces it, which is none for a spare that is
+    retired."""
 
     version: int
     counter: int
@@ -135,18 +143,21 @@ class Secondary:
 
     def encode(self) -> list[bytes]:
         """The text of each part."""
-        head = big(self.counter, 4) + big(self.structure_counter, 4) + big(self.spares, 2) + big(len(self.entries), 2)
+        head = big(self.counter, 4) + big(self.structure_counter, 4)
+        head += big(self.spares, 2) + big(len(self.entries), 2)
         texts = []
         for part in range(self.version):
             some = self.entries[MOST_SPARES * part:MOST_SPARES * (part + 1)]
             front = bytes((0, 2, self.version, part + 1 if self.version > 1 else 0)) + head
-            entries = b"".join(bytes((other is None,)) + big(block, 3) + big(other or 0, 4) for block, other in some)
+            entries = b"".join(bytes((other is None,)) + big(block, 3) + big(other or 0, 4)
+                               for block, other in some)
             texts.append((front.ljust(32, b"\0") + entries).ljust(BLOCK, b"\0"))
         return texts
 
     @property
     def most_spares(self) -> int:
-        """How many supplementary spares there may be, and how many entries; as many spares of both kinds together."""
+        """How many supplementary spares there may be, and how many entries; as many spares of both kinds
+        together."""
         return MOST_SPARES * self.version
 
     def is_lawful(self) -> bool:
@@ -156,7 +167,8 @@ class Secondary:
 
 def entries_of(part: bytes, count: int) -> list[tuple[int, int | None]]:
     """The first entries in a part of a secondary list."""
-    return [(number(part, at + 1, 3), None if part[at] else number(part, at + 5, 3)) for at in range(32, 32 + 8 * count, 8)]
+    return [(number(part, at + 1, 3), None if part[at] else number(part, at + 5, 3))
+            for at in range(32, 32 + 8 * count, 8)]
 
 
 @dataclass(frozen=True)
@@ -195,7 +207,8 @@ class Lists:
 
     def are_valid(self) -> bool:
         """The secondary list has the structure's version, names its counter, and is valid under it."""
-        structure, secondary, all_spares = self.structure, self.secondary, self.geometry.spares + self.secondary.spares
+        structure, secondary = self.structure, self.secondary
+        all_spares = self.geometry.spares + secondary.spares
         if ((secondary.version, secondary.structure_counter) != (structure.version, structure.counter)
                 or all_spares > secondary.most_spares or all_spares >= len(self.geometry.data)):
             return False
@@ -221,12 +234,16 @@ def newest(copies: list[Copy]) -> Copy | None:
     return max(copies, key=lambda copy: copy.counter) if copies else None
 
 
-def choose(geometry: Geometry, readable: Callable[[int], bytes | None]) -> tuple[Structure | None, Lists | None]:
-    """The structure that a mount chooses, and both lists where the disc is formatted, over its readable blocks."""
+def choose(geometry: Geometry,
+           readable: Callable[[int], bytes | None]) -> tuple[Structure | None, Lists | None]:
+    """The structure that a mount chooses, and both lists where the disc is formatted, over its readable
+    blocks."""
     structures = [Structure.decode(text) for text in map(readable, geometry.structure_blocks) if text]
     structure = newest([copy for copy in structures if copy and copy.is_valid(geometry)])
     if not structure or not structure.is_formatted:
         return structure, None
-    secondaries = [Secondary.decode([readable(block) for block in blocks]) for blocks in geometry.secondary_blocks]
-    secondary = newest([copy for copy in secondaries if copy and Lists(geometry, structure, copy).are_valid()])
+    secondaries = [Secondary.decode([readable(block) for block in blocks])
+                   for blocks in geometry.secondary_blocks]
+    secondary = newest([copy for copy in secondaries
+                        if copy and Lists(geometry, structure, copy).are_valid()])
     return structure, Lists(geometry, structure, secondary) if secondary else None

@@ -39,7 +39,8 @@ def lists_in_words(disc: Disc) -> Iterator[str]:
         yield "not formatted"
         return
     structure, secondary = disc.lists.structure, disc.lists.secondary
-    yield f"structure: version {structure.version}, counter {structure.counter}, {len(structure.entries)} blocks slipped"
+    slipped = len(structure.entries)
+    yield f"structure: version {structure.version}, counter {structure.counter}, {slipped} blocks slipped"
     yield (f"secondary list: counter {secondary.counter}, {len(secondary.entries)} entries, "
            f"{secondary.spares} supplementary spares")
 
@@ -60,8 +61,10 @@ def as_json(disc: Disc) -> str:
     runs = []
     for start, length in disc.runs():
         block = disc.blocks[start]
-        run: dict[str, object] = {"start": start, "length": length, "role": block.role.value, "state": block.state.value}
-        run.update({name: value for name, value in (("sector", block.sector), ("with", block.partner)) if value is not None})
+        run: dict[str, object] = {"start": start, "length": length, "role": block.role.value,
+                                  "state": block.state.value}
+        more = {"sector": block.sector, "with": block.partner}
+        run.update({name: value for name, value in more.items() if value is not None})
         runs.append(json.dumps(run))
     return "[" + ",\n ".join(runs) + "]"
 
@@ -93,7 +96,8 @@ def painted(block: Block) -> str:
 
 
 def svg(disc: Disc) -> str:
-    """A picture: a square for each block, the zones one below the other; the title of each square says what it is."""
+    """A picture: a square for each block, the zones one below the other; the title of each square says what
+    it is."""
     squares, at, y = [], 0, CELL
     for size in (8, *disc.geometry.sizes, 8):
         squares += [square(at + k, disc.blocks[at + k], CELL * (1 + k % COLUMNS), y + CELL * (k // COLUMNS))
@@ -101,8 +105,9 @@ def svg(disc: Disc) -> str:
         at += size
         y += CELL * (-(-size // COLUMNS)) + CELL // 2
     width, height = CELL * (COLUMNS + 2), y + 2 * CELL * -(-len(LEGEND) // IN_ROW)
-    return "\n".join((f'<svg xmlns="http://www.w3.org/2000/svg" viewBox="0 0 {width} {height}" width="{width}" '
-                      f'font-family="sans-serif" font-size="{CELL - 1}">', f"<title>{heading(disc)}</title>",
+    head = (f'<svg xmlns="http://www.w3.org/2000/svg" viewBox="0 0 {width} {height}" width="{width}" '
+            f'font-family="sans-serif" font-size="{CELL - 1}">')
+    return "\n".join((head, f"<title>{heading(disc)}</title>",
                       f'<rect width="{width}" height="{height}" fill="#fff"/>', *squares, *keys(y), "</svg>"))
 
 
@@ -120,8 +125,8 @@ def shape(x: int, y: int, colour: str, state: State, title: str) -> str:
     torn = f"M{x} {y + side}l{side} -{side}"
     strokes = {State.TORN: torn, State.DEAD: f"{torn}M{x} {y}l{side} {side}"}
     mark = f'<path d="{strokes[state]}" stroke="#c00" stroke-width="2"/>' if state in strokes else ""
-    return (f'<g><title>{title}</title><rect x="{x}" y="{y}" width="{side}" height="{side}" fill="{colour}"{pale}/>'
-            f"{mark}</g>")
+    square_of = f'<rect x="{x}" y="{y}" width="{side}" height="{side}" fill="{colour}"{pale}/>'
+    return f"<g><title>{title}</title>{square_of}{mark}</g>"
 
 
 def keys(y: int) -> Iterator[str]:

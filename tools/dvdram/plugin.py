@@ -1,4 +1,5 @@
-"""The calls of nbdkit, which the plugin gives it. An error of a client is that of a host, with the drive's answer."""
+"""The calls of nbdkit, which the plugin gives it. An error of a client is that of a host, with the drive's
+answer."""
 from __future__ import annotations
 
 import errno
@@ -19,9 +20,9 @@ from .prepare import Parameters, find_program, open_image, prepare
 from .protocol import SECTOR
 
 __all__ = [
-    "API_VERSION", "after_fork", "block_size", "can_fast_zero", "can_flush", "can_fua", "can_multi_conn", "can_write",
-    "can_zero", "cleanup", "config", "config_complete", "flush", "get_ready", "get_size", "is_rotational", "open", "pread",
-    "pwrite", "thread_model", "zero",
+    "API_VERSION", "after_fork", "block_size", "can_fast_zero", "can_flush", "can_fua", "can_multi_conn",
+    "can_write", "can_zero", "cleanup", "config", "config_complete", "flush", "get_ready", "get_size",
+    "is_rotational", "open", "pread", "pwrite", "thread_model", "zero",
 ]
 
 API_VERSION = 2
@@ -35,7 +36,8 @@ T = TypeVar("T")
 
 @dataclass
 class Serving:
-    """What is served: the image, which is locked and synced by its file, the drive over it, and the control socket."""
+    """What is served: the image, which is locked and synced by its file, the drive over it, and the control
+    socket."""
 
     image: int
     drive: Drive
@@ -53,7 +55,8 @@ def served() -> Serving:
 
 
 def told(call: Callable[..., T]) -> Callable[..., T]:
-    """A call of nbdkit, which prints what is raised in it: of what is told to a user without the lines of its trace."""
+    """A call of nbdkit, which prints what is raised in it: of what is told to a user without the lines of its
+    trace."""
     @wraps(call)
     def telling(*words: Any) -> T:
         sys.tracebacklimit = TRACE
@@ -81,8 +84,8 @@ def thread_model() -> int:
 
 @told
 def get_ready() -> None:
-    """Tries all that can go wrong: clients are served once the server has forked, and an exception would leave them
-    waiting."""
+    """Tries all that can go wrong: clients are served once the server has forked, and an exception would
+    leave them waiting."""
     global serving
     program = find_program(parameters)
     image = open_image(parameters)

@@ -1,4 +1,5 @@
-"""What is done before a disc is served: its image is opened and locked, and a disc is pressed and formatted where that is due."""
+"""What is done before a disc is served: its image is opened and locked, and a disc is pressed and formatted
+where that is due."""
 from __future__ import annotations
 
 import fcntl
@@ -49,13 +50,15 @@ class Parameters:
 
 
 def find_program(words: Parameters) -> list[str]:
-    """The program: the one named, that of this checkout, the one installed beside these tools, or one on the path."""
+    """The program: the one named, that of this checkout, the one installed beside these tools, or one on the
+    path."""
     places = (TOOLS.parent / "drive", TOOLS.parent.parent / "bin" / "ram_drive")
     found = words.program or next((str(place) for place in places if place.is_file()), "ram_drive")
     program = shutil.which(found)
     if not program:
         raise Wrong(f"program={found}: there is no such program")
-    version = subprocess.run([program, "--version"], stdin=subprocess.DEVNULL, stdout=subprocess.PIPE, check=False)
+    version = subprocess.run([program, "--version"], stdin=subprocess.DEVNULL, stdout=subprocess.PIPE,
+                             check=False)
     if not version.stdout.startswith(b"ram_drive "):
         raise Wrong(f"program={found}: it is no drive")
     return [os.path.abspath(program)]
@@ -111,11 +114,13 @@ def press(words: Parameters, program: list[str]) -> None:
 
 
 def format_disc(words: Parameters, drive: Drive) -> None:
-    """Formats the disc. One that was written before is formatted by force alone: it may have lost its lists."""
+    """Formats the disc. One that was written before is formatted by force alone: it may have lost its
+    lists."""
     with Disc(words.image) as disc:
         was_written = any(state in (State.GOOD, State.TORN) for state in disc.states)
     if was_written and words.force == "no":
-        raise Wrong(f"image={words.image} was written, and is not formatted any more: force=yes formats it anew")
+        raise Wrong(f"image={words.image} was written, and is not formatted any more: "
+                    "force=yes formats it anew")
     drive.command(IS_READY)
     answer = drive.command(FORMAT)[0]
     if answer != "good":

@@ -1,4 +1,5 @@
-"""The protocol of the pipes: lines of the script go to the program, and their answers come back. All tools speak by this module.
+"""The protocol of the pipes: lines of the script go to the program, and their answers come back. All tools
+speak by this module.
 
 docs/SCRIPT.md has the lines, docs/REPORT.md the answers.
 """
@@ -25,9 +26,17 @@ FORMS = re.compile(
     rf"|cdb {HEX}{{1,16}}(?: (?:fill|count) {HEX}| hex {HEX}+)?", re.ASCII)
 
 
+COUNTED = {
+    0x28: (7, 9), 0xA8: (6, 10), 0x03: (4, 5), 0x12: (3, 5), 0x23: (7, 9), 0x46: (7, 9), 0x5A: (7, 9),
+    0xAD: (8, 10),
+}
+"""Where a command block says how many sectors it reads, or how many bytes of a reply it takes."""
+
+
 @dataclass
 class Statistics:
-    """What went through the pipes since the start, in lines and bytes, and how often a session was begun anew."""
+    """What went through the pipes since the start, in lines and bytes, and how often a session was begun
+    anew."""
 
     lines: int = 0
     sent: int = 0
@@ -44,20 +53,21 @@ def line_of(text: str) -> str:
     line = " ".join(word for word in text.split(" ") if word)
     numbers = [int(word) for word in line.split()[1:3] if not line.startswith("cdb") and word.isdecimal()]
     counted = numbers[1:] if line.startswith("wear") else numbers if line.startswith("cut") else [1]
-    if not FORMS.fullmatch(line) or len(line) > LINE_LIMIT or any(n > 0xFFFFFFFF for n in numbers) or 0 in counted:
+    is_form = FORMS.fullmatch(line) and len(line) <= LINE_LIMIT
+    if not is_form or any(n > 0xFFFFFFFF for n in numbers) or 0 in counted:
         raise NoLine("not in the script language")
     return line
 
 
 def rows_after_good(command: bytes) -> int:
-    """How many lines stand behind `good` in the answer to this command block: a report has no mark for its end."""
-    code, number = command[0], lambda first, end: int.from_bytes(command[first:end], "big")
-    if code == 0x28:
-        return number(7, 9)
-    if code == 0xA8:
-        return number(6, 10)
-    room = {0x03: (4, 5), 0x12: (3, 5), 0x23: (7, 9), 0x46: (7, 9), 0x5A: (7, 9), 0xAD: (8, 10)}
-    return 1 if code == 0x25 or code in room and number(*room[code]) else 0
+    """How many lines stand behind `good` in the answer to this command block: a report has no mark for its
+    end."""
+    code = command[0]
+    first, end = COUNTED.get(code, (0, 0))
+    number = int.from_bytes(command[first:end], "big")
+    if code in (0x28, 0xA8):
+        return number
+    return 1 if code == 0x25 or number else 0
 
 
 class Session:
@@ -66,8 +76,8 @@ class Session:
     def __init__(self, program: list[str], image: str, statistics: Statistics) -> None:
         self.statistics, self.lines, self.sent = statistics, 0, 0
         try:
-            self.process = subprocess.Popen([*program, "run", image], stdin=subprocess.PIPE, stdout=subprocess.PIPE,
-                                            bufsize=0, start_new_session=True)
+            self.process = subprocess.Popen([*program, "run", image], stdin=subprocess.PIPE,
+                                            stdout=subprocess.PIPE, bufsize=0, start_new_session=True)
         except OSError as error:
             raise Ended(f"{program[0]} cannot be run: {error.strerror}") from None
         assert self.process.stdin and self.process.stdout
@@ -117,7 +127,8 @@ class Session:
         return Ended(f"the program ended with status {self.end()}")
 
     def end(self) -> int:
-        """Ends the script, and gives the exit status; a negative one is the signal that killed the program."""
+        """Ends the script, and gives the exit status; a negative one is the signal that killed the
+        program."""
         self.script.close()
         if not self.report.closed:
             self.report.read()

@@ -1,4 +1,5 @@
-"""Sends lines to the control socket of a drive, and prints the answers. Without LINE it sends those of standard input."""
+"""Sends lines to the control socket of a drive, and prints the answers. Without LINE it sends those of
+standard input."""
 from __future__ import annotations
 
 import argparse

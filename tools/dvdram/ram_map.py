@@ -1,4 +1,5 @@
-"""Shows what each block of a disc is, from its image alone: by the lists that the drive would choose at the next `power`."""
+"""Shows what each block of a disc is, from its image alone: by the lists that the drive would choose at the
+next `power`."""
 from __future__ import annotations
 
 import argparse
