@@ -46,8 +46,8 @@ fn is_replacement(entries: &[SdlEntry], block: u32) -> bool
 
 /// Whether no entry names the block.
 fn is_free(sdl: &Sdl, block: u32) -> bool
-    requires { IsStrictlyIncreasing (defectives sdl.now.entries.list) }
-    ensures { result ≡ is_unnamed sdl.now.entries.list block }
+    requires { IsStrictlyIncreasing (defectives sdl.now.entries) }
+    ensures { result ≡ is_unnamed sdl.now.entries block }
 {
     !(sdl.is_defective(block) || is_replacement(sdl.entries.as_slice(), block))
 }
@@ -55,8 +55,8 @@ fn is_free(sdl: &Sdl, block: u32) -> bool
 /// The first free spare of a pool from this turn on, counted from 0. It is none exactly where there is none.
 pub fn free_from<L: Layout>(layout: &L, sdl: &Sdl, pool: u32, first: u32) -> Option<FreeSpare>
     requires pool { pool < length (L.pools layout.now) }
-    requires rise { IsStrictlyIncreasing (defectives sdl.now.entries.list) }
-    ensures finds { FindsFree (is_unnamed sdl.now.entries.list) (spares_at (L.pools layout.now) pool) first result }
+    requires rise { IsStrictlyIncreasing (defectives sdl.now.entries) }
+    ensures finds { FindsFree (is_unnamed sdl.now.entries) (spares_at (L.pools layout.now) pool) first result }
     ensures few { length (spares_at (L.pools layout.now) pool) < 4294967296 }
 {
     let _pools = layout.pools();
@@ -124,10 +124,10 @@ pub fn next_free<L: Layout>(
 ) -> Option<u32>
     requires pool { pool < length (L.pools layout.now) }
     requires cursors { length cursors.now ≡ length (L.pools layout.now) }
-    requires fit { CursorsFit (L.pools layout.now) sdl.now.entries.list cursors.now }
-    requires rise { IsStrictlyIncreasing (defectives sdl.now.entries.list) }
+    requires fit { CursorsFit (L.pools layout.now) sdl.now.entries cursors.now }
+    requires rise { IsStrictlyIncreasing (defectives sdl.now.entries) }
     requires spare { IfSome after (Contains (spares_at (L.pools layout.now) pool)) }
-    ensures { result ≡ next_in (L.pools layout.now) sdl.now.entries.list pool after }
+    ensures { result ≡ next_in (L.pools layout.now) sdl.now.entries pool after }
 {
     let first = first_turn(layout, pool, cursors.at(pool), after);
     match free_from(layout, sdl, pool, first) {

@@ -7,8 +7,8 @@ use Rattle.ram_spare.proofs.spare.is_free.Goals.{then-is_defective, else-is_defe
 
 pub returns : goal.returns
 returns c =
-    let named = listed_by (defectives c.args.sdl.now.entries.list) c.args.block c.is_defective.result c.is_defective.ensures in
+    let named = listed_by (defectives c.args.sdl.now.entries) c.args.block c.is_defective.result c.is_defective.ensures in
     elim c.if-is_defective.branch [
-      | then-is_defective w ↦ ap not (w.result-is ∙ w.if-is_defective.true ∙ ap (λ t. t || is_listed (replacements c.args.sdl.now.entries.list) c.args.block) (sym w.if-is_defective.true ∙ named))
-      | else-is_defective w ↦ ap not (w.result-is ∙ (rw w.as_slice.ensures at w.is_replacement.ensures) ∙ ap (λ t. t || is_listed (replacements c.args.sdl.now.entries.list) c.args.block) (sym w.if-is_defective.false ∙ named))
+      | then-is_defective w ↦ ap not (w.result-is ∙ w.if-is_defective.true ∙ ap (λ t. t || is_listed (replacements c.args.sdl.now.entries) c.args.block) (sym w.if-is_defective.true ∙ named))
+      | else-is_defective w ↦ ap not (w.result-is ∙ (rw w.as_slice.ensures at w.is_replacement.ensures) ∙ ap (λ t. t || is_listed (replacements c.args.sdl.now.entries) c.args.block) (sym w.if-is_defective.false ∙ named))
     ]
