@@ -1,5 +1,5 @@
 -- How the secondary list of a move is made, entry after entry.
-use Rattle.std.specs.Prelude.{◌≡◌, ◌≢◌, ℕ, suc, ◌+◌, ◌≤◌, ◌<◌, ◌^◌, nat_lt, Option, Some, None, List, [], ◌∷◌, length, slice_index}
+use Rattle.std.specs.Prelude.{◌≡◌, ◌≢◌, ℕ, suc, ◌+◌, ◌≤◌, ◌<◌, ◌^◌, nat_lt, ◌⊎◌, Option, Some, None, List, [], ◌∷◌, length, slice_index}
 use Rattle.std.proofs.Common.{refl, sym, ap, ◌∙◌, inl, inr, subst, arith, eqb, filter, length-append}
 use Rattle.std.specs.List.{All, Contains}
 use Rattle.std.specs.List.Sorted.{IsStrictlyIncreasing}
@@ -14,7 +14,6 @@ use Rattle.model_pools.proofs.Members.{ByMembers, all_from, by_members, from_mem
 use Rattle.model_pools.proofs.NewEntries.{retire_all, with_pair, moved_valid_in}
 use Rattle.model_pools.proofs.Replacements.{Contains-later}
 use Rattle.model_volume.proofs.ValidDecided.{contains_decided}
-use Rattle.ram_sdl.specs.EntriesAndRoom.{EntriesAndRoom, HasRoomFor}
 use Rattle.ram_replace.specs.declared.spares.Found.{Found}
 use Rattle.ram_replace.specs.Spares.{StandsAt}
 
@@ -39,12 +38,13 @@ low_and_high b (e ∷ es) none =
     ]
 
 -- So the entry has room where the list with it does.
-pub room_for : (new : SdlEntry) (held : EntriesAndRoom) → length (with_entry new held.list) ≤ held.room → HasRoomFor new.defective held
-room_for new held fits = elim (contains_decided (defectives held.list) new.defective) [
+pub room_for : (new : SdlEntry) (held : List SdlEntry) → length (with_entry new held) ≤ 8184
+    → (length held < 8184) ⊎ Contains (defectives held) new.defective
+room_for new held fits = elim (contains_decided (defectives held) new.defective) [
   | inl has ↦ inr has
   | inr none ↦
-      let parts = low_and_high new.defective held.list none in
-      let all = length-append (filter (λ (e : SdlEntry). nat_lt e.defective new.defective) held.list) (new ∷ filter (λ (e : SdlEntry). nat_lt new.defective e.defective) held.list) in
+      let parts = low_and_high new.defective held none in
+      let all = length-append (filter (λ (e : SdlEntry). nat_lt e.defective new.defective) held) (new ∷ filter (λ (e : SdlEntry). nat_lt new.defective e.defective) held) in
       inl (omega (arith, fits, parts, all))
 ]
 
@@ -79,19 +79,19 @@ module _ (pools : List Pool) (entries : List SdlEntry) (lawful : ArePools pools)
     pub moved_few : length (entries_moved_in pools entries i (tried_of (free_in pools entries i) found.tried) found.spare) ≤ most
     moved_few = let few = length-entries_in pools (entries_moved_in pools entries i (tried_of (free_in pools entries i) found.tried) found.spare) entries_valid in omega (arith, few, few_spares)
 
-    module _ (held : EntriesAndRoom) (room : most ≤ held.room) (own : ℕ) (own_is : own ≡ block_in pools i) where
-      pub room_for_pair : held.list ≡ with_retired (tried_of (free_in pools entries i) found.tried) entries → HasRoomFor own held
+    module _ (held : List SdlEntry) (room : most ≤ 8184) (own : ℕ) (own_is : own ≡ block_in pools i) where
+      pub room_for_pair : held ≡ with_retired (tried_of (free_in pools entries i) found.tried) entries → (length held < 8184) ⊎ Contains (defectives held) own
       room_for_pair list_is =
-          let after : with_entry (pair own found.spare) held.list ≡ with_entry (pair (block_in pools i) found.spare) (with_retired (tried_of (free_in pools entries i) found.tried) entries) =
+          let after : with_entry (pair own found.spare) held ≡ with_entry (pair (block_in pools i) found.spare) (with_retired (tried_of (free_in pools entries i) found.tried) entries) =
           ap (with_entry (pair own found.spare)) list_is
           ∙ ap (λ (o : ℕ). with_entry (pair o found.spare) (with_retired (tried_of (free_in pools entries i) found.tried) entries)) own_is in
           let fits = subst (λ (es : List SdlEntry). length es ≤ most) (sym after) pair_few in
           room_for (pair own found.spare) held (omega (arith, fits, room))
 
-      pub room_for_former : (home : ℕ) → home ≡ home_in pools entries i → held.list ≡ with_entry (pair own found.spare) (with_retired (tried_of (free_in pools entries i) found.tried) entries)
-          → length (with_retired (former own home) held.list) ≤ held.room
+      pub room_for_former : (home : ℕ) → home ≡ home_in pools entries i → held ≡ with_entry (pair own found.spare) (with_retired (tried_of (free_in pools entries i) found.tried) entries)
+          → length (with_retired (former own home) held) ≤ 8184
       room_for_former home home_is list_is =
-          let after : with_retired (former own home) held.list ≡ entries_moved_in pools entries i (tried_of (free_in pools entries i) found.tried) found.spare =
+          let after : with_retired (former own home) held ≡ entries_moved_in pools entries i (tried_of (free_in pools entries i) found.tried) found.spare =
           ap (with_retired (former own home)) list_is
           ∙ ap (λ (h : ℕ). with_retired (former own h) (with_entry (pair own found.spare) (with_retired (tried_of (free_in pools entries i) found.tried) entries))) home_is
           ∙ ap (λ (o : ℕ). with_retired (former o (home_in pools entries i)) (with_entry (pair o found.spare) (with_retired (tried_of (free_in pools entries i) found.tried) entries))) own_is in
@@ -106,17 +106,18 @@ retired_next free es k spare is =
     let next : suc k ≡ k + 1 = omega arith in
     ap (λ (s : ℕ). with_entry (retired s) (with_retired (tried_of free k) es)) is ∙ ap (λ (n : ℕ). with_retired (tried_of free n) es) next
 
-pub room_for_other : (own home : ℕ) (held : EntriesAndRoom) → home ≢ own → length (with_retired (former own home) held.list) ≤ held.room → HasRoomFor home held
+pub room_for_other : (own home : ℕ) (held : List SdlEntry) → home ≢ own → length (with_retired (former own home) held) ≤ 8184
+    → (length held < 8184) ⊎ Contains (defectives held) home
 room_for_other own home held apart fits =
     let one : former own home ≡ home ∷ [] = cond-false (eqb home own) [] (home ∷ []) (ne_eqb home own apart) in
-    room_for (retired home) held (subst (λ (ss : List ℕ). length (with_retired ss held.list) ≤ held.room) one fits)
+    room_for (retired home) held (subst (λ (ss : List ℕ). length (with_retired ss held) ≤ 8184) one fits)
 
 -- room for one more spare that is retired
-pub room_for_spare : (free : List ℕ) (entries : List SdlEntry) (held : EntriesAndRoom) (k spare : ℕ) → spare ≡ slice_index free k → length (with_retired (tried_of free (k + 1)) entries) ≤ held.room
-    → held.list ≡ with_retired (tried_of free k) entries → HasRoomFor spare held
+pub room_for_spare : (free : List ℕ) (entries : List SdlEntry) (held : List SdlEntry) (k spare : ℕ) → spare ≡ slice_index free k → length (with_retired (tried_of free (k + 1)) entries) ≤ 8184
+    → held ≡ with_retired (tried_of free k) entries → (length held < 8184) ⊎ Contains (defectives held) spare
 room_for_spare free entries held k spare is fits list_is =
-    let after : with_entry (retired spare) held.list ≡ with_retired (tried_of free (k + 1)) entries = ap (with_entry (retired spare)) list_is ∙ retired_next free entries k spare is in
-    room_for (retired spare) held (subst (λ (es : List SdlEntry). length es ≤ held.room) (sym after) fits)
+    let after : with_entry (retired spare) held ≡ with_retired (tried_of free (k + 1)) entries = ap (with_entry (retired spare)) list_is ∙ retired_next free entries k spare is in
+    room_for (retired spare) held (subst (λ (es : List SdlEntry). length es ≤ 8184) (sym after) fits)
 
 -- ---- the list of the move
 

@@ -1,16 +1,14 @@
 //! The secondary list of a move, made in a list of its own: the one in use is not changed.
 
-ghost use Rattle.std.specs.Prelude.{◌≡◌, ℕ, ◌<◌, ◌≤◌, length};
+ghost use Rattle.std.specs.Prelude.{◌≡◌, ℕ, ◌<◌, ◌≤◌, ◌⊎◌, length};
 ghost use Rattle.std.specs.List.{Contains};
 ghost use Rattle.std.specs.List.Sorted.{IsStrictlyIncreasing};
-ghost use Rattle.model_geometry.specs.declared.TheConstants.{SDL_LIMIT};
 ghost use Rattle.model_geometry.specs.Geometry.{data_blocks};
 ghost use Rattle.model_lists.specs.Values.{IsLawfulSdl, most_of, defectives, with_entry, retired};
 ghost use Rattle.model_pools.specs.Pools.{ArePools, AreValidUnder, all_in, logical_in, spares_in, spares_at, spares_for, is_unnamed, free_at, free_in, home_in};
 ghost use Rattle.model_pools.specs.Moves.{with_retired, tried_of, former, sdl_moved_in};
 ghost use Rattle.model_drive.specs.declared.TheConstants.{LAST_COUNTER};
 ghost use Rattle.ram_sdl.specs.Sdl.{sdl_of};
-ghost use Rattle.ram_sdl.specs.EntriesAndRoom.{HasRoomFor};
 ghost use Rattle.ram_spare.specs.Turns.{AreUsed};
 ghost use Rattle.ram_replace.specs.Spares.{StandsAt};
 
@@ -22,13 +20,12 @@ use ram_zones::Geometry;
 
 /// Says of a spare that it is never used again.
 fn retire(list: &mut Sdl, spare: u32)
-    requires rise { IsStrictlyIncreasing (defectives list.old.entries.list) }
-    requires room { HasRoomFor spare list.old.entries }
+    requires rise { IsStrictlyIncreasing (defectives list.old.entries) }
+    requires room { (length list.old.entries < 8184) ⊎ Contains (defectives list.old.entries) spare }
     ensures value { sdl_of list.new ≡ record (sdl_of list.old) {
-      entries = with_entry (retired spare) list.old.entries.list;
+      entries = with_entry (retired spare) list.old.entries;
     } }
-    ensures rise { IsStrictlyIncreasing (defectives list.new.entries.list) }
-    ensures room { list.new.entries.room ≡ list.old.entries.room }
+    ensures rise { IsStrictlyIncreasing (defectives list.new.entries) }
 {
     list.set(SdlEntry {
         defective: spare,
@@ -46,19 +43,18 @@ fn retire_tried<L: Layout>(
     tried: u32,
 )
     requires pool { pool < length (L.pools layout.now) }
-    requires rise { IsStrictlyIncreasing (defectives sdl.now.entries.list) }
-    requires first { AreUsed (is_unnamed sdl.now.entries.list) (spares_at (L.pools layout.now) pool) 0 first }
-    requires few { tried ≤ length (free_at (L.pools layout.now) sdl.now.entries.list pool) }
-    requires same { draft.old.entries.list ≡ sdl.now.entries.list }
+    requires rise { IsStrictlyIncreasing (defectives sdl.now.entries) }
+    requires first { AreUsed (is_unnamed sdl.now.entries) (spares_at (L.pools layout.now) pool) 0 first }
+    requires few { tried ≤ length (free_at (L.pools layout.now) sdl.now.entries pool) }
+    requires same { draft.old.entries ≡ sdl.now.entries }
     requires room { (k : ℕ) → k ≤ tried → length (with_retired
-        (tried_of (free_at (L.pools layout.now) sdl.now.entries.list pool) k) sdl.now.entries.list)
-        ≤ draft.old.entries.room }
+        (tried_of (free_at (L.pools layout.now) sdl.now.entries pool) k) sdl.now.entries)
+        ≤ 8184 }
     ensures value { sdl_of draft.new ≡ record (sdl_of draft.old) {
-      entries = with_retired (tried_of (free_at (L.pools layout.now) sdl.now.entries.list pool) tried)
-          sdl.now.entries.list;
+      entries = with_retired (tried_of (free_at (L.pools layout.now) sdl.now.entries pool) tried)
+          sdl.now.entries;
     } }
-    ensures rise { IsStrictlyIncreasing (defectives draft.new.entries.list) }
-    ensures room { draft.new.entries.room ≡ draft.old.entries.room }
+    ensures rise { IsStrictlyIncreasing (defectives draft.new.entries) }
 {
     let mut turn = first;
     for _ in 0..tried {
@@ -72,12 +68,11 @@ fn retire_tried<L: Layout>(
 
 /// Retires the former replacement of a block, where it had one.
 fn retire_former(draft: &mut Sdl, own: u32, home: u32)
-    requires rise { IsStrictlyIncreasing (defectives draft.old.entries.list) }
-    requires room { length (with_retired (former own home) draft.old.entries.list) ≤ draft.old.entries.room }
+    requires rise { IsStrictlyIncreasing (defectives draft.old.entries) }
+    requires room { length (with_retired (former own home) draft.old.entries) ≤ 8184 }
     ensures value { sdl_of draft.new ≡ record (sdl_of draft.old) {
-      entries = with_retired (former own home) draft.old.entries.list;
+      entries = with_retired (former own home) draft.old.entries;
     } }
-    ensures room { draft.new.entries.room ≡ draft.old.entries.room }
 {
     if home != own {
         retire(draft, home);
@@ -98,21 +93,19 @@ pub fn draft_moved<L: Layout>(
     found: Found,
 )
     requires pools { ArePools (L.pools layout.now) }
-    requires valid { AreValidUnder (L.pools layout.now) sdl.now.entries.list }
+    requires valid { AreValidUnder (L.pools layout.now) sdl.now.entries }
     requires blocks { (block : ℕ) → Contains (all_in (L.pools layout.now)) block
         → Contains (data_blocks geometry.now) block }
     requires most { length (spares_in (L.pools layout.now)) ≤ most_of sdl.now.version }
     requires lawful { IsLawfulSdl (sdl_of sdl.now) }
     requires inside { i < length (logical_in (L.pools layout.now)) }
-    requires home { home ≡ home_in (L.pools layout.now) sdl.now.entries.list i }
-    requires first { AreUsed (is_unnamed sdl.now.entries.list) (spares_for (L.pools layout.now) i) 0 first }
-    requires stands { StandsAt (free_in (L.pools layout.now) sdl.now.entries.list i) found }
+    requires home { home ≡ home_in (L.pools layout.now) sdl.now.entries i }
+    requires first { AreUsed (is_unnamed sdl.now.entries) (spares_for (L.pools layout.now) i) 0 first }
+    requires stands { StandsAt (free_in (L.pools layout.now) sdl.now.entries i) found }
     requires counter { sdl.now.counter < LAST_COUNTER }
-    requires room { SDL_LIMIT ≤ draft.old.entries.room }
     ensures value { sdl_of draft.new ≡ sdl_moved_in (L.pools layout.now) (sdl_of sdl.now) i
-        (tried_of (free_in (L.pools layout.now) sdl.now.entries.list i) found.tried) found.spare }
+        (tried_of (free_in (L.pools layout.now) sdl.now.entries i) found.tried) found.spare }
     ensures lawful { IsLawfulSdl (sdl_of draft.new) }
-    ensures room { SDL_LIMIT ≤ draft.new.entries.room }
 {
     // A geometry that tells its size is lawful, so each block has a number that a list can hold.
     let _total = geometry.total();

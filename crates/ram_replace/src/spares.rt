@@ -39,19 +39,19 @@ pub fn find_spare<M: Medium, L: Layout>(
     back: &mut Block,
 ) -> Result<Option<Found>, Stop>
     requires pool { pool < length (L.pools layout.now) }
-    requires rise { IsStrictlyIncreasing (defectives sdl.now.entries.list) }
-    requires first { AreUsed (is_unnamed sdl.now.entries.list) (spares_at (L.pools layout.now) pool) 0 first }
+    requires rise { IsStrictlyIncreasing (defectives sdl.now.entries) }
+    requires first { AreUsed (is_unnamed sdl.now.entries) (spares_at (L.pools layout.now) pool) 0 first }
     requires within { (spare : ℕ) → Contains (spares_at (L.pools layout.now) pool) spare
         → spare < M.block_count medium.old }
     requires on { IsTrue (M.world medium.old).power }
     requires whole { length from.now ≡ BLOCK_BYTES }
     ensures rule { MatchResult result
         (FindsSpare M.world M.reaches medium.old medium.new
-        (free_at (L.pools layout.now) sdl.now.entries.list pool) from.now)
+        (free_at (L.pools layout.now) sdl.now.entries pool) from.now)
         (StopsTrying M.world M.reaches medium.old medium.new
-        (free_at (L.pools layout.now) sdl.now.entries.list pool) from.now) }
+        (free_at (L.pools layout.now) sdl.now.entries pool) from.now) }
     ensures turn { IfOk result (λ found. IfSome found
-        (StandsAtTurn (is_unnamed sdl.now.entries.list) (spares_at (L.pools layout.now) pool))) }
+        (StandsAtTurn (is_unnamed sdl.now.entries) (spares_at (L.pools layout.now) pool))) }
     ensures back { IfOk result
         (λ found. IfSome found (λ _. (M.world medium.old).known ≡ true → back.new ≡ from.now)) }
     ensures few { length (spares_at (L.pools layout.now) pool) < 4294967296 }

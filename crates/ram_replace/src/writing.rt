@@ -1,7 +1,6 @@
 //! The write of one logical block, to its home or to a spare.
 
-ghost use Rattle.std.specs.Prelude.{◌≡◌, ◌<◌, ◌≤◌, IsTrue, IfOk, MatchResult, length};
-ghost use Rattle.model_geometry.specs.declared.TheConstants.{SDL_LIMIT};
+ghost use Rattle.std.specs.Prelude.{◌≡◌, ◌<◌, IsTrue, IfOk, MatchResult, length};
 ghost use Rattle.model_places.specs.Places.{logical_count, home_of};
 ghost use Rattle.model_volume.specs.Given.{AreSettled};
 ghost use Rattle.ram_bytes.specs.declared.block.TheConstants.{BLOCK_BYTES};
@@ -82,7 +81,6 @@ pub fn place_block<M: Medium, L: Layout>(
     scratch: &mut Scratch,
 ) -> Result<Outcome, Stop>
     requires fit { IsFit geometry.now (M.block_count medium.old) (L.pools layout.now) cursors.old lists.old }
-    requires draft { SDL_LIMIT ≤ draft.old.entries.room }
     requires on { IsTrue (M.world medium.old).power }
     requires settled { AreSettled geometry.now (M.world medium.old).cells (lists_of lists.old) }
     requires inside { i < logical_count geometry.now (lists_of lists.old) }
@@ -98,7 +96,6 @@ pub fn place_block<M: Medium, L: Layout>(
         (λ stop. cursors.new ≡ cursors.old) }
     ensures back { IfOk result (EndsWithReadBack (M.world medium.old).known from.now back.new) }
     ensures fit { IsFit geometry.now (M.block_count medium.new) (L.pools layout.now) cursors.new lists.new }
-    ensures draft { SDL_LIMIT ≤ draft.new.entries.room }
 {
     if put_block(medium, home, from, back)? {
         return Ok(Outcome::Done);
@@ -136,7 +133,6 @@ pub fn write_home<M: Medium, L: Layout>(
     scratch: &mut Scratch,
 ) -> Placed
     requires fit { IsFit geometry.now (M.block_count medium.old) (L.pools layout.now) cursors.old lists.old }
-    requires draft { SDL_LIMIT ≤ draft.old.entries.room }
     requires settled { AreSettled geometry.now (M.world medium.old).cells (lists_of lists.old) }
     requires inside { i < logical_count geometry.now (lists_of lists.old) }
     requires home { home ≡ home_of geometry.now (lists_of lists.old) i }
@@ -147,7 +143,6 @@ pub fn write_home<M: Medium, L: Layout>(
         cursors.old cursors.new result }
     ensures back { LeavesReadBack (M.world medium.old).known from.now back.new result }
     ensures fit { IsFit geometry.now (M.block_count medium.new) (L.pools layout.now) cursors.new lists.new }
-    ensures draft { SDL_LIMIT ≤ draft.new.entries.room }
 {
     if !medium.powered() {
         return Placed::Off;

@@ -14,13 +14,12 @@ pub loop-init : goal.loop-init
 loop-init g c = record {
   value = ap (λ (es : List SdlEntry). record (sdl_of c.args.draft.now) { entries = es }) c.requires.same;
   rise = subst (λ (es : List SdlEntry). IsStrictlyIncreasing (defectives es)) (sym c.requires.same) c.requires.rise;
-  room = refl;
-  passed = none_passed (is_unnamed c.args.sdl.now.entries.list) (spares_at (g.L.Layout.pools c.args.layout.now) c.args.pool) c.args.first c.requires.first;
+  passed = none_passed (is_unnamed c.args.sdl.now.entries) (spares_at (g.L.Layout.pools c.args.layout.now) c.args.pool) c.args.first c.requires.first;
 }
 
 pub unreachable-requires : goal.unreachable-requires
 unreachable-requires g c =
-    let all = all_passed (is_unnamed c.args.sdl.now.entries.list) (spares_at (g.L.Layout.pools c.args.layout.now) c.args.pool) c.loop.counter c.loop.turn c.loop.invariant.passed c.in_default.ensures.finds in
+    let all = all_passed (is_unnamed c.args.sdl.now.entries) (spares_at (g.L.Layout.pools c.args.layout.now) c.args.pool) c.loop.counter c.loop.turn c.loop.invariant.passed c.in_default.ensures.finds in
     omega (arith, all, c.loop-test.true, c.requires.few)
 
 pub retire-requires-clause-rise : goal.retire-requires-clause-rise
@@ -28,30 +27,26 @@ retire-requires-clause-rise g c = c.loop.invariant.rise
 
 pub retire-requires-clause-room : goal.retire-requires-clause-room
 retire-requires-clause-room g c =
-    let at = next_stands (is_unnamed c.args.sdl.now.entries.list) (spares_at (g.L.Layout.pools c.args.layout.now) c.args.pool) c.loop.counter c.loop.turn c.loop.invariant.passed c.in-Some.free c.in-Some.ensures.finds in
+    let at = next_stands (is_unnamed c.args.sdl.now.entries) (spares_at (g.L.Layout.pools c.args.layout.now) c.args.pool) c.loop.counter c.loop.turn c.loop.invariant.passed c.in-Some.free c.in-Some.ensures.finds in
     let fits = c.requires.room (c.loop.counter + 1) (omega (arith, c.loop-test.true)) in
-    room_for_spare (free_at (g.L.Layout.pools c.args.layout.now) c.args.sdl.now.entries.list c.args.pool) c.args.sdl.now.entries.list c.loop.draft.entries c.loop.counter c.in-Some.free.block at.spare_is (omega (arith, fits, c.loop.invariant.room)) (ap (λ (s : Sdl). s.entries) c.loop.invariant.value)
+    room_for_spare (free_at (g.L.Layout.pools c.args.layout.now) c.args.sdl.now.entries c.args.pool) c.args.sdl.now.entries c.loop.draft.entries c.loop.counter c.in-Some.free.block at.spare_is fits (ap (λ (s : Sdl). s.entries) c.loop.invariant.value)
 
 pub loop-preserved : goal.loop-preserved
 loop-preserved g c =
-    let at = next_stands (is_unnamed c.args.sdl.now.entries.list) (spares_at (g.L.Layout.pools c.args.layout.now) c.args.pool) c.loop.counter c.loop.turn c.loop.invariant.passed c.in-Some.free c.in-Some.ensures.finds in
+    let at = next_stands (is_unnamed c.args.sdl.now.entries) (spares_at (g.L.Layout.pools c.args.layout.now) c.args.pool) c.loop.counter c.loop.turn c.loop.invariant.passed c.in-Some.free c.in-Some.ensures.finds in
     record {
       value =
           one_more_entry (sdl_of c.args.draft.now) (sdl_of c.loop.draft) (sdl_of c.retire.new.list) _ (retired c.in-Some.free.block) c.loop.invariant.value c.retire.ensures.value
-          ∙ ap (λ (es : List SdlEntry). record (sdl_of c.args.draft.now) { entries = es }) (retired_next (free_at (g.L.Layout.pools c.args.layout.now) c.args.sdl.now.entries.list c.args.pool) c.args.sdl.now.entries.list c.loop.counter c.in-Some.free.block at.spare_is);
+          ∙ ap (λ (es : List SdlEntry). record (sdl_of c.args.draft.now) { entries = es }) (retired_next (free_at (g.L.Layout.pools c.args.layout.now) c.args.sdl.now.entries c.args.pool) c.args.sdl.now.entries c.loop.counter c.in-Some.free.block at.spare_is);
       rise = c.retire.ensures.rise;
-      room = c.retire.ensures.room ∙ c.loop.invariant.room;
-      passed = one_more_passed (is_unnamed c.args.sdl.now.entries.list) (spares_at (g.L.Layout.pools c.args.layout.now) c.args.pool) c.loop.counter c.loop.turn c.loop.invariant.passed c.in-Some.free c.in-Some.ensures.finds;
+      passed = one_more_passed (is_unnamed c.args.sdl.now.entries) (spares_at (g.L.Layout.pools c.args.layout.now) c.args.pool) c.loop.counter c.loop.turn c.loop.invariant.passed c.in-Some.free c.in-Some.ensures.finds;
     }
 
 pub returns-clause-value : goal.returns-clause-value
 returns-clause-value g c =
     let all : c.loop.counter ≡ c.args.tried = omega (arith, c.loop-test.false, c.loop.auto.counter-end) in
-    subst (λ (n : ℕ). sdl_of c.loop.draft ≡ record (sdl_of c.args.draft.now) { entries = with_retired (tried_of (free_at (g.L.Layout.pools c.args.layout.now) c.args.sdl.now.entries.list c.args.pool) n) c.args.sdl.now.entries.list }) all
+    subst (λ (n : ℕ). sdl_of c.loop.draft ≡ record (sdl_of c.args.draft.now) { entries = with_retired (tried_of (free_at (g.L.Layout.pools c.args.layout.now) c.args.sdl.now.entries c.args.pool) n) c.args.sdl.now.entries }) all
     c.loop.invariant.value
 
 pub returns-clause-rise : goal.returns-clause-rise
 returns-clause-rise g c = c.loop.invariant.rise
-
-pub returns-clause-room : goal.returns-clause-room
-returns-clause-room g c = c.loop.invariant.room

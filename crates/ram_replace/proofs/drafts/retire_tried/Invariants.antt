@@ -9,8 +9,7 @@ use Rattle.ram_replace.proofs.drafts.retire_tried.Given as goal
 
 abbrev pub invariant-loop : goal.invariant-loop
 invariant-loop g l = record {
-  value : sdl_of l.draft ≡ record (sdl_of l.fn.draft) { entries = with_retired (tried_of (free_at (g.L.Layout.pools l.layout) l.sdl.entries.list l.pool) l.counter) l.sdl.entries.list };
-  rise : IsStrictlyIncreasing (defectives l.draft.entries.list);
-  room : l.draft.entries.room ≡ l.fn.draft.entries.room;
-  passed : ArePassed (is_unnamed l.sdl.entries.list) (spares_at (g.L.Layout.pools l.layout) l.pool) l.counter l.turn;
+  value : sdl_of l.draft ≡ record (sdl_of l.fn.draft) { entries = with_retired (tried_of (free_at (g.L.Layout.pools l.layout) l.sdl.entries l.pool) l.counter) l.sdl.entries };
+  rise : IsStrictlyIncreasing (defectives l.draft.entries);
+  passed : ArePassed (is_unnamed l.sdl.entries) (spares_at (g.L.Layout.pools l.layout) l.pool) l.counter l.turn;
 }

@@ -9,15 +9,15 @@ use Rattle.ram_replace.proofs.spares.find_spare.Goals as goal
 
 pub loop-tried-init : goal.loop-tried-init
 loop-tried-init g c = record {
-  so_far = none_failed g.M.Medium.world g.M.Medium.block_count g.M.Medium.reaches g.met.M.Medium.laws c.args.medium.now (free_at (g.L.Layout.pools c.args.layout.now) c.args.sdl.now.entries.list c.args.pool) c.args.from.now c.requires.on;
-  passed = none_passed (is_unnamed c.args.sdl.now.entries.list) (spares_at (g.L.Layout.pools c.args.layout.now) c.args.pool) c.args.first c.requires.first;
+  so_far = none_failed g.M.Medium.world g.M.Medium.block_count g.M.Medium.reaches g.met.M.Medium.laws c.args.medium.now (free_at (g.L.Layout.pools c.args.layout.now) c.args.sdl.now.entries c.args.pool) c.args.from.now c.requires.on;
+  passed = none_passed (is_unnamed c.args.sdl.now.entries) (spares_at (g.L.Layout.pools c.args.layout.now) c.args.pool) c.args.first c.requires.first;
   as_many = refl;
 }
 
 pub returns-in_default-clause-rule : goal.returns-in_default-clause-rule
 returns-in_default-clause-rule g c =
-    let all = all_passed (is_unnamed c.args.sdl.now.entries.list) (spares_at (g.L.Layout.pools c.args.layout.now) c.args.pool) c.loop-tried.tried c.loop-tried.turn c.loop-tried.invariant.passed c.in_default.ensures.finds in
-    all_failed g.M.Medium.world g.M.Medium.block_count g.M.Medium.reaches g.met.M.Medium.laws c.args.medium.now (free_at (g.L.Layout.pools c.args.layout.now) c.args.sdl.now.entries.list c.args.pool) c.args.from.now c.loop-tried.medium c.loop-tried.tried
+    let all = all_passed (is_unnamed c.args.sdl.now.entries) (spares_at (g.L.Layout.pools c.args.layout.now) c.args.pool) c.loop-tried.tried c.loop-tried.turn c.loop-tried.invariant.passed c.in_default.ensures.finds in
+    all_failed g.M.Medium.world g.M.Medium.block_count g.M.Medium.reaches g.met.M.Medium.laws c.args.medium.now (free_at (g.L.Layout.pools c.args.layout.now) c.args.sdl.now.entries c.args.pool) c.args.from.now c.loop-tried.medium c.loop-tried.tried
     c.loop-tried.invariant.so_far (omega (arith, all))
 
 pub put_block-requires-clause-inside : goal.put_block-requires-clause-inside
@@ -30,38 +30,38 @@ put_block-requires-clause-on g c = c.loop-tried.invariant.so_far.continues.is_on
 
 pub returns-in_err-kept-clause-rule : goal.returns-in_err-kept-clause-rule
 returns-in_err-kept-clause-rule g c =
-    let at = next_stands (is_unnamed c.args.sdl.now.entries.list) (spares_at (g.L.Layout.pools c.args.layout.now) c.args.pool) c.loop-tried.tried c.loop-tried.turn c.loop-tried.invariant.passed c.in-Some.free c.in-Some.ensures.finds in
+    let at = next_stands (is_unnamed c.args.sdl.now.entries) (spares_at (g.L.Layout.pools c.args.layout.now) c.args.pool) c.loop-tried.tried c.loop-tried.turn c.loop-tried.invariant.passed c.in-Some.free c.in-Some.ensures.finds in
     let p = err_from_is_err_and c.from_residual.result c.from_residual.ensures.1 in
-    rw (p.1, p.2) (stopped_at_next g.M.Medium.world g.M.Medium.block_count g.M.Medium.reaches g.met.M.Medium.laws c.args.medium.now (free_at (g.L.Layout.pools c.args.layout.now) c.args.sdl.now.entries.list c.args.pool) c.args.from.now
+    rw (p.1, p.2) (stopped_at_next g.M.Medium.world g.M.Medium.block_count g.M.Medium.reaches g.met.M.Medium.laws c.args.medium.now (free_at (g.L.Layout.pools c.args.layout.now) c.args.sdl.now.entries c.args.pool) c.args.from.now
     c.loop-tried.medium c.put_block.new.medium c.loop-tried.tried c.in-Some.free.turn c.in-Some.free.block c.loop-tried.invariant.so_far at _ c.in_err-kept.ensures.rule)
 
 pub returns-then-kept-clause-rule : goal.returns-then-kept-clause-rule
 returns-then-kept-clause-rule g c =
-    let at = next_stands (is_unnamed c.args.sdl.now.entries.list) (spares_at (g.L.Layout.pools c.args.layout.now) c.args.pool) c.loop-tried.tried c.loop-tried.turn c.loop-tried.invariant.passed c.in-Some.free c.in-Some.ensures.finds in
-    next_found g.M.Medium.world g.M.Medium.block_count g.M.Medium.reaches g.met.M.Medium.laws c.args.medium.now (free_at (g.L.Layout.pools c.args.layout.now) c.args.sdl.now.entries.list c.args.pool) c.args.from.now
+    let at = next_stands (is_unnamed c.args.sdl.now.entries) (spares_at (g.L.Layout.pools c.args.layout.now) c.args.pool) c.loop-tried.tried c.loop-tried.turn c.loop-tried.invariant.passed c.in-Some.free c.in-Some.ensures.finds in
+    next_found g.M.Medium.world g.M.Medium.block_count g.M.Medium.reaches g.met.M.Medium.laws c.args.medium.now (free_at (g.L.Layout.pools c.args.layout.now) c.args.sdl.now.entries c.args.pool) c.args.from.now
     c.loop-tried.medium c.put_block.new.medium c.loop-tried.tried c.in-Some.free.turn c.in-Some.free.block c.loop-tried.invariant.so_far at (rw c.if-kept.true at c.in_ok-kept.ensures.rule)
 
 pub returns-then-kept-clause-turn : goal.returns-then-kept-clause-turn
 returns-then-kept-clause-turn g c = record {
   here = c.in-Some.ensures.finds.here;
-  passed = one_more_passed (is_unnamed c.args.sdl.now.entries.list) (spares_at (g.L.Layout.pools c.args.layout.now) c.args.pool) c.loop-tried.tried c.loop-tried.turn c.loop-tried.invariant.passed c.in-Some.free c.in-Some.ensures.finds;
+  passed = one_more_passed (is_unnamed c.args.sdl.now.entries) (spares_at (g.L.Layout.pools c.args.layout.now) c.args.pool) c.loop-tried.tried c.loop-tried.turn c.loop-tried.invariant.passed c.in-Some.free c.in-Some.ensures.finds;
 }
 
 pub loop-tried-preserved : goal.loop-tried-preserved
 loop-tried-preserved g c =
-    let at = next_stands (is_unnamed c.args.sdl.now.entries.list) (spares_at (g.L.Layout.pools c.args.layout.now) c.args.pool) c.loop-tried.tried c.loop-tried.turn c.loop-tried.invariant.passed c.in-Some.free c.in-Some.ensures.finds in
+    let at = next_stands (is_unnamed c.args.sdl.now.entries) (spares_at (g.L.Layout.pools c.args.layout.now) c.args.pool) c.loop-tried.tried c.loop-tried.turn c.loop-tried.invariant.passed c.in-Some.free c.in-Some.ensures.finds in
     record {
-      so_far = one_more_failed g.M.Medium.world g.M.Medium.block_count g.M.Medium.reaches g.met.M.Medium.laws c.args.medium.now (free_at (g.L.Layout.pools c.args.layout.now) c.args.sdl.now.entries.list c.args.pool) c.args.from.now
+      so_far = one_more_failed g.M.Medium.world g.M.Medium.block_count g.M.Medium.reaches g.met.M.Medium.laws c.args.medium.now (free_at (g.L.Layout.pools c.args.layout.now) c.args.sdl.now.entries c.args.pool) c.args.from.now
           c.loop-tried.medium c.put_block.new.medium c.loop-tried.tried c.in-Some.free.turn c.in-Some.free.block c.loop-tried.invariant.so_far at (rw c.if-kept.false at c.in_ok-kept.ensures.rule);
-      passed = one_more_passed (is_unnamed c.args.sdl.now.entries.list) (spares_at (g.L.Layout.pools c.args.layout.now) c.args.pool) c.loop-tried.tried c.loop-tried.turn c.loop-tried.invariant.passed c.in-Some.free c.in-Some.ensures.finds;
+      passed = one_more_passed (is_unnamed c.args.sdl.now.entries) (spares_at (g.L.Layout.pools c.args.layout.now) c.args.pool) c.loop-tried.tried c.loop-tried.turn c.loop-tried.invariant.passed c.in-Some.free c.in-Some.ensures.finds;
       as_many = c.in_ok-kept.ensures.as_many ∙ c.loop-tried.invariant.as_many;
     }
 
 pub returns-clause-rule : goal.returns-clause-rule
 returns-clause-rule g c =
-    let few = free_few (is_unnamed c.args.sdl.now.entries.list) (spares_at (g.L.Layout.pools c.args.layout.now) c.args.pool) in
+    let few = free_few (is_unnamed c.args.sdl.now.entries) (spares_at (g.L.Layout.pools c.args.layout.now) c.args.pool) in
     let fits = c.pools-pools.ensures.few c.args.pool in
-    all_failed g.M.Medium.world g.M.Medium.block_count g.M.Medium.reaches g.met.M.Medium.laws c.args.medium.now (free_at (g.L.Layout.pools c.args.layout.now) c.args.sdl.now.entries.list c.args.pool) c.args.from.now c.loop-tried.medium c.loop-tried.tried
+    all_failed g.M.Medium.world g.M.Medium.block_count g.M.Medium.reaches g.met.M.Medium.laws c.args.medium.now (free_at (g.L.Layout.pools c.args.layout.now) c.args.sdl.now.entries c.args.pool) c.args.from.now c.loop-tried.medium c.loop-tried.tried
     c.loop-tried.invariant.so_far (omega (arith, few, fits, c.loop-tried-test.false))
 
 pub returns-then-kept-clause-back : goal.returns-then-kept-clause-back

@@ -75,7 +75,7 @@ returns-then-branch-eq0-clause-rule g c =
 pub returns-clause-rule : goal.returns-clause-rule
 returns-clause-rule g c =
     subst (λ (s : Sdl). PlacesBlock {M = g.row.M.Denot} g.M.Medium.world g.M.Medium.reaches c.args.geometry.now c.args.medium.now c.put_copies.new.medium (lists_of c.args.lists.now) c.args.i c.args.from.now (record { dds = dds_of c.args.lists.now.dds; sdl = s }))
-    (sym (c.copy_from.ensures.value ∙ (c.draft_moved.ensures.value ∙ moved_here c.args.geometry.now (lists_of c.args.lists.now) c.requires.fit.valid (g.L.Layout.pools c.args.layout.now) c.requires.fit.pools_are c.args.i c.in-Some.found.tried c.in-Some.found.spare)))
+    (sym (c.copy_from.ensures ∙ (c.draft_moved.ensures.value ∙ moved_here c.args.geometry.now (lists_of c.args.lists.now) c.requires.fit.valid (g.L.Layout.pools c.args.layout.now) c.requires.fit.pools_are c.args.i c.in-Some.found.tried c.in-Some.found.spare)))
     (spare_put g.M.Medium.world g.M.Medium.block_count g.M.Medium.reaches g.met.M.Medium.laws c.args.geometry.now (lists_of c.args.lists.now) c.requires.fit.valid c.args.i c.requires.inside c.args.from.now
     c.args.medium.now c.requires.settled c.put_block.new.medium (rw (c.if-branch.false, c.requires.home) at c.in_ok-put_block.ensures.rule)
     c.find_spare.new.medium c.in-Some.found (rw (c.in-Some.is, (free_here c.args.geometry.now (lists_of c.args.lists.now) c.requires.fit.valid (g.L.Layout.pools c.args.layout.now) c.requires.fit.pools_are c.args.i c.pool_of-pool.result c.pool_of-pool.ensures.pool)) at c.in_ok-found.ensures.rule) c.put_copies.new.medium c.in_ok-put_copies.field-0 (subst (λ (s : Sdl). HasPutList {M = g.row.M.Denot} g.M.Medium.world g.M.Medium.reaches kinds.Sdl c.args.geometry.now c.find_spare.new.medium c.put_copies.new.medium (SdlValue s) Update c.in_ok-put_copies.field-0) (c.draft_moved.ensures.value ∙ moved_here c.args.geometry.now (lists_of c.args.lists.now) c.requires.fit.valid (g.L.Layout.pools c.args.layout.now) c.requires.fit.pools_are c.args.i c.in-Some.found.tried c.in-Some.found.spare) c.in_ok-put_copies.ensures.rule) c.if-branch-eq0.false
@@ -84,31 +84,30 @@ returns-clause-rule g c =
 pub returns-clause-fit : goal.returns-clause-fit
 returns-clause-fit g c =
     let rule = rw c.in-Some.is at c.in_ok-found.ensures.rule in
-    let at = subst (λ (p : ℕ). StandsAt (free_at (g.L.Layout.pools c.args.layout.now) c.args.lists.now.sdl.entries.list p) c.in-Some.found) c.pool_of-pool.ensures.pool rule.stands in
-    let turn = subst (λ (p : ℕ). StandsAtTurn (is_unnamed c.args.lists.now.sdl.entries.list) (spares_at (g.L.Layout.pools c.args.layout.now) p) c.in-Some.found) c.pool_of-pool.ensures.pool (rw c.in-Some.is at c.in_ok-found.ensures.turn) in
+    let at = subst (λ (p : ℕ). StandsAt (free_at (g.L.Layout.pools c.args.layout.now) c.args.lists.now.sdl.entries p) c.in-Some.found) c.pool_of-pool.ensures.pool rule.stands in
+    let turn = subst (λ (p : ℕ). StandsAtTurn (is_unnamed c.args.lists.now.sdl.entries) (spares_at (g.L.Layout.pools c.args.layout.now) p) c.in-Some.found) c.pool_of-pool.ensures.pool (rw c.in-Some.is at c.in_ok-found.ensures.turn) in
     let its : pool_of (g.L.Layout.pools c.args.layout.now) c.args.i < length c.args.cursors.now = omega (arith, c.pool_of-pool.ensures.inside, c.pool_of-pool.ensures.pool, c.requires.fit.one_each) in
-    let new_is = c.copy_from.ensures.value ∙ c.draft_moved.ensures.value in
+    let new_is = c.copy_from.ensures ∙ c.draft_moved.ensures.value in
     let has = rw (free_here c.args.geometry.now (lists_of c.args.lists.now) c.requires.fit.valid (g.L.Layout.pools c.args.layout.now) c.requires.fit.pools_are c.args.i c.pool_of-pool.result c.pool_of-pool.ensures.pool) at rule in
     record {
       size = c.put_copies.ensures.as_many ∙ c.in_ok-found.ensures.as_many ∙ c.in_ok-put_block.ensures.as_many ∙ c.requires.fit.size;
       valid = subst (λ (s : Sdl). AreValid c.args.geometry.now (record { dds = dds_of c.args.lists.now.dds; sdl = s })) (sym (new_is ∙ moved_here c.args.geometry.now (lists_of c.args.lists.now) c.requires.fit.valid (g.L.Layout.pools c.args.layout.now) c.requires.fit.pools_are c.args.i c.in-Some.found.tried c.in-Some.found.spare))
           (moved_valid c.args.geometry.now (lists_of c.args.lists.now) c.requires.fit.valid c.args.i c.requires.inside (tried_of (free_spares c.args.geometry.now (lists_of c.args.lists.now) c.args.i) c.in-Some.found.tried) c.in-Some.found.spare
           (record { tried = c.in-Some.found.tried; failed_are = refl; inside = has.stands.inside; spare_is = has.stands.spare_is }));
-      lawful = subst IsLawfulSdl (sym c.copy_from.ensures.value) c.draft_moved.ensures.lawful;
-      room = let more = c.copy_from.ensures.room in let had = c.requires.fit.room in omega (arith, more, had);
+      lawful = subst IsLawfulSdl (sym c.copy_from.ensures) c.draft_moved.ensures.lawful;
       pools_are = subst (λ (s : Sdl). (g.L.Layout.pools c.args.layout.now) ≡ pools_under c.args.geometry.now (record { dds = dds_of c.args.lists.now.dds; sdl = s })) (sym new_is) c.requires.fit.pools_are;
       one_each = ap length c.set.ensures ∙ length-set c.args.cursors.now c.pool_of-pool.result (c.in-Some.found.turn + 1) ∙ c.requires.fit.one_each;
-      cursors_fit = fits_then (g.L.Layout.pools c.args.layout.now) c.args.lists.now.sdl.entries.list (lawful_here c.args.geometry.now (lists_of c.args.lists.now) c.requires.fit.valid (g.L.Layout.pools c.args.layout.now) c.requires.fit.pools_are) (valid_here c.args.geometry.now (lists_of c.args.lists.now) c.requires.fit.valid (g.L.Layout.pools c.args.layout.now) c.requires.fit.pools_are) c.args.i (logical_here c.args.geometry.now (lists_of c.args.lists.now) c.requires.fit.valid (g.L.Layout.pools c.args.layout.now) c.requires.fit.pools_are c.args.i c.requires.inside) c.args.cursors.now c.requires.fit.cursors_fit its c.in-Some.found at turn c.copy_from.new.self.entries.list c.set.new.self c.pool_of-pool.result (ap (λ (s : Sdl). s.entries) new_is) c.pool_of-pool.ensures.pool c.set.ensures;
+      cursors_fit = fits_then (g.L.Layout.pools c.args.layout.now) c.args.lists.now.sdl.entries (lawful_here c.args.geometry.now (lists_of c.args.lists.now) c.requires.fit.valid (g.L.Layout.pools c.args.layout.now) c.requires.fit.pools_are) (valid_here c.args.geometry.now (lists_of c.args.lists.now) c.requires.fit.valid (g.L.Layout.pools c.args.layout.now) c.requires.fit.pools_are) c.args.i (logical_here c.args.geometry.now (lists_of c.args.lists.now) c.requires.fit.valid (g.L.Layout.pools c.args.layout.now) c.requires.fit.pools_are c.args.i c.requires.inside) c.args.cursors.now c.requires.fit.cursors_fit its c.in-Some.found at turn c.copy_from.new.self.entries c.set.new.self c.pool_of-pool.result (ap (λ (s : Sdl). s.entries) new_is) c.pool_of-pool.ensures.pool c.set.ensures;
     }
 
 pub returns-clause-cursors : goal.returns-clause-cursors
 returns-clause-cursors g c =
     let rule = rw c.in-Some.is at c.in_ok-found.ensures.rule in
-    let at = subst (λ (p : ℕ). StandsAt (free_at (g.L.Layout.pools c.args.layout.now) c.args.lists.now.sdl.entries.list p) c.in-Some.found) c.pool_of-pool.ensures.pool rule.stands in
-    let turn = subst (λ (p : ℕ). StandsAtTurn (is_unnamed c.args.lists.now.sdl.entries.list) (spares_at (g.L.Layout.pools c.args.layout.now) p) c.in-Some.found) c.pool_of-pool.ensures.pool (rw c.in-Some.is at c.in_ok-found.ensures.turn) in
+    let at = subst (λ (p : ℕ). StandsAt (free_at (g.L.Layout.pools c.args.layout.now) c.args.lists.now.sdl.entries p) c.in-Some.found) c.pool_of-pool.ensures.pool rule.stands in
+    let turn = subst (λ (p : ℕ). StandsAtTurn (is_unnamed c.args.lists.now.sdl.entries) (spares_at (g.L.Layout.pools c.args.layout.now) p) c.in-Some.found) c.pool_of-pool.ensures.pool (rw c.in-Some.is at c.in_ok-found.ensures.turn) in
     let its : pool_of (g.L.Layout.pools c.args.layout.now) c.args.i < length c.args.cursors.now = omega (arith, c.pool_of-pool.ensures.inside, c.pool_of-pool.ensures.pool, c.requires.fit.one_each) in
-    let new_is = c.copy_from.ensures.value ∙ c.draft_moved.ensures.value in
-    inr (goes_to_turn (g.L.Layout.pools c.args.layout.now) c.args.lists.now.sdl.entries.list (lawful_here c.args.geometry.now (lists_of c.args.lists.now) c.requires.fit.valid (g.L.Layout.pools c.args.layout.now) c.requires.fit.pools_are) (valid_here c.args.geometry.now (lists_of c.args.lists.now) c.requires.fit.valid (g.L.Layout.pools c.args.layout.now) c.requires.fit.pools_are) c.args.i (logical_here c.args.geometry.now (lists_of c.args.lists.now) c.requires.fit.valid (g.L.Layout.pools c.args.layout.now) c.requires.fit.pools_are c.args.i c.requires.inside) c.args.cursors.now c.requires.fit.cursors_fit its c.in-Some.found at turn (sdl_of c.args.lists.now.sdl) (sdl_of c.copy_from.new.self) c.set.new.self c.pool_of-pool.result refl new_is c.pool_of-pool.ensures.pool c.set.ensures)
+    let new_is = c.copy_from.ensures ∙ c.draft_moved.ensures.value in
+    inr (goes_to_turn (g.L.Layout.pools c.args.layout.now) c.args.lists.now.sdl.entries (lawful_here c.args.geometry.now (lists_of c.args.lists.now) c.requires.fit.valid (g.L.Layout.pools c.args.layout.now) c.requires.fit.pools_are) (valid_here c.args.geometry.now (lists_of c.args.lists.now) c.requires.fit.valid (g.L.Layout.pools c.args.layout.now) c.requires.fit.pools_are) c.args.i (logical_here c.args.geometry.now (lists_of c.args.lists.now) c.requires.fit.valid (g.L.Layout.pools c.args.layout.now) c.requires.fit.pools_are c.args.i c.requires.inside) c.args.cursors.now c.requires.fit.cursors_fit its c.in-Some.found at turn (sdl_of c.args.lists.now.sdl) (sdl_of c.copy_from.new.self) c.set.new.self c.pool_of-pool.result refl new_is c.pool_of-pool.ensures.pool c.set.ensures)
 
 pub overflow_add-found : goal.overflow_add-found
 overflow_add-found g c =
