@@ -1,7 +1,6 @@
 //! The secondary list of an expansion, made in a list of its own: the one in use is not changed.
 
 ghost use Rattle.std.specs.Prelude.{◌≡◌, ◌≤◌, ◌<◌};
-ghost use Rattle.model_geometry.specs.declared.TheConstants.{SDL_LIMIT};
 ghost use Rattle.model_geometry.specs.Geometry.{IsLawful};
 ghost use Rattle.model_lists.specs.Values.{IsLawfulSdl};
 ghost use Rattle.model_pools.specs.Listed.{is_listed};
@@ -38,11 +37,10 @@ fn is_spare(geometry: &Geometry, dds: &DdsPdl, ssa: u32, block: u32) -> bool
 fn retire_spares(geometry: &Geometry, lists: &Lists, draft: &mut Sdl, ssa: u32)
     requires valid { AreValid geometry.now (lists_of lists.now) }
     requires area { IsValidSsa geometry.now lists.now.sdl.version ssa }
-    requires same { draft.old.entries.list ≡ lists.now.sdl.entries.list }
+    requires same { draft.old.entries ≡ lists.now.sdl.entries }
     ensures value { sdl_of draft.new ≡ record (sdl_of draft.old) {
-      entries = with_spares_retired geometry.now (dds_of lists.now.dds) ssa lists.now.sdl.entries.list;
+      entries = with_spares_retired geometry.now (dds_of lists.now.dds) ssa lists.now.sdl.entries;
     } }
-    ensures room { draft.new.entries.room ≡ draft.old.entries.room }
 {
     for entry in lists.sdl.entries.as_slice() {
         if is_spare(geometry, &lists.dds, ssa, entry.defective) {
@@ -63,10 +61,8 @@ pub fn draft_expanded(geometry: &Geometry, lists: &Lists, draft: &mut Sdl, ssa: 
     requires area { IsValidSsa geometry.now lists.now.sdl.version ssa }
     requires grows { lists.now.sdl.ssa ≤ ssa }
     requires counter { lists.now.sdl.counter < LAST_COUNTER }
-    requires room { SDL_LIMIT ≤ draft.old.entries.room }
     ensures value { sdl_of draft.new ≡ (lists_expanded geometry.now (lists_of lists.now) ssa).sdl }
     ensures lawful { IsLawfulSdl (sdl_of draft.new) }
-    ensures room { SDL_LIMIT ≤ draft.new.entries.room }
 {
     draft.copy_from(&lists.sdl);
     draft.counter += 1;

@@ -69,7 +69,7 @@ pub fn grow<M: Medium>(
     capacity: u32,
     scratch: &mut Scratch,
 ) -> Result<Grown, Stop>
-    requires fit { AreFit geometry.now (M.block_count medium.old) lists.old draft.old }
+    requires fit { AreFit geometry.now (M.block_count medium.old) lists.old }
     requires on { IsTrue (M.world medium.old).power }
     requires settled { AreSettled geometry.now (M.world medium.old).cells (lists_of lists.old) }
     ensures rule { MatchResult result
@@ -77,7 +77,7 @@ pub fn grow<M: Medium>(
         (lists_of lists.new))
         (StopsGrowing M.world M.reaches geometry.now medium.old medium.new (lists_of lists.old) capacity
         (lists_of lists.new)) }
-    ensures fit { AreFit geometry.now (M.block_count medium.new) lists.new draft.new }
+    ensures fit { AreFit geometry.now (M.block_count medium.new) lists.new }
 {
     match size_of(geometry, lists, capacity) {
         Size::Unlawful => return Ok(Grown::Refused),
@@ -106,11 +106,11 @@ pub fn expand_lists<M: Medium>(
     capacity: u32,
     scratch: &mut Scratch,
 ) -> ExpandEnd
-    requires fit { AreFit geometry.now (M.block_count medium.old) lists.old draft.old }
+    requires fit { AreFit geometry.now (M.block_count medium.old) lists.old }
     requires settled { AreSettled geometry.now (M.world medium.old).cells (lists_of lists.old) }
     ensures rule { ExpandRule M.world M.reaches geometry.now medium.old medium.new (lists_of lists.old)
         capacity (lists_of lists.new) result }
-    ensures fit { AreFit geometry.now (M.block_count medium.new) lists.new draft.new }
+    ensures fit { AreFit geometry.now (M.block_count medium.new) lists.new }
 {
     if !medium.powered() {
         return ExpandEnd::Off;

@@ -6,6 +6,5 @@ use Rattle.ram_expand.proofs.drafts.retire_spares.Given as goal
 
 abbrev pub invariant-loop-entry : goal.invariant-loop-entry
 invariant-loop-entry l = record {
-  value : sdl_of l.draft ≡ record (sdl_of l.fn.draft) { entries = expanded_until l.geometry (dds_of l.lists.dds) l.ssa l.entry-index l.lists.sdl.entries.list };
-  room : l.draft.entries.room ≡ l.fn.draft.entries.room;
+  value : sdl_of l.draft ≡ record (sdl_of l.fn.draft) { entries = expanded_until l.geometry (dds_of l.lists.dds) l.ssa l.entry-index l.lists.sdl.entries };
 }

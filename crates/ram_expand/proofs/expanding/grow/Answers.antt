@@ -34,7 +34,7 @@ pub returns-clause-rule : goal.returns-clause-rule
 returns-clause-rule g c =
     let room : c.args.lists.now.sdl.counter < LAST_COUNTER = (let counted : c.args.lists.now.sdl.counter < 2 ^ 32 = c.requires.fit.lawful.counted in let other : c.args.lists.now.sdl.counter ≢ LAST_COUNTER = c.if-counter.false in omega (arith, counted, other)) in
     inr (subst (λ (s : Sdl). HasGrown {M = g.row.M.Denot} g.M.Medium.world g.M.Medium.reaches c.args.geometry.now c.args.medium.now c.put_copies.new.medium (lists_of c.args.lists.now) c.args.capacity (record { dds = dds_of c.args.lists.now.dds; sdl = s }))
-    (sym (c.copy_from.ensures.value ∙ c.draft_expanded.ensures.value ∙ ap (λ (n : ℕ). (lists_expanded c.args.geometry.now (lists_of c.args.lists.now) n).sdl) c.area_for-ssa.ensures.area))
+    (sym (c.copy_from.ensures ∙ c.draft_expanded.ensures.value ∙ ap (λ (n : ℕ). (lists_expanded c.args.geometry.now (lists_of c.args.lists.now) n).sdl) c.area_for-ssa.ensures.area))
     (has_grown g.M.Medium.world g.M.Medium.block_count g.M.Medium.reaches g.met.M.Medium.laws c.args.geometry.now (lists_of c.args.lists.now) c.requires.fit.valid c.args.capacity c.in-Smaller.ensures
     c.args.medium.now c.requires.settled c.put_copies.new.medium c.in_ok-put_copies.field-0 (subst (λ (s : Sdl). HasPutList {M = g.row.M.Denot} g.M.Medium.world g.M.Medium.reaches kinds.Sdl c.args.geometry.now c.args.medium.now c.put_copies.new.medium (SdlValue s) Update c.in_ok-put_copies.field-0)
     (c.draft_expanded.ensures.value ∙ ap (λ (n : ℕ). (lists_expanded c.args.geometry.now (lists_of c.args.lists.now) n).sdl) c.area_for-ssa.ensures.area) c.in_ok-put_copies.ensures.rule) c.if-branch-eq0.false room))
@@ -43,12 +43,10 @@ pub returns-clause-fit : goal.returns-clause-fit
 returns-clause-fit g c = record {
   size = c.put_copies.ensures.as_many ∙ c.requires.fit.size;
   valid = subst (λ (s : Sdl). AreValid c.args.geometry.now (record { dds = dds_of c.args.lists.now.dds; sdl = s }))
-      (sym (c.copy_from.ensures.value ∙ c.draft_expanded.ensures.value ∙ ap (λ (n : ℕ). (lists_expanded c.args.geometry.now (lists_of c.args.lists.now) n).sdl) c.area_for-ssa.ensures.area))
+      (sym (c.copy_from.ensures ∙ c.draft_expanded.ensures.value ∙ ap (λ (n : ℕ). (lists_expanded c.args.geometry.now (lists_of c.args.lists.now) n).sdl) c.area_for-ssa.ensures.area))
       (grown_valid g.M.Medium.world g.M.Medium.block_count g.M.Medium.reaches g.met.M.Medium.laws c.args.geometry.now (lists_of c.args.lists.now) c.requires.fit.valid c.args.capacity c.in-Smaller.ensures
       c.args.medium.now c.requires.settled);
-  lawful = subst IsLawfulSdl (sym c.copy_from.ensures.value) c.draft_expanded.ensures.lawful;
-  room = let more = c.copy_from.ensures.room in let had = c.requires.fit.room in omega (arith, more, had);
-  draft_room = c.draft_expanded.ensures.room;
+  lawful = subst IsLawfulSdl (sym c.copy_from.ensures) c.draft_expanded.ensures.lawful;
 }
 
 pub area_for-ssa-requires : goal.area_for-ssa-requires
