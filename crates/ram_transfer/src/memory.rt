@@ -1,28 +1,31 @@
-//! The memory that a drive works with.
+//! The memory that a drive works with: all of it is taken by [`Memory::new`].
 
-ghost use Rattle.std.specs.Prelude.{◌≡◌, ◌+◌, ◌≤◌, IfOk, [], length};
-ghost use Rattle.model_geometry.specs.declared.TheConstants.{SDL_LIMIT};
+ghost use Rattle.std.specs.Prelude.{◌≡◌, ◌+◌, ◌≤◌, IfOk, Some, [], length, vec_capacity};
 ghost use Rattle.model_places.specs.Valid.{AreValid};
+ghost use Rattle.ram_format.specs.Keeping.{RiseApart, AreAllKept};
 ghost use Rattle.ram_lists.specs.Lists.{lists_of};
 ghost use Rattle.ram_transfer.specs.Layouts.{IsLaidOut};
 
 use ram_buffer::BlockBuffer;
 use ram_bytes::Block;
 use ram_copies::Scratch;
-use ram_dds::{DdsPdl, DdsState, PdlEntries};
+use ram_dds::{DdsPdl, PdlEntry};
+use ram_format::{FormatRoom, kept_entries};
 use ram_layout::SlipLayout;
 use ram_lists::Lists;
-use ram_sdl::{SDL_LIMIT, Sdl, SdlEntries, Version};
 use ram_spare::Cursors;
 use ram_zones::Geometry;
 use std::alloc::{AllocError, Global};
+
+/// The most entries that a full format may keep: those of a primary and of a secondary defect list.
+const MOST_KEPT: usize = 12_276;
 
 /// The memory in which the calls of a drive with its power on work, and what stays between them: the buffer, and on a formatted
 /// disc its layout, with how far its spares are used.
 #[derive(Drop)]
 pub struct Workspace {
-    /// Room for the secondary list that is written next.
-    pub draft: Sdl,
+    /// Room for the lists of the copies that a mount looks at, and for the secondary list that is written next.
+    pub draft: Lists,
     /// The blocks that are buffered.
     pub buffer: BlockBuffer,
     /// The scratch block, in which a block is read and merged.
@@ -35,7 +38,11 @@ pub struct Workspace {
     pub layout: SlipLayout,
     /// How far the spares are known to be used.
     pub cursors: Cursors,
-    ghost draft_roomy: { SDL_LIMIT ≤ draft.entries.room },
+    /// Room for the entries that a full format keeps.
+    pub kept: Vec<PdlEntry>,
+    /// Room for what a full format finds.
+    pub format: FormatRoom,
+    ghost kept_roomy: { 12276 ≤ vec_capacity kept },
 }
 
 /// All memory that a drive with its power on works with.
@@ -43,46 +50,51 @@ pub struct Workspace {
 pub struct Memory {
     /// The geometry of the disc.
     pub geometry: Geometry,
-    /// Room for the secondary list in use.
-    pub list: Sdl,
+    /// Room for the lists in use.
+    pub lists: Lists,
     pub workspace: Workspace,
-    ghost list_roomy: { SDL_LIMIT ≤ list.entries.room },
     ghost unbuffered: { workspace.buffer ≡ [] },
     ghost layout_roomy: { geometry.zones + geometry.psa ≤ workspace.layout.room },
     ghost one_each: { length workspace.cursors ≡ 1 },
 }
 
-/// An empty secondary list with room for [`SDL_LIMIT`] entries.
-fn roomy_list(alloc: Global) -> Result<Sdl, AllocError>
-    ensures { IfOk result (λ sdl. SDL_LIMIT ≤ sdl.entries.room) }
-{
-    let mut sdl = Sdl {
-        version: Version::One,
-        counter: 0,
-        dds_counter: 0,
-        ssa: 0,
-        entries: SdlEntries::new(alloc),
-    };
-    sdl.reserve(SDL_LIMIT as usize)?;
-    Ok(sdl)
-}
-
-/// A layout with no slipped block and no supplementary spare, with room for that of any disc of this geometry.
-fn roomy_layout(alloc: Global, geometry: &Geometry) -> Result<SlipLayout, AllocError>
+/// A layout with no slipped block and no supplementary spare, with room for that of any disc of this geometry. The structure
+/// is one without entries.
+fn roomy_layout(
+    alloc: Global,
+    geometry: &Geometry,
+    dds: &mut DdsPdl,
+) -> Result<SlipLayout, AllocError>
+    requires { dds.old.entries ≡ [] }
     ensures { IfOk result (λ layout. geometry.now.zones + geometry.now.psa ≤ layout.room) }
 {
-    let dds = DdsPdl {
-        version: Version::One,
-        counter: 0,
-        state: DdsState::Formatting,
-        psa: geometry.psa(),
-        entries: PdlEntries::from_vec(Vec::new(alloc)),
-    };
-    SlipLayout::new(alloc, geometry, &dds, 0)
+    dds.psa = geometry.psa();
+    SlipLayout::new(alloc, geometry, dds, 0)
 }
 
 impl Workspace {
-    /// Makes the layout that of a disc with these lists, with each cursor at the first spare. It takes no memory.
+    /// Takes all of it. Nothing is buffered, and the layout has room for that of any disc of this geometry.
+    fn new(alloc: Global, geometry: &Geometry) -> Result<Workspace, AllocError>
+        ensures buffer { IfOk result (λ workspace. workspace.buffer ≡ []) }
+        ensures layout { IfOk result
+            (λ workspace. geometry.now.zones + geometry.now.psa ≤ workspace.layout.room) }
+        ensures one_each { IfOk result (λ workspace. length workspace.cursors ≡ 1) }
+    {
+        let mut draft = Lists::new(alloc)?;
+        Ok(Workspace {
+            layout: roomy_layout(alloc, geometry, &mut draft.dds)?,
+            draft,
+            buffer: BlockBuffer::new(alloc)?,
+            block: Block::zeros(alloc)?,
+            back: Block::zeros(alloc)?,
+            scratch: Scratch::new(alloc)?,
+            cursors: Cursors::new(alloc, 1)?,
+            kept: Vec::with_capacity(alloc, MOST_KEPT)?,
+            format: FormatRoom::new(alloc)?,
+        })
+    }
+
+    /// Makes the layout that of a disc with these lists, with each cursor at the first spare.
     pub fn lay_out(&mut self, geometry: &Geometry, lists: &Lists)
         requires valid { AreValid geometry.now (lists_of lists.now) }
         requires room { geometry.now.zones + geometry.now.psa ≤ self.old.layout.room }
@@ -93,6 +105,20 @@ impl Workspace {
         self.layout.rebuild(geometry, &lists.dds, lists.sdl.ssa);
         self.cursors.reset();
     }
+
+    /// Puts the entries that a full format keeps of these lists into their room. With `drop_sdl` those of the secondary list are
+    /// forgotten.
+    pub fn keep_entries(&mut self, lists: &Lists, drop_sdl: bool)
+        requires apart { RiseApart (lists_of lists.now) }
+        requires few { length lists.now.dds.entries ≤ 4092 }
+        requires few_replaced { length lists.now.sdl.entries ≤ 8184 }
+        ensures kept { AreAllKept (Some (lists_of lists.now)) drop_sdl self.new.kept.items }
+        ensures same_buffer { self.new.buffer ≡ self.old.buffer }
+        ensures same_layout { self.new.layout ≡ self.old.layout }
+        ensures same_cursors { self.new.cursors ≡ self.old.cursors }
+    {
+        kept_entries(lists, drop_sdl, &mut self.format.found, &mut self.kept);
+    }
 }
 
 impl Memory {
@@ -102,16 +128,8 @@ impl Memory {
     {
         Ok(Memory {
             geometry: *geometry,
-            list: roomy_list(alloc)?,
-            workspace: Workspace {
-                draft: roomy_list(alloc)?,
-                buffer: BlockBuffer::new(alloc)?,
-                block: Block::zeros(alloc)?,
-                back: Block::zeros(alloc)?,
-                scratch: Scratch::new(alloc)?,
-                layout: roomy_layout(alloc, geometry)?,
-                cursors: Cursors::new(alloc, 1)?,
-            },
+            lists: Lists::new(alloc)?,
+            workspace: Workspace::new(alloc, geometry)?,
         })
     }
 }

@@ -84,6 +84,8 @@ fn write_part<M: Medium>(
         scratch,
         layout,
         cursors,
+        kept: _,
+        format: _,
     } = workspace;
     if !fetch_rest(medium, buffer, block, part, place)? {
         return Ok(WriteOut::Unread {
@@ -92,8 +94,9 @@ fn write_part<M: Medium>(
         });
     }
     let bytes = part.merged(from, block);
+    let sdl = &mut draft.sdl;
     let placed = place_block(
-        medium, geometry, layout, cursors, lists, draft, part.block, place, bytes, back, scratch,
+        medium, geometry, layout, cursors, lists, sdl, part.block, place, bytes, back, scratch,
     )?;
     match placed {
         Outcome::Done => {
