@@ -28,7 +28,6 @@ use Rattle.ram_medium.specs.declared.control.FailEnd.{FailEnd}
 use Rattle.ram_medium.specs.declared.control.FailEnd.TheVariants as fails
 use Rattle.ram_medium.specs.declared.control.Arm.{Arm}
 use Rattle.ram_medium.specs.declared.control.Arm.TheVariants as arming
-use Rattle.ram_lists.specs.Lists.{lists_of}
 use Rattle.ram_lists.specs.Mounts.{MountRule}
 use Rattle.ram_lists.specs.declared.mounting.Mounted.{Mounted}
 use Rattle.ram_lists.specs.declared.mounting.Mounted.TheVariants as mounts
@@ -98,40 +97,38 @@ module _ (shape : Shape) where
   wear_gives old new worn arming.Full rule = same_gives old.world.cells new.world.cells (ap (λ (m : Machine). m.world.cells) rule.2)
 
 module _ {M : Type 0} (world : M → World) (reaches : M → M → Span → Type 0) (takes : M → M → Event → Type 0) (shape : Shape) where
-  mounted_gives : (on new : M) (end : Mounted) → MountRule world reaches shape on new end → GivesNoMore shape (world on).cells (world new).cells
-  mounted_gives on new (mounts.Lists lists) rule = rule.ended.keeps.given
-  mounted_gives on new (mounts.Bare mark) rule = rule.ended.keeps.given
-  mounted_gives on new mounts.Cut rule = rule.keeps.given
-  mounted_gives on new mounts.Off rule = same_gives shape (world on).cells (world new).cells (ap (λ (w : World). w.cells) rule.nothing)
-  mounted_gives on new mounts.Fault rule = rule.keeps.given
-  mounted_gives on new mounts.NoMemory rule = rule.keeps.given
+  mounted_gives : (on new : M) (found : Lists) (end : Mounted) → MountRule world reaches shape on new found end → GivesNoMore shape (world on).cells (world new).cells
+  mounted_gives on new found mounts.Lists rule = rule.ended.keeps.given
+  mounted_gives on new found (mounts.Bare mark) rule = rule.ended.keeps.given
+  mounted_gives on new found mounts.Cut rule = rule.keeps.given
+  mounted_gives on new found mounts.Off rule = same_gives shape (world on).cells (world new).cells (ap (λ (w : World). w.cells) rule.nothing)
+  mounted_gives on new found mounts.Fault rule = rule.keeps.given
 
   -- turning the power off and on changes no cell
-  same_cells : (old new : M) (end : Mounted) (m : MountsAgain world reaches takes shape old new end) → (world m.on).cells ≡ (world old).cells
-  same_cells old new end m = ap (λ (w : World). w.cells) m.turns_on ∙ ap (λ (w : World). w.cells) m.turns_off
+  same_cells : (old new : M) (found : Lists) (end : Mounted) (m : MountsAgain world reaches takes shape old new found end) → (world m.on).cells ≡ (world old).cells
+  same_cells old new found end m = ap (λ (w : World). w.cells) m.turns_on ∙ ap (λ (w : World). w.cells) m.turns_off
 
-  pub mount_gives : (old new : M) (end : Mounted) → MountsAgain world reaches takes shape old new end → GivesNoMore shape (world old).cells (world new).cells
-  mount_gives old new end m other given = subst (λ (cells : List Cell). IsGiven shape cells other) (same_cells old new end m) (mounted_gives m.on new end m.rule other given)
+  pub mount_gives : (old new : M) (found : Lists) (end : Mounted) → MountsAgain world reaches takes shape old new found end → GivesNoMore shape (world old).cells (world new).cells
+  mount_gives old new found end m other given = subst (λ (cells : List Cell). IsGiven shape cells other) (same_cells old new found end m) (mounted_gives m.on new found end m.rule other given)
 
   -- and a mount that found lists found those that were given
-  found_alone : (on new : M) (lists : Lists) (end : Mounted) → GivesAlone shape (world on).cells lists → MountRule world reaches shape on new end → TellsAlone (world new) lists end
-  found_alone on new lists (mounts.Lists found) alone rule = λ known.
-      alone (lists_of found) (given_seen shape (world on).cells rule.finds.seen (world new).cells (lists_of found) rule.finds.are_seen
-      (chosen_given shape rule.finds.seen (lists_of found) (rule.finds.chosen (sym rule.ended.keeps.as_known ∙ known))))
-  found_alone on new lists (mounts.Bare mark) alone rule = tt
-  found_alone on new lists mounts.Cut alone rule = tt
-  found_alone on new lists mounts.Off alone rule = tt
-  found_alone on new lists mounts.Fault alone rule = tt
-  found_alone on new lists mounts.NoMemory alone rule = tt
+  found_alone : (on new : M) (lists found : Lists) (end : Mounted) → GivesAlone shape (world on).cells lists → MountRule world reaches shape on new found end → TellsAlone (world new) lists found end
+  found_alone on new lists found mounts.Lists alone rule = λ known.
+      alone found (given_seen shape (world on).cells rule.finds.seen (world new).cells found rule.finds.are_seen
+      (chosen_given shape rule.finds.seen found (rule.finds.chosen (sym rule.ended.keeps.as_known ∙ known))))
+  found_alone on new lists found (mounts.Bare mark) alone rule = tt
+  found_alone on new lists found mounts.Cut alone rule = tt
+  found_alone on new lists found mounts.Off alone rule = tt
+  found_alone on new lists found mounts.Fault alone rule = tt
 
-  pub tells_alone : (old new : M) (lists : Lists) (end : Mounted) → GivesAlone shape (world old).cells lists → MountsAgain world reaches takes shape old new end → TellsAlone (world new) lists end
-  tells_alone old new lists end alone m = found_alone m.on new lists end (subst (λ (cells : List Cell). GivesAlone shape cells lists) (sym (same_cells old new end m)) alone) m.rule
+  pub tells_alone : (old new : M) (lists found : Lists) (end : Mounted) → GivesAlone shape (world old).cells lists → MountsAgain world reaches takes shape old new found end → TellsAlone (world new) lists found end
+  tells_alone old new lists found end alone m = found_alone m.on new lists found end (subst (λ (cells : List Cell). GivesAlone shape cells lists) (sym (same_cells old new found end m)) alone) m.rule
 
   module _ (arms : M → List WornBlock) (armed_cut : M → Option ArmedCut) where
     pub step_gives : (old new : M) (room room' : List ℕ) (step : Quiet) → IsLawfulStep shape step → StepRule world reaches takes arms armed_cut shape old room step new room' → GivesNoMore shape (world old).cells (world new).cells
     step_gives old new room room' (steps.Read block) lawful p = read_gives shape (world old) (world new) block room room' p.end p.rule
     step_gives old new room room' (steps.Write block) lawful p = write_gives shape (world old) (world new) block room p.0.end lawful p.0.rule
-    step_gives old new room room' steps.Mount lawful p = mount_gives old new p.0.0 p.0.1
+    step_gives old new room room' steps.Mount lawful p = mount_gives old new p.0.0 p.0.1 p.0.2
     step_gives old new room room' (steps.Fail block) lawful p = fail_gives shape (machine_shown world arms armed_cut old) (machine_shown world arms armed_cut new) block p.0.0 p.0.1
     step_gives old new room room' (steps.Wear block n) lawful p = wear_gives shape (machine_shown world arms armed_cut old) (machine_shown world arms armed_cut new) (record { block = block; left = n }) p.0.0 p.0.1
     step_gives old new room room' (steps.Cut n fate) lawful p = same_gives shape (world old).cells (world new).cells (ap (λ (m : Machine). m.world.cells) p.0)

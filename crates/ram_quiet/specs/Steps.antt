@@ -16,7 +16,6 @@ use Rattle.ram_medium.specs.Laws.{machine_shown}
 use Rattle.ram_medium.specs.Control.{FailRule, WearRule, with_armed_cut}
 use Rattle.ram_medium.specs.declared.control.FailEnd.{FailEnd}
 use Rattle.ram_medium.specs.declared.control.Arm.{Arm}
-use Rattle.ram_lists.specs.Lists.{lists_of}
 use Rattle.ram_lists.specs.Mounts.{MountRule}
 use Rattle.ram_lists.specs.declared.mounting.Mounted.{Mounted}
 use Rattle.ram_lists.specs.declared.mounting.Mounted.TheVariants as mounts
@@ -37,9 +36,9 @@ abbrev pub GivesAlone : Shape → List Cell → Lists → Type 0
 GivesAlone shape cells lists = (other : Lists) → IsGiven shape cells other → other ≡ lists
 
 -- a mount that found lists found these, where cells are known
-abbrev pub TellsAlone : World → Lists → Mounted → Type 0
-TellsAlone world lists (mounts.Lists found) = world.known ≡ true → lists_of found ≡ lists
-TellsAlone world lists _ = Unit {0}
+abbrev pub TellsAlone : World → (lists found : Lists) → Mounted → Type 0
+TellsAlone world lists found mounts.Lists = world.known ≡ true → found ≡ lists
+TellsAlone world lists found _ = Unit {0}
 
 -- the step at this place
 abbrev pub step_at : List Quiet → ℕ → Quiet
@@ -47,14 +46,14 @@ step_at all k = slice_index_or all k (steps.Read 0)
 
 module _ {M : Type 0} (world : M → World) (reaches : M → M → Span → Type 0) (takes : M → M → Event → Type 0) where
   -- the power went off and on again, and the disc was mounted
-  pub record MountsAgain (shape : Shape) (old new : M) (end : Mounted) : Type 0 where
+  pub record MountsAgain (shape : Shape) (old new : M) (found : Lists) (end : Mounted) : Type 0 where
     pub off : M
     pub turns_off : world off ≡ record (world old) { power = false }
     pub off_event : takes old off PowerOff
     pub on : M
     pub turns_on : world on ≡ record (world off) { power = true }
     pub on_event : takes off on PowerOn
-    pub rule : MountRule world reaches shape on new end
+    pub rule : MountRule world reaches shape on new found end
 
   -- a block was read, or written
   pub record ReadsBlock (old new : M) (block : ℕ) (room room' : List ℕ) : Type 0 where
@@ -75,7 +74,8 @@ module _ {M : Type 0} (world : M → World) (reaches : M → M → Span → Type
     abbrev pub StepRule : M → List ℕ → Quiet → M → List ℕ → Type 0
     StepRule old room (steps.Read block) new room' = ReadsBlock old new block room room'
     StepRule old room (steps.Write block) new room' = WritesBlock old new block room × (room' ≡ room)
-    StepRule old room steps.Mount new room' = ((end : Mounted) × MountsAgain shape old new end) × (room' ≡ room)
+    StepRule old room steps.Mount new room' =
+        ((found : Lists) × (end : Mounted) × MountsAgain shape old new found end) × (room' ≡ room)
     StepRule old room (steps.Fail block) new room' =
         ((end : FailEnd) × FailRule (total shape) (machine old) (machine new) block end) × (room' ≡ room)
     StepRule old room (steps.Wear block n) new room' =
@@ -89,7 +89,8 @@ module _ {M : Type 0} (world : M → World) (reaches : M → M → Span → Type
         × Follows all k start room before room_before × StepRule before room_before (step_at all k) now room'
 
     -- All steps were made, and then a mount.
-    pub record FollowsAll (all : List Quiet) (start : M) (room : List ℕ) (now : M) (room' : List ℕ) (end : Mounted) : Type 0 where
+    pub record FollowsAll (all : List Quiet) (start : M) (room : List ℕ) (now : M) (room' : List ℕ)
+        (found : Lists) (end : Mounted) : Type 0 where
       pub before : M
       pub steps_lead : Follows all (length all) start room before room'
-      pub mounts : MountsAgain shape before now end
+      pub mounts : MountsAgain shape before now found end

@@ -12,17 +12,18 @@ use ram_copies::Scratch;
 use ram_lists::{Lists, Mounted};
 use ram_medium::MediumControl;
 use ram_zones::Geometry;
-use std::alloc::Global;
 
 /// Makes the steps in their order, and mounts the disc once more. No answer of a step ends them. `lists` are the only ones that
-/// the disc gives: then they still are, and a mount that finds lists finds these.
+/// the disc gives: then they still are, and a mount that finds lists finds these. Lists that the last mount finds are in `found`
+/// then; `other` is room.
 pub fn quiet<M: MediumControl>(
-    alloc: Global,
     medium: &mut M,
     geometry: &Geometry,
     lists: &Lists,
     steps: &[Quiet],
     room: &mut Block,
+    found: &mut Lists,
+    other: &mut Lists,
     scratch: &mut Scratch,
 ) -> Mounted
     requires size { M.block_count medium.old ≡ total geometry.now }
@@ -30,13 +31,13 @@ pub fn quiet<M: MediumControl>(
     requires valid { AreValid geometry.now (lists_of lists.now) }
     requires alone { GivesAlone geometry.now (M.world medium.old).cells (lists_of lists.now) }
     ensures follows { FollowsAll M.world M.reaches M.takes M.arms M.armed_cut geometry.now steps.now
-        medium.old room.old medium.new room.new result }
+        medium.old room.old medium.new room.new (lists_of found.new) result }
     ensures alone { GivesAlone geometry.now (M.world medium.new).cells (lists_of lists.now) }
-    ensures answer { TellsAlone (M.world medium.new) (lists_of lists.now) result }
+    ensures answer { TellsAlone (M.world medium.new) (lists_of lists.now) (lists_of found.new) result }
     ensures as_many { M.block_count medium.new ≡ M.block_count medium.old }
 {
     for k in 0..steps.len() {
-        take_step(alloc, medium, geometry, steps[k], room, scratch);
+        take_step(medium, geometry, steps[k], room, found, other, scratch);
     }
-    mount_again(alloc, medium, geometry, scratch)
+    mount_again(medium, geometry, found, other, scratch)
 }

@@ -2,15 +2,15 @@
 
 ghost use Rattle.std.specs.Prelude.{◌≡◌};
 ghost use Rattle.model_geometry.specs.Geometry.{total};
+ghost use Rattle.ram_lists.specs.Lists.{lists_of};
 ghost use Rattle.ram_quiet.specs.Steps.{MountsAgain, IsLawfulStep, StepRule};
 
 use model_medium::Fate;
 use ram_bytes::Block;
 use ram_copies::Scratch;
-use ram_lists::{Mounted, mount};
+use ram_lists::{Lists, Mounted, mount};
 use ram_medium::MediumControl;
 use ram_zones::Geometry;
-use std::alloc::Global;
 
 /// One step.
 #[derive(Clone, Copy)]
@@ -29,29 +29,32 @@ pub enum Quiet {
     Cut { n: u32, fate: Fate },
 }
 
-/// Turns the power off and on again, and mounts the disc.
+/// Turns the power off and on again, and mounts the disc. Lists that it finds are in `found` then; `other` is room.
 pub fn mount_again<M: MediumControl>(
-    alloc: Global,
     medium: &mut M,
     geometry: &Geometry,
+    found: &mut Lists,
+    other: &mut Lists,
     scratch: &mut Scratch,
 ) -> Mounted
     requires size { M.block_count medium.old ≡ total geometry.now }
-    ensures rule { MountsAgain M.world M.reaches M.takes geometry.now medium.old medium.new result }
+    ensures rule { MountsAgain M.world M.reaches M.takes geometry.now medium.old medium.new (lists_of found.new)
+        result }
     ensures as_many { M.block_count medium.new ≡ M.block_count medium.old }
 {
     medium.power_off();
     medium.power_on();
-    mount(alloc, medium, geometry, scratch)
+    mount(medium, geometry, found, other, scratch)
 }
 
-/// Makes one step, however it ends.
+/// Makes one step, however it ends. `found` and `other` are room for lists.
 pub fn take_step<M: MediumControl>(
-    alloc: Global,
     medium: &mut M,
     geometry: &Geometry,
     step: Quiet,
     room: &mut Block,
+    found: &mut Lists,
+    other: &mut Lists,
     scratch: &mut Scratch,
 )
     requires size { M.block_count medium.old ≡ total geometry.now }
@@ -68,7 +71,7 @@ pub fn take_step<M: MediumControl>(
             let _ = medium.write(block, room);
         }
         Quiet::Mount => {
-            let _ = mount_again(alloc, medium, geometry, scratch);
+            let _ = mount_again(medium, geometry, found, other, scratch);
         }
         Quiet::Fail { block } => {
             let _ = medium.fail(block);

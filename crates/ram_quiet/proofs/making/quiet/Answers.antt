@@ -15,8 +15,8 @@ loop-k-preserved g c = record {
 
 pub returns-clause-alone : goal.returns-clause-alone
 returns-clause-alone g c = alone_on c.args.geometry.now (g.M.Medium.world c.loop-k.medium).cells (g.M.Medium.world c.mount_again.new.medium).cells (lists_of c.args.lists.now)
-    (mount_gives g.M.Medium.world g.M.Medium.reaches g.M.Medium.takes c.args.geometry.now c.loop-k.medium c.mount_again.new.medium c.mount_again.result c.mount_again.ensures.rule) c.loop-k.invariant.alone
+    (mount_gives g.M.Medium.world g.M.Medium.reaches g.M.Medium.takes c.args.geometry.now c.loop-k.medium c.mount_again.new.medium (lists_of c.mount_again.new.found) c.mount_again.result c.mount_again.ensures.rule) c.loop-k.invariant.alone
 
 pub returns-clause-answer : goal.returns-clause-answer
-returns-clause-answer g c = tells_alone g.M.Medium.world g.M.Medium.reaches g.M.Medium.takes c.args.geometry.now c.loop-k.medium c.mount_again.new.medium (lists_of c.args.lists.now) c.mount_again.result
+returns-clause-answer g c = tells_alone g.M.Medium.world g.M.Medium.reaches g.M.Medium.takes c.args.geometry.now c.loop-k.medium c.mount_again.new.medium (lists_of c.args.lists.now) (lists_of c.mount_again.new.found) c.mount_again.result
     c.loop-k.invariant.alone c.mount_again.ensures.rule
