@@ -23,7 +23,7 @@ use Rattle.model_drive.proofs.Powers.{KeepsRight}
 use Rattle.model_drive.proofs.FormatSteps.{format_step}
 use Rattle.ram_medium.specs.Laws.{ControlLaws, machine_shown}
 use Rattle.ram_format.specs.Keeping.{AreAllKept}
-use Rattle.ram_format.specs.Full.{MakesLists, HasNoRoom, FormatNoMemory, MeetsTooMany, LosesFirst, LosesSecond, LosesThird, LeavesNoLists, FormatStopped}
+use Rattle.ram_format.specs.Full.{MakesLists, HasNoRoom, MeetsTooMany, LosesFirst, LosesSecond, LosesThird, LeavesNoLists, FormatStopped}
 use Rattle.ram_format.specs.Rewriting.{HaveCopies, LacksCopies, RewriteStopped}
 use Rattle.ram_format.proofs.Keeps.{none_kept}
 use Rattle.model_places.specs.Valid.{AreValid}
@@ -149,10 +149,6 @@ module _ {M : Type 0} (world : M → World) (reaches : M → M → Span → Type
         pub full_unroomy : (left : ℕ) → HasNoRoom world reaches shape kept pdl_kinds.G1 mark old new left
             → FormatCause ready after (kinds.Full drop_sdl) (outs.NoUpdate left) × FormatSteps ready after (kinds.Full drop_sdl) (outs.NoUpdate left)
         full_unroomy left was = undone (outs.NoUpdate left) was.nothing (λ same. inl (record { was_on = was.was_on; full = was.full; counter_is = was.left_is; nothing = same }))
-
-        pub full_refused : FormatNoMemory world reaches shape kept pdl_kinds.G1 mark old new
-            → FormatCause ready after (kinds.Full drop_sdl) outs.NoMemory × FormatSteps ready after (kinds.Full drop_sdl) outs.NoMemory
-        full_refused was = undone outs.NoMemory was.nothing (λ same. record { was_on = was.was_on; nothing = same })
 
     -- or by writing its lists again
     module _ (valid : AreValid shape lists) where

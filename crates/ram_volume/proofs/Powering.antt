@@ -1,16 +1,17 @@
 -- What turning the power on shows, by how the mount ended.
-use Rattle.std.proofs.Common.{◌≡◌, ℕ, ◌+◌, IsTrue, Bool, true, false, Option, Some, None, List, [], refl, sym, ap, ◌∙◌, subst}
+use Rattle.std.proofs.Common.{◌≡◌, ℕ, ◌+◌, IsTrue, Bool, true, false, Option, Some, None, List, [], refl, sym, ap, ◌∙◌, inl, subst, arith}
 use Rattle.model_geometry.specs.Geometry.{Shape}
 use Rattle.model_lists.specs.Values.{Dds, Sdl}
 use Rattle.model_medium.specs.World.{World, Span, Uses}
 use Rattle.model_medium.specs.Machine.{Machine}
-use Rattle.model_medium.specs.Exact.{Event, PowerOn, PowerOff}
+use Rattle.model_medium.specs.Exact.{Event, PowerOn}
 use Rattle.model_medium.specs.Reach.{Reach, ReachBy}
 use Rattle.model_medium.specs.declared.WornBlock.{WornBlock}
+use Rattle.model_medium.proofs.Compose.{reach_none}
 use Rattle.model_medium.specs.declared.ArmedCut.{ArmedCut}
 use Rattle.model_geometry.specs.Geometry.{dds_block}
 use Rattle.model_lists.specs.Texts.{IsDdsText}
-use Rattle.model_volume.specs.Given.{AreSeen, LosesListCells}
+use Rattle.model_volume.specs.Given.{AreSeen}
 use Rattle.model_survival.specs.Stops.{StopsMounting}
 use Rattle.model_stops.specs.Stops.{Stops}
 use Rattle.model_stops.specs.declared.Stop.{Stop}
@@ -24,7 +25,7 @@ use Rattle.model_drive.specs.Shown.{Shown, capacity}
 use Rattle.model_drive.specs.Repairs.{mount_most, RepairsList, RepairsSdl}
 use Rattle.model_drive.specs.Power.{PowerCause, turned_on, MountsAny, MountsLists, MountsNone, RepairsChosenDds, StopsInMount, MountLacksMemory}
 use Rattle.ram_medium.specs.Laws.{ControlLaws, machine_shown}
-use Rattle.ram_lists.specs.Mounts.{KeepsGiven, RepairsCopies, RepairsBothParts, RepairsChosen, EndsWithLists, EndsBare, WasStopped, WasOutOfMemory}
+use Rattle.ram_lists.specs.Mounts.{KeepsGiven, RepairsCopies, RepairsBothParts, RepairsChosen, EndsWithLists, EndsBare, WasStopped}
 use Rattle.ram_transfer.specs.Shown.{shown_without, shown_unformatted, shown_under}
 use Rattle.ram_transfer.proofs.Machines.{machine_stops}
 use Rattle.ram_volume.specs.Powers.{PowerSteps, StopsPower}
@@ -40,6 +41,19 @@ module _ {M : Type 0} (world : M → World) (reaches : M → M → Span → Type
 
   abbrev after : M → Option Lists → ℕ → Shown
   after new lists mark = record { shape = shape; medium = machine new; lists = lists; mark = mark; buffer = [] }
+
+  -- memory was refused, and nothing was done
+  pub not_begun : (off : M) → ¬ IsTrue (world off).power → MountLacksMemory (before off) (before off)
+  not_begun off is_off = record {
+    any = record { only = λ block other. refl; given = λ known lists given. given; unbuffered = refl };
+    off = is_off;
+    no_lists = refl;
+    no_mark = refl;
+    uses = 0;
+    few = omega arith;
+    reach = reach_none (turned_on (before off)).medium (laws.to_come off);
+    left = λ known block. inl refl;
+  }
 
   module _ (off on : M) (turned : takes off on PowerOn) (powers : world on ≡ record (world off) { power = true }) where
     abbrev old : Shown
@@ -148,27 +162,3 @@ module _ {M : Type 0} (world : M → World) (reaches : M → M → Span → Type
     stopped new stops.Off out is was = absurd is
     stopped new stops.Fault out is was = subst (λ (o : PowerOut). PowerCause old (before new) o × PowerSteps old (before new) o) (sym is)
         (was_stopped new stops.Fault was, λ s stood. power_step old (before new) refl (off_right shape (machine new) (fell new stops.Fault was)) s stood outs.Fault (was_stopped new stops.Fault was))
-
-    pub lacks_memory : (mid new : M) → WasOutOfMemory world reaches shape on mid → takes mid new PowerOff → world new ≡ record (world mid) { power = false }
-        → MountLacksMemory old (shown_without shape (machine new))
-    lacks_memory mid new was turns_off power = record {
-      any = any new None 0 (subst (λ (w : World). KeepsGiven shape (world on) w) (sym power)
-          (record { as_known = was.keeps.as_known; only = was.keeps.only; dds = was.keeps.dds; sdl = was.keeps.sdl; given = was.keeps.given }));
-      off = λ on. (let p : true ≡ false = sym on ∙ ap (λ (w : World). w.power) power in cc);
-      no_lists = refl;
-      no_mark = refl;
-      uses = was.uses;
-      few = was.few;
-      reach = subst (λ (m : Machine). Reach (turned_on old).medium m was.uses)
-          (ap (λ (p : Bool). record (machine mid) { world = record (world mid) { power = p } }) was.continues.is_on
-          ∙ sym (ap (λ (m : Machine). record m { world = record m.world { power = true } }) (laws.exactly mid new PowerOff turns_off)))
-          (reached mid was.uses was.continues.reach);
-      left = λ known. subst (λ (w : World). LosesListCells shape w.cells (world new).cells) powers
-          (subst (λ (w : World). LosesListCells shape (world on).cells w.cells) (sym power) was.loses);
-    }
-
-    pub memory_steps : (mid new : M) → WasOutOfMemory world reaches shape on mid → takes mid new PowerOff → world new ≡ record (world mid) { power = false }
-        → PowerSteps old (shown_without shape (machine new)) outs.NoMemory
-    memory_steps mid new was turns_off power s stood =
-        let cause = lacks_memory mid new was turns_off power in
-        power_step old (shown_without shape (machine new)) refl (off_right shape (machine new) cause.off) s stood outs.NoMemory cause

@@ -105,11 +105,7 @@ pub fn power_state<M: MediumControl>(state: State<M>, alloc: Global) -> (State<M
 }
 
 /// Formats the disc, where the power is on.
-pub fn format_state<M: MediumControl>(
-    state: State<M>,
-    alloc: Global,
-    kind: Kind,
-) -> (State<M>, FormatOut)
+pub fn format_state<M: MediumControl>(state: State<M>, kind: Kind) -> (State<M>, FormatOut)
     ensures cause { FormatCause (shown_state state) (shown_state result.0) kind result.1 }
     ensures step { FormatSteps (shown_state state) (shown_state result.0) kind result.1 }
     ensures some { StandsForSome (shown_state state) → StandsForSome (shown_state result.0) }
@@ -119,8 +115,8 @@ pub fn format_state<M: MediumControl>(
 {
     match state {
         State::Off(off) => (State::Off(off), FormatOut::Off),
-        State::Ready(ready) => ready.format(alloc, kind),
-        State::NotFormatted(bare) => bare.format(alloc, kind),
+        State::Ready(ready) => ready.format(kind),
+        State::NotFormatted(bare) => bare.format(kind),
     }
 }
 

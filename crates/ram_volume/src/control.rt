@@ -69,10 +69,10 @@ impl<M: MediumControl> NotFormatted<M> {
                     medium,
                     geometry,
                     mark: _,
-                    spare_list,
+                    lists,
                     workspace,
                 } = self;
-                drop(spare_list);
+                drop(lists);
                 drop(workspace);
                 (State::Off(PoweredOff { medium, geometry }), FailEnd::Failed)
             }

@@ -51,12 +51,12 @@ impl<M: MediumControl> Ready<M> {
             &mut medium,
             &geometry,
             &mut lists,
-            &mut work.draft,
+            &mut work.draft.sdl,
             capacity,
             &mut work.scratch,
         ) {
             Ok(Grown::Good) => {
-                let ready = Ready::formatted(medium, geometry, lists, workspace);
+                let ready = Ready::laid_out(medium, geometry, lists, workspace);
                 (State::Ready(ready), ExpandOut::Good)
             }
             Ok(Grown::Refused) => {

@@ -1,7 +1,6 @@
 //! Formats of the disc in a drive whose power is on, of either kind.
 
 ghost use Rattle.std.specs.Prelude.{◌≡◌, ◌+◌, ◌≤◌, IsTrue, Some, [], length};
-ghost use Rattle.model_geometry.specs.declared.TheConstants.{SDL_LIMIT};
 ghost use Rattle.model_geometry.specs.Geometry.{total};
 ghost use Rattle.model_lists.specs.Values.{IsLawfulDds, IsLawfulSdl};
 ghost use Rattle.model_copies.specs.Parts.{AreMarkedWithin};
@@ -22,15 +21,12 @@ ghost use Rattle.ram_volume.specs.Formats.{FormatSteps};
 
 use crate::states::{NotFormatted, Ready, State};
 use crate::stops::stopped;
-use ram_dds::PdlEntry;
-use ram_format::{FormatHalt, format_lists, kept_entries, repair_lists};
+use ram_format::{FormatHalt, format_lists, repair_lists};
 use ram_lists::Lists;
 use ram_medium::MediumControl;
-use ram_sdl::Sdl;
 use ram_sectors::{FormatOut, Kind};
 use ram_transfer::Workspace;
 use ram_zones::Geometry;
-use std::alloc::Global;
 
 impl<M: MediumControl> NotFormatted<M> {
     /// A drive of these parts, whose disc is not formatted. It buffers nothing.
@@ -38,14 +34,13 @@ impl<M: MediumControl> NotFormatted<M> {
         medium: M,
         geometry: Geometry,
         mark: u32,
-        spare_list: Sdl,
+        lists: Lists,
         mut workspace: Workspace,
     ) -> NotFormatted<M>
         requires size { M.block_count medium ≡ total geometry }
         requires on { IsTrue (M.world medium).power }
         requires bare { GivesNone geometry (M.world medium).cells }
         requires marked { AreMarkedWithin geometry (M.world medium).cells mark }
-        requires spare_roomy { SDL_LIMIT ≤ spare_list.entries.room }
         requires layout_roomy { geometry.zones + geometry.psa ≤ workspace.layout.room }
         requires one_each { length workspace.cursors ≡ 1 }
         ensures shown { shown_bare result ≡ shown_unformatted geometry
@@ -57,27 +52,27 @@ impl<M: MediumControl> NotFormatted<M> {
             medium,
             geometry,
             mark,
-            spare_list,
+            lists,
             workspace,
         }
     }
 
     /// Formats the disc. As it is not formatted, a rewriting format of it is a full one, and nothing is kept as defective:
     /// each data block is certified, and the dead ones are slipped, as many as there are primary spares. The answers are
-    /// those of [`FormatOut`]; with a cut or a fault the power is off, and without memory nothing was done. (After
-    /// ECMA-330; the counters of the lists are this project's own.)
-    pub fn format(self, alloc: Global, kind: Kind) -> (State<M>, FormatOut)
+    /// those of [`FormatOut`]; with a cut or a fault the power is off. It takes no memory. (After ECMA-330; the counters of the
+    /// lists are this project's own.)
+    pub fn format(self, kind: Kind) -> (State<M>, FormatOut)
         ensures cause { FormatCause (shown_bare self) (shown_state result.0) kind result.1 }
         ensures step { FormatSteps (shown_bare self) (shown_state result.0) kind result.1 }
         ensures completes { FormatCompletes (shown_bare self) (shown_state result.0) kind result.1 }
         ensures same_shape { (shown_state result.0).shape ≡ self.geometry }
         ensures happened { Happened M.takes self.medium (medium_under result.0) }
     {
-        self.format_anew(alloc, kind)
+        self.format_anew(kind)
     }
 
     /// A full format, of whatever kind it was to be.
-    fn format_anew(self, alloc: Global, kind: Kind) -> (State<M>, FormatOut)
+    fn format_anew(self, kind: Kind) -> (State<M>, FormatOut)
         ensures cause { FormatCause (shown_bare self) (shown_state result.0) kind result.1 }
         ensures step { FormatSteps (shown_bare self) (shown_state result.0) kind result.1 }
         ensures same_shape { (shown_state result.0).shape ≡ self.geometry }
@@ -88,35 +83,43 @@ impl<M: MediumControl> NotFormatted<M> {
             mut medium,
             geometry,
             mark,
-            spare_list: list,
+            mut lists,
             mut workspace,
         } = self;
-        let scratch = &mut workspace.scratch;
-        match format_lists(alloc, &mut medium, &geometry, &[], true, mark, scratch) {
-            Ok(made) => {
-                drop(list);
-                let ready = Ready::formatted(medium, geometry, made, workspace);
+        let work = &mut workspace;
+        work.block.fill(0);
+        match format_lists(
+            &mut medium,
+            &geometry,
+            &[],
+            true,
+            mark,
+            &work.block,
+            &mut work.format,
+            &mut lists,
+            &mut work.scratch,
+        ) {
+            Ok(()) => {
+                let ready = Ready::laid_out(medium, geometry, lists, workspace);
                 (State::Ready(ready), FormatOut::Good)
             }
             Err(FormatHalt::TooMany { found, mark }) => {
-                let bare = Self::over(medium, geometry, mark, list, workspace);
+                let bare = Self::over(medium, geometry, mark, lists, workspace);
                 (State::NotFormatted(bare), FormatOut::TooMany { found })
             }
             Err(FormatHalt::NoRoom { mark: _ }) => {
-                let bare = Self::over(medium, geometry, mark, list, workspace);
+                let bare = Self::over(medium, geometry, mark, lists, workspace);
                 (
                     State::NotFormatted(bare),
                     FormatOut::NoUpdate { counter: mark },
                 )
             }
             Err(FormatHalt::NoCopy { counter, mark }) => {
-                let bare = Self::over(medium, geometry, mark, list, workspace);
+                let bare = Self::over(medium, geometry, mark, lists, workspace);
                 (State::NotFormatted(bare), FormatOut::NoUpdate { counter })
             }
-            Err(FormatHalt::Stopped { stop }) => stopped(medium, geometry, (list, workspace), stop),
-            Err(FormatHalt::NoMemory) => {
-                let bare = Self::over(medium, geometry, mark, list, workspace);
-                (State::NotFormatted(bare), FormatOut::NoMemory)
+            Err(FormatHalt::Stopped { stop }) => {
+                stopped(medium, geometry, (lists, workspace), stop)
             }
         }
     }
@@ -131,7 +134,6 @@ impl<M: MediumControl> Ready<M> {
         requires settled { AreSettled geometry (M.world medium).cells (lists_of lists) }
         requires lawful_dds { IsLawfulDds (dds_of lists.dds) }
         requires lawful_sdl { IsLawfulSdl (sdl_of lists.sdl) }
-        requires roomy { SDL_LIMIT ≤ lists.sdl.entries.room }
         requires laid_out { IsLaidOut geometry (lists_of lists) workspace.layout workspace.cursors }
         ensures shown { shown_ready result ≡ shown_under geometry
             (machine_shown M.world M.arms M.armed_cut medium) (lists_of lists) workspace.buffer }
@@ -158,7 +160,6 @@ impl<M: MediumControl> Ready<M> {
         requires settled { AreSettled geometry (M.world medium).cells (lists_of lists) }
         requires lawful_dds { IsLawfulDds (dds_of lists.dds) }
         requires lawful_sdl { IsLawfulSdl (sdl_of lists.sdl) }
-        requires roomy { SDL_LIMIT ≤ lists.sdl.entries.room }
         requires laid_out { IsLaidOut geometry (lists_of lists) workspace.layout workspace.cursors }
         ensures shown { shown_ready result ≡ shown_under geometry
             (machine_shown M.world M.arms M.armed_cut medium) (lists_of lists) [] }
@@ -168,8 +169,8 @@ impl<M: MediumControl> Ready<M> {
         Self::of_parts(medium, geometry, lists, workspace)
     }
 
-    /// A drive of a disc with these new lists, by which its layout is made anew. It buffers nothing.
-    pub(crate) fn formatted(
+    /// A drive of a disc with these lists, by which its layout is made anew. It buffers nothing.
+    pub(crate) fn laid_out(
         medium: M,
         geometry: Geometry,
         lists: Lists,
@@ -181,7 +182,6 @@ impl<M: MediumControl> Ready<M> {
         requires settled { AreSettled geometry (M.world medium).cells (lists_of lists) }
         requires lawful_dds { IsLawfulDds (dds_of lists.dds) }
         requires lawful_sdl { IsLawfulSdl (sdl_of lists.sdl) }
-        requires roomy { SDL_LIMIT ≤ lists.sdl.entries.room }
         requires layout_roomy { geometry.zones + geometry.psa ≤ workspace.layout.room }
         requires one_each { length workspace.cursors ≡ 1 }
         ensures shown { shown_ready result ≡ shown_under geometry
@@ -193,10 +193,10 @@ impl<M: MediumControl> Ready<M> {
     }
 
     /// Formats the disc. A full format certifies the data blocks that it does not keep as defective, leaves zeros in the
-    /// sectors, and makes new lists. A rewriting one writes the copies of the lists in use again, and keeps the sectors;
-    /// it takes no memory. With a cut or a fault the power is off; a full format that found too many defective blocks, or
+    /// sectors, and makes new lists. A rewriting one writes the copies of the lists in use again, and keeps the sectors.
+    /// Neither takes memory. With a cut or a fault the power is off; a full format that found too many defective blocks, or
     /// lost all copies of a list, leaves the disc not formatted. (After the two formats of ECMA-330.)
-    pub fn format(self, alloc: Global, kind: Kind) -> (State<M>, FormatOut)
+    pub fn format(self, kind: Kind) -> (State<M>, FormatOut)
         ensures cause { FormatCause (shown_ready self) (shown_state result.0) kind result.1 }
         ensures step { FormatSteps (shown_ready self) (shown_state result.0) kind result.1 }
         ensures completes { FormatCompletes (shown_ready self) (shown_state result.0) kind result.1 }
@@ -204,32 +204,37 @@ impl<M: MediumControl> Ready<M> {
         ensures happened { Happened M.takes self.medium (medium_under result.0) }
     {
         match kind {
-            Kind::Full { drop_sdl } => self.format_fully(alloc, drop_sdl),
+            Kind::Full { drop_sdl } => self.format_fully(drop_sdl),
             Kind::Rewrite => self.rewrite_lists(),
         }
     }
 
-    /// A full format. The entries that it keeps take memory, beside that of the format.
-    fn format_fully(self, alloc: Global, drop_sdl: bool) -> (State<M>, FormatOut)
+    /// A full format.
+    fn format_fully(self, drop_sdl: bool) -> (State<M>, FormatOut)
         ensures cause { FormatCause (shown_ready self) (shown_state result.0) (kinds.Full drop_sdl) result.1 }
         ensures step { FormatSteps (shown_ready self) (shown_state result.0) (kinds.Full drop_sdl) result.1 }
         ensures same_shape { (shown_state result.0).shape ≡ self.geometry }
         ensures happened { Happened M.takes self.medium (medium_under result.0) }
     {
-        let Ok(kept) = kept_entries(alloc, &self.lists, drop_sdl) else {
-            return (State::Ready(self), FormatOut::NoMemory);
+        let Ready {
+            medium,
+            geometry,
+            lists,
+            mut workspace,
+        } = self;
+        workspace.keep_entries(&lists, drop_sdl);
+        let ready = Ready {
+            medium,
+            geometry,
+            lists,
+            workspace,
         };
-        self.format_keeping(alloc, drop_sdl, &kept)
+        ready.format_keeping(drop_sdl)
     }
 
-    /// A full format that keeps these entries.
-    fn format_keeping(
-        self,
-        alloc: Global,
-        drop_sdl: bool,
-        kept: &[PdlEntry],
-    ) -> (State<M>, FormatOut)
-        requires { AreAllKept (Some (lists_of self.lists)) drop_sdl kept.now }
+    /// A full format that keeps the entries in their room.
+    fn format_keeping(self, drop_sdl: bool) -> (State<M>, FormatOut)
+        requires { AreAllKept (Some (lists_of self.lists)) drop_sdl self.workspace.kept.items }
         ensures cause { FormatCause (shown_ready self) (shown_state result.0) (kinds.Full drop_sdl) result.1 }
         ensures step { FormatSteps (shown_ready self) (shown_state result.0) (kinds.Full drop_sdl) result.1 }
         ensures same_shape { (shown_state result.0).shape ≡ self.geometry }
@@ -239,20 +244,29 @@ impl<M: MediumControl> Ready<M> {
         let Ready {
             mut medium,
             geometry,
-            lists,
+            mut lists,
             mut workspace,
         } = self;
         let mark = lists.dds.counter;
-        let scratch = &mut workspace.scratch;
-        match format_lists(alloc, &mut medium, &geometry, kept, false, mark, scratch) {
-            Ok(made) => {
-                drop(lists);
-                let ready = Ready::formatted(medium, geometry, made, workspace);
+        let work = &mut workspace;
+        work.block.fill(0);
+        match format_lists(
+            &mut medium,
+            &geometry,
+            &work.kept,
+            false,
+            mark,
+            &work.block,
+            &mut work.format,
+            &mut lists,
+            &mut work.scratch,
+        ) {
+            Ok(()) => {
+                let ready = Ready::laid_out(medium, geometry, lists, workspace);
                 (State::Ready(ready), FormatOut::Good)
             }
             Err(FormatHalt::TooMany { found, mark }) => {
-                drop(lists.dds);
-                let bare = NotFormatted::over(medium, geometry, mark, lists.sdl, workspace);
+                let bare = NotFormatted::over(medium, geometry, mark, lists, workspace);
                 (State::NotFormatted(bare), FormatOut::TooMany { found })
             }
             Err(FormatHalt::NoRoom { mark }) => {
@@ -260,16 +274,11 @@ impl<M: MediumControl> Ready<M> {
                 (State::Ready(ready), FormatOut::NoUpdate { counter: mark })
             }
             Err(FormatHalt::NoCopy { counter, mark }) => {
-                drop(lists.dds);
-                let bare = NotFormatted::over(medium, geometry, mark, lists.sdl, workspace);
+                let bare = NotFormatted::over(medium, geometry, mark, lists, workspace);
                 (State::NotFormatted(bare), FormatOut::NoUpdate { counter })
             }
             Err(FormatHalt::Stopped { stop }) => {
                 stopped(medium, geometry, (lists, workspace), stop)
-            }
-            Err(FormatHalt::NoMemory) => {
-                let ready = Self::of_parts(medium, geometry, lists, workspace);
-                (State::Ready(ready), FormatOut::NoMemory)
             }
         }
     }

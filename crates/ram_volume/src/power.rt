@@ -1,7 +1,6 @@
 //! The power goes on, and off.
 
 ghost use Rattle.std.specs.Prelude.{◌≡◌, ◌+◌, ◌≤◌, IsTrue, [], length};
-ghost use Rattle.model_geometry.specs.declared.TheConstants.{SDL_LIMIT};
 ghost use Rattle.model_geometry.specs.Geometry.{total};
 ghost use Rattle.model_lists.specs.Values.{IsLawfulDds, IsLawfulSdl};
 ghost use Rattle.model_stops.specs.declared.Stop.TheVariants as stops;
@@ -21,17 +20,15 @@ ghost use Rattle.ram_volume.specs.Shown.{shown_off, shown_bare, shown_ready};
 ghost use Rattle.ram_volume.specs.Powers.{turned_off, shown_after, medium_after, power_out, PowerSteps, StopsPower};
 
 use crate::states::{NotFormatted, PowerOn, PoweredOff, Ready};
-use ram_copies::Halt;
-use ram_lists::{Found, Lists, mount_lists};
+use ram_lists::{Found, mount_lists};
 use ram_medium::{MediumControl, Stop};
-use ram_sdl::Sdl;
-use ram_transfer::{Memory, Workspace};
+use ram_transfer::Memory;
 use ram_zones::Geometry;
 use std::alloc::Global;
 
 impl<M: MediumControl> PoweredOff<M> {
-    /// Turns the power on, and mounts the disc. All memory that the drive works with is taken before. The lists that a
-    /// mount reads take memory too: where that is refused, the power is turned off again.
+    /// Turns the power on, and mounts the disc. All memory that the drive works with until the power goes off is taken before;
+    /// where that is refused, the power stays off.
     pub fn power_on(self, alloc: Global) -> PowerOn<M>
         ensures cause { PowerCause (shown_off self) (shown_after result) (power_out result) }
         ensures step { PowerSteps (shown_off self) (shown_after result) (power_out result) }
@@ -41,11 +38,11 @@ impl<M: MediumControl> PoweredOff<M> {
         let Ok(memory) = Memory::new(alloc, &self.geometry) else {
             return PowerOn::NoMemory(self);
         };
-        self.mount(alloc, memory)
+        self.mount(memory)
     }
 
     /// Turns the power on, and mounts the disc in a drive that works with this memory.
-    fn mount(self, alloc: Global, memory: Memory) -> PowerOn<M>
+    fn mount(self, memory: Memory) -> PowerOn<M>
         requires { memory.geometry ≡ self.geometry }
         ensures cause { PowerCause (shown_off self) (shown_after result) (power_out result) }
         ensures step { PowerSteps (shown_off self) (shown_after result) (power_out result) }
@@ -58,30 +55,29 @@ impl<M: MediumControl> PoweredOff<M> {
         } = self;
         let Memory {
             geometry: _,
-            list,
+            mut lists,
             mut workspace,
         } = memory;
         medium.power_on();
-        match mount_lists(alloc, &mut medium, &geometry, &mut workspace.scratch) {
-            Ok(Found::Lists { lists }) => {
-                PowerOn::Ready(Ready::mounted(medium, geometry, lists, list, workspace))
+        let work = &mut workspace;
+        match mount_lists(
+            &mut medium,
+            &geometry,
+            &mut lists,
+            &mut work.draft,
+            &mut work.scratch,
+        ) {
+            Ok(Found::Lists) => {
+                PowerOn::Ready(Ready::laid_out(medium, geometry, lists, workspace))
             }
             Ok(Found::Bare { mark }) => PowerOn::NotFormatted(NotFormatted {
                 medium,
                 geometry,
                 mark,
-                spare_list: list,
+                lists,
                 workspace,
             }),
-            Err(Halt::Stopped { stop }) => {
-                stopped_mount(medium, geometry, (list, workspace), stop)
-            }
-            Err(Halt::NoMemory) => {
-                drop(list);
-                drop(workspace);
-                medium.power_off();
-                PowerOn::NoMemory(PoweredOff { medium, geometry })
-            }
+            Err(stop) => stopped_mount(medium, geometry, (lists, workspace), stop),
         }
     }
 }
@@ -110,43 +106,6 @@ fn stopped_mount<M: MediumControl, K: Drop>(
 }
 
 impl<M: MediumControl> Ready<M> {
-    /// The drive of a disc whose lists a mount found. The secondary list in use is the one with room for all entries
-    /// that it may come to have. Nothing is buffered.
-    fn mounted(
-        medium: M,
-        geometry: Geometry,
-        found: Lists,
-        mut list: Sdl,
-        mut workspace: Workspace,
-    ) -> Ready<M>
-        requires size { M.block_count medium ≡ total geometry }
-        requires on { IsTrue (M.world medium).power }
-        requires valid { AreValid geometry (lists_of found) }
-        requires settled { AreSettled geometry (M.world medium).cells (lists_of found) }
-        requires lawful_dds { IsLawfulDds (dds_of found.dds) }
-        requires lawful_sdl { IsLawfulSdl (sdl_of found.sdl) }
-        requires list_roomy { SDL_LIMIT ≤ list.entries.room }
-        requires layout_roomy { geometry.zones + geometry.psa ≤ workspace.layout.room }
-        requires one_each { length workspace.cursors ≡ 1 }
-        requires unbuffered { workspace.buffer ≡ [] }
-        ensures shown { shown_ready result ≡ shown_under geometry
-            (machine_shown M.world M.arms M.armed_cut medium) (lists_of found) [] }
-        ensures medium { result.medium ≡ medium }
-    {
-        list.copy_from(&found.sdl);
-        workspace.lay_out(&geometry, &found);
-        drop(found.sdl);
-        Ready {
-            medium,
-            geometry,
-            lists: Lists {
-                dds: found.dds,
-                sdl: list,
-            },
-            workspace,
-        }
-    }
-
     /// Turns the power off. The drive has the disc as its only candidate then.
     pub fn power_off(self) -> PoweredOff<M>
         ensures shows { shown_off result ≡ turned_off (shown_ready self) }
@@ -179,10 +138,10 @@ impl<M: MediumControl> NotFormatted<M> {
             mut medium,
             geometry,
             mark: _,
-            spare_list,
+            lists,
             workspace,
         } = self;
-        drop(spare_list);
+        drop(lists);
         drop(workspace);
         medium.power_off();
         PoweredOff { medium, geometry }

@@ -2,7 +2,6 @@
 
 ghost use Rattle.std.specs.Prelude.{◌≡◌, ◌+◌, ◌≤◌, IsTrue, [], length};
 ghost use Rattle.std.proofs.Props.{props};
-ghost use Rattle.model_geometry.specs.declared.TheConstants.{SDL_LIMIT};
 ghost use Rattle.model_geometry.specs.Geometry.{total};
 ghost use Rattle.model_lists.specs.Values.{IsLawfulDds, IsLawfulSdl};
 ghost use Rattle.model_copies.specs.Parts.{AreMarkedWithin};
@@ -19,7 +18,6 @@ ghost use Rattle.ram_volume.specs.OneProof.{lawful_dds-prop, laid_out-prop};
 use ram_bytes::{Block, SECTORS_PER_BLOCK};
 use ram_lists::Lists;
 use ram_medium::MediumControl;
-use ram_sdl::Sdl;
 use ram_transfer::Workspace;
 use ram_zones::Geometry;
 
@@ -33,7 +31,7 @@ pub struct PoweredOff<M: MediumControl> {
 }
 
 /// A drive with its power on and a formatted disc. Its lists are valid, and each of their copies is exactly its text, or
-/// dead. It has room for as many replaced blocks as a disc may have.
+/// dead.
 #[derive(Drop)]
 pub struct Ready<M: MediumControl> {
     pub(crate) medium: M,
@@ -47,7 +45,6 @@ pub struct Ready<M: MediumControl> {
     ghost settled: { AreSettled geometry (M.world medium).cells (lists_of lists) } by { settled-prop _ _ _ },
     ghost lawful_dds: { IsLawfulDds (dds_of lists.dds) } by { lawful_dds-prop (dds_of lists.dds) },
     ghost lawful_sdl: { IsLawfulSdl (sdl_of lists.sdl) } by { Prim.hlevel props },
-    ghost roomy: { SDL_LIMIT ≤ lists.sdl.entries.room },
     ghost laid_out: { IsLaidOut geometry (lists_of lists) workspace.layout workspace.cursors } by { laid_out-prop _ _ _ _ },
 }
 
@@ -58,15 +55,14 @@ pub struct NotFormatted<M: MediumControl> {
     pub(crate) medium: M,
     pub(crate) geometry: Geometry,
     pub(crate) mark: u32,
-    /// Room for the secondary list that a formatted disc has in use.
-    pub(crate) spare_list: Sdl,
+    /// Room for the lists that a formatted disc has in use.
+    pub(crate) lists: Lists,
     pub(crate) workspace: Workspace,
     ghost size: { M.block_count medium ≡ total geometry },
     ghost on: { IsTrue (M.world medium).power } by { Prim.hlevel props },
     ghost bare: { GivesNone geometry (M.world medium).cells } by { Prim.hlevel props },
     ghost marked: { AreMarkedWithin geometry (M.world medium).cells mark } by { Prim.hlevel props },
     ghost unbuffered: { workspace.buffer ≡ [] } by { Prim.hlevel props },
-    ghost spare_roomy: { SDL_LIMIT ≤ spare_list.entries.room },
     ghost layout_roomy: { geometry.zones + geometry.psa ≤ workspace.layout.room },
     ghost one_each: { length workspace.cursors ≡ 1 },
 }
@@ -144,10 +140,10 @@ impl<M: MediumControl> NotFormatted<M> {
             medium,
             geometry: _,
             mark: _,
-            spare_list,
+            lists,
             workspace,
         } = self;
-        drop(spare_list);
+        drop(lists);
         drop(workspace);
         medium
     }

@@ -162,9 +162,9 @@ impl<M: MediumControl> Sectors for Volume<M> {
 }
 
 impl<M: MediumControl> Disc for Volume<M> {
-    fn format(&mut self, alloc: Global, kind: Kind) -> FormatOut {
+    fn format(&mut self, _alloc: Global, kind: Kind) -> FormatOut {
         let state = take_out(&mut self.state);
-        let (state, out) = format_state(state, alloc, kind);
+        let (state, out) = format_state(state, kind);
         put_in(&mut self.state, state);
         out
     }

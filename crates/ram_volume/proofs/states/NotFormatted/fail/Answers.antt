@@ -16,7 +16,6 @@ invariant_of-self g c =
       bare = bare_dies c.args.self.geometry (g.M.Medium.world c.args.self.medium).cells (g.M.Medium.world c.fail.new.self).cells dies c.args.self.bare;
       marked = marked_dies c.args.self.geometry (g.M.Medium.world c.args.self.medium).cells (g.M.Medium.world c.fail.new.self).cells c.args.self.mark dies c.args.self.marked;
       unbuffered = c.args.self.unbuffered;
-      spare_roomy = c.args.self.spare_roomy;
       layout_roomy = c.args.self.layout_roomy;
       one_each = c.args.self.one_each;
     }
@@ -30,7 +29,6 @@ invariant_of-self-in-NoBlock g c =
       bare = bare_dies c.args.self.geometry (g.M.Medium.world c.args.self.medium).cells (g.M.Medium.world c.fail.new.self).cells dies c.args.self.bare;
       marked = marked_dies c.args.self.geometry (g.M.Medium.world c.args.self.medium).cells (g.M.Medium.world c.fail.new.self).cells c.args.self.mark dies c.args.self.marked;
       unbuffered = c.args.self.unbuffered;
-      spare_roomy = c.args.self.spare_roomy;
       layout_roomy = c.args.self.layout_roomy;
       one_each = c.args.self.one_each;
     }

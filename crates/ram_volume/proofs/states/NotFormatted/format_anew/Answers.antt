@@ -3,6 +3,7 @@ use Rattle.model_lists.specs.declared.dds.PdlKind.TheVariants as pdl_kinds
 use Rattle.model_drive.specs.declared.FormatOut.TheVariants as outs
 use Rattle.model_drive.specs.Shown.{Shown}
 use Rattle.model_drive.specs.Formats.{FormatCause}
+use Rattle.model_sectors.specs.Discs.{zeros}
 use Rattle.model_volume.specs.Given.{GivesNone}
 use Rattle.ram_lists.specs.Lists.{lists_of}
 use Rattle.ram_volume.specs.Shown.{shown_bare}
@@ -13,13 +14,13 @@ use Rattle.std.proofs.Common.{inl, inr}
 use Rattle.ram_medium.proofs.Parts.{nothing_happened, part_happened, stop_happened}
 use Rattle.ram_volume.proofs.states.NotFormatted.format_anew.Goals as goal
 
+pub format_lists-requires-clause-zero : goal.format_lists-requires-clause-zero
+unfolding zeros
+format_lists-requires-clause-zero g c = c.fill.ensures
+
 pub over-bare-requires-in-Err-NoRoom-clause-bare : goal.over-bare-requires-in-Err-NoRoom-clause-bare
 over-bare-requires-in-Err-NoRoom-clause-bare g c =
     subst (λ m. GivesNone c.args.self.geometry (g.M.Medium.world m).cells) (sym (rw c.in-Err-NoRoom.field-0-is at c.in-Err-NoRoom.ensures.rule).nothing) c.args.self.bare
-
-pub over-bare-requires-in-Err-NoMemory-clause-bare : goal.over-bare-requires-in-Err-NoMemory-clause-bare
-over-bare-requires-in-Err-NoMemory-clause-bare g c =
-    subst (λ m. GivesNone c.args.self.geometry (g.M.Medium.world m).cells) (sym (rw c.in-Err-NoMemory.field-0-is at c.in-Err-NoMemory.ensures.rule).nothing) c.args.self.bare
 
 pub over-bare-requires-in-Err-NoCopy-clause-bare : goal.over-bare-requires-in-Err-NoCopy-clause-bare
 over-bare-requires-in-Err-NoCopy-clause-bare g c =
@@ -27,13 +28,13 @@ over-bare-requires-in-Err-NoCopy-clause-bare g c =
 
 pub returns-in-Ok-clause-cause : goal.returns-in-Ok-clause-cause
 returns-in-Ok-clause-cause g c =
-    subst (λ (x : Shown). FormatCause (shown_bare c.args.self) x c.args.kind outs.Good) (sym c.formatted-ready.ensures.shown)
-    (bare_good g.M.Medium.world g.M.Medium.reaches g.M.Medium.takes g.M.MediumControl.arms g.M.MediumControl.armed_cut g.met.M.MediumControl.control_laws c.args.self.geometry c.args.self.medium c.format_lists.new.medium c.args.self.mark c.args.kind (lists_of c.in-Ok.made) c.in-Ok.ensures.rule)
+    subst (λ (x : Shown). FormatCause (shown_bare c.args.self) x c.args.kind outs.Good) (sym c.laid_out-ready.ensures.shown)
+    (bare_good g.M.Medium.world g.M.Medium.reaches g.M.Medium.takes g.M.MediumControl.arms g.M.MediumControl.armed_cut g.met.M.MediumControl.control_laws c.args.self.geometry c.args.self.medium c.format_lists.new.medium c.args.self.mark c.args.kind (lists_of c.format_lists.new.lists) c.in-Ok.ensures.rule)
 
 pub returns-in-Ok-clause-step : goal.returns-in-Ok-clause-step
 returns-in-Ok-clause-step g c =
-    subst (λ (x : Shown). FormatSteps (shown_bare c.args.self) x c.args.kind outs.Good) (sym c.formatted-ready.ensures.shown)
-    (bare_good_steps g.M.Medium.world g.M.Medium.reaches g.M.Medium.takes g.M.MediumControl.arms g.M.MediumControl.armed_cut g.met.M.MediumControl.control_laws c.args.self.geometry c.args.self.medium c.format_lists.new.medium c.args.self.mark c.args.kind (lists_of c.in-Ok.made) c.in-Ok.ensures.rule)
+    subst (λ (x : Shown). FormatSteps (shown_bare c.args.self) x c.args.kind outs.Good) (sym c.laid_out-ready.ensures.shown)
+    (bare_good_steps g.M.Medium.world g.M.Medium.reaches g.M.Medium.takes g.M.MediumControl.arms g.M.MediumControl.armed_cut g.met.M.MediumControl.control_laws c.args.self.geometry c.args.self.medium c.format_lists.new.medium c.args.self.mark c.args.kind (lists_of c.format_lists.new.lists) c.in-Ok.ensures.rule)
 
 pub returns-in-Err-TooMany-clause-cause : goal.returns-in-Err-TooMany-clause-cause
 returns-in-Err-TooMany-clause-cause g c =
@@ -47,7 +48,7 @@ returns-in-Err-NoCopy-clause-cause g c =
 
 pub returns-in-Ok-clause-happened : goal.returns-in-Ok-clause-happened
 returns-in-Ok-clause-happened g c =
-    subst (Happened g.M.Medium.takes c.args.self.medium) (sym c.formatted-ready.ensures.medium)
+    subst (Happened g.M.Medium.takes c.args.self.medium) (sym c.laid_out-ready.ensures.medium)
     (part_happened g.M.Medium.world g.M.Medium.reaches g.M.Medium.takes g.met.M.Medium.happened c.args.self.medium c.format_lists.new.medium _ c.in-Ok.ensures.rule.goes.continues)
 
 pub returns-in-Err-TooMany-clause-happened : goal.returns-in-Err-TooMany-clause-happened
@@ -70,11 +71,6 @@ pub returns-in-Err-NoRoom-clause-happened : goal.returns-in-Err-NoRoom-clause-ha
 returns-in-Err-NoRoom-clause-happened g c =
     subst (Happened g.M.Medium.takes c.args.self.medium) (sym c.over-bare-in-Err-NoRoom.ensures.medium)
     (nothing_happened g.M.Medium.world g.M.Medium.reaches g.M.Medium.takes g.met.M.Medium.happened c.args.self.medium c.format_lists.new.medium (rw c.in-Err-NoRoom.field-0-is at c.in-Err-NoRoom.ensures.rule).nothing)
-
-pub returns-in-Err-NoMemory-clause-happened : goal.returns-in-Err-NoMemory-clause-happened
-returns-in-Err-NoMemory-clause-happened g c =
-    subst (Happened g.M.Medium.takes c.args.self.medium) (sym c.over-bare-in-Err-NoMemory.ensures.medium)
-    (nothing_happened g.M.Medium.world g.M.Medium.reaches g.M.Medium.takes g.met.M.Medium.happened c.args.self.medium c.format_lists.new.medium (rw c.in-Err-NoMemory.field-0-is at c.in-Err-NoMemory.ensures.rule).nothing)
 
 pub returns-in-Err-Stopped-clause-cause : goal.returns-in-Err-Stopped-clause-cause
 returns-in-Err-Stopped-clause-cause g c =

@@ -19,7 +19,6 @@ invariant_of-self g c =
       settled = settled_dies c.args.self.geometry (g.M.Medium.world c.args.self.medium).cells (g.M.Medium.world c.fail.new.self).cells dies (lists_of c.args.self.lists) c.args.self.settled;
       lawful_dds = c.args.self.lawful_dds;
       lawful_sdl = c.args.self.lawful_sdl;
-      roomy = c.args.self.roomy;
       laid_out = c.args.self.laid_out;
     }
 

@@ -12,7 +12,7 @@ use Rattle.ram_volume.proofs.states.Ready.grow_spares.Goals as goal
 
 pub returns-in-Ok-Good-clause-cause : goal.returns-in-Ok-Good-clause-cause
 returns-in-Ok-Good-clause-cause g c =
-    subst (λ (x : Shown). ExpandCause (shown_ready c.args.self) x c.args.capacity outs.Good) (sym c.formatted-ready.ensures.shown)
+    subst (λ (x : Shown). ExpandCause (shown_ready c.args.self) x c.args.capacity outs.Good) (sym c.laid_out-ready.ensures.shown)
     (good_cause g.M.Medium.world g.M.Medium.reaches g.M.Medium.takes g.M.MediumControl.arms g.M.MediumControl.armed_cut g.met.M.MediumControl.control_laws c.args.self.geometry (lists_of c.args.self.lists) c.args.self.workspace.buffer c.args.self.medium c.grow.new.medium c.args.capacity (lists_of c.grow.new.lists) (rw c.in-Ok-Good.field-0-is at c.in-Ok-Good.ensures.rule))
 
 pub returns-in-Ok-NoUpdate-clause-cause : goal.returns-in-Ok-NoUpdate-clause-cause
@@ -22,7 +22,7 @@ returns-in-Ok-NoUpdate-clause-cause g c =
 
 pub returns-in-Ok-Good-clause-happened : goal.returns-in-Ok-Good-clause-happened
 returns-in-Ok-Good-clause-happened g c =
-    subst (Happened g.M.Medium.takes c.args.self.medium) (sym c.formatted-ready.ensures.medium)
+    subst (Happened g.M.Medium.takes c.args.self.medium) (sym c.laid_out-ready.ensures.medium)
     (elim (rw c.in-Ok-Good.field-0-is at c.in-Ok-Good.ensures.rule) [
       | inl keeps ↦ part_happened g.M.Medium.world g.M.Medium.reaches g.M.Medium.takes g.met.M.Medium.happened c.args.self.medium c.grow.new.medium _ keeps.ended.continues
       | inr grown ↦ part_happened g.M.Medium.world g.M.Medium.reaches g.M.Medium.takes g.met.M.Medium.happened c.args.self.medium c.grow.new.medium _ grown.ended.continues

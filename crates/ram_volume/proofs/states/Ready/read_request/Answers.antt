@@ -16,7 +16,6 @@ invariant_of-ready g c = record {
       c.args.self.medium c.read_parts.new.medium c.args.self.workspace.buffer c.args.request.lba c.args.request.n c.args.self.on c.requires.inside c.read_parts.new.buffer c.read_parts.new.into c.in-Ok.met c.in-Ok.ensures.rule c.args.self.settled;
   lawful_dds = c.args.self.lawful_dds;
   lawful_sdl = c.args.self.lawful_sdl;
-  roomy = c.args.self.roomy;
   laid_out = c.args.self.laid_out;
 }
 

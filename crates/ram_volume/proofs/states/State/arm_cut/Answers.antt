@@ -18,7 +18,6 @@ invariant_of-bare g c =
       bare = subst (λ (w : World). GivesNone c.in-NotFormatted.bare.geometry w.cells) (sym same) c.in-NotFormatted.bare.bare;
       marked = subst (λ (w : World). AreMarkedWithin c.in-NotFormatted.bare.geometry w.cells c.in-NotFormatted.bare.mark) (sym same) c.in-NotFormatted.bare.marked;
       unbuffered = c.in-NotFormatted.bare.unbuffered;
-      spare_roomy = c.in-NotFormatted.bare.spare_roomy;
       layout_roomy = c.in-NotFormatted.bare.layout_roomy;
       one_each = c.in-NotFormatted.bare.one_each;
     }
