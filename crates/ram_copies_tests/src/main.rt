@@ -4,7 +4,6 @@
 
 mod copies;
 mod copies_reference;
-mod memory;
 mod parts;
 mod rows;
 

@@ -1,7 +1,6 @@
 //! A row: one of the loops over copies of a list.
 
 use crate::copies::{answer_all, answer_cuts, answer_dead, answer_stops};
-use crate::memory::answer_refused;
 use crate::parts;
 use ram_by_hand::Rows;
 use ram_lists_by_hand::Fresh;
@@ -24,7 +23,6 @@ fn answer_loop<M: Fresh>(alloc: Global, row: &str, answers: &mut String) -> Resu
         "stops of mixtures" => answer_stops::<M>(alloc, answers),
         "cuts of mixtures" => answer_cuts::<M>(alloc, answers),
         "dead copies" => answer_dead::<M>(alloc, answers),
-        "memory" => answer_refused::<M>(alloc, answers),
         "mixtures of parts" => parts::answer_mixtures::<M>(alloc, answers),
         "stops of parts" => parts::answer_stops::<M>(alloc, answers),
         "dead parts" => parts::answer_dead::<M>(alloc, answers),

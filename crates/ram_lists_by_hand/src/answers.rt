@@ -29,7 +29,6 @@ pub enum Answer {
     Cut,
     Off,
     Fault,
-    NoMemory,
     /// The medium is not that of the small disc.
     NoDisc,
     /// What was to be written is the text of no list.
@@ -44,7 +43,6 @@ pub enum Found {
     Cut,
     Off,
     Fault,
-    NoMemory,
 }
 
 impl From<Updated> for Answer {
@@ -67,7 +65,6 @@ impl From<Found> for Answer {
             Found::Cut => Answer::Cut,
             Found::Off => Answer::Off,
             Found::Fault => Answer::Fault,
-            Found::NoMemory => Answer::NoMemory,
         }
     }
 }

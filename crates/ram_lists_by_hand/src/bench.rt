@@ -2,8 +2,11 @@
 
 use ram_by_hand::Taken;
 use ram_bytes::Block;
-use ram_copies::Scratch;
+use ram_copies::{ListBlock, Scratch};
+use ram_dds::DdsPdl;
+use ram_lists::Lists;
 use ram_medium::{MediumControl, MemMedium, ReadEnd};
+use ram_sdl::Sdl;
 use ram_zones::Geometry;
 use std::alloc::{AllocError, Global};
 
@@ -34,10 +37,32 @@ impl Fresh for MemMedium {
     }
 }
 
+/// A list that can be made without entries.
+pub trait Roomy: ListBlock {
+    /// A list without entries, with the room for those of any other.
+    fn roomy(alloc: Global) -> Result<Self, AllocError>;
+}
+
+impl Roomy for DdsPdl {
+    fn roomy(alloc: Global) -> Result<DdsPdl, AllocError> {
+        DdsPdl::new(alloc)
+    }
+}
+
+impl Roomy for Sdl {
+    fn roomy(alloc: Global) -> Result<Sdl, AllocError> {
+        Sdl::new(alloc)
+    }
+}
+
 /// A disc of 41 blocks: one zone of scale 1, with four primary spares.
 #[derive(Drop)]
 pub struct Bench<M> {
     pub taken: Taken<M>,
+    /// The lists that were mounted last.
+    pub lists: Lists,
+    /// Room for the lists of other copies.
+    pub other: Lists,
     pub scratch: Scratch,
 }
 
@@ -50,6 +75,8 @@ pub fn blank<M: Fresh>(alloc: Global, failing: Vec<u64>) -> Result<Option<Bench<
     medium.power_on();
     Ok(Some(Bench {
         taken: Taken { medium, geometry },
+        lists: Lists::new(alloc)?,
+        other: Lists::new(alloc)?,
         scratch: Scratch::new(alloc)?,
     }))
 }

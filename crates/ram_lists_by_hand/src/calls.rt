@@ -1,7 +1,7 @@
 //! The calls on the lists of a small disc, each with what it answered.
 
 use crate::answers::{Answer, Call, Found};
-use crate::bench::Bench;
+use crate::bench::{Bench, Roomy};
 use crate::texts::{Lists, Text, Texts};
 use ram_copies::{Accept, Chosen, ListBlock, choose, repair, update};
 use ram_dds::DdsPdl;
@@ -27,11 +27,11 @@ impl<T: ListBlock> Accept<T> for Below {
     }
 }
 
-/// The answer of a choice.
-fn picked<T: ListBlock>(chosen: Chosen<T>) -> Answer {
+/// The answer of a choice, whose list has this counter where it found one.
+fn picked(chosen: Chosen, counter: u32) -> Answer {
     match chosen {
-        Chosen::Found { value, area, mark } => Answer::Found {
-            counter: value.counter(),
+        Chosen::Found { area, mark } => Answer::Found {
+            counter,
             area,
             mark,
         },
@@ -39,41 +39,43 @@ fn picked<T: ListBlock>(chosen: Chosen<T>) -> Answer {
         Chosen::Cut => Answer::Cut,
         Chosen::Off => Answer::Off,
         Chosen::Fault => Answer::Fault,
-        Chosen::NoMemory => Answer::NoMemory,
     }
 }
 
-/// What was mounted.
-fn found_of(mounted: Mounted) -> Found {
+/// What was mounted, with the counters of both lists where they were found.
+fn found_of(mounted: Mounted, dds: u32, sdl: u32) -> Found {
     match mounted {
-        Mounted::Lists { lists } => Found::Lists(lists.dds.counter, lists.sdl.counter),
+        Mounted::Lists => Found::Lists(dds, sdl),
         Mounted::Bare { mark } => Found::Bare(mark),
         Mounted::Cut => Found::Cut,
         Mounted::Off => Found::Off,
         Mounted::Fault => Found::Fault,
-        Mounted::NoMemory => Found::NoMemory,
     }
 }
 
 impl<M: MediumControl> Bench<M> {
     /// Chooses among the copies with a lower counter.
-    pub fn choose<T: ListBlock>(&mut self, alloc: Global, most: u32) -> Answer {
+    pub fn choose<T: Roomy>(&mut self, alloc: Global, most: u32) -> Result<Answer, AllocError> {
         let taken = &mut self.taken;
         if taken.medium.blocks() != taken.geometry.total() {
-            return Answer::NoDisc;
+            return Ok(Answer::NoDisc);
         }
         let below = Below { most };
-        picked(choose::<T, M, Below>(
-            alloc,
+        let mut best = T::roomy(alloc)?;
+        let mut other = T::roomy(alloc)?;
+        let chosen = choose::<T, M, Below>(
             &mut taken.medium,
             &taken.geometry,
             &below,
+            &mut best,
+            &mut other,
             &mut self.scratch,
-        ))
+        );
+        Ok(picked(chosen, best.counter()))
     }
 
     /// Updates a list to the one with this text, or repairs its copies to it.
-    pub fn write<T: ListBlock>(
+    pub fn write<T: Roomy>(
         &mut self,
         alloc: Global,
         text: &Text,
@@ -83,9 +85,10 @@ impl<M: MediumControl> Bench<M> {
         if taken.medium.blocks() != taken.geometry.total() {
             return Ok(Answer::NoDisc);
         }
-        let Some(value) = T::decode(alloc, &text.first, text.second.as_ref())? else {
+        let mut value = T::roomy(alloc)?;
+        if !value.decode(&text.first, text.second.as_ref()) {
             return Ok(Answer::NoText);
-        };
+        }
         let (medium, geometry) = (&mut taken.medium, &taken.geometry);
         let updated = if repairs {
             repair::<T, M>(medium, geometry, &value, &mut self.scratch)
@@ -96,7 +99,7 @@ impl<M: MediumControl> Bench<M> {
     }
 
     /// What an update or a repair answers that writes one of these lists.
-    fn write_one<T: ListBlock>(
+    fn write_one<T: Roomy>(
         &mut self,
         alloc: Global,
         texts: &Texts,
@@ -110,17 +113,17 @@ impl<M: MediumControl> Bench<M> {
     }
 
     /// What a call answers on these lists.
-    fn answer_on<T: ListBlock>(
+    fn answer_on<T: Roomy>(
         &mut self,
         alloc: Global,
         texts: &Texts,
         call: Call,
     ) -> Result<Answer, AllocError> {
         match call {
-            Call::Choose { most } => Ok(self.choose::<T>(alloc, most)),
+            Call::Choose { most } => self.choose::<T>(alloc, most),
             Call::Update { counter } => self.write_one::<T>(alloc, texts, counter, false),
             Call::Repair { counter } => self.write_one::<T>(alloc, texts, counter, true),
-            Call::Mount => Ok(Answer::from(self.mount(alloc))),
+            Call::Mount => Ok(Answer::from(self.mount())),
         }
     }
 
@@ -138,11 +141,18 @@ impl<M: MediumControl> Bench<M> {
     }
 
     /// Mounts the disc.
-    pub fn mount(&mut self, alloc: Global) -> Found {
+    pub fn mount(&mut self) -> Found {
         let taken = &mut self.taken;
         if taken.medium.blocks() != taken.geometry.total() {
             return Found::Off;
         }
-        found_of(mount(alloc, &mut taken.medium, &taken.geometry, &mut self.scratch))
+        let mounted = mount(
+            &mut taken.medium,
+            &taken.geometry,
+            &mut self.lists,
+            &mut self.other,
+            &mut self.scratch,
+        );
+        found_of(mounted, self.lists.dds.counter, self.lists.sdl.counter)
     }
 }

@@ -1,8 +1,8 @@
 //! The greatest secondary list, on the greatest disc.
 
-use ram_dds::{DdsPdl, DdsState, PdlEntries};
+use ram_dds::{DdsPdl, DdsState};
 use ram_lists::is_valid_sdl;
-use ram_sdl::{Sdl, SdlEntries, SdlEntry, Version};
+use ram_sdl::{SDL_LIMIT, Sdl, SdlEntry};
 use ram_slip::is_valid_pdl;
 use ram_zones::Geometry;
 use std::alloc::{AllocError, Global};
@@ -16,39 +16,42 @@ fn data_block(geometry: &Geometry, n: u32) -> u32 {
     geometry.data_block(n).unwrap_or(0)
 }
 
+/// Puts an entry at the end, where there is room for one more.
+fn put_entry(sdl: &mut Sdl, entry: SdlEntry) {
+    if sdl.entries.len() < SDL_LIMIT as usize {
+        sdl.entries.push(entry);
+    }
+}
+
 /// A list in which each primary spare replaces a logical block, the last one by the spare of this number.
 fn full_list(alloc: Global, geometry: &Geometry, last: u32) -> Result<Sdl, AllocError> {
-    let mut entries = Vec::new(alloc);
+    let mut sdl = Sdl::new(alloc)?;
+    sdl.counter = 1;
+    sdl.dds_counter = 2;
     for k in 0..SPARES {
         let number = if k == SPARES - 1 {
             last
         } else {
             k * 7 % SPARES
         };
-        entries.push(SdlEntry {
-            defective: data_block(geometry, SPARES + k),
-            replacement: Some(data_block(geometry, number.min(SPARES))),
-        })?;
+        put_entry(
+            &mut sdl,
+            SdlEntry {
+                defective: data_block(geometry, SPARES + k),
+                replacement: Some(data_block(geometry, number.min(SPARES))),
+            },
+        );
     }
-    Ok(Sdl {
-        version: Version::One,
-        counter: 1,
-        dds_counter: 2,
-        ssa: 0,
-        entries: SdlEntries::from_vec(entries),
-    })
+    Ok(sdl)
 }
 
-/// Whether the list is valid under a structure without entries.
-fn is_valid(alloc: Global, geometry: &Geometry, sdl: &Sdl) -> bool {
-    let dds = DdsPdl {
-        version: Version::One,
-        counter: 2,
-        state: DdsState::Formatted,
-        psa: SPARES,
-        entries: PdlEntries::from_vec(Vec::new(alloc)),
-    };
-    is_valid_pdl(geometry, &dds) && is_valid_sdl(geometry, &dds, sdl)
+/// Whether the list is valid under a structure without entries, which is made in this room.
+fn is_valid(geometry: &Geometry, dds: &mut DdsPdl, sdl: &Sdl) -> bool {
+    dds.counter = 2;
+    dds.state = DdsState::Formatted;
+    dds.psa = SPARES;
+    dds.entries.clear();
+    is_valid_pdl(geometry, dds) && is_valid_sdl(geometry, dds, sdl)
 }
 
 /// The last entry has the only spare that is left, one that another has, no spare, or a logical block.
@@ -56,9 +59,10 @@ pub fn answer_greatest(alloc: Global, answers: &mut String) -> Result<(), AllocE
     let Ok(geometry) = Geometry::new(35, 100, SPARES) else {
         return answers.push_str("no such disc\n");
     };
+    let mut dds = DdsPdl::new(alloc)?;
     for last in [4_085, 4_084, 0, 4_092] {
         let sdl = full_list(alloc, &geometry, last)?;
-        let word = if is_valid(alloc, &geometry, &sdl) {
+        let word = if is_valid(&geometry, &mut dds, &sdl) {
             "valid"
         } else {
             "not valid"

@@ -129,7 +129,7 @@ fn mounts<M: Fresh>(
 ) -> Result<bool, AllocError> {
     let cut = wanted.uses.saturating_add(1);
     bench.taken.medium.arm_cut(cut, Fate::Old);
-    let found = bench.mount(alloc) == wanted.found && bench.is_stopped_next(alloc)?;
+    let found = bench.mount() == wanted.found && bench.is_stopped_next(alloc)?;
     bench.taken.medium.power_on();
     Ok(
         found
@@ -204,7 +204,7 @@ fn found_of_dead<M: Fresh>(alloc: Global, dds: u32, sdl: u32) -> Result<Found, A
     }
     bench.fail_some(DDS_BLOCKS, dds);
     bench.fail_some(SDL_BLOCKS, sdl);
-    Ok(bench.mount(alloc))
+    Ok(bench.mount())
 }
 
 /// A mount finds the lists while a copy of each can be read, whichever copies are dead.

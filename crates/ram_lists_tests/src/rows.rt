@@ -59,12 +59,8 @@ fn add_call<M: Fresh>(
 }
 
 /// Mounts the disc, and adds what it finds.
-fn add_mount<M: Fresh>(
-    alloc: Global,
-    bench: &mut Bench<M>,
-    answer: &mut String,
-) -> Result<(), AllocError> {
-    let found = bench.mount(alloc);
+fn add_mount<M: Fresh>(bench: &mut Bench<M>, answer: &mut String) -> Result<(), AllocError> {
+    let found = bench.mount();
     write!(answer, "{found:?}")
 }
 
@@ -104,7 +100,7 @@ fn make<M: Fresh + Controlled>(
         Step::Event(event) => answer_event(&mut bench.taken.medium, event, answer),
         Step::On => turn(bench, true, answer),
         Step::Off => turn(bench, false, answer),
-        Step::Mount => add_mount(alloc, bench, answer),
+        Step::Mount => add_mount(bench, answer),
         Step::Next => add_next(alloc, bench, answer),
         Step::Choose { list, most } => add_call(alloc, bench, list, Call::Choose { most }, answer),
         Step::Update { list, counter } => {

@@ -1,7 +1,7 @@
-//! The entries of both lists as vectors, and an entry that is put, changed and found.
+//! The entries of both lists in their room, and an entry that is put, changed and found.
 
 use ram_dds::{PdlEntries, PdlEntry, PdlKind};
-use ram_sdl::{SDL_LIMIT, Sdl, SdlEntries, SdlEntry, Version};
+use ram_sdl::{SDL_LIMIT, Sdl, SdlEntry};
 use std::alloc::{AllocError, Global};
 use std::fmt::Write;
 
@@ -22,14 +22,9 @@ const LOWER: SdlEntry = SdlEntry {
 
 /// A list with an entry that was changed, and one that was put before it. Adds what is found in between.
 fn changed(alloc: Global, answers: &mut String) -> Result<Sdl, AllocError> {
-    let mut sdl = Sdl {
-        version: Version::One,
-        counter: 1,
-        dds_counter: 2,
-        ssa: 0,
-        entries: SdlEntries::new(alloc),
-    };
-    sdl.reserve(SDL_LIMIT as usize)?;
+    let mut sdl = Sdl::new(alloc)?;
+    sdl.counter = 1;
+    sdl.dds_counter = 2;
     sdl.set(FIRST);
     writeln!(answers, "13: {:?}", sdl.find(13))?;
     sdl.set(CHANGED);
@@ -38,53 +33,49 @@ fn changed(alloc: Global, answers: &mut String) -> Result<Sdl, AllocError> {
     Ok(sdl)
 }
 
-/// A list without an entry and with room for two.
-fn empty(alloc: Global) -> Result<Sdl, AllocError> {
-    let mut sdl = Sdl {
-        version: Version::One,
-        counter: 7,
-        dds_counter: 8,
-        ssa: 9,
-        entries: SdlEntries::from_vec(Vec::with_capacity(alloc, 2)?),
-    };
-    sdl.entries.reserve(2)?;
+/// Another list, with one entry.
+fn other_list(alloc: Global) -> Result<Sdl, AllocError> {
+    let mut sdl = Sdl::new(alloc)?;
+    sdl.counter = 7;
+    sdl.dds_counter = 8;
+    sdl.ssa = 9;
+    sdl.entries.push(LOWER);
     Ok(sdl)
 }
 
 /// Adds the numbers of a list, and its entries.
-fn add_list(sdl: Sdl, answers: &mut String) -> Result<(), AllocError> {
-    let Sdl {
-        version: _,
-        counter,
-        dds_counter,
-        ssa,
-        entries,
-    } = sdl;
-    let entries = entries.into_vec();
+fn add_list(sdl: &Sdl, answers: &mut String) -> Result<(), AllocError> {
+    let (counter, dds_counter, ssa) = (sdl.counter, sdl.dds_counter, sdl.ssa);
+    let entries = sdl.entries.as_slice();
     writeln!(answers, "{counter} {dds_counter} {ssa}: {entries:?}")
 }
 
 /// Puts, changes and finds entries of a secondary list, and copies it into another.
 fn answer_sdl(alloc: Global, answers: &mut String) -> Result<(), AllocError> {
     let sdl = changed(alloc, answers)?;
-    let mut other = empty(alloc)?;
+    let mut other = other_list(alloc)?;
+    other.entries.clear();
     let (before, len) = (other.entries.is_empty(), sdl.entries.len());
     writeln!(answers, "empty {before}, {len} entries")?;
-    other.reserve(len)?;
-    other.copy_from(&sdl);
-    add_list(other, answers)
+    if len <= SDL_LIMIT as usize {
+        other.copy_from(&sdl);
+    }
+    add_list(&other, answers)
 }
 
-/// Makes entries of a primary list of a vector, and a vector of entries.
+/// Puts an entry into a primary list, and copies what is in one.
 fn answer_pdl(alloc: Global, answers: &mut String) -> Result<(), AllocError> {
     let entry = PdlEntry {
         kind: PdlKind::P,
         block: 9,
     };
-    let none = PdlEntries::from_vec(Vec::new(alloc));
-    let one = PdlEntries::from_vec(vec![in alloc; entry]?);
+    let none = PdlEntries::new(alloc)?;
+    let mut one = PdlEntries::new(alloc)?;
+    one.push(entry);
     let (empty, len) = (none.is_empty(), one.len());
-    let items = one.into_vec();
+    let mut other = PdlEntries::new(alloc)?;
+    other.copy_from(one.as_slice());
+    let items = other.as_slice();
     writeln!(answers, "empty {empty}, {len} entries: {items:?}")
 }
 

@@ -1,7 +1,7 @@
 //! Entries over a layout that no list has: two bytes each.
 
 use ram_by_hand::{byte_of, number_of};
-use ram_entries::{EntryLayout, entries_of, put_entries};
+use ram_entries::{EntryLayout, put_entries, read_entries};
 use std::alloc::{AllocError, Global};
 use std::fmt::Write;
 
@@ -62,9 +62,10 @@ fn add_marks(
     if bytes.len() / 2 < count {
         return answer.push_str("too few bytes");
     }
-    let Some(marks) = entries_of::<MarkLayout>(alloc, bytes, count)? else {
+    let mut marks = Vec::with_capacity(alloc, count)?;
+    if !read_entries::<MarkLayout>(&mut marks, bytes, count) {
         return answer.push_str("none");
-    };
+    }
     let mut again = vec![in alloc; 255; bytes.len()]?;
     put_entries::<MarkLayout>(&marks, &mut again);
     let same = again.as_slice() == bytes;

@@ -1,13 +1,16 @@
 //! A disc of a geometry with its lists: which block a logical block is, and what a block is.
 
 use ram_by_hand::{Entry, number_of};
-use ram_dds::{DdsPdl, DdsState, PdlEntries, PdlEntry, PdlKind};
+use ram_dds::{DdsPdl, DdsState, PdlEntry, PdlKind};
 use ram_layout::{Layout, SlipLayout};
-use ram_sdl::{Sdl, SdlEntries, SdlEntry, Version};
+use ram_sdl::{SDL_LIMIT, Sdl, SdlEntry};
 use ram_slip::{Place, is_valid_pdl, is_valid_ssa, place_of, spare_turn};
 use ram_zones::Geometry;
 use std::alloc::{AllocError, Global};
 use std::fmt::Write;
+
+/// The most blocks that a disc may have slipped.
+const MOST_SLIPPED: usize = 4_092;
 
 /// A geometry with both lists of a formatted disc, which need not be valid.
 #[derive(Drop)]
@@ -27,50 +30,60 @@ fn range_of(word: &str) -> Option<(u32, u32, u32)> {
     Some((number_of(first)?, number_of(last)?, number_of(step)?))
 }
 
-/// Adds the slipped blocks that a word means.
-fn push_slipped(items: &mut Vec<PdlEntry>, word: &str) -> Result<(), AllocError> {
+/// Slips a block, where there is room for one more.
+fn slip(dds: &mut DdsPdl, block: u32) {
+    if dds.entries.len() < MOST_SLIPPED {
+        dds.entries.push(PdlEntry {
+            kind: PdlKind::P,
+            block,
+        });
+    }
+}
+
+/// Slips the blocks that a word means.
+fn slip_all(dds: &mut DdsPdl, word: &str) {
     let (first, last, step) = range_of(word).unwrap_or((0, 0, 1));
     let step = step.max(1);
     for k in 0..(last.saturating_sub(first) / step).saturating_add(1) {
-        items.push(PdlEntry {
-            kind: PdlKind::P,
-            block: first.saturating_add(k.saturating_mul(step)),
-        })?;
+        slip(dds, first.saturating_add(k.saturating_mul(step)));
     }
-    Ok(())
 }
 
 /// The structure of a formatted disc with these slipped blocks.
 pub fn slipping(alloc: Global, psa: u32, blocks: &[&str]) -> Result<DdsPdl, AllocError> {
-    let mut items = Vec::new(alloc);
+    let mut dds = DdsPdl::new(alloc)?;
+    dds.counter = 2;
+    dds.state = DdsState::Formatted;
+    dds.psa = psa;
     for word in blocks {
-        push_slipped(&mut items, word)?;
+        slip_all(&mut dds, word);
     }
-    Ok(DdsPdl {
-        version: Version::One,
-        counter: 2,
-        state: DdsState::Formatted,
-        psa,
-        entries: PdlEntries::from_vec(items),
-    })
+    Ok(dds)
+}
+
+/// Puts an entry at the end, where there is room for one more.
+fn put_entry(sdl: &mut Sdl, entry: SdlEntry) {
+    if sdl.entries.len() < SDL_LIMIT as usize {
+        sdl.entries.push(entry);
+    }
 }
 
 /// The secondary list with so many supplementary spares and these entries.
 pub fn replacing(alloc: Global, ssa: u32, entries: &[Entry]) -> Result<Sdl, AllocError> {
-    let mut items = Vec::new(alloc);
+    let mut sdl = Sdl::new(alloc)?;
+    sdl.counter = 1;
+    sdl.dds_counter = 2;
+    sdl.ssa = ssa;
     for entry in entries {
-        items.push(SdlEntry {
-            defective: entry.block,
-            replacement: entry.replacement,
-        })?;
+        put_entry(
+            &mut sdl,
+            SdlEntry {
+                defective: entry.block,
+                replacement: entry.replacement,
+            },
+        );
     }
-    Ok(Sdl {
-        version: Version::One,
-        counter: 1,
-        dds_counter: 2,
-        ssa,
-        entries: SdlEntries::from_vec(items),
-    })
+    Ok(sdl)
 }
 
 /// The layout of a disc with so many supplementary spares, where its structure and that number are valid.

@@ -54,7 +54,7 @@ fn is_spare(layout: &SlipLayout, block: u32) -> bool
 
 /// The next free spare of a layout, or the block 0 where it may not be asked for.
 fn next_in(layout: &SlipLayout, cursors: &Cursors, sdl: &Sdl, after: Option<u32>) -> Option<u32>
-    requires rise { IsStrictlyIncreasing (defectives sdl.now.entries.list) }
+    requires rise { IsStrictlyIncreasing (defectives sdl.now.entries) }
     requires first { cursors.now ≡ replicate 1 0 }
 {
     let Some(spare) = after else {
@@ -86,7 +86,7 @@ pub fn next(
 
 /// The first free spare of a layout from a turn on.
 fn free_in(layout: &SlipLayout, sdl: &Sdl, first: u32) -> Option<FreeSpare>
-    requires rise { IsStrictlyIncreasing (defectives sdl.now.entries.list) }
+    requires rise { IsStrictlyIncreasing (defectives sdl.now.entries) }
 {
     if layout.pools() == 1 {
         return free_from(layout, sdl, 0, first);
@@ -96,7 +96,7 @@ fn free_in(layout: &SlipLayout, sdl: &Sdl, first: u32) -> Option<FreeSpare>
 
 /// The home of a logical block, where there is such a one.
 fn home_in(layout: &SlipLayout, sdl: &Sdl, i: u32) -> Option<u32>
-    requires rise { IsStrictlyIncreasing (defectives sdl.now.entries.list) }
+    requires rise { IsStrictlyIncreasing (defectives sdl.now.entries) }
 {
     if i < layout.logical() {
         return Some(home(layout, sdl, i));

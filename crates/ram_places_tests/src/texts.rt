@@ -24,9 +24,10 @@ fn add_again(same: bool, answer: &mut String) -> Result<(), AllocError> {
 
 /// Adds the structure whose text a block is, and whether it is written again so.
 pub fn add_dds(alloc: Global, text: &Block, answer: &mut String) -> Result<(), AllocError> {
-    let Some(value) = DdsPdl::decode(alloc, text)? else {
+    let mut value = DdsPdl::new(alloc)?;
+    if !value.decode(text) {
         return answer.push_str("no text");
-    };
+    }
     let mut again = spoiled(alloc)?;
     value.encode(&mut again);
     write!(answer, "{} {:?} {}", value.counter, value.state, value.psa)?;
@@ -52,9 +53,10 @@ fn add_list(value: &Sdl, answer: &mut String) -> Result<(), AllocError> {
 
 /// Adds the secondary list whose text a block is, and whether it is written again so.
 pub fn add_sdl(alloc: Global, text: &Block, answer: &mut String) -> Result<(), AllocError> {
-    let Some(value) = Sdl::decode(alloc, text, None)? else {
+    let mut value = Sdl::new(alloc)?;
+    if !value.decode(text, None) {
         return answer.push_str("no text");
-    };
+    }
     let mut again = spoiled(alloc)?;
     value.encode(1, &mut again);
     add_list(&value, answer)?;
@@ -68,9 +70,10 @@ pub fn add_both(
     second: &Block,
     answer: &mut String,
 ) -> Result<(), AllocError> {
-    let Some(value) = Sdl::decode(alloc, first, Some(second))? else {
+    let mut value = Sdl::new(alloc)?;
+    if !value.decode(first, Some(second)) {
         return answer.push_str("no text");
-    };
+    }
     let mut first_again = spoiled(alloc)?;
     value.encode(1, &mut first_again);
     let mut second_again = spoiled(alloc)?;

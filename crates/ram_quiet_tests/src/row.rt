@@ -4,8 +4,9 @@ ghost use Rattle.std.specs.Prelude.{◌≡◌};
 ghost use Rattle.model_geometry.specs.Geometry.{total};
 
 use ram_bytes::Block;
+use ram_certify::zero_block;
 use ram_copies::Scratch;
-use ram_format::{FullEnd, full_format};
+use ram_format::{FormatRoom, FullEnd, full_format};
 use ram_lists::{Lists, Mounted, mount};
 use ram_medium::{Medium, MediumControl, MemMedium, ReadEnd};
 use ram_quiet::{Quiet, quiet};
@@ -36,6 +37,15 @@ fn are_same(one: &Lists, other: &Lists) -> bool {
         && other.sdl.entries.as_slice().is_empty()
 }
 
+/// The answer for what the last mount found.
+fn answer_of(found: Mounted, same: bool, dead: bool) -> Answer {
+    match found {
+        Mounted::Lists if same => Answer::SameLists { dead },
+        Mounted::Lists => Answer::OtherLists,
+        _ => Answer::NoLists,
+    }
+}
+
 /// Formats a blank disc, makes the steps, and tells what the last mount found.
 fn format_and_step<M: MediumControl>(
     alloc: Global,
@@ -44,22 +54,30 @@ fn format_and_step<M: MediumControl>(
 ) -> Result<Answer, AllocError>
     requires size { M.block_count medium.old ≡ total geometry.now }
 {
+    let mut lists = Lists::new(alloc)?;
+    let mut others = Lists::new(alloc)?;
+    let mut draft = Lists::new(alloc)?;
+    let mut format = FormatRoom::new(alloc)?;
     let mut scratch = Scratch::new(alloc)?;
+    let zero = zero_block(alloc)?;
     let mut room = Block::zeros(alloc)?;
     if medium.blocks() < 14 {
         return Ok(Answer::NotFormatted);
     }
     medium.power_on();
-    let Mounted::Bare { mark } = mount(alloc, medium, geometry, &mut scratch) else {
+    let Mounted::Bare { mark } = mount(medium, geometry, &mut lists, &mut draft, &mut scratch)
+    else {
         return Ok(Answer::NotFormatted);
     };
-    let FullEnd::Good { lists } = full_format(
-        alloc,
+    let FullEnd::Good = full_format(
         medium,
         geometry,
         &[],
         true,
         mark,
+        &zero,
+        &mut format,
+        &mut lists,
         &mut scratch,
     ) else {
         return Ok(Answer::NotFormatted);
@@ -70,22 +88,17 @@ fn format_and_step<M: MediumControl>(
         Quiet::Mount,
     ];
     let found = quiet(
-        alloc,
         medium,
         geometry,
         &lists,
         &steps,
         &mut room,
+        &mut others,
+        &mut draft,
         &mut scratch,
     );
     let dead = medium.read(0, &mut room) == ReadEnd::Unreadable;
-    match found {
-        Mounted::Lists { lists: others } if are_same(&lists, &others) => Ok(Answer::SameLists {
-            dead,
-        }),
-        Mounted::Lists { lists: _ } => Ok(Answer::OtherLists),
-        _ => Ok(Answer::NoLists),
-    }
+    Ok(answer_of(found, are_same(&lists, &others), dead))
 }
 
 /// The same on a medium in memory.

@@ -11,7 +11,8 @@ ghost use Rattle.ram_layout.specs.Slipping.{slip_pools};
 ghost use Rattle.ram_lists.specs.Fit.{IsFit};
 ghost use Rattle.ram_lists.specs.Lists.{lists_of};
 
-use ram_bytes::{BLOCK_BYTES, Block};
+use ram_bytes::BLOCK_BYTES;
+use ram_certify::zero_block;
 use ram_format::{FullEnd, full_format};
 use ram_lists::{Lists, Mounted, mount};
 use ram_medium::{Medium, MediumControl, MemMedium};
@@ -46,7 +47,7 @@ pub enum Answer {
 /// Where logical block 0 lies, and where the cursor stands.
 fn step_of(lists: &Lists, workspace: &Workspace) -> Step
     requires inside { 0 < length (logical_in (slip_pools workspace.now.layout)) }
-    requires rise { IsStrictlyIncreasing (defectives lists.now.sdl.entries.list) }
+    requires rise { IsStrictlyIncreasing (defectives lists.now.sdl.entries) }
     requires one { 0 < length workspace.now.cursors }
 {
     Step {
@@ -81,9 +82,12 @@ fn write_over_dead<M: MediumControl>(
         scratch,
         layout,
         cursors,
+        kept: _,
+        format: _,
     } = workspace;
+    let sdl = &mut draft.sdl;
     let placed = write_home(
-        medium, geometry, layout, cursors, lists, draft, 0, place, from, back, scratch,
+        medium, geometry, layout, cursors, lists, sdl, 0, place, from, back, scratch,
     );
     match placed {
         Placed::Done => true,
@@ -105,32 +109,41 @@ fn format_and_write<M: MediumControl>(
 {
     let Memory {
         geometry: _,
-        list: _,
+        mut lists,
         mut workspace,
     } = Memory::new(alloc, geometry)?;
-    let bytes = Block::zeros(alloc)?;
+    let zero = zero_block(alloc)?;
     medium.power_on();
-    let Mounted::Bare { mark } = mount(alloc, medium, geometry, &mut workspace.scratch) else {
+    let work = &mut workspace;
+    let Mounted::Bare { mark } = mount(
+        medium,
+        geometry,
+        &mut lists,
+        &mut work.draft,
+        &mut work.scratch,
+    ) else {
         return Ok(Answer::NotFormatted);
     };
-    let FullEnd::Good { mut lists } = full_format(
-        alloc,
+    let FullEnd::Good = full_format(
         medium,
         geometry,
         &[],
         true,
         mark,
-        &mut workspace.scratch,
+        &zero,
+        &mut work.format,
+        &mut lists,
+        &mut work.scratch,
     ) else {
         return Ok(Answer::NotFormatted);
     };
     workspace.lay_out(geometry, &lists);
     let before = step_of(&lists, &workspace);
-    if !write_over_dead(medium, geometry, &mut lists, &mut workspace, bytes.bytes()) {
+    if !write_over_dead(medium, geometry, &mut lists, &mut workspace, zero.bytes()) {
         return Ok(Answer::NotWritten);
     }
     let first = step_of(&lists, &workspace);
-    if !write_over_dead(medium, geometry, &mut lists, &mut workspace, bytes.bytes()) {
+    if !write_over_dead(medium, geometry, &mut lists, &mut workspace, zero.bytes()) {
         return Ok(Answer::NotWritten);
     }
     let second = step_of(&lists, &workspace);

@@ -5,7 +5,7 @@ use Rattle.ram_replace_tests.proofs.row.format_and_write.Goals as goal
 
 pub step_of-before-requires-clause-inside : goal.step_of-before-requires-clause-inside
 step_of-before-requires-clause-inside g c =
-    first_inside c.args.geometry.now (lists_of c.in-Good.lists) (slip_pools c.lay_out.new.self.layout) c.in-Good.ensures.rule.valid c.lay_out.ensures.laid_out.pools_are
+    first_inside c.args.geometry.now (lists_of c.full_format.new.lists) (slip_pools c.lay_out.new.self.layout) c.in-Good.ensures.rule.valid c.lay_out.ensures.laid_out.pools_are
 
 pub step_of-first-requires-clause-inside : goal.step_of-first-requires-clause-inside
 step_of-first-requires-clause-inside g c =
