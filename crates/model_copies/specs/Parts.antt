@@ -1,6 +1,8 @@
 -- Copies of a list of one cell or two in each area: what they hold, and what a stopped call may leave of them: for all that
 -- reads or writes secondary lists. (This project's own, as all here.)
 use Rattle.std.specs.Prelude.{◌≡◌, ℕ, zero, suc, ◌+◌, ◌≤◌, ◌⊎◌, List}
+use Rattle.model_geometry.specs.declared.kinds.LayoutKind.{LayoutKind}
+use Rattle.model_geometry.specs.declared.kinds.LayoutKind.TheVariants.{OneGroup, EachZone}
 use Rattle.model_geometry.specs.Geometry.{Shape, dds_block, sdl_block, sdl_second_block}
 use Rattle.model_medium.specs.Cells.{Cell, Blank, Good, Torn, Dead, cell_at}
 use Rattle.model_lists.specs.Values.{Dds, Sdl}
@@ -117,10 +119,20 @@ abbrev pub SdlIsSettled : Shape → List Cell → Sdl → Type 0
 SdlIsSettled shape cells value = ¬ (SdlIsLost shape cells value × NamesWithin shape cells value.dds_counter)
     → SdlIsExact shape cells value
 
--- No readable copy of a disc definition structure has, and no first cell of a secondary list names, a greater counter of a
+-- What a structure counts for the mark of a disc: its counter where its layout is of the disc's kind, and else 0.
+abbrev pub counter_by : (disc its : LayoutKind) → (counter : ℕ) → ℕ
+counter_by OneGroup OneGroup counter = counter
+counter_by OneGroup EachZone counter = 0
+counter_by EachZone OneGroup counter = 0
+counter_by EachZone EachZone counter = counter
+
+abbrev pub counter_for : Shape → Dds → ℕ
+counter_for shape dds = counter_by shape.layout dds.layout dds.counter
+
+-- No readable copy of a disc definition structure of this kind has, and no first cell of a secondary list names, a greater counter of a
 -- structure than this.
 pub record AreMarkedWithin (shape : Shape) (cells : List Cell) (most : ℕ) : Type 0 where
-  pub dds : IsMarkedWithin IsDdsText (dds_block shape) cells (λ (list : Dds). list.counter) most
+  pub dds : IsMarkedWithin IsDdsText (dds_block shape) cells (counter_for shape) most
   pub sdl : NamesWithin shape cells most
 
 -- some first cell of a secondary list names this counter
@@ -138,7 +150,7 @@ pub record IsGreatestName (shape : Shape) (cells : List Cell) (mark : ℕ) : Typ
 -- cell of a secondary list names, and 0 where there is none.
 pub record Mark (shape : Shape) (cells : List Cell) (mark : ℕ) : Type 0 where
   pub within : AreMarkedWithin shape cells mark
-  pub reached : (mark ≡ 0) ⊎ IsMarked IsDdsText (dds_block shape) cells (λ (list : Dds). list.counter) mark
+  pub reached : (mark ≡ 0) ⊎ IsMarked IsDdsText (dds_block shape) cells (counter_for shape) mark
       ⊎ IsNamed shape cells mark
 
 -- Of the four copies of the secondary list just so many were written again: those whose cells were not exactly its text

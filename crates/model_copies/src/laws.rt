@@ -6,7 +6,7 @@ ghost use Rattle.model_medium.specs.Cells.{Cell, IsSameOrDead, cell_at};
 ghost use Rattle.model_lists.specs.Values.{Dds, Sdl, part_entries};
 ghost use Rattle.model_lists.specs.Texts.{IsDdsText, IsTwo, IsSdlText, IsSdlSecond};
 ghost use Rattle.model_copies.specs.Copies.{IsArea, MayHold, HasDdsCopy, Settled, AreBetween, IsGreatestMark, AllLost, IsSeen, good_count, Holds, Rewrites, RewritesDds};
-ghost use Rattle.model_copies.specs.Parts.{HasSdlParts, HasSdlCopy, SdlIsExact, SdlIsLost, SdlIsBetween, SdlIsSettled, AreHeldBy, MayLeaveParts, StayDead, PartsHoldNothingNew, NamesWithin, IsGreatestName, Mark, CountMores, RewritesSdl};
+ghost use Rattle.model_copies.specs.Parts.{counter_for, HasSdlParts, HasSdlCopy, SdlIsExact, SdlIsLost, SdlIsBetween, SdlIsSettled, AreHeldBy, MayLeaveParts, StayDead, PartsHoldNothingNew, NamesWithin, IsGreatestName, Mark, CountMores, RewritesSdl};
 
 /// Two copies with one text tell one list, and two cells, also of two areas, tell one secondary list.
 pub fn one_text_tells_one_list()
@@ -117,7 +117,7 @@ pub fn lost_copies_count_none()
 /// The greater one of the greatest marks of both lists is the mark of the disc.
 pub fn the_greater_mark_is_the_discs()
     ensures { (shape : Shape) (cells : List Cell) (a b mark : ℕ)
-        → IsGreatestMark IsDdsText (dds_block shape) cells (λ (list : Dds). list.counter) a
+        → IsGreatestMark IsDdsText (dds_block shape) cells (counter_for shape) a
         → IsGreatestName shape cells b
         → a ≤ mark → b ≤ mark → (mark ≡ a) ⊎ (mark ≡ b) → Mark shape cells mark }
 {}

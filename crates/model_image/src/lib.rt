@@ -7,9 +7,9 @@ ghost use Rattle.model_medium.specs.Cells.{AreWhole};
 ghost use Rattle.model_image.specs.Cells.{cells_of};
 ghost use Rattle.model_image.specs.Image.{HasHeader, IsDiscImage};
 
-/// Bytes are the image of a disc of one geometry.
+/// Bytes are the image of a disc of one geometry of each kind of layout.
 pub fn an_image_has_one_geometry()
-    ensures { (a b : Shape) (bytes : List ℕ) → HasHeader a bytes → HasHeader b bytes → a ≡ b }
+    ensures { (a b : Shape) (bytes : List ℕ) → a.layout ≡ b.layout → HasHeader a bytes → HasHeader b bytes → a ≡ b }
 {}
 
 /// The good cells of a disc image have the bytes of whole blocks.

@@ -7,7 +7,7 @@ use Rattle.model_lists.specs.Values.{Dds, Sdl}
 use Rattle.model_medium.specs.Cells.{Cell, IsSameOrDead, cell_at}
 use Rattle.model_stops.specs.declared.Stop.{Stop}
 use Rattle.model_places.specs.Places.{Lists, logical_count, free_spares}
-use Rattle.model_places.specs.Valid.{AreValid}
+use Rattle.model_places.specs.Valid.{AreaGrows, AreValid}
 use Rattle.model_volume.specs.Expansions.{lists_expanded}
 use Rattle.model_volume.proofs.Moved.{moved_valid}
 use Rattle.model_volume.proofs.Expanding.{expanded_valid}
@@ -89,7 +89,7 @@ module _ (old new : Shown) (same : new.shape ≡ old.shape) (sound : IsSound old
 
     larger_valid : AreValid old.shape (lists_expanded old.shape lists (ssa_for old.shape sectors))
     larger_valid = expanded_valid old.shape lists (ssa_for old.shape sectors) valid
-        (lawful_area old.shape lists valid sectors any.lawful.some any.lawful.whole fewer_now any.lawful.most)
+        (lawful_area old.shape lists valid sectors any.lawful.some any.lawful.whole fewer_now any.lawful.most (subst (λ (n : ℕ). sectors < n → AreaGrows old.shape) present_is any.lawful.grows))
         (larger_area old.shape lists valid sectors any.lawful.some any.lawful.whole fewer_now any.lawful.most)
 
     dds_stays : (area : ℕ) → cell_at (cells_in new) (dds_block old.shape area) ≡ cell_at (cells_in old) (dds_block old.shape area)

@@ -2,6 +2,8 @@ pub mod Listed
 pub mod Replacements
 pub mod Pooled
 pub mod Cuts
+pub mod Zoned
+pub mod ZonedPlaces
 pub mod Free
 pub mod Entries
 pub mod Homes

@@ -1,6 +1,6 @@
 -- Which lists cells may give.
 use Rattle.std.specs.Prelude.{◌≡◌, ℕ, ◌<◌, ◌≤◌, ◌⊎◌, Option, Some, None, List}
-use Rattle.std.proofs.Common.{refl, sym, ap, ◌∙◌, inl, inr, subst, arith}
+use Rattle.std.proofs.Common.{sym, ap, ◌∙◌, inl, inr, subst, arith}
 use Rattle.model_geometry.specs.Geometry.{Shape, dds_block, sdl_block}
 use Rattle.model_lists.specs.declared.dds.DdsState.TheVariants.{Formatting, Formatted}
 use Rattle.model_lists.specs.Values.{Dds, Sdl}
@@ -12,6 +12,7 @@ use Rattle.model_medium.specs.Cells.{Cell, IsSameOrDead, cell_at}
 use Rattle.model_copies.specs.Copies.{IsArea, MayHold, HoldNothingNew, HasDdsCopy, Settled, AreBetween, IsChosen}
 use Rattle.model_geometry.specs.Geometry.{sdl_second_block}
 use Rattle.model_copies.specs.Parts.{HasSdlCopy, SdlIsExact, SdlIsLost, SdlIsBetween, SdlIsSettled, MayLeaveParts, PartsHoldNothingNew, AreMarkedWithin, Mark, NamesWithin}
+use Rattle.model_copies.proofs.Marking.{counted_most, counted_own}
 use Rattle.model_copies.proofs.CopyFacts.{OneValue, copy_before, copy_settled, copy_between, one_list}
 use Rattle.model_copies.proofs.NothingNew.{nothing_new_from_write, held_before}
 use Rattle.model_copies.proofs.PartFacts.{parts_were, nothing_new_from_repair}
@@ -298,12 +299,12 @@ exact_settled shape cells lists dds sdl = record { dds = dds; sdl = λ _. sdl }
 -- settled lists that belong together have the structure's counter as the mark
 pub settled_within : (shape : Shape) (cells : List Cell) (lists : Lists) → AreSettled shape cells lists → lists.sdl.dds_counter ≡ lists.dds.counter → AreMarkedWithin shape cells lists.dds.counter
 settled_within shape cells lists settled same = record {
-  dds = λ v at c. let e = ap (λ (d : Dds). d.counter) (copy_settled IsDdsText dds_texts.one_value (dds_block shape) cells lists.dds v at settled.dds c) in omega (arith, e);
+  dds = λ v at c. let e = ap (λ (d : Dds). d.counter) (copy_settled IsDdsText dds_texts.one_value (dds_block shape) cells lists.dds v at settled.dds c) in omega (arith, e, counted_most shape v);
   sdl = subst (NamesWithin shape cells) same (settled_names shape cells lists.sdl settled.sdl);
 }
 
-pub settled_mark : (shape : Shape) (cells : List Cell) (lists : Lists) (area : ℕ) → AreSettled shape cells lists → lists.sdl.dds_counter ≡ lists.dds.counter → HasDdsCopy shape cells lists.dds area → Mark shape cells lists.dds.counter
-settled_mark shape cells lists area settled same copy = record {
+pub settled_mark : (shape : Shape) (cells : List Cell) (lists : Lists) (area : ℕ) → lists.dds.layout ≡ shape.layout → AreSettled shape cells lists → lists.sdl.dds_counter ≡ lists.dds.counter → HasDdsCopy shape cells lists.dds area → Mark shape cells lists.dds.counter
+settled_mark shape cells lists area kind settled same copy = record {
   within = settled_within shape cells lists settled same;
-  reached = inr (inl (record { value = lists.dds; area = area; copy = copy; has = refl }));
+  reached = inr (inl (record { value = lists.dds; area = area; copy = copy; has = counted_own shape lists.dds kind }));
 }

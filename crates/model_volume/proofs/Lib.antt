@@ -19,3 +19,4 @@ pub mod SampleFacts
 pub mod Losses
 pub mod ChosenFirst
 pub mod WholeStarts
+pub mod OtherKind

@@ -1,7 +1,7 @@
 //! The laws about given, chosen and settled lists: functions with an empty body, of which the contract is the law.
 
-ghost use Rattle.std.specs.Prelude.{◌≡◌, ℕ, ◌<◌, ◌⊎◌, Option, List};
-ghost use Rattle.model_geometry.specs.Geometry.{Shape, dds_block, sdl_block};
+ghost use Rattle.std.specs.Prelude.{◌≡◌, ◌≢◌, ℕ, ◌<◌, ◌⊎◌, Option, List};
+ghost use Rattle.model_geometry.specs.Geometry.{Shape, label_of, dds_block, sdl_block};
 ghost use Rattle.model_medium.specs.Cells.{Cell, IsSameOrDead, cell_at};
 ghost use Rattle.model_lists.specs.declared.dds.DdsState.TheVariants.{Formatting};
 ghost use Rattle.model_lists.specs.declared.versions.Version.TheVariants.{One};
@@ -180,13 +180,20 @@ pub fn a_choice_gives_whole_pairs()
         → IsGiven shape cells lists → IsWholePair shape cells lists }
 {}
 
+/// A disc whose lists are settled is formatted in one kind of layout, and gives no lists to a geometry of the same numbers and the
+/// other kind.
+pub fn a_disc_of_one_kind_is_none_of_the_other()
+    ensures { (a b : Shape) → label_of a ≡ label_of b → a.layout ≢ b.layout
+        → (cells : List Cell) (lists : Lists) → lists.dds.layout ≡ a.layout → AreSettled a cells lists → GivesNone b cells }
+{}
+
 /// Where settled lists belong together, no mark on the disc is greater than the structure's counter, and this is the mark
-/// while a copy of the structure can be read.
+/// while a copy of the structure can be read, which is of the disc's kind.
 pub fn settled_lists_have_the_mark()
     ensures within { (shape : Shape) (cells : List Cell) (lists : Lists)
         → AreSettled shape cells lists → lists.sdl.dds_counter ≡ lists.dds.counter
         → AreMarkedWithin shape cells lists.dds.counter }
-    ensures mark { (shape : Shape) (cells : List Cell) (lists : Lists) (area : ℕ)
+    ensures mark { (shape : Shape) (cells : List Cell) (lists : Lists) (area : ℕ) → lists.dds.layout ≡ shape.layout
         → AreSettled shape cells lists → lists.sdl.dds_counter ≡ lists.dds.counter
         → HasDdsCopy shape cells lists.dds area → Mark shape cells lists.dds.counter }
 {}

@@ -5,7 +5,7 @@ pub returns-clause-more : goal.returns-clause-more
 returns-clause-more c = told_more
 
 pub returns-clause-few : goal.returns-clause-few
-returns-clause-few c = λ shape blocks is. (slips_few shape blocks, slips_few_from shape blocks)
+returns-clause-few c = λ shape blocks is. (slips_few shape is blocks, slips_few_from shape is blocks)
 
 pub returns-clause-told : goal.returns-clause-told
-returns-clause-told c = λ shape blocks is. slip_told shape blocks
+returns-clause-told c = λ shape blocks is. slip_told shape is blocks
