@@ -3,3 +3,4 @@ pub mod Slips
 pub mod OnePlace
 pub mod Validity
 pub mod Spares
+pub mod Counted

@@ -2,6 +2,7 @@
 use Rattle.std.proofs.Common.{◌≡◌, ℕ, ◌-◌, ◌<◌, length, refl, sym, ap, ◌∙◌, subst, arith}
 use Rattle.std.specs.List.{Contains}
 use Rattle.std.proofs.lemmas.List.Elements.{Contains-get_or}
+use Rattle.model_geometry.specs.declared.kinds.LayoutKind.TheVariants.{OneGroup}
 use Rattle.model_geometry.specs.Geometry.{Shape, data_blocks}
 use Rattle.model_lists.specs.declared.versions.Version.{Version}
 use Rattle.model_lists.specs.Values.{Dds}
@@ -15,12 +16,12 @@ use Rattle.ram_slip.specs.declared.place.Place.{Place}
 use Rattle.ram_slip.specs.declared.place.Place.TheVariants as places
 use Rattle.ram_slip.specs.Place.{IsAtPlace}
 
-module _ (shape : Shape) (dds : Dds) (ssa block : ℕ) (valid : IsValidPdl shape dds) {version : Version} (area : IsValidSsa shape version ssa) where
+module _ (shape : Shape) (dds : Dds) (ssa block : ℕ) (is_one : shape.layout ≡ OneGroup) (valid : IsValidPdl shape dds) {version : Version} (area : IsValidSsa shape version ssa) where
   from_primary : Contains (primary_spares shape dds) block → Contains (spares_in (pools_of shape dds ssa)) block
-  from_primary has = layouts.from_primary shape dds ssa block has
+  from_primary has = layouts.from_primary shape dds ssa is_one block has
 
   from_supplementary : Contains (supplementary_spares shape dds ssa) block → Contains (spares_in (pools_of shape dds ssa)) block
-  from_supplementary has = layouts.from_supplementary shape dds ssa block has
+  from_supplementary has = layouts.from_supplementary shape dds ssa is_one block has
 
   within_pools : (i : ℕ) → i < count_of shape ssa → i < length (logical_in (pools_of shape dds ssa))
   within_pools i within = let long = layouts.length-logical_in shape dds ssa valid area in omega (arith, within, long)
@@ -44,7 +45,7 @@ module _ (shape : Shape) (dds : Dds) (ssa block : ℕ) (valid : IsValidPdl shape
   areas_apart : Contains (primary_spares shape dds) block → ¬ Contains (supplementary_spares shape dds ssa) block
   areas_apart first last =
       let u = unslipped shape dds in
-      let all = slips_are_all shape dds ssa valid area in
+      let all = slips_are_all shape is_one dds ssa valid area in
       parts_apart u (unslipped_rise shape dds) 0 (primary_count shape dds) (length u - ssa) (length u) block (omega arith)
       (StandsWithin-take u (primary_count shape dds) block first) (StandsWithin-drop u (length u - ssa) block last)
 

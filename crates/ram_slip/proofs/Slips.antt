@@ -5,6 +5,7 @@ use Rattle.std.specs.List.{Contains}
 use Rattle.std.proofs.lemmas.Bool.{true≢false}
 use Rattle.std.proofs.lemmas.List.{get_or-take, get_or-drop, length-take, length-drop}
 use Rattle.std.proofs.lemmas.Option.{slice_get_within, get_or_from_slice_get}
+use Rattle.model_geometry.specs.declared.kinds.LayoutKind.TheVariants.{OneGroup}
 use Rattle.model_geometry.specs.Geometry.{Shape, data_blocks}
 use Rattle.model_lists.specs.declared.dds.PdlEntry.{PdlEntry}
 use Rattle.model_lists.specs.declared.versions.Version.{Version}
@@ -49,19 +50,19 @@ primary_by_place shape dds place block at less =
     let within = slice_get_within u place block at in
     (place, omega (arith, length-take (primary_count shape dds) u, within, less), get_or-take (primary_count shape dds) u place block less ∙ get_or_from_slice_get u place block block at)
 
-pub logical_by_place : {version : Version} (shape : Shape) (dds : Dds) (ssa : ℕ) → IsValidPdl shape dds → IsValidSsa shape version ssa → (place block i : ℕ) → slice_get (unslipped shape dds) place ≡ Some block
+pub logical_by_place : {version : Version} (shape : Shape) → shape.layout ≡ OneGroup → (dds : Dds) (ssa : ℕ) → IsValidPdl shape dds → IsValidSsa shape version ssa → (place block i : ℕ) → slice_get (unslipped shape dds) place ≡ Some block
     → primary_count shape dds ≤ place → i ≡ place - primary_count shape dds → i < count_of shape ssa → block_in (pools_of shape dds ssa) i ≡ block
-logical_by_place shape dds ssa valid area place block i at from is within =
+logical_by_place shape one dds ssa valid area place block i at from is within =
     let there : primary_count shape dds + i ≡ place = omega (arith, from, is) in
-    one_block shape dds ssa valid area i within
+    one_block shape dds ssa one valid area i within
     ∙ ap (slice_index (unslipped shape dds)) there ∙ get_or_from_slice_get (unslipped shape dds) place block 0 at
 
-pub supplementary_by_place : {version : Version} (shape : Shape) (dds : Dds) (ssa : ℕ) → IsValidPdl shape dds → IsValidSsa shape version ssa → (place block : ℕ) → slice_get (unslipped shape dds) place ≡ Some block
+pub supplementary_by_place : {version : Version} (shape : Shape) → shape.layout ≡ OneGroup → (dds : Dds) (ssa : ℕ) → IsValidPdl shape dds → IsValidSsa shape version ssa → (place block : ℕ) → slice_get (unslipped shape dds) place ≡ Some block
     → primary_count shape dds + count_of shape ssa ≤ place → Contains (supplementary_spares shape dds ssa) block
-supplementary_by_place shape dds ssa valid area place block at from =
+supplementary_by_place shape one dds ssa valid area place block at from =
     let u = unslipped shape dds in
     let within = slice_get_within u place block at in
-    let all = slips_are_all shape dds ssa valid area in
+    let all = slips_are_all shape one dds ssa valid area in
     let start : length u - ssa ≤ place = omega (arith, all, from) in
     let there : length u - ssa + (place - (length u - ssa)) ≡ place = omega (arith, start) in (
       place - (length u - ssa),

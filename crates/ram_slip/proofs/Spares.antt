@@ -4,10 +4,11 @@ use Rattle.std.specs.Prelude.{reverse, slice_get, slice_index}
 use Rattle.std.specs.List.{Contains}
 use Rattle.std.proofs.lemmas.List.{length-take}
 use Rattle.std.proofs.lemmas.Option.{slice_get_within, get_or_from_slice_get}
+use Rattle.model_geometry.specs.declared.kinds.LayoutKind.TheVariants.{OneGroup}
 use Rattle.model_geometry.specs.Geometry.{Shape, data_blocks}
 use Rattle.model_lists.specs.declared.versions.Version.{Version}
 use Rattle.model_lists.specs.Values.{Dds}
-use Rattle.model_pools.specs.Pools.{spares_in, logical_in, block_in}
+use Rattle.model_pools.specs.Pools.{spares_in}
 use Rattle.model_pools.proofs.Cuts.{PlaceOfSpare, spare_there}
 use Rattle.model_places.specs.Places.{slipped, unslipped, count_of, pools_of, primary_count, primary_spares}
 use Rattle.model_places.specs.Valid.{IsValidPdl, IsValidSsa}
@@ -15,9 +16,9 @@ use Rattle.model_places.proofs.Layouts.{one_spares, length-logical_in, pools_are
 use Rattle.model_places.proofs.Pools.{unslipped_are_data, slips_are_all, not_slipped}
 use Rattle.ram_slip.proofs.Slips.{logical_by_place}
 
-module _ (shape : Shape) (dds : Dds) (ssa : ℕ) (valid : IsValidPdl shape dds) {version : Version} (area : IsValidSsa shape version ssa) where
+module _ (shape : Shape) (dds : Dds) (ssa : ℕ) (one : shape.layout ≡ OneGroup) (valid : IsValidPdl shape dds) {version : Version} (area : IsValidSsa shape version ssa) where
   all : primary_count shape dds + count_of shape ssa + ssa ≡ length (unslipped shape dds)
-  all = slips_are_all shape dds ssa valid area
+  all = slips_are_all shape one dds ssa valid area
 
   -- how many primary spares there are
   pub first_many : length (primary_spares shape dds) ≡ primary_count shape dds
@@ -28,7 +29,7 @@ module _ (shape : Shape) (dds : Dds) (ssa : ℕ) (valid : IsValidPdl shape dds) 
   turn_by turn place at =
       let sum = all in
       let rest : primary_count shape dds + count_of shape ssa ≡ length (unslipped shape dds) - ssa = omega (arith, sum) in
-      ap (λ (l : List ℕ). slice_get l turn) (one_spares shape dds ssa)
+      ap (λ (l : List ℕ). slice_get l turn) (one_spares shape dds ssa one)
       ∙ ap (λ (m : ℕ). slice_get (reverse (take (primary_count shape dds) (unslipped shape dds)) ++ reverse (drop m (unslipped shape dds))) turn) (sym rest)
       ∙ spare_there (unslipped shape dds) (primary_count shape dds) (count_of shape ssa) (omega (arith, sum)) turn place at
 
@@ -51,7 +52,7 @@ module _ (shape : Shape) (dds : Dds) (ssa : ℕ) (valid : IsValidPdl shape dds) 
         let i = place - primary_count shape dds in
         let within : i < count_of shape ssa = omega (arith, from, less) in
         (pools_are_lawful shape dds ssa valid area).apart i (omega (arith, within, length-logical_in shape dds ssa valid area))
-        (subst (Contains (spares_in (pools_of shape dds ssa))) (sym (logical_by_place shape dds ssa valid area place block i at from refl within)) has)
+        (subst (Contains (spares_in (pools_of shape dds ssa))) (sym (logical_by_place shape one dds ssa valid area place block i at from refl within)) has)
 
   pub slipped_no_turn : (block : ℕ) → Contains (slipped dds) block → ¬ Contains (spares_in (pools_of shape dds ssa)) block
   slipped_no_turn block listed has = not_slipped shape dds block (spare_is_unslipped shape dds ssa block has) listed

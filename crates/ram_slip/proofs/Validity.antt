@@ -1,20 +1,21 @@
 -- What the tests of validity find.
-use Rattle.std.proofs.Common.{◌≡◌, ℕ, ◌+◌, ◌-◌, ◌<◌, ◌≤◌, inl, inr, Bool, IsTrue, leb, nat_lt, List, length, get_or, Some, sym, ap, ◌∙◌, subst, arith}
+use Rattle.std.proofs.Common.{◌≡◌, ℕ, ◌+◌, ◌-◌, ◌<◌, ◌≤◌, inl, inr, Bool, IsTrue, nat_eq, List, length, get_or, Some, sym, ap, ◌∙◌, subst, arith}
 use Rattle.std.specs.Prelude.{slice_get, slice_index}
 use Rattle.std.specs.List.{All, Contains}
 use Rattle.std.specs.List.Sorted.{IsStrictlyIncreasing}
-use Rattle.std.proofs.lemmas.Bool.{cases_eq, cases_lt, true≢false, lt-ltb, le-ltb, lt-leb}
+use Rattle.std.proofs.lemmas.Bool.{cases_eq, eqb-true, eq-eqb}
 use Rattle.std.proofs.lemmas.List.{length-map}
 use Rattle.std.proofs.lemmas.List.Elements.{All-from_get_or}
-use Rattle.model_geometry.specs.Geometry.{Shape, data_blocks}
+use Rattle.model_geometry.specs.declared.kinds.LayoutKind.TheVariants.{OneGroup, EachZone}
+use Rattle.model_geometry.specs.Geometry.{Shape, IsLawful, data_blocks, spare_room}
 use Rattle.model_geometry.proofs.DataBlocks.{Contains-slice_get}
 use Rattle.model_lists.specs.declared.dds.PdlEntry.{PdlEntry}
 use Rattle.model_lists.specs.declared.versions.Version.{Version}
 use Rattle.model_lists.specs.Values.{Dds, most_of, pdl_blocks}
 use Rattle.model_pools.specs.Listed.{AreListed}
-use Rattle.model_places.specs.Valid.{IsValidPdl, IsValidSsa}
+use Rattle.model_places.specs.Valid.{IsValidPdl, IsValidSsa, SlipsFew, area_fits_by}
 use Rattle.model_pools.proofs.Listed.{All-listed, listed-All}
-use Rattle.model_places.proofs.ByKind.{slips_few_from, length-slipped, slip_room}
+use Rattle.model_places.proofs.ByKind.{room_grows, slip_area_fits, zone_area, zone_area_fits, zones_fit}
 use Rattle.ram_slip.proofs.Named.{block_at}
 
 long : (entries : List PdlEntry) → length (pdl_blocks entries) ≡ length entries
@@ -67,39 +68,51 @@ data_all shape entries n past before =
 -- ---- both
 
 -- where all but the data blocks is as it is to be, these decide
-pub valid_if_data : (shape : Shape) (dds : Dds) (entries : List PdlEntry) (psa limit : ℕ) (found : Bool) → entries ≡ dds.entries → dds.psa ≡ psa → psa ≡ shape.psa → length entries ≤ limit → limit ≡ shape.psa
+pub valid_if_data : (shape : Shape) (dds : Dds) (entries : List PdlEntry) (psa : ℕ) (found : Bool) → entries ≡ dds.entries → dds.layout ≡ shape.layout → dds.psa ≡ psa → psa ≡ shape.psa → SlipsFew shape (pdl_blocks entries)
     → IsStrictlyIncreasing (pdl_blocks entries) → (IsTrue found → All (Contains (data_blocks shape)) (pdl_blocks entries)) × (All (Contains (data_blocks shape)) (pdl_blocks entries) → IsTrue found)
     → (IsTrue found → IsValidPdl shape dds) × (IsValidPdl shape dds → IsTrue found)
-valid_if_data shape dds entries psa limit found same named psa_is few limit_is rise tells = (
+valid_if_data shape dds entries psa found same kind named psa_is few rise tells = (
   λ t. record {
+    same_layout = kind;
     same_psa = named ∙ psa_is;
     data_only = subst (λ (es : List PdlEntry). AreListed (data_blocks shape) (pdl_blocks es)) same (listed-All (data_blocks shape) (pdl_blocks entries) (tells.0 t));
     rising = subst (λ (es : List PdlEntry). IsStrictlyIncreasing (pdl_blocks es)) same rise;
-    few = slips_few_from shape (pdl_blocks dds.entries) (omega (arith, few, limit_is, ap (λ (es : List PdlEntry). length es) same, length-slipped dds));
+    few = subst (λ (es : List PdlEntry). SlipsFew shape (pdl_blocks es)) same few;
   },
   λ valid. tells.1 (All-listed (data_blocks shape) (pdl_blocks entries) (subst (λ (es : List PdlEntry). AreListed (data_blocks shape) (pdl_blocks es)) (sym same) valid.data_only)),
 )
 
+-- where they are too many, it is not valid
+pub not_few : (shape : Shape) (dds : Dds) (entries : List PdlEntry) → entries ≡ dds.entries → ¬ SlipsFew shape (pdl_blocks entries) → ¬ IsValidPdl shape dds
+not_few shape dds entries same many valid = many (subst (λ (es : List PdlEntry). SlipsFew shape (pdl_blocks es)) (sym same) valid.few)
+
 -- ---- the size of the supplementary spare area
 
--- where the spares are few enough, that a logical block is left decides
-pub ssa_if_some : (shape : Shape) (version : Version) (ssa most psa count : ℕ) → most ≡ most_of version → psa ≡ shape.psa → count ≡ length (data_blocks shape) → psa ≤ most → ssa ≤ most - psa
-    → (IsTrue (nat_lt ssa (count - psa)) → IsValidSsa shape version ssa) × (IsValidSsa shape version ssa → IsTrue (nat_lt ssa (count - psa)))
-ssa_if_some shape version ssa most psa count most_is psa_is count_is room few = (
+-- where the spares are few enough and a logical block is left, the layout decides
+pub ssa_if_fits : (shape : Shape) (version : Version) (ssa most room count : ℕ) (found : Bool) → most ≡ most_of version → room ≡ spare_room shape 0 → count ≡ length (data_blocks shape) → ssa ≤ most - room → room ≤ most → ssa < count - room
+    → (IsTrue found → area_fits_by shape.layout shape ssa) × (area_fits_by shape.layout shape ssa → IsTrue found) → (IsTrue found → IsValidSsa shape version ssa) × (IsValidSsa shape version ssa → IsTrue found)
+ssa_if_fits shape version ssa most room count found most_is room_is count_is few fits some tells = (
   λ t. record {
-    most = omega (arith, slip_room shape ssa, few, room, most_is, psa_is);
-    some_logical = elim (cases_lt ssa (count - psa)) [
-      | inl less ↦ omega (arith, slip_room shape ssa, less, psa_is, count_is)
-      | inr from ↦ absurd (true≢false (sym t ∙ le-ltb ssa (count - psa) from))
-    ];
+    most = omega (arith, room_grows shape ssa, few, fits, most_is, room_is);
+    some_logical = omega (arith, room_grows shape ssa, some, room_is, count_is);
+    of_kind = tells.0 t;
   },
-  λ valid. lt-ltb ssa (count - psa) (let some = valid.some_logical in omega (arith, slip_room shape ssa, some, psa_is, count_is)),
+  λ valid. tells.1 valid.of_kind,
 )
 
 -- else it is not valid
-pub ssa_too_many : (shape : Shape) (version : Version) (ssa most psa : ℕ) → most ≡ most_of version → psa ≡ shape.psa → most - psa < ssa
-    → (IsTrue (leb ssa (most - psa)) → IsValidSsa shape version ssa) × (IsValidSsa shape version ssa → IsTrue (leb ssa (most - psa)))
-ssa_too_many shape version ssa most psa most_is psa_is many = (
-  λ t. absurd (true≢false (sym t ∙ lt-leb ssa (most - psa) many)),
-  λ valid. absurd (let few = valid.most in omega (arith, slip_room shape ssa, few, most_is, psa_is, many)),
+pub ssa_too_many : (shape : Shape) (version : Version) (ssa most room : ℕ) → most ≡ most_of version → room ≡ spare_room shape 0 → most - room < ssa → ¬ IsValidSsa shape version ssa
+ssa_too_many shape version ssa most room most_is room_is many valid = (let few = valid.most in omega (arith, room_grows shape ssa, few, most_is, room_is, many))
+
+pub none_left : (shape : Shape) (version : Version) (ssa room count : ℕ) → room ≡ spare_room shape 0 → count ≡ length (data_blocks shape) → count - room ≤ ssa → ¬ IsValidSsa shape version ssa
+none_left shape version ssa room count room_is count_is full valid = (let some = valid.some_logical in omega (arith, room_grows shape ssa, some, room_is, count_is, full))
+
+-- a layout with a group for each zone may have none
+pub zones_may_have_none : (shape : Shape) (ssa : ℕ) → shape.layout ≡ EachZone → IsLawful shape → (IsTrue (nat_eq ssa 0) → area_fits_by shape.layout shape ssa) × (area_fits_by shape.layout shape ssa → IsTrue (nat_eq ssa 0))
+zones_may_have_none shape ssa is lawful = (
+  λ t. zone_area_fits shape is ssa (record { none = eqb-true ssa 0 t; each = (zones_fit shape lawful is).each }),
+  λ fits. eq-eqb ssa 0 (zone_area shape is ssa fits).none,
 )
+
+pub slips_may_have_any : (shape : Shape) (ssa : ℕ) → shape.layout ≡ OneGroup → area_fits_by shape.layout shape ssa
+slips_may_have_any shape ssa is = slip_area_fits shape is ssa

@@ -3,10 +3,12 @@
 #![tactic(auto)]
 
 mod entries;
+mod few;
 mod place;
 mod slip;
 mod valid;
 
+pub use few::slips_few;
 pub use place::{Place, a_block_has_one_place};
 pub use slip::{data_block, place_of, primary_left, spare_turn};
 pub use valid::{is_valid_pdl, is_valid_ssa};

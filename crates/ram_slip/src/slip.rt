@@ -1,6 +1,7 @@
 //! From a block to what it is. Only the entries of the primary defect list are looked at; the data blocks are counted by sums.
 
 ghost use Rattle.std.specs.Prelude.{◌≡◌, ◌<◌, length, slice_index};
+ghost use Rattle.model_geometry.specs.declared.kinds.LayoutKind.TheVariants.{OneGroup};
 ghost use Rattle.model_geometry.specs.Geometry.{IsLawful, data_blocks};
 ghost use Rattle.model_places.specs.Places.{primary_count};
 ghost use Rattle.model_places.specs.Valid.{IsValidPdl, IsValidOnSome};
@@ -27,6 +28,7 @@ pub fn data_block(geometry: &Geometry, n: u32) -> u32
 pub fn primary_left(geometry: &Geometry, dds: &DdsPdl) -> u32
     requires { IsValidPdl geometry.now (dds_of dds.now) }
     ensures lawful { IsLawful geometry.now }
+    ensures one { geometry.now.layout ≡ OneGroup }
     ensures left { result ≡ primary_count geometry.now (dds_of dds.now) }
 {
     geometry.psa() - dds.entries.len() as u32
@@ -89,12 +91,12 @@ pub fn spare_turn(geometry: &Geometry, dds: &DdsPdl, ssa: u32, block: u32) -> Op
     requires area { IsValidOnSome geometry.now ssa }
     ensures { HasTurn geometry.now (dds_of dds.now) ssa block result }
 {
+    let primary = primary_left(geometry, dds);
     let place = match rank_of(geometry, dds, block) {
         Rank::Outside => return None,
         Rank::Slipped => return None,
         Rank::At { place } => place,
     };
-    let primary = primary_left(geometry, dds);
     let logical = geometry.data_blocks() - geometry.psa() - ssa;
     if place < primary {
         return Some(primary - 1 - place);

@@ -15,18 +15,18 @@ pub returns-then-i-data_blocks : goal.returns-then-i-data_blocks
 returns-then-i-data_blocks c =
     let left = c.primary_left-primary.ensures.left in
     let from : primary_count c.args.geometry.now (dds_of c.args.dds.now) ≤ c.in-At.place = omega (arith, left, c.if-place-primary.false) in (
-      omega (arith, c.data_blocks.ensures.count, c.psa.ensures.spares, c.if-i-data_blocks.true, slip_counts c.args.geometry.now c.args.ssa),
-      logical_by_place _ _ _ c.requires.valid c.requires.area.1 _ _ _ c.in-At.ensures from (omega (arith, left))
-          (omega (arith, c.data_blocks.ensures.count, c.psa.ensures.spares, c.if-i-data_blocks.true, slip_counts c.args.geometry.now c.args.ssa)),
+      omega (arith, c.data_blocks.ensures.count, c.psa.ensures.spares, c.if-i-data_blocks.true, slip_counts c.args.geometry.now c.primary_left-primary.ensures.one c.args.ssa),
+      logical_by_place _ c.primary_left-primary.ensures.one _ _ c.requires.valid c.requires.area.1 _ _ _ c.in-At.ensures from (omega (arith, left))
+          (omega (arith, c.data_blocks.ensures.count, c.psa.ensures.spares, c.if-i-data_blocks.true, slip_counts c.args.geometry.now c.primary_left-primary.ensures.one c.args.ssa)),
     )
 
 pub returns : goal.returns
 returns c =
     let left = c.primary_left-primary.ensures.left in
-    supplementary_by_place _ _ _ c.requires.valid c.requires.area.1 _ _ c.in-At.ensures
-    (omega (arith, left, c.if-place-primary.false, c.data_blocks.ensures.count, c.psa.ensures.spares, c.if-i-data_blocks.false, slip_counts c.args.geometry.now c.args.ssa))
+    supplementary_by_place _ c.primary_left-primary.ensures.one _ _ c.requires.valid c.requires.area.1 _ _ c.in-At.ensures
+    (omega (arith, left, c.if-place-primary.false, c.data_blocks.ensures.count, c.psa.ensures.spares, c.if-i-data_blocks.false, slip_counts c.args.geometry.now c.primary_left-primary.ensures.one c.args.ssa))
 
 pub overflow_sub-data_blocks-2 : goal.overflow_sub-data_blocks-2
 overflow_sub-data_blocks-2 c =
     let area = c.requires.area.1.some_logical in
-    omega (arith, c.data_blocks.ensures.count, c.psa.ensures.spares, slip_room c.args.geometry.now c.args.ssa, area)
+    omega (arith, c.data_blocks.ensures.count, c.psa.ensures.spares, slip_room c.args.geometry.now c.primary_left-primary.ensures.one c.args.ssa, area)

@@ -1,0 +1,67 @@
+//! Whether blocks are few enough to be slipped, by the kind of the layout.
+
+ghost use Rattle.std.specs.Prelude.{◌≡◌, ◌↔◌, ℕ, ◌<◌, ◌≤◌, IsTrue};
+ghost use Rattle.model_geometry.specs.Geometry.{zone_start, is_inside};
+ghost use Rattle.model_lists.specs.Values.{pdl_blocks};
+ghost use Rattle.model_places.specs.Valid.{SlipsFew, slipped_in};
+
+use ram_dds::PdlEntry;
+use ram_zones::{Geometry, LayoutKind};
+
+/// Where a zone begins; or the lead-out, after the last zone.
+fn start_of(geometry: &Geometry, zone: u32) -> u32
+    requires { zone ≤ geometry.now.zones }
+    ensures start { result ≡ zone_start geometry.now zone }
+    ensures small { result ≤ 147008 }
+    ensures least { 8 ≤ result }
+    ensures few { geometry.now.zones ≤ 35 }
+{
+    let _lead_out = geometry.lead_out();
+    8 + geometry.scale() * (zone * (zone + 49) / 2)
+}
+
+/// Whether the block is a data block of this zone.
+fn is_inside(geometry: &Geometry, zone: u32, block: u32) -> bool
+    requires { zone < geometry.now.zones }
+    ensures { result ≡ is_inside geometry.now block zone }
+{
+    start_of(geometry, zone) < block && block < start_of(geometry, zone + 1) - 1
+}
+
+/// How many of the entries name data blocks of this zone.
+fn slipped_in(geometry: &Geometry, entries: &[PdlEntry], zone: u32) -> usize
+    requires { zone < geometry.now.zones }
+    ensures { result ≡ slipped_in geometry.now (pdl_blocks entries.now) zone }
+{
+    let mut count = 0usize;
+    for k in 0..entries.len() {
+        if is_inside(geometry, zone, entries[k].block) {
+            count += 1;
+        }
+    }
+    count
+}
+
+/// Whether each zone has no more of the entries than so many.
+fn zones_have_few(geometry: &Geometry, entries: &[PdlEntry], most: u32) -> bool
+    ensures { IsTrue result ↔ ((zone : ℕ) → zone < geometry.now.zones
+        → slipped_in geometry.now (pdl_blocks entries.now) zone ≤ most) }
+{
+    for zone in 0..geometry.zones() {
+        if (most as usize) < slipped_in(geometry, entries, zone) {
+            return false;
+        }
+    }
+    true
+}
+
+/// Whether no more blocks are named than may be slipped: in all, or in each zone.
+pub fn slips_few(geometry: &Geometry, entries: &[PdlEntry]) -> bool
+    ensures { IsTrue result ↔ SlipsFew geometry.now (pdl_blocks entries.now) }
+{
+    let psa = geometry.psa();
+    match geometry.layout() {
+        LayoutKind::OneGroup => entries.len() <= psa as usize,
+        LayoutKind::EachZone => zones_have_few(geometry, entries, psa),
+    }
+}
