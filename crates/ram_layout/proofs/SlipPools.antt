@@ -4,7 +4,8 @@ use Rattle.std.specs.Prelude.{reverse, slice_get, vec_capacity}
 use Rattle.std.specs.List.{Contains}
 use Rattle.std.specs.List.Sorted.{IsStrictlyIncreasing}
 use Rattle.std.proofs.lemmas.List.{length-append}
-use Rattle.model_geometry.specs.Geometry.{Shape, LayoutKind, OneGroup, data_blocks}
+use Rattle.model_geometry.specs.declared.kinds.LayoutKind.TheVariants.{OneGroup}
+use Rattle.model_geometry.specs.Geometry.{Shape, data_blocks}
 use Rattle.model_lists.specs.declared.dds.PdlEntry.{PdlEntry}
 use Rattle.model_lists.specs.Values.{Dds, pdl_blocks}
 use Rattle.model_places.specs.Places.{unslipped, primary_count, count_of, pools_of}
@@ -21,27 +22,27 @@ use Rattle.ram_layout.specs.declared.slip_layout.SlipLayout.TheInside.{Inside}
 use Rattle.ram_layout.specs.Slipping.{SlipTable, table_in, slip_pools, kept_in, IsSlippingOf, IsSlipTable}
 
 -- The pool of a table is that of the structure and of the size of the area.
-module _ (shape : Shape) (dds : Dds) (ssa : ℕ) (table : SlipTable) (valid : IsValidPdl shape dds) (area : IsValidOnSome shape ssa)
+module _ (shape : Shape) (dds : Dds) (ssa : ℕ) (table : SlipTable) (one : shape.layout ≡ OneGroup) (valid : IsValidPdl shape dds) (area : IsValidOnSome shape ssa)
     (is : IsSlippingOf shape dds (count_of shape ssa) table) where
   abbrev one_pool : List ℕ → ℕ → ℕ → ℕ → List Pool
   one_pool U b n m = record { blocks = take n (drop b U); spares = reverse (take b U) ++ reverse (drop m U) } ∷ []
 
   pub slipping_is : slip_pools table ≡ pools_of shape dds ssa
   slipping_is =
-      let all = slips_are_all shape dds ssa valid area.1 in
+      let all = slips_are_all shape one dds ssa valid area.1 in
       let count = count_of shape ssa in
       let rest : primary_count shape dds + count ≡ length (unslipped shape dds) - ssa = omega (arith, all) in
       ap (λ (l : List ℕ). one_pool l table.primary table.logical (table.primary + table.logical)) is.blocks_are
       ∙ ap (λ (b : ℕ). one_pool (unslipped shape dds) b table.logical (b + table.logical)) is.primary_is
       ∙ ap (λ (n : ℕ). one_pool (unslipped shape dds) (primary_count shape dds) n (primary_count shape dds + n)) is.logical_is
       ∙ ap (one_pool (unslipped shape dds) (primary_count shape dds) count) rest
-      ∙ sym (by_kind.slip_pools shape dds ssa)
+      ∙ sym (by_kind.slip_pools shape one dds ssa)
 
 -- With another size of the area it is still that of the structure.
-module _ (shape : Shape) (dds : Dds) (logical ssa : ℕ) (table : SlipTable) (valid : IsValidPdl shape dds) (area : IsValidOnSome shape ssa) (is : IsSlippingOf shape dds logical table) where
+module _ (shape : Shape) (dds : Dds) (logical ssa : ℕ) (table : SlipTable) (one : shape.layout ≡ OneGroup) (valid : IsValidPdl shape dds) (area : IsValidOnSome shape ssa) (is : IsSlippingOf shape dds logical table) where
   pub room_for_ssa : table.primary + count_of shape ssa ≤ length table.blocks
   room_for_ssa =
-      let all = slips_are_all shape dds ssa valid area.1 in
+      let all = slips_are_all shape one dds ssa valid area.1 in
       omega (arith, all, is.primary_is, ap length is.blocks_are)
 
   pub resized : IsSlippingOf shape dds (count_of shape ssa) (record table { logical = count_of shape ssa })
@@ -88,7 +89,7 @@ module _ (inside : Inside) (table : SlipTable) (view : table_in inside ≡ table
 
 -- ---- a table is made
 
-module _ (inside : Inside) (shape : Shape) (dds : Dds) (ssa : ℕ) (entries : List PdlEntry) (valid : IsValidPdl shape dds) (area : IsValidOnSome shape ssa) (are : entries ≡ dds.entries)
+module _ (inside : Inside) (shape : Shape) (dds : Dds) (ssa : ℕ) (entries : List PdlEntry) (one : shape.layout ≡ OneGroup) (valid : IsValidPdl shape dds) (area : IsValidOnSome shape ssa) (are : entries ≡ dds.entries)
     (made : blocks_in inside.runs.items ≡ kept_in (pdl_blocks entries) (data_blocks shape)) (primary : inside.primary ≡ primary_count shape dds) (logical : inside.logical ≡ count_of shape ssa) where
   pub blocks_made : blocks_in inside.runs.items ≡ unslipped shape dds
   unfolding unslipped
@@ -96,7 +97,7 @@ module _ (inside : Inside) (shape : Shape) (dds : Dds) (ssa : ℕ) (entries : Li
 
   pub whole_made : IsTable inside.runs.items → end_of 0 inside.runs.items ≤ 147016 → IsSlipTable inside
   whole_made table small =
-      let all = slips_are_all shape dds ssa valid area.1 in
+      let all = slips_are_all shape one dds ssa valid area.1 in
       record {
         table = table;
         small = small;
@@ -118,16 +119,19 @@ few_in inside table view whole pool = subst (λ (t : SlipTable). length (spares_
 
 -- ---- another size of the supplementary spare area
 
-module _ (inside : Inside) (table : SlipTable) (view : table_in inside ≡ table) (ssa : ℕ) (area : IsValidOnSome table.shape ssa) where
+module _ (inside : Inside) (table : SlipTable) (view : table_in inside ≡ table) (ssa : ℕ) (one : table.shape.layout ≡ OneGroup) (area : IsValidOnSome table.shape ssa) where
+  one_inside : inside.geometry.layout ≡ OneGroup
+  one_inside = subst (λ (t : SlipTable). t.shape.layout ≡ OneGroup) (sym view) one
+
   area_inside : IsValidOnSome inside.geometry ssa
   area_inside = subst (λ (t : SlipTable). IsValidOnSome t.shape ssa) (sym view) area
 
   module _ (count psa : ℕ) (count_is : count ≡ length (data_blocks inside.geometry)) (psa_is : psa ≡ inside.geometry.psa) where
     pub room_to_resize : ssa ≤ count - psa
-    room_to_resize = let some = area_inside.1.some_logical in omega (arith, some, count_is, psa_is, by_kind.slip_room inside.geometry ssa)
+    room_to_resize = let some = area_inside.1.some_logical in omega (arith, some, count_is, psa_is, by_kind.slip_room inside.geometry one_inside ssa)
 
     new_count : count - psa - ssa ≡ count_of inside.geometry ssa
-    new_count = omega (arith, count_is, psa_is, by_kind.slip_counts inside.geometry ssa)
+    new_count = omega (arith, count_is, psa_is, by_kind.slip_counts inside.geometry one_inside ssa)
 
     pub resized_by : table_in (record inside { logical = count - psa - ssa }) ≡ record table { logical = count_of table.shape ssa }
     resized_by = ap (λ (n : ℕ). record (table_in inside) { logical = n }) new_count ∙ ap (λ (t : SlipTable). record t { logical = count_of t.shape ssa }) view

@@ -1,6 +1,7 @@
 //! What follows for slipping by a table.
 
 ghost use Rattle.std.specs.Prelude.{◌≡◌, ℕ};
+ghost use Rattle.model_geometry.specs.declared.kinds.LayoutKind.TheVariants.{OneGroup};
 ghost use Rattle.model_geometry.specs.Geometry.{Shape};
 ghost use Rattle.model_lists.specs.Values.{Dds};
 ghost use Rattle.model_places.specs.Places.{count_of, pools_of};
@@ -9,7 +10,8 @@ ghost use Rattle.ram_layout.specs.Slipping.{SlipTable, IsSlippingOf, slip_pools}
 
 /// The pools of a table are those of its disc.
 pub fn a_table_has_the_pools_of_its_disc()
-    ensures { (shape : Shape) (dds : Dds) (ssa : ℕ) (table : SlipTable) → IsValidPdl shape dds
+    ensures { (shape : Shape) (dds : Dds) (ssa : ℕ) (table : SlipTable) → shape.layout ≡ OneGroup
+        → IsValidPdl shape dds
         → IsValidOnSome shape ssa
         → IsSlippingOf shape dds (count_of shape ssa) table
         → slip_pools table ≡ pools_of shape dds ssa }

@@ -1,6 +1,7 @@
 //! Slipping by a table of runs.
 
 ghost use Rattle.std.specs.Prelude.{◌≡◌, ◌+◌, ◌-◌, ◌≤◌, IfOk, length};
+ghost use Rattle.model_geometry.specs.declared.kinds.LayoutKind.TheVariants.{OneGroup};
 ghost use Rattle.model_places.specs.Places.{count_of};
 ghost use Rattle.model_places.specs.Valid.{IsValidPdl, IsValidOnSome};
 ghost use Rattle.ram_dds.specs.Dds.{dds_of};
@@ -49,6 +50,7 @@ impl SlipLayout {
     ) -> Result<SlipLayout, AllocError>
         requires valid { IsValidPdl geometry.now (dds_of dds.now) }
         requires area { IsValidOnSome geometry.now ssa }
+        requires one { geometry.now.layout ≡ OneGroup }
         ensures { IfOk result (IsSlippingOf geometry.now (dds_of dds.now)
             (count_of geometry.now ssa)) }
     {
@@ -68,6 +70,7 @@ impl SlipLayout {
     pub fn rebuild(&mut self, geometry: &Geometry, dds: &DdsPdl, ssa: u32)
         requires valid { IsValidPdl geometry.now (dds_of dds.now) }
         requires area { IsValidOnSome geometry.now ssa }
+        requires one { geometry.now.layout ≡ OneGroup }
         requires room { geometry.now.zones + geometry.now.psa ≤ self.old.room }
         ensures { IsSlippingOf geometry.now (dds_of dds.now)
             (count_of geometry.now ssa) self.new }
@@ -83,6 +86,7 @@ impl SlipLayout {
     /// Changes the size of the supplementary spare area. It takes no memory.
     pub fn set_ssa(&mut self, ssa: u32)
         requires area { IsValidOnSome self.old.shape ssa }
+        requires one { self.old.shape.layout ≡ OneGroup }
         requires fits { self.old.primary + count_of self.old.shape ssa ≤ length self.old.blocks }
         ensures { self.new ≡ record self.old { logical = count_of self.old.shape ssa } }
     {
