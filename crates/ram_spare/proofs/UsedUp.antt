@@ -5,11 +5,12 @@ use Rattle.std.specs.List.Sorted.{IsStrictlyIncreasing}
 use Rattle.std.proofs.lemmas.Bool.{cases_Bool, cond-true, cond-false, true≢false, false_from_ne_true}
 use Rattle.std.proofs.lemmas.Cmp.{nat_eq_equiv}
 use Rattle.std.proofs.lemmas.List.{length-map, get_or-map, get_or-take, get_or-drop, length-take, length-drop}
-use Rattle.std.proofs.lemmas.List.Elements.{All-contains, Contains-append_left, Contains-append_right}
+use Rattle.std.proofs.lemmas.List.Elements.{All-contains}
 use Rattle.std.proofs.lemmas.List.Filters.{length-filter_both}
 use Rattle.std.proofs.lemmas.List.Sums.{length-filter, sum_by-cons, sum_by-take-le, count_by_more_yes, count_by_more_no}
 use Rattle.std.proofs.lemmas.Map.Keys.{IsDistinct-cons, IsDistinct-tail}
 use Rattle.std.proofs.lemmas.Map.Made.{length-from_same_keys}
+use Rattle.model_geometry.specs.declared.kinds.LayoutKind.TheVariants.{OneGroup}
 use Rattle.model_geometry.specs.Geometry.{Shape}
 use Rattle.model_lists.specs.declared.sdl.SdlEntry.{SdlEntry}
 use Rattle.model_lists.specs.Values.{defectives}
@@ -32,8 +33,8 @@ use Rattle.ram_slip.proofs.Spares.{first_many}
 
 -- ---- how many supplementary spares there are
 
-last_many : (shape : Shape) (lists : Lists) (valid : IsValidPdl shape lists.dds) {version : Version} (area : IsValidSsa shape version lists.sdl.ssa) → length (supplementary_spares shape lists.dds lists.sdl.ssa) ≡ lists.sdl.ssa
-last_many shape lists valid area = let all = slips_are_all shape lists.dds lists.sdl.ssa valid area in omega (arith, length-drop (length (unslipped shape lists.dds) - lists.sdl.ssa) (unslipped shape lists.dds), all)
+last_many : (shape : Shape) (lists : Lists) → shape.layout ≡ OneGroup → (valid : IsValidPdl shape lists.dds) {version : Version} (area : IsValidSsa shape version lists.sdl.ssa) → length (supplementary_spares shape lists.dds lists.sdl.ssa) ≡ lists.sdl.ssa
+last_many shape lists one valid area = let all = slips_are_all shape one lists.dds lists.sdl.ssa valid area in omega (arith, length-drop (length (unslipped shape lists.dds) - lists.sdl.ssa) (unslipped shape lists.dds), all)
 
 -- ---- numbers that differ
 
@@ -204,24 +205,24 @@ module _ (some : List ℕ) (entries : List SdlEntry) (k left x : ℕ) (d : SdlEn
       let same = count_by_more_no (λ (e : SdlEntry). is_listed some (used e)) entries k d below (test_is ∙ false_from_ne_true (is_listed some x) (λ t. none ((Decides-is_listed some x).0 t))) in
       omega (arith, before, same)
 
-module _ (shape : Shape) (lists : Lists) (valid : AreValid shape lists) where
+module _ (shape : Shape) (lists : Lists) (one : shape.layout ≡ OneGroup) (valid : AreValid shape lists) where
   primary_area : count_by (is_free lists) (primary_spares shape lists.dds) + uses (primary_spares shape lists.dds) lists.sdl.entries ≡ length (primary_spares shape lists.dds)
   primary_area =
       area_is shape lists valid.together.secondary (primary_spares shape lists.dds)
       (IsDistinct-from_increasing (primary_spares shape lists.dds) (rising_front (primary_count shape lists.dds) (unslipped shape lists.dds) (unslipped_rise shape lists.dds)))
-      (from_primary shape lists.dds lists.sdl.ssa)
+      (from_primary shape lists.dds lists.sdl.ssa one)
 
   supplementary_area : count_by (is_free lists) (supplementary_spares shape lists.dds lists.sdl.ssa) + uses (supplementary_spares shape lists.dds lists.sdl.ssa) lists.sdl.entries ≡ length (supplementary_spares shape lists.dds lists.sdl.ssa)
   supplementary_area =
       area_is shape lists valid.together.secondary (supplementary_spares shape lists.dds lists.sdl.ssa)
       (IsDistinct-from_increasing (supplementary_spares shape lists.dds lists.sdl.ssa) (rising_rest (length (unslipped shape lists.dds) - lists.sdl.ssa) (unslipped shape lists.dds) (unslipped_rise shape lists.dds)))
-      (from_supplementary shape lists.dds lists.sdl.ssa)
+      (from_supplementary shape lists.dds lists.sdl.ssa one)
 
   -- before the first entry
   pub left_first : (primary : ℕ) → primary ≡ primary_count shape lists.dds → AreLeft shape lists 0 primary lists.sdl.ssa
   left_first primary is = record {
-    primary_are = omega (arith, is, first_many shape lists.dds lists.sdl.ssa valid.primary valid.together.secondary.area);
-    supplementary_are = omega (arith, last_many shape lists valid.primary valid.together.secondary.area);
+    primary_are = omega (arith, is, first_many shape lists.dds lists.sdl.ssa one valid.primary valid.together.secondary.area);
+    supplementary_are = omega (arith, last_many shape lists one valid.primary valid.together.secondary.area);
   }
 
   -- after all of them
@@ -229,20 +230,20 @@ module _ (shape : Shape) (lists : Lists) (valid : AreValid shape lists) where
       → (primary ≡ free_primary_count shape lists) × (supplementary ≡ free_supplementary_count shape lists)
   left_last k primary supplementary past left =
       let all = take_all k lists.sdl.entries past in (
-        omega (arith, primary_area, free_primary_is shape lists, left.primary_are, ap (uses (primary_spares shape lists.dds)) all),
-        omega (arith, supplementary_area, free_supplementary_is shape lists, left.supplementary_are, ap (uses (supplementary_spares shape lists.dds lists.sdl.ssa)) all),
+        omega (arith, primary_area, free_primary_is shape one lists, left.primary_are, ap (uses (primary_spares shape lists.dds)) all),
+        omega (arith, supplementary_area, free_supplementary_is shape one lists, left.supplementary_are, ap (uses (supplementary_spares shape lists.dds lists.sdl.ssa)) all),
       )
 
   module _ (k primary supplementary x : ℕ) (d : SdlEntry) (below : k < length lists.sdl.entries) (is : x ≡ used (get_or lists.sdl.entries k d)) (before : AreLeft shape lists k primary supplementary) where
     not_first : (place : Place) → IsAtPlace shape lists.dds lists.sdl.ssa x place → (place ≡ places.Primary → ⊥) → primary + uses (primary_spares shape lists.dds) (take (k + 1) lists.sdl.entries) ≡ length (primary_spares shape lists.dds)
     not_first place at other =
         as_many (primary_spares shape lists.dds) lists.sdl.entries k primary x d below is before.primary_are
-        (λ has. other (one_place shape lists.dds lists.sdl.ssa x valid.primary valid.together.secondary.area place places.Primary at has))
+        (λ has. other (one_place shape lists.dds lists.sdl.ssa x one valid.primary valid.together.secondary.area place places.Primary at has))
 
     not_last : (place : Place) → IsAtPlace shape lists.dds lists.sdl.ssa x place → (place ≡ places.Supplementary → ⊥) → supplementary + uses (supplementary_spares shape lists.dds lists.sdl.ssa) (take (k + 1) lists.sdl.entries) ≡ length (supplementary_spares shape lists.dds lists.sdl.ssa)
     not_last place at other =
         as_many (supplementary_spares shape lists.dds lists.sdl.ssa) lists.sdl.entries k supplementary x d below is before.supplementary_are
-        (λ has. other (one_place shape lists.dds lists.sdl.ssa x valid.primary valid.together.secondary.area place places.Supplementary at has))
+        (λ has. other (one_place shape lists.dds lists.sdl.ssa x one valid.primary valid.together.secondary.area place places.Supplementary at has))
 
     -- one more entry
     pub left_more : (place : Place) → IsAtPlace shape lists.dds lists.sdl.ssa x place → LeavesAt shape lists (k + 1) primary supplementary place
