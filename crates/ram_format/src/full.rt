@@ -116,6 +116,7 @@ fn format_disc<M: Medium>(
     let FormatRoom { found, merged } = room;
     let Lists { dds, sdl } = lists;
     let psa = geometry.psa();
+    dds.layout = geometry.layout();
     dds.version = Version::Two;
     dds.counter = mark + 1;
     dds.state = DdsState::Formatting;
