@@ -38,7 +38,7 @@ module _ {M : Type 0} (world : M → World) (block_count : M → ℕ) (reaches :
   module _ (shape : Shape) (lists : Lists) (valid : AreValid shape lists) (capacity : ℕ) (size : IsSmaller shape lists capacity)
       (old : M) (settled : AreSettled shape (world old).cells lists) where
     pub area : IsValidSsa shape lists.sdl.version (ssa_for shape capacity)
-    area = lawful_area shape lists valid capacity size.lawful.some size.lawful.whole size.lawful.fewer size.lawful.most
+    area = lawful_area shape lists valid capacity size.lawful.some size.lawful.whole size.lawful.fewer size.lawful.most size.lawful.grows
 
     pub grows : lists.sdl.ssa ≤ ssa_for shape capacity
     grows = larger_area shape lists valid capacity size.lawful.some size.lawful.whole size.lawful.fewer size.lawful.most

@@ -55,7 +55,7 @@ area_for-ssa-requires g c = left_within c.args.geometry.now (lists_of c.args.lis
 pub draft_expanded-requires-clause-area : goal.draft_expanded-requires-clause-area
 draft_expanded-requires-clause-area g c =
     let size = c.in-Smaller.ensures in
-    rw c.area_for-ssa.ensures.area (lawful_area c.args.geometry.now (lists_of c.args.lists.now) c.requires.fit.valid c.args.capacity size.lawful.some size.lawful.whole size.lawful.fewer size.lawful.most)
+    rw c.area_for-ssa.ensures.area (lawful_area c.args.geometry.now (lists_of c.args.lists.now) c.requires.fit.valid c.args.capacity size.lawful.some size.lawful.whole size.lawful.fewer size.lawful.most size.lawful.grows)
 
 pub draft_expanded-requires-clause-grows : goal.draft_expanded-requires-clause-grows
 draft_expanded-requires-clause-grows g c =
