@@ -68,6 +68,7 @@ fn roomy_layout(
     requires { dds.old.entries ≡ [] }
     ensures { IfOk result (λ layout. geometry.now.zones + geometry.now.psa ≤ layout.room) }
 {
+    dds.layout = geometry.layout();
     dds.psa = geometry.psa();
     SlipLayout::new(alloc, geometry, dds, 0)
 }
@@ -102,6 +103,7 @@ impl Workspace {
         ensures laid_out { IsLaidOut geometry.now (lists_of lists.now) self.new.layout self.new.cursors }
         ensures same_buffer { self.new.buffer ≡ self.old.buffer }
     {
+        let _layout = geometry.layout();
         self.layout.rebuild(geometry, &lists.dds, lists.sdl.ssa);
         self.cursors.reset();
     }
