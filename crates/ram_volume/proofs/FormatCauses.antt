@@ -1,11 +1,9 @@
 -- From the rule of a full format to the cause of its answer, one lemma for each.
 use Rattle.std.proofs.Common.{◌≡◌, ℕ, ◌+◌, ◌-◌, ◌*◌, ◌⊎◌, inl, inr, Bool, Option, Some, None, List, [], length, refl, ap, subst, arith}
 use Rattle.std.specs.List.{Contains}
-use Rattle.std.proofs.lemmas.List.{length-map}
 use Rattle.model_geometry.specs.Geometry.{Shape, data_blocks}
 use Rattle.model_lists.specs.declared.dds.PdlEntry.{PdlEntry}
 use Rattle.model_lists.specs.declared.dds.PdlKind.{PdlKind}
-use Rattle.model_lists.specs.Values.{pdl_blocks}
 use Rattle.model_medium.specs.World.{World, Span}
 use Rattle.model_medium.specs.Machine.{Machine}
 use Rattle.model_medium.specs.Exact.{Event}
@@ -14,7 +12,6 @@ use Rattle.model_medium.specs.declared.WornBlock.{WornBlock}
 use Rattle.model_medium.specs.declared.ArmedCut.{ArmedCut}
 use Rattle.model_stops.specs.declared.Stop.{Stop}
 use Rattle.model_places.specs.Places.{Lists}
-use Rattle.model_places.proofs.ByKind.{slips_few, entries_few}
 use Rattle.model_formats.specs.Defects.{IsKept, kind_found}
 use Rattle.model_drive.specs.declared.FormatOut.TheVariants as outs
 use Rattle.model_drive.specs.Shown.{Shown, WhenKnown}
@@ -24,7 +21,7 @@ use Rattle.ram_format.specs.Keeping.{AreAllKept}
 use Rattle.ram_format.specs.Full.{uses_of_two, uses_of_three, uses_of_all, FormatGoes, AreDefects, AreFewDefects, MakesLists, MeetsTooMany, LosesFirst, LosesSecond, LosesThird, FormatStopped}
 use Rattle.ram_transfer.specs.Shown.{shown_without, shown_unformatted, shown_under}
 use Rattle.ram_transfer.proofs.Machines.{machine_stops}
-use Rattle.ram_volume.proofs.SameKept.{same_certified, same_changes, same_defective, no_more}
+use Rattle.ram_volume.proofs.SameKept.{same_certified, same_changes, same_defective, still_few}
 
 module _ {M : Type 0} (world : M → World) (reaches : M → M → Span → Type 0) (takes : M → M → Event → Type 0) (arms : M → List WornBlock) (armed_cut : M → Option ArmedCut)
     (laws : ControlLaws world reaches takes arms armed_cut) (shape : Shape) (lists : Option Lists) (mark : ℕ) (buffer : List (ℕ × List ℕ)) (drop_sdl : Bool)
@@ -69,9 +66,7 @@ module _ {M : Type 0} (world : M → World) (reaches : M → M → Span → Type
   few : (made : Option Lists) (left : ℕ) → AreFewDefects world reaches shape kept kind mark old new → WhenKnown before (AreFewDefective before (after made left) drop_sdl)
   few made left are known others too =
       let defective = same_defective shape (Contains kept) (IsKept lists drop_sdl) all.each all.all kind (world new).cells are.entries (are.defects.defective known) in
-      let less = no_more shape (IsKept lists drop_sdl) kind (world new).cells are.entries others defective too in
-      let most = slips_few shape (pdl_blocks are.entries) are.few in
-      entries_few shape others (omega (arith, less, most, length-map are.entries (λ (e : PdlEntry). e.block)))
+      still_few shape (IsKept lists drop_sdl) kind (world new).cells are.entries others defective too are.few
 
   -- the disc is formatted
   pub good_cause : (made : Lists) → MakesLists world reaches shape kept kind mark old new made → FullCause before (shown_under shape (machine new) made []) drop_sdl outs.Good

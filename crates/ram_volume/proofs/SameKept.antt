@@ -1,13 +1,17 @@
 -- Two words for what a format keeps that mean the same: what is said with one is so with the other.
-use Rattle.std.proofs.Common.{ℕ, ◌<◌, ◌≤◌, inl, inr, List, length, get_or, sym, subst, arith}
-use Rattle.std.specs.List.{All, Contains}
+use Rattle.std.proofs.Common.{ℕ, ◌<◌, ◌≤◌, inl, inr, Bool, List, length, get_or, sym, subst, arith}
+use Rattle.std.specs.List.{All, Contains, filter}
 use Rattle.std.proofs.lemmas.List.{get_or-map, length-map}
-use Rattle.std.proofs.lemmas.List.Elements.{Contains-get_or}
-use Rattle.model_geometry.specs.Geometry.{Shape}
+use Rattle.std.proofs.lemmas.List.Elements.{All-contains, Contains-get_or}
+use Rattle.std.proofs.lemmas.List.Kept.{IsStrictlyIncreasing-filter}
+use Rattle.model_geometry.specs.Geometry.{Shape, is_inside}
 use Rattle.model_lists.specs.declared.dds.PdlEntry.{PdlEntry}
 use Rattle.model_lists.specs.declared.dds.PdlKind.{PdlKind}
 use Rattle.model_lists.specs.Values.{pdl_blocks}
 use Rattle.model_medium.specs.Cells.{Cell}
+use Rattle.model_pools.proofs.Listed.{Contains-filter, Contains-from_filter}
+use Rattle.model_places.specs.Valid.{SlipsFew, slipped_in}
+use Rattle.model_places.proofs.ByKind.{cases_kind, slips_few, slips_few_from, zones_few, zones_few_from}
 use Rattle.model_formats.specs.Defects.{IsCertified, AreCertified, ChangesFormatted, IsFoundDefective, AreDefective}
 use Rattle.ram_format.proofs.Found.{few_within}
 use Rattle.ram_format.proofs.Keeps.{block_of_entry}
@@ -40,7 +44,7 @@ module _ (shape : Shape) (P Q : PdlEntry → Type 0) (to : (entry : PdlEntry) �
       found = λ entry found. are.found entry (found_from entry found);
     }
 
--- the defective blocks are one list's worth: another list of them has no more
+-- the defective blocks are one list's worth: where those of one list are few enough to be slipped, so are another's
 module _ (shape : Shape) (P : PdlEntry → Type 0) (kind : PdlKind) (cells : List Cell) (entries others : List PdlEntry) (are : AreDefective shape P kind cells entries) (too : AreDefective shape P kind cells others) where
   in_both : (entry : PdlEntry) → Contains others entry → Contains entries entry
   in_both entry has = elim (too.each entry has) [ inl kept ↦ are.kept entry kept | inr found ↦ are.found entry found ]
@@ -52,7 +56,23 @@ module _ (shape : Shape) (P : PdlEntry → Type 0) (kind : PdlKind) (cells : Lis
       subst (Contains (pdl_blocks entries)) (sym (get_or-map (λ (x : PdlEntry). x.block) others k e d inside))
       (block_of_entry entries (get_or others k e) (in_both (get_or others k e) (Contains-get_or others k e inside)))
 
-  pub no_more : length others ≤ length entries
-  no_more =
-      let few = few_within (pdl_blocks entries) (pdl_blocks others) are.rise too.rise blocks_in in
-      omega (arith, few, length-map entries (λ (x : PdlEntry). x.block), length-map others (λ (x : PdlEntry). x.block))
+  -- so each zone has no more of them
+  inside_in : (zone : ℕ) → All (Contains (filter (λ block. is_inside shape block zone) (pdl_blocks entries))) (filter (λ block. is_inside shape block zone) (pdl_blocks others))
+  inside_in zone k d within =
+      let p : ℕ → Bool = λ block. is_inside shape block zone in
+      let block = get_or (filter p (pdl_blocks others)) k d in
+      let has = Contains-from_filter p (pdl_blocks others) block (Contains-get_or (filter p (pdl_blocks others)) k d within) in
+      Contains-filter p (pdl_blocks entries) block has.0 (All-contains (Contains (pdl_blocks entries)) (pdl_blocks others) block blocks_in has.1)
+
+  no_more_inside : (zone : ℕ) → slipped_in shape (pdl_blocks others) zone ≤ slipped_in shape (pdl_blocks entries) zone
+  no_more_inside zone =
+      let p : ℕ → Bool = λ block. is_inside shape block zone in
+      few_within (filter p (pdl_blocks entries)) (filter p (pdl_blocks others)) (IsStrictlyIncreasing-filter p (pdl_blocks entries) are.rise) (IsStrictlyIncreasing-filter p (pdl_blocks others) too.rise) (inside_in zone)
+
+  pub still_few : SlipsFew shape (pdl_blocks entries) → SlipsFew shape (pdl_blocks others)
+  still_few few = elim (cases_kind shape.layout) [
+    | inl is ↦ slips_few_from shape is (pdl_blocks others)
+        (let most = slips_few shape is (pdl_blocks entries) few in let less = few_within (pdl_blocks entries) (pdl_blocks others) are.rise too.rise blocks_in in omega (arith, most, less))
+    | inr is ↦ zones_few_from shape is (pdl_blocks others)
+        (λ zone within. let most = zones_few shape is (pdl_blocks entries) few zone within in let less = no_more_inside zone in omega (arith, most, less))
+  ]
