@@ -8,3 +8,4 @@ pub mod EventSteps
 pub mod MachineParts
 mod LeftMachine
 mod GoodRows
+mod Faults

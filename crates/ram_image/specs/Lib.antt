@@ -4,3 +4,4 @@ pub mod EventBytes
 pub mod Medium
 pub mod Begun
 pub mod Opening
+pub mod OneProof

@@ -43,11 +43,15 @@ pub fn geometry_of(bytes: &[u8; 16]) -> Option<Geometry>
     let zones = u32::from(get_u16(bytes, ZONES_AT));
     let scale = u32::from(get_u16(bytes, SCALE_AT));
     let spares = u32::from(get_u16(bytes, SPARES_AT));
-    let geometry = Geometry::new(zones, scale, spares).ok()?;
-    if header(&geometry) == *bytes {
-        Some(geometry)
-    } else {
-        None
+    match Geometry::new(zones, scale, spares) {
+        Ok(geometry) => {
+            if header(&geometry) == *bytes {
+                Some(geometry)
+            } else {
+                None
+            }
+        }
+        Err(_) => None,
     }
 }
 

@@ -8,6 +8,7 @@ ghost use Rattle.model_image.specs.Image.{IsDiscImage, IsImageOf};
 ghost use Rattle.model_medium.specs.Machine.{is_killed, arms_after, fate_due, cut_after};
 ghost use Rattle.ram_medium.specs.Countdown.{arms_of, armed_cut_of};
 ghost use Rattle.ram_image.specs.CellCalls.{HaveGoodStates};
+ghost use Rattle.ram_image.specs.OneProof.{disc_there-prop};
 
 use crate::cells::{GoodRow, count_good, kill_cell, kill_where, leave_cell, read_data};
 use ram_bytes::Block;
@@ -33,7 +34,7 @@ pub struct ImageMedium<I: Image> {
     ghost good: { ForSome (I.bytes image) (λ held. HaveGoodStates held good_from good_to) } by { Prim.hlevel props },
     ghost within: { good_to ≤ total geometry },
     // Where the bytes of the image are known, they are the image of a disc of this geometry.
-    ghost disc: { ForSome (I.bytes image) (IsDiscImage geometry) } by { Prim.hlevel props },
+    ghost disc: { ForSome (I.bytes image) (IsDiscImage geometry) } by { disc_there-prop geometry (I.bytes image) },
 }
 
 /// How a use of a block begins.
