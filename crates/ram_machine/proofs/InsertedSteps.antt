@@ -1,6 +1,7 @@
 -- What a line leaves of the inserted disc.
 use Rattle.std.specs.Prelude.{◌≡◌, ℕ, Option, Some, List}
 use Rattle.std.proofs.Common.{refl, sym, ap, ◌∙◌, subst}
+use Rattle.model_geometry.specs.Geometry.{Shape, IsLawful}
 use Rattle.model_drive.specs.Shown.{Shown}
 use Rattle.model_target.specs.declared.host.Host.{Host}
 use Rattle.ram_outside.specs.declared.image.Image.{Ghosts as Images}
@@ -64,17 +65,20 @@ module _ {D I : Type 0} (drives : Drives D) (lies_in : D → Option (List ℕ)) 
       stays_labelled (drives.shows old.disc) (drives.shows new.disc) (drives.stands old.disc) (drives.stands new.disc) old.host new.host line payload outcome data_in rule same_shape
       (subst (λ (shown : CacheShown). IsLabelled shown.drive) (sym is.shown_is) s.labelled) in
       let stands = (laws.as_shown new.disc found.0).0 found.1 in
-      let there = lies_there (drives.shows new.disc).drive (lies_in new.disc) (contents_known (drives.shows new.disc) found.0 stands) labelled (lying.has_cells new.disc) in
+      let shape : (drives.shows new.disc).drive.shape ≡ s.disc.shown.drive.shape = same_shape ∙ ap (λ (shown : CacheShown). shown.drive.shape) is.shown_is in
+      let lawful = subst IsLawful (sym shape) s.image.disc.has_header.lawful in
+      let there = lies_there (drives.shows new.disc).drive (lies_in new.disc) (contents_known (drives.shows new.disc) found.0 stands) labelled lawful (lying.has_cells new.disc) in
       let t : Served = record {
         disc = record { shown = drives.shows new.disc; contents = found.0; sound = laws.drive_sound new.disc; cache_sound = laws.sound new.disc; stands = stands };
         host = new.host;
+        one = ap (λ (z : Shape). z.layout) shape ∙ s.one;
         labelled = labelled;
         bytes = there.bytes;
         image = there.image_is;
       } in (
         t,
         record {
-          same_shape = same_shape ∙ ap (λ (shown : CacheShown). shown.drive.shape) is.shown_is;
+          same_shape = shape;
           rule = subst (λ (host : Host). DiscRule s.disc.shown (drives.shows new.disc) (λ x. x ≡ s.disc.contents) (λ x. x ≡ found.0) host new.host line payload outcome data_in) is.host_is
               (subst (λ (shown : CacheShown). DiscRule shown (drives.shows new.disc) (λ x. x ≡ s.disc.contents) (λ x. x ≡ found.0) old.host new.host line payload outcome data_in) is.shown_is found.2);
           bytes = subst (λ (shown : CacheShown). LineBytes line outcome shown.drive (Some s.bytes) (drives.shows new.disc).drive (Some there.bytes)) is.shown_is

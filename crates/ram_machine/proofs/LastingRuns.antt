@@ -50,7 +50,7 @@ use Rattle.ram_machine.specs.LineSteps.{DiscRule, OnDisc, Step}
 use Rattle.ram_machine.specs.Runs.{IsStep, Run}
 use Rattle.ram_machine.specs.Answered.{AnsweredStep}
 use Rattle.ram_machine.specs.Survival.{KeepsAsAsked, KeepsAsDecoded, KeepsDisc, KeepDisc, AsksNoExpansion, LeavesCapacity, LeaveCapacity, HasInUse, HasTwoCopies, LastsNow, IsReadyOrCut}
-use Rattle.ram_machine.proofs.Images.{image_left}
+use Rattle.ram_machine.proofs.Images.{image_left, kind_again}
 use Rattle.ram_machine.proofs.SoundChains.{contents_known, IsWell}
 use Rattle.ram_machine.proofs.Decoded.{asks_for}
 use Rattle.ram_machine.proofs.Acknowledged.{not_pressed}
@@ -362,7 +362,7 @@ now_begins (Disc s) lists is = begins s.disc.shown.drive lists s.disc.sound (con
 same_cells : (s t : Served) (bytes : List ℕ) → IsLeft (Disc s) bytes → IsFirst bytes (Disc t) → (t.disc.shown.drive.shape ≡ s.disc.shown.drive.shape) × (cells_in t.disc.shown.drive ≡ cells_in s.disc.shown.drive) × ¬ IsOn t.disc.shown.drive
 same_cells s t bytes left first =
     let image = image_left s bytes left in
-    let shape : first.0 ≡ s.disc.shown.drive.shape = one_header first.0 s.disc.shown.drive.shape bytes first.1.has_header image.disc.has_header in (
+    let shape : first.0 ≡ s.disc.shown.drive.shape = one_header first.0 s.disc.shown.drive.shape bytes (kind_again first.0 (cells_of (total first.0) bytes) bytes s t first.2) first.1.has_header image.disc.has_header in (
       ap (λ (x : CacheShown). x.drive.shape) first.2.opened.shown_is ∙ shape,
       ap (λ (x : CacheShown). cells_in x.drive) first.2.opened.shown_is ∙ ap (λ (z : Shape). cells_of (total z) bytes) shape ∙ image.cells_are,
       λ on. (let off : false ≡ true = subst (λ (x : CacheShown). IsOn x.drive) first.2.opened.shown_is on in cc),

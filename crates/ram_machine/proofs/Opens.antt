@@ -3,6 +3,7 @@ use Rattle.std.specs.Prelude.{◌≡◌, ◌≢◌, ℕ, ◌<◌, ◌≤◌, ◌
 use Rattle.std.proofs.Common.{arith, refl, sym, ap, ◌∙◌, inl, inr, subst}
 use Rattle.std.proofs.lemmas.List.FromFn.{length-map-range_with_len}
 use Rattle.model_bytes.specs.Known.{WhereKnown}
+use Rattle.model_geometry.specs.declared.kinds.LayoutKind.TheVariants.{OneGroup}
 use Rattle.model_geometry.specs.Geometry.{Shape, IsLawful, label_of, total}
 use Rattle.model_medium.specs.Cells.{Cell}
 use Rattle.model_medium.specs.Machine.{Machine}
@@ -10,7 +11,7 @@ use Rattle.model_medium.specs.declared.WornBlock.{WornBlock}
 use Rattle.model_medium.specs.declared.ArmedCut.{ArmedCut}
 use Rattle.model_image.specs.Cells.{image_len, cell_in, cells_of, cells_known}
 use Rattle.model_image.specs.Image.{HasHeader, IsDiscImage, IsImageOf, IsStoppedPress, PressesImage, blank_cells, pressed_image}
-use Rattle.model_image.proofs.Headers.{one_header}
+use Rattle.model_image.proofs.Headers.{one_header, total_by_header}
 use Rattle.model_image.proofs.WholeCells.{cells_of-whole}
 use Rattle.model_drive.specs.Shown.{Shown, StandsFor, cells_in}
 use Rattle.model_drive.specs.Runs.{Loaded, opened_drive, IsOpenedOn}
@@ -66,7 +67,7 @@ of_drive s = record {
   stands = stands_plainly (StandsFor s.shown) s.standing s.stands;
 }
 
-module _ {I : Type 0} {d : Images I} (image : I) (medium : ImageMedium I d) (geometry : Shape) (opened : IsOpened image medium geometry) (shown : Shown) (made : shown ≡ shown_without geometry (machine_in medium)) where
+module _ {I : Type 0} {d : Images I} (image : I) (medium : ImageMedium I d) (geometry : Shape) (one : geometry.layout ≡ OneGroup) (opened : IsOpened image medium geometry) (shown : Shown) (made : shown ≡ shown_without geometry (machine_in medium)) where
   module _ (bytes : List ℕ) (known : d.bytes image ≡ Some bytes) where
     disc_there : IsDiscImage geometry bytes
     disc_there = subst (λ o. IfSome o (IsDiscImage geometry)) known opened.disc
@@ -92,6 +93,7 @@ module _ {I : Type 0} {d : Images I} (image : I) (medium : ImageMedium I d) (geo
     unfolding of_drive
     opened_by cached is = record {
       shape = geometry;
+      one = one;
       image = disc_there;
       disc = of_drive loaded.0;
       opened = record { faults = loaded.1.faults; shown_is = ap uncached loaded.1.shown_is; all = loaded.1.all; standing = loaded.0.standing; starts = loaded.1.starts; contents_is = refl };
@@ -121,6 +123,7 @@ module _ {D I : Type 0} (drives : Drives D) (lies_in : D → Option (List ℕ)) 
   served = record {
     disc = by.disc;
     host = powered_on;
+    one = ap (λ (x : CacheShown). x.drive.shape.layout) by.opened.shown_is ∙ by.one;
     labelled = opened_labelled by.shape (cells_of (total by.shape) bytes) by.disc by.opened;
     bytes = bytes;
     image = opened_image by.shape bytes by.disc by.image by.opened;
@@ -144,7 +147,7 @@ pressed_bytes s shape None after left pressed = absurd left
 pressed_bytes s shape (Some before) None left pressed = absurd pressed
 pressed_bytes s shape (Some before) (Some after) left pressed = record { bytes = after; known = refl; bytes_are = pressed.bytes; image_is = pressed.image }
 
-module _ {D I : Type 0} (drives : Drives D) (lies_in : D → Option (List ℕ)) (images : Images I) (s : State) (shape : Shape) (lawful : IsLawful shape) where
+module _ {D I : Type 0} (drives : Drives D) (lies_in : D → Option (List ℕ)) (images : Images I) (s : State) (shape : Shape) (kind : shape.layout ≡ OneGroup) (lawful : IsLawful shape) where
   -- the image stopped a press
   pub press_stopped : (before : Option (List ℕ)) (image : I) → LeavesImage s before → WhereKnown before (images.bytes image) IsStoppedPress → IsPressAnswered s shape (Stands drives lies_in images (inserts.Image image)) (Err whys.ImageFault)
   press_stopped before image left stopped = by_bytes before (images.bytes image) left stopped refl
@@ -163,7 +166,7 @@ module _ {D I : Type 0} (drives : Drives D) (lies_in : D → Option (List ℕ)) 
         → lies_in target.disc ≡ images.bytes image → IsPressAnswered s shape (Stands drives lies_in images (inserts.Disc target)) (event events.Pressed)
     press_opened target host_is opening same =
         let by = opening found.bytes found.known in
-        let one : by.shape ≡ shape = one_header by.shape shape found.bytes by.image.has_header found.image_is.disc.has_header in
+        let one : by.shape ≡ shape = one_header by.shape shape found.bytes (by.one ∙ sym kind) by.image.has_header found.image_is.disc.has_header in
         let lies : lies_in target.disc ≡ Some found.bytes = same ∙ found.known in
         let disc = served drives lies_in images found.bytes target by host_is lies in
         record {
@@ -193,7 +196,7 @@ module _ {D I : Type 0} (drives : Drives D) (lies_in : D → Option (List ℕ)) 
 
         cases : (len < 16) ⊎ ((z : Shape) × HasHeader z found.bytes × (len ≢ image_len (total z))) → ⊥
         cases (inl short) = omega (arith, bad.0, long)
-        cases (inr other) = other.2 (bad.0 ∙ long ∙ ap (λ (z : Shape). image_len (total z)) (one_header shape other.0 found.bytes found.image_is.disc.has_header other.1))
+        cases (inr other) = other.2 (bad.0 ∙ long ∙ ap image_len (total_by_header shape other.0 found.bytes found.image_is.disc.has_header other.1))
     press_refused image' faults faults' faulty.Fault refused = record { state = Unopened found.bytes; step = (lawful, inr found.image_is); stands = refused.same ∙ found.known }
     press_refused image' faults faults' faulty.NoMemory refused = record { state = Unopened found.bytes; step = (lawful, found.image_is); stands = refused.same ∙ found.known }
 
@@ -223,7 +226,7 @@ module _ {D I : Type 0} (drives : Drives D) (lies_in : D → Option (List ℕ)) 
     where
       clash : (bytes : List ℕ) (shape : Shape) → other.0 ≡ length bytes → IsDiscImage shape bytes → (other.0 < 16) ⊎ ((z : Shape) × HasHeader z bytes × (other.0 ≢ image_len (total z))) → ⊥
       clash bytes shape long there (inl short) = let whole = there.as_long in omega (arith, long, whole)
-      clash bytes shape long there (inr z) = z.2 (long ∙ there.as_long ∙ ap (λ (y : Shape). image_len (total y)) (one_header shape z.0 bytes there.has_header z.1))
+      clash bytes shape long there (inr z) = z.2 (long ∙ there.as_long ∙ ap image_len (total_by_header shape z.0 bytes there.has_header z.1))
 
       of_other_length : (bytes : List ℕ) → images.bytes image ≡ Some bytes → IsRefused (images.bytes image) (images.bytes image') faults faults' (faulty.Length other.0) → StandsFirst bytes (Stands drives lies_in images (inserts.Image image'))
       of_other_length bytes known r =

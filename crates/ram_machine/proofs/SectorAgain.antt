@@ -25,7 +25,7 @@ use Rattle.ram_machine.specs.States.{State, Served, Unopened, Disc, IsLeft, IsFi
 use Rattle.ram_machine.specs.Runs.{Run}
 use Rattle.ram_machine.specs.Answered.{AnsweredStep}
 use Rattle.ram_machine.specs.SectorBytes.{bytes_of_sector}
-use Rattle.ram_machine.proofs.Images.{image_left}
+use Rattle.ram_machine.proofs.Images.{image_left, kind_again}
 use Rattle.ram_machine.proofs.WrittenDiscs.{SoInBlock, SoInValues, SoInContents, block_sector}
 use Rattle.ram_machine.specs.Register.{Lost, Register, reopened, IsRegisterAgain}
 use Rattle.ram_machine.proofs.SectorValues.{bytes_under, falls_under}
@@ -112,7 +112,7 @@ held_again : (fill at : ℕ) (s t : Served) (left : List ℕ) (r : Register) →
 held_again fill at s t left r was is first =
     let image = image_left s left is in
     let shape : Shape = first.0 in
-    let same : shape ≡ s.disc.shown.drive.shape = one_header shape s.disc.shown.drive.shape left first.1.has_header image.disc.has_header in
+    let same : shape ≡ s.disc.shown.drive.shape = one_header shape s.disc.shown.drive.shape left (kind_again shape (cells_of (total shape) left) left s t first.2) first.1.has_header image.disc.has_header in
     let cells : List Cell = cells_of (total shape) left in
     let same_cells : cells ≡ cells_in s.disc.shown.drive = ap (λ (z : Shape). cells_of (total z) left) same ∙ image.cells_are in
     let whole = cells_of-whole (total shape) left first.1.as_long in

@@ -1,6 +1,7 @@
 -- What a drive is that the lines of a script work with, beside its disc. For the trait of drives.
 use Rattle.std.specs.Prelude.{◌≡◌, ℕ, false, Option, Some, MatchOption, List}
-use Rattle.model_geometry.specs.Geometry.{Shape, label_of, total}
+use Rattle.model_geometry.specs.declared.kinds.LayoutKind.TheVariants.{OneGroup}
+use Rattle.model_geometry.specs.Geometry.{Shape, IsLawful, label_of, total}
 use Rattle.model_medium.specs.World.{World}
 use Rattle.model_image.specs.Cells.{cells_of}
 use Rattle.model_image.specs.Image.{IsDiscImage, IsImageOf}
@@ -11,10 +12,11 @@ use Rattle.model_target.specs.declared.host.Host.{Host}
 use Rattle.model_target.specs.Host.{powered_on}
 use Rattle.ram_machine.specs.Underwent.{UnderwentEvents}
 
--- An image of these bytes was opened: they are the image of a disc, in whose state the drive is. (This project's own, as all
--- here.)
+-- An image of these bytes was opened: they are the image of a disc with one group of spares, in whose state the drive is. (This
+-- project's own, as all here.)
 pub record IsOpenedBy (bytes : List ℕ) (shown : CacheShown) (stands : Contents → Type 0) : Type 0 where
   pub shape : Shape
+  pub one : shape.layout ≡ OneGroup
   pub image : IsDiscImage shape bytes
   pub disc : CacheLoaded
   pub opened : IsCacheOpenedOn shape (cells_of (total shape) bytes) disc
@@ -35,10 +37,11 @@ pub record IsInsertedTarget (image : Option (List ℕ)) (faults : ℕ) (shown : 
   pub opens : OpensDrive image faults shown stands image'
   pub host_is : host ≡ powered_on
 
--- The bytes that a medium lies in have its cells, where these are known, and the geometry that its label tells.
+-- The bytes that a medium lies in have its cells, where these are known, and are the image of a disc of each lawful geometry that its
+-- label tells.
 abbrev pub HasCells : World → Option (List ℕ) → Type 0
 HasCells world image = MatchOption image (world.known ≡ false)
-    (λ bytes. (shape : Shape) → world.label ≡ label_of shape → IsImageOf shape world.cells bytes)
+    (λ bytes. (shape : Shape) → world.label ≡ label_of shape → IsLawful shape → IsImageOf shape world.cells bytes)
 
 -- What holds of each drive: it lies in bytes that have the cells of its medium, and where it underwent nothing but events,
 -- each of them did to the medium that it shows, and to these bytes, what the medium's rule says.

@@ -5,13 +5,13 @@ use Rattle.std.specs.Prelude.{◌≡◌, ℕ, false, Option, None, Some, is_some
 use Rattle.std.specs.Option.{ForSome}
 use Rattle.std.proofs.Common.{refl, ap, ◌∙◌, subst}
 use Rattle.std.proofs.lemmas.Bool.{false≢true}
-use Rattle.model_geometry.specs.Geometry.{Shape, label_of, total}
-use Rattle.model_geometry.proofs.OneShape.{one_shape}
+use Rattle.model_geometry.specs.Geometry.{Shape, IsLawful, label_of, total}
 use Rattle.model_medium.specs.Machine.{Machine}
 use Rattle.model_medium.specs.Exact.{Event}
 use Rattle.model_medium.specs.Happened.{IsEventOf, Happens, Happened}
-use Rattle.model_image.specs.Cells.{cells_of, cells_known}
+use Rattle.model_image.specs.Cells.{cells_known}
 use Rattle.model_image.specs.Image.{IsDiscImage, IsImageOf}
+use Rattle.model_image.proofs.Headers.{image_by_label}
 use Rattle.ram_outside.specs.declared.image.Image.{Ghosts as Images}
 use Rattle.ram_image.specs.EventBytes.{BytesAt}
 use Rattle.ram_image.specs.Medium.{shape_of_medium, machine_in, bytes_in, ImageTakes}
@@ -30,10 +30,9 @@ use Rattle.ram_machine.specs.Drive.{HasCells}
 
 -- the bytes that a medium lies in have its cells
 cells_there : (geometry : Shape) (o : Option (List ℕ)) → ForSome o (IsDiscImage geometry)
-    → MatchOption o (is_some o ≡ false) (λ bytes. (shape : Shape) → label_of geometry ≡ label_of shape → IsImageOf shape (cells_known (total geometry) o) bytes)
+    → MatchOption o (is_some o ≡ false) (λ bytes. (shape : Shape) → label_of geometry ≡ label_of shape → IsLawful shape → IsImageOf shape (cells_known (total geometry) o) bytes)
 cells_there geometry None disc = refl
-cells_there geometry (Some bytes) disc = λ shape label.
-    subst (λ (z : Shape). IsImageOf z (cells_of (total geometry) bytes) bytes) (one_shape geometry shape label) (record { disc = disc bytes refl; cells_are = refl })
+cells_there geometry (Some bytes) disc = λ shape label lawful. image_by_label geometry shape bytes label lawful (disc bytes refl)
 
 -- and those of what the drive shows
 pub has_cells : {I : Type 0} {d : Images I} (medium : ImageMedium I d) (machine : Machine) → machine_in medium ≡ machine → HasCells machine.world (bytes_in medium)

@@ -1,5 +1,6 @@
 -- The states of a run: what lies in the drive. For the steps of a run, and for who says what a run leaves.
 use Rattle.std.specs.Prelude.{◌≡◌, ℕ, Option, Some, List}
+use Rattle.model_geometry.specs.declared.kinds.LayoutKind.TheVariants.{OneGroup}
 use Rattle.model_geometry.specs.Geometry.{Shape, label_of, total}
 use Rattle.model_medium.specs.Cells.{Cell}
 use Rattle.model_image.specs.Cells.{cells_of}
@@ -15,11 +16,12 @@ use Rattle.model_target.specs.Host.{powered_on}
 abbrev pub IsLabelled : Shown → Type 0
 IsLabelled shown = shown.medium.world.label ≡ label_of shown.shape
 
--- A disc in the drive: what the drive shows and one thing that it stands for, what is remembered for its host, and the
--- bytes of its image, also those under cells that are not good.
+-- A disc in the drive, with one group of spares: what the drive shows and one thing that it stands for, what is remembered for its
+-- host, and the bytes of its image, also those under cells that are not good.
 pub record Served : Type 0 where
   pub disc : CacheLoaded
   pub host : Host
+  pub one : disc.shown.drive.shape.layout ≡ OneGroup
   pub labelled : IsLabelled disc.shown.drive
   pub bytes : List ℕ
   pub image : IsImageOf disc.shown.drive.shape (cells_in disc.shown.drive) bytes

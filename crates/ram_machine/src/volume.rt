@@ -19,10 +19,15 @@ impl<I: Image> Drive for Cached<Volume<ImageMedium<I>>> {
 
     fn open(alloc: Global, image: I) -> Result<Self, (I, OpenFault)> {
         match open(alloc, image) {
-            Ok((medium, geometry)) => match Cached::new(alloc, Volume::new(medium, geometry)) {
-                Ok(cached) => Ok(cached),
-                Err((volume, _)) => Err((volume.into_medium().into_image(), OpenFault::NoMemory)),
-            },
+            Ok((medium, geometry)) => {
+                let _layout = geometry.layout();
+                match Cached::new(alloc, Volume::new(medium, geometry)) {
+                    Ok(cached) => Ok(cached),
+                    Err((volume, _)) => {
+                        Err((volume.into_medium().into_image(), OpenFault::NoMemory))
+                    }
+                }
+            }
             Err(refused) => Err(refused),
         }
     }
