@@ -93,6 +93,7 @@ pub fn layout_of(
     dds: &DdsPdl,
     ssa: u32,
 ) -> Result<Option<SlipLayout>, AllocError> {
+    let _layout = geometry.layout();
     if is_valid_pdl(geometry, dds) && is_valid_ssa(geometry, dds.version, ssa) {
         return Ok(Some(SlipLayout::new(alloc, geometry, dds, ssa)?));
     }
