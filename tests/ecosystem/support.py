@@ -160,29 +160,38 @@ class Mount:
 
     def __init__(self, disk: Path, *source: str) -> None:
         self.disk, self.source = disk, source
+        self.process: subprocess.Popen[bytes] | None = None
 
     def __enter__(self) -> Mount:
-        self.process = subprocess.Popen(["nbdfuse", self.disk, *self.source], stdin=subprocess.DEVNULL,
-                                        stdout=subprocess.DEVNULL, stderr=subprocess.DEVNULL)
-        try:
-            wait_until(lambda: self.disk.exists() or self.process.poll() is not None, "nbdfuse mounts")
-            if not self.disk.exists():
-                status = self.process.returncode
-                raise RuntimeError(f"nbdfuse ends with status {status}, and nothing is mounted")
-        except Exception:
-            self.process.kill()
-            raise
+        self.process = self.mounted()
         return self
 
     def __exit__(self, *_: object) -> None:
+        self.end()
+
+    def mounted(self) -> subprocess.Popen[bytes]:
+        """The process that serves the disk, once it is mounted."""
+        process = subprocess.Popen(["nbdfuse", self.disk, *self.source], stdin=subprocess.DEVNULL,
+                                   stdout=subprocess.DEVNULL, stderr=subprocess.DEVNULL)
+        try:
+            wait_until(lambda: self.disk.exists() or process.poll() is not None, "nbdfuse mounts")
+            if not self.disk.exists():
+                raise RuntimeError(f"nbdfuse ends with status {process.returncode}, and nothing is mounted")
+        except Exception:
+            process.kill()
+            raise
+        return process
+
+    def end(self) -> None:
         folder = self.disk.parent
         wait_until(lambda: unmount(folder) or not mounts_in(folder), f"{folder} is unmounted")
-        self.process.wait(SECONDS)
+        if self.process:
+            self.process.wait(SECONDS)
 
     def again(self) -> None:
         """Mounts the disk anew, so that what the system kept of it in memory is gone."""
-        self.__exit__()
-        self.__enter__()
+        self.end()
+        self.process = self.mounted()
 
 
 class Server:

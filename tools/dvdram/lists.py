@@ -63,8 +63,8 @@ class Geometry:
                 and 1 <= self.spares <= MOST_SPARES and self.spares < len(self.data))
 
 
-def big(number: int, size: int) -> bytes:
-    return number.to_bytes(size, "big")
+def big(value: int, size: int) -> bytes:
+    return value.to_bytes(size, "big")
 
 
 def number(text: bytes, first: int, size: int) -> int:

@@ -86,7 +86,7 @@ def thread_model() -> int:
 def get_ready() -> None:
     """Tries all that can go wrong: clients are served once the server has forked, and an exception would
     leave them waiting."""
-    global serving
+    global serving  # pylint: disable=global-statement
     program = find_program(parameters)
     image = open_image(parameters)
     prepare(parameters, program)
@@ -171,7 +171,7 @@ def synchronize() -> None:
 
 
 @for_client
-def open(readonly: bool) -> int:
+def open(readonly: bool) -> int:  # pylint: disable=redefined-builtin
     """Refuses a client where there are no sectors: the power is off, or the disc is not formatted or out."""
     return served().drive.capacity()
 
