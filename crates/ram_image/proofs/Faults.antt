@@ -1,5 +1,5 @@
 -- Bytes that tell numbers outside their limits are the header of no lawful geometry, whatever the kind of its layout.
-use Rattle.std.specs.Prelude.{◌≡◌, ℕ, ◌+◌, ◌*◌, ◌/◌, ◌<◌, List, drop}
+use Rattle.std.specs.Prelude.{◌≡◌, ℕ, List, drop}
 use Rattle.std.proofs.Common.{ap, subst, arith}
 use Rattle.byteorder.specs.Endian.{big_number}
 use Rattle.model_geometry.specs.Geometry.{Shape, IsLawful, shape_of}
