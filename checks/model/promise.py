@@ -3,7 +3,7 @@
 Of each sector it knows which registers it may be: one for each choice that the report leaves open. The
 promise is broken where there is none. It has no drive in it: no block, no list, no cell.
 
-The functions on registers are the definitions of the same names in crates/ram_run/specs/Promise.antt.
+The functions on registers are the definitions of the same names in crates/ram_machine/specs/Register.antt.
 """
 from __future__ import annotations
 
@@ -14,7 +14,7 @@ from typing import Callable, Dict, FrozenSet, Iterator, List, NamedTuple, Option
 from .commands import CACHING, READS, WCE, WRITES, Block, Code, judge_fields, pages_of
 from .drive import Check
 from .lists import SECTORS_IN_BLOCK, number
-from .medium import BLOCK, HEADER, SECTOR, Geometry
+from .medium import BLOCK, HEADER, SECTOR
 from .reports import COMMAND, EVENT, Answer, NoReport, Report
 from .script import End, Line, data_of, line_of, lines_of
 
@@ -163,11 +163,13 @@ class Promise:
     """What is known of the sectors of a disc, from an image on, over one run or more."""
 
     def __init__(self, image: bytes = b"") -> None:
-        is_disc = Geometry.of(image) is not None
-        self.image = image if is_disc else b""
-        self.sectors = Sectors(Register(GONE, frozenset([UNSEEN, LOST] if is_disc else [])))
+        self.image = image
+        blocks, rest = divmod(len(image) - HEADER, 1 + BLOCK)
+        self.blocks = 0 if rest else max(blocks, 0)
+        """How many blocks the image has, which are none where it has another length than a disc's."""
+        self.sectors = Sectors(Register(GONE, frozenset([UNSEEN, LOST] if self.blocks else [LOST])))
         self.caches = False
-        self.may_have_failed = is_disc
+        self.may_have_failed = bool(image)
         """Whether a block may have failed: a line that lets blocks fail came since the disc was pressed."""
 
     def again(self) -> None:
@@ -280,8 +282,8 @@ class Promise:
 
     def lies_in_image(self, at: int, shown: bytes) -> bool:
         """Whether some block of the image had these bytes at the sector's place."""
-        blocks = (len(self.image) - HEADER) // (1 + BLOCK)
-        places = range(HEADER + blocks + SECTOR * (at % SECTORS_IN_BLOCK), len(self.image), BLOCK)
+        first = HEADER + self.blocks + SECTOR * (at % SECTORS_IN_BLOCK)
+        places = range(first, len(self.image), BLOCK)
         return any(self.image[place:place + SECTOR] == shown for place in places)
 
 

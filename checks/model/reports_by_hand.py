@@ -22,6 +22,7 @@ POWER = ("power", "ready 320")
 NOT_READY = ("power", "not formatted")
 ATTENTION = ("cdb 000000000000", "check 6/29/00")
 FAIL = ("fail 12", "failed")
+UNREAD = ("cdb 28000000000500000100", "check 3/11/00 info 5")
 NEW = [PRESS, NOT_READY, FORMAT]
 
 
@@ -173,12 +174,12 @@ CASES = [
     Case("nor are they made by a rewriting format", False, [POWER, REWRITE, read("00")], disc()),
     Case("by a full one they are", True, [POWER, FORMAT, read("00")], disc()),
     Case("a lost sector is there again when it is written", True,
-         [POWER, answered(read("ee"), "check 3/11/00 info 5"), write("ee"), read("ee")], disc()),
-    Case("an image that is no disc has nothing", False, [POWER], b"DVDRAM01"),
-    Case("a defect where nothing failed", False, [*NEW, answered(read("00"), "check 3/11/00 info 5")]),
-    Case("and where something did", True, [*NEW, FAIL, answered(read("00"), "check 3/11/00 info 5")]),
-    Case("a new disc has no defects", False,
-         [*NEW, FAIL, *NEW, answered(read("00"), "check 3/11/00 info 5")]),
-    Case("a disc that was there before may have some", True,
-         [POWER, answered(read("00"), "check 3/11/00 info 5")], disc()),
+         [POWER, UNREAD, write("ee"), read("ee")], disc()),
+    Case("an image that is no disc's shows nothing", False, [POWER, read("00")], b"DVDRAM01"),
+    Case("all of it is lost before it is written", True,
+         [POWER, UNREAD, write("aa"), read("aa")], b"DVDRAM01"),
+    Case("a defect where nothing failed", False, [*NEW, UNREAD]),
+    Case("and where something did", True, [*NEW, FAIL, UNREAD]),
+    Case("a new disc has no defects", False, [*NEW, FAIL, *NEW, UNREAD]),
+    Case("a disc that was there before may have some", True, [POWER, UNREAD], disc()),
 ]
