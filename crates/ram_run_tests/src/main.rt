@@ -1,19 +1,13 @@
-//! Runs whole scripts over images in memory, where no proof reaches: which bytes the answers are. The rows stand in
-//! `stdin`, and what they must be answered in `stdout`.
+//! Runs whole scripts over objects in memory, where it matters how these are called, and which of their calls fail. The rows
+//! stand in `stdin`, and what they must be answered in `stdout`.
 //!
 //! A row begins with `== TITLE`. Its script runs over an empty image, or, where the title begins with `then`, over the
-//! image that the row before left. Where the title begins with `each`, each line is a row of its own. A line that begins
-//! with `@ ` is an order: it changes the image, the script or the run, or asks for more to be told. The README lists
-//! them. Other lines have the short forms of `shorthand`.
+//! image that the row before left. A line that begins with `@ ` is an order: it changes the script or the run, or asks for
+//! more to be told. The README lists them. Other lines have the short forms of `shorthand`.
 #![tactic(auto)]
 
-mod cuts;
-mod discs;
-mod dumps;
 mod failing;
 mod generated;
-mod lengths;
-mod made;
 mod orders;
 mod rows;
 mod runs;
@@ -25,18 +19,16 @@ use std::io;
 
 fn main(rt: HostRuntime) -> io::Result<()> {
     let mut row = Row::new(rt.alloc());
-    let mut alone = true;
     for line in rt.lines(rt.alloc()) {
         let line = line?;
         let title = line.strip_prefix("== ");
         if title.is_none() {
             row.add(rt.alloc(), line.as_str())?;
         }
-        if row.is_begun && (alone || title.is_some()) {
+        if row.is_begun && title.is_some() {
             row = end_row(&rt, &row)?;
         }
         if let Some(title) = title {
-            alone = title.starts_with("each");
             if !title.starts_with("then") {
                 row = Row::new(rt.alloc());
             }

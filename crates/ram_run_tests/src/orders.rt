@@ -1,5 +1,4 @@
 //! The orders of a row.
-use crate::discs::{fill, formatted_image, new_image, place_named, put};
 use crate::rows::{Row, Runs};
 use crate::runs::{Failure, Outside};
 use std::alloc::{AllocError, Global};
@@ -14,11 +13,6 @@ fn call_of(word: &str) -> u64 {
     word.parse().unwrap_or(0)
 }
 
-/// A byte of two hexadecimal digits.
-fn byte_of(word: &str) -> u8 {
-    u8::from_str_radix(word, 16).unwrap_or(0)
-}
-
 /// The object of this name.
 fn object_of(word: &str) -> Outside {
     match word {
@@ -29,37 +23,11 @@ fn object_of(word: &str) -> Outside {
     }
 }
 
-/// Puts the bytes of these hexadecimal digits into the image.
-fn put_digits(alloc: Global, row: &mut Row, place: &str, digits: &str) {
-    if let Ok(bytes) = hex::decode(alloc, digits) {
-        put(&mut row.image, place_named(place), &bytes);
-    }
-}
-
-/// Obeys an order on the image. False where it is none.
-fn change_image(alloc: Global, row: &mut Row, words: &[&str]) -> Result<bool, AllocError> {
-    match *words {
-        ["new"] => row.image = new_image(alloc)?,
-        ["formatted"] => row.image = formatted_image(alloc)?,
-        ["length", len] => row.image.resize(number_of(len), 0)?,
-        ["put", place, digits] => put_digits(alloc, row, place, digits),
-        ["fill", place, count, byte] => fill(
-            &mut row.image,
-            place_named(place),
-            number_of(count),
-            byte_of(byte),
-        ),
-        _ => return Ok(false),
-    }
-    Ok(true)
-}
-
 /// Obeys an order on what is told. False where it is none.
 fn change_told(row: &mut Row, words: &[&str]) -> bool {
     match *words {
         ["last", lines] => row.told.last = Some(number_of(lines)),
         ["first", lines] => row.told.first = Some(number_of(lines)),
-        ["image"] => row.told.image = true,
         ["puts"] => row.told.puts = true,
         ["few"] => row.told.few = true,
         _ => return false,
@@ -76,29 +44,12 @@ fn run(row: &mut Row, runs: Runs) {
 /// Obeys an order on what is run. False where it is none.
 fn change_runs(row: &mut Row, words: &[&str]) -> bool {
     match *words {
-        ["comments", bytes] => run(
-            row,
-            Runs::Comments {
-                bytes: number_of(bytes),
-            },
-        ),
         ["generated", number] => run(
             row,
             Runs::Generated {
                 number: call_of(number),
             },
         ),
-        ["lengths", end] => run(
-            row,
-            Runs::Lengths {
-                end: number_of(end),
-            },
-        ),
-        ["cuts", last] => {
-            row.runs = Runs::EachCut {
-                last: last.parse().unwrap_or(0),
-            };
-        }
         ["each", of, more_than] => {
             row.runs = Runs::EachFailure {
                 of: object_of(of),
@@ -163,10 +114,7 @@ pub fn obey(alloc: Global, row: &mut Row, order: &str) -> Result<(), AllocError>
         return Ok(());
     }
     let words: Vec<&str> = order.split(' ').collect(alloc)?;
-    if !change_image(alloc, row, &words)?
-        && !change_told(row, &words)
-        && !change_runs(row, &words)
-    {
+    if !change_told(row, &words) && !change_runs(row, &words) {
         change_run(row, &words);
     }
     Ok(())

@@ -1,10 +1,8 @@
 //! A row: what is run, over which image, and what is told of it.
-use crate::cuts::answer_cuts;
 use crate::failing::answer_each;
 use crate::generated::answer_generated;
-use crate::lengths::answer_lengths;
 use crate::orders::obey;
-use crate::runs::{Failure, Outside, PIECE, Ran, run_made, run_script, run_words};
+use crate::runs::{Failure, Outside, PIECE, Ran, run_script, run_words};
 use crate::shorthand::add_line;
 use crate::telling::tell;
 use std::alloc::{AllocError, Global};
@@ -16,16 +14,10 @@ pub enum Runs {
     Script,
     /// The script, once for each call of this object, which fails there; it has more calls than this.
     EachFailure { of: Outside, more_than: u64 },
-    /// The script, once for each of so many uses in which the power is cut at its line `cut each`, and for each fate.
-    EachCut { last: u32 },
-    /// A script of comments of so many bytes.
-    Comments { bytes: usize },
     /// The words of the program, and no script.
     Words,
     /// The script that is drawn from this number, and its summary.
     Generated { number: u64 },
-    /// READ DVD STRUCTURE with each allocation length below this one.
-    Lengths { end: usize },
 }
 
 /// What is told beside the report and the exit status.
@@ -34,8 +26,6 @@ pub struct Told {
     /// The report has so many lines at most, which are its last ones, or its first ones.
     pub last: Option<usize>,
     pub first: Option<usize>,
-    /// What the image then has.
-    pub image: bool,
     /// How often the sink was called.
     pub puts: bool,
     /// Whether source and sink were called seldom.
@@ -78,7 +68,6 @@ impl Row {
             told: Told {
                 last: None,
                 first: None,
-                image: false,
                 puts: false,
                 few: false,
             },
@@ -101,7 +90,6 @@ impl Row {
 /// Runs a row that is one run.
 fn ran(alloc: Global, row: &Row) -> Result<Ran, AllocError> {
     match row.runs {
-        Runs::Comments { bytes } => run_made(alloc, bytes),
         Runs::Words => run_words(alloc, row.words.as_str(), row.failure),
         _ => run_script(
             alloc,
@@ -117,9 +105,7 @@ fn ran(alloc: Global, row: &Row) -> Result<Ran, AllocError> {
 pub fn answer_row(alloc: Global, row: &Row, answer: &mut String) -> Result<Vec<u8>, AllocError> {
     match row.runs {
         Runs::EachFailure { of, more_than } => answer_each(alloc, row, of, more_than, answer)?,
-        Runs::EachCut { last } => answer_cuts(alloc, row, last, answer)?,
         Runs::Generated { number } => answer_generated(alloc, number, answer)?,
-        Runs::Lengths { end } => answer_lengths(alloc, end, answer)?,
         _ => {
             let ran = ran(alloc, row)?;
             tell(row, &ran, answer)?;

@@ -1,5 +1,4 @@
 //! One run over objects in memory, and what it leaves.
-use crate::made::Comments;
 use ram_machine::status::Status;
 use ram_outside::{MemImage, MemOpener, MemSink, MemSource, Opener, Sink, Source};
 use ram_run::run::run;
@@ -79,15 +78,6 @@ pub fn run_words(alloc: Global, words: &str, failure: Option<Failure>) -> Result
     let report = sink(alloc, PIECE, failure)?;
     let opener = opener(alloc, b"", failure)?;
     run_over(alloc, &words, script, report, opener)
-}
-
-/// Runs a script of comments of so many bytes over an empty image. How often its source was called is not counted.
-pub fn run_made(alloc: Global, bytes: usize) -> Result<Ran, AllocError> {
-    let mut script = Comments::new(alloc, bytes)?;
-    let mut report = sink(alloc, PIECE, None)?;
-    let mut opener = opener(alloc, b"", None)?;
-    let status = run_program(alloc, &WORDS, &mut script, &mut report, &mut opener);
-    what_is_left(alloc, status, 0, &report, &opener)
 }
 
 /// Runs the words of the program. It stands between `run` and its callers, so that these see nothing of its contract.

@@ -1,5 +1,4 @@
 //! What is told of a run: its report, its exit status, and more where that is asked for.
-use crate::dumps::add_image;
 use crate::rows::{Row, Told};
 use crate::runs::{PIECE, Ran};
 use std::alloc::AllocError;
@@ -53,9 +52,6 @@ fn add_told(told: Told, ran: &Ran, answer: &mut String) -> Result<(), AllocError
 /// Adds what is told of a run.
 pub fn tell(row: &Row, ran: &Ran, answer: &mut String) -> Result<(), AllocError> {
     add_told(row.told, ran, answer)?;
-    if row.told.image {
-        add_image(&row.image, &ran.image, answer)?;
-    }
     if row.told.puts {
         writeln!(answer, "{} calls of the sink", ran.calls.sink)?;
     }
