@@ -16,9 +16,9 @@ exact TEXT        the script goes on with the text and no line feed; \\n, \\r an
 repeat N TEXT     the same N times
 comments N        the script has N bytes, in comments of 65,536
 words WORD|WORD   the program has these words, and no script
-cuts N            the script is run once for each of the first N uses behind its line `cut each`, and for each
-                  fate; the power is cut there. What the lines behind that one are answered is told, of uses in
-                  a row that are answered alike once
+cuts N            the script is run once for each of the first N uses behind its line `cut each`, and for
+                  each fate; the power is cut there. What the lines behind that one are answered is told,
+                  of uses in a row that are answered alike once
 lengths N         whether READ DVD STRUCTURE replies as much as each allocation length below N asks for
 last N, first N   so many lines of the report are told
 image             what the image has then is told: that it is as it was, or all of it but zeros

@@ -54,8 +54,8 @@ def in_full(line: str) -> str:
 def answers_behind(report: str) -> str:
     """What the lines behind the cut are answered, without their numbers."""
     _, _, later = report.partition(" armed\n")
-    lines = (line.split(" ", 1) for line in later.splitlines())
-    return ", ".join(" ".join(words) if words[0] == "sector" else words[1] for words in lines if words[0] != "end")
+    answers = (line.split(" ", 1) for line in later.splitlines() if not line.startswith("end "))
+    return ", ".join(" ".join(words) if words[0] == "sector" else words[1] for words in answers)
 
 
 def spans(texts: List[str]) -> Iterator[Tuple[int, int, str]]:
@@ -132,7 +132,7 @@ class Row:
         ran = self.ran(program)
         lines = ran.report.splitlines()
         lines = lines[: self.first] if self.first is not None else lines
-        lines = lines[-self.last:] if self.last is not None else lines
+        lines = lines[max(0, len(lines) - self.last):] if self.last is not None else lines
         lines.append(f"exit status {ran.status}")
         return lines + (list(images.told(self.image, ran.image)) if self.tells_image else []), ran.image
 
