@@ -3,6 +3,7 @@
 use ram_bytes::Block;
 use ram_dds::DdsPdl;
 use ram_sdl::Sdl;
+use ram_zones::LayoutKind;
 use std::alloc::{AllocError, Global};
 use std::fmt::Write;
 
@@ -31,6 +32,9 @@ pub fn add_dds(alloc: Global, text: &Block, answer: &mut String) -> Result<(), A
     let mut again = spoiled(alloc)?;
     value.encode(&mut again);
     write!(answer, "{} {:?} {}", value.counter, value.state, value.psa)?;
+    if value.layout == LayoutKind::EachZone {
+        answer.push_str(" in each zone")?;
+    }
     for entry in value.entries.as_slice() {
         write!(answer, ", {} {:?}", entry.block, entry.kind)?;
     }
