@@ -19,7 +19,8 @@ use Rattle.std.proofs.lemmas.List.FromFn.{length-range_with_len}
 use Rattle.ram_runs.specs.declared.Run.{Run}
 use Rattle.ram_runs.specs.Runs.{blocks_in, AreRunsFrom, IsTable, end_of}
 use Rattle.ram_layout.specs.declared.slip_layout.SlipLayout.TheInside.{Inside}
-use Rattle.ram_layout.specs.Slipping.{SlipTable, table_in, slip_pools, kept_in, IsSlippingOf, IsSlipTable}
+use Rattle.ram_layout.specs.Filling.{kept_in}
+use Rattle.ram_layout.specs.Slipping.{SlipTable, table_in, slip_pools, IsSlippingOf, IsSlipTable}
 
 -- The pool of a table is that of the structure and of the size of the area.
 module _ (shape : Shape) (dds : Dds) (ssa : ℕ) (table : SlipTable) (one : shape.layout ≡ OneGroup) (valid : IsValidPdl shape dds) (area : IsValidOnSome shape ssa)
@@ -51,7 +52,7 @@ module _ (shape : Shape) (dds : Dds) (logical ssa : ℕ) (table : SlipTable) (on
 -- ---- as the calls see it
 
 -- there are no more blocks than numbers before the end
-blocks_few : (b i : ℕ) (runs : List Run) → AreRunsFrom b i runs → i ≤ b → i + length (blocks_in runs) ≤ end_of b runs
+pub blocks_few : (b i : ℕ) (runs : List Run) → AreRunsFrom b i runs → i ≤ b → i + length (blocks_in runs) ≤ end_of b runs
 blocks_few b i [] t least = omega (arith, least)
 blocks_few b i (r ∷ rs) t least =
     let first = t.0 in

@@ -9,7 +9,7 @@ use Rattle.model_geometry.proofs.DataBlocks.{zone_data, zones_data, data_blocks_
 use Rattle.model_pools.specs.Listed.{is_listed}
 use Rattle.ram_runs.specs.declared.Run.{Run}
 use Rattle.ram_runs.specs.Runs.{blocks_in, IsTable, IsCountBelow, end_of, kept_of}
-use Rattle.ram_layout.specs.Slipping.{kept_in, HasZones}
+use Rattle.ram_layout.specs.Filling.{kept_in, HasZones}
 
 pub no_zones : (shape : Shape) (slipped : List ℕ) (runs : List Run) → runs ≡ [] → HasZones shape slipped 0 0 runs
 no_zones shape slipped runs none = subst (HasZones shape slipped 0 0) (sym none) (record {

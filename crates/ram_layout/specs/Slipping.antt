@@ -1,14 +1,10 @@
 -- Slipping by a table: what it is to its callers, and what holds of it. (This project's own.)
-use Rattle.std.specs.Prelude.{◌≡◌, ℕ, ◌+◌, ◌<◌, ◌≤◌, not, List, [], ◌∷◌, ◌++◌, length, take, drop, reverse, slice_index, vec_capacity}
-use Rattle.std.specs.List.{filter}
+use Rattle.std.specs.Prelude.{◌≡◌, ℕ, ◌+◌, ◌≤◌, List, [], ◌∷◌, ◌++◌, length, take, drop, reverse, vec_capacity}
 use Rattle.std.specs.List.Sorted.{IsStrictlyIncreasing}
-use Rattle.model_geometry.specs.Geometry.{Shape, zone_start}
-use Rattle.model_geometry.proofs.DataBlocks.{zones_data}
+use Rattle.model_geometry.specs.Geometry.{Shape}
 use Rattle.model_lists.specs.Values.{Dds}
 use Rattle.model_places.specs.Places.{unslipped, primary_count}
-use Rattle.model_pools.specs.Listed.{is_listed}
 use Rattle.model_pools.specs.Pools.{Pool}
-use Rattle.ram_runs.specs.declared.Run.{Run}
 use Rattle.ram_runs.specs.Runs.{blocks_in, IsTable, end_of}
 use Rattle.ram_layout.specs.declared.slip_layout.SlipLayout.TheInside.{Inside}
 
@@ -51,15 +47,3 @@ pub record IsSlipTable (inside : Inside) : Type 0 where
   pub small : end_of 0 inside.runs.items ≤ 147016
   pub rise : IsStrictlyIncreasing (blocks_in inside.runs.items)
   pub fits : inside.primary + inside.logical ≤ length (blocks_in inside.runs.items)
-
--- the blocks of the list that are not slipped
-abbrev pub kept_in : List ℕ → List ℕ → List ℕ
-kept_in slipped blocks = filter (λ block. not (is_listed slipped block)) blocks
-
--- The runs of so many zones were made, and so many slipped blocks were passed.
-pub record HasZones (shape : Shape) (slipped : List ℕ) (zone passed : ℕ) (runs : List Run) : Type 0 where
-  pub table : IsTable runs
-  pub blocks : blocks_in runs ≡ kept_in slipped (zones_data shape zone)
-  pub behind : end_of 0 runs ≤ zone_start shape zone
-  pub passed_are : (k : ℕ) → k < passed → slice_index slipped k < zone_start shape zone
-  pub passed_within : passed ≤ length slipped

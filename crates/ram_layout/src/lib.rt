@@ -6,6 +6,7 @@ mod laws;
 mod layout;
 mod slip_layout;
 
+pub use filling::{fill, put_zone};
 pub use laws::a_table_has_the_pools_of_its_disc;
 pub use layout::Layout;
 pub use ram_runs::Run;

@@ -4,3 +4,7 @@ pub mod OnePlace
 pub mod Validity
 pub mod Spares
 pub mod Counted
+pub mod ZonePlaces
+pub mod ZoneSpares
+pub mod SpareAreas
+pub mod SharedPools

@@ -1,28 +1,23 @@
 -- A block is one thing to a disc.
-use Rattle.std.proofs.Common.{◌≡◌, ℕ, ◌-◌, ◌<◌, length, refl, sym, ap, ◌∙◌, subst, arith}
+use Rattle.std.proofs.Common.{◌≡◌, ℕ, ◌-◌, ◌<◌, inl, inr, List, length, refl, sym, ap, ◌∙◌, subst, arith}
 use Rattle.std.specs.List.{Contains}
 use Rattle.std.proofs.lemmas.List.Elements.{Contains-get_or}
-use Rattle.model_geometry.specs.declared.kinds.LayoutKind.TheVariants.{OneGroup}
 use Rattle.model_geometry.specs.Geometry.{Shape, data_blocks}
 use Rattle.model_lists.specs.declared.versions.Version.{Version}
 use Rattle.model_lists.specs.Values.{Dds}
 use Rattle.model_pools.specs.Pools.{logical_in, spares_in, block_in}
 use Rattle.model_pools.proofs.Listed.{one_listed, StandsWithin-take, StandsWithin-drop, parts_apart}
-use Rattle.model_places.specs.Places.{slipped, unslipped, count_of, pools_of, primary_count, primary_spares, supplementary_spares}
+use Rattle.model_places.specs.Places.{slipped, unslipped, count_of, pools_of, primary_count}
 use Rattle.model_places.specs.Valid.{IsValidPdl, IsValidSsa}
+use Rattle.model_places.proofs.ByKind.{cases_kind}
 use Rattle.model_places.proofs.Layouts as layouts
 use Rattle.model_places.proofs.Pools.{unslipped_rise, unslipped_are_data, slips_are_all, not_slipped}
 use Rattle.ram_slip.specs.declared.place.Place.{Place}
 use Rattle.ram_slip.specs.declared.place.Place.TheVariants as places
-use Rattle.ram_slip.specs.Place.{IsAtPlace}
+use Rattle.ram_slip.specs.Place.{IsAtPlace, primary_in, supplementary_in}
+use Rattle.ram_slip.proofs.SpareAreas.{primary_one, supplementary_one, supplementary_zones, none_among, from_primary, from_supplementary}
 
-module _ (shape : Shape) (dds : Dds) (ssa block : ℕ) (is_one : shape.layout ≡ OneGroup) (valid : IsValidPdl shape dds) {version : Version} (area : IsValidSsa shape version ssa) where
-  from_primary : Contains (primary_spares shape dds) block → Contains (spares_in (pools_of shape dds ssa)) block
-  from_primary has = layouts.from_primary shape dds ssa is_one block has
-
-  from_supplementary : Contains (supplementary_spares shape dds ssa) block → Contains (spares_in (pools_of shape dds ssa)) block
-  from_supplementary has = layouts.from_supplementary shape dds ssa is_one block has
-
+module _ (shape : Shape) (dds : Dds) (ssa block : ℕ) (valid : IsValidPdl shape dds) {version : Version} (area : IsValidSsa shape version ssa) where
   within_pools : (i : ℕ) → i < count_of shape ssa → i < length (logical_in (pools_of shape dds ssa))
   within_pools i within = let long = layouts.length-logical_in shape dds ssa valid area in omega (arith, within, long)
 
@@ -42,12 +37,16 @@ module _ (shape : Shape) (dds : Dds) (ssa block : ℕ) (is_one : shape.layout �
   spare_unslipped : Contains (spares_in (pools_of shape dds ssa)) block → Contains (unslipped shape dds) block
   spare_unslipped has = layouts.spare_is_unslipped shape dds ssa block has
 
-  areas_apart : Contains (primary_spares shape dds) block → ¬ Contains (supplementary_spares shape dds ssa) block
+  areas_apart : Contains (primary_in shape dds) block → ¬ Contains (supplementary_in shape dds ssa) block
   areas_apart first last =
       let u = unslipped shape dds in
-      let all = slips_are_all shape is_one dds ssa valid area in
-      parts_apart u (unslipped_rise shape dds) 0 (primary_count shape dds) (length u - ssa) (length u) block (omega arith)
-      (StandsWithin-take u (primary_count shape dds) block first) (StandsWithin-drop u (length u - ssa) block last)
+      elim (cases_kind shape.layout) [
+        | inl is ↦ (let all = slips_are_all shape is dds ssa valid area in
+            parts_apart u (unslipped_rise shape dds) 0 (primary_count shape dds) (length u - ssa) (length u) block (omega (arith, all))
+            (StandsWithin-take u (primary_count shape dds) block (subst (λ (l : List ℕ). Contains l block) (primary_one shape dds is) first))
+            (StandsWithin-drop u (length u - ssa) block (subst (λ (l : List ℕ). Contains l block) (supplementary_one shape dds ssa is) last)))
+        | inr is ↦ none_among (supplementary_in shape dds ssa) block (supplementary_zones shape dds ssa is) last
+      ]
 
   slipped_data : Contains (slipped dds) block → Contains (data_blocks shape) block
   slipped_data has = one_listed (data_blocks shape) (slipped dds) valid.data_only block has
@@ -56,27 +55,27 @@ module _ (shape : Shape) (dds : Dds) (ssa block : ℕ) (is_one : shape.layout �
   pub one_place : (a b : Place) → IsAtPlace shape dds ssa block a → IsAtPlace shape dds ssa block b → a ≡ b
   one_place (places.Logical i) (places.Logical j) (within, is) (within', is') =
       ap (λ (k : ℕ). places.Logical k) (logical_differs i j within within' (is ∙ sym is'))
-  one_place (places.Logical i) places.Primary x y = absurd (no_spare i x (from_primary y))
-  one_place (places.Logical i) places.Supplementary x y = absurd (no_spare i x (from_supplementary y))
+  one_place (places.Logical i) places.Primary x y = absurd (no_spare i x (from_primary shape dds ssa block y))
+  one_place (places.Logical i) places.Supplementary x y = absurd (no_spare i x (from_supplementary shape dds ssa block y))
   one_place (places.Logical i) places.Slipped x y = absurd (not_slipped shape dds block (logical_unslipped i x) y)
   one_place (places.Logical i) places.Outside x y = absurd (y (unslipped_are_data shape dds block (logical_unslipped i x)))
-  one_place places.Primary (places.Logical j) x y = absurd (no_spare j y (from_primary x))
+  one_place places.Primary (places.Logical j) x y = absurd (no_spare j y (from_primary shape dds ssa block x))
   one_place places.Primary places.Primary x y = refl
   one_place places.Primary places.Supplementary x y = absurd (areas_apart x y)
-  one_place places.Primary places.Slipped x y = absurd (not_slipped shape dds block (spare_unslipped (from_primary x)) y)
-  one_place places.Primary places.Outside x y = absurd (y (unslipped_are_data shape dds block (spare_unslipped (from_primary x))))
-  one_place places.Supplementary (places.Logical j) x y = absurd (no_spare j y (from_supplementary x))
+  one_place places.Primary places.Slipped x y = absurd (not_slipped shape dds block (spare_unslipped (from_primary shape dds ssa block x)) y)
+  one_place places.Primary places.Outside x y = absurd (y (unslipped_are_data shape dds block (spare_unslipped (from_primary shape dds ssa block x))))
+  one_place places.Supplementary (places.Logical j) x y = absurd (no_spare j y (from_supplementary shape dds ssa block x))
   one_place places.Supplementary places.Primary x y = absurd (areas_apart y x)
   one_place places.Supplementary places.Supplementary x y = refl
-  one_place places.Supplementary places.Slipped x y = absurd (not_slipped shape dds block (spare_unslipped (from_supplementary x)) y)
-  one_place places.Supplementary places.Outside x y = absurd (y (unslipped_are_data shape dds block (spare_unslipped (from_supplementary x))))
+  one_place places.Supplementary places.Slipped x y = absurd (not_slipped shape dds block (spare_unslipped (from_supplementary shape dds ssa block x)) y)
+  one_place places.Supplementary places.Outside x y = absurd (y (unslipped_are_data shape dds block (spare_unslipped (from_supplementary shape dds ssa block x))))
   one_place places.Slipped (places.Logical j) x y = absurd (not_slipped shape dds block (logical_unslipped j y) x)
-  one_place places.Slipped places.Primary x y = absurd (not_slipped shape dds block (spare_unslipped (from_primary y)) x)
-  one_place places.Slipped places.Supplementary x y = absurd (not_slipped shape dds block (spare_unslipped (from_supplementary y)) x)
+  one_place places.Slipped places.Primary x y = absurd (not_slipped shape dds block (spare_unslipped (from_primary shape dds ssa block y)) x)
+  one_place places.Slipped places.Supplementary x y = absurd (not_slipped shape dds block (spare_unslipped (from_supplementary shape dds ssa block y)) x)
   one_place places.Slipped places.Slipped x y = refl
   one_place places.Slipped places.Outside x y = absurd (y (slipped_data x))
   one_place places.Outside (places.Logical j) x y = absurd (x (unslipped_are_data shape dds block (logical_unslipped j y)))
-  one_place places.Outside places.Primary x y = absurd (x (unslipped_are_data shape dds block (spare_unslipped (from_primary y))))
-  one_place places.Outside places.Supplementary x y = absurd (x (unslipped_are_data shape dds block (spare_unslipped (from_supplementary y))))
+  one_place places.Outside places.Primary x y = absurd (x (unslipped_are_data shape dds block (spare_unslipped (from_primary shape dds ssa block y))))
+  one_place places.Outside places.Supplementary x y = absurd (x (unslipped_are_data shape dds block (spare_unslipped (from_supplementary shape dds ssa block y))))
   one_place places.Outside places.Slipped x y = absurd (x (slipped_data y))
   one_place places.Outside places.Outside x y = refl

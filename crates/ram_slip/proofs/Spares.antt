@@ -14,6 +14,8 @@ use Rattle.model_places.specs.Places.{slipped, unslipped, count_of, pools_of, pr
 use Rattle.model_places.specs.Valid.{IsValidPdl, IsValidSsa}
 use Rattle.model_places.proofs.Layouts.{one_spares, length-logical_in, pools_are_lawful, spare_is_unslipped}
 use Rattle.model_places.proofs.Pools.{unslipped_are_data, slips_are_all, not_slipped}
+use Rattle.ram_slip.specs.Place.{primary_in}
+use Rattle.ram_slip.proofs.SpareAreas.{primary_one}
 use Rattle.ram_slip.proofs.Slips.{logical_by_place}
 
 module _ (shape : Shape) (dds : Dds) (ssa : ℕ) (one : shape.layout ≡ OneGroup) (valid : IsValidPdl shape dds) {version : Version} (area : IsValidSsa shape version ssa) where
@@ -23,6 +25,10 @@ module _ (shape : Shape) (dds : Dds) (ssa : ℕ) (one : shape.layout ≡ OneGrou
   -- how many primary spares there are
   pub first_many : length (primary_spares shape dds) ≡ primary_count shape dds
   first_many = let sum = all in omega (arith, length-take (primary_count shape dds) (unslipped shape dds), sum)
+
+  -- as many as are told of any kind
+  pub primary_many : length (primary_in shape dds) ≡ primary_count shape dds
+  primary_many = ap length (primary_one shape dds one) ∙ first_many
 
   turn_by : (turn place : ℕ) → PlaceOfSpare (unslipped shape dds) (primary_count shape dds) (count_of shape ssa) (let sum = all in omega (arith, sum)) turn place
       → slice_get (spares_in (pools_of shape dds ssa)) turn ≡ Some (slice_index (unslipped shape dds) place)
@@ -54,6 +60,8 @@ module _ (shape : Shape) (dds : Dds) (ssa : ℕ) (one : shape.layout ≡ OneGrou
         (pools_are_lawful shape dds ssa valid area).apart i (omega (arith, within, length-logical_in shape dds ssa valid area))
         (subst (Contains (spares_in (pools_of shape dds ssa))) (sym (logical_by_place shape one dds ssa valid area place block i at from refl within)) has)
 
+-- whatever the kind, a block that is slipped is no spare, and neither is one that is no data block
+module _ (shape : Shape) (dds : Dds) (ssa : ℕ) where
   pub slipped_no_turn : (block : ℕ) → Contains (slipped dds) block → ¬ Contains (spares_in (pools_of shape dds ssa)) block
   slipped_no_turn block listed has = not_slipped shape dds block (spare_is_unslipped shape dds ssa block has) listed
 

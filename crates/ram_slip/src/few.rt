@@ -1,35 +1,23 @@
 //! Whether blocks are few enough to be slipped, by the kind of the layout.
 
 ghost use Rattle.std.specs.Prelude.{◌≡◌, ◌↔◌, ℕ, ◌<◌, ◌≤◌, IsTrue};
-ghost use Rattle.model_geometry.specs.Geometry.{zone_start, is_inside};
+ghost use Rattle.model_geometry.specs.Geometry.{is_inside};
 ghost use Rattle.model_lists.specs.Values.{pdl_blocks};
 ghost use Rattle.model_places.specs.Valid.{SlipsFew, slipped_in};
 
 use ram_dds::PdlEntry;
 use ram_zones::{Geometry, LayoutKind};
 
-/// Where a zone begins; or the lead-out, after the last zone.
-fn start_of(geometry: &Geometry, zone: u32) -> u32
-    requires { zone ≤ geometry.now.zones }
-    ensures start { result ≡ zone_start geometry.now zone }
-    ensures small { result ≤ 147008 }
-    ensures least { 8 ≤ result }
-    ensures few { geometry.now.zones ≤ 35 }
-{
-    let _lead_out = geometry.lead_out();
-    8 + geometry.scale() * (zone * (zone + 49) / 2)
-}
-
 /// Whether the block is a data block of this zone.
-fn is_inside(geometry: &Geometry, zone: u32, block: u32) -> bool
+pub fn is_inside(geometry: &Geometry, zone: u32, block: u32) -> bool
     requires { zone < geometry.now.zones }
     ensures { result ≡ is_inside geometry.now block zone }
 {
-    start_of(geometry, zone) < block && block < start_of(geometry, zone + 1) - 1
+    geometry.zone_start(zone) < block && block < geometry.zone_start(zone + 1) - 1
 }
 
 /// How many of the entries name data blocks of this zone.
-fn slipped_in(geometry: &Geometry, entries: &[PdlEntry], zone: u32) -> usize
+pub fn slipped_in(geometry: &Geometry, entries: &[PdlEntry], zone: u32) -> usize
     requires { zone < geometry.now.zones }
     ensures { result ≡ slipped_in geometry.now (pdl_blocks entries.now) zone }
 {

@@ -7,8 +7,10 @@ mod few;
 mod place;
 mod slip;
 mod valid;
+mod zones;
 
-pub use few::slips_few;
+pub use few::{is_inside, slipped_in, slips_few};
 pub use place::{Place, a_block_has_one_place};
 pub use slip::{data_block, place_of, primary_left, spare_turn};
 pub use valid::{is_valid_pdl, is_valid_ssa};
+pub use zones::{shares_pool, zone_count, zone_first};

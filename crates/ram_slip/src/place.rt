@@ -1,7 +1,6 @@
 //! What a block is to a disc with a primary defect list.
 
 ghost use Rattle.std.specs.Prelude.{◌≡◌, ℕ};
-ghost use Rattle.model_geometry.specs.declared.kinds.LayoutKind.TheVariants.{OneGroup};
 ghost use Rattle.model_geometry.specs.Geometry.{Shape};
 ghost use Rattle.model_lists.specs.Values.{Dds};
 ghost use Rattle.model_places.specs.Valid.{IsValidPdl, IsValidOnSome};
@@ -30,6 +29,6 @@ pub enum Place {
 /// where it says what the block is.
 pub fn a_block_has_one_place()
     ensures { (shape : Shape) (dds : Dds) (ssa block : ℕ) (a b : Place)
-        → shape.layout ≡ OneGroup → IsValidPdl shape dds → IsValidOnSome shape ssa
+        → IsValidPdl shape dds → IsValidOnSome shape ssa
         → IsAtPlace shape dds ssa block a → IsAtPlace shape dds ssa block b → a ≡ b }
 {}

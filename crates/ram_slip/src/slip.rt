@@ -3,15 +3,16 @@
 ghost use Rattle.std.specs.Prelude.{◌≡◌, ◌<◌, length, slice_index};
 ghost use Rattle.model_geometry.specs.declared.kinds.LayoutKind.TheVariants.{OneGroup};
 ghost use Rattle.model_geometry.specs.Geometry.{IsLawful, data_blocks};
-ghost use Rattle.model_places.specs.Places.{primary_count};
+ghost use Rattle.model_places.specs.Places.{unslipped};
 ghost use Rattle.model_places.specs.Valid.{IsValidPdl, IsValidOnSome};
 ghost use Rattle.ram_dds.specs.Dds.{dds_of};
-ghost use Rattle.ram_slip.specs.Place.{HasRank, IsAtPlace, HasTurn};
+ghost use Rattle.ram_slip.specs.Place.{HasRank, IsAtPlace, HasTurn, primary_in};
 
 use crate::entries::{count_before, is_named};
 use crate::place::Place;
+use crate::zones::{place_in_zone, turn_in_zone};
 use ram_dds::DdsPdl;
-use ram_zones::Geometry;
+use ram_zones::{Geometry, LayoutKind};
 
 /// Data block `n`, counted from 0, which there is.
 pub fn data_block(geometry: &Geometry, n: u32) -> u32
@@ -28,10 +29,9 @@ pub fn data_block(geometry: &Geometry, n: u32) -> u32
 pub fn primary_left(geometry: &Geometry, dds: &DdsPdl) -> u32
     requires { IsValidPdl geometry.now (dds_of dds.now) }
     ensures lawful { IsLawful geometry.now }
-    ensures one { geometry.now.layout ≡ OneGroup }
-    ensures left { result ≡ primary_count geometry.now (dds_of dds.now) }
+    ensures left { result ≡ length (primary_in geometry.now (dds_of dds.now)) }
 {
-    geometry.psa() - dds.entries.len() as u32
+    geometry.spare_room() - dds.entries.len() as u32
 }
 
 /// Where a block stands among those that are not slipped.
@@ -62,17 +62,15 @@ fn rank_of(geometry: &Geometry, dds: &DdsPdl, block: u32) -> Rank
     }
 }
 
-/// What a block is to a disc with so many supplementary spares.
-pub fn place_of(geometry: &Geometry, dds: &DdsPdl, ssa: u32, block: u32) -> Place
+/// What a block that is not slipped is on a disc with one group of spares, by where it stands among all such blocks.
+fn place_in_group(geometry: &Geometry, dds: &DdsPdl, ssa: u32, place: u32) -> Place
+    requires one { geometry.now.layout ≡ OneGroup }
     requires valid { IsValidPdl geometry.now (dds_of dds.now) }
     requires area { IsValidOnSome geometry.now ssa }
-    ensures { IsAtPlace geometry.now (dds_of dds.now) ssa block result }
+    requires inside { place < length (unslipped geometry.now (dds_of dds.now)) }
+    ensures { IsAtPlace geometry.now (dds_of dds.now) ssa
+        (slice_index (unslipped geometry.now (dds_of dds.now)) place) result }
 {
-    let place = match rank_of(geometry, dds, block) {
-        Rank::Outside => return Place::Outside,
-        Rank::Slipped => return Place::Slipped,
-        Rank::At { place } => place,
-    };
     let primary = primary_left(geometry, dds);
     if place < primary {
         return Place::Primary;
@@ -84,19 +82,16 @@ pub fn place_of(geometry: &Geometry, dds: &DdsPdl, ssa: u32, block: u32) -> Plac
     Place::Supplementary
 }
 
-/// The turn of a spare in the order in which spares are taken, counted from 0, or none where the block is no spare. Each spare
-/// has a turn of its own, below the number of all spares.
-pub fn spare_turn(geometry: &Geometry, dds: &DdsPdl, ssa: u32, block: u32) -> Option<u32>
+/// The turn of such a block on a disc with one group of spares, or none where it is no spare.
+fn turn_in_group(geometry: &Geometry, dds: &DdsPdl, ssa: u32, place: u32) -> Option<u32>
+    requires one { geometry.now.layout ≡ OneGroup }
     requires valid { IsValidPdl geometry.now (dds_of dds.now) }
     requires area { IsValidOnSome geometry.now ssa }
-    ensures { HasTurn geometry.now (dds_of dds.now) ssa block result }
+    requires inside { place < length (unslipped geometry.now (dds_of dds.now)) }
+    ensures { HasTurn geometry.now (dds_of dds.now) ssa
+        (slice_index (unslipped geometry.now (dds_of dds.now)) place) result }
 {
     let primary = primary_left(geometry, dds);
-    let place = match rank_of(geometry, dds, block) {
-        Rank::Outside => return None,
-        Rank::Slipped => return None,
-        Rank::At { place } => place,
-    };
     let logical = geometry.data_blocks() - geometry.psa() - ssa;
     if place < primary {
         return Some(primary - 1 - place);
@@ -105,4 +100,39 @@ pub fn spare_turn(geometry: &Geometry, dds: &DdsPdl, ssa: u32, block: u32) -> Op
         return None;
     }
     Some(primary + (primary + logical + ssa - 1 - place))
+}
+
+/// What a block is to a disc with so many supplementary spares.
+pub fn place_of(geometry: &Geometry, dds: &DdsPdl, ssa: u32, block: u32) -> Place
+    requires valid { IsValidPdl geometry.now (dds_of dds.now) }
+    requires area { IsValidOnSome geometry.now ssa }
+    ensures { IsAtPlace geometry.now (dds_of dds.now) ssa block result }
+{
+    let place = match rank_of(geometry, dds, block) {
+        Rank::Outside => return Place::Outside,
+        Rank::Slipped => return Place::Slipped,
+        Rank::At { place } => place,
+    };
+    match geometry.layout() {
+        LayoutKind::OneGroup => place_in_group(geometry, dds, ssa, place),
+        LayoutKind::EachZone => place_in_zone(geometry, dds, ssa, place, block),
+    }
+}
+
+/// The turn of a spare in the order in which spares are taken, counted from 0, or none where the block is no spare. Each spare
+/// has a turn of its own, below the number of all spares.
+pub fn spare_turn(geometry: &Geometry, dds: &DdsPdl, ssa: u32, block: u32) -> Option<u32>
+    requires valid { IsValidPdl geometry.now (dds_of dds.now) }
+    requires area { IsValidOnSome geometry.now ssa }
+    ensures { HasTurn geometry.now (dds_of dds.now) ssa block result }
+{
+    let place = match rank_of(geometry, dds, block) {
+        Rank::Outside => return None,
+        Rank::Slipped => return None,
+        Rank::At { place } => place,
+    };
+    match geometry.layout() {
+        LayoutKind::OneGroup => turn_in_group(geometry, dds, ssa, place),
+        LayoutKind::EachZone => turn_in_zone(geometry, dds, ssa, place, block),
+    }
 }

@@ -3,9 +3,9 @@ use Rattle.ram_slip.proofs.Counted.{inside_then}
 use Rattle.ram_slip.proofs.few.is_inside.Goals as goal
 
 pub overflow_add-zone : goal.overflow_add-zone
-overflow_add-zone c = (let few = c.start_of.ensures.few in omega (arith, few, c.requires))
+overflow_add-zone c = (let most = c.zone_start.ensures.lawful.most_zones in omega (arith, most, c.requires))
 
-pub returns-then-start_of-block : goal.returns-then-start_of-block
-returns-then-start_of-block c =
-    inside_then c.args.geometry.now c.args.zone c.args.block c.start_of.result c.start_of-then-start_of-block.result c.start_of.ensures.start c.start_of-then-start_of-block.ensures.start
-    c.start_of-then-start_of-block.ensures.least c.if-start_of-block.true
+pub returns-then-zone_start-block : goal.returns-then-zone_start-block
+returns-then-zone_start-block c =
+    inside_then c.args.geometry.now c.args.zone c.args.block c.zone_start.result c.zone_start-then-zone_start-block.result c.zone_start.ensures.start c.zone_start-then-zone_start-block.ensures.start
+    c.zone_start-then-zone_start-block.ensures.least c.if-zone_start-block.true

@@ -1,4 +1,3 @@
-use Rattle.std.proofs.Common.{arith}
 use Rattle.ram_slip.proofs.Counted.{counts_on, counts_still}
 use Rattle.ram_slip.proofs.few.slipped_in.Goals as goal
 use Rattle.ram_slip.proofs.few.slipped_in.Goals.{then-is_inside, else-is_inside}

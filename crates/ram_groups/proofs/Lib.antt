@@ -1,0 +1,5 @@
+pub mod Cutting
+pub mod Layouts
+pub mod Made
+pub mod Starts
+pub mod Tables

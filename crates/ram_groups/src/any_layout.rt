@@ -1,0 +1,120 @@
+//! One layout for both kinds.
+
+ghost use Rattle.std.specs.Prelude.{◌≡◌, ◌+◌, ◌≤◌, IfOk};
+ghost use Rattle.model_geometry.specs.Geometry.{spare_room};
+ghost use Rattle.model_places.specs.Valid.{IsValidPdl, IsValidOnSome};
+ghost use Rattle.ram_dds.specs.Dds.{dds_of};
+ghost use Rattle.ram_groups.specs.Layouts.{IsLayoutOf, IsOfKind, MayHave, room_of, with_ssa};
+
+use crate::zone_layout::ZoneLayout;
+use ram_dds::DdsPdl;
+use ram_layout::{Layout, SlipLayout};
+use ram_slip::Place;
+use ram_zones::{Geometry, LayoutKind};
+use std::alloc::{AllocError, Global};
+
+/// The layout of a disc, of either kind.
+#[derive(Drop)]
+pub enum AnyLayout {
+    /// With one group of spares.
+    Slip(SlipLayout),
+    /// With a group of spares in each zone.
+    Zones(ZoneLayout),
+}
+
+impl AnyLayout {
+    /// The layout of a structure with so many supplementary spares, of the kind of the geometry.
+    pub fn new(
+        alloc: Global,
+        geometry: &Geometry,
+        dds: &DdsPdl,
+        ssa: u32,
+    ) -> Result<AnyLayout, AllocError>
+        requires valid { IsValidPdl geometry.now (dds_of dds.now) }
+        requires area { IsValidOnSome geometry.now ssa }
+        ensures { IfOk result (IsLayoutOf geometry.now (dds_of dds.now) ssa) }
+    {
+        match geometry.layout() {
+            LayoutKind::OneGroup => {
+                Ok(AnyLayout::Slip(SlipLayout::new(alloc, geometry, dds, ssa)?))
+            }
+            LayoutKind::EachZone => Ok(AnyLayout::Zones(ZoneLayout::new(alloc, geometry, dds)?)),
+        }
+    }
+
+    /// Makes it the layout of a structure with so many supplementary spares. It is of the kind of the geometry. It takes no
+    /// memory.
+    pub fn rebuild(&mut self, geometry: &Geometry, dds: &DdsPdl, ssa: u32)
+        requires valid { IsValidPdl geometry.now (dds_of dds.now) }
+        requires area { IsValidOnSome geometry.now ssa }
+        requires kind { IsOfKind geometry.now.layout self.old }
+        requires room { geometry.now.zones + spare_room geometry.now 0 ≤ room_of self.old }
+        ensures { IsLayoutOf geometry.now (dds_of dds.now) ssa self.new }
+    {
+        match self {
+            AnyLayout::Slip(layout) => layout.rebuild(geometry, dds, ssa),
+            AnyLayout::Zones(layout) => layout.rebuild(geometry, dds),
+        }
+    }
+
+    /// Changes the size of the supplementary spare area, which one group alone has. It takes no memory.
+    pub fn set_ssa(&mut self, ssa: u32)
+        requires { MayHave ssa self.old }
+        ensures { self.new ≡ with_ssa ssa self.old }
+    {
+        match self {
+            AnyLayout::Slip(layout) => layout.set_ssa(ssa),
+            AnyLayout::Zones(_) => {}
+        }
+    }
+}
+
+impl Layout for AnyLayout {
+    ghost use Rattle.ram_groups.specs.Layouts.{layout_pools, layout_blocks};
+
+    ghost pools = { layout_pools };
+
+    ghost blocks = { layout_blocks };
+
+    fn logical(&self) -> u32 {
+        match self {
+            AnyLayout::Slip(layout) => layout.logical(),
+            AnyLayout::Zones(layout) => layout.logical(),
+        }
+    }
+
+    fn physical(&self, i: u32) -> u32 {
+        match self {
+            AnyLayout::Slip(layout) => layout.physical(i),
+            AnyLayout::Zones(layout) => layout.physical(i),
+        }
+    }
+
+    fn pools(&self) -> u32 {
+        match self {
+            AnyLayout::Slip(layout) => layout.pools(),
+            AnyLayout::Zones(layout) => layout.pools(),
+        }
+    }
+
+    fn pool_of(&self, i: u32) -> u32 {
+        match self {
+            AnyLayout::Slip(layout) => layout.pool_of(i),
+            AnyLayout::Zones(layout) => layout.pool_of(i),
+        }
+    }
+
+    fn spare(&self, pool: u32, k: u32) -> Option<u32> {
+        match self {
+            AnyLayout::Slip(layout) => layout.spare(pool, k),
+            AnyLayout::Zones(layout) => layout.spare(pool, k),
+        }
+    }
+
+    fn place(&self, block: u32) -> Place {
+        match self {
+            AnyLayout::Slip(layout) => layout.place(block),
+            AnyLayout::Zones(layout) => layout.place(block),
+        }
+    }
+}
