@@ -9,32 +9,56 @@ use Rattle.std.proofs.lemmas.List.Elements.{All-contains}
 use Rattle.std.proofs.lemmas.List.Filters.{length-filter_both}
 use Rattle.std.proofs.lemmas.List.Sums.{length-filter, sum_by-cons, sum_by-take-le, count_by_more_yes, count_by_more_no}
 use Rattle.std.proofs.lemmas.Map.Keys.{IsDistinct-cons, IsDistinct-tail}
-use Rattle.std.proofs.lemmas.Map.Made.{length-from_same_keys}
-use Rattle.model_geometry.specs.declared.kinds.LayoutKind.TheVariants.{OneGroup}
+use Rattle.std.proofs.lemmas.Bool.Decides.{Decides-eqb}
+use Rattle.std.proofs.lemmas.Map.Made.{IsDistinct-from_AllPairs, length-from_same_keys}
+use Rattle.std.proofs.lemmas.Option.{slice_get-get_or}
+use Rattle.model_geometry.specs.declared.kinds.LayoutKind.{LayoutKind}
+use Rattle.model_geometry.specs.declared.kinds.LayoutKind.TheVariants.{OneGroup, EachZone}
 use Rattle.model_geometry.specs.Geometry.{Shape}
 use Rattle.model_lists.specs.declared.sdl.SdlEntry.{SdlEntry}
 use Rattle.model_lists.specs.Values.{defectives}
 use Rattle.model_pools.specs.Listed.{is_listed, replacements}
-use Rattle.model_places.specs.Places.{Lists, is_free, unslipped, primary_count, primary_spares, supplementary_spares, spares, free_primary_count, free_supplementary_count}
+use Rattle.model_places.specs.Places.{Lists, unreplaced, is_free, unslipped, primary_count, primary_spares, primary_by_kind, supplementary_spares, supplementary_by_kind, spares, free_primary_count, free_supplementary_count}
 use Rattle.model_lists.specs.declared.versions.Version.{Version}
 use Rattle.model_places.specs.Valid.{IsValidPdl, IsValidSsa, IsValidSdl, AreValid}
 use Rattle.model_pools.proofs.Listed.{Decides-is_listed, is_listed-filter, is_member_is, Contains-from_filter, IsDistinct-from_increasing}
 use Rattle.model_pools.proofs.Replacements.{Contains-later, Contains-cons_option, Contains-cons_option_first, first_is_alone, replacement_cases}
 use Rattle.model_pools.proofs.Entries.{used, used_differ, differs_from_all}
 use Rattle.model_pools.proofs.Free.{free_from_unnamed, unnamed_from_free}
-use Rattle.model_places.proofs.ByKind.{free_primary_is, free_supplementary_is}
-use Rattle.model_places.proofs.Layouts.{from_primary, from_supplementary}
+use Rattle.model_places.proofs.ByKind.{cases_kind, zone_area}
+use Rattle.model_places.proofs.Layouts.{pools_are_lawful}
 use Rattle.model_places.proofs.Pools.{unslipped_rise, slips_are_all}
 use Rattle.ram_slip.specs.declared.place.Place.{Place}
 use Rattle.ram_slip.specs.declared.place.Place.TheVariants as places
-use Rattle.ram_slip.specs.Place.{IsAtPlace}
+use Rattle.ram_slip.specs.Place.{IsAtPlace, primary_in, supplementary_in}
 use Rattle.ram_slip.proofs.OnePlace.{one_place}
-use Rattle.ram_slip.proofs.Spares.{first_many}
+use Rattle.ram_slip.proofs.SpareAreas.{primary_one, primary_pools, supplementary_one, supplementary_zones, from_primary, from_supplementary}
 
--- ---- how many supplementary spares there are
+-- ---- the spares of each area, by the kind of the layout
 
-last_many : (shape : Shape) (lists : Lists) → shape.layout ≡ OneGroup → (valid : IsValidPdl shape lists.dds) {version : Version} (area : IsValidSsa shape version lists.sdl.ssa) → length (supplementary_spares shape lists.dds lists.sdl.ssa) ≡ lists.sdl.ssa
-last_many shape lists one valid area = let all = slips_are_all shape one lists.dds lists.sdl.ssa valid area in omega (arith, length-drop (length (unslipped shape lists.dds) - lists.sdl.ssa) (unslipped shape lists.dds), all)
+primary_any : (kind : LayoutKind) (shape : Shape) (lists : Lists) → primary_by_kind kind shape (unreplaced lists.dds 0) ≡ primary_by_kind kind shape lists
+primary_any OneGroup shape lists = refl
+primary_any EachZone shape lists = refl
+
+supplementary_any : (kind : LayoutKind) (shape : Shape) (lists : Lists) → supplementary_by_kind kind shape (unreplaced lists.dds lists.sdl.ssa) ≡ supplementary_by_kind kind shape lists
+supplementary_any OneGroup shape lists = refl
+supplementary_any EachZone shape lists = refl
+
+free_primary_in : (shape : Shape) (lists : Lists) → free_primary_count shape lists ≡ count_by (is_free lists) (primary_in shape lists.dds)
+unfolding free_primary_count
+free_primary_in shape lists = ap (count_by (is_free lists)) (sym (primary_any shape.layout shape lists))
+
+free_supplementary_in : (shape : Shape) (lists : Lists) → free_supplementary_count shape lists ≡ count_by (is_free lists) (supplementary_in shape lists.dds lists.sdl.ssa)
+unfolding free_supplementary_count
+free_supplementary_in shape lists = ap (count_by (is_free lists)) (sym (supplementary_any shape.layout shape lists))
+
+supplementary_many : (shape : Shape) (lists : Lists) (valid : IsValidPdl shape lists.dds) {version : Version} (area : IsValidSsa shape version lists.sdl.ssa) → length (supplementary_in shape lists.dds lists.sdl.ssa) ≡ lists.sdl.ssa
+supplementary_many shape lists valid area = elim (cases_kind shape.layout) [
+  | inl is ↦ (let all = slips_are_all shape is lists.dds lists.sdl.ssa valid area in
+      omega (arith, ap length (supplementary_one shape lists.dds lists.sdl.ssa is), length-drop (length (unslipped shape lists.dds) - lists.sdl.ssa) (unslipped shape lists.dds), all))
+  | inr is ↦ (let none = (zone_area shape is lists.sdl.ssa area.of_kind).none in
+      omega (arith, ap length (supplementary_zones shape lists.dds lists.sdl.ssa is), none))
+]
 
 -- ---- numbers that differ
 
@@ -178,8 +202,8 @@ uses some entries = count_by (λ (e : SdlEntry). is_listed some (used e)) entrie
 
 -- So many spares of each area are left by the first k entries.
 pub record AreLeft (shape : Shape) (lists : Lists) (k primary supplementary : ℕ) : Type 0 where
-  pub primary_are : primary + uses (primary_spares shape lists.dds) (take k lists.sdl.entries) ≡ length (primary_spares shape lists.dds)
-  pub supplementary_are : supplementary + uses (supplementary_spares shape lists.dds lists.sdl.ssa) (take k lists.sdl.entries) ≡ length (supplementary_spares shape lists.dds lists.sdl.ssa)
+  pub primary_are : primary + uses (primary_in shape lists.dds) (take k lists.sdl.entries) ≡ length (primary_in shape lists.dds)
+  pub supplementary_are : supplementary + uses (supplementary_in shape lists.dds lists.sdl.ssa) (take k lists.sdl.entries) ≡ length (supplementary_in shape lists.dds lists.sdl.ssa)
 
 -- what one more entry leaves, by what the spare is that it uses up
 abbrev pub LeavesAt : Shape → Lists → ℕ → ℕ → ℕ → Place → Type 0
@@ -205,24 +229,39 @@ module _ (some : List ℕ) (entries : List SdlEntry) (k left x : ℕ) (d : SdlEn
       let same = count_by_more_no (λ (e : SdlEntry). is_listed some (used e)) entries k d below (test_is ∙ false_from_ne_true (is_listed some x) (λ t. none ((Decides-is_listed some x).0 t))) in
       omega (arith, before, same)
 
-module _ (shape : Shape) (lists : Lists) (one : shape.layout ≡ OneGroup) (valid : AreValid shape lists) where
-  primary_area : count_by (is_free lists) (primary_spares shape lists.dds) + uses (primary_spares shape lists.dds) lists.sdl.entries ≡ length (primary_spares shape lists.dds)
-  primary_area =
-      area_is shape lists valid.together.secondary (primary_spares shape lists.dds)
-      (IsDistinct-from_increasing (primary_spares shape lists.dds) (rising_front (primary_count shape lists.dds) (unslipped shape lists.dds) (unslipped_rise shape lists.dds)))
-      (from_primary shape lists.dds lists.sdl.ssa one)
+module _ (shape : Shape) (lists : Lists) (valid : AreValid shape lists) where
+  spares_apart : IsDistinct eqb (spares shape lists)
+  spares_apart =
+      let lawful = pools_are_lawful shape lists.dds lists.sdl.ssa valid.primary valid.together.secondary.area in
+      IsDistinct-from_AllPairs Decides-eqb (spares shape lists)
+      (λ i j d less inside same. let once = lawful.spares i j (get_or (spares shape lists) j d) (slice_get-get_or (spares shape lists) i d (omega (arith, less, inside)) ∙ ap Some same) (slice_get-get_or (spares shape lists) j d inside) in
+      omega (arith, once, less))
 
-  supplementary_area : count_by (is_free lists) (supplementary_spares shape lists.dds lists.sdl.ssa) + uses (supplementary_spares shape lists.dds lists.sdl.ssa) lists.sdl.entries ≡ length (supplementary_spares shape lists.dds lists.sdl.ssa)
-  supplementary_area =
-      area_is shape lists valid.together.secondary (supplementary_spares shape lists.dds lists.sdl.ssa)
-      (IsDistinct-from_increasing (supplementary_spares shape lists.dds lists.sdl.ssa) (rising_rest (length (unslipped shape lists.dds) - lists.sdl.ssa) (unslipped shape lists.dds) (unslipped_rise shape lists.dds)))
-      (from_supplementary shape lists.dds lists.sdl.ssa one)
+  primary_apart : IsDistinct eqb (primary_in shape lists.dds)
+  primary_apart = elim (cases_kind shape.layout) [
+    | inl is ↦ subst (IsDistinct eqb) (sym (primary_one shape lists.dds is))
+        (IsDistinct-from_increasing (primary_spares shape lists.dds) (rising_front (primary_count shape lists.dds) (unslipped shape lists.dds) (unslipped_rise shape lists.dds)))
+    | inr is ↦ subst (IsDistinct eqb) (sym (primary_pools shape lists.dds lists.sdl.ssa is)) spares_apart
+  ]
+
+  supplementary_apart : IsDistinct eqb (supplementary_in shape lists.dds lists.sdl.ssa)
+  supplementary_apart = elim (cases_kind shape.layout) [
+    | inl is ↦ subst (IsDistinct eqb) (sym (supplementary_one shape lists.dds lists.sdl.ssa is))
+        (IsDistinct-from_increasing (supplementary_spares shape lists.dds lists.sdl.ssa) (rising_rest (length (unslipped shape lists.dds) - lists.sdl.ssa) (unslipped shape lists.dds) (unslipped_rise shape lists.dds)))
+    | inr is ↦ subst (IsDistinct eqb) (sym (supplementary_zones shape lists.dds lists.sdl.ssa is)) (IsDistinct-from_AllPairs Decides-eqb [] (λ i j d less inside. absurd (omega (arith, inside))))
+  ]
+
+  primary_area : count_by (is_free lists) (primary_in shape lists.dds) + uses (primary_in shape lists.dds) lists.sdl.entries ≡ length (primary_in shape lists.dds)
+  primary_area = area_is shape lists valid.together.secondary (primary_in shape lists.dds) primary_apart (from_primary shape lists.dds lists.sdl.ssa)
+
+  supplementary_area : count_by (is_free lists) (supplementary_in shape lists.dds lists.sdl.ssa) + uses (supplementary_in shape lists.dds lists.sdl.ssa) lists.sdl.entries ≡ length (supplementary_in shape lists.dds lists.sdl.ssa)
+  supplementary_area = area_is shape lists valid.together.secondary (supplementary_in shape lists.dds lists.sdl.ssa) supplementary_apart (from_supplementary shape lists.dds lists.sdl.ssa)
 
   -- before the first entry
-  pub left_first : (primary : ℕ) → primary ≡ primary_count shape lists.dds → AreLeft shape lists 0 primary lists.sdl.ssa
+  pub left_first : (primary : ℕ) → primary ≡ length (primary_in shape lists.dds) → AreLeft shape lists 0 primary lists.sdl.ssa
   left_first primary is = record {
-    primary_are = omega (arith, is, first_many shape lists.dds lists.sdl.ssa one valid.primary valid.together.secondary.area);
-    supplementary_are = omega (arith, last_many shape lists one valid.primary valid.together.secondary.area);
+    primary_are = omega (arith, is);
+    supplementary_are = omega (arith, supplementary_many shape lists valid.primary valid.together.secondary.area);
   }
 
   -- after all of them
@@ -230,28 +269,28 @@ module _ (shape : Shape) (lists : Lists) (one : shape.layout ≡ OneGroup) (vali
       → (primary ≡ free_primary_count shape lists) × (supplementary ≡ free_supplementary_count shape lists)
   left_last k primary supplementary past left =
       let all = take_all k lists.sdl.entries past in (
-        omega (arith, primary_area, free_primary_is shape one lists, left.primary_are, ap (uses (primary_spares shape lists.dds)) all),
-        omega (arith, supplementary_area, free_supplementary_is shape one lists, left.supplementary_are, ap (uses (supplementary_spares shape lists.dds lists.sdl.ssa)) all),
+        omega (arith, primary_area, free_primary_in shape lists, left.primary_are, ap (uses (primary_in shape lists.dds)) all),
+        omega (arith, supplementary_area, free_supplementary_in shape lists, left.supplementary_are, ap (uses (supplementary_in shape lists.dds lists.sdl.ssa)) all),
       )
 
   module _ (k primary supplementary x : ℕ) (d : SdlEntry) (below : k < length lists.sdl.entries) (is : x ≡ used (get_or lists.sdl.entries k d)) (before : AreLeft shape lists k primary supplementary) where
-    not_first : (place : Place) → IsAtPlace shape lists.dds lists.sdl.ssa x place → (place ≡ places.Primary → ⊥) → primary + uses (primary_spares shape lists.dds) (take (k + 1) lists.sdl.entries) ≡ length (primary_spares shape lists.dds)
+    not_first : (place : Place) → IsAtPlace shape lists.dds lists.sdl.ssa x place → (place ≡ places.Primary → ⊥) → primary + uses (primary_in shape lists.dds) (take (k + 1) lists.sdl.entries) ≡ length (primary_in shape lists.dds)
     not_first place at other =
-        as_many (primary_spares shape lists.dds) lists.sdl.entries k primary x d below is before.primary_are
-        (λ has. other (one_place shape lists.dds lists.sdl.ssa x one valid.primary valid.together.secondary.area place places.Primary at has))
+        as_many (primary_in shape lists.dds) lists.sdl.entries k primary x d below is before.primary_are
+        (λ has. other (one_place shape lists.dds lists.sdl.ssa x valid.primary valid.together.secondary.area place places.Primary at has))
 
-    not_last : (place : Place) → IsAtPlace shape lists.dds lists.sdl.ssa x place → (place ≡ places.Supplementary → ⊥) → supplementary + uses (supplementary_spares shape lists.dds lists.sdl.ssa) (take (k + 1) lists.sdl.entries) ≡ length (supplementary_spares shape lists.dds lists.sdl.ssa)
+    not_last : (place : Place) → IsAtPlace shape lists.dds lists.sdl.ssa x place → (place ≡ places.Supplementary → ⊥) → supplementary + uses (supplementary_in shape lists.dds lists.sdl.ssa) (take (k + 1) lists.sdl.entries) ≡ length (supplementary_in shape lists.dds lists.sdl.ssa)
     not_last place at other =
-        as_many (supplementary_spares shape lists.dds lists.sdl.ssa) lists.sdl.entries k supplementary x d below is before.supplementary_are
-        (λ has. other (one_place shape lists.dds lists.sdl.ssa x one valid.primary valid.together.secondary.area place places.Supplementary at has))
+        as_many (supplementary_in shape lists.dds lists.sdl.ssa) lists.sdl.entries k supplementary x d below is before.supplementary_are
+        (λ has. other (one_place shape lists.dds lists.sdl.ssa x valid.primary valid.together.secondary.area place places.Supplementary at has))
 
     -- one more entry
     pub left_more : (place : Place) → IsAtPlace shape lists.dds lists.sdl.ssa x place → LeavesAt shape lists (k + 1) primary supplementary place
     left_more places.Primary at =
-        let less = one_less (primary_spares shape lists.dds) lists.sdl.entries k primary x d below is before.primary_are (omega (arith, primary_area)) at in
+        let less = one_less (primary_in shape lists.dds) lists.sdl.entries k primary x d below is before.primary_are (omega (arith, primary_area)) at in
         (less.0, record { primary_are = less.1; supplementary_are = not_last places.Primary at (λ e. absurd cc) })
     left_more places.Supplementary at =
-        let less = one_less (supplementary_spares shape lists.dds lists.sdl.ssa) lists.sdl.entries k supplementary x d below is before.supplementary_are (omega (arith, supplementary_area)) at in
+        let less = one_less (supplementary_in shape lists.dds lists.sdl.ssa) lists.sdl.entries k supplementary x d below is before.supplementary_are (omega (arith, supplementary_area)) at in
         (less.0, record { primary_are = not_first places.Supplementary at (λ e. absurd cc); supplementary_are = less.1 })
     left_more (places.Logical i) at = record { primary_are = not_first (places.Logical i) at (λ e. absurd cc); supplementary_are = not_last (places.Logical i) at (λ e. absurd cc) }
     left_more places.Slipped at = record { primary_are = not_first places.Slipped at (λ e. absurd cc); supplementary_are = not_last places.Slipped at (λ e. absurd cc) }

@@ -5,21 +5,21 @@ use Rattle.ram_spare.proofs.count.counts.Goals as goal
 use Rattle.ram_spare.proofs.count.counts.Goals.{in-Primary, in-Supplementary, in-Logical, in-Slipped, in-Outside}
 
 pub loop-entry-init : goal.loop-entry-init
-loop-entry-init c = left_first c.args.geometry.now (both_lists c.args.dds.now c.args.sdl.now) c.primary_left.ensures.one c.requires c.primary_left.result c.primary_left.ensures.left
+loop-entry-init c = left_first c.args.geometry.now (both_lists c.args.dds.now c.args.sdl.now) c.requires c.primary_left.result c.primary_left.ensures.left
 
 pub overflow_sub-free : goal.overflow_sub-free
 overflow_sub-free c =
-    (left_more c.args.geometry.now (both_lists c.args.dds.now c.args.sdl.now) c.primary_left.ensures.one c.requires c.loop-entry.entry-index _ _ c.used_by.result _ (rw c.as_slice-entry-items.ensures at c.loop-entry-test.true)
+    (left_more c.args.geometry.now (both_lists c.args.dds.now c.args.sdl.now) c.requires c.loop-entry.entry-index _ _ c.used_by.result _ (rw c.as_slice-entry-items.ensures at c.loop-entry-test.true)
     (rw c.as_slice-entry-items.ensures at c.used_by.ensures) c.loop-entry.invariant places.Primary c.in-Primary.ensures).0
 
 pub overflow_sub-free-in-Supplementary : goal.overflow_sub-free-in-Supplementary
 overflow_sub-free-in-Supplementary c =
-    (left_more c.args.geometry.now (both_lists c.args.dds.now c.args.sdl.now) c.primary_left.ensures.one c.requires c.loop-entry.entry-index _ _ c.used_by.result _ (rw c.as_slice-entry-items.ensures at c.loop-entry-test.true)
+    (left_more c.args.geometry.now (both_lists c.args.dds.now c.args.sdl.now) c.requires c.loop-entry.entry-index _ _ c.used_by.result _ (rw c.as_slice-entry-items.ensures at c.loop-entry-test.true)
     (rw c.as_slice-entry-items.ensures at c.used_by.ensures) c.loop-entry.invariant places.Supplementary c.in-Supplementary.ensures).0
 
 pub loop-entry-preserved : goal.loop-entry-preserved
 loop-entry-preserved c =
-    let next = left_more c.args.geometry.now (both_lists c.args.dds.now c.args.sdl.now) c.primary_left.ensures.one c.requires c.loop-entry.entry-index _ _ c.used_by.result _ (rw c.as_slice-entry-items.ensures at c.loop-entry-test.true)
+    let next = left_more c.args.geometry.now (both_lists c.args.dds.now c.args.sdl.now) c.requires c.loop-entry.entry-index _ _ c.used_by.result _ (rw c.as_slice-entry-items.ensures at c.loop-entry-test.true)
     (rw c.as_slice-entry-items.ensures at c.used_by.ensures) c.loop-entry.invariant in
     elim c.match-place_of.branch [
       | in-Primary w ↦ rw w.free-is (next places.Primary w.in-Primary.ensures).1
@@ -31,8 +31,8 @@ loop-entry-preserved c =
 
 pub returns-clause-primary : goal.returns-clause-primary
 returns-clause-primary c =
-    (left_last c.args.geometry.now (both_lists c.args.dds.now c.args.sdl.now) c.primary_left.ensures.one c.requires c.loop-entry.entry-index _ _ (rw c.as_slice-entry-items.ensures at c.loop-entry-test.false) c.loop-entry.invariant).0
+    (left_last c.args.geometry.now (both_lists c.args.dds.now c.args.sdl.now) c.requires c.loop-entry.entry-index _ _ (rw c.as_slice-entry-items.ensures at c.loop-entry-test.false) c.loop-entry.invariant).0
 
 pub returns-clause-supplementary : goal.returns-clause-supplementary
 returns-clause-supplementary c =
-    (left_last c.args.geometry.now (both_lists c.args.dds.now c.args.sdl.now) c.primary_left.ensures.one c.requires c.loop-entry.entry-index _ _ (rw c.as_slice-entry-items.ensures at c.loop-entry-test.false) c.loop-entry.invariant).1
+    (left_last c.args.geometry.now (both_lists c.args.dds.now c.args.sdl.now) c.requires c.loop-entry.entry-index _ _ (rw c.as_slice-entry-items.ensures at c.loop-entry-test.false) c.loop-entry.invariant).1
