@@ -1,46 +1,54 @@
 -- What a capacity is to a disc, by the numbers of the code.
 use Rattle.std.specs.Prelude.{◌≡◌, ◌≢◌, ℕ, ◌+◌, ◌-◌, ◌*◌, ◌/◌, ◌%◌, ◌<◌, ◌≤◌, length}
-use Rattle.std.proofs.Common.{arith}
-use Rattle.model_geometry.specs.declared.kinds.LayoutKind.TheVariants.{OneGroup}
+use Rattle.std.proofs.Common.{◌↔◌, Bool, true, false, IsTrue, refl, sym, ◌∙◌, arith}
+use Rattle.std.proofs.lemmas.Bool.{true≢false}
+use Rattle.model_geometry.specs.declared.kinds.LayoutKind.TheVariants.{OneGroup, EachZone}
 use Rattle.model_geometry.specs.Geometry.{Shape, data_blocks, spare_room}
 use Rattle.model_lists.specs.Values.{most_of}
 use Rattle.model_places.specs.Places.{Lists, capacity_of}
-use Rattle.model_places.specs.Valid.{AreValid}
-use Rattle.model_places.proofs.ByKind.{room_grows, slip_room, slip_counts, slip_area_grows}
+use Rattle.model_places.specs.Valid.{AreValid, AreaGrows}
+use Rattle.model_places.proofs.ByKind.{room_grows, slip_area_grows, no_zone_grows}
 use Rattle.model_drive.specs.Expands.{ssa_for, IsLawfulSize}
 use Rattle.ram_expand.specs.Sizes.{IsSmaller, IsPresent}
 
 -- the size of the area that leaves so many sectors
-pub area_is : (shape : Shape) → shape.layout ≡ OneGroup → (count psa capacity : ℕ) → count ≡ length (data_blocks shape) → psa ≡ shape.psa → count - psa - capacity / 16 ≡ ssa_for shape capacity
-area_is shape one count psa capacity count_is psa_is = omega (arith, slip_room shape one 0, count_is, psa_is)
+pub area_is : (shape : Shape) (count room capacity : ℕ) → count ≡ length (data_blocks shape) → room ≡ spare_room shape 0 → count - room - capacity / 16 ≡ ssa_for shape capacity
+area_is shape count room capacity count_is room_is = omega (arith, count_is, room_is)
 
-module _ (shape : Shape) (lists : Lists) (one : shape.layout ≡ OneGroup) (valid : AreValid shape lists) (count psa : ℕ) (count_is : count ≡ length (data_blocks shape)) (psa_is : psa ≡ shape.psa) where
-  pub area_within : lists.sdl.ssa ≤ count - psa
-  area_within = (let some = valid.together.secondary.area.some_logical in omega (arith, some, slip_room shape one lists.sdl.ssa, count_is, psa_is))
+-- whether the area may grow
+pub slips_grow : (shape : Shape) → shape.layout ≡ OneGroup → IsTrue true ↔ AreaGrows shape
+slips_grow shape is = (λ t. slip_area_grows shape is, λ grows. refl)
 
-  pub present_is : (count - psa - lists.sdl.ssa) * 16 ≡ capacity_of shape lists
-  present_is = omega (arith, slip_counts shape one lists.sdl.ssa, count_is, psa_is)
+pub zones_stay : (shape : Shape) → shape.layout ≡ EachZone → IsTrue false ↔ AreaGrows shape
+zones_stay shape is = (λ t. absurd (true≢false (sym t)), λ grows. absurd (no_zone_grows shape is grows))
+
+module _ (shape : Shape) (lists : Lists) (valid : AreValid shape lists) (count room : ℕ) (count_is : count ≡ length (data_blocks shape)) (room_is : room ≡ spare_room shape 0) where
+  pub area_within : lists.sdl.ssa ≤ count - room
+  area_within = (let some = valid.together.secondary.area.some_logical in omega (arith, some, room_grows shape lists.sdl.ssa, count_is, room_is))
+
+  pub present_is : (count - room - lists.sdl.ssa) * 16 ≡ capacity_of shape lists
+  present_is = omega (arith, room_grows shape lists.sdl.ssa, count_is, room_is)
 
   module _ (capacity : ℕ) where
-    pub is_present : capacity ≡ (count - psa - lists.sdl.ssa) * 16 → IsPresent shape lists capacity
+    pub is_present : capacity ≡ (count - room - lists.sdl.ssa) * 16 → IsPresent shape lists capacity
     is_present is =
         let same = present_is in
         let some = valid.together.secondary.area.some_logical in
         let most = valid.together.secondary.area.most in
-        let room = slip_room shape one lists.sdl.ssa in
-        let area : ssa_for shape capacity ≡ lists.sdl.ssa = omega (arith, is, some, room, slip_room shape one 0, count_is, psa_is) in
+        let all = room_grows shape lists.sdl.ssa in
+        let area : ssa_for shape capacity ≡ lists.sdl.ssa = omega (arith, is, some, all, count_is, room_is) in
         record {
           lawful = record {
-            some = omega (arith, is, some, room, count_is, psa_is);
+            some = omega (arith, is, some, all, count_is, room_is);
             whole = omega (arith, is);
             fewer = omega (arith, is, same);
-            grows = λ less. slip_area_grows shape one;
-            most = omega (arith, most, room, slip_room shape one (ssa_for shape capacity), area);
+            grows = λ less. absurd (omega (arith, less, is, same));
+            most = omega (arith, most, all, room_grows shape (ssa_for shape capacity), area);
           };
           present = omega (arith, is, same);
         }
 
-    pub too_large : (count - psa - lists.sdl.ssa) * 16 < capacity → ¬ IsLawfulSize shape lists.sdl.version (capacity_of shape lists) capacity
+    pub too_large : (count - room - lists.sdl.ssa) * 16 < capacity → ¬ IsLawfulSize shape lists.sdl.version (capacity_of shape lists) capacity
     too_large more lawful = (let same = present_is in let fewer = lawful.fewer in omega (arith, more, same, fewer))
 
     pub none_left : capacity ≡ 0 → ¬ IsLawfulSize shape lists.sdl.version (capacity_of shape lists) capacity
@@ -49,22 +57,28 @@ module _ (shape : Shape) (lists : Lists) (one : shape.layout ≡ OneGroup) (vali
     pub not_whole : capacity % 16 ≢ 0 → ¬ IsLawfulSize shape lists.sdl.version (capacity_of shape lists) capacity
     not_whole is lawful = is lawful.whole
 
-    pub too_many_spares : (area most : ℕ) → area ≡ ssa_for shape capacity → most ≡ most_of lists.sdl.version → most < psa + area
+    pub too_many_spares : (area most : ℕ) → area ≡ ssa_for shape capacity → most ≡ most_of lists.sdl.version → most < room + area
         → ¬ IsLawfulSize shape lists.sdl.version (capacity_of shape lists) capacity
     too_many_spares area most area_is most_is more lawful =
-        (let within = lawful.most in omega (arith, more, within, area_is, most_is, psa_is, slip_room shape one (ssa_for shape capacity)))
+        (let within = lawful.most in omega (arith, more, within, area_is, most_is, room_is, room_grows shape (ssa_for shape capacity)))
 
-    pub is_smaller : (area most : ℕ) → 0 < capacity → capacity % 16 ≡ 0 → capacity ≤ (count - psa - lists.sdl.ssa) * 16 → capacity ≢ (count - psa - lists.sdl.ssa) * 16
-        → area ≡ ssa_for shape capacity → most ≡ most_of lists.sdl.version → psa + area ≤ most → IsSmaller shape lists capacity
-    is_smaller area most some whole fewer apart area_is most_is within =
+    pub cannot_grow : (grows : Bool) → (IsTrue grows ↔ AreaGrows shape) → grows ≡ false → capacity ≢ (count - room - lists.sdl.ssa) * 16 → ¬ IsLawfulSize shape lists.sdl.version (capacity_of shape lists) capacity
+    cannot_grow grows tells stays apart lawful =
+        let same = present_is in
+        let fewer = lawful.fewer in
+        absurd (true≢false (sym (tells.1 (lawful.grows (omega (arith, fewer, apart, same)))) ∙ stays))
+
+    pub is_smaller : AreaGrows shape → (area most : ℕ) → 0 < capacity → capacity % 16 ≡ 0 → capacity ≤ (count - room - lists.sdl.ssa) * 16 → capacity ≢ (count - room - lists.sdl.ssa) * 16
+        → area ≡ ssa_for shape capacity → most ≡ most_of lists.sdl.version → room + area ≤ most → IsSmaller shape lists capacity
+    is_smaller grows area most some whole fewer apart area_is most_is within =
         let same = present_is in
         record {
           lawful = record {
             some = some;
             whole = whole;
             fewer = omega (arith, fewer, same);
-            grows = λ less. slip_area_grows shape one;
-            most = omega (arith, within, area_is, most_is, psa_is, slip_room shape one (ssa_for shape capacity));
+            grows = λ less. grows;
+            most = omega (arith, within, area_is, most_is, room_is, room_grows shape (ssa_for shape capacity));
           };
           smaller = omega (arith, fewer, apart, same);
         }

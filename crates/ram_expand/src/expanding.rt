@@ -58,7 +58,7 @@ pub enum Grown {
 /// before and after. It takes no memory.
 ///
 /// Refused: a capacity of 0, no multiple of 16, greater than the disc has, or one that leaves more spares in all than a disc
-/// of its version may have: 4,092, or 8,184.
+/// of its version may have: 4,092, or 8,184; and with a group of spares in each zone each but the present one.
 /// The lists in memory change with Good alone, once a copy of the new list can be read. (Spare areas after ECMA-330; how
 /// one grows is this project's own.)
 pub fn grow<M: Medium>(

@@ -23,8 +23,9 @@ use std::alloc::{AllocError, Global};
 /// The greatest mark that has room for two more counters.
 const GREATEST_MARK: u32 = 4_294_967_293;
 
-/// The most blocks that a disc may have replaced.
-const MOST_REPLACED: usize = 8_184;
+/// The most found blocks that tell which zone is the first with too many: no more than the spares of all zones before it, and
+/// than the blocks of the largest zone, and one.
+const MOST_FOUND: usize = 9_993;
 
 /// The most blocks that a disc may have slipped.
 const MOST_SLIPPED: usize = 4_092;
@@ -36,7 +37,8 @@ pub enum FullEnd {
     Good,
     /// More blocks are defective than may be slipped. The disc is not formatted.
     TooMany {
-        /// How many blocks are defective, those that were kept among them.
+        /// How many blocks are defective, those that were kept among them: in all, or with a group of spares in each zone those of
+        /// the first zone that has too many.
         found: u32,
         /// The mark from now on.
         mark: u32,
@@ -71,11 +73,11 @@ fn kind_of(first: bool) -> PdlKind
 /// The memory of a full format, beside its lists and its block of zeros.
 #[derive(Drop)]
 pub struct FormatRoom {
-    /// Room for the numbers of the blocks that are found, or of those that are replaced.
+    /// Room for the numbers of the blocks that are found, or of the at most 8,184 that are replaced.
     pub found: Vec<u32>,
     /// Room for the entries of the new primary list.
     pub merged: Vec<PdlEntry>,
-    ghost found_roomy: { 8184 ≤ vec_capacity found },
+    ghost found_roomy: { 9993 ≤ vec_capacity found },
     ghost merged_roomy: { 4092 ≤ vec_capacity merged },
 }
 
@@ -83,7 +85,7 @@ impl FormatRoom {
     /// Takes this memory.
     pub fn new(alloc: Global) -> Result<FormatRoom, AllocError> {
         Ok(FormatRoom {
-            found: Vec::with_capacity(alloc, MOST_REPLACED)?,
+            found: Vec::with_capacity(alloc, MOST_FOUND)?,
             merged: Vec::with_capacity(alloc, MOST_SLIPPED)?,
         })
     }

@@ -67,7 +67,7 @@ pub fn kept_entries(lists: &Lists, drop_sdl: bool, blocks: &mut Vec<u32>, kept: 
     requires blocks_room { 8184 ≤ vec_capacity blocks.old }
     requires kept_room { 12276 ≤ vec_capacity kept.old }
     ensures kept { AreAllKept (Some (lists_of lists.now)) drop_sdl kept.new.items }
-    ensures blocks_room { 8184 ≤ vec_capacity blocks.new }
+    ensures blocks_room { vec_capacity blocks.old ≤ vec_capacity blocks.new }
     ensures kept_room { 12276 ≤ vec_capacity kept.new }
 {
     take_defectives(&lists.sdl, drop_sdl, blocks);
