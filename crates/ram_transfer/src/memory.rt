@@ -1,17 +1,18 @@
 //! The memory that a drive works with: all of it is taken by [`Memory::new`].
 
-ghost use Rattle.std.specs.Prelude.{◌≡◌, ◌+◌, ◌≤◌, IfOk, Some, [], length, vec_capacity};
+ghost use Rattle.std.specs.Prelude.{◌≡◌, ◌≤◌, IfOk, Some, [], length, vec_capacity};
 ghost use Rattle.model_places.specs.Valid.{AreValid};
 ghost use Rattle.ram_format.specs.Keeping.{RiseApart, AreAllKept};
 ghost use Rattle.ram_lists.specs.Lists.{lists_of};
-ghost use Rattle.ram_transfer.specs.Layouts.{IsLaidOut};
+ghost use Rattle.ram_transfer.specs.Layouts.{IsRoomy, HasRoom, IsLaidOut};
 
 use ram_buffer::BlockBuffer;
 use ram_bytes::Block;
 use ram_copies::Scratch;
 use ram_dds::{DdsPdl, PdlEntry};
 use ram_format::{FormatRoom, kept_entries};
-use ram_layout::SlipLayout;
+use ram_groups::AnyLayout;
+use ram_layout::Layout;
 use ram_lists::Lists;
 use ram_spare::Cursors;
 use ram_zones::Geometry;
@@ -35,7 +36,7 @@ pub struct Workspace {
     /// Room for the copies of a list.
     pub scratch: Scratch,
     /// Where logical blocks and spares lie.
-    pub layout: SlipLayout,
+    pub layout: AnyLayout,
     /// How far the spares are known to be used.
     pub cursors: Cursors,
     /// Room for the entries that a full format keeps.
@@ -45,17 +46,13 @@ pub struct Workspace {
     ghost kept_roomy: { 12276 ≤ vec_capacity kept },
 }
 
-/// All memory that a drive with its power on works with.
+/// All memory that a drive works with. With the power off, or on with a disc that is not formatted, it holds nothing that
+/// matters.
 #[derive(Drop)]
 pub struct Memory {
-    /// The geometry of the disc.
-    pub geometry: Geometry,
-    /// Room for the lists in use.
+    /// The lists in use, or room for them.
     pub lists: Lists,
     pub workspace: Workspace,
-    ghost unbuffered: { workspace.buffer ≡ [] },
-    ghost layout_roomy: { geometry.zones + geometry.psa ≤ workspace.layout.room },
-    ghost one_each: { length workspace.cursors ≡ 1 },
 }
 
 /// A layout with no slipped block and no supplementary spare, with room for that of any disc of this geometry. The structure
@@ -64,32 +61,30 @@ fn roomy_layout(
     alloc: Global,
     geometry: &Geometry,
     dds: &mut DdsPdl,
-) -> Result<SlipLayout, AllocError>
+) -> Result<AnyLayout, AllocError>
     requires { dds.old.entries ≡ [] }
-    ensures { IfOk result (λ layout. geometry.now.zones + geometry.now.psa ≤ layout.room) }
+    ensures { IfOk result (IsRoomy geometry.now) }
 {
     dds.layout = geometry.layout();
     dds.psa = geometry.psa();
-    SlipLayout::new(alloc, geometry, dds, 0)
+    AnyLayout::new(alloc, geometry, dds, 0)
 }
 
 impl Workspace {
-    /// Takes all of it. Nothing is buffered, and the layout has room for that of any disc of this geometry.
+    /// Takes all of it, with room for the layout of any disc of this geometry.
     fn new(alloc: Global, geometry: &Geometry) -> Result<Workspace, AllocError>
-        ensures buffer { IfOk result (λ workspace. workspace.buffer ≡ []) }
-        ensures layout { IfOk result
-            (λ workspace. geometry.now.zones + geometry.now.psa ≤ workspace.layout.room) }
-        ensures one_each { IfOk result (λ workspace. length workspace.cursors ≡ 1) }
+        ensures { IfOk result (λ workspace. HasRoom geometry.now workspace.layout workspace.cursors) }
     {
         let mut draft = Lists::new(alloc)?;
+        let layout = roomy_layout(alloc, geometry, &mut draft.dds)?;
         Ok(Workspace {
-            layout: roomy_layout(alloc, geometry, &mut draft.dds)?,
+            cursors: Cursors::new(alloc, layout.pools())?,
+            layout,
             draft,
             buffer: BlockBuffer::new(alloc)?,
             block: Block::zeros(alloc)?,
             back: Block::zeros(alloc)?,
             scratch: Scratch::new(alloc)?,
-            cursors: Cursors::new(alloc, 1)?,
             kept: Vec::with_capacity(alloc, MOST_KEPT)?,
             format: FormatRoom::new(alloc)?,
         })
@@ -98,12 +93,10 @@ impl Workspace {
     /// Makes the layout that of a disc with these lists, with each cursor at the first spare.
     pub fn lay_out(&mut self, geometry: &Geometry, lists: &Lists)
         requires valid { AreValid geometry.now (lists_of lists.now) }
-        requires room { geometry.now.zones + geometry.now.psa ≤ self.old.layout.room }
-        requires one_each { length self.old.cursors ≡ 1 }
+        requires room { HasRoom geometry.now self.old.layout self.old.cursors }
         ensures laid_out { IsLaidOut geometry.now (lists_of lists.now) self.new.layout self.new.cursors }
         ensures same_buffer { self.new.buffer ≡ self.old.buffer }
     {
-        let _layout = geometry.layout();
         self.layout.rebuild(geometry, &lists.dds, lists.sdl.ssa);
         self.cursors.reset();
     }
@@ -124,12 +117,11 @@ impl Workspace {
 }
 
 impl Memory {
-    /// Takes all of it.
+    /// Takes all of it, for a drive whose disc has this geometry.
     pub fn new(alloc: Global, geometry: &Geometry) -> Result<Memory, AllocError>
-        ensures { IfOk result (λ memory. memory.geometry ≡ geometry.now) }
+        ensures { IfOk result (λ memory. HasRoom geometry.now memory.workspace.layout memory.workspace.cursors) }
     {
         Ok(Memory {
-            geometry: *geometry,
             lists: Lists::new(alloc)?,
             workspace: Workspace::new(alloc, geometry)?,
         })

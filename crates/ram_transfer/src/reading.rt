@@ -7,7 +7,7 @@ ghost use Rattle.model_buffer.specs.Buffer.{bytes_at};
 ghost use Rattle.model_buffer.specs.declared.TheConstants.{BUFFERED_BLOCKS};
 ghost use Rattle.model_places.specs.Places.{pools_under, logical_count, capacity_of, home_of};
 ghost use Rattle.model_places.specs.Valid.{AreValid};
-ghost use Rattle.ram_layout.specs.Slipping.{slip_pools};
+ghost use Rattle.ram_groups.specs.Layouts.{layout_pools};
 ghost use Rattle.ram_lists.specs.Lists.{lists_of};
 ghost use Rattle.ram_transfer.specs.Blocks.{FetchStopped};
 ghost use Rattle.ram_transfer.specs.Reading.{ReadsPart, IsLong, MayPass, PutsNewest, PutsFrom, PartsEnd, read_end_at};
@@ -16,7 +16,7 @@ use crate::homes::home;
 use model_sectors::ReadOut;
 use ram_buffer::{BUFFERED_BLOCKS, BlockBuffer};
 use ram_bytes::{BLOCK_BYTES, Block};
-use ram_layout::SlipLayout;
+use ram_groups::AnyLayout;
 use ram_lists::Lists;
 use ram_medium::{Medium, Stop, read_whole, read_whole_into};
 use ram_requests::{Part, Request};
@@ -53,7 +53,7 @@ fn read_past<M: Medium>(
 fn read_part<M: Medium>(
     medium: &mut M,
     geometry: &Geometry,
-    layout: &SlipLayout,
+    layout: &AnyLayout,
     lists: &Lists,
     buffer: &mut BlockBuffer,
     block: &mut Block,
@@ -63,7 +63,7 @@ fn read_part<M: Medium>(
 ) -> Result<bool, Stop>
     requires size { M.block_count medium.old ≡ total geometry.now }
     requires valid { AreValid geometry.now (lists_of lists.now) }
-    requires pools { slip_pools layout.now ≡ pools_under geometry.now (lists_of lists.now) }
+    requires pools { layout_pools layout.now ≡ pools_under geometry.now (lists_of lists.now) }
     requires inside { part.block < logical_count geometry.now (lists_of lists.now) }
     requires whole { length into.old ≡ 2048 * part.request.n }
     requires past { IsTrue past → MayPass part.request.lba part.request.n part.block buffer.old }
@@ -139,7 +139,7 @@ fn goes_past(long: bool, part: Part, k: u32, blocks: u32) -> bool
 pub fn read_parts<M: Medium>(
     medium: &mut M,
     geometry: &Geometry,
-    layout: &SlipLayout,
+    layout: &AnyLayout,
     lists: &Lists,
     buffer: &mut BlockBuffer,
     block: &mut Block,
@@ -149,7 +149,7 @@ pub fn read_parts<M: Medium>(
     requires size { M.block_count medium.old ≡ total geometry.now }
     requires on { IsTrue (M.world medium.old).power }
     requires valid { AreValid geometry.now (lists_of lists.now) }
-    requires pools { slip_pools layout.now ≡ pools_under geometry.now (lists_of lists.now) }
+    requires pools { layout_pools layout.now ≡ pools_under geometry.now (lists_of lists.now) }
     requires inside { request.lba + request.n ≤ capacity_of geometry.now (lists_of lists.now) }
     requires whole { length into.old ≡ 2048 * request.n }
     ensures rule { PartsEnd M.world M.reaches medium.old medium.new buffer.old
@@ -176,13 +176,13 @@ pub fn read_parts<M: Medium>(
 /// How a read ended that was not stopped: at the block after so many, where there is such a one.
 pub fn ended_at(
     geometry: &Geometry,
-    layout: &SlipLayout,
+    layout: &AnyLayout,
     lists: &Lists,
     request: Request,
     met: Option<u32>,
 ) -> ReadOut
     requires valid { AreValid geometry.now (lists_of lists.now) }
-    requires pools { slip_pools layout.now ≡ pools_under geometry.now (lists_of lists.now) }
+    requires pools { layout_pools layout.now ≡ pools_under geometry.now (lists_of lists.now) }
     requires inside { request.lba + request.n ≤ capacity_of geometry.now (lists_of lists.now) }
     requires covered { IfSome met (λ before. before < blocks_covered request.lba request.n) }
     ensures { result ≡ read_end_at geometry.now (lists_of lists.now) request.lba met }

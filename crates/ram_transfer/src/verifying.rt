@@ -4,13 +4,13 @@ ghost use Rattle.std.specs.Prelude.{◌≡◌, ◌+◌, ◌≤◌, IsTrue};
 ghost use Rattle.model_geometry.specs.Geometry.{total};
 ghost use Rattle.model_places.specs.Places.{pools_under, capacity_of};
 ghost use Rattle.model_places.specs.Valid.{AreValid};
-ghost use Rattle.ram_layout.specs.Slipping.{slip_pools};
+ghost use Rattle.ram_groups.specs.Layouts.{layout_pools};
 ghost use Rattle.ram_lists.specs.Lists.{lists_of};
 ghost use Rattle.ram_transfer.specs.Verifying.{HomesEnd};
 
 use crate::homes::home;
 use ram_bytes::Block;
-use ram_layout::SlipLayout;
+use ram_groups::AnyLayout;
 use ram_lists::Lists;
 use ram_medium::{Medium, Stop, read_whole};
 use ram_requests::Request;
@@ -21,7 +21,7 @@ use ram_zones::Geometry;
 pub fn read_homes<M: Medium>(
     medium: &mut M,
     geometry: &Geometry,
-    layout: &SlipLayout,
+    layout: &AnyLayout,
     lists: &Lists,
     block: &mut Block,
     request: Request,
@@ -29,7 +29,7 @@ pub fn read_homes<M: Medium>(
     requires size { M.block_count medium.old ≡ total geometry.now }
     requires on { IsTrue (M.world medium.old).power }
     requires valid { AreValid geometry.now (lists_of lists.now) }
-    requires pools { slip_pools layout.now ≡ pools_under geometry.now (lists_of lists.now) }
+    requires pools { layout_pools layout.now ≡ pools_under geometry.now (lists_of lists.now) }
     requires inside { request.lba + request.n ≤ capacity_of geometry.now (lists_of lists.now) }
     ensures rule { HomesEnd M.world M.reaches medium.old medium.new
         geometry.now (lists_of lists.now) request.lba request.n result }

@@ -7,7 +7,7 @@ ghost use Rattle.model_places.specs.Places.{logical_count, capacity_of};
 ghost use Rattle.model_volume.specs.Given.{AreSettled};
 ghost use Rattle.model_drive.specs.declared.WriteOut.TheVariants as outs;
 ghost use Rattle.ram_medium.specs.Laws.{machine_shown};
-ghost use Rattle.ram_layout.specs.Slipping.{slip_pools};
+ghost use Rattle.ram_groups.specs.Layouts.{layout_pools};
 ghost use Rattle.ram_lists.specs.Lists.{lists_of};
 ghost use Rattle.ram_lists.specs.Fit.{IsFit};
 ghost use Rattle.ram_transfer.specs.Writing.{BringsRest, RestStopped, WritesPart, PartStops, EndsParts, StopsParts};
@@ -58,7 +58,7 @@ fn write_part<M: Medium>(
     part: Part,
     from: &[u8],
 ) -> Result<WriteOut, Stop>
-    requires fit { IsFit geometry.now (M.block_count medium.old) (slip_pools workspace.old.layout)
+    requires fit { IsFit geometry.now (M.block_count medium.old) (layout_pools workspace.old.layout)
         workspace.old.cursors
         lists.old }
     requires on { IsTrue (M.world medium.old).power }
@@ -70,7 +70,7 @@ fn write_part<M: Medium>(
         workspace.old.buffer workspace.new.buffer part.request.lba part.request.n part.block from.now)
         (PartStops M.world M.reaches geometry.now medium.old medium.new (lists_of lists.old)
         workspace.old.buffer part.request.lba part.request.n part.block from.now) }
-    ensures fit { IsFit geometry.now (M.block_count medium.new) (slip_pools workspace.new.layout)
+    ensures fit { IsFit geometry.now (M.block_count medium.new) (layout_pools workspace.new.layout)
         workspace.new.cursors
         lists.new }
     ensures same_layout { workspace.new.layout ≡ workspace.old.layout }
@@ -124,7 +124,7 @@ pub fn write_parts<M: MediumControl>(
     request: Request,
     from: &[u8],
 ) -> Result<WriteOut, Stop>
-    requires fit { IsFit geometry.now (M.block_count medium.old) (slip_pools workspace.old.layout)
+    requires fit { IsFit geometry.now (M.block_count medium.old) (layout_pools workspace.old.layout)
         workspace.old.cursors
         lists.old }
     requires on { IsTrue (M.world medium.old).power }
@@ -139,7 +139,7 @@ pub fn write_parts<M: MediumControl>(
         (machine_shown M.world M.arms M.armed_cut medium.new) (lists_of lists.old) workspace.old.buffer
         request.lba request.n from.now) }
     ensures happened { Happened M.takes medium.old medium.new }
-    ensures fit { IsFit geometry.now (M.block_count medium.new) (slip_pools workspace.new.layout)
+    ensures fit { IsFit geometry.now (M.block_count medium.new) (layout_pools workspace.new.layout)
         workspace.new.cursors
         lists.new }
     ensures same_layout { workspace.new.layout ≡ workspace.old.layout }

@@ -1,12 +1,18 @@
 use Rattle.model_lists.specs.declared.versions.Version.TheVariants.{Two}
 use Rattle.model_places.proofs.ByKind.{no_area}
 use Rattle.ram_dds.specs.Dds.{dds_of}
-use Rattle.ram_transfer.proofs.Layouts.{nothing_slipped}
+use Rattle.ram_transfer.proofs.Layouts.{nothing_slipped, is_roomy}
 use Rattle.ram_transfer.proofs.memory.roomy_layout.Goals as goal
 
 pub new-requires-clause-valid : goal.new-requires-clause-valid
 new-requires-clause-valid c =
-    nothing_slipped c.args.geometry.now c.layout-dds.ensures.one (record (dds_of c.args.dds.now) { layout = c.layout-dds.result; psa = c.psa-dds.result }) c.layout-dds.ensures.kind c.psa-dds.ensures.spares c.requires
+    nothing_slipped c.args.geometry.now (record (dds_of c.args.dds.now) { layout = c.layout-dds.result; psa = c.psa-dds.result }) c.layout-dds.ensures c.psa-dds.ensures.spares c.requires
 
 pub new-requires-clause-area : goal.new-requires-clause-area
 new-requires-clause-area c = (Two, no_area c.args.geometry.now c.psa-dds.ensures.lawful)
+
+pub returns : goal.returns
+returns c =
+    is_roomy c.args.geometry.now (record (dds_of c.args.dds.now) { layout = c.layout-dds.result; psa = c.psa-dds.result }) 0 c.new.result
+    (nothing_slipped c.args.geometry.now (record (dds_of c.args.dds.now) { layout = c.layout-dds.result; psa = c.psa-dds.result }) c.layout-dds.ensures c.psa-dds.ensures.spares c.requires)
+    (Two, no_area c.args.geometry.now c.psa-dds.ensures.lawful) c.new.ensures

@@ -4,4 +4,4 @@ use Rattle.ram_transfer.proofs.memory.Workspace.lay_out.Goals as goal
 
 pub returns-clause-laid_out : goal.returns-clause-laid_out
 returns-clause-laid_out c =
-    laid_out c.args.geometry.now (lists_of c.args.lists.now) c.rebuild.new.self c.reset.new.self c.args.self.now.cursors c.layout-layout.ensures.one c.requires.valid c.rebuild.ensures c.reset.ensures c.requires.one_each
+    laid_out c.args.geometry.now (lists_of c.args.lists.now) c.rebuild.new.self c.reset.new.self c.args.self.now.cursors c.requires.valid c.rebuild.ensures c.reset.ensures c.requires.room.one_each
