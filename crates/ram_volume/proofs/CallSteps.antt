@@ -17,8 +17,8 @@ use Rattle.model_lists.specs.Values.{Dds, Sdl}
 use Rattle.model_lists.specs.Texts.{IsDdsText}
 use Rattle.model_drive.specs.Repairs.{RepairsList, RepairsSdl}
 use Rattle.model_drive.specs.Power.{RepairsChosenDds, PowerCause, PowerStep}
-use Rattle.ram_volume.specs.Powers.{turned_off, PowerSteps}
-use Rattle.ram_volume.specs.Formats.{FormatSteps}
+use Rattle.ram_states.specs.Powers.{turned_off, PowerSteps}
+use Rattle.ram_states.specs.Formats.{FormatSteps}
 
 -- with the power off
 module _ (old new : Shown) (same : old ≡ new) (off : ¬ IsOn new) where
@@ -109,16 +109,6 @@ power_again old new powers.Fault cause = record {
   stopped = record { stops = cause.stopped.stops; no_lists = cause.stopped.no_lists; no_mark = cause.stopped.no_mark; no_buffer = cause.stopped.no_buffer };
   left = cause.left;
 }
-power_again old new powers.NoMemory cause = record {
-  any = record { only = cause.any.only; given = cause.any.given; unbuffered = cause.any.unbuffered };
-  off = cause.off;
-  no_lists = cause.no_lists;
-  no_mark = cause.no_mark;
-  uses = cause.uses;
-  few = cause.few;
-  reach = cause.reach;
-  left = cause.left;
-}
 
 pub power_cause_again : (old on off new : Shown) (out : PowerOut) → old ≡ on → off ≡ turned_off on → PowerCause off new out → PowerCause old new out
 power_cause_again old on off new out same turned cause =
@@ -129,7 +119,6 @@ power_steps_of new s (powers.Ready known) step = step
 power_steps_of new s powers.NotFormatted step = step
 power_steps_of new s powers.Cut step = step
 power_steps_of new s powers.Fault step = step
-power_steps_of new s powers.NoMemory step = step
 
 pub power_steps_again : (old on off new : Shown) (out : PowerOut) → old ≡ on
     → ((s : Standing) → StandsFor on s → StandsFor off (Off (candidates s))) → PowerSteps off new out → PowerSteps old new out

@@ -8,7 +8,7 @@ use Rattle.model_drive.specs.Shown.{Shown, IsOn, StandsBy, StandsFor, cells_in}
 use Rattle.model_drive.specs.Expands.{ExpandCause, ExpandStep}
 use Rattle.model_drive.proofs.Found.{expand_found}
 use Rattle.model_drive.proofs.Kept.{expand_kept}
-use Rattle.ram_volume.specs.Expanding.{ExpandSteps}
+use Rattle.ram_states.specs.Expanding.{ExpandSteps}
 use Rattle.ram_volume.specs.Volume.{StandsForSome}
 use Rattle.ram_volume.proofs.Somes.{still_some}
 

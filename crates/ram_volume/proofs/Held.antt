@@ -19,15 +19,15 @@ use Rattle.ram_medium.specs.declared.control.MediumControl.{Ghosts as ControlGho
 use Rattle.ram_medium.specs.declared.control.FailEnd.{FailEnd}
 use Rattle.ram_medium.specs.declared.control.FailEnd.TheVariants as fails
 use Rattle.ram_transfer.specs.Writing.{WriteSteps}
-use Rattle.ram_volume.specs.Control.{FailOnDrive, FailStands}
-use Rattle.ram_volume.specs.Reading.{ReadSteps}
-use Rattle.ram_volume.specs.Expanding.{ExpandSteps}
-use Rattle.ram_volume.specs.Powers.{PowerSteps}
-use Rattle.ram_volume.specs.Formats.{FormatSteps}
-use Rattle.ram_volume.specs.Shown.{shown_state}
-use Rattle.ram_volume.specs.Verifying.{VerifySteps}
+use Rattle.ram_states.specs.Control.{FailOnDrive, FailStands}
+use Rattle.ram_states.specs.Reading.{ReadSteps}
+use Rattle.ram_states.specs.Expanding.{ExpandSteps}
+use Rattle.ram_states.specs.Powers.{PowerSteps}
+use Rattle.ram_states.specs.Formats.{FormatSteps}
+use Rattle.ram_states.specs.Shown.{shown_state}
+use Rattle.ram_states.specs.Verifying.{VerifySteps}
 use Rattle.ram_volume.specs.Volume.{StandsForSome, shown_in}
-use Rattle.ram_volume.specs.declared.states.State.{State}
+use Rattle.ram_states.specs.declared.states.State.{State}
 use Rattle.ram_volume.proofs.Somes.{still_some}
 
 -- the failure of a block leaves something that a drive stands for

@@ -20,9 +20,9 @@ use Rattle.model_drive.proofs.Kept.{read_kept, write_kept, power_kept, format_ke
 use Rattle.model_drive.proofs.Opening.{opened_disc}
 use Rattle.ram_transfer.specs.Shown.{shown_without}
 use Rattle.ram_transfer.specs.Writing.{WriteSteps}
-use Rattle.ram_volume.specs.Reading.{ReadSteps}
-use Rattle.ram_volume.specs.Powers.{PowerSteps}
-use Rattle.ram_volume.specs.Formats.{FormatSteps}
+use Rattle.ram_states.specs.Reading.{ReadSteps}
+use Rattle.ram_states.specs.Powers.{PowerSteps}
+use Rattle.ram_states.specs.Formats.{FormatSteps}
 use Rattle.ram_volume.specs.Volume.{StandsForSome}
 
 module _ (old new : Shown) where

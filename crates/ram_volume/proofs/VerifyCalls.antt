@@ -7,7 +7,7 @@ use Rattle.model_drive.specs.Shown.{Shown, IsOn, StandsFor}
 use Rattle.model_drive.specs.Reads.{VerifyCause, VerifyStep}
 use Rattle.model_drive.proofs.Found.{verify_found}
 use Rattle.model_drive.proofs.Kept.{verify_kept}
-use Rattle.ram_volume.specs.Verifying.{VerifySteps}
+use Rattle.ram_states.specs.Verifying.{VerifySteps}
 use Rattle.ram_volume.specs.Volume.{StandsForSome}
 use Rattle.ram_volume.proofs.Somes.{still_some}
 

@@ -2,7 +2,7 @@
 use Rattle.model_drive.specs.Shown.{Shown}
 use Rattle.ram_medium.specs.declared.blocks.Medium.{Ghosts}
 use Rattle.ram_medium.specs.declared.control.MediumControl.{Ghosts as ControlGhosts}
-use Rattle.ram_volume.specs.Shown.{medium_under}
+use Rattle.ram_states.specs.Shown.{medium_under}
 use Rattle.ram_volume.specs.Volume.{shown_in, state_in}
 use Rattle.ram_volume.specs.declared.volume.Volume.{Volume}
 

@@ -1,11 +1,2 @@
-pub mod Control
 pub mod Drives
-pub mod Expanding
-pub mod Formats
-pub mod OneProof
-pub mod Powers
-pub mod Reading
-pub mod Shown
-pub mod Sounding
-pub mod Verifying
 pub mod Volume

@@ -6,8 +6,8 @@ use Rattle.model_sectors.specs.Discs.{Standing}
 use Rattle.model_drive.specs.Shown.{Shown, IsKnown, StandsFor}
 use Rattle.ram_medium.specs.declared.blocks.Medium.{Ghosts}
 use Rattle.ram_medium.specs.declared.control.MediumControl.{Ghosts as ControlGhosts}
-use Rattle.ram_volume.specs.Shown.{shown_state}
-use Rattle.ram_volume.specs.declared.states.State.{State}
+use Rattle.ram_states.specs.Shown.{shown_state}
+use Rattle.ram_states.specs.declared.states.State.{State}
 
 -- Where the cells of its medium are known, a drive does not stand for nothing.
 abbrev pub StandsForSome : Shown → Type 0

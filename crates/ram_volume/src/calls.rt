@@ -10,18 +10,17 @@ ghost use Rattle.model_drive.specs.Formats.{FormatCause, FormatCompletes};
 ghost use Rattle.model_drive.specs.Expands.{ExpandCause, ExpandCompletes};
 ghost use Rattle.ram_sectors.specs.declared.TheConstants.{VERIFY_LIMIT};
 ghost use Rattle.ram_transfer.specs.Writing.{WriteSteps};
-ghost use Rattle.ram_volume.specs.Shown.{shown_off, shown_state, medium_under};
-ghost use Rattle.ram_volume.specs.Reading.{ReadSteps};
-ghost use Rattle.ram_volume.specs.Powers.{PowerSteps};
-ghost use Rattle.ram_volume.specs.Formats.{FormatSteps};
-ghost use Rattle.ram_volume.specs.Expanding.{ExpandSteps};
-ghost use Rattle.ram_volume.specs.Verifying.{VerifySteps};
+ghost use Rattle.ram_states.specs.Shown.{shown_off, shown_state, medium_under};
+ghost use Rattle.ram_states.specs.Reading.{ReadSteps};
+ghost use Rattle.ram_states.specs.Powers.{PowerSteps};
+ghost use Rattle.ram_states.specs.Formats.{FormatSteps};
+ghost use Rattle.ram_states.specs.Expanding.{ExpandSteps};
+ghost use Rattle.ram_states.specs.Verifying.{VerifySteps};
 ghost use Rattle.ram_volume.specs.Volume.{StandsForSome};
 
-use crate::states::{PowerOn, PoweredOff, State};
 use ram_medium::MediumControl;
 use ram_sectors::{ExpandOut, FormatOut, Kind, PowerOut, ReadOut, WriteOut};
-use std::alloc::Global;
+use ram_states::{PowerOn, PoweredOff, State};
 
 /// Reads sectors, where there is a formatted disc.
 pub fn read_state<M: MediumControl>(
@@ -71,13 +70,13 @@ pub fn write_state<M: MediumControl>(
 }
 
 /// Turns the power on.
-fn turn_on<M: MediumControl>(off: PoweredOff<M>, alloc: Global) -> (State<M>, PowerOut)
+fn turn_on<M: MediumControl>(off: PoweredOff<M>) -> (State<M>, PowerOut)
     ensures cause { PowerCause (shown_off off) (shown_state result.0) result.1 }
     ensures step { PowerSteps (shown_off off) (shown_state result.0) result.1 }
     ensures same_shape { (shown_state result.0).shape ≡ off.geometry }
     ensures happened { Happened M.takes off.medium (medium_under result.0) }
 {
-    match off.power_on(alloc) {
+    match off.power_on() {
         PowerOn::Ready(ready) => {
             let capacity = ready.capacity();
             (State::Ready(ready), PowerOut::Ready { capacity })
@@ -85,12 +84,11 @@ fn turn_on<M: MediumControl>(off: PoweredOff<M>, alloc: Global) -> (State<M>, Po
         PowerOn::NotFormatted(bare) => (State::NotFormatted(bare), PowerOut::NotFormatted),
         PowerOn::Cut(off) => (State::Off(off), PowerOut::Cut),
         PowerOn::Fault(off) => (State::Off(off), PowerOut::Fault),
-        PowerOn::NoMemory(off) => (State::Off(off), PowerOut::NoMemory),
     }
 }
 
 /// Turns the power off and on again.
-pub fn power_state<M: MediumControl>(state: State<M>, alloc: Global) -> (State<M>, PowerOut)
+pub fn power_state<M: MediumControl>(state: State<M>) -> (State<M>, PowerOut)
     ensures cause { PowerCause (shown_state state) (shown_state result.0) result.1 }
     ensures step { PowerSteps (shown_state state) (shown_state result.0) result.1 }
     ensures some { StandsForSome (shown_state state) → StandsForSome (shown_state result.0) }
@@ -98,9 +96,9 @@ pub fn power_state<M: MediumControl>(state: State<M>, alloc: Global) -> (State<M
     ensures happened { Happened M.takes (medium_under state) (medium_under result.0) }
 {
     match state {
-        State::Off(off) => turn_on(off, alloc),
-        State::Ready(ready) => turn_on(ready.power_off(), alloc),
-        State::NotFormatted(bare) => turn_on(bare.power_off(), alloc),
+        State::Off(off) => turn_on(off),
+        State::Ready(ready) => turn_on(ready.power_off()),
+        State::NotFormatted(bare) => turn_on(bare.power_off()),
     }
 }
 

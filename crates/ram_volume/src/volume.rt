@@ -8,14 +8,14 @@ use crate::calls::{
     expand_state, format_state, power_state, read_state, verify_state, write_state,
 };
 use crate::holding::{put_in, take_out};
-use crate::states::{PoweredOff, State};
 use ram_bytes::Block;
 use ram_medium::{Arm, FailEnd, Fate, MediumControl};
 use ram_sectors::{
     Disc, DriveCounts, ExpandOut, FormatOut, Kind, PowerOut, ReadOut, Sectors, WriteOut,
 };
+use ram_states::{PoweredOff, State};
+use ram_transfer::Memory;
 use ram_zones::Geometry;
-use std::alloc::Global;
 
 /// A drive over its medium, in one of its states. Where the cells of its medium are known it stands for a disc, or with the
 /// power off for some. It holds its state between two calls: a call takes it, and leaves the next.
@@ -33,19 +33,22 @@ impl<M: MediumControl> Volume<M> {
     ghost use Rattle.model_drive.specs.Shown.{StandsFor};
     ghost use Rattle.ram_medium.specs.Laws.{machine_shown};
     ghost use Rattle.ram_medium.specs.Control.{Fails, Arms, WearRule, with_armed_cut};
+    ghost use Rattle.ram_transfer.specs.Layouts.{HasRoom};
     ghost use Rattle.ram_transfer.specs.Shown.{shown_without};
     ghost use Rattle.ram_volume.specs.Drives.{shown_by, medium_by};
-    ghost use Rattle.ram_volume.specs.Control.{FailOnDrive, FailStands, KeepsMemory};
+    ghost use Rattle.ram_states.specs.Control.{FailOnDrive, FailStands, KeepsMemory};
 
-    /// A drive of this geometry over its medium, with its power off.
-    pub fn new(medium: M, geometry: Geometry) -> Volume<M>
+    /// A drive of this geometry over its medium, with its power off. It works in this memory, whatever that holds, and takes no
+    /// other.
+    pub fn new(medium: M, geometry: Geometry, memory: Memory) -> Volume<M>
         requires size { M.block_count medium ≡ total geometry }
         requires off { ¬ IsTrue (M.world medium).power }
+        requires room { HasRoom geometry memory.workspace.layout memory.workspace.cursors }
         ensures shown { shown_by result ≡ shown_without geometry (machine_shown M.world M.arms M.armed_cut medium) }
         ensures medium { medium_by result ≡ medium }
     {
         Volume {
-            state: Some(State::Off(PoweredOff::new(medium, geometry))),
+            state: Some(State::Off(PoweredOff::new(medium, geometry, memory))),
         }
     }
 
@@ -91,16 +94,17 @@ impl<M: MediumControl> Volume<M> {
         put_in(&mut self.state, state);
     }
 
-    /// The medium, as the drive leaves it.
-    pub fn into_medium(self) -> M
-        ensures medium { result ≡ medium_by self }
-        ensures machine { machine_shown M.world M.arms M.armed_cut result ≡ (shown_by self).medium }
+    /// The medium, as the drive leaves it, and the memory.
+    pub fn into_parts(self) -> (M, Memory)
+        ensures medium { result.0 ≡ medium_by self }
+        ensures machine { machine_shown M.world M.arms M.armed_cut result.0 ≡ (shown_by self).medium }
+        ensures room { HasRoom (shown_by self).shape result.1.workspace.layout result.1.workspace.cursors }
     {
         let Volume { state } = self;
         match state {
-            Some(State::Off(off)) => off.into_medium(),
-            Some(State::Ready(ready)) => ready.into_medium(),
-            Some(State::NotFormatted(bare)) => bare.into_medium(),
+            Some(State::Off(off)) => off.into_parts(),
+            Some(State::Ready(ready)) => ready.into_parts(),
+            Some(State::NotFormatted(bare)) => bare.into_parts(),
             None => unreachable!(),
         }
     }
@@ -112,7 +116,7 @@ impl<M: MediumControl> Sectors for Volume<M> {
     ghost use Rattle.model_drive.specs.Shown.{StandsFor};
     ghost use Rattle.ram_volume.specs.Volume.{state_in};
     ghost use Rattle.ram_volume.specs.Drives.{shown_by, medium_by};
-    ghost use Rattle.ram_volume.specs.Sounding.{sound_state};
+    ghost use Rattle.ram_states.specs.Sounding.{sound_state};
 
     ghost shows = { λ volume. shown_by volume };
 
@@ -141,9 +145,9 @@ impl<M: MediumControl> Sectors for Volume<M> {
         out
     }
 
-    fn power(&mut self, alloc: Global) -> PowerOut {
+    fn power(&mut self) -> PowerOut {
         let state = take_out(&mut self.state);
-        let (state, out) = power_state(state, alloc);
+        let (state, out) = power_state(state);
         put_in(&mut self.state, state);
         out
     }
@@ -162,7 +166,7 @@ impl<M: MediumControl> Sectors for Volume<M> {
 }
 
 impl<M: MediumControl> Disc for Volume<M> {
-    fn format(&mut self, _alloc: Global, kind: Kind) -> FormatOut {
+    fn format(&mut self, kind: Kind) -> FormatOut {
         let state = take_out(&mut self.state);
         let (state, out) = format_state(state, kind);
         put_in(&mut self.state, state);

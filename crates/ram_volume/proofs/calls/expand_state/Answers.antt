@@ -1,5 +1,5 @@
 use Rattle.std.proofs.Common.{ap, refl}
-use Rattle.ram_volume.specs.Shown.{shown_off, shown_bare, shown_ready, shown_state}
+use Rattle.ram_states.specs.Shown.{shown_off, shown_bare, shown_ready, shown_state}
 use Rattle.ram_volume.proofs.ExpandCalls.{expand_steps_off, expand_steps_bare, expand_steps_of, expand_keeps}
 use Rattle.model_medium.proofs.Happening.{happened_none}
 use Rattle.ram_volume.proofs.calls.expand_state.Goals as goal

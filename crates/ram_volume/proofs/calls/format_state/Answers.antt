@@ -1,5 +1,5 @@
 use Rattle.std.proofs.Common.{ap}
-use Rattle.ram_volume.specs.Shown.{shown_off, shown_bare, shown_ready, shown_state}
+use Rattle.ram_states.specs.Shown.{shown_off, shown_bare, shown_ready, shown_state}
 use Rattle.ram_volume.proofs.CallSteps.{format_steps_off, format_steps_of}
 use Rattle.ram_volume.proofs.Somes.{format_keeps}
 use Rattle.model_medium.proofs.Happening.{happened_none}

@@ -1,12 +1,12 @@
 use Rattle.std.proofs.Common.{ap, sym, subst}
 use Rattle.model_drive.specs.Shown.{Shown}
 use Rattle.model_drive.specs.Power.{PowerCause}
-use Rattle.ram_volume.specs.Shown.{shown_off, shown_bare, shown_ready, shown_state}
+use Rattle.ram_states.specs.Shown.{shown_off, shown_bare, shown_ready, shown_state}
 use Rattle.ram_volume.proofs.CallSteps.{power_cause_again, power_steps_again, power_steps_as}
 use Rattle.ram_volume.proofs.Somes.{power_some}
 use Rattle.model_medium.specs.Exact.{PowerOff}
 use Rattle.model_medium.proofs.Happening.{happened_one, happened_then}
-use Rattle.ram_volume.specs.Shown.{medium_under}
+use Rattle.ram_states.specs.Shown.{medium_under}
 use Rattle.ram_volume.proofs.calls.power_state.Goals as goal
 
 pub returns-in-Off-clause-step : goal.returns-in-Off-clause-step

@@ -1,7 +1,7 @@
 use Rattle.std.proofs.Common.{ap, sym, subst}
 use Rattle.model_drive.specs.Shown.{Shown}
 use Rattle.model_drive.specs.Reads.{ReadIsQuiet}
-use Rattle.ram_volume.specs.Shown.{shown_off, shown_ready, shown_state}
+use Rattle.ram_states.specs.Shown.{shown_off, shown_ready, shown_state}
 use Rattle.ram_volume.proofs.CallSteps.{read_steps_off}
 use Rattle.ram_volume.proofs.Somes.{read_keeps}
 use Rattle.model_medium.proofs.Happening.{happened_none}

@@ -1,5 +1,5 @@
 use Rattle.std.proofs.Common.{ap}
-use Rattle.ram_volume.specs.Shown.{shown_off, shown_ready, shown_state}
+use Rattle.ram_states.specs.Shown.{shown_off, shown_ready, shown_state}
 use Rattle.ram_volume.proofs.CallSteps.{write_steps_off}
 use Rattle.ram_volume.proofs.Somes.{write_keeps}
 use Rattle.model_medium.proofs.Happening.{happened_none}

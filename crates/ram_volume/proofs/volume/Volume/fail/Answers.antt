@@ -1,4 +1,4 @@
-use Rattle.ram_volume.specs.Shown.{shown_state}
+use Rattle.ram_states.specs.Shown.{shown_state}
 use Rattle.ram_volume.proofs.Held.{holds, some_held, fail_keeps}
 use Rattle.ram_volume.proofs.volume.Volume.fail.Goals as goal
 

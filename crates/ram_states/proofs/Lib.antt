@@ -1,0 +1,13 @@
+mod Completing
+mod Controlling
+mod ExpandCauses
+mod FormatAnswers
+mod FormatCauses
+mod Keeping
+mod Powering
+mod ReadShown
+mod RewriteCauses
+mod SameKept
+mod TurningOff
+mod VerifyShown
+mod Happening

@@ -1,0 +1,9 @@
+pub mod Control
+pub mod Expanding
+pub mod Formats
+pub mod OneProof
+pub mod Powers
+pub mod Reading
+pub mod Shown
+pub mod Sounding
+pub mod Verifying

@@ -1,0 +1,138 @@
+//! What is done to the medium of a drive beside its host's calls, in whatever state it is: a block of it fails, is worn, or a
+//! cut of the power is armed.
+
+ghost use Rattle.std.specs.Prelude.{◌≡◌, ◌≤◌};
+ghost use Rattle.model_geometry.specs.Geometry.{total};
+ghost use Rattle.model_sectors.specs.Discs.{Standing};
+ghost use Rattle.model_drive.specs.Shown.{StandsFor};
+ghost use Rattle.ram_medium.specs.Control.{Fails, Arms, WearRule, with_armed_cut};
+ghost use Rattle.ram_states.specs.Control.{KeepsMemory, FailOnDrive, FailStands};
+ghost use Rattle.ram_states.specs.Shown.{shown_off, shown_bare, shown_ready, shown_state, medium_under};
+
+use crate::states::{NotFormatted, PoweredOff, Ready, State};
+use ram_medium::{Arm, FailEnd, Fate, MediumControl};
+
+impl<M: MediumControl> PoweredOff<M> {
+    /// [`State::fail`] with the power off: the state stays in any case.
+    fn fail(mut self, block: u32) -> (State<M>, FailEnd)
+        ensures rule { FailOnDrive (shown_off self) (shown_state result.0) block result.1 }
+        ensures told { M.was_told self.medium (medium_under result.0) (Fails block result.1) }
+        ensures stands { (s : Standing) → StandsFor (shown_off self) s
+            → FailStands (shown_state result.0) s result.1 }
+    {
+        let end = self.medium.fail(block);
+        (State::Off(self), end)
+    }
+}
+
+impl<M: MediumControl> Ready<M> {
+    /// [`State::fail`] of a formatted disc.
+    fn fail(mut self, block: u32) -> (State<M>, FailEnd)
+        ensures rule { FailOnDrive (shown_ready self) (shown_state result.0) block result.1 }
+        ensures told { M.was_told self.medium (medium_under result.0) (Fails block result.1) }
+        ensures stands { (s : Standing) → StandsFor (shown_ready self) s
+            → FailStands (shown_state result.0) s result.1 }
+    {
+        match self.medium.fail(block) {
+            FailEnd::Done => (State::Ready(self), FailEnd::Done),
+            FailEnd::NoBlock { blocks } => (State::Ready(self), FailEnd::NoBlock { blocks }),
+            FailEnd::Failed => {
+                let Ready {
+                    medium,
+                    geometry,
+                    memory,
+                } = self;
+                let off = PoweredOff {
+                    medium,
+                    geometry,
+                    memory,
+                };
+                (State::Off(off), FailEnd::Failed)
+            }
+        }
+    }
+}
+
+impl<M: MediumControl> NotFormatted<M> {
+    /// [`State::fail`] of a disc that is not formatted.
+    fn fail(mut self, block: u32) -> (State<M>, FailEnd)
+        ensures rule { FailOnDrive (shown_bare self) (shown_state result.0) block result.1 }
+        ensures told { M.was_told self.medium (medium_under result.0) (Fails block result.1) }
+        ensures stands { (s : Standing) → StandsFor (shown_bare self) s
+            → FailStands (shown_state result.0) s result.1 }
+    {
+        match self.medium.fail(block) {
+            FailEnd::Done => (State::NotFormatted(self), FailEnd::Done),
+            FailEnd::NoBlock { blocks } => {
+                (State::NotFormatted(self), FailEnd::NoBlock { blocks })
+            }
+            FailEnd::Failed => {
+                let NotFormatted {
+                    medium,
+                    geometry,
+                    mark: _,
+                    memory,
+                } = self;
+                let off = PoweredOff {
+                    medium,
+                    geometry,
+                    memory,
+                };
+                (State::Off(off), FailEnd::Failed)
+            }
+        }
+    }
+}
+
+impl<M: MediumControl> State<M> {
+    /// Makes the block of the medium of this number, counted from 0, dead: `Done`. There is no such block, and nothing
+    /// changed: `NoBlock`. The state stays in both. What the medium lies on failed, and counted it: `Failed`; then the power
+    /// is off. It is no use of the medium. (This project's own, as all here.)
+    pub fn fail(self, block: u32) -> (State<M>, FailEnd)
+        ensures rule { FailOnDrive (shown_state self) (shown_state result.0) block result.1 }
+        ensures told { M.was_told (medium_under self) (medium_under result.0) (Fails block result.1) }
+        ensures stands { (s : Standing) → StandsFor (shown_state self) s
+            → FailStands (shown_state result.0) s result.1 }
+    {
+        match self {
+            State::Off(off) => off.fail(block),
+            State::Ready(ready) => ready.fail(block),
+            State::NotFormatted(bare) => bare.fail(block),
+        }
+    }
+
+    /// Makes the block of the medium of this number dead at its `n`-th use from now on, the next one being the first:
+    /// `Set`. There is no such block: `NoBlock`. As many arms stand as can, 64: `Full`.
+    pub fn wear(&mut self, block: u32, n: u32) -> Arm
+        requires { 1 ≤ n }
+        ensures rule { WearRule (total (shown_state self.old).shape) (shown_state self.old).medium
+            (shown_state self.new).medium (record { block = block; left = n }) result }
+        ensures told { M.was_told (medium_under self.old) (medium_under self.new) Arms }
+        ensures keeps { KeepsMemory (shown_state self.old) (shown_state self.new) }
+        ensures stands { (s : Standing) → StandsFor (shown_state self.old) s
+            → StandsFor (shown_state self.new) s }
+    {
+        match self {
+            State::Off(off) => off.medium.wear(block, n),
+            State::Ready(ready) => ready.medium.wear(block, n),
+            State::NotFormatted(bare) => bare.medium.wear(block, n),
+        }
+    }
+
+    /// Cuts the power at the `n`-th use of any block from now on, the next one being the first, with this fate of a write
+    /// that is cut then. It takes the place of a cut that was armed.
+    pub fn arm_cut(&mut self, n: u32, fate: Fate)
+        requires { 1 ≤ n }
+        ensures rule { (shown_state self.new).medium ≡ with_armed_cut n fate (shown_state self.old).medium }
+        ensures told { M.was_told (medium_under self.old) (medium_under self.new) Arms }
+        ensures keeps { KeepsMemory (shown_state self.old) (shown_state self.new) }
+        ensures stands { (s : Standing) → StandsFor (shown_state self.old) s
+            → StandsFor (shown_state self.new) s }
+    {
+        match self {
+            State::Off(off) => off.medium.arm_cut(n, fate),
+            State::Ready(ready) => ready.medium.arm_cut(n, fate),
+            State::NotFormatted(bare) => bare.medium.arm_cut(n, fate),
+        }
+    }
+}
