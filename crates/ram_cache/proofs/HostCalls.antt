@@ -84,7 +84,6 @@ module _ (new : Shown) (before after : Standing → Type 0) (p : List (ℕ × Li
   power_by (MayHave all) powers.NotFormatted (ds, so, taken) step = stands_plainly after (On []) (step (Off ds) so)
   power_by s powers.Cut so step = off_left s so step
   power_by s powers.Fault so step = off_left s so step
-  power_by s powers.NoMemory so step = off_left s so step
 
   pub power_contents : (left : List (ℕ × List ℕ)) (out : PowerOut) → left ≡ [] → ((t : Standing) → before t → PowerStep new after t out)
       → (s : Contents) → StandsCached before p s → PowerContents new (StandsCached after left) s out
@@ -132,11 +131,6 @@ module _ (old new : Shown) (p q : List (ℕ × List ℕ)) (all was : Bool) (is_w
   full_left drop_sdl formats.Cut is cause left = left
   full_left drop_sdl formats.Off is cause left = left
   full_left drop_sdl formats.Fault is cause left = left
-  full_left drop_sdl formats.NoMemory is cause left = by_some new.lists (by_lists new.lists refl (on_still cause.was_on cause.nothing) left)
-    where
-      by_some : (l : Option Lists) → q ≡ kept_by_lists l p → q ≡ leaves_after_full l formats.NoMemory p
-      by_some None e = e
-      by_some (Some lists) e = e
 
   rewrite_left : (lists : Lists) (out : FormatOut) → old.lists ≡ Some lists → all ≡ not was → RewriteCause old new lists out → LeftAfter new all out p q → q ≡ leaves_after_rewrite out p
   rewrite_left lists formats.Good in_use is cause left =
@@ -147,7 +141,6 @@ module _ (old new : Shown) (p q : List (ℕ × List ℕ)) (all was : Bool) (is_w
   rewrite_left lists formats.Cut in_use is cause left = left
   rewrite_left lists formats.Off in_use is cause left = left
   rewrite_left lists formats.Fault in_use is cause left = left
-  rewrite_left lists formats.NoMemory in_use is cause left = absurd cause
 
   left_of : (l : Option Lists) (kind : Kind) (out : FormatOut) → old.lists ≡ l → all ≡ drops_all kind was → FormatCauseBy old new l kind out → LeftAfter new all out p q
       → q ≡ leaves_after_format l new.lists kind out p
@@ -195,11 +188,6 @@ module _ (old new : Shown) (before after : Standing → Type 0) (shown : (s : St
   full_values d v drop_sdl formats.Cut under left cause step = stopped_full d v left under step
   full_values d v drop_sdl formats.Off under left cause step = step
   full_values d v drop_sdl formats.Fault under left cause step = stopped_full d v left under step
-  full_values d v drop_sdl formats.NoMemory under left cause step = still new.lists refl v (left ∙ as_kept new.lists) (d, step, under)
-    where
-      as_kept : (l : Option Lists) → leaves_after_full l formats.NoMemory p ≡ kept_by_lists l p
-      as_kept None = refl
-      as_kept (Some lists) = refl
 
   rewrite_values : (d : List ℕ) (v : Values) (out : FormatOut) → IsUnder p d v → q ≡ leaves_after_rewrite out p → RewriteStep after d out
       → RewriteStep (λ t. StandsCached after q (lifted v.older t)) v.disc out
@@ -209,7 +197,6 @@ module _ (old new : Shown) (before after : Standing → Type 0) (shown : (s : St
   rewrite_values d v formats.Cut under left step = (d ∷ [], step, (under.taken, refl))
   rewrite_values d v formats.Off under left step = step
   rewrite_values d v formats.Fault under left step = (d ∷ [], step, (under.taken, refl))
-  rewrite_values d v formats.NoMemory under left step = step
 
   by_kind : (l : Option Lists) (d : List ℕ) (v : Values) (kind : Kind) (out : FormatOut) → IsUnder p d v → q ≡ leaves_after_format l new.lists kind out p → FormatCauseBy old new l kind out
       → FormatStepBy old new l after d kind out → FormatValues (StandsCached after q) v old new l kind out
@@ -226,7 +213,6 @@ module _ (old new : Shown) (before after : Standing → Type 0) (shown : (s : St
   format_contents kind (formats.NoUpdate counter) left cause step (MayHave all) (ds, so, taken) = step (Off ds) so
   format_contents kind formats.Cut left cause step (MayHave all) (ds, so, taken) = step (Off ds) so
   format_contents kind formats.Fault left cause step (MayHave all) (ds, so, taken) = step (Off ds) so
-  format_contents kind formats.NoMemory left cause step (MayHave all) (ds, so, taken) = step (Off ds) so
 
 -- ---- an expansion
 

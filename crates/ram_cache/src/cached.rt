@@ -2,7 +2,6 @@
 
 use crate::pending::PendingBlocks;
 use ram_sectors::Disc;
-use std::alloc::{AllocError, Global};
 
 /// A disc with a write cache. It keeps no fact about its disc, so that the disc may be lent.
 #[derive(Drop)]
@@ -16,32 +15,30 @@ pub struct Cached<D: Disc> {
 }
 
 impl<D: Disc> Cached<D> {
-    ghost use Rattle.std.specs.Prelude.{◌≡◌, length, [], false, MatchResult};
+    ghost use Rattle.std.specs.Prelude.{◌≡◌, length, [], false};
     ghost use Rattle.ram_cache.specs.Rooms.{pending_of};
 
-    /// A drive over this disc, with its cache off and nothing pending. All memory of the cache is taken here; where it is refused
-    /// the disc comes back.
-    pub fn new(alloc: Global, disc: D) -> Result<Cached<D>, (D, AllocError)>
-        ensures { MatchResult result
-            (λ cached. (cached.disc ≡ disc) × (pending_of cached.pending ≡ []) × (cached.on ≡ false))
-            (λ refused. refused.0 ≡ disc) }
+    /// A drive over this disc, with its cache off and nothing pending. What is pending in the blocks that it is given is dropped.
+    pub fn new(disc: D, pending: PendingBlocks) -> Cached<D>
+        ensures disc { result.disc ≡ disc }
+        ensures pending { pending_of result.pending ≡ [] }
+        ensures off { result.on ≡ false }
     {
-        match PendingBlocks::new(alloc) {
-            Ok(pending) => Ok(Cached {
-                disc,
-                pending,
-                on: false,
-            }),
-            Err(refused) => Err((disc, refused)),
+        let mut pending = pending;
+        pending.drop_all();
+        Cached {
+            disc,
+            pending,
+            on: false,
         }
     }
 
-    /// The disc below. What is pending is lost.
-    pub fn into_disc(self) -> D
-        ensures { result ≡ self.disc }
+    /// The disc below, and the rooms of the pending blocks, none of which reaches the disc any more.
+    pub fn into_parts(self) -> (D, PendingBlocks)
+        ensures { result.0 ≡ self.disc }
     {
-        let Cached { disc, .. } = self;
-        disc
+        let Cached { disc, pending, .. } = self;
+        (disc, pending)
     }
 
     /// How many blocks are pending.

@@ -11,7 +11,6 @@ use ram_sectors::{
     Caching, Disc, DriveCounts, ExpandOut, FormatOut, Kind, PowerOut, ReadOut, Sectors, SyncOut,
     TickOut, WriteOut,
 };
-use std::alloc::Global;
 
 /// Whether a format leaves nothing pending when it is done: it is a full one, or the disc was not formatted.
 fn drops_all(kind: Kind, formatted: bool) -> bool
@@ -39,7 +38,7 @@ impl<D: Disc> Cached<D> {
             FormatOut::Good => self.drop_if(all),
             FormatOut::Cut | FormatOut::Fault => self.pending.drop_all(),
             FormatOut::Off => {}
-            FormatOut::TooMany { .. } | FormatOut::NoUpdate { .. } | FormatOut::NoMemory => {
+            FormatOut::TooMany { .. } | FormatOut::NoUpdate { .. } => {
                 let formatted = self.disc.counts().formatted;
                 self.drop_if(!formatted);
             }
@@ -109,14 +108,14 @@ impl<D: Disc> Caching for Cached<D> {
         self.write_entering(self.on, lba, n, from)
     }
 
-    fn power(&mut self, alloc: Global) -> PowerOut {
+    fn power(&mut self) -> PowerOut {
         self.pending.drop_all();
-        self.disc.power(alloc)
+        self.disc.power()
     }
 
-    fn format(&mut self, alloc: Global, kind: Kind) -> FormatOut {
+    fn format(&mut self, kind: Kind) -> FormatOut {
         let all = drops_all(kind, self.disc.counts().formatted);
-        let out = self.disc.format(alloc, kind);
+        let out = self.disc.format(kind);
         self.after_format(all, out);
         out
     }

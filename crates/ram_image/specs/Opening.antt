@@ -1,5 +1,6 @@
 -- What opening an image finds, or why it is refused: for `open` and its parts.
 use Rattle.std.specs.Prelude.{◌≡◌, ◌≢◌, ℕ, ◌<◌, ◌≤◌, ◌⊎◌, false, Option, None, is_some, IfSome, List, [], length, take}
+use Rattle.model_geometry.specs.declared.kinds.LayoutKind.{LayoutKind}
 use Rattle.model_geometry.specs.Geometry.{Shape, label_of, total}
 use Rattle.model_image.specs.Cells.{image_len, cells_known}
 use Rattle.model_image.specs.Image.{HasHeader, IsDiscImage}
@@ -12,10 +13,11 @@ use Rattle.ram_image.specs.declared.opening.HeaderFound.TheVariants as found
 use Rattle.ram_image.specs.declared.medium.ImageMedium.{ImageMedium}
 use Rattle.ram_image.specs.Medium.{shape_of_medium, world_of, machine_in}
 
--- An image was opened: it is that of a disc of this geometry, and the medium shows its cells, with the power off,
+-- An image was opened: it is that of a disc of this geometry, with a layout of this kind, and the medium shows its cells, with the power off,
 -- nothing counted and nothing armed.
 -- (This project's own.)
-pub record IsOpened {I : Type 0} {d : Ghosts I} (image : I) (medium : ImageMedium I d) (shape : Shape) : Type 0 where
+pub record IsOpened {I : Type 0} {d : Ghosts I} (image : I) (medium : ImageMedium I d) (kind : LayoutKind) (shape : Shape) : Type 0 where
+  pub kind_is : shape.layout ≡ kind
   pub disc : IfSome (d.bytes image) (IsDiscImage shape)
   pub shape_is : shape_of_medium medium ≡ shape
   pub same_image : d.bytes medium.image ≡ d.bytes image
@@ -29,16 +31,16 @@ pub record IsOpened {I : Type 0} {d : Ghosts I} (image : I) (medium : ImageMediu
   pub no_arms : (machine_in medium).arms ≡ []
   pub no_cut : (machine_in medium).cut ≡ None
 
--- Why an image was not opened. It has the bytes that it had. (This project's own.)
-abbrev pub IsRefused : Option (List ℕ) → Option (List ℕ) → ℕ → ℕ → OpenFault → Type 0
-IsRefused before after faults faults' faulty.Header =
+-- Why an image was not opened as that of a disc with a layout of this kind. It has the bytes that it had. (This project's own.)
+abbrev pub IsRefused : LayoutKind → Option (List ℕ) → Option (List ℕ) → ℕ → ℕ → OpenFault → Type 0
+IsRefused kind before after faults faults' faulty.Header =
     IsUnchanged before after faults faults'
-    × IfSome before (λ held. (16 ≤ length held) × ((shape : Shape) → ¬ HasHeader shape held))
-IsRefused before after faults faults' (faulty.Length len) = IsUnchanged before after faults faults'
+    × IfSome before (λ held. (16 ≤ length held) × ((shape : Shape) → shape.layout ≡ kind → ¬ HasHeader shape held))
+IsRefused kind before after faults faults' (faulty.Length len) = IsUnchanged before after faults faults'
     × IfSome before
     (λ held. (len ≡ length held) × ((len < 16) ⊎ ((shape : Shape) × HasHeader shape held × (len ≢ image_len (total shape)))))
-IsRefused before after faults faults' faulty.Fault = ImageFails before after faults faults'
-IsRefused before after faults faults' faulty.NoMemory = IsUnchanged before after faults faults'
+IsRefused kind before after faults faults' faulty.Fault = ImageFails before after faults faults'
+IsRefused kind before after faults faults' faulty.NoMemory = IsUnchanged before after faults faults'
 
 -- What the start of an image was found to be. (This project's own.)
 abbrev pub HeaderRule : Option (List ℕ) → Option (List ℕ) → ℕ → ℕ → HeaderFound → Type 0

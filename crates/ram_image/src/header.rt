@@ -5,8 +5,9 @@ ghost use Rattle.model_geometry.specs.Geometry.{Shape, IsLawful, total};
 ghost use Rattle.model_image.specs.Cells.{image_len};
 ghost use Rattle.model_image.specs.Image.{header_of};
 
+use crate::geometries::geometry_in;
 use ram_bytes::{BLOCK_BYTES, get_u16, put_u16};
-use ram_zones::Geometry;
+use ram_zones::{Geometry, LayoutKind};
 
 /// How many bytes the header of an image has.
 pub const HEADER_BYTES: usize = 16;
@@ -34,24 +35,22 @@ pub fn header(geometry: &Geometry) -> [u8; 16]
     header
 }
 
-/// The geometry of which this is the header.
-pub fn geometry_of(bytes: &[u8; 16]) -> Option<Geometry>
+/// The geometry with a layout of this kind of which this is the header.
+pub fn geometry_of(bytes: &[u8; 16], kind: LayoutKind) -> Option<Geometry>
     ensures { MatchOption result
-        ((shape : Shape) → IsLawful shape → bytes.now ≡ header_of shape → ⊥)
-        (λ geometry. IsLawful geometry × (bytes.now ≡ header_of geometry)) }
+        ((shape : Shape) → shape.layout ≡ kind → IsLawful shape → bytes.now ≡ header_of shape → ⊥)
+        (λ geometry. (geometry.layout ≡ kind) × IsLawful geometry × (bytes.now ≡ header_of geometry)) }
 {
     let zones = u32::from(get_u16(bytes, ZONES_AT));
     let scale = u32::from(get_u16(bytes, SCALE_AT));
     let spares = u32::from(get_u16(bytes, SPARES_AT));
-    match Geometry::new(zones, scale, spares) {
-        Ok(geometry) => {
-            if header(&geometry) == *bytes {
-                Some(geometry)
-            } else {
-                None
-            }
-        }
-        Err(_) => None,
+    let Some(geometry) = geometry_in(kind, zones, scale, spares) else {
+        return None;
+    };
+    if header(&geometry) == *bytes {
+        Some(geometry)
+    } else {
+        None
     }
 }
 

@@ -2,11 +2,13 @@
 #![tactic(auto)]
 
 mod cells;
+mod geometries;
 pub mod header;
 pub mod medium;
 pub mod opening;
 pub mod pressing;
 
+pub use geometries::geometry_in;
 pub use medium::ImageMedium;
 pub use opening::{OpenFault, open};
 pub use pressing::{PressOut, press};

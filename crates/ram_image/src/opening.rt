@@ -9,14 +9,14 @@ use crate::medium::ImageMedium;
 use ram_bytes::Block;
 use ram_medium::Armed;
 use ram_outside::{Image, Length, Moved};
-use ram_zones::Geometry;
+use ram_zones::{Geometry, LayoutKind};
 use std::alloc::{AllocError, Global};
 use thiserror::Error;
 
 /// Why an image was not opened.
 #[derive(Clone, Copy, Debug, PartialEq, Eq, Error)]
 pub enum OpenFault {
-    /// It has a header's bytes at its front, and they are no disc's.
+    /// It has a header's bytes at its front, and they are no disc's with a layout of the kind that was asked for.
     #[error("the image does not begin with the header of a disc")]
     Header,
     /// It has fewer bytes than a header, or not those that go with its header.
@@ -37,18 +37,22 @@ enum HeaderFound {
     Failed,
 }
 
-/// Opens an image as the medium of a disc. The power is off. Room for one block is taken, and where the image is
-/// refused it is handed back as it was.
-pub fn open<I: Image>(alloc: Global, image: I) -> Result<(ImageMedium<I>, Geometry), (I, OpenFault)>
+/// Opens an image as the medium of a disc with a layout of this kind. The power is off. Room for one block is taken, and where
+/// the image is refused it is handed back as it was.
+pub fn open<I: Image>(
+    alloc: Global,
+    image: I,
+    kind: LayoutKind,
+) -> Result<(ImageMedium<I>, Geometry), (I, OpenFault)>
     ensures { MatchResult result
-        (λ opened. IsOpened image opened.0 opened.1)
-        (λ refused. IsRefused (I.bytes image) (I.bytes refused.0) (I.faults image) (I.faults refused.0) refused.1) }
+        (λ opened. IsOpened image opened.0 kind opened.1)
+        (λ refused. IsRefused kind (I.bytes image) (I.bytes refused.0) (I.faults image) (I.faults refused.0) refused.1) }
 {
     let mut image = image;
     match find_header(&mut image) {
         HeaderFound::Failed => Err((image, OpenFault::Fault)),
         HeaderFound::Short { len } => Err((image, OpenFault::Length { len })),
-        HeaderFound::Bytes { len, header } => open_disc(alloc, image, len, &header),
+        HeaderFound::Bytes { len, header } => open_disc(alloc, image, kind, len, &header),
     }
 }
 
@@ -81,16 +85,17 @@ fn room_and_arms(alloc: Global) -> Result<(Block, Box<Armed>), AllocError>
 fn open_disc<I: Image>(
     alloc: Global,
     image: I,
+    kind: LayoutKind,
     len: u64,
     header: &[u8; 16],
 ) -> Result<(ImageMedium<I>, Geometry), (I, OpenFault)>
     requires { IfSome (I.bytes image)
         (λ held. (len ≡ length held) × (16 ≤ length held) × (header.now ≡ take 16 held)) }
     ensures { MatchResult result
-        (λ opened. IsOpened image opened.0 opened.1)
-        (λ refused. IsRefused (I.bytes image) (I.bytes refused.0) (I.faults image) (I.faults refused.0) refused.1) }
+        (λ opened. IsOpened image opened.0 kind opened.1)
+        (λ refused. IsRefused kind (I.bytes image) (I.bytes refused.0) (I.faults image) (I.faults refused.0) refused.1) }
 {
-    let Some(geometry) = geometry_of(header) else {
+    let Some(geometry) = geometry_of(header, kind) else {
         return Err((image, OpenFault::Header));
     };
     if len != image_len(&geometry) {

@@ -22,7 +22,6 @@ use ram_cdb::{Command, operation};
 use ram_modes::Modes;
 use ram_sectors::{Caching, PowerOut};
 use ram_sense::{Answer, Sense};
-use std::alloc::Global;
 
 /// A disc that is a target of commands, and what it remembers for its host.
 #[derive(Drop)]
@@ -59,17 +58,17 @@ impl<D: Caching> Target<D> {
         }
     }
 
-    /// The disc, without its target. The block is given up.
-    pub fn into_disc(self) -> D
-        ensures { result ≡ self.disc }
+    /// The disc, without its target, and the block.
+    pub fn into_parts(self) -> (D, Block)
+        ensures { result.0 ≡ self.disc }
     {
-        let Target { disc, .. } = self;
-        disc
+        let Target { disc, block, .. } = self;
+        (disc, block)
     }
 
     /// Turns the power off and on again, and the write cache off. Then the disc is in, its removal is allowed, and the host is to
     /// be told.
-    pub fn power(&mut self, alloc: Global) -> PowerOut
+    pub fn power(&mut self) -> PowerOut
         ensures rule { IsPoweredAgain (D.shows self.old.disc) (D.shows self.new.disc)
             (D.stands self.old.disc) (D.stands self.new.disc) self.new.host result }
         ensures same_shape { (D.shows self.new.disc).drive.shape ≡ (D.shows self.old.disc).drive.shape }
@@ -77,7 +76,7 @@ impl<D: Caching> Target<D> {
     {
         self.host = just_powered();
         self.disc.write_cache(false);
-        self.disc.power(alloc)
+        self.disc.power()
     }
 
     /// Does one command, with the command's data in `payload`. The data that it gives are then in `data_in`, whose room is taken
@@ -88,15 +87,9 @@ impl<D: Caching> Target<D> {
     /// after a power on, but for INQUIRY, REQUEST SENSE and GET CONFIGURATION, if REQUEST SENSE did not tell so before;
     /// 5/24/00, 5/39/00, 5/1A/00 and 5/26/00 for the command block and its data; 5/53/02 where ejection is asked for and
     /// removal prevented; 2/3A/00 without a disc; 3/31/00 on a disc that is not formatted; 5/21/00 past its end; 5/26/00 for
-    /// an expansion to a capacity that it cannot have; and what the disc answers. NoMemory comes from a full format alone.
+    /// an expansion to a capacity that it cannot have; and what the disc answers.
     /// (After INCITS MMC; the order is this project's own.)
-    pub fn execute(
-        &mut self,
-        alloc: Global,
-        cdb: &Cdb,
-        payload: &[u8],
-        data_in: &mut Vec<u8>,
-    ) -> Answer
+    pub fn execute(&mut self, cdb: &Cdb, payload: &[u8], data_in: &mut Vec<u8>) -> Answer
         requires room { 2048 * TRANSFER_LIMIT ≤ vec_capacity data_in.old }
         ensures step { IsStep (D.shows self.old.disc) (D.shows self.new.disc)
             (D.stands self.old.disc) (D.stands self.new.disc)
@@ -110,17 +103,14 @@ impl<D: Caching> Target<D> {
                 data_in.clear();
                 Answer::Off
             }
-            Look::NotFormatted => self.execute_on(alloc, None, cdb, payload, data_in),
-            Look::Formatted(sectors) => {
-                self.execute_on(alloc, Some(sectors), cdb, payload, data_in)
-            }
+            Look::NotFormatted => self.execute_on(None, cdb, payload, data_in),
+            Look::Formatted(sectors) => { self.execute_on(Some(sectors), cdb, payload, data_in) }
         }
     }
 
     /// The same while the power is on, on a disc of so many sectors, or one that is not formatted.
     fn execute_on(
         &mut self,
-        alloc: Global,
         formatted: Option<u32>,
         cdb: &Cdb,
         payload: &[u8],
@@ -144,7 +134,7 @@ impl<D: Caching> Target<D> {
             payload,
         );
         let sectors = formatted.unwrap_or(0);
-        let answer = self.answer(alloc, judged, sectors, payload, data_in);
+        let answer = self.answer(judged, sectors, payload, data_in);
         self.host = host_after(self.host, operation, judged, answer);
         answer
     }
@@ -152,7 +142,6 @@ impl<D: Caching> Target<D> {
     /// Answers a command that was judged so, on a disc of so many sectors, 0 where it is not formatted.
     fn answer(
         &mut self,
-        alloc: Global,
         judged: Result<Command, Sense>,
         sectors: u32,
         payload: &[u8],
@@ -176,14 +165,13 @@ impl<D: Caching> Target<D> {
                 data_in.clear();
                 Answer::Check(why)
             }
-            Ok(command) => self.do_command(alloc, command, sectors, payload, data_in),
+            Ok(command) => self.do_command(command, sectors, payload, data_in),
         }
     }
 
     /// Does a command, on a disc of so many sectors, 0 where it is not formatted.
     fn do_command(
         &mut self,
-        allocator: Global,
         command: Command,
         sectors: u32,
         payload: &[u8],
@@ -210,7 +198,7 @@ impl<D: Caching> Target<D> {
             Command::Read { .. } => unreachable!(),
             Command::Write { lba, n, fua } => return write(&mut self.disc, lba, n, fua, payload),
             Command::Verify { lba, n } => return verify(&mut self.disc, lba, n),
-            Command::Format { kind } => return format(&mut self.disc, allocator, kind),
+            Command::Format { kind } => return format(&mut self.disc, kind),
             Command::Expand { capacity } => return expand(&mut self.disc, capacity),
             Command::Synchronize => return synchronize(&mut self.disc),
             Command::ModeSelect => return select(&mut self.disc, payload),
@@ -330,6 +318,6 @@ fn kept_after(kept: Option<Sense>, answer: Answer) -> Option<Sense>
     match answer {
         Answer::Good => None,
         Answer::Check(why) => Some(why),
-        Answer::Cut | Answer::Off | Answer::Fault | Answer::NoMemory => kept,
+        Answer::Cut | Answer::Off | Answer::Fault => kept,
     }
 }

@@ -15,7 +15,6 @@ use ram_sense::codes::{
     INVALID_FIELD_IN_PARAMETERS, MEDIUM_FORMAT_CORRUPTED, no_spare_location,
     unrecovered_read_error,
 };
-use std::alloc::Global;
 
 /// Reads sectors into `data_in`, which is empty where they are not all read. The room of one read is the next one's: what it
 /// held is written over, and zeros are put in only where it grows.
@@ -57,13 +56,13 @@ pub fn write<D: Caching>(disc: &mut D, lba: u32, n: u32, fua: bool, payload: &[u
 }
 
 /// Formats the disc.
-pub fn format<D: Caching>(disc: &mut D, alloc: Global, kind: Kind) -> Answer
+pub fn format<D: Caching>(disc: &mut D, kind: Kind) -> Answer
     ensures rule { IsFormatted (D.shows disc.old) (D.shows disc.new) (D.stands disc.old) (D.stands disc.new)
         kind result [] }
     ensures same_shape { (D.shows disc.new).drive.shape ≡ (D.shows disc.old).drive.shape }
     ensures underwent { D.underwent disc.old disc.new }
 {
-    format_answer(disc.format(alloc, kind))
+    format_answer(disc.format(kind))
 }
 
 /// Gives the disc a smaller capacity, in sectors: its last blocks become supplementary spares.
@@ -172,7 +171,6 @@ fn format_answer(out: FormatOut) -> Answer
         FormatOut::Cut => Answer::Cut,
         FormatOut::Off => Answer::Off,
         FormatOut::Fault => Answer::Fault,
-        FormatOut::NoMemory => Answer::NoMemory,
     }
 }
 

@@ -14,7 +14,6 @@ use model_cache::{SyncOut, TickOut};
 use model_drive::{DriveCounts, ExpandOut, FormatOut, Kind, WriteOut};
 use model_sectors::{PowerOut, ReadOut};
 use ram_bytes::Block;
-use std::alloc::Global;
 
 /// A drive with a write cache, as its host sees it. Wherever the cells of its medium are known, it stands for a disc whose
 /// sectors are those that were last acknowledged, and for each logical block for the values that it may fall back to when the
@@ -67,7 +66,7 @@ pub trait Caching {
         ensures underwent { underwent self.old self.new };
 
     /// Turns the power off and on again. Pending blocks are lost.
-    fn power(&mut self, alloc: Global) -> PowerOut
+    fn power(&mut self) -> PowerOut
         ensures cause { CachePowerCause (shows self.old) (shows self.new) result }
         ensures step { (s : Contents) → stands self.old s
             → PowerContents (shows self.new).drive (stands self.new) s result }
@@ -75,7 +74,7 @@ pub trait Caching {
         ensures underwent { underwent self.old self.new };
 
     /// Formats the disc. After a full format that is done nothing is pending, nor where the disc is not formatted afterwards.
-    fn format(&mut self, alloc: Global, kind: Kind) -> FormatOut
+    fn format(&mut self, kind: Kind) -> FormatOut
         ensures cause { CacheFormatCause (shows self.old) (shows self.new) kind result }
         ensures step { (s : Contents) → stands self.old s
             → FormatContents (shows self.old).drive (shows self.new).drive (stands self.new) s kind result }

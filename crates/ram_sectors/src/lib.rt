@@ -23,7 +23,6 @@ pub use model_commands::TRANSFER_LIMIT;
 pub use model_drive::{DriveCounts, ExpandOut, FormatOut, Kind, WriteOut};
 pub use model_sectors::{PowerOut, ReadOut};
 use ram_bytes::Block;
-use std::alloc::Global;
 
 /// How many sectors are verified at once at most. (INCITS MMC gives their number two bytes.)
 pub const VERIFY_LIMIT: u32 = 65_535;
@@ -88,7 +87,7 @@ pub trait Sectors {
 
     /// Turns the power off and on again, and mounts the disc: its lists are chosen among their copies, which are repaired.
     /// Only on Ready and NotFormatted is the power on afterwards.
-    fn power(&mut self, alloc: Global) -> PowerOut
+    fn power(&mut self) -> PowerOut
         ensures cause { PowerCause (shows self.old) (shows self.new) result }
         ensures step { (s : Standing) → stands self.old s
             → PowerStep (shows self.new) (stands self.new) s result }
@@ -105,7 +104,7 @@ pub trait Sectors {
 pub trait Disc: Sectors {
     /// Formats the disc: anew, with a certification that leaves zeros, or by writing both lists again. A disc that is not
     /// formatted is formatted anew in both cases.
-    fn format(&mut self, alloc: Global, kind: Kind) -> FormatOut
+    fn format(&mut self, kind: Kind) -> FormatOut
         ensures cause { FormatCause (Self.shows self.old) (Self.shows self.new) kind result }
         ensures step { (s : Standing) → Self.stands self.old s
             → FormatStep (Self.shows self.old) (Self.shows self.new) (Self.stands self.new) s kind result }
