@@ -91,7 +91,6 @@ module _ (P : List ℕ → Type 0) (i : ℕ) where
   power_falls new s t powers.NotFormatted p within = subst (FallsTo P i) p (one no_values none_within)
   power_falls new s t powers.Cut p within = subst (FallsTo P i) p within
   power_falls new s t powers.Fault p within = subst (FallsTo P i) p within
-  power_falls new s t powers.NoMemory p within = subst (FallsTo P i) p within
 
   -- a read, a verification, a synchronisation and a tick add no value
   pub read_falls : (s t : Contents) (lba n : ℕ) (into : List ℕ) (out : ReadOut) → ReadContents (λ x. x ≡ t) s lba n into out → FallsTo P i s → FallsTo P i t
@@ -357,7 +356,6 @@ module _ (choices : List (List ℕ)) (i : ℕ) (t : Contents) (old new : Shown) 
   full_falls formats.Cut q = stopped_full t q
   full_falls formats.Off q = absurd q
   full_falls formats.Fault q = stopped_full t q
-  full_falls formats.NoMemory q = zeroed v kept_too q
 
   rewrite_falls : (out : FormatOut) → RewriteStep (λ u. lifted v.older u ≡ t) v.disc out → Zeroed
   rewrite_falls formats.Good q = zeroed v kept_too q
@@ -366,7 +364,6 @@ module _ (choices : List (List ℕ)) (i : ℕ) (t : Contents) (old new : Shown) 
   rewrite_falls formats.Fault q = subst (FallsWithin (zeros_too choices i old.shape) i) q (one (Contains (zeros_too choices i old.shape)) i v kept_too)
   rewrite_falls (formats.TooMany found) q = absurd q
   rewrite_falls formats.Off q = absurd q
-  rewrite_falls formats.NoMemory q = absurd q
 
   by_lists : (lists : Option Lists) (kind : Kind) (out : FormatOut) → FormatValues (λ x. x ≡ t) v old new lists kind out → Zeroed
   by_lists lists (kinds.Full drop_sdl) out q = full_falls out q

@@ -102,7 +102,6 @@ module _ (after : Contents → Type 0) where
   power_found new s powers.NotFormatted step = (Has no_values, step, refl)
   power_found new s powers.Cut step = (MayHave (candidates_of s), step, refl)
   power_found new s powers.Fault step = (MayHave (candidates_of s), step, refl)
-  power_found new s powers.NoMemory step = (MayHave (candidates_of s), step, refl)
 
   module _ (v : Values) (lba n : ℕ) (bytes : List ℕ) (old new : CacheShown) where
     -- the values after the covered blocks before this one were written
@@ -178,7 +177,6 @@ module _ (after : Contents → Type 0) where
     full_found formats.Cut step = stopped_found step
     full_found formats.Off step = absurd step
     full_found formats.Fault step = stopped_found step
-    full_found formats.NoMemory step = (Has v, step, refl)
 
     rewrite_found : (lists : Lists) (out : FormatOut) → FormatValues after v old new (Some lists) kinds.Rewrite out → FoundBy (λ is. FormatValues is v old new (Some lists) kinds.Rewrite out)
     rewrite_found lists formats.Good step = (Has v, step, refl)
@@ -187,7 +185,6 @@ module _ (after : Contents → Type 0) where
     rewrite_found lists formats.Cut step = (MayHave (v ∷ []), step, refl)
     rewrite_found lists formats.Off step = absurd step
     rewrite_found lists formats.Fault step = (MayHave (v ∷ []), step, refl)
-    rewrite_found lists formats.NoMemory step = absurd step
 
     found_by : (lists : Option Lists) (kind : Kind) (out : FormatOut) → FormatValues after v old new lists kind out → FoundBy (λ is. FormatValues is v old new lists kind out)
     found_by lists (kinds.Full drop_sdl) out step = full_found out step

@@ -72,8 +72,6 @@ none_after_full None (formats.TooMany found) = refl
 none_after_full (Some lists) (formats.TooMany found) = refl
 none_after_full None (formats.NoUpdate counter) = refl
 none_after_full (Some lists) (formats.NoUpdate counter) = refl
-none_after_full None formats.NoMemory = refl
-none_after_full (Some lists) formats.NoMemory = refl
 
 none_after_format : (was now : Option Lists) (kind : Kind) (out : FormatOut) → leaves_after_format was now kind out [] ≡ []
 none_after_format was now (kinds.Full drop_sdl) out = none_after_full now out
@@ -84,7 +82,6 @@ none_after_format (Some lists) now kinds.Rewrite formats.Fault = refl
 none_after_format (Some lists) now kinds.Rewrite formats.Off = refl
 none_after_format (Some lists) now kinds.Rewrite (formats.TooMany found) = refl
 none_after_format (Some lists) now kinds.Rewrite (formats.NoUpdate counter) = refl
-none_after_format (Some lists) now kinds.Rewrite formats.NoMemory = refl
 
 none_after_expansion : (new : CacheShown) (out : ExpandOut) → leaves_after_expansion new out [] ≡ []
 none_after_expansion new expands.Good = refl
@@ -261,7 +258,6 @@ module _ (t : Contents) where
   full_step old new disc formats.Fault (inl p) = record { standing = Off _; is = sym p; so = inl refl }
   full_step old new disc formats.Fault (inr (inl p)) = record { standing = Off _; is = sym p; so = inr (inl refl) }
   full_step old new disc formats.Fault (inr (inr p)) = record { standing = Off _; is = sym p; so = inr (inr refl) }
-  full_step old new disc formats.NoMemory p = plainly t (On disc) p
 
   rewrite_step : (disc : List ℕ) (out : FormatOut) → RewriteStep (λ u. lifted [] u ≡ t) disc out → IsPlainly t (λ u. RewriteStep (λ x. x ≡ u) disc out)
   rewrite_step disc formats.Good p = plainly t (On disc) p
@@ -270,7 +266,6 @@ module _ (t : Contents) where
   rewrite_step disc formats.Fault p = plainly t (Off (disc ∷ [])) p
   rewrite_step disc (formats.TooMany found) p = absurd p
   rewrite_step disc formats.Off p = absurd p
-  rewrite_step disc formats.NoMemory p = absurd p
 
   format_by : (old new : Shown) (lists : Option Lists) (disc : List ℕ) (kind : Kind) (out : FormatOut) → FormatValues (λ x. x ≡ t) (settled_values disc) old new lists kind out
       → IsPlainly t (λ u. FormatStepBy old new lists (λ x. x ≡ u) disc kind out)
@@ -303,4 +298,3 @@ module _ (t : Contents) where
   plain_power_step new s powers.NotFormatted p = plainly t (On []) p
   plain_power_step new s powers.Cut p = plainly t (Off (candidates s)) (ap MayHave (sym (candidates_are s)) ∙ p)
   plain_power_step new s powers.Fault p = plainly t (Off (candidates s)) (ap MayHave (sym (candidates_are s)) ∙ p)
-  plain_power_step new s powers.NoMemory p = plainly t (Off (candidates s)) (ap MayHave (sym (candidates_are s)) ∙ p)

@@ -117,7 +117,6 @@ module _ (after : Contents → Type 0) (v : Values) where
   FullValues old new formats.Off = ⊥
   FullValues old new formats.Fault = after (MayHave (v ∷ no_values ∷ [])) ⊎ after (MayHave (no_values ∷ []))
       ⊎ after (MayHave (no_values ∷ settled_values (zero_disc old.shape) ∷ []))
-  FullValues old new formats.NoMemory = after (Has v)
 
   -- What a format makes of it, by the lists that were in use.
   abbrev pub FormatValues : Shown → Shown → Option Lists → Kind → FormatOut → Type 0
@@ -201,4 +200,3 @@ PowerContents new after s (powers.Ready known) = FindsValues new after (candidat
 PowerContents new after s powers.NotFormatted = after (Has no_values)
 PowerContents new after s powers.Cut = after (MayHave (candidates_of s))
 PowerContents new after s powers.Fault = after (MayHave (candidates_of s))
-PowerContents new after s powers.NoMemory = after (MayHave (candidates_of s))

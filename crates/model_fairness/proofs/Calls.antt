@@ -162,7 +162,6 @@ module _ (old new : Shown) (same : new.shape ≡ old.shape) where
       power_fair powers.NotFormatted cause = mount_stops_fair cause.ends.reach.lasts.stays_dead cause.no_lists cause.any
       power_fair powers.Cut cause = mount_stops_fair (stop_dead _ _ _ stops.Cut cause.stopped.stops) cause.stopped.no_lists cause.any
       power_fair powers.Fault cause = mount_stops_fair (stop_dead _ _ _ stops.Fault cause.stopped.stops) cause.stopped.no_lists cause.any
-      power_fair powers.NoMemory cause = mount_stops_fair cause.reach.lasts.stays_dead cause.no_lists cause.any
 
       -- ---- a write
 
@@ -251,7 +250,6 @@ module _ (old new : Shown) (same : new.shape ≡ old.shape) where
       full_fair drop_sdl formats.Cut cause = full_stops_fair drop_sdl stops.Cut cause
       full_fair drop_sdl formats.Off cause = nothing_fair cause.nothing fair
       full_fair drop_sdl formats.Fault cause = full_stops_fair drop_sdl stops.Fault cause
-      full_fair drop_sdl formats.NoMemory cause = nothing_fair cause.nothing fair
 
       rewrite_fair : (lists : Lists) → old.lists ≡ Some lists → (out : FormatOut) → RewriteCause old new lists out → GivesUpDeadAlone new
       rewrite_fair lists is formats.Good cause = in_use_fair lists (cause.both.keeps.same_lists ∙ is) (dying_fair (cells_in old) (cells_in new) lists cause.both.ends.reach.lasts.stays_dead (fair.in_use lists is))
@@ -260,7 +258,6 @@ module _ (old new : Shown) (same : new.shape ≡ old.shape) where
       rewrite_fair lists is formats.Cut cause = stopped_fair _ stops.Cut (cause.given was_known) cause.stopped fair
       rewrite_fair lists is formats.Off cause = nothing_fair cause.nothing fair
       rewrite_fair lists is formats.Fault cause = stopped_fair _ stops.Fault (cause.given was_known) cause.stopped fair
-      rewrite_fair lists is formats.NoMemory cause = absurd cause
 
       by_kind : (lists : Option Lists) → old.lists ≡ lists → (kind : Kind) (out : FormatOut) → FormatCauseBy old new lists kind out → GivesUpDeadAlone new
       by_kind None is (kinds.Full drop_sdl) out cause = full_fair drop_sdl out cause

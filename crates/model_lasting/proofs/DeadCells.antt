@@ -36,7 +36,6 @@ module _ (old new : Shown) where
   power_dead powers.NotFormatted cause = cause.ends.reach.lasts.stays_dead
   power_dead powers.Cut cause = stop_dead _ _ _ stops.Cut cause.stopped.stops
   power_dead powers.Fault cause = stop_dead _ _ _ stops.Fault cause.stopped.stops
-  power_dead powers.NoMemory cause = cause.reach.lasts.stays_dead
 
   pub read_dead : (lba n : ℕ) (out : ReadOut) → ReadCause old new lba n out → DeadStay old new
   read_dead lba n reads.Good cause = cause.ends.reach.lasts.stays_dead
@@ -87,7 +86,6 @@ module _ (old new : Shown) where
   full_dead drop_sdl formats.Cut cause = stop_dead old.medium new.medium _ stops.Cut cause.stopped.stops
   full_dead drop_sdl formats.Off cause = nothing_dead cause.nothing
   full_dead drop_sdl formats.Fault cause = stop_dead old.medium new.medium _ stops.Fault cause.stopped.stops
-  full_dead drop_sdl formats.NoMemory cause = nothing_dead cause.nothing
 
   rewrite_dead : (lists : Lists) (out : FormatOut) → RewriteCause old new lists out → DeadStay old new
   rewrite_dead lists formats.Good cause = cause.both.ends.reach.lasts.stays_dead
@@ -96,7 +94,6 @@ module _ (old new : Shown) where
   rewrite_dead lists formats.Cut cause = stop_dead old.medium new.medium _ stops.Cut cause.stopped.stops
   rewrite_dead lists formats.Off cause = nothing_dead cause.nothing
   rewrite_dead lists formats.Fault cause = stop_dead old.medium new.medium _ stops.Fault cause.stopped.stops
-  rewrite_dead lists formats.NoMemory cause = absurd cause
 
   by_kind : (lists : Option Lists) (kind : Kind) (out : FormatOut) → FormatCauseBy old new lists kind out → DeadStay old new
   by_kind None (kinds.Full drop_sdl) out cause = full_dead drop_sdl out cause

@@ -21,7 +21,7 @@ use Rattle.model_survival.proofs.Finding as finding
 use Rattle.model_drive.specs.Shown.{Shown, IsKnown, cells_in, capacity, home}
 use Rattle.model_drive.specs.Sound.{IsSound}
 use Rattle.model_sectors.specs.Requests.{block_with}
-use Rattle.model_drive.specs.Power.{MountsLists, MountsNone, StopsInMount, MountLacksMemory}
+use Rattle.model_drive.specs.Power.{MountsLists, MountsNone, StopsInMount}
 use Rattle.model_drive.specs.Reads.{StopsInRead}
 use Rattle.model_drive.specs.Expands.{ssa_for, ExpandsAny, StopsInExpansion}
 use Rattle.model_drive.specs.Writes.{next_block, StopsInWrite}
@@ -56,9 +56,6 @@ module _ (old new : Shown) (dds : Dds) (a b : Sdl) (same : new.shape ≡ old.sha
 
   pub mount_stopped : (stop : Stop) → IsKnown old → CanBeFound old dds a b → StopsInMount old new stop → CanBeFound new dds a b
   mount_stopped stop is_known f stops = by_shape old new dds a b same (finding.mount_findable old.shape (cells_in old) (cells_in new) dds a b f (stops.left is_known))
-
-  pub mount_memory : IsKnown old → CanBeFound old dds a b → MountLacksMemory old new → CanBeFound new dds a b
-  mount_memory is_known f lacks = by_shape old new dds a b same (finding.findable_loses old.shape (cells_in old) (cells_in new) dds a b f (lacks.left is_known))
 
   pub read_stopped : (lba n most : ℕ) (stop : Stop) → CanBeFound old dds a b → StopsInRead old new lba n most stop → CanBeFound new dds a b
   read_stopped lba n most stop f stops = by_shape old new dds a b same (finding.findable_dies old.shape (cells_in old) (cells_in new) (record {

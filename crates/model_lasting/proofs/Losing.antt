@@ -21,7 +21,7 @@ use Rattle.model_formats.specs.Fresh.{formatting_dds, formatted_dds, fresh_sdl}
 use Rattle.model_formats.specs.Leaving.{FormatsLast, FormatsInPart}
 use Rattle.model_drive.specs.Shown.{Shown, IsKnown, cells_in, home}
 use Rattle.model_sectors.specs.Requests.{block_with}
-use Rattle.model_drive.specs.Power.{StopsInMount, MountLacksMemory}
+use Rattle.model_drive.specs.Power.{StopsInMount}
 use Rattle.model_drive.specs.Reads.{StopsInRead}
 use Rattle.model_drive.specs.Course.{MovesInPart, LeavesPlacing}
 use Rattle.model_drive.specs.Writes.{StopsInWrite, next_block}
@@ -88,9 +88,6 @@ module _ (shape : Shape) (old new : List Cell) where
 module _ (old new : Shown) where
   pub mount_one : (stop : Stop) (version : Version) → IsKnown old → HaveOneVersion old.shape (cells_in old) version → StopsInMount old new stop → LosesOneAtMost old.shape (cells_in old) (cells_in new) version
   mount_one stop version known one stops = mount_lost old.shape (cells_in old) (cells_in new) version one (stops.left known)
-
-  pub memory_one : (version : Version) → IsKnown old → MountLacksMemory old new → LosesOneAtMost old.shape (cells_in old) (cells_in new) version
-  memory_one version known lacks = died_lost old.shape (cells_in old) (cells_in new) version (die_of_loses old.shape (cells_in old) (cells_in new) (lacks.left known))
 
   pub read_one : (lba n most : ℕ) (stop : Stop) (version : Version) → StopsInRead old new lba n most stop → LosesOneAtMost old.shape (cells_in old) (cells_in new) version
   read_one lba n most stop version stops = died_lost old.shape (cells_in old) (cells_in new) version (record {

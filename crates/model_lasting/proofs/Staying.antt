@@ -38,7 +38,7 @@ use Rattle.model_drive.specs.Formats.{FormatCauseBy, FormatCause}
 use Rattle.model_drive.specs.Expands.{ssa_for, StopsInExpansion, ExpandCause}
 use Rattle.model_drive.proofs.Ends.{stop_off}
 use Rattle.model_lasting.specs.Lasting.{CanBeFound, KeepsTwoCopies, StaysFormatted, TellsSize}
-use Rattle.model_lasting.proofs.Finding.{in_use_found, by_shape, mount_ready, mount_never_bare, mount_stopped, mount_memory, read_stopped, rewrite_stopped, expand_stopped, write_stopped}
+use Rattle.model_lasting.proofs.Finding.{in_use_found, by_shape, mount_ready, mount_never_bare, mount_stopped, read_stopped, rewrite_stopped, expand_stopped, write_stopped}
 use Rattle.model_fairness.proofs.Calls.{some_same, none_some}
 
 -- lists in use
@@ -160,7 +160,6 @@ module _ (old new : Shown) (version : Version) (sizes : List ℕ) (same : new.sh
       power_stays powers.NotFormatted cause two = absurd (mount_never_bare old new s.dds s.older s.newer same was_known s.found (subst (KeepsTwoCopies new) (sym s.of_version) two) cause)
       power_stays powers.Cut cause two = (mount_off stops.Cut cause, tt)
       power_stays powers.Fault cause two = (mount_off stops.Fault cause, tt)
-      power_stays powers.NoMemory cause two = (off_stays new version sizes cause.off s.dds s.older s.newer (mount_memory old new s.dds s.older s.newer same was_known s.found cause) s.of_version s.size s.size', tt)
 
     -- ---- what needs lists in use
 
@@ -207,7 +206,6 @@ module _ (old new : Shown) (version : Version) (sizes : List ℕ) (same : new.sh
       rewrite_stays lists is formats.Cut cause = rewrite_off lists is stops.Cut cause
       rewrite_stays lists is formats.Off cause = nothing_stays cause.nothing
       rewrite_stays lists is formats.Fault cause = rewrite_off lists is stops.Fault cause
-      rewrite_stays lists is formats.NoMemory cause = absurd cause
 
       -- a rewriting format of a disc without lists is a full one, and comes where the power is off alone
       full_stays : old.lists ≡ None → (out : FormatOut) → FullCause old new false out → StaysFormatted new version sizes
@@ -220,7 +218,6 @@ module _ (old new : Shown) (version : Version) (sizes : List ℕ) (same : new.sh
       full_stays none formats.Cut cause = absurd (no_lists none cause.was_on)
       full_stays none formats.Off cause = nothing_stays cause.nothing
       full_stays none formats.Fault cause = absurd (no_lists none cause.was_on)
-      full_stays none formats.NoMemory cause = nothing_stays cause.nothing
 
       format_by : (lists : Option Lists) → old.lists ≡ lists → (out : FormatOut) → FormatCauseBy old new lists kinds.Rewrite out → StaysFormatted new version sizes
       format_by None is out cause = full_stays is out cause

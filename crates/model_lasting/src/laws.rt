@@ -6,7 +6,7 @@ ghost use Rattle.model_places.specs.Places.{Lists};
 ghost use Rattle.model_stops.specs.declared.Stop.{Stop};
 ghost use Rattle.model_drive.specs.Shown.{Shown, IsKnown};
 ghost use Rattle.model_drive.specs.Sound.{IsSound};
-ghost use Rattle.model_drive.specs.Power.{MountsLists, MountsNone, StopsInMount, MountLacksMemory};
+ghost use Rattle.model_drive.specs.Power.{MountsLists, MountsNone, StopsInMount};
 ghost use Rattle.model_drive.specs.Reads.{StopsInRead};
 ghost use Rattle.model_drive.specs.Expands.{ssa_for, StopsInExpansion};
 ghost use Rattle.model_drive.specs.Rewriting.{StopsInRewrite};
@@ -19,8 +19,8 @@ pub fn lists_in_use_can_be_found()
         → CanBeFound shown lists.dds lists.sdl lists.sdl }
 {}
 
-/// Where lists can be found a mount that is not stopped, and has memory, finds the older ones or the newer ones, while two
-/// copies of each list have no dead cell; and one that is stopped leaves them so that they can be found.
+/// Where lists can be found a mount that is not stopped finds the older ones or the newer ones, while two copies of each list
+/// have no dead cell; and one that is stopped leaves them so that they can be found.
 pub fn a_mount_finds_the_lists()
     ensures ready { (old new : Shown) (dds : Dds) (older newer : Sdl) (known : ℕ) → new.shape ≡ old.shape
         → IsKnown old → CanBeFound old dds older newer → MountsLists old new known
@@ -30,9 +30,6 @@ pub fn a_mount_finds_the_lists()
         → IsKnown old → CanBeFound old dds older newer → KeepsTwoCopies new older.version → MountsNone old new → ⊥ }
     ensures stopped { (old new : Shown) (dds : Dds) (older newer : Sdl) (stop : Stop) → new.shape ≡ old.shape
         → IsKnown old → CanBeFound old dds older newer → StopsInMount old new stop
-        → CanBeFound new dds older newer }
-    ensures memory { (old new : Shown) (dds : Dds) (older newer : Sdl) → new.shape ≡ old.shape
-        → IsKnown old → CanBeFound old dds older newer → MountLacksMemory old new
         → CanBeFound new dds older newer }
 {}
 

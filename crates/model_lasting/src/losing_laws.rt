@@ -8,7 +8,7 @@ ghost use Rattle.model_places.specs.Places.{Lists};
 ghost use Rattle.model_stops.specs.declared.Stop.{Stop};
 ghost use Rattle.model_survival.specs.Losing.{LosesOneAtMost, HaveOneVersion};
 ghost use Rattle.model_drive.specs.Shown.{Shown, IsKnown, cells_in};
-ghost use Rattle.model_drive.specs.Power.{StopsInMount, MountLacksMemory};
+ghost use Rattle.model_drive.specs.Power.{StopsInMount};
 ghost use Rattle.model_drive.specs.Reads.{StopsInRead};
 ghost use Rattle.model_drive.specs.Writes.{StopsInWrite};
 ghost use Rattle.model_drive.specs.Expands.{StopsInExpansion};
@@ -22,8 +22,6 @@ ghost use Rattle.model_drive.specs.FullFormats.{StopsInFormat};
 pub fn a_stopped_call_loses_one_copy_at_most()
     ensures mount { (old new : Shown) (stop : Stop) (version : Version) → IsKnown old
         → HaveOneVersion old.shape (cells_in old) version → StopsInMount old new stop
-        → LosesOneAtMost old.shape (cells_in old) (cells_in new) version }
-    ensures memory { (old new : Shown) (version : Version) → IsKnown old → MountLacksMemory old new
         → LosesOneAtMost old.shape (cells_in old) (cells_in new) version }
     ensures read { (old new : Shown) (lba n most : ℕ) (stop : Stop) (version : Version)
         → StopsInRead old new lba n most stop → LosesOneAtMost old.shape (cells_in old) (cells_in new) version }

@@ -54,6 +54,4 @@ pub enum PowerOut {
     Cut,
     /// What the medium lies on failed, and counted it. The power is off.
     Fault,
-    /// Memory was refused. The power is off.
-    NoMemory,
 }

@@ -14,6 +14,4 @@ pub enum Answer {
     Off,
     /// What the medium lies on failed, and counted it. The power is off.
     Fault,
-    /// Memory was refused.
-    NoMemory,
 }

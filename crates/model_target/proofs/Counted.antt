@@ -112,7 +112,6 @@ module _ (old new : Shown) where
   by_format formats.Cut p = p
   by_format formats.Off p = p
   by_format formats.Fault p = p
-  by_format formats.NoMemory p = p
 
   by_expand : (out : ExpandOut) → ExpandFaults old new out → AnswerFaults old new (expand_answer out)
   by_expand expands.Good p = p

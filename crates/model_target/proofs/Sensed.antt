@@ -98,7 +98,6 @@ module _ (P : Sense → Type 0) (old new : CacheShown) (all : HoldsOfSenses new.
   format_check why formats.Cut is = absurd cc
   format_check why formats.Off is = absurd cc
   format_check why formats.Fault is = absurd cc
-  format_check why formats.NoMemory is = absurd cc
 
   expand_check : (why : Sense) (out : ExpandOut) → answers.Check why ≡ expand_answer out → P why
   expand_check why expands.Good is = absurd cc

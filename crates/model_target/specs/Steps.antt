@@ -69,7 +69,6 @@ format_answer (formats.NoUpdate counter) = answers.Check (sense 0x3 0x31 0x01)
 format_answer formats.Cut = answers.Cut
 format_answer formats.Off = answers.Off
 format_answer formats.Fault = answers.Fault
-format_answer formats.NoMemory = answers.NoMemory
 
 -- how each end of an expansion is answered (after INCITS MMC)
 abbrev pub expand_answer : ExpandOut → Answer

@@ -1,11 +1,8 @@
-use Rattle.model_lasting.proofs.Losing.{mount_one, memory_one, read_one, write_one, expand_one, rewrite_one, format_one}
+use Rattle.model_lasting.proofs.Losing.{mount_one, read_one, write_one, expand_one, rewrite_one, format_one}
 use Rattle.model_lasting.proofs.losing_laws.a_stopped_call_loses_one_copy_at_most.Goals as goal
 
 pub returns-clause-mount : goal.returns-clause-mount
 returns-clause-mount c = mount_one
-
-pub returns-clause-memory : goal.returns-clause-memory
-returns-clause-memory c = memory_one
 
 pub returns-clause-read : goal.returns-clause-read
 returns-clause-read c = read_one
