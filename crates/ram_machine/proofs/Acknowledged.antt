@@ -1,9 +1,11 @@
 -- What is so of a sector in each value of its block stays so over a line that does not write it, by what the line does.
 use Rattle.std.specs.Prelude.{◌≡◌, ℕ, ◌+◌, ◌*◌, ◌<◌, ◌≤◌, ◌==◌, ◌⊎◌, Bool, true, false, is_some, Result, Ok, Err, List, [], ◌∷◌, length}
 use Rattle.std.specs.Bool.{MatchBool}
-use Rattle.std.proofs.Common.{arith, refl, sym, inl, inr, subst}
+use Rattle.std.proofs.Common.{ℕ, arith, refl, sym, inl, inr, subst}
 use Rattle.std.proofs.lemmas.List.Elements.{All-head, All-tail}
-use Rattle.model_geometry.specs.Geometry.{Shape, IsLawful, shape_of}
+use Rattle.model_geometry.specs.declared.kinds.LayoutKind.{LayoutKind}
+use Rattle.model_geometry.specs.Geometry.{Shape, IsLawful, shape_in, shape_of}
+use Rattle.model_geometry.proofs.DataBlocks.{length-data_blocks_closed}
 use Rattle.model_sectors.specs.Discs.{sectors_of, replaced}
 use Rattle.model_sectors.specs.Requests.{block_with}
 use Rattle.model_sectors.proofs.Pieces.{other_sectors_replaced}
@@ -28,7 +30,7 @@ use Rattle.ram_machine.specs.declared.reply.Reply.TheVariants as replies
 use Rattle.ram_machine.specs.declared.stopped.Stopped.TheVariants as stopped
 use Rattle.ram_machine.specs.Control.{contents_after_fail}
 use Rattle.ram_machine.specs.Replies.{Outcome}
-use Rattle.ram_machine.specs.States.{State, Served, Unopened, Disc}
+use Rattle.ram_machine.specs.States.{State, Served, Unopened, Disc, kind_of}
 use Rattle.ram_machine.specs.LineSteps.{PressStep, DiscRule, OnDisc, Step}
 use Rattle.ram_machine.specs.Runs.{Run}
 use Rattle.ram_machine.specs.Answered.{AnsweredStep}
@@ -37,12 +39,29 @@ use Rattle.ram_machine.proofs.Decoded.{HasItsData, asks_for, its_data}
 use Rattle.ram_machine.proofs.WrittenDiscs.{Lies, SoInBlock, SoInValues, SoInContents, so_shown, written_left, written_off}
 
 -- a press of no lawful geometry does nothing
-pub not_pressed : (s t : State) (shape : Shape) (outcome : Outcome) → PressStep s shape outcome t → ¬ IsLawful shape → t ≡ s
+not_pressed : (s t : State) (shape : Shape) (outcome : Outcome) → PressStep s shape outcome t → ¬ IsLawful shape → t ≡ s
 not_pressed s t shape (Ok (replies.Event events.Pressed)) step unlawful = absurd (unlawful step.0)
 not_pressed s t shape (Ok (replies.Event events.NotPressed)) step unlawful = step.1
 not_pressed s t shape (Err stopped.ImageFault) step unlawful = absurd (unlawful step.0)
 not_pressed s t shape (Err stopped.NoMemory) step unlawful = absurd (unlawful step.0)
 not_pressed s t shape _ step unlawful = absurd step
+
+-- a geometry that is lawful with a layout of some kind is so with one group of spares
+pub one_lawful : (kind : LayoutKind) (zones scale psa : ℕ) → IsLawful (shape_in kind zones scale psa) → IsLawful (shape_of zones scale psa)
+one_lawful kind zones scale psa lawful = record {
+  some_zones = lawful.some_zones;
+  most_zones = lawful.most_zones;
+  some_scale = lawful.some_scale;
+  most_scale = lawful.most_scale;
+  some_spares = lawful.some_spares;
+  most_spares = lawful.most_spares;
+  spares_within = omega (arith, lawful.spares_within, length-data_blocks_closed (shape_in kind zones scale psa) lawful.some_scale, length-data_blocks_closed (shape_of zones scale psa) lawful.some_scale);
+  layout_fits = tt;
+}
+
+-- so a press that is lawful with none changes nothing
+pub not_pressed_by : (s t : State) (zones scale psa : ℕ) (outcome : Outcome) → PressStep s (shape_in (kind_of s) zones scale psa) outcome t → ¬ IsLawful (shape_of zones scale psa) → t ≡ s
+not_pressed_by s t zones scale psa outcome step unlawful = not_pressed s t (shape_in (kind_of s) zones scale psa) outcome step (λ lawful. unlawful (one_lawful (kind_of s) zones scale psa lawful))
 
 -- what is replaced elsewhere leaves the sector
 pub sector_left : (v : Values) (lba n at : ℕ) (payload : List ℕ) → length payload ≡ 2048 * n → (at < lba) ⊎ (lba + n ≤ at) → (r : Lies v.disc lba n) (b : ℕ)
@@ -138,7 +157,7 @@ module _ (S : List ℕ → Type 0) (at : ℕ) where
   step_keeps (Unopened image) t line payload data_in outcome step leaves so = absurd so
   step_keeps (Disc s) t lines.Empty payload data_in outcome step leaves so = subst SoInState (sym step.2) so
   step_keeps (Disc s) t (lines.Press zones scale psa) payload data_in outcome step leaves so =
-      subst SoInState (sym (not_pressed (Disc s) t (shape_of zones scale psa) outcome step.0 leaves)) so
+      subst SoInState (sym (not_pressed_by (Disc s) t zones scale psa outcome step.0 leaves)) so
   step_keeps (Disc s) t line payload data_in outcome step leaves so = on_disc_keeps s line payload outcome data_in t step leaves so
 
   -- and a run

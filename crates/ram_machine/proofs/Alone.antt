@@ -3,11 +3,12 @@ use Rattle.std.specs.Prelude.{◌≡◌, ℕ, ◌==◌, ◌++◌, ◌&&◌, ◌�
 use Rattle.std.specs.List.{find}
 use Rattle.std.proofs.Common.{refl, sym, ap, ◌∙◌, inl, inr, subst}
 use Rattle.std.proofs.lemmas.List.Elements.{All-head, All-tail}
-use Rattle.model_geometry.specs.Geometry.{Shape, shape_of, total}
+use Rattle.model_geometry.specs.declared.kinds.LayoutKind.{LayoutKind}
+use Rattle.model_geometry.specs.Geometry.{Shape, shape_in, total}
 use Rattle.model_medium.specs.Cells.{Cell}
 use Rattle.model_medium.specs.declared.Fate.{Fate}
 use Rattle.model_image.specs.Cells.{cells_of}
-use Rattle.model_image.specs.Image.{IsImageOf, blank_cells, pressed_image}
+use Rattle.model_image.specs.Image.{blank_cells, pressed_image}
 use Rattle.model_modes.specs.Pages.{mode_data}
 use Rattle.model_modes.specs.ParameterLists.{caches_after}
 use Rattle.model_sectors.specs.Discs.{Standing, On, Off}
@@ -49,13 +50,13 @@ use Rattle.ram_machine.specs.declared.reply.Reply.TheVariants as replies
 use Rattle.ram_machine.specs.declared.stopped.Stopped.TheVariants as stopped
 use Rattle.ram_machine.specs.Control.{contents_after_fail}
 use Rattle.ram_machine.specs.Replies.{Outcome, power_outcome, tick_outcome}
-use Rattle.ram_machine.specs.States.{State, Served, Unopened, Disc, IsFirst, IsLeft, IsInserted, IsPressedDisc, IsHalfPressed, IsPressedUnopened}
+use Rattle.ram_machine.specs.States.{BareImage, State, Served, Unopened, Disc, kind_of, IsFirst, IsLeft, IsInserted, IsPressedDisc, IsHalfPressed, IsPressedUnopened}
 use Rattle.ram_machine.specs.LineSteps.{KeepsRest, PowerLine, FailLine, WearLine, CutLine, TickLine, PressStep, DiscRule, DiscStep, OnDisc, LineBytes, Step}
 use Rattle.ram_machine.specs.Runs.{IsStep, Run}
 use Rattle.ram_machine.specs.Answered.{AnsweredStep}
 use Rattle.ram_machine.specs.Alone.{StandsAlone, IsAlone, LeavesAloneAsDecoded, LeavesAlone, LeaveAlone}
 use Rattle.ram_machine.specs.PlainCommands.{PlainAnswer, PlainRead, PlainWrite, PlainVerification, PlainFormat, PlainExpansion, PlainStructure, PlainSpares, PlainDone, PlainlyAnswered, PlainCommand}
-use Rattle.ram_machine.specs.PlainRuns.{PlainServed, PlainState, PlainImage, PlainDisc, IsPlainlyLeft, IsPlainlyInserted, IsPlainlyFirst, IsServedPlainly, IsInPlainly, stands_after_fail, KeepsPlainly, PlainPower, PlainFail, PlainWear, PlainCut, PlainTick, PlainRule, PlainDiscStep, OnPlainDisc, IsPlainlyPressed, IsUnopenedPlainly, IsHalfPlainly, PlainPress, PlainStep, PlainRun}
+use Rattle.ram_machine.specs.PlainRuns.{PlainServed, PlainState, PlainImage, PlainDisc, plain_kind, IsUnopenedPress, IsPlainlyLeft, IsPlainlyInserted, IsPlainlyFirst, IsServedPlainly, IsInPlainly, stands_after_fail, KeepsPlainly, PlainPower, PlainFail, PlainWear, PlainCut, PlainTick, PlainRule, PlainDiscStep, OnPlainDisc, IsPlainlyPressed, IsUnopenedPlainly, IsHalfPlainly, PlainPress, PlainStep, PlainRun}
 use Rattle.ram_machine.proofs.Decoded.{asks_for}
 
 none_due : (done : List ℕ) (block : ℕ) (rest : List ℕ) → [] ≡ done ++ block ∷ rest → ⊥
@@ -469,17 +470,24 @@ pub pressed_alone : (shape : Shape) (s : State) → IsPressedDisc shape s → Is
 pressed_alone shape s is = let now = pressed_plainly shape s is in plainly_alone s now.0 now.2
 
 left_plainly : (s : State) (p : PlainState) (before : List ℕ) → IsInPlainly s p → IsLeft s before → IsPlainlyLeft p before
-left_plainly (Unopened bytes) (PlainImage held) before is left = left ∙ is
+left_plainly (Unopened image) (PlainImage held) before is left = left ∙ ap (λ (x : BareImage). x.bytes) is
 left_plainly (Unopened bytes) (PlainDisc p) before is left = absurd is
 left_plainly (Disc s) (PlainImage held) before is left = absurd is
 left_plainly (Disc s) (PlainDisc p) before is left = left ∙ is.bytes_are
 
+-- the kind of the layout is the same
+kind_plainly : (s : State) (p : PlainState) → IsInPlainly s p → kind_of s ≡ plain_kind p
+kind_plainly (Unopened image) (PlainImage held) is = ap (λ (x : BareImage). x.kind) is
+kind_plainly (Unopened image) (PlainDisc p) is = absurd is
+kind_plainly (Disc s) (PlainImage held) is = absurd is
+kind_plainly (Disc s) (PlainDisc p) is = ap (λ (x : CacheShown). x.drive.shape.layout) is.shown_is
+
 half_plainly : (s t : State) (p : PlainState) → IsInPlainly s p → IsHalfPressed s t → (q : PlainState) × IsUnopenedPlainly (IsHalfPlainly p) q × IsInPlainly t q
-half_plainly s (Unopened bytes) p is half = (PlainImage bytes, (half.0, left_plainly s p half.0 is half.1, half.2), refl)
+half_plainly s (Unopened image) p is half = (PlainImage image, (half.0, left_plainly s p half.0 is half.1, half.2, half.3 ∙ kind_plainly s p is), refl)
 half_plainly s (Disc t) p is half = absurd half
 
-unopened_plainly : (shape : Shape) (t : State) → IsPressedUnopened shape t → (q : PlainState) × IsUnopenedPlainly (IsImageOf shape (blank_cells shape)) q × IsInPlainly t q
-unopened_plainly shape (Unopened bytes) is = (PlainImage bytes, is, refl)
+unopened_plainly : (shape : Shape) (t : State) → IsPressedUnopened shape t → (q : PlainState) × IsUnopenedPlainly (IsUnopenedPress shape) q × IsInPlainly t q
+unopened_plainly shape (Unopened image) is = (PlainImage image, is, refl)
 unopened_plainly shape (Disc t) is = absurd is
 
 press_plainly : (s t : State) (p : PlainState) (shape : Shape) (outcome : Outcome) → IsInPlainly s p → PressStep s shape outcome t
@@ -538,7 +546,9 @@ pub step_plainly : (s t : State) (p : PlainState) (line : Line) (payload data_in
 step_plainly s t p lines.Empty payload data_in outcome step off is =
     (p, (step.0, step.1, refl), subst (λ (x : State). IsInPlainly x p) (sym step.2) is)
 step_plainly s t p (lines.Press zones scale psa) payload data_in outcome step off is =
-    let now = press_plainly s t p (shape_of zones scale psa) outcome is step.0 in (now.0, (now.1, step.1), now.2)
+    let same = ap (λ (kind : LayoutKind). shape_in kind zones scale psa) (kind_plainly s p is) in
+    let now = press_plainly s t p (shape_in (kind_of s) zones scale psa) outcome is step.0 in
+    (now.0, (subst (λ (shape : Shape). PlainPress p shape outcome now.0) same now.1, step.1), now.2)
 step_plainly s t p line payload data_in outcome step off is = on_disc_plainly s t p line payload outcome data_in is off step
 
 pub step_alone : (s t : State) (line : Line) (payload data_in : List ℕ) (outcome : Outcome) → Step s line payload outcome data_in t → LeavesAlone line payload → IsAlone s → IsAlone t
@@ -571,7 +581,6 @@ ready_alone new c t (powers.Ready told) known is step off = record { uncached_is
 ready_alone new c t powers.NotFormatted known is step off = absurd cc
 ready_alone new c t powers.Cut known is step off = absurd cc
 ready_alone new c t powers.Fault known is step off = absurd cc
-ready_alone new c t powers.NoMemory known is step off = absurd cc
 
 by_power : (s t : State) (payload data_in : List ℕ) (known : ℕ) → Step s lines.Power payload (Ok (replies.Event (events.Ready known))) data_in t → IsAlone t
 by_power s (Unopened image) payload data_in known step = tt

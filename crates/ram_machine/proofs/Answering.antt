@@ -33,7 +33,6 @@ power_answers (powers.Ready capacity) same = cc
 power_answers powers.NotFormatted same = cc
 power_answers powers.Cut same = cc
 power_answers powers.Fault same = cc
-power_answers powers.NoMemory same = cc
 
 fail_answers : (end : FailEnd) → lacks ≡ fail_outcome end → ⊥
 fail_answers fails.Done same = cc
@@ -60,7 +59,6 @@ command_answers cdb (answers.Check sense) same = cc
 command_answers cdb answers.Cut same = cc
 command_answers cdb answers.Off same = cc
 command_answers cdb answers.Fault same = cc
-command_answers cdb answers.NoMemory same = cc
 
 pub distinct : (reply : Reply) → lacks ≡ Ok reply → ⊥
 distinct reply same = cc

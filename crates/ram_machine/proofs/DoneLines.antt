@@ -52,7 +52,6 @@ good_outcome cdb (answers.Check why) is = absurd cc
 good_outcome cdb answers.Cut is = absurd cc
 good_outcome cdb answers.Off is = absurd cc
 good_outcome cdb answers.Fault is = absurd cc
-good_outcome cdb answers.NoMemory is = absurd cc
 
 pub good_read : (out : ReadOut) → answers.Good ≡ read_answer out → out ≡ reads.Good
 good_read reads.Good is = refl

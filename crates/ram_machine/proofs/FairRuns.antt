@@ -4,7 +4,7 @@ use Rattle.std.specs.Bool.{MatchBool}
 use Rattle.std.proofs.Common.{refl, sym, ap, ◌∙◌, inl, inr, subst, arith}
 use Rattle.std.proofs.lemmas.List.{get_or-replicate, get_or_past, length-replicate}
 use Rattle.std.proofs.lemmas.Bool.{cases_lt, cases_eq}
-use Rattle.model_geometry.specs.Geometry.{Shape, shape_of, total, dds_block}
+use Rattle.model_geometry.specs.Geometry.{Shape, shape_in, total, dds_block}
 use Rattle.model_lists.specs.Texts.{IsDdsText}
 use Rattle.model_medium.specs.Cells.{Cell, Blank, Dead, cell_at}
 use Rattle.model_medium.specs.World.{World}
@@ -33,7 +33,7 @@ use Rattle.model_target.specs.declared.host.Host.{Host}
 use Rattle.model_target.specs.Steps.{WrittenCause, Untouched, TellsStructure, TellsSpares, IsDone, IsAnsweredBy, IsStep}
 use Rattle.ram_medium.specs.declared.control.FailEnd.{FailEnd}
 use Rattle.ram_medium.specs.declared.control.FailEnd.TheVariants as fails
-use Rattle.ram_volume.specs.Control.{FailOnDrive}
+use Rattle.ram_states.specs.Control.{FailOnDrive}
 use Rattle.model_medium.proofs.CellFacts.{cell_at-set_other, cell_at-set_dead}
 use Rattle.ram_medium.specs.Control.{FailRule, WearRule}
 use Rattle.ram_medium.specs.declared.control.Arm.{Arm}
@@ -44,7 +44,7 @@ use Rattle.ram_text.specs.declared.script.Line.TheVariants as lines
 use Rattle.ram_machine.specs.declared.reply.Reply.TheVariants as replies
 use Rattle.ram_machine.specs.declared.stopped.Stopped.TheVariants as stopped
 use Rattle.ram_machine.specs.Replies.{Outcome}
-use Rattle.ram_machine.specs.States.{State, Served, Unopened, Disc, IsFirst, IsInserted, IsPressedDisc, IsHalfPressed, IsPressedUnopened}
+use Rattle.ram_machine.specs.States.{State, Served, Unopened, Disc, kind_of, IsFirst, IsInserted, IsPressedDisc, IsHalfPressed, IsPressedUnopened}
 use Rattle.ram_machine.specs.LineSteps.{PressStep, DiscRule, OnDisc, Step}
 use Rattle.ram_machine.specs.Runs.{Run}
 use Rattle.ram_machine.specs.Answered.{AnsweredStep}
@@ -200,7 +200,7 @@ on_disc_fair (Disc s) (Disc t) line payload outcome data_in step fair =
 
 pub step_fair : (s t : State) (line : Line) (payload data_in : List ℕ) (outcome : Outcome) → Step s line payload outcome data_in t → FairNow s → FairNow t
 step_fair s t lines.Empty payload data_in outcome step fair = subst FairNow (sym step.2) fair
-step_fair s t (lines.Press zones scale psa) payload data_in outcome step fair = press_fair s t (shape_of zones scale psa) outcome step.0 fair
+step_fair s t (lines.Press zones scale psa) payload data_in outcome step fair = press_fair s t (shape_in (kind_of s) zones scale psa) outcome step.0 fair
 step_fair s t line payload data_in outcome step fair = on_disc_fair s t line payload outcome data_in step fair
 
 pub run_fair : (s t : State) (answered : List AnsweredStep) → Run s answered t → FairNow s → FairNow t

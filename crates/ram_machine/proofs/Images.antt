@@ -7,7 +7,7 @@ use Rattle.model_image.specs.Image.{IsImageOf}
 use Rattle.model_drive.specs.Shown.{Shown, IsKnown, cells_in}
 use Rattle.model_cache.specs.Shown.{CacheShown}
 use Rattle.ram_machine.specs.Drive.{HasCells}
-use Rattle.ram_machine.specs.States.{Served, Disc, IsLabelled, IsLeft, IsInserted}
+use Rattle.ram_machine.specs.States.{Served, Disc, kind_of, IsLabelled, IsLeft, IsInserted}
 
 -- the image that a disc leaves has its cells
 pub image_left : (s : Served) (bytes : List ℕ) → IsLeft (Disc s) bytes → IsImageOf s.disc.shown.drive.shape (cells_in s.disc.shown.drive) bytes
@@ -23,6 +23,6 @@ pub lies_there : (shown : Shown) (image : Option (List ℕ)) → IsKnown shown �
 lies_there shown None known labelled lawful unknown = let clash : false ≡ true = sym unknown ∙ known in absurd cc
 lies_there shown (Some bytes) known labelled lawful has = record { bytes = bytes; known = refl; image_is = has shown.shape labelled lawful }
 
--- a disc that was just inserted has the kind of layout that any other disc in the drive has
-pub kind_again : (shape : Shape) (cells : List Cell) (bytes : List ℕ) (s t : Served) → IsInserted shape cells bytes t → shape.layout ≡ s.disc.shown.drive.shape.layout
-kind_again shape cells bytes s t is = sym (ap (λ (x : CacheShown). x.drive.shape.layout) is.opened.shown_is) ∙ t.one ∙ sym s.one
+-- a disc that was just inserted has the kind of layout that is told of it
+pub kind_again : (shape : Shape) (cells : List Cell) (bytes : List ℕ) (s t : Served) → IsInserted shape cells bytes t → kind_of (Disc t) ≡ kind_of (Disc s) → shape.layout ≡ s.disc.shown.drive.shape.layout
+kind_again shape cells bytes s t is same = sym (ap (λ (x : CacheShown). x.drive.shape.layout) is.opened.shown_is) ∙ same

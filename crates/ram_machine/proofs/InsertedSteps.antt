@@ -1,6 +1,7 @@
 -- What a line leaves of the inserted disc.
 use Rattle.std.specs.Prelude.{◌≡◌, ℕ, Option, Some, List}
 use Rattle.std.proofs.Common.{refl, sym, ap, ◌∙◌, subst}
+use Rattle.model_geometry.specs.declared.kinds.LayoutKind.{LayoutKind}
 use Rattle.model_geometry.specs.Geometry.{Shape, IsLawful}
 use Rattle.model_drive.specs.Shown.{Shown}
 use Rattle.model_target.specs.declared.host.Host.{Host}
@@ -14,7 +15,7 @@ use Rattle.ram_medium.specs.declared.control.FailEnd.TheVariants as fails
 use Rattle.ram_mmc.specs.declared.target.Target.{Target}
 use Rattle.ram_machine.specs.declared.inserted.Inserted.TheVariants as inserts
 use Rattle.ram_text.specs.declared.script.Line.{Line}
-use Rattle.ram_volume.specs.Control.{FailOnDrive}
+use Rattle.ram_states.specs.Control.{FailOnDrive}
 use Rattle.ram_text.specs.declared.script.Line.TheVariants as lines
 use Rattle.ram_machine.specs.Replies.{Outcome}
 use Rattle.ram_machine.specs.States.{State, Served, Unopened, Disc, IsIn, IsLabelled}
@@ -71,7 +72,6 @@ module _ {D I : Type 0} (drives : Drives D) (lies_in : D → Option (List ℕ)) 
       let t : Served = record {
         disc = record { shown = drives.shows new.disc; contents = found.0; sound = laws.drive_sound new.disc; cache_sound = laws.sound new.disc; stands = stands };
         host = new.host;
-        one = ap (λ (z : Shape). z.layout) shape ∙ s.one;
         labelled = labelled;
         bytes = there.bytes;
         image = there.image_is;
@@ -90,6 +90,8 @@ module _ {D I : Type 0} (drives : Drives D) (lies_in : D → Option (List ℕ)) 
       )
 
   -- the same of the inserted disc
-  pub inserted_left : (s : State) → Stands drives lies_in images (inserts.Disc old) s → IsAnswered s line payload data_in (Stands drives lies_in images (inserts.Disc new)) outcome
-  inserted_left (Unopened bytes) stands = absurd stands
-  inserted_left (Disc s) stands = let left = disc_left s stands in record { state = Disc left.0; step = disc_step s left.0 line payload outcome data_in left.1; stands = left.2 }
+  pub inserted_left : (kind : LayoutKind) (s : State) → Stands drives lies_in images (inserts.Disc old kind) s → IsAnswered s line payload data_in (Stands drives lies_in images (inserts.Disc new kind)) outcome
+  inserted_left kind (Unopened bare) stands = absurd stands
+  inserted_left kind (Disc s) stands =
+      let left = disc_left s stands.0 in
+      record { state = Disc left.0; step = disc_step s left.0 line payload outcome data_in left.1; stands = (left.2, stands.1 ∙ sym (ap (λ (z : Shape). z.layout) left.1.same_shape)) }

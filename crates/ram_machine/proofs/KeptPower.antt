@@ -2,7 +2,6 @@
 use Rattle.std.specs.Prelude.{◌≡◌, ℕ, ◌+◌, ◌*◌, ◌<◌, ◌≤◌, ◌==◌, ◌⊎◌, Bool, true, false, is_some, MatchBool, Result, Ok, Err, List, [], ◌∷◌, length}
 use Rattle.std.proofs.Common.{arith, refl, sym, ◌∙◌, inl, inr, subst}
 use Rattle.std.proofs.lemmas.List.Elements.{All-head, All-tail}
-use Rattle.model_geometry.specs.Geometry.{shape_of}
 use Rattle.model_sectors.specs.Discs.{sectors_of, replaced}
 use Rattle.model_sectors.specs.Requests.{block_with, blocks_covered}
 use Rattle.model_sectors.specs.declared.ReadOut.{ReadOut}
@@ -46,7 +45,7 @@ use Rattle.ram_machine.specs.Answered.{AnsweredStep}
 use Rattle.ram_machine.specs.Acknowledged.{StandsWithSector, HasNow, WasDone, IsAmong, LeavesAsAsked, LeavesAsDecoded, LeavesSector, LeaveSector, KeepsPower, KeepPower}
 use Rattle.ram_machine.specs.SectorBytes.{bytes_of_sector}
 use Rattle.ram_machine.proofs.Decoded.{HasItsData, asks_for, its_data}
-use Rattle.ram_machine.proofs.Acknowledged.{not_pressed, sector_left}
+use Rattle.ram_machine.proofs.Acknowledged.{not_pressed_by, sector_left}
 use Rattle.ram_machine.proofs.Shortened.{front_sector, front_long}
 use Rattle.ram_machine.proofs.WrittenDiscs.{lies}
 use Rattle.ram_machine.proofs.DoneLines.{ShowsSector, ShowsNow, line_gives}
@@ -65,7 +64,6 @@ stays_of cdb reply (answers.Check why) is keeps = tt
 stays_of cdb reply answers.Cut is keeps = subst (KeepsPower (lines.Command cdb)) (let same : reply ≡ replies.Command cdb answers.Cut = cc in same) keeps
 stays_of cdb reply answers.Off is keeps = tt
 stays_of cdb reply answers.Fault is keeps = absurd cc
-stays_of cdb reply answers.NoMemory is keeps = tt
 
 module _ (at : ℕ) (bytes : List ℕ) where
   abbrev Keeps : List ℕ → Type 0
@@ -246,7 +244,7 @@ module _ (at : ℕ) (bytes : List ℕ) where
   step_shows (Unopened image) t line payload data_in reply step power leaves keeps = absurd keeps
   step_shows (Disc s) t lines.Empty payload data_in reply step power leaves keeps = subst KeepsNow (sym step.2) keeps
   step_shows (Disc s) t (lines.Press zones scale psa) payload data_in reply step power leaves keeps =
-      subst KeepsNow (sym (not_pressed (Disc s) t (shape_of zones scale psa) (Ok reply) step.0 leaves)) keeps
+      subst KeepsNow (sym (not_pressed_by (Disc s) t zones scale psa (Ok reply) step.0 leaves)) keeps
   step_shows (Disc s) t line payload data_in reply step power leaves keeps = on_disc_shows s line payload reply data_in t step power leaves keeps
 
   pub run_shows : (s t : State) (answered : List AnsweredStep) → Run s answered t → KeepPower answered → LeaveSector at answered → KeepsNow s → KeepsNow t

@@ -4,7 +4,7 @@ use Rattle.std.specs.Bool.{MatchBool}
 use Rattle.std.specs.List.{Contains}
 use Rattle.std.proofs.Common.{arith, zero, suc, refl, sym, ap, ◌∙◌, inl, inr, subst}
 use Rattle.std.proofs.lemmas.List.Elements.{All-head, All-tail}
-use Rattle.model_geometry.specs.Geometry.{Shape, shape_of, total}
+use Rattle.model_geometry.specs.Geometry.{Shape, total}
 use Rattle.model_lists.specs.declared.versions.Version.{Version}
 use Rattle.model_medium.specs.Cells.{Cell, Dead, cell_at}
 use Rattle.model_medium.specs.World.{World}
@@ -38,14 +38,14 @@ use Rattle.model_target.specs.Judging.{IsJudged}
 use Rattle.model_target.specs.Steps.{WrittenCause, TellsStructure, TellsSpares, IsDone, IsAnsweredBy, IsStep as ExecutesTo}
 use Rattle.ram_medium.specs.declared.control.FailEnd.{FailEnd}
 use Rattle.ram_medium.specs.declared.control.FailEnd.TheVariants as fails
-use Rattle.ram_volume.specs.Control.{FailOnDrive}
+use Rattle.ram_states.specs.Control.{FailOnDrive}
 use Rattle.ram_report.specs.declared.printing.Event.TheVariants as events
 use Rattle.ram_text.specs.declared.script.Line.{Line}
 use Rattle.ram_text.specs.declared.script.Line.TheVariants as lines
 use Rattle.ram_machine.specs.declared.reply.Reply.{Reply}
 use Rattle.ram_machine.specs.declared.reply.Reply.TheVariants as replies
 use Rattle.ram_machine.specs.Replies.{Outcome, power_outcome}
-use Rattle.ram_machine.specs.States.{State, Served, Unopened, Disc, IsLeft, IsFirst}
+use Rattle.ram_machine.specs.States.{State, Served, Unopened, Disc, kind_of, IsLeft, IsFirst}
 use Rattle.ram_machine.specs.LineSteps.{DiscRule, OnDisc, Step}
 use Rattle.ram_machine.specs.Runs.{IsStep, Run}
 use Rattle.ram_machine.specs.Answered.{AnsweredStep}
@@ -53,7 +53,7 @@ use Rattle.ram_machine.specs.Survival.{KeepsAsAsked, KeepsAsDecoded, KeepsDisc, 
 use Rattle.ram_machine.proofs.Images.{image_left, kind_again}
 use Rattle.ram_machine.proofs.SoundChains.{contents_known, IsWell}
 use Rattle.ram_machine.proofs.Decoded.{asks_for}
-use Rattle.ram_machine.proofs.Acknowledged.{not_pressed}
+use Rattle.ram_machine.proofs.Acknowledged.{not_pressed_by}
 use Rattle.ram_machine.proofs.FairRuns.{cells_die, worn_world}
 
 -- ---- dead cells stay dead
@@ -284,7 +284,7 @@ pub step_lasts : (s t : State) (line : Line) (payload data_in : List ℕ) (outco
 step_lasts (Unopened bytes) t line payload data_in outcome version sizes step keeps two lasts = absurd lasts
 step_lasts (Disc s) t lines.Empty payload data_in outcome version sizes step keeps two lasts = stays_same (Disc s) t version sizes step.2 lasts
 step_lasts (Disc s) t (lines.Press zones scale psa) payload data_in outcome version sizes step keeps two lasts =
-    stays_same (Disc s) t version sizes (not_pressed (Disc s) t (shape_of zones scale psa) outcome step.0 keeps) lasts
+    stays_same (Disc s) t version sizes (not_pressed_by (Disc s) t zones scale psa outcome step.0 keeps) lasts
 step_lasts (Disc s) t line payload data_in outcome version sizes step keeps two lasts = on_disc_lasts s t line payload outcome data_in version sizes step keeps two lasts
 
 on_disc_two : (s t : State) (line : Line) (payload : List ℕ) (outcome : Outcome) (data_in : List ℕ) (version : Version) → OnDisc s line payload outcome data_in t
@@ -299,7 +299,7 @@ step_two : (s t : State) (line : Line) (payload data_in : List ℕ) (outcome : O
     → HasTwoCopies t version → HasTwoCopies s version
 step_two s t lines.Empty payload data_in outcome version step keeps two = subst (λ (x : State). HasTwoCopies x version) step.2 two
 step_two s t (lines.Press zones scale psa) payload data_in outcome version step keeps two =
-    subst (λ (x : State). HasTwoCopies x version) (not_pressed s t (shape_of zones scale psa) outcome step.0 keeps) two
+    subst (λ (x : State). HasTwoCopies x version) (not_pressed_by s t zones scale psa outcome step.0 keeps) two
 step_two s t line payload data_in outcome version step keeps two = on_disc_two s t line payload outcome data_in version step two
 
 -- ---- a run
@@ -344,7 +344,7 @@ module _ (shape : Shape) where
   step_shape : (s t : State) (line : Line) (payload data_in : List ℕ) (outcome : Outcome) → Step s line payload outcome data_in t → KeepsDisc line payload → HasShape shape s → HasShape shape t
   step_shape (Unopened bytes) t line payload data_in outcome step keeps has = absurd has
   step_shape (Disc s) t lines.Empty payload data_in outcome step keeps has = subst (HasShape shape) (sym step.2) has
-  step_shape (Disc s) t (lines.Press zones scale psa) payload data_in outcome step keeps has = subst (HasShape shape) (sym (not_pressed (Disc s) t (shape_of zones scale psa) outcome step.0 keeps)) has
+  step_shape (Disc s) t (lines.Press zones scale psa) payload data_in outcome step keeps has = subst (HasShape shape) (sym (not_pressed_by (Disc s) t zones scale psa outcome step.0 keeps)) has
   step_shape (Disc s) t line payload data_in outcome step keeps has = on_disc_shape s t line payload outcome data_in step has
 
   run_shape : (s t : State) (events : List AnsweredStep) → Run s events t → KeepDisc events → HasShape shape s → HasShape shape t
@@ -359,27 +359,27 @@ now_begins (Unopened bytes) lists is = absurd is
 now_begins (Disc s) lists is = begins s.disc.shown.drive lists s.disc.sound (contents_known s.disc.shown s.disc.contents s.disc.stands) is
 
 -- an image of these cells, opened
-same_cells : (s t : Served) (bytes : List ℕ) → IsLeft (Disc s) bytes → IsFirst bytes (Disc t) → (t.disc.shown.drive.shape ≡ s.disc.shown.drive.shape) × (cells_in t.disc.shown.drive ≡ cells_in s.disc.shown.drive) × ¬ IsOn t.disc.shown.drive
-same_cells s t bytes left first =
+same_cells : (s t : Served) (bytes : List ℕ) → IsLeft (Disc s) bytes → IsFirst bytes (Disc t) → kind_of (Disc t) ≡ kind_of (Disc s) → (t.disc.shown.drive.shape ≡ s.disc.shown.drive.shape) × (cells_in t.disc.shown.drive ≡ cells_in s.disc.shown.drive) × ¬ IsOn t.disc.shown.drive
+same_cells s t bytes left first kind =
     let image = image_left s bytes left in
-    let shape : first.0 ≡ s.disc.shown.drive.shape = one_header first.0 s.disc.shown.drive.shape bytes (kind_again first.0 (cells_of (total first.0) bytes) bytes s t first.2) first.1.has_header image.disc.has_header in (
+    let shape : first.0 ≡ s.disc.shown.drive.shape = one_header first.0 s.disc.shown.drive.shape bytes (kind_again first.0 (cells_of (total first.0) bytes) bytes s t first.2 kind) first.1.has_header image.disc.has_header in (
       ap (λ (x : CacheShown). x.drive.shape) first.2.opened.shown_is ∙ shape,
       ap (λ (x : CacheShown). cells_in x.drive) first.2.opened.shown_is ∙ ap (λ (z : Shape). cells_of (total z) bytes) shape ∙ image.cells_are,
       λ on. (let off : false ≡ true = subst (λ (x : CacheShown). IsOn x.drive) first.2.opened.shown_is on in cc),
     )
 
-pub image_lasts : (s t : State) (bytes : List ℕ) (version : Version) (sizes : List ℕ) → LastsNow s version sizes → IsLeft s bytes → IsFirst bytes t → LastsNow t version sizes
-image_lasts (Unopened held) t bytes version sizes lasts left first = absurd lasts
-image_lasts (Disc s) (Unopened held) bytes version sizes lasts left first = absurd (first.1 s.disc.shown.drive.shape (image_left s bytes left).disc)
-image_lasts (Disc s) (Disc t) bytes version sizes lasts left first =
-    let same = same_cells s t bytes left first in
+pub image_lasts : (s t : State) (bytes : List ℕ) (version : Version) (sizes : List ℕ) → LastsNow s version sizes → IsLeft s bytes → IsFirst bytes t → kind_of t ≡ kind_of s → LastsNow t version sizes
+image_lasts (Unopened held) t bytes version sizes lasts left first kind = absurd lasts
+image_lasts (Disc s) (Unopened held) bytes version sizes lasts left first kind = absurd (first.1 s.disc.shown.drive.shape (sym kind) (image_left s bytes left).disc)
+image_lasts (Disc s) (Disc t) bytes version sizes lasts left first kind =
+    let same = same_cells s t bytes left first kind in
     dies_stays s.disc.shown.drive t.disc.shown.drive version sizes same.0 lasts (λ on. absurd (same.2 on)) (λ on. absurd (same.2 on)) (λ block. inl (ap (λ (cells : List Cell). cell_at cells block) same.1))
 
-image_two : (shape : Shape) (s t : State) (bytes : List ℕ) (version : Version) → HasShape shape s → IsLeft s bytes → IsFirst bytes t → HasTwoCopies t version → HasTwoCopies s version
-image_two shape (Unopened held) t bytes version has left first two = absurd has
-image_two shape (Disc s) (Unopened held) bytes version has left first two = absurd two
-image_two shape (Disc s) (Disc t) bytes version has left first two =
-    let same = same_cells s t bytes left first in
+image_two : (shape : Shape) (s t : State) (bytes : List ℕ) (version : Version) → HasShape shape s → IsLeft s bytes → IsFirst bytes t → kind_of t ≡ kind_of s → HasTwoCopies t version → HasTwoCopies s version
+image_two shape (Unopened held) t bytes version has left first kind two = absurd has
+image_two shape (Disc s) (Unopened held) bytes version has left first kind two = absurd two
+image_two shape (Disc s) (Disc t) bytes version has left first kind two =
+    let same = same_cells s t bytes left first kind in
     two_before s.disc.shown.drive t.disc.shown.drive version same.0 (λ block dead. ap (λ (cells : List Cell). cell_at cells block) same.1 ∙ dead) two
 
 -- ---- a `power` line
@@ -389,7 +389,6 @@ ready_or_cut shape sizes (powers.Ready known) reply tells is = subst IsReadyOrCu
 ready_or_cut shape sizes powers.NotFormatted reply tells is = absurd tells
 ready_or_cut shape sizes powers.Cut reply tells is = subst IsReadyOrCut (let same : replies.Event events.Cut ≡ reply = cc in same) tt
 ready_or_cut shape sizes powers.Fault reply tells is = absurd cc
-ready_or_cut shape sizes powers.NoMemory reply tells is = absurd cc
 
 -- what it told of the sizes, and its answer
 pub record PowersOn (shape : Shape) (sizes : List ℕ) (reply : Reply) : Type 0 where
@@ -433,14 +432,14 @@ ready_at_the_end s t u lists events event in_use run keeps step is two =
     power_lasts t u event lists.sdl.version lasts.0 lasts.1 step is two
 
 pub ready_again : (s t u v w : State) (lists : Lists) (earlier later : List AnsweredStep) (event : AnsweredStep) (image : List ℕ) → HasInUse s lists → Run s earlier t → KeepDisc earlier → IsLeft t image
-    → IsFirst image u → Run u later v → KeepDisc later → IsStep v event w → event.line ≡ lines.Power → HasTwoCopies w lists.sdl.version → IsReadyOrCut event.reply
-ready_again s t u v w lists earlier later event image in_use run keeps left first run' keeps' step is two =
+    → IsFirst image u → kind_of u ≡ kind_of t → Run u later v → KeepDisc later → IsStep v event w → event.line ≡ lines.Power → HasTwoCopies w lists.sdl.version → IsReadyOrCut event.reply
+ready_again s t u v w lists earlier later event image in_use run keeps left first kind run' keeps' step is two =
     let two_v = step_two v w event.line event.payload event.data_in (Ok event.reply) lists.sdl.version step (subst (λ (line : Line). KeepsDisc line event.payload) (sym is) tt) two in
     let two_u = run_two u v later lists.sdl.version run' keeps' two_v in
     let of_shape = in_use_shape s lists in_use in
-    let two_t = image_two of_shape.0 t u image lists.sdl.version (run_shape of_shape.0 s t earlier run keeps of_shape.1) left first two_u in
+    let two_t = image_two of_shape.0 t u image lists.sdl.version (run_shape of_shape.0 s t earlier run keeps of_shape.1) left first kind two_u in
     let one = run_lasts s t earlier lists.sdl.version (lists.sdl.ssa ∷ []) run keeps two_t (now_begins s lists in_use) in
-    let opened = image_lasts t u image lists.sdl.version one.0 one.1 left first in
+    let opened = image_lasts t u image lists.sdl.version one.0 one.1 left first kind in
     let other = run_lasts u v later lists.sdl.version one.0 run' keeps' two_v opened in
     power_lasts v w event lists.sdl.version other.0 other.1 step is two
 
@@ -456,7 +455,6 @@ told_size shape ssa (powers.Ready told) known tells is =
 told_size shape ssa powers.NotFormatted known tells is = absurd tells
 told_size shape ssa powers.Cut known tells is = absurd cc
 told_size shape ssa powers.Fault known tells is = absurd cc
-told_size shape ssa powers.NoMemory known tells is = absurd cc
 
 power_size : (shape : Shape) (s u : State) (event : AnsweredStep) (version : Version) (ssa known : ℕ) → HasShape shape s → LastsNow s version (ssa ∷ []) → IsStep s event u → event.line ≡ lines.Power
     → HasTwoCopies u version → event.reply ≡ replies.Event (events.Ready known) → known ≡ count_of shape ssa * 16

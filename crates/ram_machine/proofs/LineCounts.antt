@@ -23,7 +23,7 @@ use Rattle.ram_medium.specs.declared.control.Arm.{Arm}
 use Rattle.ram_medium.specs.declared.control.Arm.TheVariants as arming
 use Rattle.model_sense.specs.declared.answer.Answer.{Answer}
 use Rattle.model_sense.specs.declared.answer.Answer.TheVariants as answers
-use Rattle.ram_volume.specs.Control.{FailOnDrive}
+use Rattle.ram_states.specs.Control.{FailOnDrive}
 use Rattle.ram_text.specs.declared.script.Line.{Line}
 use Rattle.ram_text.specs.declared.script.Line.TheVariants as lines
 use Rattle.ram_machine.specs.Replies.{Outcome, power_outcome, fail_outcome, wear_outcome, tick_outcome, command_outcome}
@@ -43,7 +43,6 @@ module _ (old new : Shown) where
   power_counts powers.NotFormatted p = p
   power_counts powers.Cut p = p
   power_counts powers.Fault p = p
-  power_counts powers.NoMemory p = p
 
   fail_counts : (block : ℕ) (end : FailEnd) → FailOnDrive old new block end → Counts (fail_outcome end)
   fail_counts block fails.Done p = ap (λ (m : Machine). m.world.faults) p.0.1
@@ -70,7 +69,6 @@ module _ (old new : Shown) where
   answer_counts cdb answers.Cut p = p
   answer_counts cdb answers.Off p = p
   answer_counts cdb answers.Fault p = p
-  answer_counts cdb answers.NoMemory p = p
 
 -- the count of a line
 pub rule_counts : (old new : CacheShown) (before after : Contents → Type 0) (host later : Host) (line : Line) (payload : List ℕ) (outcome : Outcome) (data_in : List ℕ) → DiscRule old new before after host later line payload outcome data_in → Counts old.drive new.drive outcome

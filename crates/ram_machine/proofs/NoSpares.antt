@@ -33,7 +33,6 @@ checked_outcome cdb why (answers.Check other) is = cc
 checked_outcome cdb why answers.Cut is = absurd cc
 checked_outcome cdb why answers.Off is = absurd cc
 checked_outcome cdb why answers.Fault is = absurd cc
-checked_outcome cdb why answers.NoMemory is = absurd cc
 
 no_disc : (reply : Reply) → Ok reply ≡ Err stopped.NotADisc → ⊥
 no_disc reply is = cc

@@ -3,7 +3,7 @@ use Rattle.std.specs.Prelude.{◌≡◌, ◌≢◌, ℕ, ◌<◌, ◌≤◌, ◌
 use Rattle.std.proofs.Common.{arith, refl, sym, ap, ◌∙◌, inl, inr, subst}
 use Rattle.std.proofs.lemmas.List.FromFn.{length-map-range_with_len}
 use Rattle.model_bytes.specs.Known.{WhereKnown}
-use Rattle.model_geometry.specs.declared.kinds.LayoutKind.TheVariants.{OneGroup}
+use Rattle.model_geometry.specs.declared.kinds.LayoutKind.{LayoutKind}
 use Rattle.model_geometry.specs.Geometry.{Shape, IsLawful, label_of, total}
 use Rattle.model_medium.specs.Cells.{Cell}
 use Rattle.model_medium.specs.Machine.{Machine}
@@ -37,7 +37,7 @@ use Rattle.ram_machine.specs.declared.inserted.Inserted.TheVariants as inserts
 use Rattle.ram_machine.specs.declared.stopped.Stopped.TheVariants as whys
 use Rattle.ram_machine.specs.Drive.{IsOpenedBy, OpensDrive}
 use Rattle.ram_machine.specs.Replies.{event, stopped_by}
-use Rattle.ram_machine.specs.States.{State, Served, Unopened, Disc, IsIn, IsInserted, IsLabelled}
+use Rattle.ram_machine.specs.States.{State, Served, Unopened, Disc, kind_of, IsIn, IsInserted, IsLabelled}
 use Rattle.ram_machine.specs.Inserted.{Stands, LeavesImage, IsPressAnswered}
 use Rattle.ram_machine.specs.Starts.{StandsFirst}
 
@@ -67,7 +67,7 @@ of_drive s = record {
   stands = stands_plainly (StandsFor s.shown) s.standing s.stands;
 }
 
-module _ {I : Type 0} {d : Images I} (image : I) (medium : ImageMedium I d) (geometry : Shape) (one : geometry.layout ≡ OneGroup) (opened : IsOpened image medium geometry) (shown : Shown) (made : shown ≡ shown_without geometry (machine_in medium)) where
+module _ {I : Type 0} {d : Images I} (image : I) (medium : ImageMedium I d) (kind : LayoutKind) (geometry : Shape) (opened : IsOpened image medium kind geometry) (shown : Shown) (made : shown ≡ shown_without geometry (machine_in medium)) where
   module _ (bytes : List ℕ) (known : d.bytes image ≡ Some bytes) where
     disc_there : IsDiscImage geometry bytes
     disc_there = subst (λ o. IfSome o (IsDiscImage geometry)) known opened.disc
@@ -89,11 +89,11 @@ module _ {I : Type 0} {d : Images I} (image : I) (medium : ImageMedium I d) (geo
     drive_is = made ∙ ap (shown_without geometry) machine_is ∙ sym loaded.2
 
     -- an image whose bytes are known was opened, and nothing is pending
-    opened_by : (cached : CacheShown) → cached ≡ uncached shown → IsOpenedBy bytes cached (CacheStandsFor cached)
+    opened_by : (cached : CacheShown) → cached ≡ uncached shown → IsOpenedBy kind bytes cached (CacheStandsFor cached)
     unfolding of_drive
     opened_by cached is = record {
       shape = geometry;
-      one = one;
+      kind_is = opened.kind_is;
       image = disc_there;
       disc = of_drive loaded.0;
       opened = record { faults = loaded.1.faults; shown_is = ap uncached loaded.1.shown_is; all = loaded.1.all; standing = loaded.0.standing; starts = loaded.1.starts; contents_is = refl };
@@ -102,7 +102,7 @@ module _ {I : Type 0} {d : Images I} (image : I) (medium : ImageMedium I d) (geo
     }
 
   -- the same, nothing failed, and the drive lies in the same bytes
-  pub opens : (cached : CacheShown) → cached ≡ uncached shown → (kept : ImageMedium I d) → kept ≡ medium → OpensDrive (d.bytes image) (d.faults image) cached (CacheStandsFor cached) (bytes_in kept)
+  pub opens : (cached : CacheShown) → cached ≡ uncached shown → (kept : ImageMedium I d) → kept ≡ medium → OpensDrive kind (d.bytes image) (d.faults image) cached (CacheStandsFor cached) (bytes_in kept)
   opens cached is kept same = record {
     opened = λ bytes known. opened_by bytes known cached is;
     same_bytes = ap (λ (m : ImageMedium I d). bytes_in m) same ∙ opened.same_image;
@@ -118,12 +118,11 @@ opened_image : (shape : Shape) (bytes : List ℕ) (s : CacheLoaded) → IsDiscIm
 opened_image shape bytes s disc opened = subst (λ (x : CacheShown). IsImageOf x.drive.shape (cells_in x.drive) bytes) (sym opened.shown_is) (record { disc = disc; cells_are = refl })
 
 -- a target over a disc that was just opened
-module _ {D I : Type 0} (drives : Drives D) (lies_in : D → Option (List ℕ)) (images : Images I) (bytes : List ℕ) (target : Target D) (by : IsOpenedBy bytes (drives.shows target.disc) (drives.stands target.disc)) (host_is : target.host ≡ powered_on) (lies : lies_in target.disc ≡ Some bytes) where
+module _ {D I : Type 0} (drives : Drives D) (lies_in : D → Option (List ℕ)) (images : Images I) (kind : LayoutKind) (bytes : List ℕ) (target : Target D) (by : IsOpenedBy kind bytes (drives.shows target.disc) (drives.stands target.disc)) (host_is : target.host ≡ powered_on) (lies : lies_in target.disc ≡ Some bytes) where
   abbrev served : Served
   served = record {
     disc = by.disc;
     host = powered_on;
-    one = ap (λ (x : CacheShown). x.drive.shape.layout) by.opened.shown_is ∙ by.one;
     labelled = opened_labelled by.shape (cells_of (total by.shape) bytes) by.disc by.opened;
     bytes = bytes;
     image = opened_image by.shape bytes by.disc by.image by.opened;
@@ -131,6 +130,9 @@ module _ {D I : Type 0} (drives : Drives D) (lies_in : D → Option (List ℕ)) 
 
   is_in : IsIn (drives.shows target.disc) (drives.stands target.disc) target.host (lies_in target.disc) served
   is_in = record { shown_is = by.shown_is; contents_is = by.contents_is; host_is = host_is; bytes_are = lies }
+
+  its_kind : kind ≡ kind_of (Disc served)
+  its_kind = sym (ap (λ (x : CacheShown). x.drive.shape.layout) by.opened.shown_is ∙ by.kind_is)
 
   inserted : IsInserted by.shape (cells_of (total by.shape) bytes) bytes served
   inserted = record { opened = by.opened; host_is = refl; bytes_are = refl }
@@ -147,45 +149,45 @@ pressed_bytes s shape None after left pressed = absurd left
 pressed_bytes s shape (Some before) None left pressed = absurd pressed
 pressed_bytes s shape (Some before) (Some after) left pressed = record { bytes = after; known = refl; bytes_are = pressed.bytes; image_is = pressed.image }
 
-module _ {D I : Type 0} (drives : Drives D) (lies_in : D → Option (List ℕ)) (images : Images I) (s : State) (shape : Shape) (kind : shape.layout ≡ OneGroup) (lawful : IsLawful shape) where
+module _ {D I : Type 0} (drives : Drives D) (lies_in : D → Option (List ℕ)) (images : Images I) (s : State) (kind : LayoutKind) (shape : Shape) (kind_is : shape.layout ≡ kind) (its : kind ≡ kind_of s) (lawful : IsLawful shape) where
   -- the image stopped a press
-  pub press_stopped : (before : Option (List ℕ)) (image : I) → LeavesImage s before → WhereKnown before (images.bytes image) IsStoppedPress → IsPressAnswered s shape (Stands drives lies_in images (inserts.Image image)) (Err whys.ImageFault)
+  pub press_stopped : (before : Option (List ℕ)) (image : I) → LeavesImage s before → WhereKnown before (images.bytes image) IsStoppedPress → IsPressAnswered s shape (Stands drives lies_in images (inserts.Image image kind)) (Err whys.ImageFault)
   press_stopped before image left stopped = by_bytes before (images.bytes image) left stopped refl
     where
-      by_bytes : (b a : Option (List ℕ)) → LeavesImage s b → WhereKnown b a IsStoppedPress → images.bytes image ≡ a → IsPressAnswered s shape (Stands drives lies_in images (inserts.Image image)) (Err whys.ImageFault)
+      by_bytes : (b a : Option (List ℕ)) → LeavesImage s b → WhereKnown b a IsStoppedPress → images.bytes image ≡ a → IsPressAnswered s shape (Stands drives lies_in images (inserts.Image image kind)) (Err whys.ImageFault)
       by_bytes None a l w e = absurd l
       by_bytes (Some held) None l w e = absurd w
-      by_bytes (Some held) (Some now) l w e = record { state = Unopened now; step = (lawful, inl (held, l, w)); stands = e }
+      by_bytes (Some held) (Some now) l w e = record { state = Unopened (record { kind = kind; bytes = now }); step = (lawful, inl (held, l, w, its)); stands = (e, refl) }
 
   module _ (before : Option (List ℕ)) (image : I) (left : LeavesImage s before) (pressed : WhereKnown before (images.bytes image) (PressesImage shape)) where
     found : IsPressed shape (images.bytes image)
     found = pressed_bytes s shape before (images.bytes image) left pressed
 
     -- a disc was pressed and opened
-    pub press_opened : (target : Target D) → target.host ≡ powered_on → ((bytes : List ℕ) → images.bytes image ≡ Some bytes → IsOpenedBy bytes (drives.shows target.disc) (drives.stands target.disc))
-        → lies_in target.disc ≡ images.bytes image → IsPressAnswered s shape (Stands drives lies_in images (inserts.Disc target)) (event events.Pressed)
+    pub press_opened : (target : Target D) → target.host ≡ powered_on → ((bytes : List ℕ) → images.bytes image ≡ Some bytes → IsOpenedBy kind bytes (drives.shows target.disc) (drives.stands target.disc))
+        → lies_in target.disc ≡ images.bytes image → IsPressAnswered s shape (Stands drives lies_in images (inserts.Disc target kind)) (event events.Pressed)
     press_opened target host_is opening same =
         let by = opening found.bytes found.known in
-        let one : by.shape ≡ shape = one_header by.shape shape found.bytes (by.one ∙ sym kind) by.image.has_header found.image_is.disc.has_header in
+        let one : by.shape ≡ shape = one_header by.shape shape found.bytes (by.kind_is ∙ sym kind_is) by.image.has_header found.image_is.disc.has_header in
         let lies : lies_in target.disc ≡ Some found.bytes = same ∙ found.known in
-        let disc = served drives lies_in images found.bytes target by host_is lies in
+        let disc = served drives lies_in images kind found.bytes target by host_is lies in
         record {
           state = Disc disc;
           step = (
             lawful,
             subst (λ bytes. IsInserted shape (blank_cells shape) bytes disc) found.bytes_are
                 (subst (λ cells. IsInserted shape cells found.bytes disc) found.image_is.cells_are
-                (subst (λ (z : Shape). IsInserted z (cells_of (total z) found.bytes) found.bytes disc) one (inserted drives lies_in images found.bytes target by host_is lies))),
+                (subst (λ (z : Shape). IsInserted z (cells_of (total z) found.bytes) found.bytes disc) one (inserted drives lies_in images kind found.bytes target by host_is lies))),
           );
-          stands = is_in drives lies_in images found.bytes target by host_is lies;
+          stands = (is_in drives lies_in images kind found.bytes target by host_is lies, its_kind drives lies_in images kind found.bytes target by host_is lies);
         }
 
     -- a pressed image is refused only where it failed, or there was no memory
-    pub press_refused : (image' : I) (faults faults' : ℕ) (fault : OpenFault) → IsRefused (images.bytes image) (images.bytes image') faults faults' fault → IsPressAnswered s shape (Stands drives lies_in images (inserts.Image image')) (Err (stopped_by fault))
-    press_refused image' faults faults' faulty.Header refused = absurd (bad.1 shape found.image_is.disc.has_header)
+    pub press_refused : (image' : I) (faults faults' : ℕ) (fault : OpenFault) → IsRefused kind (images.bytes image) (images.bytes image') faults faults' fault → IsPressAnswered s shape (Stands drives lies_in images (inserts.Image image' kind)) (Err (stopped_by fault))
+    press_refused image' faults faults' faulty.Header refused = absurd (bad.1 shape kind_is found.image_is.disc.has_header)
       where
-        bad : (16 ≤ length found.bytes) × ((z : Shape) → ¬ HasHeader z found.bytes)
-        bad = subst (λ o. IfSome o (λ held. (16 ≤ length held) × ((z : Shape) → ¬ HasHeader z held))) found.known refused.1
+        bad : (16 ≤ length found.bytes) × ((z : Shape) → z.layout ≡ kind → ¬ HasHeader z found.bytes)
+        bad = subst (λ o. IfSome o (λ held. (16 ≤ length held) × ((z : Shape) → z.layout ≡ kind → ¬ HasHeader z held))) found.known refused.1
     press_refused image' faults faults' (faulty.Length len) refused = absurd (cases bad.1)
       where
         bad : (len ≡ length found.bytes) × ((len < 16) ⊎ ((z : Shape) × HasHeader z found.bytes × (len ≢ image_len (total z))))
@@ -197,38 +199,39 @@ module _ {D I : Type 0} (drives : Drives D) (lies_in : D → Option (List ℕ)) 
         cases : (len < 16) ⊎ ((z : Shape) × HasHeader z found.bytes × (len ≢ image_len (total z))) → ⊥
         cases (inl short) = omega (arith, bad.0, long)
         cases (inr other) = other.2 (bad.0 ∙ long ∙ ap image_len (total_by_header shape other.0 found.bytes found.image_is.disc.has_header other.1))
-    press_refused image' faults faults' faulty.Fault refused = record { state = Unopened found.bytes; step = (lawful, inr found.image_is); stands = refused.same ∙ found.known }
-    press_refused image' faults faults' faulty.NoMemory refused = record { state = Unopened found.bytes; step = (lawful, found.image_is); stands = refused.same ∙ found.known }
+    press_refused image' faults faults' faulty.Fault refused = record { state = Unopened (record { kind = kind; bytes = found.bytes }); step = (lawful, inr (found.image_is, sym kind_is)); stands = (refused.same ∙ found.known, refl) }
+    press_refused image' faults faults' faulty.NoMemory refused = record { state = Unopened (record { kind = kind; bytes = found.bytes }); step = (lawful, (found.image_is, sym kind_is)); stands = (refused.same ∙ found.known, refl) }
 
-module _ {D I : Type 0} (drives : Drives D) (lies_in : D → Option (List ℕ)) (images : Images I) (image : I) where
+module _ {D I : Type 0} (drives : Drives D) (lies_in : D → Option (List ℕ)) (images : Images I) (kind : LayoutKind) (image : I) where
   -- a disc was opened
-  pub first_opened : (target : Target D) → target.host ≡ powered_on → ((bytes : List ℕ) → images.bytes image ≡ Some bytes → IsOpenedBy bytes (drives.shows target.disc) (drives.stands target.disc))
-      → lies_in target.disc ≡ images.bytes image → (bytes : List ℕ) → images.bytes image ≡ Some bytes → StandsFirst bytes (Stands drives lies_in images (inserts.Disc target))
+  pub first_opened : (target : Target D) → target.host ≡ powered_on → ((bytes : List ℕ) → images.bytes image ≡ Some bytes → IsOpenedBy kind bytes (drives.shows target.disc) (drives.stands target.disc))
+      → lies_in target.disc ≡ images.bytes image → (bytes : List ℕ) → images.bytes image ≡ Some bytes → StandsFirst kind bytes (Stands drives lies_in images (inserts.Disc target kind))
   first_opened target host_is opening same bytes known =
       let by = opening bytes known in
       let lies : lies_in target.disc ≡ Some bytes = same ∙ known in
       record {
-        state = Disc (served drives lies_in images bytes target by host_is lies);
-        first = (by.shape, by.image, inserted drives lies_in images bytes target by host_is lies);
-        stands_first = is_in drives lies_in images bytes target by host_is lies;
+        state = Disc (served drives lies_in images kind bytes target by host_is lies);
+        kind_is = sym (its_kind drives lies_in images kind bytes target by host_is lies);
+        first = (by.shape, by.image, inserted drives lies_in images kind bytes target by host_is lies);
+        stands_first = (is_in drives lies_in images kind bytes target by host_is lies, its_kind drives lies_in images kind bytes target by host_is lies);
       }
 
   -- an image that holds no disc is left as it is
-  pub first_unopened : (image' : I) (faults faults' : ℕ) (fault : OpenFault) → IsRefused (images.bytes image) (images.bytes image') faults faults' fault → (fault ≡ faulty.Header) ⊎ ((len : ℕ) × (fault ≡ faulty.Length len))
-      → ((bytes : List ℕ) → images.bytes image ≡ Some bytes → StandsFirst bytes (Stands drives lies_in images (inserts.Image image'))) × (faults' ≡ faults)
-  first_unopened image' faults faults' why refused (inl e) = (λ bytes known. without_header bytes known (subst (IsRefused (images.bytes image) (images.bytes image') faults faults') e refused), (subst (IsRefused (images.bytes image) (images.bytes image') faults faults') e refused).0.count)
+  pub first_unopened : (image' : I) (faults faults' : ℕ) (fault : OpenFault) → IsRefused kind (images.bytes image) (images.bytes image') faults faults' fault → (fault ≡ faulty.Header) ⊎ ((len : ℕ) × (fault ≡ faulty.Length len))
+      → ((bytes : List ℕ) → images.bytes image ≡ Some bytes → StandsFirst kind bytes (Stands drives lies_in images (inserts.Image image' kind))) × (faults' ≡ faults)
+  first_unopened image' faults faults' why refused (inl e) = (λ bytes known. without_header bytes known (subst (IsRefused kind (images.bytes image) (images.bytes image') faults faults') e refused), (subst (IsRefused kind (images.bytes image) (images.bytes image') faults faults') e refused).0.count)
     where
-      without_header : (bytes : List ℕ) → images.bytes image ≡ Some bytes → IsRefused (images.bytes image) (images.bytes image') faults faults' faulty.Header → StandsFirst bytes (Stands drives lies_in images (inserts.Image image'))
+      without_header : (bytes : List ℕ) → images.bytes image ≡ Some bytes → IsRefused kind (images.bytes image) (images.bytes image') faults faults' faulty.Header → StandsFirst kind bytes (Stands drives lies_in images (inserts.Image image' kind))
       without_header bytes known r =
-          let bad : (16 ≤ length bytes) × ((z : Shape) → ¬ HasHeader z bytes) = subst (λ o. IfSome o (λ held. (16 ≤ length held) × ((z : Shape) → ¬ HasHeader z held))) known r.1 in
-          record { state = Unopened bytes; first = (refl, λ shape there. bad.1 shape there.has_header); stands_first = r.0.same ∙ known }
-  first_unopened image' faults faults' why refused (inr other) = (λ bytes known. of_other_length bytes known (subst (IsRefused (images.bytes image) (images.bytes image') faults faults') other.1 refused), (subst (IsRefused (images.bytes image) (images.bytes image') faults faults') other.1 refused).0.count)
+          let bad : (16 ≤ length bytes) × ((z : Shape) → z.layout ≡ kind → ¬ HasHeader z bytes) = subst (λ o. IfSome o (λ held. (16 ≤ length held) × ((z : Shape) → z.layout ≡ kind → ¬ HasHeader z held))) known r.1 in
+          record { state = Unopened (record { kind = kind; bytes = bytes }); kind_is = refl; first = (refl, λ shape same there. bad.1 shape same there.has_header); stands_first = (r.0.same ∙ known, refl) }
+  first_unopened image' faults faults' why refused (inr other) = (λ bytes known. of_other_length bytes known (subst (IsRefused kind (images.bytes image) (images.bytes image') faults faults') other.1 refused), (subst (IsRefused kind (images.bytes image) (images.bytes image') faults faults') other.1 refused).0.count)
     where
       clash : (bytes : List ℕ) (shape : Shape) → other.0 ≡ length bytes → IsDiscImage shape bytes → (other.0 < 16) ⊎ ((z : Shape) × HasHeader z bytes × (other.0 ≢ image_len (total z))) → ⊥
       clash bytes shape long there (inl short) = let whole = there.as_long in omega (arith, long, whole)
       clash bytes shape long there (inr z) = z.2 (long ∙ there.as_long ∙ ap image_len (total_by_header shape z.0 bytes there.has_header z.1))
 
-      of_other_length : (bytes : List ℕ) → images.bytes image ≡ Some bytes → IsRefused (images.bytes image) (images.bytes image') faults faults' (faulty.Length other.0) → StandsFirst bytes (Stands drives lies_in images (inserts.Image image'))
+      of_other_length : (bytes : List ℕ) → images.bytes image ≡ Some bytes → IsRefused kind (images.bytes image) (images.bytes image') faults faults' (faulty.Length other.0) → StandsFirst kind bytes (Stands drives lies_in images (inserts.Image image' kind))
       of_other_length bytes known r =
           let bad : (other.0 ≡ length bytes) × ((other.0 < 16) ⊎ ((z : Shape) × HasHeader z bytes × (other.0 ≢ image_len (total z)))) = subst (λ o. IfSome o (λ held. (other.0 ≡ length held) × ((other.0 < 16) ⊎ ((z : Shape) × HasHeader z held × (other.0 ≢ image_len (total z)))))) known r.1 in
-          record { state = Unopened bytes; first = (refl, λ shape there. clash bytes shape bad.0 there bad.1); stands_first = r.0.same ∙ known }
+          record { state = Unopened (record { kind = kind; bytes = bytes }); kind_is = refl; first = (refl, λ shape same there. clash bytes shape bad.0 there bad.1); stands_first = (r.0.same ∙ known, refl) }

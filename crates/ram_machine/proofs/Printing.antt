@@ -32,4 +32,3 @@ module _ (old new : CacheShown) (before after : Contents → Type 0) (host later
   prints answers.Cut step = (tt, tt)
   prints answers.Off step = (tt, tt)
   prints answers.Fault step = tt
-  prints answers.NoMemory step = tt

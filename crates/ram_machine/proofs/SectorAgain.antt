@@ -1,5 +1,5 @@
 -- The register of a sector when an image that a run handed back was opened again.
-use Rattle.std.specs.Prelude.{◌≡◌, ℕ, ◌-◌, ◌*◌, ◌<◌, Option, None, Some, List, [], ◌∷◌, length, map, slice_index}
+use Rattle.std.specs.Prelude.{◌≡◌, ℕ, ◌*◌, ◌<◌, Option, None, Some, List, [], ◌∷◌, length, map}
 use Rattle.std.specs.List.{All, Contains}
 use Rattle.std.proofs.Common.{arith, refl, sym, ap, ◌∙◌, inl, inr, subst}
 use Rattle.std.proofs.lemmas.List.Elements.{All-head, All-tail}
@@ -17,11 +17,11 @@ use Rattle.model_volume.specs.Covers.{FitsUnder, SomeFit}
 use Rattle.model_volume.specs.Starts.{Found, IsFound}
 use Rattle.model_volume.proofs.GivenFacts.{settled_alone}
 use Rattle.model_drive.specs.Shown.{StandsBy, cells_in}
-use Rattle.model_cache.specs.Values.{Values, Contents, Has, MayHave, HasBlock, IsTaken, AreTaken, plain}
+use Rattle.model_cache.specs.Values.{Values, Contents, Has, MayHave, HasBlock, IsTaken, AreTaken}
 use Rattle.model_cache.specs.Shown.{CacheShown, CacheStandsFor}
 use Rattle.model_cache.proofs.Members.{Contains-none, Contains-first, Contains-later, Contains-cases}
 use Rattle.model_cache.proofs.Falls.{only}
-use Rattle.ram_machine.specs.States.{State, Served, Unopened, Disc, IsLeft, IsFirst}
+use Rattle.ram_machine.specs.States.{State, Served, Unopened, Disc, kind_of, IsLeft, IsFirst}
 use Rattle.ram_machine.specs.Runs.{Run}
 use Rattle.ram_machine.specs.Answered.{AnsweredStep}
 use Rattle.ram_machine.specs.SectorBytes.{bytes_of_sector}
@@ -108,11 +108,11 @@ fits_now at S shown (MayHave all) stood so lists given =
     pick at S shown.drive.shape (cells_in shown.drive) lists all stood.0 stood.2 so (stood.1.2 lists given)
 
 -- the register then, where a lost sector has such bytes
-held_again : (fill at : ℕ) (s t : Served) (left : List ℕ) (r : Register) → Held (filled fill 2048) at s.disc.shown r → left ≡ s.bytes → (first : IsFirst left (Disc t)) → Held (filled fill 2048) at t.disc.shown (reopened r)
-held_again fill at s t left r was is first =
+held_again : (fill at : ℕ) (s t : Served) (left : List ℕ) (r : Register) → Held (filled fill 2048) at s.disc.shown r → left ≡ s.bytes → (first : IsFirst left (Disc t)) → kind_of (Disc t) ≡ kind_of (Disc s) → Held (filled fill 2048) at t.disc.shown (reopened r)
+held_again fill at s t left r was is first kind =
     let image = image_left s left is in
     let shape : Shape = first.0 in
-    let same : shape ≡ s.disc.shown.drive.shape = one_header shape s.disc.shown.drive.shape left (kind_again shape (cells_of (total shape) left) left s t first.2) first.1.has_header image.disc.has_header in
+    let same : shape ≡ s.disc.shown.drive.shape = one_header shape s.disc.shown.drive.shape left (kind_again shape (cells_of (total shape) left) left s t first.2 kind) first.1.has_header image.disc.has_header in
     let cells : List Cell = cells_of (total shape) left in
     let same_cells : cells ≡ cells_in s.disc.shown.drive = ap (λ (z : Shape). cells_of (total z) left) same ∙ image.cells_are in
     let whole = cells_of-whole (total shape) left first.1.as_long in
@@ -127,17 +127,18 @@ held_again fill at s t left r was is first =
     (fits_now at S s.disc.shown was.contents was.stands so lists)))
     opened.all opened.starts.each)
 
-pub again : (at : ℕ) (s t : State) (left : List ℕ) (r : Register) → MatchesState at s r → IsLeft s left → IsFirst left t → MatchesState at t (reopened r)
-again at (Unopened held) (Unopened bytes) left r was is first = λ shape. subst (λ (b : List ℕ). ¬ IsDiscImage shape b) (sym first.0) (first.1 shape)
-again at (Unopened held) (Disc t) left r was is first = absurd (was first.0 (subst (IsDiscImage first.0) is first.1))
-again at (Disc s) (Unopened bytes) left r was is first = absurd (first.1 s.disc.shown.drive.shape (image_left s left is).disc)
-again at (Disc s) (Disc t) left r was is first = record { one = held_again 0 at s t left r was.one is first; other = held_again 1 at s t left r was.other is first }
+pub again : (at : ℕ) (s t : State) (left : List ℕ) (r : Register) → MatchesState at s r → IsLeft s left → IsFirst left t → kind_of t ≡ kind_of s → MatchesState at t (reopened r)
+again at (Unopened held) (Unopened bare) left r was is first kind = λ shape same. subst (λ (b : List ℕ). ¬ IsDiscImage shape b) (sym first.0) (first.1 shape same)
+again at (Unopened held) (Disc t) left r was is first kind =
+    absurd (was first.0 (sym (ap (λ (x : CacheShown). x.drive.shape.layout) first.2.opened.shown_is) ∙ kind) (subst (IsDiscImage first.0) is first.1))
+again at (Disc s) (Unopened bare) left r was is first kind = absurd (first.1 s.disc.shown.drive.shape (sym kind) (image_left s left is).disc)
+again at (Disc s) (Disc t) left r was is first kind = record { one = held_again 0 at s t left r was.one is first kind; other = held_again 1 at s t left r was.other is first kind }
 
 -- two runs, one after another
-pub registers_again : (image left : List ℕ) (s t u v : State) (events later : List AnsweredStep) (at : ℕ) → IsFirst image s → Run s events t → IsLeft t left → IsFirst left u → Run u later v
+pub registers_again : (image left : List ℕ) (s t u v : State) (events later : List AnsweredStep) (at : ℕ) → IsFirst image s → Run s events t → IsLeft t left → IsFirst left u → kind_of u ≡ kind_of t → Run u later v
     → IsRegisterAgain image events later at
-registers_again image left s t u v events later at first run is then_first then_run =
+registers_again image left s t u v events later at first run is then_first kind then_run =
     let opened = opens image at s first in
     let turned = run_turns at s t events opened.register opened.matches run in
-    let then_turned = run_turns at u v later (reopened turned.after) (again at t u left turned.after turned.matches is then_first) then_run in
+    let then_turned = run_turns at u v later (reopened turned.after) (again at t u left turned.after turned.matches is then_first kind) then_run in
     record { first = opened.register; middle = turned.after; last = then_turned.after; opened = opened.opened; turns = turned.rule; then_turns = then_turned.rule }

@@ -1,6 +1,6 @@
 -- What the lines of a run leave of a register, whichever bytes a lost sector has: what a drive shows goes with two of them, and a good
 -- read shows one.
-use Rattle.std.specs.Prelude.{◌≡◌, ℕ, ◌*◌, ◌==◌, ◌⊎◌, Bool, true, false, nat_lt, if◌then◌else◌, MatchBool, Option, None, Some, Result, Ok, Err, List, [], ◌∷◌}
+use Rattle.std.specs.Prelude.{◌≡◌, ℕ, ◌==◌, ◌⊎◌, Bool, true, false, nat_lt, if◌then◌else◌, MatchBool, Option, None, Some, Result, Ok, Err, List, [], ◌∷◌}
 use Rattle.std.specs.List.{Contains}
 use Rattle.std.proofs.Common.{arith, refl, sym, ap, ◌∙◌, inl, inr, subst}
 use Rattle.model_places.specs.Places.{Lists}
@@ -28,10 +28,9 @@ use Rattle.ram_machine.proofs.WrittenDiscs.{SoInBlock, SoInContents}
 use Rattle.ram_machine.specs.Register.{Value, Bytes, Lost, Register, settled, or_else, gone, left_by, left_in, powered, is_midway, goes_through, AfterWrite, AfterFull, AfterRewrite, AfterFormat, AfterGood, AfterOther, AfterCommand, AfterPower, AfterPress, Shows, Turn, synchronised}
 use Rattle.ram_machine.proofs.SectorValues.{now_under, falls_under}
 use Rattle.ram_machine.proofs.SectorFilled.{filled, filled_differ}
-use Rattle.ram_machine.proofs.SectorNow.{now_in}
 use Rattle.ram_machine.proofs.SectorMatching.{Matches, Turned}
 use Rattle.ram_machine.proofs.SectorFormatted.{FullUnder, FormatUnder}
-use Rattle.ram_machine.proofs.SectorCommands.{ShowsUnder, OtherUnder, CommandUnder}
+use Rattle.ram_machine.proofs.SectorCommands.{OtherUnder, CommandUnder}
 use Rattle.ram_machine.proofs.SectorTurns.{TurnUnder}
 
 -- two sectors that differ
@@ -152,14 +151,12 @@ module _ (at : ℕ) (new : CacheShown) (t u : Contents) (stands : CacheStandsFor
     write_both true bytes answers.Cut one other = same (λ a. a ≡ gone (or_else r (Bytes bytes))) (gone (or_else r (Bytes bytes))) refl one other
     write_both true bytes answers.Off one other = same (λ a. a ≡ r) r refl one other
     write_both true bytes answers.Fault one other = same (λ a. a ≡ r) r refl one other
-    write_both true bytes answers.NoMemory one other = same (λ a. a ≡ r) r refl one other
     write_both false bytes answers.Good one other =
         same (λ a. a ≡ or_else (record r { now = Some (Bytes bytes) }) (Bytes bytes)) (or_else (record r { now = Some (Bytes bytes) }) (Bytes bytes)) refl one other
     write_both false bytes (answers.Check why) one other = same (λ a. a ≡ r) r refl one other
     write_both false bytes answers.Cut one other = same (λ a. a ≡ gone r) (gone r) refl one other
     write_both false bytes answers.Off one other = same (λ a. a ≡ r) r refl one other
     write_both false bytes answers.Fault one other = same (λ a. a ≡ r) r refl one other
-    write_both false bytes answers.NoMemory one other = same (λ a. a ≡ r) r refl one other
 
     among_both : (among through : Bool) (bytes : List ℕ) (answer : Answer) → One (λ a. MatchBool among (AfterWrite r through bytes answer a) (a ≡ left_by answer r))
         → Other (λ a. MatchBool among (AfterWrite r through bytes answer a) (a ≡ left_by answer r)) → Both (λ a. MatchBool among (AfterWrite r through bytes answer a) (a ≡ left_by answer r))
@@ -209,7 +206,6 @@ module _ (at : ℕ) (new : CacheShown) (t u : Contents) (stands : CacheStandsFor
     full_both answers.Cut one other = same (λ a. a ≡ gone (or_else r zero)) (gone (or_else r zero)) refl one other
     full_both answers.Off one other = same (λ a. a ≡ r) r refl one other
     full_both answers.Fault one other = same (λ a. a ≡ r) r refl one other
-    full_both answers.NoMemory one other = same (λ a. a ≡ r) r refl one other
 
     left_rewrite : (now : Option Value) (answer : Answer) (after : Register) → after ≡ left_by answer r → AfterRewrite now r answer after
     left_rewrite (Some value) answer after is = is
@@ -237,7 +233,6 @@ module _ (at : ℕ) (new : CacheShown) (t u : Contents) (stands : CacheStandsFor
     read_both lists lba n payload data_in answers.Cut one other = same (λ a. a ≡ gone r) (gone r) refl one other
     read_both lists lba n payload data_in answers.Off one other = same (λ a. a ≡ r) r refl one other
     read_both lists lba n payload data_in answers.Fault one other = same (λ a. a ≡ r) r refl one other
-    read_both lists lba n payload data_in answers.NoMemory one other = same (λ a. a ≡ r) r refl one other
 
     other_both : (asked : Command) (x : Register) (payload data_in : List ℕ) (answer : Answer) → ((a : Register) → AfterGood at r asked payload data_in a → a ≡ x) → AfterGood at r asked payload data_in x
         → One (λ a. AfterOther at r asked payload data_in answer a) → Other (λ a. AfterOther at r asked payload data_in answer a) → Both (λ a. AfterOther at r asked payload data_in answer a)
@@ -247,7 +242,6 @@ module _ (at : ℕ) (new : CacheShown) (t u : Contents) (stands : CacheStandsFor
     other_both asked x payload data_in answers.Cut alone rule one other = same (λ a. a ≡ gone r) (gone r) refl one other
     other_both asked x payload data_in answers.Off alone rule one other = same (λ a. a ≡ r) r refl one other
     other_both asked x payload data_in answers.Fault alone rule one other = same (λ a. a ≡ r) r refl one other
-    other_both asked x payload data_in answers.NoMemory alone rule one other = same (λ a. a ≡ r) r refl one other
 
     refused_both : (answer : Answer) (data_in : List ℕ) → One (λ a. (data_in ≡ []) × (a ≡ left_by answer r)) → Other (λ a. (data_in ≡ []) × (a ≡ left_by answer r)) → Both (λ a. (data_in ≡ []) × (a ≡ left_by answer r))
     refused_both answer data_in one other =

@@ -131,7 +131,6 @@ module _ (lost : List ℕ) (at : ℕ) (old new : CacheShown) (s t : Contents) (r
   quiet_write among through bytes answers.Good quiet = absurd quiet
   quiet_write among through bytes answers.Cut quiet = absurd quiet
   quiet_write among through bytes answers.Fault quiet = absurd quiet
-  quiet_write among through bytes answers.NoMemory quiet = absurd quiet
 
   quiet_full : (answer : Answer) → IsQuiet answer → FullUnder t r answer r
   quiet_full (answers.Check why) quiet = quiet_check (why.asc == 0x31) ((r ≡ gone r) × (t ≡ Has no_values))
@@ -139,7 +138,6 @@ module _ (lost : List ℕ) (at : ℕ) (old new : CacheShown) (s t : Contents) (r
   quiet_full answers.Good quiet = absurd quiet
   quiet_full answers.Cut quiet = absurd quiet
   quiet_full answers.Fault quiet = absurd quiet
-  quiet_full answers.NoMemory quiet = absurd quiet
 
   quiet_left : (answer : Answer) → IsQuiet answer → r ≡ left_by answer r
   quiet_left (answers.Check why) quiet = refl
@@ -147,7 +145,6 @@ module _ (lost : List ℕ) (at : ℕ) (old new : CacheShown) (s t : Contents) (r
   quiet_left answers.Good quiet = absurd quiet
   quiet_left answers.Cut quiet = absurd quiet
   quiet_left answers.Fault quiet = absurd quiet
-  quiet_left answers.NoMemory quiet = absurd quiet
 
   quiet_format : (lists : Option Lists) (kind : Kind) (answer : Answer) → IsQuiet answer → FormatUnder lists t r kind answer r
   quiet_format lists (kinds.Full drop_sdl) answer quiet = quiet_full answer quiet
@@ -160,7 +157,6 @@ module _ (lost : List ℕ) (at : ℕ) (old new : CacheShown) (s t : Contents) (r
   quiet_read lba n payload data_in answers.Good quiet = absurd quiet
   quiet_read lba n payload data_in answers.Cut quiet = absurd quiet
   quiet_read lba n payload data_in answers.Fault quiet = absurd quiet
-  quiet_read lba n payload data_in answers.NoMemory quiet = absurd quiet
 
   quiet_other : (asked : Command) (payload data_in : List ℕ) (answer : Answer) → IsQuiet answer → AfterOther at r asked payload data_in answer r
   quiet_other asked payload data_in (answers.Check why) quiet = refl
@@ -168,7 +164,6 @@ module _ (lost : List ℕ) (at : ℕ) (old new : CacheShown) (s t : Contents) (r
   quiet_other asked payload data_in answers.Good quiet = absurd quiet
   quiet_other asked payload data_in answers.Cut quiet = absurd quiet
   quiet_other asked payload data_in answers.Fault quiet = absurd quiet
-  quiet_other asked payload data_in answers.NoMemory quiet = absurd quiet
 
   quiet_command : (d : Result Command Sense) (payload data_in : List ℕ) (answer : Answer) → IsQuiet answer → data_in ≡ [] → After d payload data_in answer r
   quiet_command (Err why) payload data_in answer quiet none = (none, quiet_left answer quiet)
@@ -214,7 +209,6 @@ module _ (lost : List ℕ) (at : ℕ) (old new : CacheShown) (s t : Contents) (r
   other_left asked payload data_in answers.Cut bad after is = is
   other_left asked payload data_in answers.Off bad after is = is
   other_left asked payload data_in answers.Fault bad after is = is
-  other_left asked payload data_in answers.NoMemory bad after is = is
 
   -- a read
   shows : (lba n : ℕ) (v : Values) (data_in : List ℕ) → CacheStandsFor old (Has v) → now_under lost r.now ≡ now_of at v.disc → CacheReadCause old new lba n reads.Good → data_in ≡ sectors_of v.disc lba n → ShowsUnder lost at old.drive.lists t r lba n data_in
@@ -307,7 +301,6 @@ module _ (lost : List ℕ) (at : ℕ) (old new : CacheShown) (s t : Contents) (r
   expand_by sectors payload data_in answers.Cut printed mode now so = goes lost at old new s t r was mode now so
   expand_by sectors payload data_in answers.Off printed mode now so = stays lost at old new s t r was mode now so
   expand_by sectors payload data_in answers.Fault printed mode now so = absurd printed
-  expand_by sectors payload data_in answers.NoMemory printed mode now so = absurd printed
 
   expand_turn : (sectors : ℕ) (payload data_in : List ℕ) (answer : Answer) → IsPrinted answer → IsExpanded old new (λ x. x ≡ s) (λ x. x ≡ t) sectors answer data_in
       → To (λ after. AfterOther at r (commands.Expand sectors) payload data_in answer after)
@@ -408,7 +401,6 @@ module _ (lost : List ℕ) (at : ℕ) (old new : CacheShown) (s t : Contents) (r
       verified answers.Cut after is = is
       verified answers.Off after is = is
       verified answers.Fault after is = is
-      verified answers.NoMemory after is = is
 
   done_turn : (host : Host) (payload data_in : List ℕ) (command : Command) (answer : Answer) → IsPrinted answer → HasItsData payload command → IsDone old new (λ x. x ≡ s) (λ x. x ≡ t) host payload command answer data_in
       → To (λ after. After (Ok command) payload data_in answer after)

@@ -10,7 +10,6 @@ use Rattle.model_medium.specs.Cells.{Cell, Blank, Good, Torn, Dead, cell_at, Are
 use Rattle.model_sectors.specs.Discs.{Standing, Agrees, block_of}
 use Rattle.model_sectors.proofs.Fitting.{length_pieces, piece_at}
 use Rattle.model_places.specs.Places.{Lists, logical_count, home_of}
-use Rattle.model_volume.specs.Given.{IsGiven}
 use Rattle.model_volume.specs.Starts.{Found, IsDiscStart, homes_under}
 use Rattle.model_volume.specs.Covers.{FitsUnder, SomeFit, Cover}
 

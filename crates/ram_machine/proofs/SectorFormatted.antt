@@ -132,7 +132,6 @@ module _ (lost : List ℕ) (at : ℕ) (old new : CacheShown) (t : Contents) (r :
     full_turn before later formats.Cut printed (inr (inr step)) = off_two no_values (settled_values (zero_disc before.shape)) none_so (zero_so before.shape Either (Contains-first zero (falls_under lost r.falls))) step
     full_turn before later formats.Off printed step = absurd step
     full_turn before later formats.Fault printed step = absurd printed
-    full_turn before later formats.NoMemory printed step = absurd printed
 
     rewrite_turn : (out : FormatOut) → IsPrinted (format_answer out) → RewriteStep (λ u. lifted v.older u ≡ t) v.disc out → Turned lost at new t (λ after. after ≡ left_by (format_answer out) r)
     rewrite_turn formats.Good printed step = still step
@@ -142,7 +141,6 @@ module _ (lost : List ℕ) (at : ℕ) (old new : CacheShown) (t : Contents) (r :
     rewrite_turn formats.Fault printed step = absurd printed
     rewrite_turn (formats.TooMany found) printed step = absurd step
     rewrite_turn formats.Off printed step = absurd step
-    rewrite_turn formats.NoMemory printed step = absurd step
 
     by_lists : (before later : Shown) (lists : Option Lists) (kind : Kind) (out : FormatOut) → IsPrinted (format_answer out) → FormatValues (λ x. x ≡ t) v before later lists kind out
         → Turned lost at new t (λ after. FormatUnder lists t r kind (format_answer out) after)
@@ -167,4 +165,3 @@ module _ (lost : List ℕ) (at : ℕ) (old new : CacheShown) (t : Contents) (r :
   format_turn (MayHave all) kind (formats.NoUpdate counter) stood was printed step = absurd step
   format_turn (MayHave all) kind formats.Cut stood was printed step = absurd step
   format_turn (MayHave all) kind formats.Fault stood was printed step = absurd step
-  format_turn (MayHave all) kind formats.NoMemory stood was printed step = absurd step

@@ -60,4 +60,3 @@ module _ (lost : List ℕ) (at : ℕ) (old new : CacheShown) (s t : Contents) (r
   leaves answers.Cut printed none so = goes none so
   leaves answers.Off printed same so = stays same so
   leaves answers.Fault printed same so = absurd printed
-  leaves answers.NoMemory printed same so = absurd printed

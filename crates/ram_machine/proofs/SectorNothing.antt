@@ -92,7 +92,6 @@ module _ (at : ℕ) where
   by_answer choices r (answers.Check why) has = has
   by_answer choices r answers.Off has = has
   by_answer choices r answers.Fault has = has
-  by_answer choices r answers.NoMemory has = has
 
   left : (choices : List (List ℕ)) (r after : Register) (answer : Answer) → after ≡ left_by answer r → Among r choices → Among after choices
   left choices r after answer is has = carried choices (left_by answer r) after is (by_answer choices r answer has)
@@ -148,7 +147,6 @@ module _ (at : ℕ) where
       carried choices (gone (or_else r (Bytes (zeros 2048)))) after is (is_gone choices (or_else r (Bytes (zeros 2048))) (is_or_else choices r (Bytes (zeros 2048)) has.zero has))
   by_full choices r after answers.Off is has = carried choices r after is has
   by_full choices r after answers.Fault is has = carried choices r after is has
-  by_full choices r after answers.NoMemory is has = carried choices r after is has
 
   by_rewrite : (choices : List (List ℕ)) (now : Option Value) (r after : Register) (answer : Answer) → AfterRewrite now r answer after → Among r choices → Among after choices
   by_rewrite choices (Some value) r after answer is has = left choices r after answer is has
@@ -176,10 +174,8 @@ module _ (at : ℕ) where
   by_write choices false r after bytes answers.Cut is there has = carried choices (gone r) after is (is_gone choices r has)
   by_write choices true r after bytes answers.Off is there has = carried choices r after is has
   by_write choices true r after bytes answers.Fault is there has = carried choices r after is has
-  by_write choices true r after bytes answers.NoMemory is there has = carried choices r after is has
   by_write choices false r after bytes answers.Off is there has = carried choices r after is has
   by_write choices false r after bytes answers.Fault is there has = carried choices r after is has
-  by_write choices false r after bytes answers.NoMemory is there has = carried choices r after is has
 
   by_among : (choices : List (List ℕ)) (among through : Bool) (r after : Register) (bytes : List ℕ) (answer : Answer) → MatchBool among (AfterWrite r through bytes answer after) (after ≡ left_by answer r) → Among r choices
       → Among after (if among then bytes ∷ choices else choices)
@@ -209,7 +205,6 @@ module _ (at : ℕ) where
   by_other choices r after asked payload data_in answers.Cut is has = carried choices (gone r) after is (is_gone choices r has)
   by_other choices r after asked payload data_in answers.Off is has = carried choices r after is has
   by_other choices r after asked payload data_in answers.Fault is has = carried choices r after is has
-  by_other choices r after asked payload data_in answers.NoMemory is has = carried choices r after is has
 
   by_command : (choices : List (List ℕ)) (r after : Register) (d : Result Command Sense) (payload data_in : List ℕ) (answer : Answer) → AfterCommand at r d payload data_in answer after → Among r choices
       → Among after (choices_asked at d payload choices)

@@ -68,7 +68,6 @@ module _ (at : ℕ) where
   abbrev pub Stays : Answer → Contents → Contents → Type 0
   Stays answers.Cut s t = now_in at t ≡ None
   Stays answers.Fault s t = Unit {0}
-  Stays answers.NoMemory s t = Unit {0}
   Stays _ s t = now_in at t ≡ now_in at s
 
   -- these are what is there now

@@ -170,7 +170,7 @@ pub opens : (image : List ℕ) (at : ℕ) (s : State) → IsFirst image s → Op
 opens image at (Unopened held) is = record {
   register = record { now = None; falls = []; caches = false };
   opened = record { off = refl; held = λ value has. absurd (Contains-none value has); uncached = refl };
-  matches = λ shape. subst (λ (b : List ℕ). ¬ IsDiscImage shape b) (sym is.0) (is.1 shape);
+  matches = λ shape same. subst (λ (b : List ℕ). ¬ IsDiscImage shape b) (sym is.0) (is.1 shape same);
 }
 opens image at (Disc s) is =
     let shape : Shape = is.0 in

@@ -6,7 +6,7 @@ use Rattle.std.proofs.Common.{arith, refl, sym, ap, ◌∙◌, inl, inr, subst}
 use Rattle.std.proofs.lemmas.Bool.{cases_lt}
 use Rattle.std.proofs.lemmas.List.Elements.{All-nil}
 use Rattle.std.proofs.lemmas.List.{get_or-replicate, get_or_past, length-replicate}
-use Rattle.model_geometry.specs.Geometry.{Shape, shape_of, total, dds_block}
+use Rattle.model_geometry.specs.Geometry.{Shape, shape_in, total, dds_block}
 use Rattle.model_medium.specs.Cells.{Cell, Blank, Dead, cell_at}
 use Rattle.model_copies.specs.Copies.{Holds}
 use Rattle.model_lists.specs.Texts.{IsDdsText}
@@ -24,7 +24,7 @@ use Rattle.ram_text.specs.declared.script.Line.TheVariants as lines
 use Rattle.ram_machine.specs.declared.reply.Reply.{Reply}
 use Rattle.ram_machine.specs.declared.reply.Reply.TheVariants as replies
 use Rattle.ram_machine.specs.declared.stopped.Stopped.TheVariants as stopped
-use Rattle.ram_machine.specs.States.{State, Served, Unopened, Disc, IsPressedDisc}
+use Rattle.ram_machine.specs.States.{State, Served, Unopened, Disc, kind_of, IsPressedDisc}
 use Rattle.ram_machine.specs.LineSteps.{PressStep, LeadsOn, OnDisc, Step}
 use Rattle.ram_machine.specs.Runs.{Run}
 use Rattle.ram_machine.specs.Answered.{AnsweredStep}
@@ -38,7 +38,7 @@ use Rattle.ram_machine.proofs.SectorBoth.{one_lost, other_lost, Held, HeldBoth, 
 
 -- the register is that of a state
 abbrev pub MatchesState : (at : ℕ) → State → Register → Type 0
-MatchesState at (Unopened image) r = (shape : Shape) → ¬ IsDiscImage shape image
+MatchesState at (Unopened image) r = (shape : Shape) → shape.layout ≡ image.kind → ¬ IsDiscImage shape image.bytes
 MatchesState at (Disc s) r = HeldBoth at s.disc.shown r
 
 -- a line turns it, and it is that of the state then
@@ -134,7 +134,7 @@ module _ (at : ℕ) (r : Register) where
   pub step_turn : (s t : State) (line : Line) (payload data_in : List ℕ) (reply : Reply) → MatchesState at s r → Step s line payload (Ok reply) data_in t → TurnedTo at t (λ after. Turn at r line payload reply data_in after)
   step_turn s t lines.Empty payload data_in reply was step = record { after = r; rule = (step.1, empty_left reply step.0); matches = subst (λ (x : State). MatchesState at x r) (sym step.2) was }
   step_turn s t (lines.Press zones scale psa) payload data_in reply was step =
-      let turned = press_turn s t (shape_of zones scale psa) reply step.0 was in record { after = turned.after; rule = (step.1, turned.rule); matches = turned.matches }
+      let turned = press_turn s t (shape_in (kind_of s) zones scale psa) reply step.0 was in record { after = turned.after; rule = (step.1, turned.rule); matches = turned.matches }
   step_turn s t lines.Power payload data_in reply was step = other_turn s t lines.Power payload data_in reply was step
   step_turn s t (lines.Fail block) payload data_in reply was step = other_turn s t (lines.Fail block) payload data_in reply was step
   step_turn s t (lines.Wear block n) payload data_in reply was step = other_turn s t (lines.Wear block n) payload data_in reply was step

@@ -38,7 +38,6 @@ module _ (at : ℕ) (bytes : List ℕ) where
   by_answer r (answers.Check why) has = has
   by_answer r answers.Off has = has
   by_answer r answers.Fault has = has
-  by_answer r answers.NoMemory has = has
 
   by_reply : (r : Register) (reply : Reply) → Has r → Has (left_in reply r)
   by_reply r replies.Nothing has = has
@@ -103,7 +102,6 @@ module _ (at : ℕ) (bytes : List ℕ) where
   by_other r after asked payload data_in answers.Cut is has = carried (gone r) after is (is_gone r has)
   by_other r after asked payload data_in answers.Off is has = carried r after is has
   by_other r after asked payload data_in answers.Fault is has = carried r after is has
-  by_other r after asked payload data_in answers.NoMemory is has = carried r after is has
 
   and_false : (b : Bool) → (b && false) ≡ false
   and_false true = refl

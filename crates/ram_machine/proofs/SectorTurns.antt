@@ -56,7 +56,6 @@ printed_reply cdb reply (answers.Check why) is = (tt, let same : reply ≡ repli
 printed_reply cdb reply answers.Cut is = (tt, let same : reply ≡ replies.Command cdb answers.Cut = cc in same)
 printed_reply cdb reply answers.Off is = (tt, let same : reply ≡ replies.Command cdb answers.Off = cc in same)
 printed_reply cdb reply answers.Fault is = absurd cc
-printed_reply cdb reply answers.NoMemory is = absurd cc
 
 -- what a line leaves of a register, where a lost sector has these bytes
 abbrev pub TurnUnder : (lost : List ℕ) (at : ℕ) → Option Lists → (t : Contents) → Register → Line → (payload : List ℕ) → Reply → (data_in : List ℕ) → Register → Type 0
@@ -128,7 +127,6 @@ module _ (lost : List ℕ) (at : ℕ) (old new : CacheShown) (s t : Contents) (r
       subst (λ (x : Reply). To (λ after. AfterPower at r x after)) (let same : replies.Event events.Cut ≡ reply = cc in same)
       (off_now off (sym (ap (now_in at) step)) (power_falls (SoInBlock (Contains (falls_under lost r.falls)) at) (block_with at) new.drive s t powers.Cut step was.falls))
   power_turn reply powers.Fault is off cause whole step = absurd cc
-  power_turn reply powers.NoMemory is off cause whole step = absurd cc
 
   -- ---- lines that leave the sector
   event_stays : (reply : Reply) → SameMode old new → s ≡ t → ¬ (reply ≡ replies.Event events.Cut) → To (λ after. after ≡ left_in reply r)

@@ -1,7 +1,7 @@
 -- What a lost sector has is not known: proofs say of it that it has some bytes, whichever these are.
 use Rattle.std.specs.Prelude.{◌≡◌, ℕ, Option, None, Some, List, [], ◌∷◌}
 use Rattle.std.specs.List.{Contains}
-use Rattle.std.proofs.Common.{refl, sym, ap, inl, inr, subst}
+use Rattle.std.proofs.Common.{inl, inr, subst}
 use Rattle.model_cache.proofs.Members.{Contains-none, Contains-first, Contains-later, Contains-cases}
 use Rattle.ram_machine.specs.Register.{Value, Bytes, Lost}
 

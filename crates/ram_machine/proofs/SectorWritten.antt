@@ -119,7 +119,6 @@ module _ (at : ℕ) (new_bytes : List ℕ) (falls : List (List ℕ)) (s t : Cont
   WroteThrough answers.Cut = IsOff (new_bytes ∷ falls)
   WroteThrough answers.Off = IsLeft
   WroteThrough answers.Fault = Unit {0}
-  WroteThrough answers.NoMemory = Unit {0}
 
   abbrev WroteInto : Answer → Type 0
   WroteInto answers.Good = (now_in at t ≡ Some new_bytes) × SoInContents (Contains (new_bytes ∷ falls)) at t
@@ -127,7 +126,6 @@ module _ (at : ℕ) (new_bytes : List ℕ) (falls : List (List ℕ)) (s t : Cont
   WroteInto answers.Cut = IsOff falls
   WroteInto answers.Off = IsLeft
   WroteInto answers.Fault = Unit {0}
-  WroteInto answers.NoMemory = Unit {0}
 
 module _ (at lba n : ℕ) (payload : List ℕ) (whole : length payload ≡ 2048 * n) (among : IsAmong lba n at) (old new : CacheShown) (t : Contents) (falls : List (List ℕ)) where
   abbrev bytes : List ℕ
@@ -227,7 +225,6 @@ module _ (lost : List ℕ) (at : ℕ) (old new : CacheShown) (s t : Contents) (r
   turned_through answers.Cut printed (none, so) = goes_or_else lost at old new s t r was mode (Bytes bytes) none so
   turned_through answers.Off printed (same, so) = stays lost at old new s t r was mode same so
   turned_through answers.Fault printed p = absurd printed
-  turned_through answers.NoMemory printed p = absurd printed
 
   turned_into : (answer : Answer) → IsPrinted answer → WroteInto at bytes (falls_under lost r.falls) s t answer → To false answer
   turned_into answers.Good printed (is, so) = record {
@@ -239,7 +236,6 @@ module _ (lost : List ℕ) (at : ℕ) (old new : CacheShown) (s t : Contents) (r
   turned_into answers.Cut printed (none, so) = goes lost at old new s t r was mode none so
   turned_into answers.Off printed (same, so) = stays lost at old new s t r was mode same so
   turned_into answers.Fault printed p = absurd printed
-  turned_into answers.NoMemory printed p = absurd printed
 
 -- a write that covers the sector
 module _ (lost : List ℕ) (at lba n : ℕ) (payload : List ℕ) (whole : length payload ≡ 2048 * n) (among : IsAmong lba n at) (old new : CacheShown) (t : Contents) (r : Register) where

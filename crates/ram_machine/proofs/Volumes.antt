@@ -8,7 +8,7 @@ use Rattle.model_cache.specs.Shown.{CacheShown}
 use Rattle.model_cache.specs.Values.{Contents, Has, MayHave, StandsCached}
 use Rattle.ram_medium.specs.declared.control.FailEnd.{FailEnd}
 use Rattle.ram_medium.specs.declared.control.FailEnd.TheVariants as fails
-use Rattle.ram_volume.specs.Control.{FailStands}
+use Rattle.ram_states.specs.Control.{FailStands}
 use Rattle.ram_machine.specs.Control.{contents_after_fail}
 
 module _ (old new : Shown) (pending : List (ℕ × List ℕ)) where

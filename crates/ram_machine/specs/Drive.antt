@@ -1,6 +1,6 @@
 -- What a drive is that the lines of a script work with, beside its disc. For the trait of drives.
 use Rattle.std.specs.Prelude.{◌≡◌, ℕ, false, Option, Some, MatchOption, List}
-use Rattle.model_geometry.specs.declared.kinds.LayoutKind.TheVariants.{OneGroup}
+use Rattle.model_geometry.specs.declared.kinds.LayoutKind.{LayoutKind}
 use Rattle.model_geometry.specs.Geometry.{Shape, IsLawful, label_of, total}
 use Rattle.model_medium.specs.World.{World}
 use Rattle.model_image.specs.Cells.{cells_of}
@@ -12,11 +12,11 @@ use Rattle.model_target.specs.declared.host.Host.{Host}
 use Rattle.model_target.specs.Host.{powered_on}
 use Rattle.ram_machine.specs.Underwent.{UnderwentEvents}
 
--- An image of these bytes was opened: they are the image of a disc with one group of spares, in whose state the drive is. (This
+-- An image of these bytes was opened: they are the image of a disc with a layout of this kind, in whose state the drive is. (This
 -- project's own, as all here.)
-pub record IsOpenedBy (bytes : List ℕ) (shown : CacheShown) (stands : Contents → Type 0) : Type 0 where
+pub record IsOpenedBy (kind : LayoutKind) (bytes : List ℕ) (shown : CacheShown) (stands : Contents → Type 0) : Type 0 where
   pub shape : Shape
-  pub one : shape.layout ≡ OneGroup
+  pub kind_is : shape.layout ≡ kind
   pub image : IsDiscImage shape bytes
   pub disc : CacheLoaded
   pub opened : IsCacheOpenedOn shape (cells_of (total shape) bytes) disc
@@ -25,16 +25,16 @@ pub record IsOpenedBy (bytes : List ℕ) (shown : CacheShown) (stands : Contents
 
 -- An image that has failed so often was opened as a disc, where its bytes are known, and it did not fail. The drive lies in
 -- the same bytes.
-pub record OpensDrive (image : Option (List ℕ)) (faults : ℕ) (shown : CacheShown) (stands : Contents → Type 0)
+pub record OpensDrive (kind : LayoutKind) (image : Option (List ℕ)) (faults : ℕ) (shown : CacheShown) (stands : Contents → Type 0)
     (image' : Option (List ℕ)) : Type 0 where
-  pub opened : (bytes : List ℕ) → image ≡ Some bytes → IsOpenedBy bytes shown stands
+  pub opened : (bytes : List ℕ) → image ≡ Some bytes → IsOpenedBy kind bytes shown stands
   pub same_bytes : image' ≡ image
   pub count : shown.drive.medium.world.faults ≡ faults
 
 -- The same, with what is remembered for a host when the power just came on.
-pub record IsInsertedTarget (image : Option (List ℕ)) (faults : ℕ) (shown : CacheShown) (stands : Contents → Type 0)
+pub record IsInsertedTarget (kind : LayoutKind) (image : Option (List ℕ)) (faults : ℕ) (shown : CacheShown) (stands : Contents → Type 0)
     (image' : Option (List ℕ)) (host : Host) : Type 0 where
-  pub opens : OpensDrive image faults shown stands image'
+  pub opens : OpensDrive kind image faults shown stands image'
   pub host_is : host ≡ powered_on
 
 -- The bytes that a medium lies in have its cells, where these are known, and are the image of a disc of each lawful geometry that its

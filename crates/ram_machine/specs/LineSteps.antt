@@ -1,6 +1,6 @@
 -- What one line does: the steps between the states of a run. For the run of a script, and the code that answers a line.
 use Rattle.std.specs.Prelude.{◌≡◌, ℕ, ◌≤◌, ◌⊎◌, Ok, Err, Option, Some, List, []}
-use Rattle.model_geometry.specs.Geometry.{Shape, IsLawful, shape_of, total}
+use Rattle.model_geometry.specs.Geometry.{Shape, IsLawful, shape_in, total}
 use Rattle.model_medium.specs.declared.Fate.{Fate}
 use Rattle.model_sectors.specs.declared.PowerOut.{PowerOut}
 use Rattle.model_drive.specs.Shown.{Shown}
@@ -17,7 +17,7 @@ use Rattle.ram_medium.specs.declared.control.FailEnd.{FailEnd}
 use Rattle.ram_medium.specs.declared.control.Arm.{Arm}
 use Rattle.model_sense.specs.declared.answer.Answer.{Answer}
 use Rattle.ram_report.specs.declared.printing.Event.TheVariants as events
-use Rattle.ram_volume.specs.Control.{KeepsMemory, FailOnDrive}
+use Rattle.ram_states.specs.Control.{KeepsMemory, FailOnDrive}
 use Rattle.ram_text.specs.declared.script.Line.{Line}
 use Rattle.ram_text.specs.declared.script.Line.TheVariants as lines
 use Rattle.ram_machine.specs.declared.reply.Reply.TheVariants as replies
@@ -25,7 +25,7 @@ use Rattle.ram_machine.specs.declared.stopped.Stopped.TheVariants as stopped
 use Rattle.ram_machine.specs.Control.{contents_after_fail}
 use Rattle.ram_machine.specs.Replies.{Outcome, event, power_outcome, fail_outcome, wear_outcome, tick_outcome, command_outcome}
 use Rattle.ram_machine.specs.Underwent.{UnderwentEvents}
-use Rattle.ram_machine.specs.States.{Served, State, Unopened, Disc, IsPressedDisc, IsPressedUnopened, IsHalfPressed}
+use Rattle.ram_machine.specs.States.{Served, State, Unopened, Disc, IsPressedDisc, IsPressedUnopened, IsHalfPressed, kind_of}
 
 -- an arm or a cut that the line sets falls at a use from the next one on (this project's own, as all here)
 abbrev pub CountsUses : Line → Type 0
@@ -137,14 +137,14 @@ pub record DiscStep (s t : Served) (line : Line) (payload : List ℕ) (outcome :
 
 -- the same in any state: without a disc the line cannot be answered
 abbrev pub OnDisc : State → Line → List ℕ → Outcome → List ℕ → State → Type 0
-OnDisc (Unopened bytes) line payload outcome data_in t =
-    (outcome ≡ Err stopped.NotADisc) × (data_in ≡ []) × (t ≡ Unopened bytes)
-OnDisc (Disc s) line payload outcome data_in (Unopened bytes) = ⊥
+OnDisc (Unopened image) line payload outcome data_in t =
+    (outcome ≡ Err stopped.NotADisc) × (data_in ≡ []) × (t ≡ Unopened image)
+OnDisc (Disc s) line payload outcome data_in (Unopened image) = ⊥
 OnDisc (Disc s) line payload outcome data_in (Disc t) = DiscStep s t line payload outcome data_in
 
 -- From s a line with these data may have this outcome, give these data, and leave t.
 abbrev pub Step : State → Line → List ℕ → Outcome → List ℕ → State → Type 0
 Step s lines.Empty payload outcome data_in t = (outcome ≡ Ok replies.Nothing) × (data_in ≡ []) × (t ≡ s)
 Step s (lines.Press zones scale psa) payload outcome data_in t =
-    PressStep s (shape_of zones scale psa) outcome t × (data_in ≡ [])
+    PressStep s (shape_in (kind_of s) zones scale psa) outcome t × (data_in ≡ [])
 Step s line payload outcome data_in t = OnDisc s line payload outcome data_in t

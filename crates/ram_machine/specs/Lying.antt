@@ -20,10 +20,10 @@ use Rattle.ram_medium.specs.Laws.{machine_shown}
 use Rattle.ram_medium.specs.declared.blocks.Medium.{Ghosts}
 use Rattle.ram_medium.specs.declared.control.MediumControl.{Ghosts as ControlGhosts}
 use Rattle.ram_volume.specs.Drives.{shown_by, medium_by}
-use Rattle.ram_volume.specs.Shown.{medium_under}
+use Rattle.ram_states.specs.Shown.{medium_under}
 use Rattle.ram_volume.specs.Volume.{state_in, shown_in}
-use Rattle.ram_volume.specs.declared.states.State.{State as VolumeState}
-use Rattle.ram_volume.specs.declared.states.State.TheVariants as states
+use Rattle.ram_states.specs.declared.states.State.{State as VolumeState}
+use Rattle.ram_states.specs.declared.states.State.TheVariants as states
 use Rattle.ram_volume.specs.declared.volume.Volume.{Volume}
 use Rattle.ram_machine.specs.Underwent.{InImage, DoesInImage, UnderwentEvents}
 use Rattle.ram_machine.specs.Drive.{HasCells}

@@ -2,7 +2,8 @@
 -- here speaks of a cache but how such a state is shown by a drive whose cache is off. For the law of runs in which the cache
 -- stays off. (This project's own, as all here.)
 use Rattle.std.specs.Prelude.{◌≡◌, ℕ, ◌⊎◌, Ok, Err, Some, List, [], ◌∷◌}
-use Rattle.model_geometry.specs.Geometry.{Shape, IsLawful, shape_of, total}
+use Rattle.model_geometry.specs.declared.kinds.LayoutKind.{LayoutKind}
+use Rattle.model_geometry.specs.Geometry.{Shape, IsLawful, shape_in, total}
 use Rattle.model_medium.specs.Cells.{Cell}
 use Rattle.model_medium.specs.declared.Fate.{Fate}
 use Rattle.model_image.specs.Cells.{cells_of}
@@ -22,14 +23,14 @@ use Rattle.ram_medium.specs.Control.{WearRule, with_armed_cut}
 use Rattle.ram_medium.specs.declared.control.FailEnd.{FailEnd}
 use Rattle.ram_medium.specs.declared.control.FailEnd.TheVariants as fails
 use Rattle.ram_medium.specs.declared.control.Arm.{Arm}
-use Rattle.ram_volume.specs.Control.{KeepsMemory, FailOnDrive}
+use Rattle.ram_states.specs.Control.{KeepsMemory, FailOnDrive}
 use Rattle.ram_report.specs.declared.printing.Event.TheVariants as events
 use Rattle.ram_text.specs.declared.script.Line.{Line}
 use Rattle.ram_text.specs.declared.script.Line.TheVariants as lines
 use Rattle.ram_machine.specs.declared.reply.Reply.TheVariants as replies
 use Rattle.ram_machine.specs.declared.stopped.Stopped.TheVariants as stopped
 use Rattle.ram_machine.specs.Replies.{Outcome, event, power_outcome, fail_outcome, wear_outcome, tick_outcome, command_outcome}
-use Rattle.ram_machine.specs.States.{State, Served, Unopened, Disc, IsLabelled}
+use Rattle.ram_machine.specs.States.{BareImage, State, Served, Unopened, Disc, IsLabelled}
 use Rattle.ram_machine.specs.LineSteps.{LineBytes}
 use Rattle.ram_machine.specs.Answered.{AnsweredStep}
 use Rattle.ram_machine.specs.PlainCommands.{PlainCommand}
@@ -45,14 +46,19 @@ pub record PlainServed : Type 0 where
   pub bytes : List ℕ
   pub image : IsImageOf disc.shown.shape (cells_in disc.shown) bytes
 
--- What lies in such a drive: an image of these bytes that was not opened as a disc, or a disc.
+-- What lies in such a drive: an image that was not opened as a disc, or a disc.
 pub data PlainState : Type 0 where
-  PlainImage : List ℕ → PlainState
+  PlainImage : BareImage → PlainState
   PlainDisc : PlainServed → PlainState
+
+-- the kind of the layout that the run's discs have
+abbrev pub plain_kind : PlainState → LayoutKind
+plain_kind (PlainImage image) = image.kind
+plain_kind (PlainDisc p) = p.disc.shown.shape.layout
 
 -- an image that is left in this state
 abbrev pub IsPlainlyLeft : PlainState → List ℕ → Type 0
-IsPlainlyLeft (PlainImage first) bytes = bytes ≡ first
+IsPlainlyLeft (PlainImage image) bytes = bytes ≡ image.bytes
 IsPlainlyLeft (PlainDisc p) bytes = bytes ≡ p.bytes
 
 -- a disc of this geometry with these cells, in an image of these bytes, was just inserted
@@ -63,7 +69,8 @@ pub record IsPlainlyInserted (shape : Shape) (cells : List Cell) (bytes : List �
 
 -- what a run over an image of these bytes begins with
 abbrev pub IsPlainlyFirst : List ℕ → PlainState → Type 0
-IsPlainlyFirst bytes (PlainImage held) = (held ≡ bytes) × ((shape : Shape) → ¬ IsDiscImage shape bytes)
+IsPlainlyFirst bytes (PlainImage image) =
+    (image.bytes ≡ bytes) × ((shape : Shape) → shape.layout ≡ image.kind → ¬ IsDiscImage shape bytes)
 IsPlainlyFirst bytes (PlainDisc p) =
     (shape : Shape) × IsDiscImage shape bytes × IsPlainlyInserted shape (cells_of (total shape) bytes) bytes p
 
@@ -77,8 +84,8 @@ pub record IsServedPlainly (s : Served) (p : PlainServed) : Type 0 where
 
 -- the same of any state; an image that was not opened is the same one
 abbrev pub IsInPlainly : State → PlainState → Type 0
-IsInPlainly (Unopened bytes) (PlainImage held) = bytes ≡ held
-IsInPlainly (Unopened bytes) (PlainDisc p) = ⊥
+IsInPlainly (Unopened image) (PlainImage held) = image ≡ held
+IsInPlainly (Unopened image) (PlainDisc p) = ⊥
 IsInPlainly (Disc s) (PlainImage held) = ⊥
 IsInPlainly (Disc s) (PlainDisc p) = IsServedPlainly s p
 
@@ -159,39 +166,44 @@ pub record PlainDiscStep (p q : PlainServed) (line : Line) (payload : List ℕ) 
 
 -- the same in any state: without a disc the line cannot be answered
 abbrev pub OnPlainDisc : PlainState → Line → List ℕ → Outcome → List ℕ → PlainState → Type 0
-OnPlainDisc (PlainImage bytes) line payload outcome data_in q =
-    (outcome ≡ Err stopped.NotADisc) × (data_in ≡ []) × (q ≡ PlainImage bytes)
-OnPlainDisc (PlainDisc p) line payload outcome data_in (PlainImage bytes) = ⊥
+OnPlainDisc (PlainImage image) line payload outcome data_in q =
+    (outcome ≡ Err stopped.NotADisc) × (data_in ≡ []) × (q ≡ PlainImage image)
+OnPlainDisc (PlainDisc p) line payload outcome data_in (PlainImage image) = ⊥
 OnPlainDisc (PlainDisc p) line payload outcome data_in (PlainDisc q) = PlainDiscStep p q line payload outcome data_in
 
 -- a disc of this geometry was pressed, and inserted
 abbrev pub IsPlainlyPressed : Shape → PlainState → Type 0
-IsPlainlyPressed shape (PlainImage bytes) = ⊥
+IsPlainlyPressed shape (PlainImage image) = ⊥
 IsPlainlyPressed shape (PlainDisc p) = IsPlainlyInserted shape (blank_cells shape) (pressed_image shape) p
 
 -- an image that was not opened, which is this
-abbrev pub IsUnopenedPlainly : (List ℕ → Type 0) → PlainState → Type 0
-IsUnopenedPlainly is (PlainImage bytes) = is bytes
+abbrev pub IsUnopenedPlainly : (BareImage → Type 0) → PlainState → Type 0
+IsUnopenedPlainly is (PlainImage image) = is image
 IsUnopenedPlainly is (PlainDisc p) = ⊥
 
 -- what a press that the image stopped leaves
-abbrev pub IsHalfPlainly : PlainState → List ℕ → Type 0
-IsHalfPlainly p bytes = (before : List ℕ) × IsPlainlyLeft p before × IsStoppedPress before bytes
+abbrev pub IsHalfPlainly : PlainState → BareImage → Type 0
+IsHalfPlainly p image =
+    (before : List ℕ) × IsPlainlyLeft p before × IsStoppedPress before image.bytes × (image.kind ≡ plain_kind p)
+
+-- the image of a disc of this geometry, with blank cells, that was not opened
+abbrev pub IsUnopenedPress : Shape → BareImage → Type 0
+IsUnopenedPress shape image = IsImageOf shape (blank_cells shape) image.bytes × (image.kind ≡ shape.layout)
 
 -- What became of a press of this geometry.
 abbrev pub PlainPress : PlainState → Shape → Outcome → PlainState → Type 0
 PlainPress p shape (Ok (replies.Event events.Pressed)) q = IsLawful shape × IsPlainlyPressed shape q
 PlainPress p shape (Ok (replies.Event events.NotPressed)) q = ¬ IsLawful shape × (q ≡ p)
 PlainPress p shape (Err stopped.ImageFault) q = IsLawful shape
-    × (IsUnopenedPlainly (IsHalfPlainly p) q ⊎ IsUnopenedPlainly (IsImageOf shape (blank_cells shape)) q)
-PlainPress p shape (Err stopped.NoMemory) q = IsLawful shape × IsUnopenedPlainly (IsImageOf shape (blank_cells shape)) q
+    × (IsUnopenedPlainly (IsHalfPlainly p) q ⊎ IsUnopenedPlainly (IsUnopenedPress shape) q)
+PlainPress p shape (Err stopped.NoMemory) q = IsLawful shape × IsUnopenedPlainly (IsUnopenedPress shape) q
 PlainPress p shape _ q = ⊥
 
 -- From p a line with these data may have this outcome, give these data, and leave q.
 abbrev pub PlainStep : PlainState → Line → List ℕ → Outcome → List ℕ → PlainState → Type 0
 PlainStep p lines.Empty payload outcome data_in q = (outcome ≡ Ok replies.Nothing) × (data_in ≡ []) × (q ≡ p)
 PlainStep p (lines.Press zones scale psa) payload outcome data_in q =
-    PlainPress p (shape_of zones scale psa) outcome q × (data_in ≡ [])
+    PlainPress p (shape_in (plain_kind p) zones scale psa) outcome q × (data_in ≡ [])
 PlainStep p line payload outcome data_in q = OnPlainDisc p line payload outcome data_in q
 
 -- ---- runs

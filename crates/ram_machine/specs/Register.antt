@@ -1,6 +1,6 @@
 -- What a user may rely on of a drive, by what it is asked and answers alone: each sector is a register, whose bytes a read shows, and
 -- which has one of a few values after the power was lost. (This project's own, as all here.)
-use Rattle.std.specs.Prelude.{◌≡◌, ℕ, ◌+◌, ◌*◌, ◌%◌, ◌<◌, ◌⊎◌, Bool, true, false, ◌&&◌, ◌||◌, not, nat_lt, ◌==◌, if◌then◌else◌, MatchBool, Option, None, Some, Result, Ok, Err, List, [], ◌∷◌, ◌++◌, length, take, drop, All}
+use Rattle.std.specs.Prelude.{◌≡◌, ℕ, ◌+◌, ◌*◌, ◌%◌, ◌<◌, ◌⊎◌, Bool, true, false, ◌&&◌, ◌||◌, not, nat_lt, ◌==◌, if◌then◌else◌, MatchBool, Option, None, Some, Result, Ok, Err, List, [], ◌∷◌, length, take, drop}
 use Rattle.std.specs.List.{Contains}
 use Rattle.model_sectors.specs.Discs.{zeros}
 use Rattle.model_sectors.specs.Requests.{blocks_covered}

@@ -34,7 +34,6 @@ power_outcome (powers.Ready capacity) = event (events.Ready capacity)
 power_outcome powers.NotFormatted = event events.NotFormatted
 power_outcome powers.Cut = event events.Cut
 power_outcome powers.Fault = Err stopped.ImageFault
-power_outcome powers.NoMemory = Err stopped.NoMemory
 
 -- how each end of the failure of a block comes out
 abbrev pub fail_outcome : FailEnd → Outcome
@@ -58,14 +57,13 @@ tick_outcome ticks.Cut = event events.Cut
 tick_outcome ticks.Off = event events.Off
 tick_outcome ticks.Fault = Err stopped.ImageFault
 
--- how each answer of a command comes out: a failure of the image and lack of memory end the run
+-- how each answer of a command comes out: a failure of the image ends the run
 abbrev pub command_outcome : List ℕ → Answer → Outcome
 command_outcome cdb answers.Good = Ok (replies.Command cdb answers.Good)
 command_outcome cdb (answers.Check sense) = Ok (replies.Command cdb (answers.Check sense))
 command_outcome cdb answers.Cut = Ok (replies.Command cdb answers.Cut)
 command_outcome cdb answers.Off = Ok (replies.Command cdb answers.Off)
 command_outcome cdb answers.Fault = Err stopped.ImageFault
-command_outcome cdb answers.NoMemory = Err stopped.NoMemory
 
 -- why a run ends whose image was not opened
 abbrev pub stopped_by : OpenFault → Stopped

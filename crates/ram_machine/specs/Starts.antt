@@ -6,12 +6,15 @@ use Rattle.ram_sectors.specs.declared.caching.Caching.{Ghosts as Drives}
 use Rattle.ram_machine.specs.declared.inserted.Inserted.{Inserted}
 use Rattle.ram_machine.specs.declared.stopped.Stopped.{Stopped}
 use Rattle.ram_machine.specs.declared.stopped.Stopped.TheVariants as stopped
-use Rattle.ram_machine.specs.States.{State, IsFirst}
+use Rattle.model_geometry.specs.declared.kinds.LayoutKind.{LayoutKind}
+use Rattle.ram_machine.specs.States.{State, kind_of, IsFirst}
 use Rattle.ram_machine.specs.Inserted.{Stands, faults_of}
 
--- The inserted disc stands for what a run over these bytes begins with. (This project's own, as all here.)
-pub record StandsFirst (bytes : List ℕ) (stands : State → Type 0) : Type 0 where
+-- The inserted disc stands for what a run over these bytes begins with, whose discs have a layout of this kind. (This project's own,
+-- as all here.)
+pub record StandsFirst (kind : LayoutKind) (bytes : List ℕ) (stands : State → Type 0) : Type 0 where
   pub state : State
+  pub kind_is : kind_of state ≡ kind
   pub first : IsFirst bytes state
   pub stands_first : stands state
 
@@ -23,9 +26,9 @@ StartCount faults faults' _ = ⊥
 
 module _ {D I : Type 0} (drives : Drives D) (lies_in : D → Option (List ℕ)) (images : Images I) where
   -- What a run begins with, or why it stops; then the image has the bytes that it had.
-  abbrev pub StartRule : I → Result (Inserted D I) (I × Stopped) → Type 0
-  StartRule image (Ok inserted) =
-      ((bytes : List ℕ) → images.bytes image ≡ Some bytes → StandsFirst bytes (Stands drives lies_in images inserted))
+  abbrev pub StartRule : LayoutKind → I → Result (Inserted D I) (I × Stopped) → Type 0
+  StartRule kind image (Ok inserted) =
+      ((bytes : List ℕ) → images.bytes image ≡ Some bytes → StandsFirst kind bytes (Stands drives lies_in images inserted))
       × (faults_of drives images inserted ≡ images.faults image)
-  StartRule image (Err refused) =
+  StartRule kind image (Err refused) =
       (images.bytes refused.0 ≡ images.bytes image) × StartCount (images.faults image) (images.faults refused.0) refused.1

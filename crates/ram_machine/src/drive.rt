@@ -6,7 +6,7 @@ ghost use Rattle.model_cache.specs.Causes.{KeepsCache};
 ghost use Rattle.ram_image.specs.EventBytes.{FailBytes};
 ghost use Rattle.ram_image.specs.Opening.{IsRefused};
 ghost use Rattle.ram_medium.specs.Control.{WearRule, with_armed_cut};
-ghost use Rattle.ram_volume.specs.Control.{KeepsMemory, FailOnDrive};
+ghost use Rattle.ram_states.specs.Control.{KeepsMemory, FailOnDrive};
 ghost use Rattle.ram_machine.specs.Drive.{OpensDrive, DriveLaws};
 ghost use Rattle.ram_machine.specs.Control.{contents_after_fail};
 
@@ -14,6 +14,7 @@ use ram_image::OpenFault;
 use ram_medium::{Arm, FailEnd, Fate};
 use ram_outside::Image;
 use ram_sectors::Caching;
+use ram_zones::LayoutKind;
 use std::alloc::Global;
 
 /// A drive with a write cache over a medium that lies in an image, and that can be made to fail. What is done to the medium
@@ -25,12 +26,17 @@ pub trait Drive: Caching {
     /// The bytes of the image, also those under cells that are not good, where they are known.
     ghost lies_in: { Self → Option (List ℕ) };
 
-    /// The drive over the disc that the image holds, with the power off. Else the image is handed back with the bytes
-    /// that it had, and the reason: it has no disc's header or length, it failed, or there was no memory.
-    fn open(alloc: Global, image: Self::Image) -> Result<Self, (Self::Image, OpenFault)>
-        ensures { MatchResult result (λ drive. OpensDrive (Self.Image.bytes image)
+    /// The drive over the disc that the image holds, with a layout of this kind, and with the power off. Else the image is handed
+    /// back with the bytes that it had, and the reason: it has no such disc's header or length, it failed, or there was no
+    /// memory.
+    fn open(
+        alloc: Global,
+        image: Self::Image,
+        kind: LayoutKind,
+    ) -> Result<Self, (Self::Image, OpenFault)>
+        ensures { MatchResult result (λ drive. OpensDrive kind (Self.Image.bytes image)
             (Self.Image.faults image) (Self.shows drive) (Self.stands drive) (lies_in drive))
-            (λ refused. IsRefused (Self.Image.bytes image) (Self.Image.bytes refused.0)
+            (λ refused. IsRefused kind (Self.Image.bytes image) (Self.Image.bytes refused.0)
             (Self.Image.faults image) (Self.Image.faults refused.0) refused.1) };
 
     /// The image, with the bytes in which the drive lay.

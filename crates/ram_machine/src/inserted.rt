@@ -1,13 +1,13 @@
 //! The inserted disc, and what one line does with it: the drive is worked on where it lies, and only a press takes its
 //! image out.
 ghost use Rattle.std.specs.Prelude.{◌≡◌, ◌≤◌, MatchResult, vec_capacity};
-ghost use Rattle.model_geometry.specs.Geometry.{shape_of};
+ghost use Rattle.model_geometry.specs.Geometry.{shape_in};
 ghost use Rattle.ram_text.specs.declared.payload.TheConstants.{PAYLOAD_ROOM};
 ghost use Rattle.ram_image.specs.Opening.{IsRefused};
 ghost use Rattle.ram_machine.specs.Drive.{IsInsertedTarget};
 ghost use Rattle.ram_machine.specs.LineSteps.{CountsUses};
 ghost use Rattle.ram_machine.specs.Replies.{PrintsWhere, power_outcome, fail_outcome, wear_outcome, tick_outcome, command_outcome};
-ghost use Rattle.ram_machine.specs.States.{State};
+ghost use Rattle.ram_machine.specs.States.{State, kind_of};
 ghost use Rattle.ram_machine.specs.Inserted.{Stands, LeavesImage, faults_of, data_before, IsAnswered, IsPressAnswered};
 ghost use Rattle.ram_machine.specs.LineFaults.{LineCount};
 ghost use Rattle.ram_machine.specs.Starts.{StartRule};
@@ -17,22 +17,23 @@ use crate::reply::Reply;
 use crate::stopped::Stopped;
 use core::mem::replace_with;
 use ram_bytes::{Block, Cdb};
-use ram_image::{OpenFault, PressOut, press};
+use ram_image::{OpenFault, PressOut, geometry_in, press};
 use ram_medium::{Arm, FailEnd};
 use ram_mmc::{Answer, Target};
 use ram_outside::Image;
 use ram_report::Event;
 use ram_sectors::{PowerOut, TickOut};
 use ram_text::Line;
-use ram_zones::Geometry;
+use ram_zones::LayoutKind;
 use std::alloc::Global;
 
-/// What lies in the drive: an image that was not opened as a disc, or a disc with what is remembered for its host.
+/// What lies in the drive: an image that was not opened as a disc, or a disc with what is remembered for its host; and the kind
+/// of layout that its discs have.
 pub enum Inserted<D: Drive> {
     /// An image that was not opened.
-    Image(D::Image),
+    Image(D::Image, LayoutKind),
     /// A disc.
-    Disc(Target<D>),
+    Disc(Target<D>, LayoutKind),
 }
 
 impl<D: Drive> Inserted<D> {
@@ -43,13 +44,26 @@ impl<D: Drive> Inserted<D> {
             → LeavesImage s (D.Image.bytes result) }
     {
         match self {
-            Inserted::Image(image) => image,
-            Inserted::Disc(target) => target.into_disc().into_image(),
+            Inserted::Image(image, _) => image,
+            Inserted::Disc(target, _) => {
+                let (drive, _) = target.into_parts();
+                drive.into_image()
+            }
+        }
+    }
+
+    /// The kind of layout that its discs have.
+    fn kind(&self) -> LayoutKind
+        ensures { (s : State) → Stands D.Caching D.lies_in D.Image.Image self.now s → result ≡ kind_of s }
+    {
+        match self {
+            Inserted::Image(_, kind) => *kind,
+            Inserted::Disc(_, kind) => *kind,
         }
     }
 
     /// What a line does, with its data in `payload`. The data that a command gives are then in `data_in`, and what it held
-    /// before does not matter.
+    /// before does not matter. A press alone takes memory.
     pub fn answer(
         &mut self,
         alloc: Global,
@@ -73,21 +87,23 @@ impl<D: Drive> Inserted<D> {
             (inserted, Line::Press { zones, scale, psa }) => {
                 replace_with(inserted, (alloc, zones, scale, psa), press_disc::<D>)
             }
-            (Inserted::Disc(target), Line::Power) => power_outcome(target.power(alloc)),
-            (Inserted::Disc(target), Line::Fail { block }) => fail_outcome(target.disc.fail(block)),
-            (Inserted::Disc(target), Line::Wear { block, n }) => {
+            (Inserted::Disc(target, _), Line::Power) => power_outcome(target.power()),
+            (Inserted::Disc(target, _), Line::Fail { block }) => fail_outcome(
+                target.disc.fail(block),
+            ),
+            (Inserted::Disc(target, _), Line::Wear { block, n }) => {
                 wear_outcome(target.disc.wear(block, n))
             }
-            (Inserted::Disc(target), Line::Cut { n, fate }) => {
+            (Inserted::Disc(target, _), Line::Cut { n, fate }) => {
                 target.disc.arm_cut(n, fate);
                 Ok(Reply::Event(Event::Armed))
             }
-            (Inserted::Disc(target), Line::Tick) => tick_outcome(target.disc.tick()),
-            (Inserted::Disc(target), Line::Command { cdb }) => {
-                let answer = target.execute(alloc, &cdb, payload, data_in);
+            (Inserted::Disc(target, _), Line::Tick) => tick_outcome(target.disc.tick()),
+            (Inserted::Disc(target, _), Line::Command { cdb }) => {
+                let answer = target.execute(&cdb, payload, data_in);
                 command_outcome(cdb, answer)
             }
-            (Inserted::Image(_), _) => {
+            (Inserted::Image(_, _), _) => {
                 data_in.clear();
                 Err(Stopped::NotADisc)
             }
@@ -116,7 +132,6 @@ fn power_outcome(out: PowerOut) -> Result<Reply, Stopped>
         PowerOut::NotFormatted => Ok(Reply::Event(Event::NotFormatted)),
         PowerOut::Cut => Ok(Reply::Event(Event::Cut)),
         PowerOut::Fault => Err(Stopped::ImageFault),
-        PowerOut::NoMemory => Err(Stopped::NoMemory),
     }
 }
 
@@ -166,66 +181,78 @@ fn command_outcome(cdb: Cdb, answer: Answer) -> Result<Reply, Stopped>
             Ok(Reply::Command { cdb, answer })
         }
         Answer::Fault => Err(Stopped::ImageFault),
-        Answer::NoMemory => Err(Stopped::NoMemory),
     }
 }
 
-/// The disc that an image holds, with what is remembered for its host when its power just came on. Else the image is
-/// handed back with the bytes that it had, and the reason. Room for the text of the disc's structure is taken first.
-fn insert<D: Drive>(alloc: Global, image: D::Image) -> Result<Target<D>, (D::Image, OpenFault)>
+/// The disc that an image holds, with a layout of this kind, and with what is remembered for its host when its power just came on.
+/// Else the image is handed back with the bytes that it had, and the reason. Room for the text of the disc's structure is taken
+/// first.
+fn insert<D: Drive>(
+    alloc: Global,
+    image: D::Image,
+    kind: LayoutKind,
+) -> Result<Target<D>, (D::Image, OpenFault)>
     ensures { MatchResult result
-        (λ target. IsInsertedTarget (D.Image.bytes image) (D.Image.faults image)
+        (λ target. IsInsertedTarget kind (D.Image.bytes image) (D.Image.faults image)
         (D.shows target.disc) (D.stands target.disc) (D.lies_in target.disc) target.host)
-        (λ refused. IsRefused (D.Image.bytes image) (D.Image.bytes refused.0)
+        (λ refused. IsRefused kind (D.Image.bytes image) (D.Image.bytes refused.0)
         (D.Image.faults image) (D.Image.faults refused.0) refused.1) }
 {
     let Ok(block) = Block::zeros(alloc) else {
         return Err((image, OpenFault::NoMemory));
     };
-    match D::open(alloc, image) {
+    match D::open(alloc, image, kind) {
         Ok(disc) => Ok(Target::new(disc, block)),
         Err(refused) => Err(refused),
     }
 }
 
-/// What lies in the drive when a run begins: a disc where the image holds one. Where the image failed, or there is no
-/// memory, it is handed back with the reason.
-pub fn begin<D: Drive>(alloc: Global, image: D::Image) -> Result<Inserted<D>, (D::Image, Stopped)>
-    ensures { StartRule D.Caching D.lies_in D.Image.Image image result }
+/// What lies in the drive when a run begins: a disc where the image holds one, with a layout of this kind. Where the image failed,
+/// or there is no memory, it is handed back with the reason.
+pub fn begin<D: Drive>(
+    alloc: Global,
+    image: D::Image,
+    kind: LayoutKind,
+) -> Result<Inserted<D>, (D::Image, Stopped)>
+    ensures { StartRule D.Caching D.lies_in D.Image.Image kind image result }
 {
-    match insert::<D>(alloc, image) {
-        Ok(target) => Ok(Inserted::Disc(target)),
+    match insert::<D>(alloc, image, kind) {
+        Ok(target) => Ok(Inserted::Disc(target, kind)),
         Err((image, fault)) => match fault {
-            OpenFault::Header | OpenFault::Length { .. } => Ok(Inserted::Image(image)),
+            OpenFault::Header | OpenFault::Length { .. } => Ok(Inserted::Image(image, kind)),
             OpenFault::Fault | OpenFault::NoMemory => Err((image, Stopped::from(fault))),
         },
     }
 }
 
 /// Presses a disc of so many zones, this scale and so many primary spares, in this order, on the image that lies in the
-/// drive, where they are within their limits.
+/// drive, where they are within their limits. Its layout is of the drive's kind.
 fn press_disc<D: Drive>(
     inserted: Inserted<D>,
     wanted: (Global, u32, u32, u32),
 ) -> (Inserted<D>, Result<Reply, Stopped>)
     ensures step { (s : State) → Stands D.Caching D.lies_in D.Image.Image inserted s
-        → IsPressAnswered s (shape_of wanted.1 wanted.2 wanted.3)
+        → IsPressAnswered s (shape_in (kind_of s) wanted.1 wanted.2 wanted.3)
         (Stands D.Caching D.lies_in D.Image.Image result.0) result.1 }
     ensures printable { PrintsWhere result.1 }
     ensures count { LineCount (faults_of D.Caching D.Image.Image inserted)
         (faults_of D.Caching D.Image.Image result.0) result.1 }
 {
     let (alloc, zones, scale, psa) = wanted;
-    let Ok(geometry) = Geometry::new(zones, scale, psa) else {
+    let kind = inserted.kind();
+    let Some(geometry) = geometry_in(kind, zones, scale, psa) else {
         return (inserted, Ok(Reply::Event(Event::NotPressed)));
     };
     let mut image = inserted.into_image();
     match press(&mut image, &geometry) {
-        PressOut::Failed => return (Inserted::Image(image), Err(Stopped::ImageFault)),
+        PressOut::Failed => return (Inserted::Image(image, kind), Err(Stopped::ImageFault)),
         PressOut::Done => {}
     }
-    match insert::<D>(alloc, image) {
-        Ok(target) => (Inserted::Disc(target), Ok(Reply::Event(Event::Pressed))),
-        Err((image, fault)) => (Inserted::Image(image), Err(Stopped::from(fault))),
+    match insert::<D>(alloc, image, kind) {
+        Ok(target) => (
+            Inserted::Disc(target, kind),
+            Ok(Reply::Event(Event::Pressed)),
+        ),
+        Err((image, fault)) => (Inserted::Image(image, kind), Err(Stopped::from(fault))),
     }
 }

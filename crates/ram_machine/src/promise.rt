@@ -5,17 +5,18 @@ ghost use Rattle.model_sectors.specs.Discs.{zeros};
 ghost use Rattle.model_cdb.specs.declared.commands.Command.TheVariants as commands;
 ghost use Rattle.ram_machine.specs.Acknowledged.{WasDone, LeaveSector, choices_after};
 ghost use Rattle.ram_machine.specs.SectorBytes.{bytes_of_sector, is_sector_among};
-ghost use Rattle.ram_machine.specs.States.{State, IsFirst, IsLeft};
+ghost use Rattle.ram_machine.specs.States.{State, kind_of, IsFirst, IsLeft};
 ghost use Rattle.ram_machine.specs.Runs.{Run};
 ghost use Rattle.ram_machine.specs.Answered.{AnsweredStep};
 ghost use Rattle.ram_machine.specs.Register.{Register, Bytes, bytes_in, goes_through, Turn, Turns, IsRegister, HasSettled, IsRegisterAgain};
 
-/// Each sector is a register over a run, from the image's bytes on, and over the next run from where the first one left it.
+/// Each sector is a register over a run, from the image's bytes on, and over the next run, whose discs have the same kind of layout,
+/// from where the first one left it.
 pub fn each_sector_is_a_register()
     ensures run { (image : List ℕ) (s t : State) (events : List AnsweredStep) (at : ℕ)
         → IsFirst image s → Run s events t → IsRegister image events at }
     ensures again { (image left : List ℕ) (s t u v : State) (events later : List AnsweredStep) (at : ℕ)
-        → IsFirst image s → Run s events t → IsLeft t left → IsFirst left u → Run u later v
+        → IsFirst image s → Run s events t → IsLeft t left → IsFirst left u → kind_of u ≡ kind_of t → Run u later v
         → IsRegisterAgain image events later at }
 {}
 

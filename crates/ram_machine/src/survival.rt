@@ -7,7 +7,7 @@ ghost use Rattle.ram_text.specs.declared.script.Line.{Line};
 ghost use Rattle.ram_text.specs.declared.script.Line.TheVariants as lines;
 ghost use Rattle.ram_machine.specs.declared.reply.Reply.TheVariants as replies;
 ghost use Rattle.ram_machine.specs.Replies.{Outcome};
-ghost use Rattle.ram_machine.specs.States.{State, Served, Disc, IsFirst, IsLeft};
+ghost use Rattle.ram_machine.specs.States.{State, Served, Disc, kind_of, IsFirst, IsLeft};
 ghost use Rattle.ram_machine.specs.LineSteps.{Step};
 ghost use Rattle.ram_machine.specs.Runs.{IsStep, Run};
 ghost use Rattle.ram_machine.specs.Answered.{AnsweredStep};
@@ -15,7 +15,7 @@ ghost use Rattle.ram_machine.specs.Survival.{KeepsDisc, KeepDisc, LeavesCapacity
 
 /// No power cut loses the disc. It begins formatted wherever lists are in use, and stays so over each line but a press and a
 /// full format, however the line ends, wherever cuts come and whatever blocks die, while at least two copies of each list have
-/// no dead block; also in an image that is handed back and opened again. Only an expansion adds a size that its area may have.
+/// no dead block; also in an image that is handed back and opened again as one of the same kind of layout. Only an expansion adds a size that its area may have.
 pub fn a_run_keeps_the_disc_formatted()
     ensures begins { (s : State) (lists : Lists) → HasInUse s lists
         → LastsNow s lists.sdl.version (lists.sdl.ssa ∷ []) }
@@ -28,7 +28,8 @@ pub fn a_run_keeps_the_disc_formatted()
         → Run s events t → KeepDisc events → HasTwoCopies t version → LastsNow s version sizes
         → (later : List ℕ) × LastsNow t version later × (LeaveCapacity events → later ≡ sizes) }
     ensures image { (s t : State) (bytes : List ℕ) (version : Version) (sizes : List ℕ)
-        → LastsNow s version sizes → IsLeft s bytes → IsFirst bytes t → LastsNow t version sizes }
+        → LastsNow s version sizes → IsLeft s bytes → IsFirst bytes t → kind_of t ≡ kind_of s
+        → LastsNow t version sizes }
     ensures power { (s t : State) (event : AnsweredStep) (version : Version) (sizes : List ℕ)
         → LastsNow s version sizes → IsStep s event t → event.line ≡ lines.Power → HasTwoCopies t version
         → IsReadyOrCut event.reply }
@@ -49,6 +50,6 @@ pub fn no_cut_loses_the_disc()
     ensures opened_again { (s t u v w : State) (lists : Lists) (earlier later : List AnsweredStep)
         (event : AnsweredStep)
         (image : List ℕ) → HasInUse s lists → Run s earlier t → KeepDisc earlier → IsLeft t image
-        → IsFirst image u → Run u later v → KeepDisc later → IsStep v event w → event.line ≡ lines.Power
+        → IsFirst image u → kind_of u ≡ kind_of t → Run u later v → KeepDisc later → IsStep v event w → event.line ≡ lines.Power
         → HasTwoCopies w lists.sdl.version → IsReadyOrCut event.reply }
 {}

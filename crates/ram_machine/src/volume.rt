@@ -5,11 +5,13 @@ ghost use Rattle.ram_volume.specs.Drives.{shown_by, medium_by};
 ghost use Rattle.ram_machine.specs.Lying.{has_cells, by_events, shown_medium, has_blocks};
 
 use crate::drive::Drive;
-use ram_cache::Cached;
+use ram_cache::{Cached, PendingBlocks};
 use ram_image::{ImageMedium, OpenFault, open};
 use ram_medium::{Arm, FailEnd, Fate};
 use ram_outside::Image;
+use ram_transfer::Memory;
 use ram_volume::Volume;
+use ram_zones::LayoutKind;
 use std::alloc::Global;
 
 impl<I: Image> Drive for Cached<Volume<ImageMedium<I>>> {
@@ -17,23 +19,28 @@ impl<I: Image> Drive for Cached<Volume<ImageMedium<I>>> {
 
     ghost lies_in = { λ cached. bytes_in (medium_by cached.disc) };
 
-    fn open(alloc: Global, image: I) -> Result<Self, (I, OpenFault)> {
-        match open(alloc, image) {
+    fn open(alloc: Global, image: I, kind: LayoutKind) -> Result<Self, (I, OpenFault)> {
+        let Ok(pending) = PendingBlocks::new(alloc) else {
+            return Err((image, OpenFault::NoMemory));
+        };
+        match open(alloc, image, kind) {
             Ok((medium, geometry)) => {
-                let _layout = geometry.layout();
-                match Cached::new(alloc, Volume::new(medium, geometry)) {
-                    Ok(cached) => Ok(cached),
-                    Err((volume, _)) => {
-                        Err((volume.into_medium().into_image(), OpenFault::NoMemory))
-                    }
-                }
+                let Ok(memory) = Memory::new(alloc, &geometry) else {
+                    return Err((medium.into_image(), OpenFault::NoMemory));
+                };
+                let volume = Volume::new(medium, geometry, memory);
+                Ok(Cached::new(volume, pending))
             }
             Err(refused) => Err(refused),
         }
     }
 
     fn into_image(self) -> I {
-        self.into_disc().into_medium().into_image()
+        let (volume, pending) = self.into_parts();
+        drop(pending);
+        let (medium, memory) = volume.into_parts();
+        drop(memory);
+        medium.into_image()
     }
 
     fn fail(&mut self, block: u32) -> FailEnd {

@@ -7,7 +7,7 @@ use Rattle.ram_machine.proofs.volume.CachedVolumeImageMediumDrive.open.Goals as 
 
 pub returns-in-Ok-new : goal.returns-in-Ok-new
 returns-in-Ok-new g c =
-    let cached = c.in-Ok-new.cached in
-    opens c.args.image c.in-Ok.medium c.in-Ok.geometry c.layout-layout.ensures.one c.in-Ok.ensures (shown_by c.new.result) c.new.ensures.shown
-    _ (fresh_cache (shown_by cached.disc) (shown_by c.new.result) (pending_of cached.pending) cached.on (ap (λ v. shown_by v) c.in-Ok-new.ensures.0) c.in-Ok-new.ensures.1 c.in-Ok-new.ensures.2)
-    (medium_by cached.disc) (ap (λ v. medium_by v) c.in-Ok-new.ensures.0 ∙ c.new.ensures.medium)
+    let cached = c.new-in-Ok-open-2.result in
+    opens c.args.image c.in-Ok-open.medium c.args.kind c.in-Ok-open.geometry c.in-Ok-open.ensures (shown_by c.new-volume.result) c.new-volume.ensures.shown
+    _ (fresh_cache (shown_by cached.disc) (shown_by c.new-volume.result) (pending_of cached.pending) cached.on (ap (λ v. shown_by v) c.new-in-Ok-open-2.ensures.disc) c.new-in-Ok-open-2.ensures.pending c.new-in-Ok-open-2.ensures.off)
+    (medium_by cached.disc) (ap (λ v. medium_by v) c.new-in-Ok-open-2.ensures.disc ∙ c.new-volume.ensures.medium)
