@@ -7,7 +7,7 @@ use Rattle.hex.specs.Hex.{encode_with, lower_digits, hex_digit_value}
 use Rattle.hex.proofs.HexLemmas.{IsDigits-lower_digits}
 use Rattle.model_sense.specs.declared.sense.Sense.{Sense}
 use Rattle.model_sense.specs.declared.answer.Answer.{Answer}
-use Rattle.model_sense.specs.declared.answer.Answer.TheVariants.{Good, Check, Cut, Off, Fault, NoMemory}
+use Rattle.model_sense.specs.declared.answer.Answer.TheVariants.{Good, Check, Cut, Off, Fault}
 use Rattle.ram_report.specs.ReportLines.{answer_words, sense_code, info_words, SenseFits, HasWords}
 
 digit_same : (a b : ℕ) → a < 16 → b < 16 → get_or lower_digits a 0 ≡ get_or lower_digits b 0 → a ≡ b
@@ -84,12 +84,7 @@ answers_same Off (Check t) r q h = differ _ _ 0 111 99 h refl refl (λ e. omega 
 answers_same Off Cut r q h = differ _ _ 0 111 99 h refl refl (λ e. omega arith)
 answers_same Off Off r q h = refl
 answers_same Good Fault r q h = absurd q
-answers_same Good NoMemory r q h = absurd q
 answers_same (Check s) Fault r q h = absurd q
-answers_same (Check s) NoMemory r q h = absurd q
 answers_same Cut Fault r q h = absurd q
-answers_same Cut NoMemory r q h = absurd q
 answers_same Off Fault r q h = absurd q
-answers_same Off NoMemory r q h = absurd q
 answers_same Fault b r q h = absurd r
-answers_same NoMemory b r q h = absurd r

@@ -53,7 +53,6 @@ answer_words (answers.Check sense) = codes "check " ++ sense_code sense ++ info_
 answer_words answers.Cut = codes "cut"
 answer_words answers.Off = codes "off"
 answer_words answers.Fault = []
-answer_words answers.NoMemory = []
 
 -- the answer does not stop the run (this project's own)
 abbrev pub IsPrinted : Answer → Type 0
@@ -62,7 +61,6 @@ IsPrinted (answers.Check sense) = Unit {0}
 IsPrinted answers.Cut = Unit {0}
 IsPrinted answers.Off = Unit {0}
 IsPrinted answers.Fault = ⊥
-IsPrinted answers.NoMemory = ⊥
 
 -- whether the command reads sectors (this project's own)
 abbrev pub is_read : Option Operation → Bool
@@ -133,4 +131,3 @@ HasWords (answers.Check sense) = SenseFits sense
 HasWords answers.Cut = Unit {0}
 HasWords answers.Off = Unit {0}
 HasWords answers.Fault = ⊥
-HasWords answers.NoMemory = ⊥

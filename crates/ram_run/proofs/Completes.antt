@@ -1,7 +1,8 @@
 -- Why a run comes to its end: what else it might have left does not agree with its script, its image and the counts.
 use Rattle.std.specs.Prelude.{◌≡◌, ℕ, ◌+◌, ◌<◌, ◌⊎◌, Ok, Err, List, [], ◌∷◌, ◌++◌, length, take}
 use Rattle.std.proofs.Common.{zero, suc, arith, refl, sym, ap, ◌∙◌, inl, inr, subst, append_assoc, length-append}
-use Rattle.model_geometry.specs.Geometry.{Shape, IsLawful, shape_of}
+use Rattle.model_geometry.specs.declared.kinds.LayoutKind.{LayoutKind}
+use Rattle.model_geometry.specs.Geometry.{Shape, IsLawful, shape_in}
 use Rattle.ram_text.specs.Lines.{line_feed, HasNoFeed}
 use Rattle.ram_text.specs.ScriptWords.{words_of, without_return}
 use Rattle.ram_text.specs.Script.{IsForm, Reads}
@@ -18,7 +19,7 @@ use Rattle.ram_machine.specs.declared.status.Status.{Status}
 use Rattle.ram_machine.specs.declared.status.Status.TheVariants as statuses
 use Rattle.ram_run.specs.NextLines.{IsNextLine, ComesNext}
 use Rattle.ram_machine.specs.Replies.{Outcome}
-use Rattle.ram_machine.specs.States.{State, Served, Unopened, Disc, IsFirst, IsPressedDisc}
+use Rattle.ram_machine.specs.States.{BareImage, State, Served, Unopened, Disc, kind_of, IsFirst, IsPressedDisc}
 use Rattle.ram_machine.specs.LineSteps.{PressStep, OnDisc, Step}
 use Rattle.ram_run.specs.Answered.{AnsweredLine, Reaches, script_text}
 use Rattle.ram_run.specs.Run.{IsLineStep, LineRun}
@@ -92,7 +93,7 @@ on_disc_leaves s line payload outcome data_in (Disc disc) on = (disc, refl)
 stays_disc : (s : Served) (line : Line) (payload : List ℕ) (reply : Reply) (data_in : List ℕ) (t : State) → Step (Disc s) line payload (Ok reply) data_in t → (disc : Served) × (t ≡ Disc disc)
 stays_disc s lines.Empty payload reply data_in t step = (s, step.2)
 stays_disc s (lines.Press zones scale psa) payload reply data_in t step =
-    elim (press_leaves (Disc s) t (shape_of zones scale psa) reply step.0) [
+    elim (press_leaves (Disc s) t (shape_in (kind_of (Disc s)) zones scale psa) reply step.0) [
       | inl disc ↦ disc
       | inr kept ↦ (s, kept.1)
     ]
@@ -134,44 +135,44 @@ NeedsDisc (lines.Press zones scale psa) = ⊥
 NeedsDisc _ = Unit {0}
 
 -- such a line says something, and presses none
-needs_none : (line : Line) → NeedsDisc line → (line ≡ lines.Empty) ⊎ IsLawfulPress line → ⊥
-needs_none line needs (inl empty) = subst NeedsDisc empty needs
-needs_none lines.Empty needs (inr press) = needs
-needs_none (lines.Press zones scale psa) needs (inr press) = needs
-needs_none _ needs (inr press) = press
+needs_none : (kind : LayoutKind) (line : Line) → NeedsDisc line → (line ≡ lines.Empty) ⊎ IsLawfulPress kind line → ⊥
+needs_none kind line needs (inl empty) = subst NeedsDisc empty needs
+needs_none kind lines.Empty needs (inr press) = needs
+needs_none kind (lines.Press zones scale psa) needs (inr press) = needs
+needs_none kind _ needs (inr press) = press
 
 -- a press says something
 press_speaks : (zones scale psa : ℕ) → lines.Press zones scale psa ≡ lines.Empty → ⊥
 press_speaks zones scale psa same = cc
 
-module _ (bytes script : List ℕ) (press : BeginsWithPress script) where
+module _ (image : BareImage) (script : List ℕ) (press : BeginsWithPress image.kind script) where
   -- what a line that is the first to be answered, or says nothing, leaves of an image that is no disc's
-  first_leaves : (line : Line) (raw payload : List ℕ) (reply : Reply) (data_in : List ℕ) (now : State) → Step (Unopened bytes) line payload (Ok reply) data_in now → Reads raw line payload
-      → (line ≡ lines.Empty) ⊎ IsLawfulPress line → ((disc : Served) × (now ≡ Disc disc)) ⊎ ((now ≡ Unopened bytes) × Reads raw lines.Empty [])
+  first_leaves : (line : Line) (raw payload : List ℕ) (reply : Reply) (data_in : List ℕ) (now : State) → Step (Unopened image) line payload (Ok reply) data_in now → Reads raw line payload
+      → (line ≡ lines.Empty) ⊎ IsLawfulPress image.kind line → ((disc : Served) × (now ≡ Disc disc)) ⊎ ((now ≡ Unopened image) × Reads raw lines.Empty [])
   first_leaves lines.Empty raw payload reply data_in now step reads is = inr (step.2, subst (Reads raw lines.Empty) (empty_payload raw payload reads) reads)
   first_leaves (lines.Press zones scale psa) raw payload reply data_in now step reads (inl empty) = absurd (press_speaks zones scale psa empty)
   first_leaves (lines.Press zones scale psa) raw payload reply data_in now step reads (inr lawful) =
-      elim (press_leaves (Unopened bytes) now (shape_of zones scale psa) reply step.0) [
+      elim (press_leaves (Unopened image) now (shape_in image.kind zones scale psa) reply step.0) [
         | inl disc ↦ inl disc
         | inr kept ↦ absurd (kept.0 lawful)
       ]
-  first_leaves lines.Power raw payload reply data_in now step reads is = absurd (needs_none lines.Power tt is)
-  first_leaves (lines.Fail block) raw payload reply data_in now step reads is = absurd (needs_none (lines.Fail block) tt is)
-  first_leaves (lines.Wear block n) raw payload reply data_in now step reads is = absurd (needs_none (lines.Wear block n) tt is)
-  first_leaves (lines.Cut n fate) raw payload reply data_in now step reads is = absurd (needs_none (lines.Cut n fate) tt is)
-  first_leaves lines.Tick raw payload reply data_in now step reads is = absurd (needs_none lines.Tick tt is)
-  first_leaves (lines.Command cdb) raw payload reply data_in now step reads is = absurd (needs_none (lines.Command cdb) tt is)
+  first_leaves lines.Power raw payload reply data_in now step reads is = absurd (needs_none image.kind lines.Power tt is)
+  first_leaves (lines.Fail block) raw payload reply data_in now step reads is = absurd (needs_none image.kind (lines.Fail block) tt is)
+  first_leaves (lines.Wear block n) raw payload reply data_in now step reads is = absurd (needs_none image.kind (lines.Wear block n) tt is)
+  first_leaves (lines.Cut n fate) raw payload reply data_in now step reads is = absurd (needs_none image.kind (lines.Cut n fate) tt is)
+  first_leaves lines.Tick raw payload reply data_in now step reads is = absurd (needs_none image.kind lines.Tick tt is)
+  first_leaves (lines.Command cdb) raw payload reply data_in now step reads is = absurd (needs_none image.kind (lines.Command cdb) tt is)
 
   -- a line after silent ones says nothing, or is that press
   after_silent : (events : List AnsweredLine) (rest raw : List ℕ) (line : Line) (payload : List ℕ) → AreSilent (raws_of events) → script ≡ script_text events ++ rest
-      → IsNextLine rest raw → Reads raw line payload → (line ≡ lines.Empty) ⊎ IsLawfulPress line
+      → IsNextLine rest raw → Reads raw line payload → (line ≡ lines.Empty) ⊎ IsLawfulPress image.kind line
   after_silent events rest raw line payload silent whole next reads =
       press (raws_of events) rest raw line payload silent (whole ∙ ap (λ text. text ++ rest) (same_text events)) next reads
 
   -- one event more
   continues_silent : (event : AnsweredLine) (events : List AnsweredLine) (rest : List ℕ) (before now : State) → IsLineStep before event now → script ≡ script_text events ++ ((event.raw ++ line_feed ∷ []) ++ rest)
-      → ((disc : Served) × (before ≡ Disc disc)) ⊎ ((before ≡ Unopened bytes) × AreSilent (raws_of events))
-      → ((disc : Served) × (now ≡ Disc disc)) ⊎ ((now ≡ Unopened bytes) × AreSilent (raws_of (event ∷ events)))
+      → ((disc : Served) × (before ≡ Disc disc)) ⊎ ((before ≡ Unopened image) × AreSilent (raws_of events))
+      → ((disc : Served) × (now ≡ Disc disc)) ⊎ ((now ≡ Unopened image) × AreSilent (raws_of (event ∷ events)))
   continues_silent event events rest before now step whole (inl disc) =
       inl (stays_disc disc.0 event.step.line event.step.payload event.step.reply event.step.data_in now (subst (λ x. Step x event.step.line event.step.payload (Ok event.step.reply) event.step.data_in now) disc.1 step.step))
   continues_silent event events rest before now step whole (inr silent) =
@@ -186,26 +187,26 @@ module _ (bytes script : List ℕ) (press : BeginsWithPress script) where
       ]
 
   -- there is a disc, or all lines so far say nothing
-  silent_so_far : (events : List AnsweredLine) (rest : List ℕ) (now : State) → LineRun (Unopened bytes) events now → script ≡ script_text events ++ rest
-      → ((disc : Served) × (now ≡ Disc disc)) ⊎ ((now ≡ Unopened bytes) × AreSilent (raws_of events))
+  silent_so_far : (events : List AnsweredLine) (rest : List ℕ) (now : State) → LineRun (Unopened image) events now → script ≡ script_text events ++ rest
+      → ((disc : Served) × (now ≡ Disc disc)) ⊎ ((now ≡ Unopened image) × AreSilent (raws_of events))
   silent_so_far [] rest now run whole = inr (run, tt)
   silent_so_far (event ∷ events) rest now run whole =
       let parts : script ≡ script_text events ++ ((event.raw ++ line_feed ∷ []) ++ rest) = whole ∙ append_assoc (script_text events) (event.raw ++ line_feed ∷ []) rest in
       continues_silent event events rest run.0 now run.2 parts (silent_so_far events ((event.raw ++ line_feed ∷ []) ++ rest) run.0 run.1 parts)
 
   -- a line that says nothing, or is that press, lacks no disc
-  first_answers : (line : Line) (payload data_in : List ℕ) (t : State) → Step (Unopened bytes) line payload (Err stopped.NotADisc) data_in t → (line ≡ lines.Empty) ⊎ IsLawfulPress line → ⊥
+  first_answers : (line : Line) (payload data_in : List ℕ) (t : State) → Step (Unopened image) line payload (Err stopped.NotADisc) data_in t → (line ≡ lines.Empty) ⊎ IsLawfulPress image.kind line → ⊥
   first_answers lines.Empty payload data_in t step is = distinct replies.Nothing step.0
   first_answers (lines.Press zones scale psa) payload data_in t step is = step.0
-  first_answers lines.Power payload data_in t step is = needs_none lines.Power tt is
-  first_answers (lines.Fail block) payload data_in t step is = needs_none (lines.Fail block) tt is
-  first_answers (lines.Wear block n) payload data_in t step is = needs_none (lines.Wear block n) tt is
-  first_answers (lines.Cut n fate) payload data_in t step is = needs_none (lines.Cut n fate) tt is
-  first_answers lines.Tick payload data_in t step is = needs_none lines.Tick tt is
-  first_answers (lines.Command cdb) payload data_in t step is = needs_none (lines.Command cdb) tt is
+  first_answers lines.Power payload data_in t step is = needs_none image.kind lines.Power tt is
+  first_answers (lines.Fail block) payload data_in t step is = needs_none image.kind (lines.Fail block) tt is
+  first_answers (lines.Wear block n) payload data_in t step is = needs_none image.kind (lines.Wear block n) tt is
+  first_answers (lines.Cut n fate) payload data_in t step is = needs_none image.kind (lines.Cut n fate) tt is
+  first_answers lines.Tick payload data_in t step is = needs_none image.kind lines.Tick tt is
+  first_answers (lines.Command cdb) payload data_in t step is = needs_none image.kind (lines.Command cdb) tt is
 
   -- no line lacks a disc
-  lacks_none : (events : List AnsweredLine) (rest : List ℕ) (now : State) (line : Line) (payload data_in : List ℕ) (t : State) → LineRun (Unopened bytes) events now → Reaches script events rest
+  lacks_none : (events : List AnsweredLine) (rest : List ℕ) (now : State) (line : Line) (payload data_in : List ℕ) (t : State) → LineRun (Unopened image) events now → Reaches script events rest
       → ComesNext script rest line payload → Step now line payload (Err stopped.NotADisc) data_in t → ⊥
   lacks_none events rest now line payload data_in t run (inr ended) next step = nothing_follows rest next.raw ended.0 next.comes.next
   lacks_none events rest now line payload data_in t run (inl whole) next step =
@@ -217,18 +218,18 @@ module _ (bytes script : List ℕ) (press : BeginsWithPress script) where
       ]
 
 -- where the run begins with a disc, or with the press of one, no line lacks a disc
-has_disc : (first : Beginning) → BeginsWithDisc first → (start : State) → IsFirst first.image start → (events : List AnsweredLine) (rest : List ℕ) (now : State) (line : Line) (payload data_in : List ℕ) (t : State)
+has_disc : (first : Beginning) → BeginsWithDisc first → (start : State) → IsFirst first.image start → kind_of start ≡ first.kind → (events : List AnsweredLine) (rest : List ℕ) (now : State) (line : Line) (payload data_in : List ℕ) (t : State)
     → LineRun start events now → Reaches first.script events rest → ComesNext first.script rest line payload → Step now line payload (Err stopped.NotADisc) data_in t → ⊥
-has_disc first begins (Disc s) starts events rest now line payload data_in t run lines next step =
+has_disc first begins (Disc s) starts kind events rest now line payload data_in t run lines next step =
     let disc = run_leaves s events now run in disc_answers disc.0 line payload data_in t (subst (λ x. Step x line payload (Err stopped.NotADisc) data_in t) disc.1 step)
-has_disc first (inl image) (Unopened bytes) starts events rest now line payload data_in t run lines next step = starts.1 image.0 image.1
-has_disc first (inr press) (Unopened bytes) starts events rest now line payload data_in t run lines next step =
-    lacks_none bytes first.script press events rest now line payload data_in t run lines next step
+has_disc first (inl disc) (Unopened image) starts kind events rest now line payload data_in t run lines next step = starts.1 disc.0 (disc.1 ∙ sym kind) disc.2
+has_disc first (inr press) (Unopened image) starts kind events rest now line payload data_in t run lines next step =
+    lacks_none image first.script (subst (λ (k : LayoutKind). BeginsWithPress k first.script) (sym kind) press) events rest now line payload data_in t run lines next step
 
 -- so no last line tells that one does
 never_lacks : (first : Beginning) → BeginsWithDisc first → (far : SoFar first) (line : ℕ) → IsLast far (lasts.NotADisc line) → ⊥
 never_lacks first begins far line is =
-    let found = is.0 in has_disc first begins far.start far.starts far.events far.rest far.now found.0 found.1 found.2 found.3 far.run far.lines found.4 found.5
+    let found = is.0 in has_disc first begins far.start far.starts far.kind_is far.events far.rest far.now found.0 found.1 found.2 found.3 far.run far.lines found.4 found.5
 
 -- the sink failed, whatever failed before it
 sink_failed : (before after : Counts) → SinkRose before after → Rose before.sink after.sink

@@ -55,7 +55,6 @@ by_reply (replies.Command cdb answers.Good) events = refl
 by_reply (replies.Command cdb answers.Cut) events = refl
 by_reply (replies.Command cdb answers.Off) events = refl
 by_reply (replies.Command cdb answers.Fault) events = refl
-by_reply (replies.Command cdb answers.NoMemory) events = refl
 by_reply (replies.Command cdb (answers.Check given)) events =
     ap (λ (rows : List SenseCount). with_checks events rows) (rows_raised cdb given events senses)
 
@@ -87,7 +86,6 @@ at_most_more counts (replies.Command cdb answers.Cut) n few = let more = at_most
 at_most_more counts (replies.Command cdb answers.Off) n few = let more = at_most_still counts n (n + 1) few (omega arith) in
     record { good = more.good; cut = more.cut; off = omega (arith, few.off); checks = more.checks }
 at_most_more counts (replies.Command cdb answers.Fault) n few = at_most_still counts n (n + 1) few (omega arith)
-at_most_more counts (replies.Command cdb answers.NoMemory) n few = at_most_still counts n (n + 1) few (omega arith)
 at_most_more counts (replies.Command cdb (answers.Check given)) n few = let more = at_most_still counts n (n + 1) few (omega arith) in
     record {
       good = more.good;

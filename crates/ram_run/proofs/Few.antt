@@ -3,7 +3,9 @@ use Rattle.std.specs.Prelude.{◌≡◌, ℕ, Some, List, [], ◌∷◌, length,
 use Rattle.std.specs.Borrow.{Bor}
 use Rattle.std.proofs.Common.{arith, refl, sym, ap, ◌∙◌, inl, inr}
 use Rattle.std.proofs.lemmas.List.{length-map}
-use Rattle.ram_run.specs.Words.{seed_of, IsGenerateOf, IsWordForm}
+use Rattle.model_geometry.specs.declared.kinds.LayoutKind.{LayoutKind}
+use Rattle.model_geometry.specs.declared.kinds.LayoutKind.TheVariants.{OneGroup, EachZone}
+use Rattle.ram_run.specs.Words.{seed_of, served_word, IsServedOf, IsGenerateOf, IsWordForm}
 
 pub map_of_two : {X Y : Type 0} (f : X → Y) (xs : List X) (d : X) → length xs ≡ 2 → map f xs ≡ f (get_or xs 0 d) ∷ f (get_or xs 1 d) ∷ []
 map_of_two f [] d two = absurd (omega arith)
@@ -35,12 +37,31 @@ module _ (words : List (Bor (List ℕ))) (none : Bor (List ℕ)) (empty : none.n
   which : (texts : List (List ℕ)) → map (λ (word : Bor (List ℕ)). word.now) words ≡ texts → (get_or words 0 none).now ≡ get_or texts 0 []
   which texts is = sym (first_text words) ∙ ap (λ (l : List (List ℕ)). get_or l 0 []) is
 
-  pub by_number : IsWordForm (map (λ (word : Bor (List ℕ)). word.now) words) → (length words ≡ 2 → (get_or words 0 none).now ≡ codes "run" → ⊥) → (length words ≡ 3 → (get_or words 0 none).now ≡ codes "generate" → ⊥)
+  pub by_number : IsWordForm (map (λ (word : Bor (List ℕ)). word.now) words) → ((kind : LayoutKind) → length words ≡ 2 → (get_or words 0 none).now ≡ served_word kind → ⊥) → (length words ≡ 3 → (get_or words 0 none).now ≡ codes "generate" → ⊥)
       → (length words ≡ 1 → (get_or words 0 none).now ≡ codes "--help" → ⊥) → (length words ≡ 1 → (get_or words 0 none).now ≡ codes "--version" → ⊥) → ⊥
-  by_number (inl (name, is)) two three help version = two (how_many _ is) (which _ is)
+  by_number (inl (kind, served)) two three help version = two kind (how_many _ served.1) (which _ served.1)
   by_number (inr (inl (name, seed, of))) two three help version = three (how_many _ of.1) (which _ of.1)
   by_number (inr (inr (inl is))) two three help version = help (how_many _ is) (which _ is)
   by_number (inr (inr (inr is))) two three help version = version (how_many _ is) (which _ is)
+
+-- the word tells one kind of layout
+by_word : (a b : LayoutKind) → served_word a ≡ served_word b → a ≡ b
+by_word OneGroup OneGroup same = refl
+by_word OneGroup EachZone same = absurd cc
+by_word EachZone OneGroup same = absurd cc
+by_word EachZone EachZone same = refl
+
+-- a word that runs no script over a disc of either kind
+pub not_served : (word : List ℕ) → (word ≡ codes "run" → ⊥) → (word ≡ codes "groups" → ⊥) → (kind : LayoutKind) → word ≡ served_word kind → ⊥
+not_served word one each OneGroup is = one is
+not_served word one each EachZone is = each is
+
+-- the words tell one kind of layout and one name
+pub one_served : (words : List (List ℕ)) (kind kind' : LayoutKind) (name name' : List ℕ) → IsServedOf kind name words → IsServedOf kind' name' words → (kind ≡ kind') × (name ≡ name')
+one_served words kind kind' name name' a b = (
+  by_word kind kind' (ap (λ (l : List (List ℕ)). get_or l 0 []) (sym a ∙ b)),
+  ap (λ (l : List (List ℕ)). get_or l 1 []) (sym a ∙ b),
+)
 
 -- the words tell one name and one number
 pub one_generate : (words : List (List ℕ)) (name name' : List ℕ) (seed seed' : ℕ) → IsGenerateOf name seed words → IsGenerateOf name' seed' words → (name ≡ name') × (seed ≡ seed')

@@ -2,6 +2,7 @@
 use Rattle.std.specs.Prelude.{◌≡◌, ℕ, ◌+◌, ◌≤◌, ◌⊎◌, Option, None, Some, Ok, Err, List, [], ◌++◌, length, take, drop}
 use Rattle.std.specs.Io.KnownBytes.{append_known, prepend_known}
 use Rattle.std.proofs.Common.{arith, refl, sym, ap, ◌∙◌, inl, inr, subst, append_assoc, append-nil, length-append, take-append-drop}
+use Rattle.model_geometry.specs.declared.kinds.LayoutKind.{LayoutKind}
 use Rattle.ram_report.proofs.Puts.{append_known-twice}
 use Rattle.ram_report.specs.ReportLines.{last_text}
 use Rattle.ram_report.specs.Writer.{IsCutShort}
@@ -91,11 +92,11 @@ pub not_sink : (ending : Ending) (status : Status) → status ≡ status_of endi
 not_sink ending status is sink other = other (sym (is ∙ ap status_of sink))
 
 -- the lines begin with nothing read and nothing gathered
-pub begins : {S K : Type 0} (sources : Sources S) (sinks : Sinks K) (first : Beginning) (stands : State → Type 0) (dialogue : Dialogue S K) (state : RunState) → IsFresh state → IsEmptyRoom (dialogue_room dialogue)
+pub begins : {S K : Type 0} (sources : Sources S) (sinks : Sinks K) (first : Beginning) (kind : LayoutKind) (stands : State → Type 0) (dialogue : Dialogue S K) (state : RunState) → first.kind ≡ kind → IsFresh state → IsEmptyRoom (dialogue_room dialogue)
     → sources.left (source_of dialogue) ≡ Some first.script → sinks.written (sink_of dialogue) ≡ Some first.report
-    → StandsFirst first.image stands → Between first stands (run_view sources sinks dialogue state.tally)
-begins sources sinks first stands dialogue state fresh empty left_is written_is start = record {
-  far = record { start = start.state; events = []; now = start.state; rest = first.script; starts = start.first; run = refl; lines = inl refl; within = omega arith };
+    → StandsFirst kind first.image stands → Between first stands (run_view sources sinks dialogue state.tally)
+begins sources sinks first kind stands dialogue state same fresh empty left_is written_is start = record {
+  far = record { start = start.state; events = []; now = start.state; rest = first.script; starts = start.first; kind_is = start.kind_is ∙ sym same; run = refl; lines = inl refl; within = omega arith };
   stands_now = start.stands_first;
   at = record {
     left_is = ap (λ l. prepend_known l (sources.left (source_of dialogue))) empty.buffered ∙ ap (prepend_known []) left_is;

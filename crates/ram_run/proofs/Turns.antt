@@ -57,6 +57,7 @@ module _ (first : Beginning) (far : SoFar first) (view : View) (line : Line) (pa
     now = answered.state;
     rest = t.comes.next.after;
     starts = far.starts;
+    kind_is = far.kind_is;
     run = (far.now, far.run, record { read = record { line = t.comes.next.line; reads = t.reads }; step = answered.step });
     lines = reaches_more (EndsWithBytes far.events) first.script (script_text far.events) far.rest t.raw t.comes.next.after far.lines t.comes.next.parts;
     within = t.comes.within;

@@ -1,7 +1,8 @@
 -- When a run must come to its end. For the main clause of the run.
 use Rattle.std.specs.Prelude.{◌≡◌, ℕ, ◌≤◌, ◌⊎◌, List, [], ◌∷◌, ◌++◌, length}
 use Rattle.model_counts.specs.Counts.{Rose}
-use Rattle.model_geometry.specs.Geometry.{Shape, IsLawful, shape_of}
+use Rattle.model_geometry.specs.declared.kinds.LayoutKind.{LayoutKind}
+use Rattle.model_geometry.specs.Geometry.{Shape, IsLawful, shape_in}
 use Rattle.model_image.specs.Image.{IsDiscImage}
 use Rattle.ram_text.specs.Lines.{line_feed}
 use Rattle.ram_text.specs.Script.{Reads}
@@ -39,20 +40,21 @@ abbrev pub AreSilent : List (List ℕ) → Type 0
 AreSilent [] = Unit {0}
 AreSilent (raw ∷ raws) = AreSilent raws × IsLine raw × Reads raw lines.Empty []
 
--- the line presses a disc, and lawfully
-abbrev pub IsLawfulPress : Line → Type 0
-IsLawfulPress (lines.Press zones scale psa) = IsLawful (shape_of zones scale psa)
-IsLawfulPress _ = ⊥
+-- the line presses a disc with a layout of this kind, and lawfully
+abbrev pub IsLawfulPress : LayoutKind → Line → Type 0
+IsLawfulPress kind (lines.Press zones scale psa) = IsLawful (shape_in kind zones scale psa)
+IsLawfulPress kind _ = ⊥
 
 -- the first line that has an answer presses a disc, and lawfully
-abbrev pub BeginsWithPress : List ℕ → Type 0
-BeginsWithPress script = (raws : List (List ℕ)) (rest raw : List ℕ) (line : Line) (payload : List ℕ) → AreSilent raws
+abbrev pub BeginsWithPress : LayoutKind → List ℕ → Type 0
+BeginsWithPress kind script = (raws : List (List ℕ)) (rest raw : List ℕ) (line : Line) (payload : List ℕ) → AreSilent raws
     → script ≡ lines_text raws ++ rest
-    → IsNextLine rest raw → Reads raw line payload → (line ≡ lines.Empty) ⊎ IsLawfulPress line
+    → IsNextLine rest raw → Reads raw line payload → (line ≡ lines.Empty) ⊎ IsLawfulPress kind line
 
 -- the image is that of a disc, or the first line that has an answer makes one
 abbrev pub BeginsWithDisc : Beginning → Type 0
-BeginsWithDisc first = ((shape : Shape) × IsDiscImage shape first.image) ⊎ BeginsWithPress first.script
+BeginsWithDisc first =
+    ((shape : Shape) × (shape.layout ≡ first.kind) × IsDiscImage shape first.image) ⊎ BeginsWithPress first.kind first.script
 
 -- source, sink and image did not fail
 pub record NoneRose (before after : Counts) : Type 0 where

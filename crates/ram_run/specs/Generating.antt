@@ -2,6 +2,7 @@
 use Rattle.std.specs.Prelude.{◌≡◌, ℕ, ◌⊎◌, Bool, true, Option, Some, Result, Ok, Err, List, [], take}
 use Rattle.std.specs.Io.KnownBytes.{append_known}
 use Rattle.model_counts.specs.Counts.{Rose}
+use Rattle.model_geometry.specs.declared.kinds.LayoutKind.TheVariants.{OneGroup}
 use Rattle.ram_generate.specs.Script.{script_from}
 use Rattle.ram_outside.specs.Opener.{opener_view}
 use Rattle.ram_outside.specs.declared.opener.Opener.{Ghosts as Openers}
@@ -20,10 +21,11 @@ use Rattle.ram_run.specs.Endings.{ComesToThis, IsOfScript, IsUnopened, bytes_ret
 use Rattle.ram_run.specs.Summary.{summary_text}
 use Rattle.ram_run.specs.Words.{Surroundings, IsNotOpened, AsksOnce, WritesText, TextCount}
 
--- What a run of the script of this number begins with: no report, and the image that is opened next. The opener tells
--- what is handed back. (This project's own, as all here.)
+-- What a run of the script of this number begins with: one group of spares, no report, and the image that is opened next. The
+-- opener tells what is handed back. (This project's own, as all here.)
 pub record BeginsFrom {I : Type 0} (bytes_of : I → Option (List ℕ)) (seed : ℕ) (first : Beginning) (before : Surroundings I)
     (returned_known : Bool) : Type 0 where
+  pub kind_is : first.kind ≡ OneGroup
   pub script_is : first.script ≡ script_from seed
   pub report_is : first.report ≡ []
   pub image : I

@@ -2,6 +2,7 @@
 -- the calls below it.
 use Rattle.std.specs.Prelude.{◌≡◌, ℕ, ◌+◌, ◌<◌, ◌≤◌, Option, None, Some, Result, Ok, Err, List, [], ◌∷◌, ◌++◌, length, take}
 use Rattle.std.specs.Io.KnownBytes.{append_known, prepend_known}
+use Rattle.model_geometry.specs.declared.kinds.LayoutKind.{LayoutKind}
 use Rattle.ram_text.specs.Lines.{HasNoFeed}
 use Rattle.ram_text.specs.Script.{Reads}
 use Rattle.ram_outside.specs.declared.sink.Sink.{Ghosts as Sinks}
@@ -20,12 +21,14 @@ use Rattle.ram_run.specs.NextLines.{IsWithinLimit, IsNextWithin, IsNextUnread, P
 use Rattle.ram_machine.specs.LineSteps.{CountsUses, Step}
 use Rattle.ram_machine.specs.Replies.{Outcome}
 use Rattle.ram_run.specs.Counting.{counts_in, with_reply}
-use Rattle.ram_machine.specs.States.{State, IsFirst}
+use Rattle.ram_machine.specs.States.{State, kind_of, IsFirst}
 use Rattle.ram_run.specs.Answered.{AnsweredLine, Reaches, answers_of, answered_in, line_text, report_text}
 use Rattle.ram_run.specs.Run.{LineRun}
 
--- What came first: the script, what was written before, and the image's bytes. (This project's own, as all here.)
+-- What came first: the kind of layout that the discs have, the script, what was written before, and the image's bytes. (This
+-- project's own, as all here.)
 pub record Beginning : Type 0 where
+  pub kind : LayoutKind
   pub script : List ℕ
   pub report : List ℕ
   pub image : List ℕ
@@ -38,6 +41,7 @@ pub record SoFar (first : Beginning) : Type 0 where
   pub now : State
   pub rest : List ℕ
   pub starts : IsFirst first.image start
+  pub kind_is : kind_of start ≡ first.kind
   pub run : LineRun start events now
   pub lines : Reaches first.script events rest
   pub within : IsWithinLimit first.script rest

@@ -4,6 +4,8 @@ use Rattle.std.specs.Char.{is_ascii_digit}
 use Rattle.std.specs.Io.KnownBytes.{append_known}
 use Rattle.std.specs.List.{list_all}
 use Rattle.model_counts.specs.Counts.{Rose}
+use Rattle.model_geometry.specs.declared.kinds.LayoutKind.{LayoutKind}
+use Rattle.model_geometry.specs.declared.kinds.LayoutKind.TheVariants.{OneGroup, EachZone}
 use Rattle.ram_outside.specs.Opener.{OpenerView, opener_view, and_asked}
 use Rattle.ram_outside.specs.declared.opener.Opener.{Ghosts as Openers}
 use Rattle.ram_outside.specs.declared.sink.Sink.{Ghosts as Sinks}
@@ -15,13 +17,18 @@ use Rattle.ram_run.specs.declared.run.Form.TheVariants as forms
 use Rattle.ram_machine.specs.declared.status.Status.{Status}
 use Rattle.ram_machine.specs.declared.status.Status.TheVariants as statuses
 
--- the words are `run` and this name of an image (this project's own, as all here)
-abbrev pub IsRunOf : List ℕ → List (List ℕ) → Type 0
-IsRunOf name words = words ≡ codes "run" ∷ name ∷ []
+-- the word that runs a script over discs with a layout of this kind (this project's own, as all here)
+abbrev pub served_word : LayoutKind → List ℕ
+served_word OneGroup = codes "run"
+served_word EachZone = codes "groups"
 
--- the words are `run` and the name of an image
-abbrev pub IsRunImage : List (List ℕ) → Type 0
-IsRunImage words = (name : List ℕ) × IsRunOf name words
+-- the words are that word and this name of an image
+abbrev pub IsServedOf : LayoutKind → List ℕ → List (List ℕ) → Type 0
+IsServedOf kind name words = words ≡ served_word kind ∷ name ∷ []
+
+-- the words are that word and the name of an image
+abbrev pub IsServedImage : LayoutKind → List (List ℕ) → Type 0
+IsServedImage kind words = (name : List ℕ) × IsServedOf kind name words
 
 -- the number that a word spells: 1 to 20 decimal digits, at most 18,446,744,073,709,551,615; none of another word
 unfoldable pub seed_of : List ℕ → Option ℕ
@@ -49,7 +56,8 @@ IsVersion words = words ≡ codes "--version" ∷ []
 
 -- the words are one of the program's forms
 abbrev pub IsWordForm : List (List ℕ) → Type 0
-IsWordForm words = IsRunImage words ⊎ IsGenerate words ⊎ IsHelp words ⊎ IsVersion words
+IsWordForm words =
+    ((kind : LayoutKind) × IsServedImage kind words) ⊎ IsGenerate words ⊎ IsHelp words ⊎ IsVersion words
 
 -- the words are none of the program's forms exactly where the status is that of usage
 abbrev pub UsageRule : List (List ℕ) → Status → Type 0
@@ -130,7 +138,7 @@ module _ {I : Type 0} (old new : Surroundings I) where
 -- the form of the words, where they have one
 abbrev pub FormRule : List (List ℕ) → Option Form → Type 0
 FormRule words None = ¬ IsWordForm words
-FormRule words (Some (forms.Run name)) = IsRunOf name.now words
+FormRule words (Some (forms.Run kind name)) = IsServedOf kind name.now words
 FormRule words (Some (forms.Generate name seed)) = IsGenerateOf name.now seed words
 FormRule words (Some forms.Help) = IsHelp words
 FormRule words (Some forms.Version) = IsVersion words

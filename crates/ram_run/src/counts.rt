@@ -75,7 +75,7 @@ impl AnswerCounts {
             Answer::Check(sense) => raise(&mut self.checks, sense),
             Answer::Cut => self.cut += 1,
             Answer::Off => self.off += 1,
-            Answer::Fault | Answer::NoMemory => {}
+            Answer::Fault => {}
         }
     }
 }

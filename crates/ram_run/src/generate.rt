@@ -1,5 +1,6 @@
 //! The run of a script that is drawn from a number, and its summary in place of the report.
 ghost use Rattle.std.specs.Prelude.{◌≡◌, ℕ, Option, Some, List, []};
+ghost use Rattle.model_geometry.specs.declared.kinds.LayoutKind.TheVariants.{OneGroup};
 ghost use Rattle.ram_generate.specs.Script.{script_from};
 ghost use Rattle.ram_text.specs.DialogueRoom.{IsEmptyRoom};
 ghost use Rattle.ram_run.specs.RunState.{IsFresh, HasRoom};
@@ -23,6 +24,7 @@ use ram_machine::status::Status;
 use ram_outside::{Image, MemSink, Opened, Opener, Sink};
 use ram_text::{Dialogue, DialogueRoom};
 use ram_volume::Volume;
+use ram_zones::LayoutKind;
 use std::alloc::Global;
 
 /// Runs the script of the number `seed` over the image of this name, and writes a summary of the answers. The image is
@@ -83,7 +85,7 @@ fn answer_script<I: Image>(
     requires fresh { IsFresh state.old }
     requires empty { IsEmptyRoom room.old }
     requires room { HasRoom state.old }
-    ensures ends { (first : Beginning) → first.script ≡ script.items → first.report ≡ []
+    ensures ends { (first : Beginning) → first.kind ≡ OneGroup → first.script ≡ script.items → first.report ≡ []
         → I.bytes image ≡ Some first.image
         → EndsAs first state.new.tally (I.bytes result.0) result.1 }
     ensures count { EndCount (I.faults image) (I.faults result.0) result.1 }
@@ -93,6 +95,7 @@ fn answer_script<I: Image>(
     let mut dialogue = Dialogue::new(&mut script, &mut aside, room);
     let (image, ending) = answer_lines::<Cached<Volume<ImageMedium<I>>>, KeptScript, MemSink>(
         alloc,
+        LayoutKind::OneGroup,
         image,
         state,
         &mut dialogue,

@@ -1,9 +1,10 @@
 //! The words of the program, and what is done for each form.
-ghost use Rattle.std.specs.Prelude.{◌⊎◌, ℕ, List, map};
+ghost use Rattle.std.specs.Prelude.{◌≡◌, ◌⊎◌, ℕ, List, map};
 ghost use Rattle.ram_run.specs.declared.help.TheConstants.{HELP, VERSION};
+ghost use Rattle.model_geometry.specs.declared.kinds.LayoutKind.{LayoutKind};
 ghost use Rattle.ram_run.specs.Progress.{Beginning};
 ghost use Rattle.ram_run.specs.Completes.{IsInLanguage, BeginsWithDisc, NoneRose, IsComplete};
-ghost use Rattle.ram_run.specs.Words.{IsRunOf, IsRunImage, IsGenerateOf, IsHelp, IsVersion, UsageRule, FormRule, IsNotOpened, UntouchedByUsage, TellsText, AsksOnce, around};
+ghost use Rattle.ram_run.specs.Words.{IsServedOf, IsServedImage, IsGenerateOf, IsHelp, IsVersion, UsageRule, FormRule, IsNotOpened, UntouchedByUsage, TellsText, AsksOnce, around};
 ghost use Rattle.ram_run.specs.Endings.{IsBeginning, IsUnopened, IsNoUsage, StandsWith, StatusCounts, aftermath_of};
 ghost use Rattle.ram_run.specs.Promise.{KeepsBytes};
 ghost use Rattle.ram_run.specs.Generating.{BeginsFrom, Generates, AsksUnread};
@@ -20,13 +21,14 @@ use ram_machine::status::Status;
 use ram_outside::{Opened, Opener, Sink, Source};
 use ram_text::{Dialogue, DialogueRoom};
 use ram_volume::Volume;
+use ram_zones::LayoutKind;
 use std::alloc::Global;
 
 /// The forms of the program's words.
 #[derive(Clone, Copy, Debug, PartialEq, Eq)]
 enum Form<'a> {
-    /// Run a script over the image of this name.
-    Run(&'a str),
+    /// Run a script over the image of this name, whose discs have a layout of this kind.
+    Run(LayoutKind, &'a str),
     /// Run the script of a number over the image of this name.
     Generate(&'a str, u64),
     /// Tell what the program does.
@@ -35,9 +37,9 @@ enum Form<'a> {
     Version,
 }
 
-/// Runs the words of the program: `run IMAGE` answers the script over the image of that name, and reports every
-/// answer; `generate IMAGE N` answers the script that is drawn from the number N, and tells how often each answer came;
-/// `--help` and `--version` tell of the program.
+/// Runs the words of the program: `run IMAGE` answers the script over the image of that name, and reports every answer; `groups IMAGE`
+/// does the same for discs with a group of spares in each zone; `generate IMAGE N` answers the script that is drawn from the number N,
+/// and tells how often each answer came; `--help` and `--version` tell of the program.
 pub fn run<S: Source, K: Sink, O: Opener>(
     alloc: Global,
     words: &[&str],
@@ -58,7 +60,8 @@ pub fn run<S: Source, K: Sink, O: Opener>(
     ensures version { IsVersion (map (λ word. word.now) words.now) → TellsText
         (around S.Source K.Sink O.Opener script.old report.old opener.old)
         (around S.Source K.Sink O.Opener script.new report.new opener.new) VERSION.now result }
-    ensures asks { (name : List ℕ) → IsRunOf name (map (λ word. word.now) words.now) → AsksOnce
+    ensures asks { (kind : LayoutKind) (name : List ℕ)
+        → IsServedOf kind name (map (λ word. word.now) words.now) → AsksOnce
         (around S.Source K.Sink O.Opener script.old report.old opener.old)
         (around S.Source K.Sink O.Opener script.new report.new opener.new) name result }
     ensures generate_asks { (name : List ℕ) (seed : ℕ)
@@ -72,7 +75,7 @@ pub fn run<S: Source, K: Sink, O: Opener>(
         → Generates O.Image.bytes seed first
         (around S.Source K.Sink O.Opener script.old report.old opener.old)
         (around S.Source K.Sink O.Opener script.new report.new opener.new) result }
-    ensures run { (first : Beginning) → IsRunImage (map (λ word. word.now) words.now)
+    ensures run { (first : Beginning) → IsServedImage first.kind (map (λ word. word.now) words.now)
         → IsBeginning O.Image.bytes first
         (around S.Source K.Sink O.Opener script.old report.old opener.old) O.returned_known
         → StandsWith first (aftermath_of O.Image.bytes
@@ -82,12 +85,12 @@ pub fn run<S: Source, K: Sink, O: Opener>(
         ⊎ (IsUnopened result × IsNotOpened
         (around S.Source K.Sink O.Opener script.old report.old opener.old)
         (around S.Source K.Sink O.Opener script.new report.new opener.new)) }
-    ensures promise { (first : Beginning) → IsRunImage (map (λ word. word.now) words.now)
+    ensures promise { (first : Beginning) → IsServedImage first.kind (map (λ word. word.now) words.now)
         → IsBeginning O.Image.bytes first
         (around S.Source K.Sink O.Opener script.old report.old opener.old) O.returned_known
         → KeepsBytes first.script first.report first.image
         (around S.Source K.Sink O.Opener script.new report.new opener.new).written }
-    ensures completes { (first : Beginning) → IsRunImage (map (λ word. word.now) words.now)
+    ensures completes { (first : Beginning) → IsServedImage first.kind (map (λ word. word.now) words.now)
         → IsBeginning O.Image.bytes first
         (around S.Source K.Sink O.Opener script.old report.old opener.old) O.returned_known
         → IsInLanguage first.script → BeginsWithDisc first
@@ -97,7 +100,7 @@ pub fn run<S: Source, K: Sink, O: Opener>(
         → IsComplete result }
 {
     match form_of(words) {
-        Some(Form::Run(name)) => run_image(alloc, name, script, report, opener),
+        Some(Form::Run(kind, name)) => run_image(alloc, kind, name, script, report, opener),
         Some(Form::Generate(name, seed)) => generate_image(alloc, name, seed, report, opener),
         Some(Form::Help) => write_text(report, HELP),
         Some(Form::Version) => write_text(report, VERSION),
@@ -110,7 +113,8 @@ fn form_of<'a>(words: &[&'a str]) -> Option<Form<'a>>
     ensures { FormRule (map (λ word. word.now) words.now) result }
 {
     match words {
-        [verb, name] if *verb == "run" => Some(Form::Run(*name)),
+        [verb, name] if *verb == "run" => Some(Form::Run(LayoutKind::OneGroup, *name)),
+        [verb, name] if *verb == "groups" => Some(Form::Run(LayoutKind::EachZone, *name)),
         [verb, name, number] if *verb == "generate" => match seed_of(number.as_bytes()) {
             Some(seed) => Some(Form::Generate(*name, seed)),
             None => None,
@@ -121,9 +125,10 @@ fn form_of<'a>(words: &[&'a str]) -> Option<Form<'a>>
     }
 }
 
-/// Answers the script over the image of this name. The image is closed on every way out.
+/// Answers the script over the image of this name, whose discs have a layout of this kind. The image is closed on every way out.
 fn run_image<S: Source, K: Sink, O: Opener>(
     alloc: Global,
+    kind: LayoutKind,
     name: &str,
     script: &mut S,
     report: &mut K,
@@ -136,7 +141,7 @@ fn run_image<S: Source, K: Sink, O: Opener>(
     ensures asks { AsksOnce
         (around S.Source K.Sink O.Opener script.old report.old opener.old)
         (around S.Source K.Sink O.Opener script.new report.new opener.new) name.now result }
-    ensures run { (first : Beginning)
+    ensures run { (first : Beginning) → first.kind ≡ kind
         → IsBeginning O.Image.bytes first
         (around S.Source K.Sink O.Opener script.old report.old opener.old) O.returned_known
         → StandsWith first (aftermath_of O.Image.bytes
@@ -160,6 +165,7 @@ fn run_image<S: Source, K: Sink, O: Opener>(
             let mut dialogue = Dialogue::new(script, report, &mut room);
             let (image, status) = serve::<Cached<Volume<ImageMedium<O::Image>>>, S, K>(
                 alloc,
+                kind,
                 image,
                 &mut state,
                 &mut dialogue,

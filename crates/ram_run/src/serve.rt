@@ -17,6 +17,7 @@ use ram_machine::status::Status;
 use ram_machine::{Drive, Inserted, Stopped, begin};
 use ram_outside::{Image, Sink, Source};
 use ram_text::{Dialogue, Line};
+use ram_zones::LayoutKind;
 use std::alloc::Global;
 
 /// Answers a line, and prints the answer.
@@ -83,9 +84,11 @@ pub fn serve_lines<D: Drive, S: Source, K: Sink>(
     }
 }
 
-/// Answers the lines of a script over an image, and tells why they end. The image is handed back as they leave it.
+/// Answers the lines of a script over an image, whose discs have a layout of this kind, and tells why they end. The image is handed
+/// back as they leave it.
 pub fn answer_lines<D: Drive, S: Source, K: Sink>(
     alloc: Global,
+    kind: LayoutKind,
     image: D::Image,
     state: &mut RunState,
     dialogue: &mut Dialogue<S, K>,
@@ -94,13 +97,13 @@ pub fn answer_lines<D: Drive, S: Source, K: Sink>(
     requires empty { IsEmptyRoom (dialogue_room dialogue.old) }
     requires room { HasRoom state.old }
     ensures same { HasSameEnds dialogue.old dialogue.new }
-    ensures leaves { (first : Beginning)
+    ensures leaves { (first : Beginning) → first.kind ≡ kind
         → Begins first (S.left (source_of dialogue.old)) (K.written (sink_of dialogue.old)) (D.Image.bytes image)
         → LeavesBy first state.new.tally (D.Image.bytes result.0) result.1 }
     ensures counts { StopCounts (counts_with S.Source K.Sink dialogue.old (D.Image.faults image))
         (counts_with S.Source K.Sink dialogue.new (D.Image.faults result.0)) result.1 }
 {
-    let inserted = match begin::<D>(alloc, image) {
+    let inserted = match begin::<D>(alloc, image, kind) {
         Ok(inserted) => inserted,
         Err((image, stopped)) => return (image, Err(stopped)),
     };
@@ -108,9 +111,10 @@ pub fn answer_lines<D: Drive, S: Source, K: Sink>(
     (inserted.into_image(), ending)
 }
 
-/// Serves a script over an image, and hands the image back as the lines leave it.
+/// Serves a script over an image, whose discs have a layout of this kind, and hands the image back as the lines leave it.
 pub fn serve<D: Drive, S: Source, K: Sink>(
     alloc: Global,
+    kind: LayoutKind,
     image: D::Image,
     state: &mut RunState,
     dialogue: &mut Dialogue<S, K>,
@@ -120,7 +124,7 @@ pub fn serve<D: Drive, S: Source, K: Sink>(
     requires room { HasRoom state.old }
     ensures other { IsNoUsage result.1 }
     ensures same { HasSameEnds dialogue.old dialogue.new }
-    ensures leaves { (first : Beginning)
+    ensures leaves { (first : Beginning) → first.kind ≡ kind
         → Begins first (S.left (source_of dialogue.old)) (K.written (sink_of dialogue.old)) (D.Image.bytes image)
         → StandsWith first
         (aftermath (S.left (source_of dialogue.new)) (K.written (sink_of dialogue.new)) (D.Image.bytes result.0))
@@ -129,7 +133,7 @@ pub fn serve<D: Drive, S: Source, K: Sink>(
     ensures counts { StatusCounts (counts_with S.Source K.Sink dialogue.old (D.Image.faults image))
         (counts_with S.Source K.Sink dialogue.new (D.Image.faults result.0)) result.1 }
 {
-    let inserted = match begin::<D>(alloc, image) {
+    let inserted = match begin::<D>(alloc, image, kind) {
         Ok(inserted) => inserted,
         Err((image, stopped)) => return (image, status_of(Err(stopped))),
     };

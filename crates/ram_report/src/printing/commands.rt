@@ -79,7 +79,7 @@ fn print_words<K: Sink>(
         Answer::Check(sense) => print_check(writer, sink, sense),
         Answer::Cut => writer.put(sink, b" cut\n"),
         Answer::Off => writer.put(sink, b" off\n"),
-        Answer::Fault | Answer::NoMemory => unreachable!(),
+        Answer::Fault => unreachable!(),
     }
 }
 

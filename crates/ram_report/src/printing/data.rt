@@ -32,7 +32,7 @@ pub(crate) fn print_reply<K: Sink>(
 {
     match answer {
         Answer::Good => {}
-        Answer::Check(_) | Answer::Cut | Answer::Off | Answer::Fault | Answer::NoMemory => {
+        Answer::Check(_) | Answer::Cut | Answer::Off | Answer::Fault => {
             return Ok(());
         }
     }

@@ -7,7 +7,7 @@ use Rattle.ram_run.proofs.Closes.{stands_there, renamed, begins_known, handed_ba
 use Rattle.ram_run.proofs.run.run_image.Goals as goal
 
 pub returns-clause-run : goal.returns-clause-run
-returns-clause-run g c first known =
+returns-clause-run g c first kind known =
     let left = g.S.Source.left (source_of c.serve-image.new.dialogue) in
     let written = g.K.Sink.written (sink_of c.serve-image.new.dialogue) in
     let image = g.O.Image.Image.bytes c.serve-image.result.0 in
@@ -21,4 +21,4 @@ returns-clause-run g c first known =
     refl (search rules)
     (rw (c.close.ensures.count, c.in-Image.ensures.count)
     (stands_there (g.S.Source.faults c.args.script.now) (g.S.Source.faults (source_of c.serve-image.new.dialogue)) (g.K.Sink.faults c.args.report.now) (g.K.Sink.faults (sink_of c.serve-image.new.dialogue))
-    (g.O.Opener.faults c.args.opener.now) (g.O.Image.Image.faults c.serve-image.result.0) first (aftermath left written image) c.serve-image.result.1 (leaves begins))))
+    (g.O.Opener.faults c.args.opener.now) (g.O.Image.Image.faults c.serve-image.result.0) first (aftermath left written image) c.serve-image.result.1 (leaves kind begins))))

@@ -7,7 +7,7 @@ use Rattle.ram_run.proofs.Finishes.{begins, left_by}
 use Rattle.ram_run.proofs.serve.serve.Goals as goal
 
 pub returns-clause-leaves : goal.returns-clause-leaves
-returns-clause-leaves g c first b =
+returns-clause-leaves g c first kind b =
     rw c.finish-status.ensures.nothing.source (left_by first (Stands g.D.Caching g.D.Drive.lies_in g.D.Image.Image c.serve_lines-inserted.result.0) (g.D.Image.Image.bytes c.into_image.result) c.into_image.ensures.left
     (run_view g.S.Source g.K.Sink c.serve_lines-inserted.new.dialogue c.serve_lines-inserted.new.state.tally) (g.K.Sink.written (sink_of c.finish-status.new.dialogue))
     (counts_with g.S.Source g.K.Sink c.args.dialogue.now (g.D.Image.Image.faults c.args.image)) (counts_of (g.S.Source.faults (source_of c.serve_lines-inserted.new.dialogue)) (g.K.Sink.faults (sink_of c.finish-status.new.dialogue)) (g.D.Image.Image.faults c.into_image.result))
@@ -20,7 +20,7 @@ returns-clause-leaves g c first b =
     c.serve_lines-inserted.new.state.tally c.serve_lines-inserted.result.1 (rw c.in-Ok.ensures.1 at c.serve_lines-inserted.ensures.counts) cause le))
     c.finish-status.result
     (c.serve_lines-inserted.ensures.ends first
-    (begins g.S.Source g.K.Sink first (Stands g.D.Caching g.D.Drive.lies_in g.D.Image.Image c.in-Ok.inserted) c.args.dialogue.now c.args.state.now c.requires.fresh c.requires.empty b.left_is b.written_is
+    (begins g.S.Source g.K.Sink first c.args.kind (Stands g.D.Caching g.D.Drive.lies_in g.D.Image.Image c.in-Ok.inserted) c.args.dialogue.now c.args.state.now kind c.requires.fresh c.requires.empty b.left_is b.written_is
     (c.in-Ok.ensures.0 first.image b.image_is)))
     c.finish-status.ensures.rule)
 
