@@ -2,19 +2,23 @@
 
 use crate::calls::answer_words;
 use ram_by_hand::{Controlled, Taken};
-use ram_cache::Cached;
+use ram_cache::{Cached, PendingBlocks};
 use ram_drives_by_hand::Rig;
 use ram_medium::{Arm, FailEnd, Fate, Medium, MemMedium};
 use ram_sectors::Disc;
+use ram_transfer::Memory;
 use ram_volume::Volume;
 use ram_zones::Geometry;
 use std::alloc::{AllocError, Global};
-use std::fmt::Write;
 
 /// A disc in memory, as the steps of a row work with it.
 pub trait InMemory: Disc + Drop {
     /// A disc over a medium, with its power off. There is none where the geometry has another number of blocks.
-    fn over(medium: MemMedium, geometry: Geometry) -> Option<Self>;
+    fn over(
+        alloc: Global,
+        medium: MemMedium,
+        geometry: Geometry,
+    ) -> Result<Option<Self>, AllocError>;
 
     /// The medium, as the disc leaves it.
     fn into_medium(self) -> MemMedium;
@@ -30,16 +34,23 @@ pub trait InMemory: Disc + Drop {
 }
 
 impl InMemory for Volume<MemMedium> {
-    fn over(mut medium: MemMedium, geometry: Geometry) -> Option<Volume<MemMedium>> {
+    fn over(
+        alloc: Global,
+        mut medium: MemMedium,
+        geometry: Geometry,
+    ) -> Result<Option<Volume<MemMedium>>, AllocError> {
         medium.power_off();
         if medium.blocks() != geometry.total() {
-            return None;
+            return Ok(None);
         }
-        Some(Volume::new(medium, geometry))
+        let memory = Memory::new(alloc, &geometry)?;
+        Ok(Some(Volume::new(medium, geometry, memory)))
     }
 
     fn into_medium(self) -> MemMedium {
-        self.into_medium()
+        let (medium, memory) = self.into_parts();
+        drop(memory);
+        medium
     }
 
     fn fail(&mut self, block: u32) -> FailEnd {
@@ -60,40 +71,6 @@ impl InMemory for Volume<MemMedium> {
 pub struct Drive<D: Disc> {
     pub cached: Cached<D>,
     geometry: Geometry,
-    /// How often memory for the cache was refused as the drive was made.
-    refused: u32,
-}
-
-/// A drive over a disc. Where memory for the cache is refused, another is made over the disc that came back.
-fn cache_over<D: InMemory>(
-    alloc: Global,
-    disc: D,
-    geometry: Geometry,
-) -> Result<Drive<D>, AllocError> {
-    match Cached::new(alloc, disc) {
-        Ok(cached) => Ok(Drive {
-            cached,
-            geometry,
-            refused: 0,
-        }),
-        Err((disc, _)) => cache_again(alloc, disc, geometry),
-    }
-}
-
-/// A drive over a disc that came back once.
-fn cache_again<D: InMemory>(
-    alloc: Global,
-    disc: D,
-    geometry: Geometry,
-) -> Result<Drive<D>, AllocError> {
-    match Cached::new(alloc, disc) {
-        Ok(cached) => Ok(Drive {
-            cached,
-            geometry,
-            refused: 1,
-        }),
-        Err((_, refused)) => Err(refused),
-    }
 }
 
 impl<D: InMemory> Controlled for Drive<D> {
@@ -113,20 +90,22 @@ impl<D: InMemory> Controlled for Drive<D> {
 impl<D: InMemory> Rig for Drive<D> {
     fn over(alloc: Global, taken: Taken<MemMedium>) -> Result<Option<Drive<D>>, AllocError> {
         let Taken { medium, geometry } = taken;
-        match D::over(medium, geometry) {
-            Some(disc) => Ok(Some(cache_over(alloc, disc, geometry)?)),
-            None => Ok(None),
-        }
+        let Some(disc) = D::over(alloc, medium, geometry)? else {
+            return Ok(None);
+        };
+        let pending = PendingBlocks::new(alloc)?;
+        Ok(Some(Drive {
+            cached: Cached::new(disc, pending),
+            geometry,
+        }))
     }
 
     fn take_out(self) -> Taken<MemMedium> {
-        let Drive {
-            cached,
-            geometry,
-            ..
-        } = self;
+        let Drive { cached, geometry } = self;
+        let (disc, pending) = cached.into_parts();
+        drop(pending);
         Taken {
-            medium: cached.into_disc().into_medium(),
+            medium: disc.into_medium(),
             geometry,
         }
     }
@@ -137,10 +116,6 @@ impl<D: InMemory> Rig for Drive<D> {
         words: &[&str],
         answer: &mut String,
     ) -> Result<bool, AllocError> {
-        if matches!(words, ["refused"]) {
-            write!(answer, "{} times", self.refused)?;
-            return Ok(true);
-        }
         answer_words(alloc, &mut self.cached, words, answer)
     }
 }

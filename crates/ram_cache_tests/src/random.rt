@@ -208,7 +208,7 @@ impl<D: InMemory> Run<D> {
                 self.plain.format_perhaps(alloc, SECTORS)?;
             }
             FormatOut::Cut | FormatOut::Fault => self.plain.lose()?,
-            FormatOut::Off | FormatOut::NoMemory => return Ok(false),
+            FormatOut::Off => return Ok(false),
             FormatOut::Good | FormatOut::TooMany { .. } | FormatOut::NoUpdate { .. } => {}
         }
         if OfCaching::capacity(&self.drive.cached).is_none() {
@@ -221,7 +221,7 @@ impl<D: InMemory> Run<D> {
     fn format(&mut self, alloc: Global, kind: Kind) -> Result<(), AllocError> {
         let formatted = OfCaching::capacity(&self.drive.cached).is_some();
         let is_full = !formatted || kind != Kind::Rewrite;
-        let out = OfCaching::format(alloc, &mut self.drive.cached, kind);
+        let out = OfCaching::format(&mut self.drive.cached, kind);
         let may_come = self.take_format(alloc, is_full, out)?;
         self.compare(may_come);
         Ok(())
@@ -253,19 +253,18 @@ impl<D: InMemory> Run<D> {
     /// Turns the power off and on. An expansion that was stopped may have made the disc smaller.
     fn power(&mut self, alloc: Global) -> Result<(), AllocError> {
         self.plain.lose()?;
-        let may_come = match OfCaching::power(alloc, &mut self.drive.cached) {
+        let may_come = match OfCaching::power(&mut self.drive.cached) {
             PowerOut::Ready { capacity } => self.plain.shrink(alloc, capacity)?,
             PowerOut::NotFormatted | PowerOut::Cut | PowerOut::Fault => true,
-            PowerOut::NoMemory => false,
         };
         self.compare(may_come);
         Ok(())
     }
 
     /// Turns the power of the disc off and on, which is lent: what is pending stays.
-    fn power_lent(&mut self, alloc: Global) {
-        let out = OfDisc::power(alloc, &mut self.drive.cached.disc);
-        self.compare(out != PowerOut::NoMemory);
+    fn power_lent(&mut self) {
+        OfDisc::power(&mut self.drive.cached.disc);
+        self.compare(true);
     }
 
     /// Makes a block dead, now or at a later use.
@@ -297,7 +296,7 @@ impl<D: InMemory> Run<D> {
             78..=83 => self.tick()?,
             84..=86 => self.verify()?,
             87 => self.power(alloc)?,
-            88 => self.power_lent(alloc),
+            88 => self.power_lent(),
             89..=90 => self.turn(),
             91..=93 => self.fail(),
             94..=96 => self.arm_cut(),

@@ -26,13 +26,13 @@ pub enum Call {
 /// What makes the calls of a host with a drive. A request has at most as many sectors as it may have.
 pub trait Calls<D> {
     /// Turns the power off and on.
-    fn power(alloc: Global, drive: &mut D) -> PowerOut;
+    fn power(drive: &mut D) -> PowerOut;
 
     /// How many sectors the disc has.
     fn capacity(drive: &D) -> Option<u32>;
 
     /// Formats the disc.
-    fn format(alloc: Global, drive: &mut D, kind: Kind) -> FormatOut;
+    fn format(drive: &mut D, kind: Kind) -> FormatOut;
 
     /// Writes sectors, each with this byte all over.
     fn write(
@@ -68,16 +68,16 @@ pub trait Calls<D> {
 pub struct OfDisc;
 
 impl<D: Disc> Calls<D> for OfDisc {
-    fn power(alloc: Global, drive: &mut D) -> PowerOut {
-        drive.power(alloc)
+    fn power(drive: &mut D) -> PowerOut {
+        drive.power()
     }
 
     fn capacity(drive: &D) -> Option<u32> {
         drive.capacity()
     }
 
-    fn format(alloc: Global, drive: &mut D, kind: Kind) -> FormatOut {
-        drive.format(alloc, kind)
+    fn format(drive: &mut D, kind: Kind) -> FormatOut {
+        drive.format(kind)
     }
 
     fn write(
@@ -125,16 +125,16 @@ impl<D: Disc> Calls<D> for OfDisc {
 pub struct OfCaching;
 
 impl<D: Caching> Calls<D> for OfCaching {
-    fn power(alloc: Global, drive: &mut D) -> PowerOut {
-        drive.power(alloc)
+    fn power(drive: &mut D) -> PowerOut {
+        drive.power()
     }
 
     fn capacity(drive: &D) -> Option<u32> {
         drive.capacity()
     }
 
-    fn format(alloc: Global, drive: &mut D, kind: Kind) -> FormatOut {
-        drive.format(alloc, kind)
+    fn format(drive: &mut D, kind: Kind) -> FormatOut {
+        drive.format(kind)
     }
 
     fn write(

@@ -9,12 +9,8 @@ use std::alloc::{AllocError, Global};
 use std::fmt::Write;
 
 /// Adds how the turning on of the power ended.
-fn add_power<D, C: Calls<D>>(
-    alloc: Global,
-    drive: &mut D,
-    answer: &mut String,
-) -> Result<(), AllocError> {
-    let out = C::power(alloc, drive);
+fn add_power<D, C: Calls<D>>(drive: &mut D, answer: &mut String) -> Result<(), AllocError> {
+    let out = C::power(drive);
     write!(answer, "{out:?}")
 }
 
@@ -28,12 +24,11 @@ fn add_capacity<D, C: Calls<D>>(drive: &D, answer: &mut String) -> Result<(), Al
 
 /// Adds how a format ended.
 fn add_format<D, C: Calls<D>>(
-    alloc: Global,
     drive: &mut D,
     kind: Kind,
     answer: &mut String,
 ) -> Result<(), AllocError> {
-    let out = C::format(alloc, drive, kind);
+    let out = C::format(drive, kind);
     write!(answer, "{out:?}")
 }
 
@@ -130,9 +125,9 @@ pub fn answer_call<D, C: Calls<D>>(
     answer: &mut String,
 ) -> Result<(), AllocError> {
     match call {
-        Call::Power => add_power::<D, C>(alloc, drive, answer),
+        Call::Power => add_power::<D, C>(drive, answer),
         Call::Capacity => add_capacity::<D, C>(drive, answer),
-        Call::Format(kind) => add_format::<D, C>(alloc, drive, kind, answer),
+        Call::Format(kind) => add_format::<D, C>(drive, kind, answer),
         Call::Write { lba, n, byte } => add_write::<D, C>(alloc, drive, lba, n, byte, answer),
         Call::Read { lba, n } => add_read::<D, C>(alloc, drive, lba, n, answer),
         Call::Expand { capacity } => add_expand::<D, C>(drive, capacity, answer),

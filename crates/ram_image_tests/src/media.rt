@@ -6,7 +6,7 @@ use ram_image::header::image_len;
 use ram_image::{ImageMedium, PressOut, open, press};
 use ram_medium::{MediumControl, MemMedium};
 use ram_outside::MemImage;
-use ram_zones::Geometry;
+use ram_zones::{Geometry, LayoutKind};
 use std::alloc::{AllocError, Global};
 
 /// How many blocks the disc has that is pressed: one of one zone, scale 1 and one primary spare.
@@ -75,7 +75,7 @@ pub fn over_image(
     is_straight: bool,
 ) -> Result<Vec<Answer>, AllocError> {
     let image = MemImage::new(pressed(alloc)?, failing);
-    match open(alloc, image) {
+    match open(alloc, image, LayoutKind::OneGroup) {
         Ok((medium, _)) => take_image(alloc, medium, steps, is_straight),
         Err(_) => Ok(Vec::new(alloc)),
     }

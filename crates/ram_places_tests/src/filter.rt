@@ -1,10 +1,12 @@
 //! The table of a layout beside a plain look at all blocks of the disc, one after another.
 
-use crate::places::{Places, block_in, spare_in};
+use crate::due::{Due, dues_in_group, dues_in_zones};
+use crate::places::{Places, block_in, pool_in, spare_at};
 use ram_dds::DdsPdl;
-use ram_layout::{Layout, SlipLayout};
+use ram_groups::AnyLayout;
+use ram_layout::Layout;
 use ram_slip::Place;
-use ram_zones::Geometry;
+use ram_zones::{Geometry, LayoutKind};
 use std::alloc::{AllocError, Global};
 use std::fmt::Write;
 
@@ -19,17 +21,9 @@ struct Tally {
     agreed: u32,
 }
 
-/// How the blocks that are kept are shared out, in their order.
-#[derive(Clone, Copy)]
-struct Shares {
-    primary: u32,
-    logical: u32,
-    all: u32,
-}
-
 /// What a block is, before it is told which of those that are not slipped are spares.
 #[derive(Clone, Copy, PartialEq, Eq)]
-enum Look {
+pub enum Look {
     Outside,
     Slipped,
     Kept,
@@ -67,52 +61,6 @@ fn looks_of(alloc: Global, geometry: &Geometry, dds: &DdsPdl) -> Result<Vec<Look
     Ok(looks)
 }
 
-/// Of how many blocks this is said.
-fn count_of(looks: &[Look], said: Look) -> u32 {
-    let mut count = 0u32;
-    for look in looks {
-        count = count.saturating_add(u32::from(*look == said));
-    }
-    count
-}
-
-/// How the blocks that are kept are shared out where there are so many supplementary spares.
-fn shares_of(geometry: &Geometry, slipped: u32, ssa: u32, all: u32) -> Shares {
-    let primary = geometry.psa().saturating_sub(slipped);
-    Shares {
-        primary,
-        logical: all.saturating_sub(primary).saturating_sub(ssa),
-        all,
-    }
-}
-
-impl Shares {
-    /// What the n-th of the blocks that are kept is.
-    fn place(self, n: u32) -> Place {
-        if n < self.primary {
-            return Place::Primary;
-        }
-        let i = n.saturating_sub(self.primary);
-        if i < self.logical {
-            return Place::Logical { i };
-        }
-        Place::Supplementary
-    }
-
-    /// The block that the table gives for the n-th of them, by its number as a logical block or by its turn as a spare.
-    fn given(self, layout: &SlipLayout, n: u32) -> Option<u32> {
-        let behind = self.all.saturating_sub(n).saturating_sub(1);
-        match self.place(n) {
-            Place::Logical { i } => block_in(layout, i),
-            Place::Primary => {
-                let turn = self.primary.saturating_sub(n).saturating_sub(1);
-                spare_in(layout, turn)
-            }
-            _ => spare_in(layout, self.primary.saturating_add(behind)),
-        }
-    }
-}
-
 impl Tally {
     /// Counts a block that is this, and whether the table agrees.
     fn count(&mut self, place: Place, agrees: bool) {
@@ -127,8 +75,18 @@ impl Tally {
     }
 }
 
+/// Whether the table says of a block what is due, both ways.
+fn is_given(layout: &AnyLayout, block: u32, due: &Due) -> bool {
+    let given = match due.place {
+        Place::Logical { i } if pool_in(layout, i) == Some(due.pool) => block_in(layout, i),
+        Place::Logical { i: _ } => None,
+        _ => spare_at(layout, due.pool, due.turn),
+    };
+    given == Some(block) && layout.place(block) == due.place
+}
+
 /// Looks at all blocks.
-fn look_at_all(layout: &SlipLayout, looks: &[Look], shares: Shares) -> Tally {
+fn look_at_all(layout: &AnyLayout, looks: &[Look], dues: &[Due]) -> Tally {
     let mut tally = Tally {
         primary: 0,
         logical: 0,
@@ -136,22 +94,56 @@ fn look_at_all(layout: &SlipLayout, looks: &[Look], shares: Shares) -> Tally {
         slipped: 0,
         agreed: 0,
     };
-    let (mut block, mut n) = (0u32, 0u32);
+    let (mut block, mut n) = (0u32, 0usize);
     for look in looks {
-        let said = layout.place(block);
         match look {
-            Look::Outside => tally.count(Place::Outside, said == Place::Outside),
-            Look::Slipped => tally.count(Place::Slipped, said == Place::Slipped),
+            Look::Outside => tally.count(Place::Outside, layout.place(block) == Place::Outside),
+            Look::Slipped => tally.count(Place::Slipped, layout.place(block) == Place::Slipped),
             Look::Kept => {
-                let place = shares.place(n);
-                let given = shares.given(layout, n) == Some(block);
-                tally.count(place, given && said == place);
+                if let Some(due) = dues.get(n) {
+                    tally.count(due.place, is_given(layout, block, due));
+                }
                 n = n.saturating_add(1);
             }
         }
         block = block.saturating_add(1);
     }
     tally
+}
+
+/// Looks at all blocks of a disc.
+fn tally_of(
+    alloc: Global,
+    geometry: &Geometry,
+    dds: &DdsPdl,
+    ssa: u32,
+    layout: &AnyLayout,
+) -> Result<Tally, AllocError> {
+    let looks = looks_of(alloc, geometry, dds)?;
+    let dues = match geometry.layout() {
+        LayoutKind::OneGroup => dues_in_group(alloc, geometry, &looks, ssa)?,
+        LayoutKind::EachZone => dues_in_zones(alloc, geometry, &looks)?,
+    };
+    Ok(look_at_all(layout, &looks, &dues))
+}
+
+/// Whether the table says of all blocks of a disc what a look at them all says.
+pub fn agrees(
+    alloc: Global,
+    geometry: &Geometry,
+    dds: &DdsPdl,
+    ssa: u32,
+    layout: &AnyLayout,
+) -> Result<bool, AllocError> {
+    Ok(tally_of(alloc, geometry, dds, ssa, layout)?.agreed == geometry.total())
+}
+
+/// Adds how many runs a table of one group has.
+fn add_runs(layout: &AnyLayout, answer: &mut String) -> Result<(), AllocError> {
+    match layout {
+        AnyLayout::Slip(slip) => write!(answer, "{} runs, ", slip.runs().len()),
+        AnyLayout::Zones(_) => Ok(()),
+    }
 }
 
 impl Places {
@@ -166,20 +158,13 @@ impl Places {
         let Some(layout) = self.layout(alloc, ssa)? else {
             return answer.push_str("not valid");
         };
-        let looks = looks_of(alloc, &self.geometry, &self.dds)?;
-        let slipped = count_of(&looks, Look::Slipped);
-        let kept = count_of(&looks, Look::Kept);
-        let shares = shares_of(&self.geometry, slipped, ssa, kept);
-        let found = look_at_all(&layout, &looks, shares);
-        write!(
-            answer,
-            "{} runs, {} slipped",
-            layout.runs().len(),
-            found.slipped
-        )?;
+        let found = tally_of(alloc, &self.geometry, &self.dds, ssa, &layout)?;
+        add_runs(&layout, answer)?;
+        write!(answer, "{} slipped", found.slipped)?;
         let (primary, logical) = (found.primary, found.logical);
         write!(answer, ", {primary} primary, {logical} logical")?;
         write!(answer, ", {} supplementary", found.supplementary)?;
-        write!(answer, "; {} of {} the same", found.agreed, looks.len())
+        let total = self.geometry.total();
+        write!(answer, "; {} of {total} the same", found.agreed)
     }
 }

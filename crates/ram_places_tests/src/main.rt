@@ -3,6 +3,8 @@
 #![tactic(auto)]
 
 mod blocks;
+mod borders;
+mod due;
 mod entries;
 mod filter;
 mod marks;

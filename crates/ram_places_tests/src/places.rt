@@ -2,12 +2,16 @@
 
 use ram_by_hand::{Entry, number_of};
 use ram_dds::{DdsPdl, DdsState, PdlEntry, PdlKind};
-use ram_layout::{Layout, SlipLayout};
+use ram_groups::AnyLayout;
+use ram_layout::Layout;
 use ram_sdl::{SDL_LIMIT, Sdl, SdlEntry};
 use ram_slip::{Place, is_valid_pdl, is_valid_ssa, place_of, spare_turn};
 use ram_zones::Geometry;
 use std::alloc::{AllocError, Global};
 use std::fmt::Write;
+
+/// The most spares that a disc of version 2 may have.
+const MOST_SPARES: u32 = 8_184;
 
 /// The most blocks that a disc may have slipped.
 const MOST_SLIPPED: usize = 4_092;
@@ -46,6 +50,15 @@ fn slip_all(dds: &mut DdsPdl, word: &str) {
     let step = step.max(1);
     for k in 0..(last.saturating_sub(first) / step).saturating_add(1) {
         slip(dds, first.saturating_add(k.saturating_mul(step)));
+    }
+}
+
+/// Takes these two blocks for the slipped ones, or one where they are the same.
+pub fn take_slipped(dds: &mut DdsPdl, first: u32, second: u32) {
+    dds.entries.clear();
+    slip(dds, first);
+    if second != first {
+        slip(dds, second);
     }
 }
 
@@ -92,32 +105,85 @@ pub fn layout_of(
     geometry: &Geometry,
     dds: &DdsPdl,
     ssa: u32,
-) -> Result<Option<SlipLayout>, AllocError> {
-    let _layout = geometry.layout();
+) -> Result<Option<AnyLayout>, AllocError> {
     if is_valid_pdl(geometry, dds) && is_valid_ssa(geometry, dds.version, ssa) {
-        return Ok(Some(SlipLayout::new(alloc, geometry, dds, ssa)?));
+        return Ok(Some(AnyLayout::new(alloc, geometry, dds, ssa)?));
     }
     Ok(None)
 }
 
+/// The same without supplementary spares, made in the place of that of a disc without a slipped block.
+pub fn rebuilt(
+    alloc: Global,
+    geometry: &Geometry,
+    dds: &DdsPdl,
+) -> Result<Option<AnyLayout>, AllocError> {
+    let mut empty = DdsPdl::new(alloc)?;
+    empty.layout = geometry.layout();
+    empty.psa = geometry.psa();
+    if !is_valid_pdl(geometry, &empty) {
+        return Ok(None);
+    }
+    if !is_valid_pdl(geometry, dds) {
+        return Ok(None);
+    }
+    if !is_valid_ssa(geometry, dds.version, 0) {
+        return Ok(None);
+    }
+    let mut layout = AnyLayout::new(alloc, geometry, &empty, 0)?;
+    layout.rebuild(geometry, dds, 0);
+    Ok(Some(layout))
+}
+
 /// The block of a logical block, where there is such a one.
-pub fn block_in(layout: &SlipLayout, i: u32) -> Option<u32> {
+pub fn block_in(layout: &AnyLayout, i: u32) -> Option<u32> {
     if i < layout.logical() {
         return Some(layout.physical(i));
     }
     None
 }
 
-/// The spare of a turn, where there is such a one.
-pub fn spare_in(layout: &SlipLayout, turn: u32) -> Option<u32> {
-    if layout.pools() == 1 {
-        return layout.spare(0, turn);
+/// The pool of a logical block, where there is such a one.
+pub fn pool_in(layout: &AnyLayout, i: u32) -> Option<u32> {
+    if i < layout.logical() {
+        return Some(layout.pool_of(i));
+    }
+    None
+}
+
+/// The spare of a pool that is taken as the `k`-th, where there is such a one.
+pub fn spare_at(layout: &AnyLayout, pool: u32, k: u32) -> Option<u32> {
+    if pool < layout.pools() {
+        return layout.spare(pool, k);
+    }
+    None
+}
+
+/// How many spares a pool has.
+fn spares_of(layout: &AnyLayout, pool: u32) -> u32 {
+    for k in 0..MOST_SPARES {
+        if spare_at(layout, pool, k).is_none() {
+            return k;
+        }
+    }
+    MOST_SPARES
+}
+
+/// The spare of a turn, those of one pool after those of another, where there is such a one.
+pub fn spare_in(layout: &AnyLayout, turn: u32) -> Option<u32> {
+    let mut left = turn;
+    for pool in 0..layout.pools() {
+        let count = spares_of(layout, pool);
+        if left < count {
+            return spare_at(layout, pool, left);
+        }
+        left -= count;
     }
     None
 }
 
 /// What a block is by sums, where what that asks for holds.
-fn found_at(geometry: &Geometry, dds: &DdsPdl, ssa: u32, block: u32) -> Option<Place> {
+pub fn found_at(geometry: &Geometry, dds: &DdsPdl, ssa: u32, block: u32) -> Option<Place> {
     if is_valid_pdl(geometry, dds) && is_valid_ssa(geometry, dds.version, ssa) {
         return Some(place_of(geometry, dds, ssa, block));
     }
@@ -134,7 +200,7 @@ fn turn_at(geometry: &Geometry, dds: &DdsPdl, ssa: u32, block: u32) -> Option<u3
 
 impl Places {
     /// The layout with so many supplementary spares.
-    pub fn layout(&self, alloc: Global, ssa: u32) -> Result<Option<SlipLayout>, AllocError> {
+    pub fn layout(&self, alloc: Global, ssa: u32) -> Result<Option<AnyLayout>, AllocError> {
         layout_of(alloc, &self.geometry, &self.dds, ssa)
     }
 
@@ -194,7 +260,7 @@ impl Places {
 
     /// Adds the runs of the blocks that are not slipped, each by its first block, its index and its length.
     pub fn add_runs(&self, alloc: Global, answer: &mut String) -> Result<(), AllocError> {
-        let Some(layout) = self.layout(alloc, 0)? else {
+        let Some(AnyLayout::Slip(layout)) = self.layout(alloc, 0)? else {
             return answer.push_str("not valid");
         };
         for run in layout.runs() {

@@ -80,6 +80,16 @@ fn take_geometry(
     }
 }
 
+/// Takes the geometry with as many spares in each zone, where that fits, and a structure of that kind.
+fn take_zones(table: &mut Table, answer: &mut String) -> Result<(), AllocError> {
+    if !table.places.geometry.fits_zones() {
+        return answer.push_str("does not fit");
+    }
+    table.places.geometry = table.places.geometry.in_zones();
+    table.places.dds.layout = table.places.geometry.layout();
+    add_sizes(&table.places.geometry, answer)
+}
+
 /// Adds whether something is valid.
 fn add_valid(valid: bool, answer: &mut String) -> Result<(), AllocError> {
     answer.push_str(if valid { "valid" } else { "not valid" })
@@ -94,6 +104,7 @@ fn slip(
     answer: &mut String,
 ) -> Result<(), AllocError> {
     table.places.dds = slipping(alloc, psa, blocks)?;
+    table.places.dds.layout = table.places.geometry.layout();
     add_valid(
         is_valid_pdl(&table.places.geometry, &table.places.dds),
         answer,
@@ -241,7 +252,9 @@ fn look(
         ("place", [ssa, block]) => places.add_place(alloc, *ssa, *block, answer),
         ("filter", [ssa]) => places.add_filtered(alloc, *ssa, answer),
         ("home", [i]) => places.add_home(alloc, *i, answer),
-        ("free", [first]) => places.add_free(alloc, *first, answer),
+        ("free", [first]) => places.add_free(alloc, 0, *first, answer),
+        ("free", [first, pool]) => places.add_free(alloc, *pool, *first, answer),
+        ("borders", []) => places.add_borders(alloc, answer),
         ("spare", [ssa, block]) => places.add_spare(alloc, *ssa, *block, answer),
         ("next", []) => places.add_next(alloc, None, answer),
         ("next", [after]) => places.add_next(alloc, Some(*after), answer),
@@ -294,6 +307,7 @@ fn make(
             number_of(psa).unwrap_or(0),
             answer,
         ),
+        ["zones"] => take_zones(table, answer),
         ["slip", psa, blocks @ ..] => {
             slip(alloc, table, number_of(psa).unwrap_or(0), blocks, answer)
         }

@@ -11,6 +11,7 @@ ghost use Rattle.ram_spare.specs.Spares.{both_lists};
 
 use crate::places::{Places, layout_of};
 use ram_dds::{DdsPdl, DdsState};
+use ram_groups::AnyLayout;
 use ram_layout::{Layout, SlipLayout};
 use ram_lists::is_valid_sdl;
 use ram_sdl::Sdl;
@@ -75,7 +76,7 @@ pub fn next(
     after: Option<u32>,
 ) -> Result<Option<u32>, AllocError> {
     let cursors = Cursors::new(alloc, 1)?;
-    let Some(layout) = layout_of(alloc, geometry, dds, sdl.ssa)? else {
+    let Some(AnyLayout::Slip(layout)) = layout_of(alloc, geometry, dds, sdl.ssa)? else {
         return Ok(Some(0));
     };
     if !are_valid(geometry, dds, sdl) {
@@ -84,18 +85,18 @@ pub fn next(
     Ok(next_in(&layout, &cursors, sdl, after))
 }
 
-/// The first free spare of a layout from a turn on.
-fn free_in(layout: &SlipLayout, sdl: &Sdl, first: u32) -> Option<FreeSpare>
+/// The first free spare of a pool from a turn on.
+fn free_in(layout: &AnyLayout, sdl: &Sdl, pool: u32, first: u32) -> Option<FreeSpare>
     requires rise { IsStrictlyIncreasing (defectives sdl.now.entries) }
 {
-    if layout.pools() == 1 {
-        return free_from(layout, sdl, 0, first);
+    if pool < layout.pools() {
+        return free_from(layout, sdl, pool, first);
     }
     None
 }
 
 /// The home of a logical block, where there is such a one.
-fn home_in(layout: &SlipLayout, sdl: &Sdl, i: u32) -> Option<u32>
+fn home_in(layout: &AnyLayout, sdl: &Sdl, i: u32) -> Option<u32>
     requires rise { IsStrictlyIncreasing (defectives sdl.now.entries) }
 {
     if i < layout.logical() {
@@ -144,10 +145,12 @@ impl Places {
         Ok(())
     }
 
-    /// Adds the first free spare from a turn on, and its turn: a cursor stands at one such turn, before which no spare is free.
+    /// Adds the first free spare of a pool from a turn on, and its turn: a cursor stands at one such turn, before which no spare
+    /// is free.
     pub fn add_free(
         &self,
         alloc: Global,
+        pool: u32,
         first: u32,
         answer: &mut String,
     ) -> Result<(), AllocError> {
@@ -157,7 +160,7 @@ impl Places {
         if !are_valid(&self.geometry, &self.dds, &self.sdl) {
             return answer.push_str("not valid");
         }
-        match free_in(&layout, &self.sdl, first) {
+        match free_in(&layout, &self.sdl, pool, first) {
             Some(free) => write!(answer, "turn {}, block {}", free.turn, free.block),
             None => answer.push_str("none"),
         }

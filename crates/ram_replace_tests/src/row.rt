@@ -7,7 +7,7 @@ ghost use Rattle.model_lists.specs.Values.{defectives};
 ghost use Rattle.model_pools.specs.Pools.{logical_in};
 ghost use Rattle.model_volume.specs.Given.{AreSettled};
 ghost use Rattle.ram_bytes.specs.declared.block.TheConstants.{BLOCK_BYTES};
-ghost use Rattle.ram_layout.specs.Slipping.{slip_pools};
+ghost use Rattle.ram_groups.specs.Layouts.{layout_pools};
 ghost use Rattle.ram_lists.specs.Fit.{IsFit};
 ghost use Rattle.ram_lists.specs.Lists.{lists_of};
 
@@ -46,7 +46,7 @@ pub enum Answer {
 
 /// Where logical block 0 lies, and where the cursor stands.
 fn step_of(lists: &Lists, workspace: &Workspace) -> Step
-    requires inside { 0 < length (logical_in (slip_pools workspace.now.layout)) }
+    requires inside { 0 < length (logical_in (layout_pools workspace.now.layout)) }
     requires rise { IsStrictlyIncreasing (defectives lists.now.sdl.entries) }
     requires one { 0 < length workspace.now.cursors }
 {
@@ -64,11 +64,11 @@ fn write_over_dead<M: MediumControl>(
     workspace: &mut Workspace,
     from: &[u8],
 ) -> bool
-    requires fit { IsFit geometry.now (M.block_count medium.old) (slip_pools workspace.old.layout) workspace.old.cursors
+    requires fit { IsFit geometry.now (M.block_count medium.old) (layout_pools workspace.old.layout) workspace.old.cursors
         lists.old }
     requires settled { AreSettled geometry.now (M.world medium.old).cells (lists_of lists.old) }
     requires whole { length from.now ≡ BLOCK_BYTES }
-    ensures fit { IsFit geometry.now (M.block_count medium.new) (slip_pools workspace.new.layout) workspace.new.cursors
+    ensures fit { IsFit geometry.now (M.block_count medium.new) (layout_pools workspace.new.layout) workspace.new.cursors
         lists.new }
     ensures settled { IsTrue result → AreSettled geometry.now (M.world medium.new).cells (lists_of lists.new) }
 {
@@ -108,7 +108,6 @@ fn format_and_write<M: MediumControl>(
     requires size { M.block_count medium.old ≡ total geometry.now }
 {
     let Memory {
-        geometry: _,
         mut lists,
         mut workspace,
     } = Memory::new(alloc, geometry)?;

@@ -108,7 +108,7 @@ fn random_request(random: &mut Pcg32, count: u32) -> Request {
 impl<D: InMemory> Run<D> {
     /// Empties the buffer, and reads up to eight blocks one after another of those of the request and the four on each side.
     fn fill_buffer(&mut self, alloc: Global, request: Request) -> Result<(), AllocError> {
-        OfDisc::power(alloc, &mut self.disc);
+        OfDisc::power(&mut self.disc);
         self.plain.used.clear();
         let near = request
             .end()
@@ -174,8 +174,8 @@ impl<D: InMemory> Run<D> {
 /// The drive over a disc that was just formatted, with the plain list beside it.
 fn new_run<D: InMemory>(alloc: Global, drive: Drive<D>) -> Run<D> {
     let mut disc = drive.disc;
-    OfDisc::power(alloc, &mut disc);
-    OfDisc::format(alloc, &mut disc, Kind::Full { drop_sdl: false });
+    OfDisc::power(&mut disc);
+    OfDisc::format(&mut disc, Kind::Full { drop_sdl: false });
     Run {
         disc,
         plain: Plain {

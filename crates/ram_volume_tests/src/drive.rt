@@ -4,6 +4,7 @@ use ram_by_hand::{Controlled, Taken};
 use ram_drives_by_hand::{OfDisc, Rig, answer_call, call_of};
 use ram_medium::{Arm, FailEnd, Fate, Medium, MemMedium};
 use ram_sectors::Disc;
+use ram_transfer::Memory;
 use ram_volume::Volume;
 use ram_zones::Geometry;
 use std::alloc::{AllocError, Global};
@@ -11,7 +12,11 @@ use std::alloc::{AllocError, Global};
 /// A disc in memory, as the steps of a row work with it.
 pub trait InMemory: Disc + Drop {
     /// A disc over a medium, with its power off. There is none where the geometry has another number of blocks.
-    fn over(medium: MemMedium, geometry: Geometry) -> Option<Self>;
+    fn over(
+        alloc: Global,
+        medium: MemMedium,
+        geometry: Geometry,
+    ) -> Result<Option<Self>, AllocError>;
 
     /// The medium, as the disc leaves it.
     fn into_medium(self) -> MemMedium;
@@ -27,16 +32,23 @@ pub trait InMemory: Disc + Drop {
 }
 
 impl InMemory for Volume<MemMedium> {
-    fn over(mut medium: MemMedium, geometry: Geometry) -> Option<Volume<MemMedium>> {
+    fn over(
+        alloc: Global,
+        mut medium: MemMedium,
+        geometry: Geometry,
+    ) -> Result<Option<Volume<MemMedium>>, AllocError> {
         medium.power_off();
         if medium.blocks() != geometry.total() {
-            return None;
+            return Ok(None);
         }
-        Some(Volume::new(medium, geometry))
+        let memory = Memory::new(alloc, &geometry)?;
+        Ok(Some(Volume::new(medium, geometry, memory)))
     }
 
     fn into_medium(self) -> MemMedium {
-        self.into_medium()
+        let (medium, memory) = self.into_parts();
+        drop(memory);
+        medium
     }
 
     fn fail(&mut self, block: u32) -> FailEnd {
@@ -74,9 +86,9 @@ impl<D: InMemory> Controlled for Drive<D> {
 }
 
 impl<D: InMemory> Rig for Drive<D> {
-    fn over(_alloc: Global, taken: Taken<MemMedium>) -> Result<Option<Drive<D>>, AllocError> {
+    fn over(alloc: Global, taken: Taken<MemMedium>) -> Result<Option<Drive<D>>, AllocError> {
         let Taken { medium, geometry } = taken;
-        match D::over(medium, geometry) {
+        match D::over(alloc, medium, geometry)? {
             Some(disc) => Ok(Some(Drive { disc, geometry })),
             None => Ok(None),
         }

@@ -121,11 +121,11 @@ impl<D: InMemory> Run<D> {
     }
 
     /// Formats the disc anew. What is stopped may have made it zeros.
-    fn format(&mut self, alloc: Global) {
+    fn format(&mut self) {
         let kind = Kind::Full { drop_sdl: false };
-        match OfDisc::format(alloc, &mut self.disc, kind) {
+        match OfDisc::format(&mut self.disc, kind) {
             FormatOut::Good => self.plain.forget(),
-            FormatOut::Off | FormatOut::NoMemory => {}
+            FormatOut::Off => {}
             FormatOut::TooMany { .. }
             | FormatOut::NoUpdate { .. }
             | FormatOut::Cut
@@ -134,17 +134,17 @@ impl<D: InMemory> Run<D> {
     }
 
     /// Writes both lists again, and the disc stays; one that is not formatted is formatted anew.
-    fn rewrite(&mut self, alloc: Global) {
+    fn rewrite(&mut self) {
         if self.disc.capacity().is_none() {
-            return self.format(alloc);
+            return self.format();
         }
-        OfDisc::format(alloc, &mut self.disc, Kind::Rewrite);
+        OfDisc::format(&mut self.disc, Kind::Rewrite);
     }
 
     /// Turns the power on, and formats a disc that is not formatted.
-    fn recover(&mut self, alloc: Global) {
-        if OfDisc::power(alloc, &mut self.disc) == PowerOut::NotFormatted {
-            self.format(alloc);
+    fn recover(&mut self) {
+        if OfDisc::power(&mut self.disc) == PowerOut::NotFormatted {
+            self.format();
         }
     }
 
@@ -173,12 +173,12 @@ impl<D: InMemory> Run<D> {
         match below(&mut self.random, 100) {
             0..=41 => self.write(alloc)?,
             42..=83 => self.read(alloc)?,
-            84..=87 => self.recover(alloc),
+            84..=87 => self.recover(),
             88..=95 => self.arm_cut(),
             96 => self.fail(),
             97 => self.wear(),
-            98 => self.rewrite(alloc),
-            _ => self.format(alloc),
+            98 => self.rewrite(),
+            _ => self.format(),
         }
         Ok(())
     }
@@ -187,7 +187,7 @@ impl<D: InMemory> Run<D> {
     fn calls(&mut self, alloc: Global, calls: u32) -> Result<(), AllocError> {
         for _ in 0..calls {
             if self.disc.capacity().is_none() {
-                self.recover(alloc);
+                self.recover();
             }
             self.call(alloc)?;
         }
