@@ -8,12 +8,16 @@ from typing import Callable, Dict, List
 from .commands import Code
 from .draw_lines import FATES, Lines
 from .lists import SECTORS_IN_BLOCK
-from .medium import Geometry
+from .medium import Geometry, LayoutKind
 
 
-def draw_geometry(random: Random) -> Geometry:
+def draw_geometry(random: Random, layout: LayoutKind) -> Geometry:
     """Most of them have few spares, so that these run out; some have so many that few logical blocks are
     left."""
+    if layout is LayoutKind.EACH_ZONE:
+        zones, scale = random.choices([(1, 1), (2, 1), (3, 1), (1, 2)], [3, 6, 1, 1])[0]
+        most = 25 * scale - 3
+        return Geometry(zones, scale, random.choice([1, 2, 3, 4, 4, 6, most - 1, most]), layout)
     zones, scale = random.choices([(1, 1), (2, 1), (1, 2)], [8, 1, 1])[0]
     data = len(Geometry(zones, scale, 1).data_blocks)
     return Geometry(zones, scale, random.choice([1, 2, 3, 4, 4, 6, data - 2, data - 1]))
@@ -63,15 +67,19 @@ class Script(Lines):
         return lines if self.random.random() < 0.1 else [*lines, self.on(), self.transfer()]
 
     def home_of(self, logical: int) -> int:
-        """The home of a logical block on a disc without defects, or else the last data block."""
-        blocks = self.geometry.data_blocks
-        return blocks[min(self.geometry.spares + logical, len(blocks) - 1)]
+        """The home of a logical block on a disc without defects, or else that of the last one."""
+        return self.geometry.logical[min(logical, len(self.geometry.logical) - 1)]
+
+    def spares_of(self, logical: int) -> List[int]:
+        """The spares of a logical block on a disc without defects."""
+        groups, home = self.geometry.groups, self.home_of(logical)
+        return next((group for group in groups if home < group[0]), groups[-1])
 
     def lost_home(self) -> List[str]:
         """A logical block dies, and with it some spares; then it is written."""
-        spares = self.geometry.data_blocks[:self.geometry.spares]
-        logical = self.random.choice([0, 0, 1, 2, self.sectors // SECTORS_IN_BLOCK - 1])
-        dead = [self.home_of(logical)]
+        logical = self.random.choice([0, 0, 1, 2, self.random.randrange(len(self.geometry.logical)),
+                                      len(self.geometry.logical) - 1])
+        spares, dead = self.spares_of(logical), [self.home_of(logical)]
         dead += self.random.sample(spares, self.random.choice([0, 0, 1, min(2, len(spares)), len(spares)]))
         data = f"fill {self.random.randrange(256):02x}"
         whole = self.request(Code.WRITE_10, SECTORS_IN_BLOCK * logical, SECTORS_IN_BLOCK, data)
@@ -99,10 +107,11 @@ class Script(Lines):
         return [*self.several(self.wear, 1, 3), self.transfer(), *self.several(self.line, 1, 3)]
 
     def too_many_dead(self) -> List[str]:
-        """More blocks die than there are primary spares; the disc is formatted, more than once."""
-        data = self.geometry.data_blocks
-        lines = [f"fail {block}"
-                 for block in self.random.sample(data, min(self.geometry.spares + 1, len(data), 8))]
+        """More blocks die than there are primary spares, or as many in a zone and one more; the disc is
+        formatted, more than once."""
+        data = self.random.choice([self.geometry.data_blocks, *self.geometry.data_of_zones])
+        dead = self.geometry.spares + self.random.choice([0, 1, 1, 1])
+        lines = [f"fail {block}" for block in self.random.sample(data, min(dead, len(data), 8))]
         return [*lines, *self.several(self.full_format, 1, 2), *self.several(self.line, 0, 2),
                 *self.new_disc()]
 
@@ -127,7 +136,7 @@ class Script(Lines):
         between = self.random.choice([self.rewriting_format, self.expansion, self.expansion, self.verify,
                                       self.query, self.write, self.on, self.full_format])()
         if self.random.random() < 0.3:
-            dead = [f"fail {spare}" for spare in self.geometry.data_blocks[:self.geometry.spares]]
+            dead = [f"fail {spare}" for spare in self.spares_of(logical)]
             return [*self.maybe_new(), self.read(), *dead[:8], f"wear {home} {self.random.choice([2, 3])}",
                     part, read, read]
         return [*self.maybe_new(), self.random.choice([read, part]), f"fail {home}", between, read,

@@ -7,7 +7,7 @@ from typing import Callable, Dict, List, Tuple, TypeVar
 
 from .commands import CODES, Code
 from .lists import SECTORS_IN_BLOCK
-from .medium import SECTOR, Fate, Geometry
+from .medium import SECTOR, Fate, Geometry, LayoutKind
 
 FATES = [fate.value for fate in Fate]
 Drawn = TypeVar("Drawn")
@@ -19,7 +19,7 @@ class Lines:
     def __init__(self, random: Random, geometry: Geometry) -> None:
         self.random = random
         self.geometry = geometry
-        self.sectors = SECTORS_IN_BLOCK * (len(geometry.data_blocks) - geometry.spares)
+        self.sectors = SECTORS_IN_BLOCK * len(geometry.logical)
 
     def one_of(self, weights: Dict[Drawn, float]) -> Drawn:
         return self.random.choices(list(weights), list(weights.values()))[0]
@@ -49,8 +49,11 @@ class Lines:
         return f"press {self.geometry.zones} {self.geometry.scale} {self.geometry.spares}"
 
     def no_disc(self) -> str:
-        return self.random.choice(["press 0 1 1", "press 36 1 1", "press 1 101 1", "press 1 1 23",
-                                   "press 1 1 0", "press 35 100 4093", "press 4294967295 1 1"])
+        unfit = ["press 0 1 1", "press 36 1 1", "press 1 101 1", "press 1 1 23", "press 1 1 0",
+                 "press 35 100 4093", "press 4294967295 1 1"]
+        if self.geometry.layout is LayoutKind.EACH_ZONE:
+            unfit += ["press 2 1 23", "press 3 1 24", "press 35 100 117", "press 2 100 2047"]
+        return self.random.choice(unfit)
 
     def on(self) -> str:
         return "power" if self.random.random() < 0.1 else "power\ncdb 000000000000"
@@ -61,10 +64,11 @@ class Lines:
     def block(self) -> int:
         """A block of the medium: of a list, one of the first or last data blocks, or any."""
         geometry, data = self.geometry, self.geometry.data_blocks
+        group = self.random.choice(geometry.groups)
         return self.random.choices(
             [self.random.choice(geometry.structure_blocks),
              self.random.choice(self.random.choice(geometry.secondary_blocks)),
-             self.random.choice(data[:geometry.spares + 3]), self.random.choice(data[-4:]),
+             self.random.choice([*group, *geometry.logical[:3]]), self.random.choice(data[-4:]),
              self.random.choice(data), self.random.randrange(geometry.blocks + 2)], [2, 2, 8, 2, 2, 1])[0]
 
     def fail(self) -> str:
@@ -98,11 +102,17 @@ class Lines:
         outside of it."""
         count = self.random.choice([0, 1, 1, 2, 5, 15, 16, 16, 16, 17, 32, self.random.randint(1, 80)])
         first = self.random.choice([0, 0, 16, 16, 32, 48, 8, 15, 31, self.random.randrange(64),
+                                    self.border() - self.random.choice([0, 1, 16, 20]),
                                     self.sectors - count, self.random.randrange(self.sectors + 1)])
         if self.random.random() < 0.02:
             return self.random.choice([(0, 1_025), (self.sectors, 0), (self.sectors + 1, 0),
                                        (self.sectors, 1), (2 ** 32 - 1, 1), (2 ** 32 - 1, 0), (0, 65_535)])
         return max(first, 0), count
+
+    def border(self) -> int:
+        """The first sector behind a zone that has spares of its own, or that of the disc."""
+        group = self.random.choice(self.geometry.groups)
+        return SECTORS_IN_BLOCK * sum(block < group[0] for block in self.geometry.logical)
 
     def request(self, code: Code, first: int, count: int, data: str = "") -> str:
         long = code in (Code.READ_12, Code.WRITE_12)

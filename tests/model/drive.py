@@ -5,8 +5,8 @@ from dataclasses import dataclass, replace
 from typing import Callable, Dict, Iterator, List, NamedTuple, Optional, Tuple
 
 from .lists import (LAST_COUNTER, MADE, SECTORS_IN_BLOCK, Kind, Lists, Secondary, Slipped, Structure, goes_on,
-                    named_structure, structure_fits)
-from .medium import BLOCK, SECTOR, Medium
+                    named_structure, slips_too_many, structure_fits)
+from .medium import BLOCK, SECTOR, LayoutKind, Medium
 
 Copies = List[List[Tuple[int, bytes]]]
 """The blocks of a list in each area, with the text that belongs there."""
@@ -72,7 +72,7 @@ class Drive:
         self.on = False
         self.lists: Optional[Lists] = None
         self.mark = 0
-        """The greatest counter of a structure that a copy has or names."""
+        """The greatest counter of a structure that a copy has, if it is of the disc's layout, or names."""
         self.buffered: Dict[int, bytes] = {}
         """The logical blocks used last, the one used last behind the others."""
 
@@ -120,8 +120,9 @@ class Drive:
         geometry = self.medium.geometry
         structures = [Structure.of(self.medium.read(block)) for block in geometry.structure_blocks]
         secondaries = self.read_secondaries()
-        self.mark = max([self.mark] + [one.counter for one in structures if one])
-        fitting = [one for one in structures if one and structure_fits(one, geometry)]
+        own = [one for one in structures if one and one.layout is geometry.layout]
+        self.mark = max([self.mark] + [one.counter for one in own])
+        fitting = [one for one in own if structure_fits(one, geometry)]
         if not fitting:
             return
         structure = max(fitting, key=lambda one: one.counter)
@@ -190,14 +191,14 @@ class Drive:
     def write_block(self, part: Part, block: bytes) -> None:
         """Writes a logical block to its home, or to the first free spare that is not dead."""
         assert self.lists is not None
-        home = self.lists.home(part.logical)
+        home, defective = self.lists.home(part.logical), self.lists.logical[part.logical]
         if self.put(home, block):
             return
         entries = dict(self.lists.secondary.entries)
-        for spare in self.lists.free_spares:
+        for spare in self.lists.free(self.lists.spares_for(defective)):
             if self.put(spare, block):
                 entries[home] = None
-                entries[self.lists.logical[part.logical]] = spare
+                entries[defective] = spare
                 self.update_secondary(replace(self.lists.secondary, entries=tuple(sorted(entries.items()))))
                 return
             entries[spare] = None
@@ -235,17 +236,17 @@ class Drive:
     def format_fully(self, defects: Dict[int, int], kind: Kind) -> None:
         geometry = self.medium.geometry
         self.mark += 1
-        begun = Structure(MADE, False, self.mark, geometry.spares)
+        begun = Structure(MADE, False, self.mark, geometry.spares, layout=geometry.layout)
         if not self.on_copies(self.put, self.structure_copies(begun)):
             raise Check(*FORMAT_FAILED)
         for block in geometry.data_blocks:
             if block not in defects and not self.put(block, bytes(BLOCK)):
                 defects[block] = kind
-        if len(defects) > geometry.spares:
+        if slips_too_many(defects, geometry):
             raise Check(*FORMAT_FAILED)
         self.mark += 1
         entries = tuple(Slipped(defects[block], block) for block in sorted(defects))
-        ended = Structure(MADE, True, self.mark, geometry.spares, entries)
+        ended = Structure(MADE, True, self.mark, geometry.spares, entries, geometry.layout)
         secondary = Secondary(MADE, 1, ended.counter)
         if not self.on_copies(self.put, self.secondary_copies(secondary)):
             raise Check(*FORMAT_FAILED)
@@ -259,12 +260,13 @@ class Drive:
 
     @property
     def sectors_after_format(self) -> int:
-        geometry = self.medium.geometry
-        return SECTORS_IN_BLOCK * (len(geometry.data_blocks) - geometry.spares)
+        return SECTORS_IN_BLOCK * len(self.medium.geometry.logical)
 
     def may_expand_to(self, sectors: int) -> bool:
         """Whether the disc can have this capacity after an expansion."""
         assert self.lists is not None
+        if self.medium.geometry.layout is LayoutKind.EACH_ZONE:
+            return sectors == self.sectors
         blocks, left = divmod(sectors, SECTORS_IN_BLOCK)
         spares = len(self.medium.geometry.data_blocks) - blocks
         return left == 0 and 0 < sectors <= self.sectors and spares <= self.lists.most_spares

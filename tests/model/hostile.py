@@ -4,7 +4,7 @@ from __future__ import annotations
 from random import Random
 from typing import Callable, List, Tuple
 
-from .lists import LAST_COUNTER
+from .lists import FORM_OF_ZONES, LAST_COUNTER, MADE
 from .medium import BLOCK, HEADER, Geometry, Medium, State
 
 
@@ -21,7 +21,7 @@ class Hand:
         """The image after some changes."""
         changes: List[Tuple[Callable[[], None], int]] = [
             (self.header, 3), (self.length, 1), (self.states, 4), (self.list_byte, 4), (self.data, 1),
-            (self.copy, 2), (self.counters, 4),
+            (self.copy, 2), (self.counters, 4), (self.layouts, 2),
         ]
         for change in self.random.choices([one for one, _ in changes], [weight for _, weight in changes],
                                           k=self.random.randint(1, 4)):
@@ -84,3 +84,10 @@ class Hand:
                 continue
             data = data[:at] + counter.to_bytes(4, "big") + data[at + 4:]
             self.medium.image[self.medium.bytes_at(block)] = data
+
+    def layouts(self) -> None:
+        """Structures as they are, but of the other layout, in all areas or in some."""
+        for block in self.random.sample(self.geometry.structure_blocks, self.random.choice([1, 2, 4, 4])):
+            at = self.medium.bytes_at(block).start + 2
+            is_of_zones = self.medium.image[at] == FORM_OF_ZONES
+            self.medium.image[at] = MADE if is_of_zones else FORM_OF_ZONES

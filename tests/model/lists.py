@@ -4,16 +4,18 @@ from __future__ import annotations
 from dataclasses import dataclass
 from enum import IntEnum
 from functools import cached_property
-from typing import Dict, List, NamedTuple, Optional, Tuple
+from typing import Dict, Iterable, List, NamedTuple, Optional, Tuple
 
-from .medium import BLOCK, MOST_SPARES, SECTOR, Geometry
+from .medium import BLOCK, MOST_SPARES, SECTOR, Geometry, LayoutKind
 
 SECTORS_IN_BLOCK = BLOCK // SECTOR
 LAST_COUNTER = 2 ** 32 - 1
 VERSIONS = (1, 2)
 """The versions of the lists. That of the secondary list is the number of its parts, too."""
 MADE = 2
-"""The version that a full format makes."""
+"""The version that a full format makes. With a group of spares in each zone there is no other."""
+FORM_OF_ZONES = 3
+"""The third byte of a structure with a group of spares in each zone; else that is the version."""
 MOST_IN_PART = 4_092
 """How many entries a part of the secondary list has at most, and how many supplementary spares there are for
 each part."""
@@ -52,10 +54,15 @@ class Structure:
     counter: int
     spares: int
     entries: Tuple[Slipped, ...] = ()
+    layout: LayoutKind = LayoutKind.ONE_GROUP
+
+    @property
+    def form(self) -> int:
+        return self.version if self.layout is LayoutKind.ONE_GROUP else FORM_OF_ZONES
 
     @property
     def text(self) -> bytes:
-        head = bytes([0x0a, 0x0a, self.version, 0x80 if self.formatted else 0x00])
+        head = bytes([0x0a, 0x0a, self.form, 0x80 if self.formatted else 0x00])
         head += self.counter.to_bytes(4, "big") + self.spares.to_bytes(2, "big")
         entries = b"".join(entry.text for entry in self.entries)
         tail = bytes([0x00, 0x01]) + len(self.entries).to_bytes(2, "big") + entries
@@ -70,14 +77,23 @@ class Structure:
         entries = tuple(Slipped(block[at], number(block, at + 1, 3))
                         for at in range(2_052, 2_052 + 4 * count, 4)
                         if at < BLOCK)
-        found = cls(block[2], block[3] == 0x80, number(block, 4, 4), number(block, 8, 2), entries)
+        of_zones = block[2] == FORM_OF_ZONES
+        version, layout = (MADE, LayoutKind.EACH_ZONE) if of_zones else (block[2], LayoutKind.ONE_GROUP)
+        found = cls(version, block[3] == 0x80, number(block, 4, 4), number(block, 8, 2), entries, layout)
         return found if found.is_text and found.text == block else None
+
+    @property
+    def most_entries(self) -> int:
+        """How many entries the text has at most."""
+        if not self.formatted:
+            return 0
+        return self.spares if self.layout is LayoutKind.ONE_GROUP else MOST_SPARES
 
     @property
     def is_text(self) -> bool:
         return (self.version in VERSIONS
                 and 1 <= self.spares <= MOST_SPARES
-                and len(self.entries) <= (self.spares if self.formatted else 0)
+                and len(self.entries) <= self.most_entries
                 and all(entry.kind in tuple(Kind) for entry in self.entries) and rises(self.blocks))
 
     @cached_property
@@ -171,18 +187,35 @@ class Lists:
         return MOST_IN_PART * self.secondary.version
 
     @cached_property
-    def unslipped(self) -> List[int]:
-        """The data blocks that the primary list does not name."""
+    def of_zones(self) -> bool:
+        return self.geometry.layout is LayoutKind.EACH_ZONE
+
+    @cached_property
+    def unslipped_in_zones(self) -> List[List[int]]:
+        """The data blocks of each zone that the primary list does not name."""
         slipped = set(self.structure.blocks)
-        return [block for block in self.geometry.data_blocks if block not in slipped]
+        return [[block for block in zone if block not in slipped] for zone in self.geometry.data_of_zones]
+
+    @cached_property
+    def unslipped(self) -> List[int]:
+        return [block for zone in self.unslipped_in_zones for block in zone]
+
+    @cached_property
+    def groups(self) -> List[Tuple[List[int], List[int]]]:
+        """The logical blocks of each zone, before replacement, and its spares: with a group in each zone."""
+        counts = [len(zone) - self.structure.spares for zone in self.geometry.data_of_zones]
+        return [(zone[:count], zone[count:]) for zone, count in zip(self.unslipped_in_zones, counts)]
 
     @property
     def primary_left(self) -> int:
-        """How many primary spares the slipped blocks have left."""
+        """How many primary spares the slipped blocks have left: with one group."""
         return self.structure.spares - len(self.structure.entries)
 
     @cached_property
     def primary(self) -> List[int]:
+        """The primary spares, or all spares of the zones."""
+        if self.of_zones:
+            return [spare for _, spares in self.groups for spare in spares]
         return self.unslipped[:self.primary_left]
 
     @cached_property
@@ -192,7 +225,21 @@ class Lists:
     @cached_property
     def logical(self) -> List[int]:
         """The block of each logical block, before replacement."""
+        if self.of_zones:
+            return [block for blocks, _ in self.groups for block in blocks]
         return self.unslipped[self.primary_left:len(self.unslipped) - self.secondary.spares]
+
+    @cached_property
+    def zone_of(self) -> Dict[int, int]:
+        """The zone of each data block."""
+        return {block: at for at, zone in enumerate(self.geometry.data_of_zones) for block in zone}
+
+    def spares_for(self, block: int) -> List[int]:
+        """The spares to which a logical block may move, in the order in which they are tried: from the
+        greatest number down and the primary ones first, or those of its zone from the lowest number up."""
+        if self.of_zones:
+            return self.groups[self.zone_of[block]][1]
+        return [*reversed(self.primary), *reversed(self.supplementary)]
 
     @property
     def sectors(self) -> int:
@@ -210,14 +257,21 @@ class Lists:
         return replacements + [block for block, _ in self.secondary.entries]
 
     def free(self, spares: List[int]) -> List[int]:
-        """Those of some spares that are free, from the greatest number down."""
+        """Those of some spares that are free."""
         named = set(self.named)
-        return [spare for spare in reversed(spares) if spare not in named]
+        return [spare for spare in spares if spare not in named]
 
     @property
     def free_spares(self) -> List[int]:
-        """The free spares in the order in which they are tried."""
-        return self.free(self.primary) + self.free(self.supplementary)
+        return self.free(self.primary + self.supplementary)
+
+    @property
+    def has_lawful_area(self) -> bool:
+        """Whether there may be so many supplementary spares."""
+        if self.of_zones:
+            return self.secondary.spares == 0
+        spares = self.structure.spares + self.secondary.spares
+        return spares <= self.most_spares and spares < len(self.geometry.data_blocks)
 
     @property
     def is_valid(self) -> bool:
@@ -225,14 +279,22 @@ class Lists:
         named = self.secondary.version, self.secondary.structure
         if named != (self.structure.version, self.structure.counter):
             return False
-        spares, data = self.structure.spares + self.secondary.spares, len(self.geometry.data_blocks)
-        if spares > self.most_spares or spares >= data or len(set(self.named)) < len(self.named):
+        if not self.has_lawful_area or len(set(self.named)) < len(self.named):
             return False
-        logical, free = set(self.logical), set(self.primary) | set(self.supplementary)
-        return all(block in free if spare is None else block in logical and spare in free
+        logical, spares = set(self.logical), set(self.primary) | set(self.supplementary)
+        return all(block in spares if spare is None else block in logical and spare in self.spares_for(block)
                    for block, spare in self.secondary.entries)
 
 
 def structure_fits(structure: Structure, geometry: Geometry) -> bool:
     """Whether a structure may be the one in use on a disc."""
-    return structure.spares == geometry.spares and set(structure.blocks) <= set(geometry.data_blocks)
+    return (structure.layout is geometry.layout and structure.spares == geometry.spares
+            and set(structure.blocks) <= set(geometry.data_blocks)
+            and not slips_too_many(structure.blocks, geometry))
+
+
+def slips_too_many(slipped: Iterable[int], geometry: Geometry) -> bool:
+    """Whether there are more slipped blocks than spares: of all zones, or of one."""
+    zones = [geometry.data_blocks] if geometry.layout is LayoutKind.ONE_GROUP else geometry.data_of_zones
+    blocks = set(slipped)
+    return any(len(blocks.intersection(zone)) > geometry.spares for zone in zones)

@@ -13,7 +13,19 @@ SIGNATURE = b"DVDRAM01"
 EDGE = 8
 """How many blocks the lead-in has, and the lead-out."""
 MOST_SPARES = 4_092
+"""How many primary spares there are at most, and how many in all groups together."""
 MOST_WEARS = 64
+
+
+class LayoutKind(Enum):
+    """Where the spares of a disc lie: in one group, or in a group in each zone. The value is the word by
+    which the program serves such discs."""
+    ONE_GROUP = "run"
+    EACH_ZONE = "groups"
+
+    @property
+    def other(self) -> LayoutKind:
+        return LayoutKind.EACH_ZONE if self is LayoutKind.ONE_GROUP else LayoutKind.ONE_GROUP
 
 
 class State(IntEnum):
@@ -41,19 +53,27 @@ class Geometry:
     zones: int
     scale: int
     spares: int
+    """The primary ones, or those of each zone."""
+    layout: LayoutKind = LayoutKind.ONE_GROUP
 
     @classmethod
-    def of(cls, image: bytes) -> Optional[Geometry]:
-        """The geometry of an image, where it is a disc's."""
+    def of(cls, image: bytes, layout: LayoutKind) -> Optional[Geometry]:
+        """The geometry of an image, where it is a disc's of this layout: the image does not tell it."""
         zones, scale, spares = (int.from_bytes(image[at:at + 2], "big") for at in (8, 10, 12))
-        found = cls(zones, scale, spares)
+        found = cls(zones, scale, spares, layout)
         is_disc = found.is_lawful and len(image) == found.image_length and image[:HEADER] == found.header
         return found if is_disc else None
 
     @property
     def is_lawful(self) -> bool:
         return (1 <= self.zones <= 35 and 1 <= self.scale <= 100
-                and 1 <= self.spares <= MOST_SPARES and self.spares < len(self.data_blocks))
+                and 1 <= self.spares <= MOST_SPARES and self.spares < len(self.data_blocks)
+                and (self.layout is LayoutKind.ONE_GROUP or self.fits_zones))
+
+    @property
+    def fits_zones(self) -> bool:
+        """Whether each zone has room for its spares, and the list for all of them."""
+        return self.zones * self.spares <= MOST_SPARES and self.spares + 2 < 25 * self.scale
 
     @property
     def header(self) -> bytes:
@@ -61,15 +81,32 @@ class Geometry:
                                     for number in (self.zones, self.scale, self.spares, 0))
 
     @cached_property
-    def data_blocks(self) -> List[int]:
-        """All blocks of the zones but the first and the last of each, which are guards."""
-        found: List[int] = []
+    def data_of_zones(self) -> List[List[int]]:
+        """The blocks of each zone but its first and its last, which are guards."""
+        found: List[List[int]] = []
         begin = EDGE
         for zone in range(self.zones):
             end = begin + self.scale * (25 + zone)
-            found += range(begin + 1, end - 1)
+            found.append(list(range(begin + 1, end - 1)))
             begin = end
         return found
+
+    @cached_property
+    def data_blocks(self) -> List[int]:
+        return [block for zone in self.data_of_zones for block in zone]
+
+    @cached_property
+    def groups(self) -> List[List[int]]:
+        """The spares of each group, where no block is slipped."""
+        if self.layout is LayoutKind.ONE_GROUP:
+            return [self.data_blocks[:self.spares]]
+        return [zone[-self.spares:] for zone in self.data_of_zones]
+
+    @cached_property
+    def logical(self) -> List[int]:
+        """The block of each logical block, where none is slipped and none replaced."""
+        spares = {spare for group in self.groups for spare in group}
+        return [block for block in self.data_blocks if block not in spares]
 
     @property
     def lead_out(self) -> int:

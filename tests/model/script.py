@@ -8,7 +8,7 @@ from typing import Iterator, List, NamedTuple, Optional, Tuple
 from .cache import CachedDrive
 from .commands import READS, Block, Target
 from .drive import Check
-from .medium import MOST_WEARS, SECTOR, Cut, Fate, Geometry, Medium, PowerCut, State, Wear
+from .medium import MOST_WEARS, SECTOR, Cut, Fate, Geometry, LayoutKind, Medium, PowerCut, State, Wear
 
 LONGEST_LINE = 70_000
 LONGEST_SCRIPT = 67_108_864
@@ -105,22 +105,24 @@ def data_of(line: Line) -> bytes:
 
 
 class Run:
-    """A run of a script over an image."""
+    """A run of a script over an image, as that of a disc of this layout."""
 
-    def __init__(self, image: bytes) -> None:
+    def __init__(self, image: bytes, layout: LayoutKind) -> None:
         self.image = bytearray(image)
+        self.layout = layout
         self.target: Optional[Target] = None
         self.insert()
 
     def insert(self) -> None:
         """Serves the image, with its power off, if it is a disc's."""
-        geometry = Geometry.of(self.image)
+        geometry = Geometry.of(self.image, self.layout)
         self.target = Target(CachedDrive(Medium(self.image, geometry))) if geometry else None
 
     def answer(self, line: Line) -> List[str]:
         """Does what a line says: its answer, and the lines after it."""
         if line.name == "press":
-            return [self.press(Geometry(*line.numbers))]
+            zones, scale, spares = line.numbers
+            return [self.press(Geometry(zones, scale, spares, self.layout))]
         if self.target is None:
             raise End(Status.NOT_A_DISC, "not a disc")
         try:
@@ -178,9 +180,10 @@ class Run:
         return ["good"] + ([f"data {len(reply)} {reply.hex()}"] if reply else [])
 
 
-def run(script: bytes, image: bytes) -> Tuple[bytes, int, bytes]:
+def run(script: bytes, image: bytes,
+        layout: LayoutKind = LayoutKind.ONE_GROUP) -> Tuple[bytes, int, bytes]:
     """The report of a script over an image, the exit status, and the image afterwards."""
-    state, report, answered, status = Run(image), [], 0, Status.DONE
+    state, report, answered, status = Run(image, layout), [], 0, Status.DONE
     try:
         for line_number, raw in lines_of(script):
             line = line_of(raw)

@@ -6,8 +6,8 @@ from dataclasses import replace
 from random import Random
 from typing import Callable, Dict, List, Optional, Tuple
 
-from .lists import LAST_COUNTER, MOST_IN_PART, VERSIONS, Lists, Secondary, Slipped, Structure
-from .medium import BLOCK, SECTOR, Geometry, Medium, State
+from .lists import LAST_COUNTER, MADE, MOST_IN_PART, VERSIONS, Lists, Secondary, Slipped, Structure
+from .medium import BLOCK, SECTOR, Geometry, LayoutKind, Medium, State
 
 Texts = List[Optional[bytes]]
 """What is laid in an area: the text of the structure, and that of each part of the secondary list. None is a
@@ -47,26 +47,35 @@ class Hand:
 
     def fit(self) -> Lists:
         """Lists that fit each other and the disc."""
-        data, spares = self.geometry.data_blocks, self.geometry.spares
-        slipped = sorted(self.random.sample(data, self.random.choice([0, 0, 1, min(2, spares), spares])))
-        entries = tuple(Slipped(self.random.randrange(3), block) for block in slipped)
+        spares, layout = self.geometry.spares, self.geometry.layout
+        most = len(self.geometry.data_blocks) - spares - 1
+        is_one, entries = layout is LayoutKind.ONE_GROUP, self.slipped()
         first = self.random.choice([2, 2, 7, 7, LAST_COUNTER - 2, LAST_COUNTER - 1, LAST_COUNTER])
-        structure = Structure(self.random.choice(VERSIONS), True, first, spares, entries)
-        more = self.random.choice([0, 0, 1, 2, len(data) - spares - 1])
+        version = self.random.choice(VERSIONS) if is_one else MADE
+        structure = Structure(version, True, first, spares, entries, layout)
+        more = min(self.random.choice([0, 0, 1, 2, most]), most) if is_one else 0
         counter = self.random.choice([1, 1, 5, LAST_COUNTER - 1, LAST_COUNTER])
-        secondary = Secondary(structure.version, counter, structure.counter,
-                              min(more, len(data) - spares - 1))
+        secondary = Secondary(version, counter, structure.counter, more)
         lists = Lists(self.geometry, structure, secondary)
         return replace(lists, secondary=replace(lists.secondary, entries=self.fitting_entries(lists)))
 
     def fitting_entries(self, lists: Lists) -> Tuple[Tuple[int, Optional[int]], ...]:
-        free = self.random.sample(lists.free_spares,
-                                  min(len(lists.free_spares), self.random.choice([0, 0, 1, 2, 3])))
-        replaced = self.random.sample(lists.logical, min(len(lists.logical), len(free)))
-        pairs: List[Tuple[int, Optional[int]]] = [
-            (block, spare) if self.random.random() < 0.7 else (spare, None)
-            for block, spare in zip(replaced, free)]
-        return tuple((block, dict(pairs)[block]) for block in sorted(dict(pairs)))
+        entries: Dict[int, Optional[int]] = {}
+        for block in self.random.sample(lists.logical,
+                                        min(len(lists.logical), self.random.choice([0, 0, 1, 2, 3]))):
+            taken = {*entries, *entries.values()}
+            free = [spare for spare in lists.free(lists.spares_for(block)) if spare not in taken]
+            if free:
+                spare, is_replaced = self.random.choice(free), self.random.random() < 0.7
+                entries[block if is_replaced else spare] = spare if is_replaced else None
+        return tuple((block, entries[block]) for block in sorted(entries))
+
+    def slipped(self) -> Tuple[Slipped, ...]:
+        """Entries of blocks of which no group has more than it has spares."""
+        data, spares = self.geometry.data_blocks, self.geometry.spares
+        zones = [data] if self.geometry.layout is LayoutKind.ONE_GROUP else self.geometry.data_of_zones
+        return tuple(Slipped(self.random.randrange(3), block) for zone in zones for block in sorted(
+            self.random.sample(zone, self.random.choice([0, 0, 1, min(2, spares), spares]))))
 
     def texts(self, lists: Lists) -> Texts:
         """The texts of two lists. Where the secondary one has one part, another list may lie behind it."""
@@ -140,15 +149,17 @@ class Hand:
         entries = fit.entries or (Slipped(0, self.random.choice(data)),)
         outside = sorted([*entries[1:], Slipped(0, self.outside())], key=lambda entry: entry.block)
         other = self.other_counter(fit.counter)
+        crowd = self.random.choice([data, *self.geometry.data_of_zones])
         draws: Dict[Callable[[], Structure], float] = {
             lambda: replace(fit, counter=other): 2,
             lambda: replace(fit, version=3 - fit.version, counter=other): 3,
+            lambda: replace(fit, version=MADE, layout=fit.layout.other, counter=other): 4,
             lambda: replace(fit, counter=other, formatted=False, entries=()): 2,
             lambda: replace(fit, formatted=False, entries=entries): 3,
             lambda: replace(fit, spares=self.random.choice([0, fit.spares + 1, fit.spares + 1, 4_093]),
                             counter=other): 7,
             lambda: replace(fit, entries=tuple(outside), counter=other): 3,
-            lambda: replace(fit, entries=tuple(Slipped(2, block) for block in data[:fit.spares + 1])): 1,
+            lambda: replace(fit, entries=tuple(Slipped(2, block) for block in crowd[:fit.spares + 1])): 2,
             lambda: replace(fit, entries=tuple(reversed((*entries[:1], Slipped(0, data[-1]))))): 3,
             lambda: replace(fit, entries=(entries[0], entries[0])): 2,
             lambda: replace(fit, entries=(Slipped(3, entries[0].block),)): 4,
@@ -182,7 +193,9 @@ class Hand:
         most = MOST_IN_PART * fit.version
         named = set(lists.named)
         logical = self.any_of([block for block in lists.logical if block not in named])
-        spare, other = self.any_of(lists.free_spares), self.any_of(lists.free_spares)
+        own = lists.free(lists.spares_for(logical)) if logical in lists.zone_of else []
+        spare, other = self.any_of(own), self.any_of(own)
+        foreign = self.any_of([block for block in lists.free_spares if block not in own])
         second = self.any_of([block for block in lists.logical if block not in named and block > logical])
         draws: Dict[Callable[[], Secondary], float] = {
             lambda: replace(fit, counter=self.other_counter(fit.counter)): 3,
@@ -191,6 +204,8 @@ class Hand:
             lambda: replace(fit, spares=self.random.choice([most, most + 1, MOST_IN_PART + 1]),
                             entries=()): 1,
             lambda: replace(fit, spares=data - lists.structure.spares, entries=()): 3,
+            lambda: replace(fit, spares=1): 1,
+            lambda: self.with_entries(fit, (logical, foreign)): 3,
             lambda: self.with_entries(fit, (logical, None)): 2,
             lambda: self.with_entries(fit, (spare, other)): 1,
             lambda: self.with_entries(fit, (spare, spare)): 1,
