@@ -15,6 +15,7 @@ fill PLACE N BYTE the same with N times one byte
 exact TEXT        the script goes on with the text and no line feed; \\n, \\r and \\t stand for the bytes
 repeat N TEXT     the same N times
 comments N        the script has N bytes, in comments of 65,536
+groups            the script is run by the word `groups`, in place of `run`
 words WORD|WORD   the program has these words, and no script
 cuts N            the script is run once for each of the first N uses behind its line `cut each`, and for
                   each fate; the power is cut there. What the lines behind that one are answered is told,

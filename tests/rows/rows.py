@@ -38,8 +38,8 @@ class Program:
                               stderr=subprocess.DEVNULL, check=False)
         return Ran(done.stdout.decode("ascii"), done.returncode, self.disc.read_bytes())
 
-    def answer(self, script: bytes, image: bytes) -> Ran:
-        return self.run(["run", "disc"], script, image)
+    def answer(self, script: bytes, image: bytes, word: str = "run") -> Ran:
+        return self.run([word, "disc"], script, image)
 
 
 def in_full(line: str) -> str:
@@ -73,6 +73,7 @@ class Row:
     image: bytearray = field(default_factory=bytearray)
     script: str = ""
     begun: bool = False
+    word: str = "run"
     words: Optional[List[str]] = None
     comments: int = 0
     cuts: int = 0
@@ -121,7 +122,7 @@ class Row:
         if self.comments:
             script = COMMENT * -(-self.comments // len(COMMENT))
             return program.answer(script[: self.comments], b"")
-        return program.answer(self.script.encode("utf-8"), bytes(self.image))
+        return program.answer(self.script.encode("utf-8"), bytes(self.image), self.word)
 
     def told(self, program: Program) -> Tuple[List[str], bytes]:
         """What is told of the row, and the image that it leaves."""
@@ -140,8 +141,9 @@ class Row:
         before, _, behind = self.script.partition("cut each\n")
         for fate in FATES:
             scripts = (f"{before}cut {use} {fate}\n{behind}" for use in range(1, self.cuts + 1))
-            texts = [answers_behind(program.answer(script.encode("ascii"), bytes(self.image)).report)
-                     for script in scripts]
+            reports = (program.answer(script.encode("ascii"), bytes(self.image), self.word).report
+                       for script in scripts)
+            texts = [answers_behind(report) for report in reports]
             for first, last, text in spans(texts):
                 uses = f"{first}" if first == last else f"{first} to {last}"
                 yield f"{fate} {uses}: {text}"
@@ -167,6 +169,7 @@ ORDERS: Dict[str, Callable[[Row, str], None]] = {
     "exact": lambda row, rest: row.add_text(1, rest),
     "repeat": lambda row, rest: row.add_text(int(rest.partition(" ")[0]), rest.partition(" ")[2]),
     "comments": lambda row, rest: row.begin(comments=int(rest)),
+    "groups": lambda row, rest: setattr(row, "word", "groups"),
     "words": lambda row, rest: row.begin(words=rest.split("|")),
     "lengths": lambda row, rest: row.begin(lengths=int(rest)),
     "cuts": lambda row, rest: setattr(row, "cuts", int(rest)),
