@@ -92,9 +92,9 @@ def done(*words: str | Path, env: dict[str, str] | None = None) -> subprocess.Co
                           env=env)
 
 
-def run_script(image: str | Path, script: str) -> list[str]:
+def run_script(image: str | Path, script: str, word: str = "run") -> list[str]:
     """The report of this script over an image, by lines."""
-    return subprocess.run([PROGRAM, "run", image], input=script.encode(), stdout=subprocess.PIPE,
+    return subprocess.run([PROGRAM, word, image], input=script.encode(), stdout=subprocess.PIPE,
                           timeout=SECONDS, check=False).stdout.decode().splitlines()
 
 

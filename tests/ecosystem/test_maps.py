@@ -9,10 +9,11 @@ from pathlib import Path
 from typing import cast
 
 from dvdram.disc import HEADER, Disc, State
-from dvdram.lists import BLOCK, MOST_SPARES, VERSIONS, Geometry, Secondary, Structure
+from dvdram.lists import BLOCK, MOST_SPARES, VERSIONS, Geometry, LayoutKind, Secondary, Structure
 from support import TOOLS, FolderTest, done, needs, run_script
 
 GEOMETRY = Geometry(1, 1, 4)
+ZONES = Geometry(2, 1, 4, LayoutKind.EACH_ZONE)
 IMAGES = 200
 MADE = """press 1 1 4
 fail 20
@@ -26,16 +27,29 @@ cdb 2a000000004000001000 fill aa
 cdb 2a000000003000001000 fill aa
 power
 """
+MADE_OF_ZONES = """press 2 1 4
+fail 20
+power
+cdb 000000000000
+cdb 041100000000 hex 000000080000013000000800
+fail 9
+fail 40
+fail 54
+cdb 2a000000000000001000 fill aa
+cdb 2a000000019000001000 fill bb
+fail 12
+power
+"""
 
 
 class Image:
     """A disc whose blocks are all told apart by their bytes, and whose lists can be set."""
 
-    def __init__(self, path: Path) -> None:
-        self.path, self.bytes = path, bytearray(path.read_bytes())
+    def __init__(self, path: Path, geometry: Geometry) -> None:
+        self.path, self.bytes, self.geometry = path, bytearray(path.read_bytes()), geometry
 
     def place(self, block: int) -> int:
-        return HEADER + GEOMETRY.total + BLOCK * block
+        return HEADER + self.geometry.total + BLOCK * block
 
     def text(self, block: int) -> bytes:
         return bytes(self.bytes[self.place(block):self.place(block) + BLOCK])
@@ -49,7 +63,7 @@ class Image:
 
     def take_version(self, version: int) -> None:
         """Gives the lists this version. What is in the second blocks belongs to no list of the first one."""
-        for structure, blocks in zip(GEOMETRY.structure_blocks, GEOMETRY.secondary_blocks):
+        for structure, blocks in zip(self.geometry.structure_blocks, self.geometry.secondary_blocks):
             whole = Structure.decode(self.text(structure))
             parts = Secondary.decode([self.text(block) for block in blocks])
             if whole and parts:
@@ -61,10 +75,10 @@ class Image:
 def mislead(image: Image, chance: random.Random) -> None:
     """Changes some blocks of the copies of one list to the same text, and makes some of the others
     unreadable."""
-    structures: list[tuple[int, ...]] = [(block,) for block in GEOMETRY.structure_blocks]
-    secondaries: list[tuple[int, ...]] = [*GEOMETRY.secondary_blocks]
+    structures: list[tuple[int, ...]] = [(block,) for block in image.geometry.structure_blocks]
+    secondaries: list[tuple[int, ...]] = [*image.geometry.secondary_blocks]
     copies = chance.choice((structures, secondaries))
-    texts = changed([image.text(block) for block in chance.choice(copies)], chance)
+    texts = changed([image.text(block) for block in chance.choice(copies)], image.geometry, chance)
     for block, text in (pair for blocks in copies for pair in zip(blocks, texts)):
         if chance.randrange(3):
             image.put(block, text)
@@ -72,14 +86,14 @@ def mislead(image: Image, chance: random.Random) -> None:
             image.bytes[HEADER + block] = chance.choice((0, 2, 3, 4, 255))
 
 
-def changed(texts: list[bytes], chance: random.Random) -> list[bytes]:
+def changed(texts: list[bytes], geometry: Geometry, chance: random.Random) -> list[bytes]:
     """The texts of a list with one bit of one of them flipped, or those of a list that differs in one
     thing."""
     structure, secondary = Structure.decode(texts[0]), Secondary.decode([*texts])
     if structure and chance.randrange(2):
-        return [changed_structure(structure, chance).encode()]
+        return [changed_structure(structure, geometry, chance).encode()]
     if secondary and chance.randrange(2):
-        return changed_secondary(secondary, chance).encode()
+        return changed_secondary(secondary, geometry, chance).encode()
     which = chance.randrange(len(texts))
     flipped = bytearray(texts[which])
     place = chance.choice((*range(0, 64, 3), 2047, 2048, 2051, 2055, 2060, BLOCK - 1))
@@ -87,22 +101,33 @@ def changed(texts: list[bytes], chance: random.Random) -> list[bytes]:
     return [*texts[:which], bytes(flipped), *texts[which + 1:]]
 
 
-def changed_structure(old: Structure, chance: random.Random) -> Structure:
+def changed_structure(old: Structure, geometry: Geometry, chance: random.Random) -> Structure:
     """A structure that differs in one thing, which may be one that no disc has."""
-    slipped = tuple((chance.randrange(3), block)
-                    for block in sorted(chance.sample(range(7, 34), chance.randrange(4))))
+    slipped = tuple((chance.randrange(3), block) for block in sorted(
+        chance.sample(range(7, geometry.lead_out + 1), chance.choice((0, 1, 2, 3, 3, 9)))))
+    other = LayoutKind.ONE_GROUP if old.layout is LayoutKind.EACH_ZONE else LayoutKind.EACH_ZONE
     return chance.choice((replace(old, counter=old.counter + 1), replace(old, version=3 - old.version),
-                          replace(old, is_formatted=not old.is_formatted),
+                          replace(old, is_formatted=not old.is_formatted), replace(old, layout=other),
                           replace(old, spares=chance.randrange(6)), replace(old, entries=slipped)))
 
 
-def changed_secondary(old: Secondary, chance: random.Random) -> Secondary:
+def spares_near(block: int, geometry: Geometry) -> tuple[int, ...]:
+    """Spares to which a block may move, and one or two to which it may not."""
+    if geometry.layout is LayoutKind.ONE_GROUP:
+        return 9, 10, 11, 30, 31
+    return (29, 30, 31, 54) if block < 33 else (31, 54, 55, 56, 57)
+
+
+def changed_secondary(old: Secondary, geometry: Geometry, chance: random.Random) -> Secondary:
     """A secondary list that differs in one thing, which may be one that no disc has."""
-    pairs = tuple((block, chance.choice((None, chance.randrange(8, 33))))
-                  for block in sorted(chance.sample(range(8, 33), chance.randrange(4))))
-    spares = tuple((block, other if other is None or chance.randrange(2) else chance.choice((9, 10, 11, 31)))
-                   for block, other in old.entries)
-    moved = tuple(zip(sorted(chance.sample(range(12, 30), 3)), chance.sample((9, 10, 11, 30, 31), 3)))
+    end = geometry.lead_out
+    pairs = tuple((block, chance.choice((None, chance.randrange(8, end))))
+                  for block in sorted(chance.sample(range(8, end), chance.randrange(4))))
+    spares = tuple((block, other if other is None or chance.randrange(2)
+                    else chance.choice(spares_near(block, geometry))) for block, other in old.entries)
+    moved = tuple(zip(sorted(chance.sample(range(12, 30), 3)), chance.sample(spares_near(12, geometry), 3)))
+    if geometry.layout is LayoutKind.EACH_ZONE:
+        moved = (*moved[:2], (chance.randrange(34, 55), chance.choice(spares_near(34, geometry))))
     return chance.choice((replace(old, counter=old.counter + chance.randrange(1, 3)),
                           replace(old, entries=pairs), replace(old, version=3 - old.version),
                           replace(old, version=3 - old.version, entries=moved),
@@ -111,11 +136,12 @@ def changed_secondary(old: Secondary, chance: random.Random) -> Secondary:
                           replace(old, structure_counter=old.structure_counter + chance.choice((-1, 1)))))
 
 
-def by_program(path: Path) -> tuple[int, list[int | None]]:
+def by_program(path: Path, geometry: Geometry) -> tuple[int, list[int | None]]:
     """How many sectors the program finds, and the block in which it finds each logical block, where it can be
     read."""
-    reads = "".join(f"cdb 28{0:02x}{16 * block:08x}00000100\n" for block in range(len(GEOMETRY.data)))
-    first, _, *rows = run_script(path, f"power\ncdb 000000000000\n{reads}")
+    reads = "".join(f"cdb 28{0:02x}{16 * block:08x}00000100\n" for block in range(len(geometry.data)))
+    script = f"power\ncdb 000000000000\n{reads}"
+    first, _, *rows = run_script(path, script, geometry.layout.value)
     sectors = int(first.split()[2]) if "ready" in first else 0
     answers, homes = iter(rows), cast("list[int | None]", [])
     for row in answers:
@@ -124,8 +150,8 @@ def by_program(path: Path) -> tuple[int, list[int | None]]:
     return sectors, homes
 
 
-def shown(form: str) -> str:
-    return done(TOOLS / "ram-map", "disc.img", f"--output={form}").stdout
+def shown(form: str, *options: str) -> str:
+    return done(TOOLS / "ram-map", "disc.img", f"--output={form}", *options).stdout
 
 
 class Maps(FolderTest):
@@ -133,27 +159,35 @@ class Maps(FolderTest):
 
     def test_hostile_images(self) -> None:
         """The map names the same sectors and homes as the program finds, whatever the lists are."""
+        self.look_at_hostile_images(GEOMETRY, MADE, discs=12)
+
+    def test_hostile_images_of_zones(self) -> None:
+        """So it does of discs with a group of spares in each zone."""
+        self.look_at_hostile_images(ZONES, MADE_OF_ZONES, discs=8)
+
+    def look_at_hostile_images(self, geometry: Geometry, script: str, discs: int) -> None:
+        """Compares the maps of images that are made of this disc, which give at least so many others."""
         made, tried = Path("made.img"), Path("tried.img")
-        run_script(made, MADE)
-        plain = Image(made)
-        for block in GEOMETRY.data:
+        run_script(made, script, geometry.layout.value)
+        plain = Image(made, geometry)
+        for block in geometry.data:
             plain.put(block, bytes((block,)) * BLOCK, plain.bytes[HEADER + block])
         plain.save(made)
         seen: set[tuple[int, tuple[int | None, ...]]] = set()
         for number in range(IMAGES):
-            chance, image = random.Random(number), Image(made)
-            image.take_version(1 if number % 3 == 2 else 2)
+            chance, image = random.Random(number), Image(made, geometry)
+            image.take_version(1 if number % 3 == 2 and geometry is GEOMETRY else 2)
             for _ in range(1 + chance.randrange(3)):
                 mislead(image, chance)
             image.save(tried)
-            with Disc(str(tried)) as disc:
+            with Disc(str(tried), geometry.layout) as disc:
                 homes = disc.lists.homes if disc.lists else []
                 mapped = disc.sectors, [home if disc.states[home] is State.GOOD else None for home in homes]
-            found = by_program(tried)
+            found = by_program(tried, geometry)
             seen.add((found[0], tuple(found[1])))
             with self.subTest("a hostile image", number=number):
                 self.assertEqual(mapped, found)
-        self.assertGreaterEqual(len(seen), 12, "how many discs the hostile images give")
+        self.assertGreaterEqual(len(seen), discs, "how many discs the hostile images give")
 
     def test_outputs(self) -> None:
         """Each output says what became of the blocks of a disc."""
@@ -173,8 +207,32 @@ class Maps(FolderTest):
         with Disc("disc.img") as disc:
             version = disc.lists and disc.lists.secondary.version
         self.assertEqual(shown("term").splitlines()[2][:8], "DSDSSS--" if version == 2 else "DSDS----")
+        self.assertEqual(shown("human", "--layout=groups").splitlines()[1], "not formatted")
         Path("no.img").write_text("no disc", encoding="ascii")
         self.assertEqual(done(TOOLS / "ram-map", "no.img").stdout, "ram-map: no.img holds no disc\n")
+
+    def test_layouts(self) -> None:
+        """The map finds by the lists that a disc has a group of spares in each zone. Where there are none, it
+        takes what it is told."""
+        run_script("disc.img", MADE_OF_ZONES, "groups")
+        runs = json.loads(shown("json"))
+        named = {run["start"]: (run["role"], run.get("sector"), run.get("with")) for run in runs}
+        for block, due in {9: ("replaced", 0, 29), 29: ("replacement", 0, 9), 20: ("slipped", None, None),
+                           40: ("replaced", 400, 55), 54: ("retired", None, None), 56: ("spare", None, None),
+                           34: ("data", 304, None)}.items():
+            self.assertEqual(named.get(block), due, f"block {block}")
+        heads = (("", "spares in each zone", "624"), ("--layout=groups", "spares in each zone", "624"),
+                 ("--layout=run", "primary spares", "0"))
+        for option, spares, sectors in heads:
+            self.assertEqual(shown("human", *option.split()).splitlines()[0],
+                             f"disc: 2 zones of scale 1, 4 {spares}, 67 blocks, {sectors} sectors")
+        run_script("disc.img", "press 2 1 4\n", "groups")
+        self.assertIn("4 primary spares, ", shown("human"))
+        self.assertIn("4 spares in each zone, ", shown("human", "--layout=groups"))
+        run_script("disc.img", "press 1 1 23\npress 1 1 22\n")
+        self.assertIn("22 spares in each zone, ", shown("human", "--layout=groups"))
+        run_script("disc.img", "press 2 1 40\n")
+        self.assertEqual(shown("human", "--layout=groups"), "ram-map: disc.img holds no disc\n")
 
     @needs("ddrescuelog")
     def test_map_file(self) -> None:

@@ -8,6 +8,7 @@ import subprocess
 from pathlib import Path
 
 from dvdram.disc import HEADER
+from dvdram.drive import FORMAT
 from support import (NBD, PLUGIN, PROGRAM, SECONDS, TOOLS, FolderTest, Server, children_of, done, is_free,
                      needs, random_bytes, run_script, wait_until)
 
@@ -40,7 +41,14 @@ REFUSED = (  # parameters, and what is told of them
     ("image=new.img press=1,1", "Wrong: press=1,1: it has three numbers, ZONES,SCALE,SPARES"),
     ("image=new.img format=maybe", "Wrong: format=maybe: it is one of yes, no"),
     ("image=new.img size=1",
-     "Wrong: size is no parameter: there are image, press, format, force, program, control, poweroff"),
+     "size is no parameter: there are image, layout, press, format, force, program, control, poweroff"),
+    ("image=new.img layout=zones", "Wrong: layout=zones: it is one of run, groups"),
+    ("image=new.img layout=groups press=1,1,23", "Wrong: press=1,1,23: no disc has these numbers"),
+    ("image=one.img layout=groups press=2,1,4 format=yes",
+     "one.img holds a disc of another layout: layout=run serves it"),
+    ("image=zones.img", "zones.img holds a disc of another layout: layout=groups serves it"),
+    ("image=full.img layout=groups press=2,1,4",
+     "full.img holds a disc without room for a group of spares in each zone: it is no disc to layout=groups"),
     ("", "Wrong: image=FILE is missing"),
 )
 
@@ -160,12 +168,32 @@ class Served(FolderTest):
         bare = "image=bare.img", "press=1,1,4", "control=bare.ctl"
         done(PLUGIN, "-U", "-", f"program={PROGRAM}", *bare, "--run", "true")
         wait_until(lambda: is_free("bare.img"), "the server of a single command ends")
+        for image, numbers, word in (("one.img", "2 1 4", "run"), ("zones.img", "2 1 4", "groups"),
+                                     ("full.img", "2 1 30", "run")):
+            run_script(image, f"press {numbers}\npower\ncdb 000000000000\n{FORMAT}\n", word)
         for words, due in REFUSED:
             with self.subTest(words):
                 self.assertEqual(refusal(*words.split())[-len(due):], due)
         for program, due in (("no-program", "no-program: there is no such program"),
                              ("/bin/true", "true: it is no drive")):
             self.assertEqual(refusal("image=bare.img", program=program)[-len(due):], due)
+
+    @needs(*NBD)
+    def test_layout(self) -> None:
+        """A disc with a group of spares in each zone: where a zone has none left, the other one goes on."""
+        with Server("image=disc.img", "layout=groups", "press=2,1,4", "format=yes") as server:
+            self.assertEqual(server.io("write -P 1 0 32k"), [WROTE(0)])
+            self.assertEqual(server.tell("fail 9"), ["failed"])
+            self.assertEqual(server.io("write -P 2 0 32k"), [WROTE(0)])
+            dead = 28, 29, 30, 31, 34
+            self.assertEqual(server.tell(*(f"fail {block}" for block in dead)), ["failed"] * 5)
+            self.assertEqual(server.io("write -P 3 0 32k"), ["write failed: No space left on device"])
+            self.assertEqual(server.io("write -P 4 608k 32k"), [WROTE(622592)])
+            self.assertEqual(server.tell("power", "list"),
+                             ["ready 624", *(f"dead {block}" for block in (9, *dead))])
+            self.assertEqual(server.io("read -P 4 608k 32k"), [READ(622592)])
+        rows = [row.split() for row in done(TOOLS / "ram-map", "disc.img").stdout.splitlines()]
+        self.assertIn(["54", "1", "replacement", "good", "304", "34"], rows)
 
     @needs(*NBD)
     def test_force(self) -> None:
