@@ -2,15 +2,18 @@
 
 _ram_drive() {
     case $COMP_CWORD in
-        1) mapfile -t COMPREPLY < <(compgen -W 'run generate --help --version' -- "$2") ;;
-        2) [[ ${COMP_WORDS[1]} != run && ${COMP_WORDS[1]} != generate ]] || mapfile -t COMPREPLY < <(compgen -f -- "$2") ;;
+        1) mapfile -t COMPREPLY < <(compgen -W 'run groups generate --help --version' -- "$2") ;;
+        2) [[ ${COMP_WORDS[1]} != run && ${COMP_WORDS[1]} != groups && ${COMP_WORDS[1]} != generate ]] || mapfile -t COMPREPLY < <(compgen -f -- "$2") ;;
     esac
 }
 
 _ram_map() {
-    case $3$2 in
-        --output* | =*) mapfile -t COMPREPLY < <(compgen -W 'human json ddrescue term svg' -- "${2#=}") ;;
-        *) mapfile -t COMPREPLY < <(compgen -f -- "$2"; compgen -W '--output' -- "$2") ;;
+    local name=$3
+    [[ $name != '=' ]] || name=${COMP_WORDS[COMP_CWORD - 2]}
+    case $name in
+        --output) mapfile -t COMPREPLY < <(compgen -W 'human json ddrescue term svg' -- "${2#=}") ;;
+        --layout) mapfile -t COMPREPLY < <(compgen -W 'run groups' -- "${2#=}") ;;
+        *) mapfile -t COMPREPLY < <(compgen -f -- "$2"; compgen -W '--output --layout' -- "$2") ;;
     esac
 }
 
@@ -26,10 +29,11 @@ _nbdkit_dvdram_plugin() {
     [[ $2 != '=' ]] || name=${COMP_WORDS[COMP_CWORD - 1]}
     [[ $name != '=' ]] || name=${COMP_WORDS[COMP_CWORD - 2]}
     case $name in
+        layout) mapfile -t COMPREPLY < <(compgen -W 'run groups' -- "${2#=}") ;;
         format | force) mapfile -t COMPREPLY < <(compgen -W 'yes no' -- "${2#=}") ;;
         poweroff) mapfile -t COMPREPLY < <(compgen -W 'stay again exit' -- "${2#=}") ;;
         image | program | control) mapfile -t COMPREPLY < <(compgen -f -- "${2#=}") ;;
-        *) mapfile -t COMPREPLY < <(compgen -S= -W 'image press format force program control poweroff' -- "$2"); compopt -o nospace ;;
+        *) mapfile -t COMPREPLY < <(compgen -S= -W 'image layout press format force program control poweroff' -- "$2"); compopt -o nospace ;;
     esac
 }
 

@@ -3,12 +3,12 @@ reads."""
 from __future__ import annotations
 
 import os
-from dataclasses import dataclass
+from dataclasses import dataclass, replace
 from enum import Enum
 from functools import cached_property
 
 from . import NoDisc
-from .lists import BLOCK, Geometry, Lists, choose
+from .lists import BLOCK, Geometry, LayoutKind, Lists, choose
 
 SIGNATURE = b"DVDRAM01"
 HEADER = 16
@@ -61,15 +61,19 @@ class Block:
 
 
 class Disc:
-    """An image that is opened for reading. Raises `NoDisc` where it is that of no disc, and `OSError`."""
+    """An image that is opened for reading. It does not tell the layout of its disc: where none is named, that
+    is a group of spares in each zone if lists of this kind alone are found. Raises `NoDisc` where it is the
+    image of no disc, and `OSError`."""
 
-    def __init__(self, path: str) -> None:
+    def __init__(self, path: str, layout: LayoutKind | None = None) -> None:
         with open(path, "rb") as file:
             self.file = os.dup(file.fileno())
         try:
-            self.geometry = self.read_geometry()
+            self.geometry = self.read_geometry(layout or LayoutKind.ONE_GROUP)
             self.states = [STATES.get(byte, State.TORN)
                            for byte in os.pread(self.file, self.geometry.total, HEADER)]
+            if not layout:
+                self.geometry = self.as_found()
         except NoDisc:
             self.close()
             raise NoDisc(f"{path} holds no disc") from None
@@ -83,14 +87,22 @@ class Disc:
     def close(self) -> None:
         os.close(self.file)
 
-    def read_geometry(self) -> Geometry:
+    def read_geometry(self, layout: LayoutKind) -> Geometry:
         header = os.pread(self.file, HEADER, 0)
-        geometry = Geometry(*(int.from_bytes(header[at:at + 2], "big") for at in (8, 10, 12)))
+        zones, scale, spares = (int.from_bytes(header[at:at + 2], "big") for at in (8, 10, 12))
+        geometry = Geometry(zones, scale, spares, layout)
         if header[:8] != SIGNATURE or header[14:] != b"\0\0" or not geometry.is_lawful():
             raise NoDisc
         if os.fstat(self.file).st_size != HEADER + geometry.total * (1 + BLOCK):
             raise NoDisc
         return geometry
+
+    def as_found(self) -> Geometry:
+        """The geometry, with the layout of the lists that are found."""
+        zones = replace(self.geometry, layout=LayoutKind.EACH_ZONE)
+        is_of_zones = (zones.is_lawful() and not choose(self.geometry, self.readable)[1]
+                       and choose(zones, self.readable)[1])
+        return zones if is_of_zones else self.geometry
 
     def readable(self, block: int) -> bytes | None:
         """The bytes of a block, where it is good."""
@@ -139,7 +151,7 @@ class Disc:
 
 def name_by_lists(blocks: list[Block], lists: Lists) -> None:
     """Names the data blocks by the lists of the disc."""
-    for number in (*lists.primary_spares, *lists.supplementary_spares):
+    for number in lists.spares:
         blocks[number].role = Role.SPARE
     for number in lists.structure.slipped:
         blocks[number].role = Role.SLIPPED

@@ -11,6 +11,7 @@ from functools import wraps
 from typing import Any, Callable, Iterable, Iterator, TypeVar
 
 from . import Ended, Refused
+from .lists import LayoutKind
 from .protocol import SECTOR, Session, Statistics, line_of, rows_after_good
 
 BLOCK_SECTORS = 16
@@ -43,11 +44,12 @@ def in_session(call: Callable[..., T]) -> Callable[..., T]:
 
 
 class Drive:
-    """A drive over an image. A session is begun when it is needed first, and another after so many bytes.
-    Each call raises `Ended` and `Refused`."""
+    """A drive over an image of a disc of this layout. A session is begun when it is needed first, and another
+    after so many bytes. Each call raises `Ended` and `Refused`."""
 
-    def __init__(self, program: list[str], image: str, is_on: bool = True, renew_at: int = RENEW_AT) -> None:
-        self.program, self.image, self.renew_at = program, image, renew_at
+    def __init__(self, program: list[str], image: str, layout: LayoutKind = LayoutKind.ONE_GROUP, *,
+                 is_on: bool = True, renew_at: int = RENEW_AT) -> None:
+        self.program, self.image, self.layout, self.renew_at = program, image, layout, renew_at
         self.session: Session | None = None
         self.is_on, self.has_attention = is_on, False
         self.armed: list[str] = []
@@ -62,7 +64,7 @@ class Drive:
     def begin(self) -> None:
         """Begins a session, where there is none, with the power as it was."""
         if not self.session:
-            self.session = Session(self.program, self.image, self.statistics)
+            self.session = Session(self.program, self.layout.value, self.image, self.statistics)
             if self.is_on:
                 self.exchange("power")
 

@@ -6,6 +6,7 @@ compared.
 from __future__ import annotations
 
 from dataclasses import dataclass
+from enum import Enum
 from functools import cached_property
 from itertools import accumulate
 from typing import Callable, Protocol, TypeVar
@@ -13,15 +14,25 @@ from typing import Callable, Protocol, TypeVar
 BLOCK = 32_768
 MOST_SPARES = 4_092  # primary ones; as many entries fit into a part of a secondary list
 VERSIONS = 1, 2  # of the lists; a secondary list has as many parts
+FORM_OF_ZONES = 3  # of a structure, in place of its version
+
+
+class LayoutKind(Enum):
+    """Whether a disc has one group of spares, or a group in each zone: the word by which the program serves
+    it."""
+
+    ONE_GROUP = "run"
+    EACH_ZONE = "groups"
 
 
 @dataclass(frozen=True)
 class Geometry:
-    """The zones of a disc, their scale, and its primary spares."""
+    """The zones of a disc, their scale, and its primary spares, or those of each zone."""
 
     zones: int
     scale: int
     spares: int
+    layout: LayoutKind = LayoutKind.ONE_GROUP
 
     @property
     def sizes(self) -> list[int]:
@@ -30,9 +41,12 @@ class Geometry:
     @cached_property
     def data(self) -> list[int]:
         """The data blocks: all of each zone but its first and its last."""
+        return [block for zone in self.data_of_zones for block in zone]
+
+    @cached_property
+    def data_of_zones(self) -> list[range]:
         starts = accumulate(self.sizes, initial=8)
-        return [block for start, size in zip(starts, self.sizes)
-                for block in range(start + 1, start + size - 1)]
+        return [range(start + 1, start + size - 1) for start, size in zip(starts, self.sizes)]
 
     @property
     def lead_out(self) -> int:
@@ -60,7 +74,18 @@ class Geometry:
 
     def is_lawful(self) -> bool:
         return (1 <= self.zones <= 35 and 1 <= self.scale <= 100
-                and 1 <= self.spares <= MOST_SPARES and self.spares < len(self.data))
+                and 1 <= self.spares <= MOST_SPARES and self.spares < len(self.data)
+                and (self.layout is LayoutKind.ONE_GROUP or self.fits_zones()))
+
+    def fits_zones(self) -> bool:
+        """Each zone has room for its spares, and a list for those of all."""
+        return self.zones * self.spares <= MOST_SPARES and self.spares + 2 < 25 * self.scale
+
+    def slips_few(self, slipped: list[int]) -> bool:
+        """No more blocks are slipped over than there are spares: in all, or in each zone."""
+        if self.layout is LayoutKind.ONE_GROUP:
+            return len(slipped) <= self.spares
+        return all(sum(block in zone for block in slipped) <= self.spares for zone in self.data_of_zones)
 
 
 def big(value: int, size: int) -> bytes:
@@ -85,6 +110,7 @@ class Structure:
     is_formatted: bool
     spares: int
     entries: tuple[tuple[int, int], ...]
+    layout: LayoutKind = LayoutKind.ONE_GROUP
 
     @classmethod
     def decode(cls, text: bytes) -> Structure | None:
@@ -92,11 +118,14 @@ class Structure:
         count = number(text, 2050, 2)
         starts = range(2052, 2052 + 4 * min(count, MOST_SPARES), 4)
         entries = tuple((text[at], number(text, at + 1, 3)) for at in starts)
-        value = cls(text[2], number(text, 4, 4), text[3] == 128, number(text, 8, 2), entries)
+        is_of_zones = text[2] == FORM_OF_ZONES
+        version, layout = (2, LayoutKind.EACH_ZONE) if is_of_zones else (text[2], LayoutKind.ONE_GROUP)
+        value = cls(version, number(text, 4, 4), text[3] == 128, number(text, 8, 2), entries, layout)
         return value if value.is_lawful() and value.encode() == text else None
 
     def encode(self) -> bytes:
-        front = bytes((10, 10, self.version, 128 if self.is_formatted else 0))
+        form = self.version if self.layout is LayoutKind.ONE_GROUP else FORM_OF_ZONES
+        front = bytes((10, 10, form, 128 if self.is_formatted else 0))
         head = (front + big(self.counter, 4) + big(self.spares, 2)).ljust(2048, b"\0")
         entries = b"".join(bytes((kind,)) + big(block, 3) for kind, block in self.entries)
         return (head + bytes((0, 1)) + big(len(self.entries), 2) + entries).ljust(BLOCK, b"\0")
@@ -106,13 +135,15 @@ class Structure:
         return [block for _, block in self.entries]
 
     def is_lawful(self) -> bool:
+        most = self.spares if self.layout is LayoutKind.ONE_GROUP else MOST_SPARES
         return (self.version in VERSIONS and 1 <= self.spares <= MOST_SPARES
-                and len(self.entries) <= self.spares
+                and len(self.entries) <= most
                 and (self.is_formatted or not self.entries) and rises(self.slipped)
                 and all(kind <= 2 for kind, _ in self.entries))
 
     def is_valid(self, geometry: Geometry) -> bool:
-        return self.spares == geometry.spares and set(self.slipped) <= set(geometry.data)
+        return ((self.layout, self.spares) == (geometry.layout, geometry.spares)
+                and set(self.slipped) <= set(geometry.data) and geometry.slips_few(self.slipped))
 
 
 @dataclass(frozen=True)
@@ -179,25 +210,34 @@ class Lists:
     structure: Structure
     secondary: Secondary
 
-    @property
+    @cached_property
     def unslipped(self) -> list[int]:
-        slipped = set(self.structure.slipped)
-        return [block for block in self.geometry.data if block not in slipped]
+        return [block for zone in self.unslipped_of_zones for block in zone]
 
-    @property
-    def primary_spares(self) -> list[int]:
-        return self.unslipped[:self.structure.spares - len(self.structure.entries)]
+    @cached_property
+    def unslipped_of_zones(self) -> list[list[int]]:
+        slipped = set(self.structure.slipped)
+        return [[block for block in zone if block not in slipped] for zone in self.geometry.data_of_zones]
+
+    @cached_property
+    def pools(self) -> list[tuple[list[int], list[int]]]:
+        """The block of each logical block, before any is replaced, with the spares to which these may move:
+        of the disc, or of each zone."""
+        if self.geometry.layout is LayoutKind.EACH_ZONE:
+            counts = [len(zone) - self.structure.spares for zone in self.geometry.data_of_zones]
+            return [(zone[:count], zone[count:]) for zone, count in zip(self.unslipped_of_zones, counts)]
+        first = self.structure.spares - len(self.structure.entries)
+        end = len(self.unslipped) - self.secondary.spares
+        return [(self.unslipped[first:end], self.unslipped[:first] + self.unslipped[end:])]
 
     @property
     def logical(self) -> list[int]:
         """The block of each logical block, before any is replaced."""
-        unslipped, first = self.unslipped, len(self.primary_spares)
-        return unslipped[first:len(unslipped) - self.secondary.spares]
+        return [block for blocks, _ in self.pools for block in blocks]
 
     @property
-    def supplementary_spares(self) -> list[int]:
-        unslipped = self.unslipped
-        return unslipped[len(unslipped) - self.secondary.spares:]
+    def spares(self) -> list[int]:
+        return [spare for _, spares in self.pools for spare in spares]
 
     @property
     def homes(self) -> list[int]:
@@ -205,19 +245,27 @@ class Lists:
         replaced = {block: other for block, other in self.secondary.entries if other is not None}
         return [replaced.get(block, block) for block in self.logical]
 
+    def has_lawful_area(self) -> bool:
+        """So many supplementary spares may there be."""
+        if self.geometry.layout is LayoutKind.EACH_ZONE:
+            return self.secondary.spares == 0
+        spares = self.geometry.spares + self.secondary.spares
+        return spares <= self.secondary.most_spares and spares < len(self.geometry.data)
+
     def are_valid(self) -> bool:
         """The secondary list has the structure's version, names its counter, and is valid under it."""
         structure, secondary = self.structure, self.secondary
-        all_spares = self.geometry.spares + secondary.spares
-        if ((secondary.version, secondary.structure_counter) != (structure.version, structure.counter)
-                or all_spares > secondary.most_spares or all_spares >= len(self.geometry.data)):
+        named = secondary.version, secondary.structure_counter
+        if named != (structure.version, structure.counter) or not self.has_lawful_area():
             return False
-        spares = {*self.primary_spares, *self.supplementary_spares}
-        logical = set(self.logical)
-        dead = {block for block, _ in self.secondary.entries}
-        used = [other for _, other in self.secondary.entries if other is not None]
-        return (dead <= spares | logical and set(used) <= spares - dead and len(set(used)) == len(used)
-                and all((block in spares) == (other is None) for block, other in self.secondary.entries))
+        pool_of = {block: at for at, (blocks, _) in enumerate(self.pools) for block in blocks}
+        pool_of_spare = {spare: at for at, (_, spares) in enumerate(self.pools) for spare in spares}
+        dead = {block for block, _ in secondary.entries}
+        used = [other for _, other in secondary.entries if other is not None]
+        return (not dead.intersection(used) and len(set(used)) == len(used)
+                and all(block in pool_of_spare if other is None
+                        else block in pool_of and pool_of_spare.get(other) == pool_of[block]
+                        for block, other in secondary.entries))
 
 
 class Counted(Protocol):

@@ -6,6 +6,7 @@ from itertools import groupby
 from typing import Iterator
 
 from .disc import Block, Disc, Role, State
+from .lists import LayoutKind
 from .protocol import SECTOR
 
 COLUMNS = 64
@@ -30,7 +31,8 @@ PAINTS = {State.DEAD: "\x1b[41m", State.TORN: "\x1b[43m"}
 
 def heading(disc: Disc) -> str:
     geometry = disc.geometry
-    return (f"disc: {geometry.zones} zones of scale {geometry.scale}, {geometry.spares} primary spares, "
+    spares = "primary spares" if geometry.layout is LayoutKind.ONE_GROUP else "spares in each zone"
+    return (f"disc: {geometry.zones} zones of scale {geometry.scale}, {geometry.spares} {spares}, "
             f"{geometry.total} blocks, {disc.sectors} sectors")
 
 

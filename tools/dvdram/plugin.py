@@ -91,7 +91,7 @@ def get_ready() -> None:
     image = open_image(parameters)
     prepare(parameters, program)
     control = Listener(parameters.control) if parameters.control else None
-    serving = Serving(image, Drive(program, parameters.image), control, Lock())
+    serving = Serving(image, Drive(program, parameters.image, parameters.kind), control, Lock())
 
 
 def after_fork() -> None:

@@ -13,9 +13,13 @@ from pathlib import Path
 from . import Ended, NoDisc, Refused, Wrong
 from .disc import Disc, State
 from .drive import FORMAT, IS_READY, Drive
+from .lists import LayoutKind
 
 TOOLS = Path(__file__).resolve().parent.parent
-CHOICES = {"format": ("yes", "no"), "force": ("yes", "no"), "poweroff": ("stay", "again", "exit")}
+CHOICES = {
+    "layout": tuple(kind.value for kind in LayoutKind), "format": ("yes", "no"), "force": ("yes", "no"),
+    "poweroff": ("stay", "again", "exit"),
+}
 
 
 @dataclass
@@ -23,6 +27,7 @@ class Parameters:
     """What the command line says."""
 
     image: str = ""
+    layout: str = "run"
     press: str = ""
     format: str = "no"
     force: str = "no"
@@ -38,6 +43,10 @@ class Parameters:
         if value not in CHOICES.get(key, (value,)):
             raise Wrong(f"{key}={value}: it is one of {', '.join(CHOICES[key])}")
         setattr(self, key, value)
+
+    @property
+    def kind(self) -> LayoutKind:
+        return LayoutKind(self.layout)
 
     def complete(self) -> None:
         """Sees that all is there, and makes paths whole: a server goes to another folder."""
@@ -82,13 +91,23 @@ def prepare(words: Parameters, program: list[str]) -> None:
     """Presses and formats the disc where that is asked for and due, and sees that it has sectors."""
     if must_press(words):
         press(words, program)
-    drive = Drive(program, words.image, is_on=False)
+    drive = Drive(program, words.image, words.kind, is_on=False)
     answer = drive.say("power")[0]
-    if answer == "not formatted" and words.format == "yes":
-        format_disc(words, drive)
-    elif answer == "not formatted" and not words.control:
-        raise Wrong(f"image={words.image} is not formatted: format=yes formats it")
+    if answer == "not formatted":
+        see_layout(words)
+        if words.format == "yes":
+            format_disc(words, drive)
+        elif not words.control:
+            raise Wrong(f"image={words.image} is not formatted: format=yes formats it")
     end(drive)
+
+
+def see_layout(words: Parameters) -> None:
+    """Sees that a disc that is not formatted is not one of the other layout, but by force."""
+    with Disc(words.image) as disc:
+        other = disc.geometry.layout
+        if disc.lists and other is not words.kind and words.force == "no":
+            raise Wrong(f"image={words.image} holds a disc of another layout: layout={other.value} serves it")
 
 
 def must_press(words: Parameters) -> bool:
@@ -96,7 +115,10 @@ def must_press(words: Parameters) -> bool:
     if words.press and words.force == "yes":
         return True
     try:
-        Disc(words.image).close()
+        with Disc(words.image) as disc:
+            if words.kind is LayoutKind.EACH_ZONE and not disc.geometry.fits_zones():
+                raise Wrong(f"image={words.image} holds a disc without room for a group of spares in each "
+                            "zone: it is no disc to layout=groups")
     except NoDisc:
         if not words.press:
             raise Wrong(f"image={words.image} holds no disc: press=ZONES,SCALE,SPARES makes one") from None
@@ -106,7 +128,7 @@ def must_press(words: Parameters) -> bool:
 
 def press(words: Parameters, program: list[str]) -> None:
     """Presses a disc into the image."""
-    drive = Drive(program, words.image, is_on=False)
+    drive = Drive(program, words.image, words.kind, is_on=False)
     answer = drive.command(f"press {words.press.replace(',', ' ')}")[0]
     end(drive)
     if answer != "pressed":
@@ -116,7 +138,7 @@ def press(words: Parameters, program: list[str]) -> None:
 def format_disc(words: Parameters, drive: Drive) -> None:
     """Formats the disc. One that was written before is formatted by force alone: it may have lost its
     lists."""
-    with Disc(words.image) as disc:
+    with Disc(words.image, words.kind) as disc:
         was_written = any(state in (State.GOOD, State.TORN) for state in disc.states)
     if was_written and words.force == "no":
         raise Wrong(f"image={words.image} was written, and is not formatted any more: "

@@ -71,12 +71,13 @@ def rows_after_good(command: bytes) -> int:
 
 
 class Session:
-    """One run of the program over an image. Raises `Ended` where the program cannot be run, or ended."""
+    """One run of the program over an image, by the word `run` or `groups`. Raises `Ended` where the program
+    cannot be run, or ended."""
 
-    def __init__(self, program: list[str], image: str, statistics: Statistics) -> None:
+    def __init__(self, program: list[str], word: str, image: str, statistics: Statistics) -> None:
         self.statistics, self.lines, self.sent = statistics, 0, 0
         try:
-            self.process = subprocess.Popen([*program, "run", image], stdin=subprocess.PIPE,
+            self.process = subprocess.Popen([*program, word, image], stdin=subprocess.PIPE,
                                             stdout=subprocess.PIPE, bufsize=0, start_new_session=True)
         except OSError as error:
             raise Ended(f"{program[0]} cannot be run: {error.strerror}") from None

@@ -7,6 +7,7 @@ import sys
 
 from . import NoDisc
 from .disc import Disc
+from .lists import LayoutKind
 from .pictures import OUTPUTS
 
 
@@ -14,9 +15,11 @@ def main() -> int:
     parser = argparse.ArgumentParser(prog="ram-map", description=__doc__)
     parser.add_argument("image", metavar="IMAGE")
     parser.add_argument("--output", choices=OUTPUTS, default="human", help="what is printed (default: human)")
+    parser.add_argument("--layout", choices=[kind.value for kind in LayoutKind],
+                        help="the word by which the disc is served (default: that of the lists found on it)")
     words = parser.parse_args()
     try:
-        with Disc(words.image) as disc:
+        with Disc(words.image, LayoutKind(words.layout) if words.layout else None) as disc:
             print(OUTPUTS[words.output](disc))
     except NoDisc as error:
         print(f"ram-map: {error}", file=sys.stderr)
