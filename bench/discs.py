@@ -8,9 +8,14 @@ from typing import List, Optional, Sequence, Tuple
 
 sys.path.append(str(Path(__file__).resolve().parent.parent / "tools"))
 
-from dvdram.lists import BLOCK, MOST_SPARES, Geometry, Lists, Secondary, Structure  # noqa: E402
+# pylint: disable-next=wrong-import-position
+from dvdram.lists import (BLOCK, MOST_SPARES, Geometry, LayoutKind, Lists, Secondary,  # noqa: E402
+                          Structure)
 
 GREATEST = Geometry(35, 100, MOST_SPARES)
+# Those with the most spares, of a disc that has a group of them in each zone; and the same of one group.
+ZONES = Geometry(35, 5, 116, LayoutKind.EACH_ZONE)
+ONE_GROUP = Geometry(35, 5, 116)
 
 
 def lists_of(geometry: Geometry, slipped: Sequence[int] = (), spares: int = 0,
@@ -19,7 +24,9 @@ def lists_of(geometry: Geometry, slipped: Sequence[int] = (), spares: int = 0,
     every so many logical blocks one is replaced, until so many are, by the spares in their order."""
     structure = Structure(2, 2, True, geometry.spares, tuple((0, block) for block in slipped))
     lists = Lists(geometry, structure, Secondary(2, 1, 2, spares, ()))
-    free = [*reversed(lists.primary_spares), *reversed(lists.supplementary_spares)][:count]
+    (_, free), *_ = lists.pools
+    primary = geometry.spares - len(slipped)
+    free = [*reversed(free[:primary]), *reversed(free[primary:])][:count]
     entries: List[Tuple[int, Optional[int]]] = [(block, None) for block in retired_ones]
     entries += zip(lists.logical[::every], free) if every else []
     entries.sort(key=lambda entry: entry[0])
@@ -65,3 +72,37 @@ def retired(path: Path) -> None:
     geometry = Geometry(4, 100, MOST_SPARES)
     all_spares = geometry.data[:MOST_SPARES] + geometry.data[-MOST_SPARES:]
     press(path, lists_of(geometry, (), MOST_SPARES, all_spares))
+
+
+def plain_in_zones(path: Path) -> None:
+    """A disc with a group of spares in each zone, without a defect."""
+    press(path, lists_of_zones())
+
+
+def plain_in_one_group(path: Path) -> None:
+    """The same of one group."""
+    press(path, lists_of(ONE_GROUP))
+
+
+def slipped_in_zones(path: Path) -> None:
+    """Such a disc with 4,060 slipped blocks: as many in each zone as it has spares."""
+    press(path, lists_of_zones(slipped=ZONES.spares))
+
+
+def full_in_zones(path: Path) -> None:
+    """Such a disc whose 4,060 spares are all used up: a list of as many entries."""
+    press(path, lists_of_zones(used=ZONES.spares))
+
+
+def lists_of_zones(slipped: int = 0, used: int = 0) -> Lists:
+    """Lists of a disc with a group of spares in each zone, of which each zone has so many slipped blocks,
+    every other one as far as that goes, and so many spares that are used up: they replace the first logical
+    blocks of the zone, and where it has fewer the others are retired."""
+    blocks = [block for zone in ZONES.data_of_zones for block in sorted([*zone[::2], *zone[1::2]][:slipped])]
+    structure = Structure(2, 2, True, ZONES.spares, tuple((0, block) for block in blocks), ZONES.layout)
+    lists = Lists(ZONES, structure, Secondary(2, 1, 2, 0, ()))
+    entries: List[Tuple[int, Optional[int]]] = []
+    for logical, free in lists.pools:
+        entries += zip(logical, free[:used])
+        entries += [(spare, None) for spare in free[len(logical):used]]
+    return Lists(ZONES, structure, Secondary(2, 1, 2, 0, tuple(entries)))

@@ -45,17 +45,17 @@ def write_command(lba: int, sectors: int, byte: int, fua: bool = False) -> str:
 
 
 class Bench:
-    """A program over an image."""
+    """A program over an image, which it serves by this word."""
 
-    def __init__(self, program: Path, image: Path) -> None:
-        self.program, self.image = program, image
+    def __init__(self, program: Path, image: Path, word: str = "run") -> None:
+        self.program, self.image, self.word = program, image, word
 
     def once(self, script: str) -> float:
         """Runs a script, and gives the seconds that it took."""
         words = self.image.with_suffix(".script")
         words.write_text(script, encoding="ascii")
         with words.open("rb") as lines:
-            command = [str(self.program), "run", str(self.image)]
+            command = [str(self.program), self.word, str(self.image)]
             process = subprocess.Popen(command, stdin=lines, stdout=subprocess.DEVNULL)
             _, process.returncode, usage = os.wait4(process.pid, 0)
         if process.returncode:
@@ -70,8 +70,8 @@ class Bench:
 class Timed(Session):
     """A session of a program over an image, of which each part is timed."""
 
-    def __init__(self, program: Path, image: Path) -> None:
-        super().__init__([str(program)], str(image), Statistics())
+    def __init__(self, program: Path, image: Path, word: str = "run") -> None:
+        super().__init__([str(program)], word, str(image), Statistics())
         clock = ctypes.c_int()
         if ctypes.CDLL(None).clock_getcpuclockid(self.process.pid, ctypes.byref(clock)):
             raise OSError("the processor time of the program cannot be read")
@@ -129,16 +129,18 @@ class Piece(NamedTuple):
 
 
 class Measured(NamedTuple):
-    """A program over an image, the lines that begin a session of it, and pieces of the session."""
+    """A program over an image, the lines that begin a session of it, pieces of the session, and the word by
+    which the image is served."""
 
     program: Path
     image: Path
     start: str
     pieces: List[Piece]
+    word: str = "run"
 
     def begin(self) -> Tuple[Timed, List[Turn]]:
         """A new session, and its pieces as jobs."""
-        session = Timed(self.program, self.image)
+        session = Timed(self.program, self.image, self.word)
         session.asks(self.start)
         return session, [piece.of(session) for piece in self.pieces]
 

@@ -17,6 +17,8 @@ NEW_DISC = "press 1 40 16\n" + POWER + FORMAT
 # What is measured is blocks this many logical blocks apart. Each of them is replaced on both discs with
 # defects.
 APART = 128
+# And this many on the disc with a group of spares in each zone.
+IN_ZONES = 3
 SPARES = MOST_SPARES
 # The writes at the start and at the end of a run of many that are measured.
 FEW = 16
@@ -94,16 +96,46 @@ def defects(program: Path, folder: Path) -> None:
 def mounts(program: Path, path: Path, benches: Sequence[Bench]) -> None:
     """Prints how long a mount of each disc with full lists takes."""
     discs.retired(path)
-    several = 20
     names = "8,184 retired", "4,092 slipped, 4,092 replaced", "8,184 replaced"
-    all_benches = [Bench(program, path), *benches[:2]]
-    once = best([bench.runs("power\n") for bench in all_benches])
-    often = best([bench.runs("power\n" * (1 + several)) for bench in all_benches])
+    told_mounts(names, [Bench(program, path), *benches[:2]])
+    path.unlink()
+
+
+def told_mounts(names: Sequence[str], benches: Sequence[Bench]) -> None:
+    """Prints how long a mount of each of these discs takes."""
+    several = 20
+    once = best([bench.runs("power\n") for bench in benches])
+    often = best([bench.runs("power\n" * (1 + several)) for bench in benches])
     for name, one, many in zip(names, once, often):
         mount = (many - one) / several * 1e3
         bound = f"{MOST_MOUNT:>28.2f} ms{exceeds(mount, MOST_MOUNT)}"
         print(f"{f'the power goes on, {name}':<62}{mount:>10.2f} ms{bound}")
-    path.unlink()
+
+
+def groups(program: Path, folder: Path) -> None:
+    """Reads and writes on a disc with a group of spares in each zone, beside those on one of the same numbers
+    with one group; and how long full lists of such a disc take to be mounted."""
+    zones, one = Bench(program, folder / "zones.img", "groups"), Bench(program, folder / "one.img")
+    discs.plain_in_zones(zones.image)
+    discs.plain_in_one_group(one.image)
+    cases = [(write, range(0, BLOCKS - count + 1, count), count)
+             for write in (False, True) for count in (1, 4, 16, 64)]
+    cases += [(write, range(0, BLOCKS * IN_ZONES, IN_ZONES), 1) for write in (False, True)]
+    pieces = [Piece(scripts_of(*case)) for case in cases]
+    written = [line for write, starts, count in cases if write for line in scripts_of(True, starts, count)]
+    for bench in (zones, one):
+        bench.once(POWER + "".join(written))
+    times = in_turn([Measured(program, bench.image, POWER, pieces, bench.word) for bench in (zones, one)], 25)
+    for (write, starts, count), both in zip(cases, zip(*times)):
+        this, that = (of_a_block(median(seconds), count) for seconds in both)
+        where = f"{count} a command" if starts.step == count else "over all zones"
+        row(f"a block {'written' if write else 'read'}, {where}: groups, beside run", this, that, 1.05)
+    discs.full_in_zones(one.image)
+    discs.slipped_in_zones(zones.image)
+    names = "4,060 spares of 35 zones used up", "4,060 slipped in 35 zones"
+    told_mounts(names, [Bench(program, one.image, "groups"), zones])
+    for bench in (zones, one):
+        bench.image.unlink()
 
 
 def moves(bench: Bench) -> List[float]:
