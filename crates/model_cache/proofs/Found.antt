@@ -1,7 +1,7 @@
 -- A caller that needs what a drive with a write cache stands for afterwards finds it in the step.
 use Rattle.std.specs.Prelude.{ℕ, ◌+◌, Bool, true, false, MatchBool, Option, Some, None, List, [], ◌∷◌, ◌⊎◌}
-use Rattle.std.proofs.Common.{◌≡◌, refl, inl, inr, ap}
-use Rattle.model_sectors.specs.Discs.{Standing, On, Off}
+use Rattle.std.proofs.Common.{◌≡◌, refl, inl, inr}
+use Rattle.model_sectors.specs.Discs.{Off}
 use Rattle.model_sectors.specs.Requests.{block_with, blocks_covered}
 use Rattle.model_sectors.specs.declared.ReadOut.{ReadOut}
 use Rattle.model_sectors.specs.declared.ReadOut.TheVariants as reads
@@ -18,16 +18,14 @@ use Rattle.model_drive.specs.declared.ExpandOut.TheVariants as expands
 use Rattle.model_drive.specs.declared.Kind.{Kind}
 use Rattle.model_drive.specs.declared.Kind.TheVariants as kinds
 use Rattle.model_drive.specs.Shown.{Shown}
-use Rattle.model_drive.specs.Reads.{ReadStep, VerifyStep}
-use Rattle.model_drive.specs.Expands.{ExpandStep, shortened}
-use Rattle.model_drive.specs.Rewriting.{RewriteStep}
+use Rattle.model_drive.specs.Expands.{shortened}
 use Rattle.model_cache.specs.declared.SyncOut.{SyncOut}
 use Rattle.model_cache.specs.declared.SyncOut.TheVariants as syncs
 use Rattle.model_cache.specs.declared.TickOut.{TickOut}
 use Rattle.model_cache.specs.declared.TickOut.TheVariants as ticks
 use Rattle.model_cache.specs.Values.{Values, Contents, Has, MayHave, candidates_of, settled_values, no_values, with_older, with_written, cached}
 use Rattle.model_cache.specs.Shown.{CacheShown, goes_into_cache}
-use Rattle.model_cache.specs.Steps.{ReadContents, VerifyContents, StopsFlush, ThroughValues, CachedValues, FullValues, FormatValues, SyncValues, TickValues, ThroughContents, CachedContents, WriteContents, FormatContents, ExpandContents, SyncContents, TickContents, PowerContents}
+use Rattle.model_cache.specs.Steps.{ReadContents, VerifyContents, ThroughValues, CachedValues, FullValues, FormatValues, ThroughContents, CachedContents, WriteContents, FormatContents, ExpandContents, SyncContents, TickContents, PowerContents}
 
 module _ (after : Contents → Type 0) where
   -- what it stands for afterwards

@@ -1,5 +1,5 @@
 -- Where a drive with a write cache tells that no spare is left, a write of its disc found none.
-use Rattle.std.specs.Prelude.{◌≡◌, ℕ, ◌⊎◌, Bool, true, false, MatchBool, List}
+use Rattle.std.specs.Prelude.{ℕ, Bool, true, false, MatchBool, List}
 use Rattle.std.proofs.Common.{inl, inr}
 use Rattle.model_drive.specs.Shown.{Shown}
 use Rattle.model_drive.specs.Writes.{LacksSpare}

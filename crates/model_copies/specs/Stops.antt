@@ -1,6 +1,6 @@
 -- What a stopped update or repair leaves of the copies of a list, from below: which are done, which are as they were, and which one
 -- it was at. For the answers of updates and repairs. (This project's own.)
-use Rattle.std.specs.Prelude.{◌≡◌, ℕ, ◌<◌, ◌⊎◌, List}
+use Rattle.std.specs.Prelude.{ℕ, ◌<◌, ◌⊎◌, List}
 use Rattle.model_medium.specs.Cells.{Cell, IsSameOrDead, cell_at}
 use Rattle.model_copies.specs.Copies.{IsArea, Holds, HoldsOrDead}
 

@@ -15,7 +15,7 @@ use Rattle.model_volume.specs.Expansions.{lists_expanded}
 use Rattle.model_volume.proofs.Updates.{dds_no_sdl, dds_no_second}
 use Rattle.model_survival.specs.Findable.{DdsLives, SdlLives}
 use Rattle.model_survival.specs.Losing.{LosesOneDds, LosesOneSdl, LosesOneAtMost, HaveOneVersion}
-use Rattle.model_survival.proofs.Finding.{alive_holds, lives_has, die_of_loses}
+use Rattle.model_survival.proofs.Finding.{alive_holds, lives_has}
 use Rattle.model_survival.proofs.Losing.{dds_lost, sdl_lost, sdl_died, settled_lost, died_lost, mount_lost}
 use Rattle.model_formats.specs.Fresh.{formatting_dds, formatted_dds, fresh_sdl}
 use Rattle.model_formats.specs.Leaving.{FormatsLast, FormatsInPart}

@@ -9,7 +9,7 @@ use Rattle.std.proofs.lemmas.List.{append-nil, length-append, length-take, lengt
 use Rattle.std.proofs.lemmas.List.Elements.{Contains-append_cases}
 use Rattle.std.proofs.lemmas.Option.{slice_get-get_or, slice_get_within, get_or_from_slice_get}
 use Rattle.model_geometry.proofs.DataBlocks.{Contains-slice_get}
-use Rattle.model_pools.specs.Pools.{Pool, ArePools}
+use Rattle.model_pools.specs.Pools.{ArePools}
 use Rattle.model_pools.proofs.Listed.{same_index}
 
 module _ (U : List ℕ) (b n : ℕ) (fits : b + n ≤ length U) where

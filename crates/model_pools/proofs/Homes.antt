@@ -1,5 +1,5 @@
 -- The home of a logical block is its own block, or a spare that replaces it; and two logical blocks have two homes.
-use Rattle.std.proofs.Common.{◌≡◌, ℕ, ◌<◌, List, length, Option, Some, None, unwrap_or, ◌⊎◌, inl, inr, ⊎_elim, sym, ap, ◌∙◌, subst}
+use Rattle.std.proofs.Common.{◌≡◌, ℕ, ◌<◌, List, length, Option, Some, None, unwrap_or, ◌⊎◌, inl, inr, ⊎_elim, sym, ap, ◌∙◌}
 use Rattle.std.specs.List.{Contains}
 use Rattle.std.proofs.lemmas.List.Elements.{Contains-append_left, Contains-append_right}
 use Rattle.model_lists.specs.declared.sdl.SdlEntry.{SdlEntry}

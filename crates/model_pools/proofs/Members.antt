@@ -10,7 +10,7 @@ use Rattle.model_lists.specs.declared.sdl.SdlEntry.{SdlEntry}
 use Rattle.model_lists.specs.Values.{defectives, with_entry, pair, retired}
 use Rattle.model_lists.proofs.Entries.{rises-with_entry}
 use Rattle.model_pools.specs.Listed.{replacements}
-use Rattle.model_pools.specs.Pools.{Pool, ArePools, AreValidUnder, logical_in, spares_in, all_in, spares_for, block_in, free_in, pool_of}
+use Rattle.model_pools.specs.Pools.{Pool, ArePools, AreValidUnder, logical_in, spares_in, all_in, spares_for, block_in, free_in}
 use Rattle.model_pools.proofs.Entries.{Contains-defectives, differs_from_all}
 use Rattle.model_pools.proofs.Free.{Contains-from_free_in}
 use Rattle.model_pools.proofs.Listed.{Decides-is_listed, IsDistinct-from_increasing, listed-All, one_listed, same_index}

@@ -7,7 +7,7 @@ use Rattle.model_lists.specs.declared.sdl.SdlEntry.{SdlEntry}
 use Rattle.model_lists.specs.Values.{defectives, with_entry, pair, retired}
 use Rattle.model_pools.specs.Listed.{replacements}
 use Rattle.model_pools.specs.Pools.{Pool, ArePools, AreValidUnder, logical_in, spares_in, block_in, home_in, is_unnamed, free_in}
-use Rattle.model_pools.specs.Moves.{with_retired, former, entries_moved_in, tried_of, IsNextOf}
+use Rattle.model_pools.specs.Moves.{with_retired, former, entries_moved_in, tried_of}
 use Rattle.model_pools.proofs.Entries.{Contains-defectives}
 use Rattle.model_pools.proofs.Free.{Contains-free_in, Contains-from_free_in, free_is_own, free_from_unnamed, unnamed_from_free}
 use Rattle.model_pools.proofs.Listed.{same_index}

@@ -1,5 +1,5 @@
 -- A disc that is settled in one kind of layout gives no lists of the other.
-use Rattle.std.proofs.Common.{◌≡◌, ℕ, ◌+◌, ◌*◌, ◌/◌, List, sym, ap, ◌∙◌, subst, arith}
+use Rattle.std.proofs.Common.{◌≡◌, ℕ, ◌+◌, ◌*◌, ◌/◌, List, sym, ap, ◌∙◌, subst}
 use Rattle.std.specs.Prelude.{◌≢◌, ◌==◌, if◌then◌else◌}
 use Rattle.model_geometry.specs.Geometry.{Shape, label_of, lead_out, dds_block}
 use Rattle.model_geometry.proofs.Zones.{zone_start_closed}

@@ -184,7 +184,8 @@ pub fn a_choice_gives_whole_pairs()
 /// other kind.
 pub fn a_disc_of_one_kind_is_none_of_the_other()
     ensures { (a b : Shape) → label_of a ≡ label_of b → a.layout ≢ b.layout
-        → (cells : List Cell) (lists : Lists) → lists.dds.layout ≡ a.layout → AreSettled a cells lists → GivesNone b cells }
+        → (cells : List Cell) (lists : Lists) → lists.dds.layout ≡ a.layout → AreSettled a cells lists
+        → GivesNone b cells }
 {}
 
 /// Where settled lists belong together, no mark on the disc is greater than the structure's counter, and this is the mark

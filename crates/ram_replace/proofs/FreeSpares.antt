@@ -1,12 +1,11 @@
 -- Where the free spares of a pool stand in its order, and how many there are.
-use Rattle.std.specs.Prelude.{◌≡◌, ℕ, ◌≤◌, Bool, List, length}
+use Rattle.std.specs.Prelude.{ℕ, ◌≤◌, Bool, List, length}
 use Rattle.std.specs.List.{filter}
 use Rattle.std.proofs.Common.{sym}
 use Rattle.model_sectors.proofs.Covering.{length-filter-le}
 use Rattle.ram_spare.specs.declared.spare.FreeSpare.{FreeSpare}
 use Rattle.ram_spare.specs.Turns.{IsNextFree, ArePassed}
 use Rattle.ram_spare.proofs.Passed.{next_within, next_is_there}
-use Rattle.ram_replace.specs.declared.spares.Found.{Found}
 use Rattle.ram_replace.specs.Spares.{StandsAt}
 
 module _ (is_free : ℕ → Bool) (spares : List ℕ) where

@@ -1,12 +1,12 @@
 -- What holds of the pools of a layout that is that of a disc with valid lists.
-use Rattle.std.specs.Prelude.{◌≡◌, ℕ, ◌≤◌, ◌<◌, ◌^◌, List, length}
+use Rattle.std.specs.Prelude.{◌≡◌, ℕ, ◌≤◌, ◌<◌, List, length}
 use Rattle.std.specs.List.{Contains}
 use Rattle.std.proofs.Common.{sym, ap, ◌∙◌, subst, arith}
 use Rattle.std.proofs.lemmas.List.Elements.{All-contains, Contains-append_right}
 use Rattle.model_geometry.specs.Geometry.{Shape, IsLawful, data_blocks, lead_out, total}
 use Rattle.model_geometry.proofs.DataBlocks.{data_blocks_bounds}
 use Rattle.model_geometry.proofs.Zones.{total_most}
-use Rattle.model_lists.specs.Values.{Sdl, IsBlockNumber, most_of}
+use Rattle.model_lists.specs.Values.{IsBlockNumber, most_of}
 use Rattle.model_pools.specs.Pools.{Pool, ArePools, AreValidUnder, all_in, logical_in, spares_in, spares_at, pool_of, free_at, free_in}
 use Rattle.model_pools.specs.Moves.{sdl_moved_in, tried_of}
 use Rattle.model_pools.proofs.Pooled.{pool_spares_among}

@@ -1,13 +1,11 @@
 -- Where the blocks of a zone stand among all that are not slipped.
-use Rattle.std.proofs.Common.{◌≡◌, ℕ, zero, suc, ◌+◌, ◌-◌, ◌*◌, ◌<◌, ◌≤◌, inl, inr, Bool, false, cond, ◌&&◌, not, ltb, List, length, drop, Some, refl, sym, ap, ◌∙◌, subst, arith}
+use Rattle.std.proofs.Common.{◌≡◌, ℕ, zero, suc, ◌+◌, ◌-◌, ◌*◌, ◌<◌, ◌≤◌, inl, inr, false, ◌&&◌, not, ltb, List, length, drop, Some, sym, ap, ◌∙◌, subst, arith}
 use Rattle.std.specs.Prelude.{slice_get, slice_index}
 use Rattle.std.specs.List.{Contains, filter}
 use Rattle.std.proofs.lemmas.Bool.{cases_lt, and_parts, ltb-true, not_from_false, false_from_ne_true}
 use Rattle.std.proofs.lemmas.Cmp.{nat_eq_equiv}
 use Rattle.std.proofs.lemmas.List.{length-append, get_or-take, get_or-drop, get_or_default}
 use Rattle.std.proofs.lemmas.List.Elements.{Contains-get_or}
-use Rattle.std.proofs.lemmas.List.Filters.{sum_by-filter_both}
-use Rattle.std.proofs.lemmas.List.Sums.{length-filter}
 use Rattle.std.proofs.lemmas.List.Kept.{IsStrictlyIncreasing-filter}
 use Rattle.std.proofs.lemmas.Map.Made.{length-from_same_keys}
 use Rattle.std.proofs.lemmas.Option.{slice_get-get_or, slice_get_within, get_or_from_slice_get}
@@ -22,20 +20,9 @@ use Rattle.model_places.specs.Places.{slipped, unslipped, zone_unslipped, zones_
 use Rattle.model_places.specs.Valid.{IsValidPdl}
 use Rattle.model_places.proofs.ByKind.{length-slipped}
 use Rattle.model_places.proofs.Pools.{unslipped_rise, unslipped_are_data, not_slipped}
-use Rattle.model_places.proofs.Slipping.{below, length-below, length-below_at}
+use Rattle.model_places.proofs.Slipping.{below, length-below, length-below_at, length-below_parts}
 use Rattle.model_places.proofs.Zones.{data_in_zone, zone_inside, zones_are_all, zone_cut_out}
 use Rattle.ram_slip.specs.Counts.{IsCountBefore}
-
--- of a list and of what a filter leaves out, the numbers below x are those of all
-below_parts : (p : ℕ → Bool) (x : ℕ) (xs : List ℕ) → length (below x (filter p xs)) + length (below x (filter (λ b. not (p b)) xs)) ≡ length (below x xs)
-below_parts p x xs =
-    omega (
-      arith,
-      length-filter (λ b. ltb b x) (filter p xs),
-      length-filter (λ b. ltb b x) (filter (λ b. not (p b)) xs),
-      length-filter (λ b. ltb b x) xs,
-      sum_by-filter_both p (λ b. not (p b)) (λ _. refl) (λ b. cond (ltb b x) 1 0) xs,
-    )
 
 -- ---- the blocks of a zone
 
@@ -171,7 +158,7 @@ module _ (shape : Shape) (dds : Dds) (scaled : 1 ≤ shape.scale) where
       let kept = length-below (unslipped shape dds) (unslipped_rise shape dds) (first z) x (first_within z (omega (arith, within)))
       (λ j h. let low = low_before z j (omega (arith, within)) h in omega (arith, low))
       (λ h. let high = high_from z (first z) within (omega arith) h in omega (arith, high)) in
-      omega (arith, least, all, kept, passed, below_taken x valid, below_parts (is_listed (slipped dds)) x (data_blocks shape))
+      omega (arith, least, all, kept, passed, below_taken x valid, length-below_parts (is_listed (slipped dds)) x (data_blocks shape))
 
   -- the same by the numbers of the code
   pub first_by_count : IsValidPdl shape dds → (z start passed : ℕ) (entries : List PdlEntry) → z < shape.zones → start ≡ zone_start shape z → entries ≡ dds.entries → IsCountBefore entries (start + 1) passed

@@ -1,7 +1,7 @@
 use Rattle.std.proofs.Common.{arith, ◌≡◌, ◌+◌, ◌≤◌, ◌∙◌, ℕ, List, length, refl, sym, ap, subst}
 use Rattle.model_lists.specs.Values.{Sdl, IsLawfulSdl, most_of, with_entry, pair}
 use Rattle.model_lists.proofs.SdlTexts.{most_is}
-use Rattle.model_pools.specs.Pools.{pool_of, free_at, free_in, spares_at, is_unnamed}
+use Rattle.model_pools.specs.Pools.{free_at, free_in, spares_at, is_unnamed}
 use Rattle.model_pools.specs.Moves.{with_retired, tried_of, entries_moved_in, sdl_moved_in}
 use Rattle.ram_sdl.specs.Sdl.{sdl_of}
 use Rattle.ram_spare.specs.Turns.{AreUsed}

@@ -1,4 +1,4 @@
-use Rattle.std.proofs.Common.{arith, ◌∙◌, sym, refl}
+use Rattle.std.proofs.Common.{arith, ◌∙◌, refl}
 use Rattle.std.proofs.lemmas.Result.{err_from_is_err_and}
 use Rattle.model_geometry.proofs.DataBlocks.{Contains-slice_get}
 use Rattle.model_pools.specs.Pools.{spares_at, is_unnamed, free_at}
