@@ -1,13 +1,13 @@
 //! A drive with a write cache, as its host sees it. Contracts alone.
 
-ghost use Rattle.std.specs.Prelude.{◌≡◌, ◌*◌, ◌≤◌, length};
+ghost use Rattle.std.specs.Prelude.{◌≡◌, ◌*◌, ◌≤◌, length, IfSome};
 ghost use Rattle.model_commands.specs.declared.TheConstants.{TRANSFER_LIMIT};
 ghost use Rattle.model_drive.specs.Tells.{CapacityRule, CountsRule, DdsRule};
 ghost use Rattle.model_cache.specs.Values.{Contents};
 ghost use Rattle.model_cache.specs.Shown.{CacheShown};
 ghost use Rattle.model_cache.specs.Steps.{ReadContents, WriteContents, ThroughContents, PowerContents, FormatContents, ExpandContents, VerifyContents, SyncContents, TickContents};
 ghost use Rattle.model_cache.specs.Causes.{CacheReadCause, CacheWriteCause, ThroughCause, CachePowerCause, CacheFormatCause, CacheExpandCause, CacheVerifyCause, SyncCause, TickCause};
-ghost use Rattle.ram_sectors.specs.declared.TheConstants.{VERIFY_LIMIT};
+ghost use Rattle.ram_sectors.specs.declared.TheConstants.{VERIFY_LIMIT, MOST_BLOCKS};
 ghost use Rattle.ram_sectors.specs.Laws.{CachingLaws, UnderwentLaws};
 
 use model_cache::{SyncOut, TickOut};
@@ -36,7 +36,8 @@ pub trait Caching {
 
     /// How many sectors the disc has, a multiple of 16. None exactly where the power is off or the disc is not formatted.
     fn capacity(&self) -> Option<u32>
-        ensures { CapacityRule (shows self.now).drive result };
+        ensures rule { CapacityRule (shows self.now).drive result }
+        ensures few { IfSome result (λ sectors. sectors ≤ 16 * MOST_BLOCKS) };
 
     /// Whether writes go into the cache.
     fn caches(&self) -> bool

@@ -2,7 +2,7 @@
 //! formats, expands, verifies and tells of. Contracts alone.
 #![tactic(auto)]
 
-ghost use Rattle.std.specs.Prelude.{◌≡◌, ◌*◌, ◌≤◌, length};
+ghost use Rattle.std.specs.Prelude.{◌≡◌, ◌*◌, ◌≤◌, length, IfSome};
 ghost use Rattle.model_commands.specs.declared.TheConstants.{TRANSFER_LIMIT};
 ghost use Rattle.model_sectors.specs.Discs.{Standing};
 ghost use Rattle.model_drive.specs.Shown.{Shown};
@@ -12,7 +12,7 @@ ghost use Rattle.model_drive.specs.Power.{PowerCause, PowerStep};
 ghost use Rattle.model_drive.specs.Formats.{FormatCause, FormatStep, FormatCompletes};
 ghost use Rattle.model_drive.specs.Expands.{ExpandCause, ExpandStep, ExpandCompletes};
 ghost use Rattle.model_drive.specs.Tells.{CapacityRule, CountsRule, DdsRule};
-ghost use Rattle.ram_sectors.specs.declared.TheConstants.{VERIFY_LIMIT};
+ghost use Rattle.ram_sectors.specs.declared.TheConstants.{VERIFY_LIMIT, MOST_BLOCKS};
 ghost use Rattle.ram_sectors.specs.Laws.{SectorsLaws, UnderwentLaws};
 
 mod caching;
@@ -27,9 +27,13 @@ use ram_bytes::Block;
 /// How many sectors are verified at once at most. (INCITS MMC gives their number two bytes.)
 pub const VERIFY_LIMIT: u32 = 65_535;
 
-/// The number that contracts share with the code.
+/// How many logical blocks a disc has at most: no more than the greatest one has data blocks.
+pub const MOST_BLOCKS: u32 = 146_930;
+
+/// The numbers that contracts share with the code.
 pub fn limits_are_these()
     ensures verify { VERIFY_LIMIT ≡ 65535 }
+    ensures blocks { MOST_BLOCKS ≡ 146930 }
 {}
 
 /// A disc as its host sees it: a list of sectors of 2,048 bytes, numbered from 0. Wherever the cells of its medium are known,
@@ -54,7 +58,8 @@ pub trait Sectors {
 
     /// How many sectors the disc has, a multiple of 16. None exactly where the power is off or the disc is not formatted.
     fn capacity(&self) -> Option<u32>
-        ensures { CapacityRule (shows self.now) result };
+        ensures rule { CapacityRule (shows self.now) result }
+        ensures few { IfSome result (λ sectors. sectors ≤ 16 * MOST_BLOCKS) };
 
     /// Reads `n` sectors from sector `lba` on, with at most one use of the medium for each block. With the power off it
     /// answers Off; without a format, NotFormatted; where some sector is none of the disc's, Range, with the capacity; where a

@@ -156,8 +156,9 @@ impl<M: MediumControl> State<M> {
 }
 
 impl<M: MediumControl> Ready<M> {
-    ghost use Rattle.std.specs.Prelude.{◌≡◌, ◌≤◌};
+    ghost use Rattle.std.specs.Prelude.{◌≡◌, ◌*◌, ◌≤◌};
     ghost use Rattle.model_sectors.specs.declared.TheConstants.{MOST_SECTORS};
+    ghost use Rattle.ram_sectors.specs.declared.TheConstants.{MOST_BLOCKS};
     ghost use Rattle.model_drive.specs.Shown.{capacity};
     ghost use Rattle.ram_states.specs.Shown.{shown_ready};
 
@@ -165,6 +166,7 @@ impl<M: MediumControl> Ready<M> {
     pub fn capacity(&self) -> u32
         ensures sectors { result ≡ capacity (shown_ready self.now) }
         ensures most { result ≤ MOST_SECTORS }
+        ensures few { result ≤ 16 * MOST_BLOCKS }
     {
         let blocks = self.geometry.data_blocks();
         let kept = self.geometry.spare_room() + self.memory.lists.sdl.ssa;
