@@ -1,0 +1,3 @@
+pub mod Bytes
+pub mod Telling
+pub mod Comparing

@@ -1,0 +1,15 @@
+//! The audit of a disc in an image, and the check of an audit: the text of a certificate, and how a source compares with it.
+#![tactic(auto)]
+
+mod comparing;
+mod laws;
+mod lines;
+mod lists;
+mod telling;
+
+pub use comparing::{Compared, compare};
+pub use laws::{a_difference_is_in_one_line, limits_are_these};
+pub use lines::Lines;
+pub use lists::{tell_primary, tell_secondary};
+pub use model_audit::{CertificateLine, CopyState};
+pub use telling::TEXT_ROOM;

@@ -1,0 +1,68 @@
+//! Lines of a certificate, as their text. No call but `new` takes memory.
+
+ghost use Rattle.std.specs.Prelude.{◌≤◌, length, vec_capacity};
+ghost use Rattle.ram_audit.specs.declared.telling.TheConstants.{TEXT_ROOM};
+
+use crate::telling::{TEXT_ROOM, put_line};
+use model_audit::CertificateLine;
+use std::alloc::{AllocError, Global};
+
+/// Lines of a certificate, as their text, and how many they are. There is room for the text of any disc.
+#[derive(Drop)]
+pub struct Lines {
+    text: Vec<u8>,
+    count: u64,
+    ghost room: { TEXT_ROOM ≤ vec_capacity text },
+    ghost few: { count ≤ length text.items },
+}
+
+impl Lines {
+    ghost use Rattle.std.specs.Prelude.{◌≡◌, ◌+◌, List, [], ◌∷◌, ◌++◌, IfOk};
+    ghost use Rattle.model_audit.specs.Certificate.{closed};
+    ghost use Rattle.model_audit.specs.declared.lines.CertificateLine.{CertificateLine as Told};
+    ghost use Rattle.ram_audit.specs.Bytes.{most_bytes};
+    ghost use Rattle.ram_audit.specs.Telling.{AreLines, bytes_of};
+
+    /// No lines, and the room of the text of any disc.
+    pub fn new(alloc: Global) -> Result<Lines, AllocError>
+        ensures { IfOk result (λ lines. AreLines lines []) }
+    {
+        Ok(Lines {
+            text: Vec::with_capacity(alloc, TEXT_ROOM)?,
+            count: 0,
+        })
+    }
+
+    /// Drops all lines.
+    pub fn clear(&mut self)
+        ensures { AreLines self.new [] }
+    {
+        self.text.clear();
+        self.count = 0;
+    }
+
+    /// Adds a line.
+    pub fn push(&mut self, line: CertificateLine)
+        requires { bytes_of self.old + most_bytes line ≤ TEXT_ROOM }
+        ensures lines { (told : List Told) → AreLines self.old told → AreLines self.new (told ++ line ∷ []) }
+        ensures len { bytes_of self.new ≤ bytes_of self.old + most_bytes line }
+    {
+        put_line(&mut self.text, line);
+        self.count += 1;
+    }
+
+    /// Adds the last line, which counts those before it.
+    pub fn close(&mut self)
+        requires { bytes_of self.old + 25 ≤ TEXT_ROOM }
+        ensures { (told : List Told) → AreLines self.old told → AreLines self.new (closed told) }
+    {
+        self.push(CertificateLine::End { lines: self.count });
+    }
+
+    /// Their text.
+    pub fn text(&self) -> &[u8]
+        ensures { result.now ≡ self.now.text.items }
+    {
+        self.text.as_slice()
+    }
+}
