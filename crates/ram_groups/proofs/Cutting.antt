@@ -16,7 +16,7 @@ use Rattle.model_pools.specs.Pools.{Pool, ArePools, logical_in, spares_in, spare
 use Rattle.model_pools.proofs.Zoned.{take_rises, drop_rises, from_front, from_rest, logical_zone, spare_zone, from_zone_spares, spares_at_zone, zoned_lawful, logical_count_in}
 use Rattle.model_pools.proofs.ZonedPlaces.{zone_block_at, zone_pool_at}
 use Rattle.ram_slip.proofs.ZoneSpares.{zone_wide, zone_first_next, zone_first_grows}
-use Rattle.ram_groups.specs.Zoning.{cut_out, zone_pool, IsZoned, IsCut}
+use Rattle.ram_groups.specs.Zoning.{cut_out, zone_pool, IsZoned, IsCutIntoZones}
 
 module _ (shape : Shape) (blocks starts : List ℕ) where
   abbrev pools : List Pool
@@ -40,7 +40,7 @@ module _ (shape : Shape) (blocks starts : List ℕ) where
   pub pools_many : length pools ≡ shape.zones
   pools_many = length-map-range_with_len (zone_pool shape blocks starts) 0 shape.zones
 
-  module _ (zoned : IsZoned shape) (cut : IsCut shape blocks starts) where
+  module _ (zoned : IsZoned shape) (cut : IsCutIntoZones shape blocks starts) where
     abbrev s : ℕ → ℕ
     s z = slice_index starts z
 

@@ -1,26 +1,21 @@
 -- What follows for the layout of a disc, by its kind.
-use Rattle.std.proofs.Common.{◌≡◌, ◌+◌, ◌≤◌, ℕ, ap, sym, subst, arith}
+use Rattle.std.proofs.Common.{◌≡◌, ℕ, ap, sym, subst, arith}
 use Rattle.model_geometry.specs.declared.kinds.LayoutKind.TheVariants.{OneGroup}
-use Rattle.model_geometry.specs.Geometry.{Shape, data_blocks, spare_room}
+use Rattle.model_geometry.specs.Geometry.{Shape, data_blocks}
 use Rattle.model_lists.specs.Values.{Dds}
 use Rattle.model_places.specs.Places.{count_of, pools_of}
 use Rattle.model_places.specs.Valid.{IsValidPdl, IsValidOnSome}
-use Rattle.model_places.proofs.ByKind.{slip_room}
 use Rattle.ram_layout.specs.Slipping.{SlipTable}
 use Rattle.ram_layout.proofs.SlipPools.{slipping_is, room_for_ssa}
 use Rattle.ram_groups.specs.declared.any_layout.AnyLayout.{AnyLayout}
 use Rattle.ram_groups.specs.declared.any_layout.AnyLayout.TheVariants as layouts
-use Rattle.ram_groups.specs.Layouts.{IsLayoutOf, IsOfKind, MayHave, MayHaveArea, IsSlipOf, layout_blocks, layout_pools, room_of, with_ssa}
+use Rattle.ram_groups.specs.Layouts.{IsLayoutOf, IsOfKind, MayHave, MayHaveArea, IsSlipOf, layout_blocks, layout_pools, with_ssa}
 use Rattle.ram_groups.proofs.Made.{zoning_is}
 
 pub pools_of_layout : (shape : Shape) (dds : Dds) (ssa : ℕ) (layout : AnyLayout) → IsValidPdl shape dds → IsValidOnSome shape ssa → IsLayoutOf shape dds ssa layout
     → layout_pools layout ≡ pools_of shape dds ssa
 pools_of_layout shape dds ssa (layouts.Slip table) valid area is = slipping_is shape dds ssa table is.kind valid area is.table_is
 pools_of_layout shape dds ssa (layouts.Zones table) valid area is = zoning_is shape dds ssa table is.kind area is.table_is
-
-pub room_of_layout : (shape : Shape) (dds : Dds) (ssa : ℕ) (layout : AnyLayout) → IsLayoutOf shape dds ssa layout → shape.zones + spare_room shape 0 ≤ room_of layout
-room_of_layout shape dds ssa (layouts.Slip table) is = omega (arith, is.table_is.roomy, slip_room shape is.kind 0)
-room_of_layout shape dds ssa (layouts.Zones table) is = is.table_is.roomy
 
 pub kind_of_layout : (shape : Shape) (dds : Dds) (ssa : ℕ) (layout : AnyLayout) → IsLayoutOf shape dds ssa layout → IsOfKind shape.layout layout
 kind_of_layout shape dds ssa (layouts.Slip table) is = is.kind
@@ -35,7 +30,7 @@ resized_layout shape dds before ssa (layouts.Slip table) is =
     let same = is.table_is.same_shape in
     record {
       kind = is.kind;
-      table_is = record { same_shape = same; blocks_are = is.table_is.blocks_are; primary_is = is.table_is.primary_is; logical_is = ap (λ (s : Shape). count_of s ssa) same; roomy = is.table_is.roomy };
+      table_is = record { same_shape = same; blocks_are = is.table_is.blocks_are; primary_is = is.table_is.primary_is; logical_is = ap (λ (s : Shape). count_of s ssa) same };
     }
 resized_layout shape dds before ssa (layouts.Zones table) is = is
 

@@ -23,7 +23,7 @@ use Rattle.ram_layout.specs.Filling.{kept_in}
 use Rattle.ram_runs.specs.Runs.{blocks_in, IsTable, end_of}
 use Rattle.ram_slip.proofs.ZonePlaces.{zone_bounds}
 use Rattle.ram_groups.specs.declared.zone_layout.ZoneLayout.TheInside.{Inside}
-use Rattle.ram_groups.specs.Zoning.{ZoneTable, table_in, cut_out, zone_pool, zone_pools, IsCut, IsZoningOf, IsZoneTable, AreStarts}
+use Rattle.ram_groups.specs.Zoning.{ZoneTable, zone_table_in, cut_out, zone_pool, zone_pools, IsCutIntoZones, IsZoningOf, IsZoneTable, AreStarts}
 
 -- the blocks of the first zones that are kept are those that are not slipped
 zones_kept : (shape : Shape) (dds : Dds) (n : ℕ) → kept_in (slipped dds) (zones_data shape n) ≡ zones_unslipped shape dds n
@@ -69,7 +69,7 @@ module _ (shape : Shape) (dds : Dds) (blocks starts : List ℕ) (scaled : 1 ≤ 
       (Contains-from_filter (λ block. not (is_listed (slipped dds) block)) (zone_data shape z) b (subst (λ (l : List ℕ). Contains l b) (cut_is z within) has)).1
 
   module _ (lawful : IsLawful shape) (is : shape.layout ≡ EachZone) (valid : IsValidPdl shape dds) (many : length starts ≡ shape.zones + 1) where
-    pub cut_made : IsCut shape blocks starts
+    pub cut_made : IsCutIntoZones shape blocks starts
     cut_made = record {
       rise = subst IsStrictlyIncreasing (sym blocks_are) (unslipped_rise shape dds);
       many = many;
@@ -107,14 +107,15 @@ module _ (inside : Inside) (dds : Dds) (entries : List PdlEntry) (lawful : IsLaw
       ∙ ap (λ (l : List PdlEntry). length (kept_in (pdl_blocks l) (zones_data shape zone))) are
       ∙ ap length (zones_kept shape dds zone)
 
-  pub zoning_made : shape.zones + spare_room shape 0 ≤ vec_capacity inside.runs → IsZoningOf shape dds (table_in inside)
-  zoning_made room = record { same_shape = refl; blocks_are = blocks_made; starts_are = starts_made; roomy = room }
+  pub zoning_made : IsZoningOf shape dds (zone_table_in inside)
+  zoning_made = record { same_shape = refl; blocks_are = blocks_made; starts_are = starts_made }
 
-  pub whole_made : IsValidPdl shape dds → IsTable inside.runs.items → end_of 0 inside.runs.items ≤ 147016 → 36 ≤ vec_capacity inside.starts → IsZoneTable inside
-  whole_made valid table small room = record {
+  pub whole_made : IsValidPdl shape dds → IsTable inside.runs.items → end_of 0 inside.runs.items ≤ 147016 → 4127 ≤ vec_capacity inside.runs → 36 ≤ vec_capacity inside.starts → IsZoneTable inside
+  whole_made valid table small roomy room = record {
     zoned = record { kind = is; each = (by_kind.zones_fit shape lawful is).each };
     cut = cut_made shape dds (blocks_in inside.runs.items) inside.starts.items lawful.some_scale blocks_made starts_made lawful is valid starts.many;
     table = table;
     small = small;
+    roomy = roomy;
     starts_room = room;
   }

@@ -11,10 +11,10 @@ use Rattle.ram_layout.proofs.SlipPools.{blocks_few}
 use Rattle.ram_runs.specs.declared.Run.{Run}
 use Rattle.ram_runs.specs.Runs.{blocks_in}
 use Rattle.ram_groups.specs.declared.zone_layout.ZoneLayout.TheInside.{Inside}
-use Rattle.ram_groups.specs.Zoning.{ZoneTable, table_in, zone_pools, IsZoned, IsCut, IsZoneTable, IsZoneOfPlace}
+use Rattle.ram_groups.specs.Zoning.{ZoneTable, zone_table_in, zone_pools, IsZoned, IsCutIntoZones, IsZoneTable, IsZoneOfPlace}
 use Rattle.ram_groups.proofs.Cutting.{start_within, starts_rising, zone_begun, neither_in, pools_many, logical_many, place_inside, logical_at, pool_at}
 
-module _ (inside : Inside) (table : ZoneTable) (view : table_in inside ≡ table) (whole : IsZoneTable inside) where
+module _ (inside : Inside) (table : ZoneTable) (view : zone_table_in inside ≡ table) (whole : IsZoneTable inside) where
   pub geometry_is : inside.geometry ≡ table.shape
   geometry_is = ap (λ (t : ZoneTable). t.shape) view
 
@@ -36,8 +36,8 @@ module _ (inside : Inside) (table : ZoneTable) (view : table_in inside ≡ table
   pub zoned_by : IsZoned table.shape
   zoned_by = subst (λ (t : ZoneTable). IsZoned t.shape) view whole.zoned
 
-  pub cut_by : IsCut table.shape table.blocks table.starts
-  cut_by = subst (λ (t : ZoneTable). IsCut t.shape t.blocks t.starts) view whole.cut
+  pub cut_by : IsCutIntoZones table.shape table.blocks table.starts
+  cut_by = subst (λ (t : ZoneTable). IsCutIntoZones t.shape t.blocks t.starts) view whole.cut
 
   -- there are few blocks
   pub few_blocks : length table.blocks ≤ 147016

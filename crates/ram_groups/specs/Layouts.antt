@@ -22,11 +22,6 @@ abbrev pub layout_blocks : AnyLayout → List ℕ
 layout_blocks (layouts.Slip table) = data_blocks table.shape
 layout_blocks (layouts.Zones table) = data_blocks table.shape
 
--- for how many runs it has room
-abbrev pub room_of : AnyLayout → ℕ
-room_of (layouts.Slip table) = table.room
-room_of (layouts.Zones table) = table.room
-
 -- it is of this kind
 abbrev pub IsOfKind : LayoutKind → AnyLayout → Type 0
 IsOfKind kind (layouts.Slip table) = kind ≡ OneGroup

@@ -3,7 +3,7 @@ use Rattle.std.specs.Prelude.{◌≡◌, ℕ, ◌+◌, ◌-◌, ◌*◌, ◌<◌
 use Rattle.std.specs.List.{Contains, range_with_len}
 use Rattle.std.specs.List.Sorted.{IsStrictlyIncreasing}
 use Rattle.model_geometry.specs.declared.kinds.LayoutKind.TheVariants.{EachZone}
-use Rattle.model_geometry.specs.Geometry.{Shape, zone_start, spare_room}
+use Rattle.model_geometry.specs.Geometry.{Shape, zone_start}
 use Rattle.model_geometry.proofs.DataBlocks.{zones_data}
 use Rattle.model_lists.specs.Values.{Dds}
 use Rattle.model_places.specs.Places.{unslipped, zones_unslipped, zone_count}
@@ -12,20 +12,18 @@ use Rattle.ram_layout.specs.Filling.{kept_in}
 use Rattle.ram_runs.specs.Runs.{blocks_in, IsTable, end_of}
 use Rattle.ram_groups.specs.declared.zone_layout.ZoneLayout.TheInside.{Inside}
 
--- A table for zones: the geometry, the data blocks that are not slipped, the places among these where the zones begin, with the
--- end of all as the last, and for how many runs there is room.
+-- A table for zones: the geometry, the data blocks that are not slipped, and the places among these where the zones begin, with
+-- the end of all as the last.
 pub record ZoneTable : Type 0 where
   pub shape : Shape
   pub blocks : List ℕ
   pub starts : List ℕ
-  pub room : ℕ
 
-abbrev pub table_in : Inside → ZoneTable
-table_in inside = record {
+abbrev pub zone_table_in : Inside → ZoneTable
+zone_table_in inside = record {
   shape = inside.geometry;
   blocks = blocks_in inside.runs.items;
   starts = inside.starts.items;
-  room = vec_capacity inside.runs;
 }
 
 -- the blocks of a zone: those from its place on to before that of the next
@@ -49,7 +47,6 @@ pub record IsZoningOf (shape : Shape) (dds : Dds) (table : ZoneTable) : Type 0 w
   pub blocks_are : table.blocks ≡ unslipped shape dds
   pub starts_are : (zone : ℕ) → zone ≤ shape.zones
       → slice_index table.starts zone ≡ length (zones_unslipped shape dds zone)
-  pub roomy : shape.zones + spare_room shape 0 ≤ table.room
 
 -- the block at this place is of this zone
 pub record IsZoneOfPlace (table : ZoneTable) (place zone : ℕ) : Type 0 where
@@ -68,7 +65,7 @@ pub record IsZoned (shape : Shape) : Type 0 where
   pub each : shape.psa + 2 < shape.scale * 25
 
 -- The blocks rise, and the starts cut them in zones, each of which has its logical blocks.
-pub record IsCut (shape : Shape) (blocks starts : List ℕ) : Type 0 where
+pub record IsCutIntoZones (shape : Shape) (blocks starts : List ℕ) : Type 0 where
   pub rise : IsStrictlyIncreasing blocks
   pub many : length starts ≡ shape.zones + 1
   pub first : slice_index starts 0 ≡ 0
@@ -80,10 +77,11 @@ pub record IsCut (shape : Shape) (blocks starts : List ℕ) : Type 0 where
   pub high : (zone block : ℕ) → zone < shape.zones → Contains (cut_out blocks starts zone) block
       → block < zone_start shape (zone + 1)
 
--- what holds of a table
+-- what holds of a table: there is room for the runs of any disc, and for the places of its zones
 pub record IsZoneTable (inside : Inside) : Type 0 where
   pub zoned : IsZoned inside.geometry
-  pub cut : IsCut inside.geometry (blocks_in inside.runs.items) inside.starts.items
+  pub cut : IsCutIntoZones inside.geometry (blocks_in inside.runs.items) inside.starts.items
   pub table : IsTable inside.runs.items
   pub small : end_of 0 inside.runs.items ≤ 147016
+  pub roomy : 4127 ≤ vec_capacity inside.runs
   pub starts_room : 36 ≤ vec_capacity inside.starts

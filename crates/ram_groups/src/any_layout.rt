@@ -1,10 +1,9 @@
 //! One layout for both kinds.
 
-ghost use Rattle.std.specs.Prelude.{◌≡◌, ◌+◌, ◌≤◌, IfOk};
-ghost use Rattle.model_geometry.specs.Geometry.{spare_room};
+ghost use Rattle.std.specs.Prelude.{◌≡◌, IfOk};
 ghost use Rattle.model_places.specs.Valid.{IsValidPdl, IsValidOnSome};
 ghost use Rattle.ram_dds.specs.Dds.{dds_of};
-ghost use Rattle.ram_groups.specs.Layouts.{IsLayoutOf, IsOfKind, MayHave, room_of, with_ssa};
+ghost use Rattle.ram_groups.specs.Layouts.{IsLayoutOf, IsOfKind, MayHave, with_ssa};
 
 use crate::zone_layout::ZoneLayout;
 use ram_dds::DdsPdl;
@@ -42,13 +41,22 @@ impl AnyLayout {
         }
     }
 
+    /// Its kind.
+    pub fn kind(&self) -> LayoutKind
+        ensures { IsOfKind result self.now }
+    {
+        match self {
+            AnyLayout::Slip(_) => LayoutKind::OneGroup,
+            AnyLayout::Zones(_) => LayoutKind::EachZone,
+        }
+    }
+
     /// Makes it the layout of a structure with so many supplementary spares. It is of the kind of the geometry. It takes no
     /// memory.
     pub fn rebuild(&mut self, geometry: &Geometry, dds: &DdsPdl, ssa: u32)
         requires valid { IsValidPdl geometry.now (dds_of dds.now) }
         requires area { IsValidOnSome geometry.now ssa }
         requires kind { IsOfKind geometry.now.layout self.old }
-        requires room { geometry.now.zones + spare_room geometry.now 0 ≤ room_of self.old }
         ensures { IsLayoutOf geometry.now (dds_of dds.now) ssa self.new }
     {
         match self {

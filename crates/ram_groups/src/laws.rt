@@ -1,14 +1,14 @@
 //! What follows for the layout of a disc.
 
-ghost use Rattle.std.specs.Prelude.{◌≡◌, ℕ, ◌+◌, ◌≤◌};
+ghost use Rattle.std.specs.Prelude.{◌≡◌, ℕ};
 ghost use Rattle.model_geometry.specs.declared.kinds.LayoutKind.TheVariants.{EachZone};
-ghost use Rattle.model_geometry.specs.Geometry.{Shape, data_blocks, spare_room};
+ghost use Rattle.model_geometry.specs.Geometry.{Shape, data_blocks};
 ghost use Rattle.model_lists.specs.Values.{Dds};
 ghost use Rattle.model_places.specs.Places.{pools_of};
 ghost use Rattle.model_places.specs.Valid.{IsValidPdl, IsValidOnSome};
 ghost use Rattle.ram_groups.specs.Zoning.{ZoneTable, IsZoningOf, zone_pools};
 ghost use Rattle.ram_groups.specs.declared.any_layout.AnyLayout.{AnyLayout};
-ghost use Rattle.ram_groups.specs.Layouts.{IsLayoutOf, IsOfKind, MayHave, layout_pools, layout_blocks, room_of, with_ssa};
+ghost use Rattle.ram_groups.specs.Layouts.{IsLayoutOf, IsOfKind, MayHave, layout_pools, layout_blocks, with_ssa};
 
 /// The pools of a table of zones are those of its disc.
 pub fn a_table_of_zones_has_the_pools_of_its_disc()
@@ -17,8 +17,8 @@ pub fn a_table_of_zones_has_the_pools_of_its_disc()
         → zone_pools table ≡ pools_of shape dds ssa }
 {}
 
-/// The pools of a layout are those of its disc, and its data blocks the disc's. It is of the disc's kind, and has room for each
-/// disc of the geometry. It may have each valid size of the supplementary spare area, and is then the layout with that size.
+/// The pools of a layout are those of its disc, and its data blocks the disc's. It is of the disc's kind. It may have each valid
+/// size of the supplementary spare area, and is then the layout with that size.
 pub fn a_layout_has_the_pools_of_its_disc()
     ensures pools { (shape : Shape) (dds : Dds) (ssa : ℕ) (layout : AnyLayout)
         → IsValidPdl shape dds → IsValidOnSome shape ssa → IsLayoutOf shape dds ssa layout
@@ -27,8 +27,6 @@ pub fn a_layout_has_the_pools_of_its_disc()
         → layout_blocks layout ≡ data_blocks shape }
     ensures kind { (shape : Shape) (dds : Dds) (ssa : ℕ) (layout : AnyLayout) → IsLayoutOf shape dds ssa layout
         → IsOfKind shape.layout layout }
-    ensures room { (shape : Shape) (dds : Dds) (ssa : ℕ) (layout : AnyLayout) → IsLayoutOf shape dds ssa layout
-        → shape.zones + spare_room shape 0 ≤ room_of layout }
     ensures may { (shape : Shape) (dds : Dds) (before ssa : ℕ) (layout : AnyLayout)
         → IsValidPdl shape dds → IsValidOnSome shape ssa → IsLayoutOf shape dds before layout
         → MayHave ssa layout }

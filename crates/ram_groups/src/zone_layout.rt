@@ -11,7 +11,7 @@ use crate::filling::fill_zones;
 use crate::numbers::zone_of_number;
 use model_geometry::MOST_ZONES;
 use ram_dds::DdsPdl;
-use ram_layout::{Layout, Run};
+use ram_layout::{Layout, MOST_RUNS, Run};
 use ram_runs::{block_at, place_at};
 use ram_slip::{Place, zone_count, zone_first};
 use ram_zones::Geometry;
@@ -19,7 +19,7 @@ use std::alloc::{AllocError, Global};
 use std::marker::Model;
 
 /// The layout of a disc with a group of spares in each zone: of the blocks of a zone that are not slipped the first are its
-/// logical blocks, and the others its spares.
+/// logical blocks, and the others its spares. There is room for any disc.
 #[derive(Drop)]
 pub struct ZoneLayout {
     geometry: Geometry,
@@ -29,11 +29,11 @@ pub struct ZoneLayout {
 }
 
 impl Model for ZoneLayout {
-    ghost use Rattle.ram_groups.specs.Zoning.{ZoneTable, table_in, IsZoneTable};
+    ghost use Rattle.ram_groups.specs.Zoning.{ZoneTable, zone_table_in, IsZoneTable};
 
     ghost Value = { ZoneTable };
 
-    ghost view = { table_in };
+    ghost view = { zone_table_in };
 
     ghost invariant = { IsZoneTable };
 }
@@ -45,8 +45,8 @@ impl ZoneLayout {
         requires zones { geometry.now.layout ≡ EachZone }
         ensures { IfOk result (IsZoningOf geometry.now (dds_of dds.now)) }
     {
-        let room = geometry.zones() + geometry.spare_room();
-        let mut runs = Vec::with_capacity(alloc, room as usize)?;
+        let _room = geometry.spare_room();
+        let mut runs = Vec::with_capacity(alloc, MOST_RUNS)?;
         let mut starts = Vec::with_capacity(alloc, MOST_ZONES as usize + 1)?;
         fill_zones(&mut runs, &mut starts, geometry, dds.entries.as_slice());
         Ok(ZoneLayout {
@@ -60,7 +60,6 @@ impl ZoneLayout {
     pub fn rebuild(&mut self, geometry: &Geometry, dds: &DdsPdl)
         requires valid { IsValidPdl geometry.now (dds_of dds.now) }
         requires zones { geometry.now.layout ≡ EachZone }
-        requires room { geometry.now.zones + spare_room geometry.now 0 ≤ self.old.room }
         ensures { IsZoningOf geometry.now (dds_of dds.now) self.new }
     {
         let _room = geometry.spare_room();

@@ -47,7 +47,7 @@ module _ (shape : Shape) (dds : Dds) (logical ssa : ℕ) (table : SlipTable) (on
       omega (arith, all, is.primary_is, ap length is.blocks_are)
 
   pub resized : IsSlippingOf shape dds (count_of shape ssa) (record table { logical = count_of shape ssa })
-  resized = record { same_shape = is.same_shape; blocks_are = is.blocks_are; primary_is = is.primary_is; logical_is = refl; roomy = is.roomy }
+  resized = record { same_shape = is.same_shape; blocks_are = is.blocks_are; primary_is = is.primary_is; logical_is = refl }
 
 -- ---- as the calls see it
 
@@ -96,18 +96,19 @@ module _ (inside : Inside) (shape : Shape) (dds : Dds) (ssa : ℕ) (entries : Li
   unfolding unslipped
   blocks_made = made ∙ ap (λ (l : List PdlEntry). kept_in (pdl_blocks l) (data_blocks shape)) are
 
-  pub whole_made : IsTable inside.runs.items → end_of 0 inside.runs.items ≤ 147016 → IsSlipTable inside
-  whole_made table small =
+  pub whole_made : IsTable inside.runs.items → end_of 0 inside.runs.items ≤ 147016 → 4127 ≤ vec_capacity inside.runs → IsSlipTable inside
+  whole_made table small roomy =
       let all = slips_are_all shape one dds ssa valid area.1 in
       record {
         table = table;
         small = small;
         rise = subst IsStrictlyIncreasing (sym blocks_made) (unslipped_rise shape dds);
         fits = omega (arith, all, primary, logical, ap length blocks_made);
+        roomy = roomy;
       }
 
-  pub slipping_made : inside.geometry ≡ shape → shape.zones + shape.psa ≤ vec_capacity inside.runs → IsSlippingOf shape dds (count_of shape ssa) (table_in inside)
-  slipping_made same room = record { same_shape = same; blocks_are = blocks_made; primary_is = primary; logical_is = logical; roomy = room }
+  pub slipping_made : inside.geometry ≡ shape → IsSlippingOf shape dds (count_of shape ssa) (table_in inside)
+  slipping_made same = record { same_shape = same; blocks_are = blocks_made; primary_is = primary; logical_is = logical }
 
 -- its spares are few
 few_by : (inside : Inside) → IsSlipTable inside → (pool : ℕ) → length (spares_at (slip_pools (table_in inside)) pool) < 2 ^ 32
@@ -140,4 +141,4 @@ module _ (inside : Inside) (table : SlipTable) (view : table_in inside ≡ table
     pub still_whole : IsSlipTable inside → table.primary + count_of table.shape ssa ≤ length table.blocks → IsSlipTable (record inside { logical = count - psa - ssa })
     still_whole whole room =
         let room' : inside.primary + count_of inside.geometry ssa ≤ length (blocks_in inside.runs.items) = subst (λ (t : SlipTable). t.primary + count_of t.shape ssa ≤ length t.blocks) (sym view) room in
-        record { table = whole.table; small = whole.small; rise = whole.rise; fits = omega (arith, room', new_count) }
+        record { table = whole.table; small = whole.small; rise = whole.rise; fits = omega (arith, room', new_count); roomy = whole.roomy }

@@ -8,14 +8,13 @@ use Rattle.model_pools.specs.Pools.{Pool}
 use Rattle.ram_runs.specs.Runs.{blocks_in, IsTable, end_of}
 use Rattle.ram_layout.specs.declared.slip_layout.SlipLayout.TheInside.{Inside}
 
--- A table for slipping: the geometry, the data blocks that are not slipped, how many of the first of these are primary spares and
--- of the next logical blocks, and for how many runs there is room.
+-- A table for slipping: the geometry, the data blocks that are not slipped, and how many of the first of these are primary spares
+-- and of the next logical blocks.
 pub record SlipTable : Type 0 where
   pub shape : Shape
   pub blocks : List ℕ
   pub primary : ℕ
   pub logical : ℕ
-  pub room : ℕ
 
 abbrev pub table_in : Inside → SlipTable
 table_in inside = record {
@@ -23,7 +22,6 @@ table_in inside = record {
   blocks = blocks_in inside.runs.items;
   primary = inside.primary;
   logical = inside.logical;
-  room = vec_capacity inside.runs;
 }
 
 -- its one pool: the primary spares are taken from the greatest down, and then the supplementary ones
@@ -39,11 +37,11 @@ pub record IsSlippingOf (shape : Shape) (dds : Dds) (logical : ℕ) (table : Sli
   pub blocks_are : table.blocks ≡ unslipped shape dds
   pub primary_is : table.primary ≡ primary_count shape dds
   pub logical_is : table.logical ≡ logical
-  pub roomy : shape.zones + shape.psa ≤ table.room
 
--- what holds of a table
+-- what holds of a table: there is room for the runs of any disc
 pub record IsSlipTable (inside : Inside) : Type 0 where
   pub table : IsTable inside.runs.items
   pub small : end_of 0 inside.runs.items ≤ 147016
   pub rise : IsStrictlyIncreasing (blocks_in inside.runs.items)
   pub fits : inside.primary + inside.logical ≤ length (blocks_in inside.runs.items)
+  pub roomy : 4127 ≤ vec_capacity inside.runs

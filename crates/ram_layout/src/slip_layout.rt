@@ -13,15 +13,18 @@ use crate::layout::Layout;
 use ram_dds::DdsPdl;
 use ram_runs::{Run, block_at, count_in, place_at};
 use ram_slip::Place;
-use ram_zones::Geometry;
+use ram_zones::{Geometry, MOST_SPARES, MOST_ZONES};
 use std::alloc::{AllocError, Global};
 use std::marker::Model;
+
+/// The most runs that the data blocks of a disc have: each zone begins one, and each slipped block.
+pub const MOST_RUNS: usize = MOST_ZONES as usize + MOST_SPARES as usize;
 
 /// The number of the one pool.
 const ONLY_POOL: u32 = 0;
 
 /// The layout of a disc with one group of spares: the primary ones come first, then the logical blocks, then the supplementary
-/// spares, and slipped blocks are passed over.
+/// spares, and slipped blocks are passed over. There is room for any disc.
 #[derive(Drop)]
 pub struct SlipLayout {
     geometry: Geometry,
@@ -55,7 +58,7 @@ impl SlipLayout {
             (count_of geometry.now ssa)) }
     {
         let psa = geometry.psa();
-        let mut runs = Vec::with_capacity(alloc, geometry.zones() as usize + psa as usize)?;
+        let mut runs = Vec::with_capacity(alloc, MOST_RUNS)?;
         let entries = dds.entries.as_slice();
         fill(&mut runs, geometry, entries);
         Ok(SlipLayout {
@@ -71,7 +74,6 @@ impl SlipLayout {
         requires valid { IsValidPdl geometry.now (dds_of dds.now) }
         requires area { IsValidOnSome geometry.now ssa }
         requires one { geometry.now.layout ≡ OneGroup }
-        requires room { geometry.now.zones + geometry.now.psa ≤ self.old.room }
         ensures { IsSlippingOf geometry.now (dds_of dds.now)
             (count_of geometry.now ssa) self.new }
     {

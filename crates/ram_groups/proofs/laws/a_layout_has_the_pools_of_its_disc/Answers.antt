@@ -1,11 +1,8 @@
-use Rattle.ram_groups.proofs.Layouts.{pools_of_layout, kind_of_layout, blocks_of_layout, room_of_layout, layout_may_have, resized_layout}
+use Rattle.ram_groups.proofs.Layouts.{pools_of_layout, kind_of_layout, blocks_of_layout, layout_may_have, resized_layout}
 use Rattle.ram_groups.proofs.laws.a_layout_has_the_pools_of_its_disc.Goals as goal
 
 pub returns-clause-pools : goal.returns-clause-pools
 returns-clause-pools c = pools_of_layout
-
-pub returns-clause-room : goal.returns-clause-room
-returns-clause-room c = room_of_layout
 
 pub returns-clause-may : goal.returns-clause-may
 returns-clause-may c = layout_may_have
