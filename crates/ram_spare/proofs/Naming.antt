@@ -24,7 +24,7 @@ listed_later None xs b differs = refl
 listed_later (Some x) xs b differs = ap (λ t. t || is_listed xs b) (ne_eqb x b (λ e. differs (ap Some e)))
 
 module _ (entries : List SdlEntry) (k b : ℕ) (d : SdlEntry) (below : k < length entries) where
-  from_here : replacements (drop k entries) ≡ cons_option (get_or entries k d).replacement (replacements (drop (k + 1) entries))
+  pub from_here : replacements (drop k entries) ≡ cons_option (get_or entries k d).replacement (replacements (drop (k + 1) entries))
   from_here =
       let next : suc k ≡ k + 1 = omega arith in
       ap replacements (drop-cons entries k d below) ∙ ap (λ n. cons_option (get_or entries k d).replacement (replacements (drop n entries))) next

@@ -41,7 +41,7 @@ module _ (p : ℕ → Bool) where
   pub find_past : (xs : List ℕ) (k : ℕ) → length xs ≤ k → find p (drop k xs) ≡ None
   find_past xs k past = ap (find p) (drop_of_length-le xs past)
 
-  past_none : (xs : List ℕ) (k : ℕ) → slice_get xs k ≡ None → length xs ≤ k
+  pub past_none : (xs : List ℕ) (k : ℕ) → slice_get xs k ≡ None → length xs ≤ k
   past_none xs k none = elim (cases_lt k (length xs)) [
     | inl inside ↦ absurd (let some : None ≡ Some (get_or xs k 0) = sym none ∙ slice_get-get_or xs k 0 inside in cc)
     | inr past ↦ past

@@ -1,13 +1,14 @@
 //! How far the spares of each pool are known to be used.
 
-ghost use Rattle.std.specs.Prelude.{◌≡◌, ◌<◌, ◌^◌, IfOk, length, replicate, slice_index, slice_set};
+ghost use Rattle.std.specs.Prelude.{◌≡◌, ◌<◌, ◌≤◌, IfOk, [], length, replicate, slice_index, slice_set};
 
+use ram_zones::MOST_ZONES;
 use std::alloc::{AllocError, Global};
 use std::marker::Model;
 
 /// A cursor for each pool of a layout: a number of spares, counted in the order in which they are taken. They fit a secondary
 /// list where each spare before them is named by an entry, so a search may begin at them. They are seen as the list of these
-/// numbers.
+/// numbers. There is room for those of any disc.
 #[derive(Drop)]
 pub struct Cursors {
     at: Vec<u32>,
@@ -25,12 +26,12 @@ impl Model for Cursors {
 }
 
 impl Cursors {
-    /// As many cursors, each at the first spare.
-    pub fn new(alloc: Global, pools: u32) -> Result<Cursors, AllocError>
-        ensures { IfOk result (λ cursors. cursors ≡ replicate pools 0) }
+    /// Room for the cursors of any disc, and none yet.
+    pub fn new(alloc: Global) -> Result<Cursors, AllocError>
+        ensures { IfOk result (λ cursors. cursors ≡ []) }
     {
         Ok(Cursors {
-            at: vec![in alloc; 0; pools as usize]?,
+            at: Vec::with_capacity(alloc, MOST_ZONES as usize)?,
         })
     }
 
@@ -57,10 +58,15 @@ impl Cursors {
         self.at[pool as usize] = at;
     }
 
-    /// Moves all cursors to the first spare.
-    pub fn reset(&mut self)
-        ensures { self.new ≡ replicate (length self.old) 0 }
+    /// Makes them as many as there are pools, each at the first spare.
+    pub fn reset(&mut self, pools: u32)
+        requires { pools ≤ 35 }
+        ensures { self.new ≡ replicate pools 0 }
     {
-        self.at.fill(0);
+        self.at.clear();
+        match self.at.resize(pools as usize, 0) {
+            Ok(()) => {}
+            Err(_) => unreachable!(),
+        }
     }
 }

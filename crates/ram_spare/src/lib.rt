@@ -4,6 +4,7 @@
 
 mod count;
 mod cursors;
+mod first_free;
 mod homes;
 mod laws;
 mod spare;
