@@ -1,54 +1,56 @@
--- The layout of a disc is made for its lists, cursors at the first spares fit, and a layout can be made of no slipped block.
-use Rattle.std.specs.Prelude.{◌≡◌, ℕ, List, [], length, replicate}
+-- The layout of a disc is made for its lists, and of the smallest disc a layout can be made.
+use Rattle.std.specs.Prelude.{◌≡◌, ℕ, ◌≤◌, List, [], length}
 use Rattle.std.specs.List.Sorted.{IsStrictlyIncreasing}
 use Rattle.std.proofs.Common.{Result, Ok, Err, IfOk, inl, inr, ap, sym, ◌∙◌, subst, arith}
-use Rattle.std.proofs.lemmas.List.{length-replicate, get_or-replicate}
-use Rattle.model_geometry.specs.Geometry.{Shape, data_blocks}
-use Rattle.model_pools.specs.Pools.{Pool, CursorsFit}
+use Rattle.model_geometry.specs.declared.kinds.LayoutKind.{LayoutKind}
+use Rattle.model_geometry.specs.Geometry.{Shape, IsLawful, data_blocks, shape_of}
+use Rattle.model_geometry.proofs.DataBlocks.{length-data_blocks}
+use Rattle.model_geometry.proofs.Zones.{zone_start_closed}
+use Rattle.model_pools.specs.Pools.{CursorsFit}
 use Rattle.model_lists.specs.declared.dds.PdlEntry.{PdlEntry}
-use Rattle.model_lists.specs.declared.sdl.SdlEntry.{SdlEntry}
 use Rattle.model_lists.specs.Values.{Dds, pdl_blocks}
+use Rattle.model_lists.proofs.SdlTexts.{most_is}
 use Rattle.model_pools.specs.Listed.{AreListed}
-use Rattle.model_places.specs.Places.{Lists, pool_count}
+use Rattle.model_places.specs.Places.{Lists, pool_count, pools_under}
 use Rattle.model_places.specs.Valid.{SlipsFew, IsValidPdl, IsValidOnSome, AreValid}
-use Rattle.model_places.proofs.ByKind.{cases_kind, slips_few_from, zones_few_from, so_many_pools}
+use Rattle.model_places.proofs.Entries.{length-entries_most}
+use Rattle.model_places.proofs.ByKind.{cases_kind, slip_pool_count, zone_pool_count, slips_few_from, zones_few_from, so_many_pools}
 use Rattle.ram_groups.specs.declared.any_layout.AnyLayout.{AnyLayout}
-use Rattle.ram_groups.specs.declared.any_layout.AnyLayout.TheVariants as layouts
 use Rattle.ram_groups.specs.Layouts.{IsLayoutOf, IsOfKind, layout_pools}
-use Rattle.ram_groups.proofs.Layouts.{pools_of_layout, room_of_layout}
-use Rattle.ram_transfer.specs.Layouts.{IsRoomy, IsLaidOut}
+use Rattle.ram_groups.proofs.Layouts.{pools_of_layout, kind_of_layout}
+use Rattle.ram_zones.specs.Fault.{IsFirstFault}
+use Rattle.ram_zones.specs.declared.geometry.GeometryFault.{GeometryFault}
+use Rattle.ram_zones.specs.declared.geometry.GeometryFault.TheVariants as faults
+use Rattle.ram_transfer.specs.Layouts.{IsLaidOut}
 
--- cursors at the first spares
-pub zeros_fit : (pools : List Pool) (entries : List SdlEntry) (count : ℕ) → CursorsFit pools entries (replicate count 0)
-zeros_fit pools entries count pool k spare within below at =
-    absurd (let none = get_or-replicate {A = ℕ} count pool 0 0 (omega (arith, within, length-replicate {A = ℕ} count 0)) in omega (arith, below, none))
+pools_few : (shape : Shape) → IsLawful shape → pool_count shape ≤ 35
+pools_few shape lawful = elim (cases_kind shape.layout) [
+  | inl is ↦ omega (arith, slip_pool_count shape is)
+  | inr is ↦ omega (arith, zone_pool_count shape is, lawful.most_zones)
+]
 
--- the layout of a structure is of its disc's kind
-its_kind : (shape : Shape) (dds : Dds) (ssa : ℕ) (layout : AnyLayout) → IsLayoutOf shape dds ssa layout → IsOfKind shape.layout layout
-its_kind shape dds ssa (layouts.Slip table) is = is.kind
-its_kind shape dds ssa (layouts.Zones table) is = is.kind
+module _ (shape : Shape) (lists : Lists) (layout : AnyLayout) (valid : AreValid shape lists) (is : IsLayoutOf shape lists.dds lists.sdl.ssa layout) where
+  its_pools : layout_pools layout ≡ pools_under shape lists
+  its_pools = pools_of_layout shape lists.dds lists.sdl.ssa layout valid.primary (lists.sdl.version, valid.together.secondary.area) is
 
--- the layout of a structure has room for that of any disc of its geometry
-pub roomy : (shape : Shape) (dds : Dds) (ssa : ℕ) (layout : AnyLayout) → IsValidPdl shape dds → IsValidOnSome shape ssa → IsLayoutOf shape dds ssa layout → IsRoomy shape layout
-roomy shape dds ssa layout valid area is = record {
-  kind = its_kind shape dds ssa layout is;
-  runs = room_of_layout shape dds ssa layout is;
-  pools = ap length (pools_of_layout shape dds ssa layout valid area is) ∙ so_many_pools shape dds ssa;
-}
+  so_many : length (layout_pools layout) ≡ pool_count shape
+  so_many = ap length its_pools ∙ so_many_pools shape lists.dds lists.sdl.ssa
 
-pub is_roomy : {E : Type 0} (shape : Shape) (dds : Dds) (ssa : ℕ) (made : Result AnyLayout E) → IsValidPdl shape dds → IsValidOnSome shape ssa → IfOk made (IsLayoutOf shape dds ssa) → IfOk made (IsRoomy shape)
-is_roomy shape dds ssa (Ok layout) valid area is = roomy shape dds ssa layout valid area is
-is_roomy shape dds ssa (Err refused) valid area is = tt
+  pub few_pools : IsLawful shape → length (layout_pools layout) ≤ 35
+  few_pools lawful = omega (arith, so_many, pools_few shape lawful)
 
-pub laid_out : (shape : Shape) (lists : Lists) (layout : AnyLayout) (cursors old : List ℕ) → AreValid shape lists → IsLayoutOf shape lists.dds lists.sdl.ssa layout
-    → cursors ≡ replicate (length old) 0 → length old ≡ pool_count shape → IsLaidOut shape lists layout cursors
-laid_out shape lists layout cursors old valid is zeros one_each =
-    let area : IsValidOnSome shape lists.sdl.ssa = (lists.sdl.version, valid.together.secondary.area) in
-    record {
-      pools_are = pools_of_layout shape lists.dds lists.sdl.ssa layout valid.primary area is;
-      room = record { roomy = roomy shape lists.dds lists.sdl.ssa layout valid.primary area is; one_each = ap length zeros ∙ length-replicate {A = ℕ} (length old) 0 ∙ one_each };
-      cursors_fit = subst (CursorsFit (layout_pools layout) lists.sdl.entries) (sym zeros) (zeros_fit (layout_pools layout) lists.sdl.entries (length old));
-    }
+  pub laid_out : (cursors : List ℕ) → length cursors ≡ length (layout_pools layout) → CursorsFit (layout_pools layout) lists.sdl.entries cursors → IsLaidOut shape lists layout cursors
+  laid_out cursors one_each fit = record {
+    pools_are = its_pools;
+    kind = kind_of_layout shape lists.dds lists.sdl.ssa layout is;
+    one_each = one_each;
+    cursors_fit = fit;
+  }
+
+-- the replacements of a disc find room where the found blocks of a format do
+pub few_replaced : (shape : Shape) (lists : Lists) (room : ℕ) → AreValid shape lists → 9993 ≤ room → length lists.sdl.entries ≤ room
+few_replaced shape lists room valid enough =
+    omega (arith, enough, length-entries_most shape lists valid.primary valid.together.secondary, most_is lists.sdl.version)
 
 -- ---- a disc of which no block is slipped
 
@@ -66,3 +68,13 @@ nothing_slipped shape dds kind psa none = record {
   rising = subst (λ (es : List PdlEntry). IsStrictlyIncreasing (pdl_blocks es)) (sym none) (λ k below. absurd (omega (arith, below)));
   few = subst (λ (es : List PdlEntry). SlipsFew shape (pdl_blocks es)) (sym none) (none_slipped shape);
 }
+
+pub of_kind : {E : Type 0} (kind : LayoutKind) (shape : Shape) (dds : Dds) (ssa : ℕ) (made : Result AnyLayout E) → shape.layout ≡ kind → IfOk made (IsLayoutOf shape dds ssa) → IfOk made (IsOfKind kind)
+of_kind kind shape dds ssa (Ok layout) is made = subst (λ (k : LayoutKind). IsOfKind k layout) is (kind_of_layout shape dds ssa layout made)
+of_kind kind shape dds ssa (Err refused) is made = tt
+
+-- the smallest geometry is within its limits
+pub least_fits : (fault : GeometryFault) → IsFirstFault 1 1 1 fault → ⊥
+least_fits faults.Zones first = first (record { some = omega arith; most = omega arith })
+least_fits faults.Scale first = first.1 (record { some = omega arith; most = omega arith })
+least_fits faults.Spares first = first.2 (record { number = record { some = omega arith; most = omega arith }; within = omega (arith, length-data_blocks (shape_of 1 1 1) (omega arith), zone_start_closed (shape_of 1 1 1) 1) })

@@ -3,8 +3,10 @@
 ghost use Rattle.std.specs.Prelude.{◌≡◌, ◌≤◌, IfOk, Some, [], length, vec_capacity};
 ghost use Rattle.model_places.specs.Valid.{AreValid};
 ghost use Rattle.ram_format.specs.Keeping.{RiseApart, AreAllKept};
+ghost use Rattle.ram_groups.specs.Layouts.{IsOfKind, layout_pools};
 ghost use Rattle.ram_lists.specs.Lists.{lists_of};
-ghost use Rattle.ram_transfer.specs.Layouts.{IsRoomy, HasRoom, IsLaidOut};
+ghost use Rattle.ram_spare.specs.Turns.{AreAtFirstFree};
+ghost use Rattle.ram_transfer.specs.Layouts.{IsLaidOut};
 
 use ram_buffer::BlockBuffer;
 use ram_bytes::Block;
@@ -15,7 +17,7 @@ use ram_groups::AnyLayout;
 use ram_layout::Layout;
 use ram_lists::Lists;
 use ram_spare::Cursors;
-use ram_zones::Geometry;
+use ram_zones::{Geometry, LayoutKind};
 use std::alloc::{AllocError, Global};
 
 /// The most entries that a full format may keep: those of a primary and of a secondary defect list.
@@ -41,13 +43,13 @@ pub struct Workspace {
     pub cursors: Cursors,
     /// Room for the entries that a full format keeps.
     pub kept: Vec<PdlEntry>,
-    /// Room for what a full format finds.
+    /// Room for what a full format finds, and for the replacements of the lists in use while their layout is made.
     pub format: FormatRoom,
     ghost kept_roomy: { 12276 ≤ vec_capacity kept },
 }
 
-/// All memory that a drive works with. With the power off, or on with a disc that is not formatted, it holds nothing that
-/// matters.
+/// All memory that a drive works with, for any disc with a layout of one kind. With the power off, or on with a disc that is not
+/// formatted, it holds nothing that matters.
 #[derive(Drop)]
 pub struct Memory {
     /// The lists in use, or room for them.
@@ -55,30 +57,43 @@ pub struct Memory {
     pub workspace: Workspace,
 }
 
-/// A layout with no slipped block and no supplementary spare, with room for that of any disc of this geometry. The structure
-/// is one without entries.
-fn roomy_layout(
+/// The smallest geometry with a layout of this kind.
+fn smallest(kind: LayoutKind) -> Geometry
+    ensures { result.layout ≡ kind }
+{
+    let Ok(geometry) = Geometry::new(1, 1, 1) else {
+        unreachable!();
+    };
+    match kind {
+        LayoutKind::OneGroup => geometry,
+        LayoutKind::EachZone => geometry.in_zones(),
+    }
+}
+
+/// A layout of this kind, which has room for any disc: that of a small one, with this structure, which has no entries.
+fn layout_of_kind(
     alloc: Global,
-    geometry: &Geometry,
+    kind: LayoutKind,
     dds: &mut DdsPdl,
 ) -> Result<AnyLayout, AllocError>
     requires { dds.old.entries ≡ [] }
-    ensures { IfOk result (IsRoomy geometry.now) }
+    ensures { IfOk result (IsOfKind kind) }
 {
+    let geometry = smallest(kind);
     dds.layout = geometry.layout();
     dds.psa = geometry.psa();
-    AnyLayout::new(alloc, geometry, dds, 0)
+    AnyLayout::new(alloc, &geometry, dds, 0)
 }
 
 impl Workspace {
-    /// Takes all of it, with room for the layout of any disc of this geometry.
-    fn new(alloc: Global, geometry: &Geometry) -> Result<Workspace, AllocError>
-        ensures { IfOk result (λ workspace. HasRoom geometry.now workspace.layout workspace.cursors) }
+    /// Takes all of it, for discs with a layout of this kind.
+    fn new(alloc: Global, kind: LayoutKind) -> Result<Workspace, AllocError>
+        ensures { IfOk result (λ workspace. IsOfKind kind workspace.layout) }
     {
         let mut draft = Lists::new(alloc)?;
-        let layout = roomy_layout(alloc, geometry, &mut draft.dds)?;
+        let layout = layout_of_kind(alloc, kind, &mut draft.dds)?;
         Ok(Workspace {
-            cursors: Cursors::new(alloc, layout.pools())?,
+            cursors: Cursors::new(alloc)?,
             layout,
             draft,
             buffer: BlockBuffer::new(alloc)?,
@@ -90,15 +105,19 @@ impl Workspace {
         })
     }
 
-    /// Makes the layout that of a disc with these lists, with each cursor at the first spare.
+    /// Makes the layout that of a disc with these lists, with each cursor at the first free spare of its pool.
     pub fn lay_out(&mut self, geometry: &Geometry, lists: &Lists)
         requires valid { AreValid geometry.now (lists_of lists.now) }
-        requires room { HasRoom geometry.now self.old.layout self.old.cursors }
+        requires kind { IsOfKind geometry.now.layout self.old.layout }
         ensures laid_out { IsLaidOut geometry.now (lists_of lists.now) self.new.layout self.new.cursors }
+        ensures first_free { AreAtFirstFree (layout_pools self.new.layout) lists.now.sdl.entries self.new.cursors }
         ensures same_buffer { self.new.buffer ≡ self.old.buffer }
     {
         self.layout.rebuild(geometry, &lists.dds, lists.sdl.ssa);
-        self.cursors.reset();
+        let _room = geometry.spare_room();
+        self.cursors.reset(self.layout.pools());
+        self.cursors
+            .set_to_first_free(&self.layout, &lists.sdl, &mut self.format.found);
     }
 
     /// Puts the entries that a full format keeps of these lists into their room. With `drop_sdl` those of the secondary list are
@@ -117,13 +136,13 @@ impl Workspace {
 }
 
 impl Memory {
-    /// Takes all of it, for a drive whose disc has this geometry.
-    pub fn new(alloc: Global, geometry: &Geometry) -> Result<Memory, AllocError>
-        ensures { IfOk result (λ memory. HasRoom geometry.now memory.workspace.layout memory.workspace.cursors) }
+    /// Takes all of it, for any disc with a layout of this kind.
+    pub fn new(alloc: Global, kind: LayoutKind) -> Result<Memory, AllocError>
+        ensures { IfOk result (λ memory. IsOfKind kind memory.workspace.layout) }
     {
         Ok(Memory {
             lists: Lists::new(alloc)?,
-            workspace: Workspace::new(alloc, geometry)?,
+            workspace: Workspace::new(alloc, kind)?,
         })
     }
 }
