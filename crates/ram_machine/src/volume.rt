@@ -25,7 +25,7 @@ impl<I: Image> Drive for Cached<Volume<ImageMedium<I>>> {
         };
         match open(alloc, image, kind) {
             Ok((medium, geometry)) => {
-                let Ok(memory) = Memory::new(alloc, &geometry) else {
+                let Ok(memory) = Memory::new(alloc, geometry.layout()) else {
                     return Err((medium.into_image(), OpenFault::NoMemory));
                 };
                 let volume = Volume::new(medium, geometry, memory);

@@ -1,5 +1,5 @@
--- That a structure is lawful, that there is room for a layout, and that a layout is that of its disc, has one proof at most, so a
--- ghost field can keep it.
+-- That a structure is lawful, that a layout is of a kind, and that it is that of its disc, has one proof at most, so a ghost field
+-- can keep it.
 use Rattle.std.specs.Prelude.{ℕ, List}
 use Rattle.std.proofs.Props.{props}
 use Rattle.model_lists.specs.declared.dds.DdsState.{DdsState}
@@ -12,7 +12,7 @@ use Rattle.model_places.specs.Places.{Lists}
 use Rattle.ram_groups.specs.declared.any_layout.AnyLayout.{AnyLayout}
 use Rattle.ram_groups.specs.declared.any_layout.AnyLayout.TheVariants as layouts
 use Rattle.ram_groups.specs.Layouts.{IsOfKind}
-use Rattle.ram_transfer.specs.Layouts.{HasRoom, IsLaidOut}
+use Rattle.ram_transfer.specs.Layouts.{IsLaidOut}
 
 state-prop : (s : DdsState) (n : ℕ) → IsProp (FitsState s n)
 state-prop Formatting n = Prim.hlevel props
@@ -21,12 +21,9 @@ state-prop Formatted n = Prim.hlevel props
 pub lawful_dds-prop : (dds : Dds) → IsProp (IsLawfulDds dds)
 lawful_dds-prop dds = Prim.hlevel (props, state-prop, form-prop, spares-prop)
 
-kind-prop : (kind : LayoutKind) (layout : AnyLayout) → IsProp (IsOfKind kind layout)
+pub kind-prop : (kind : LayoutKind) (layout : AnyLayout) → IsProp (IsOfKind kind layout)
 kind-prop kind (layouts.Slip table) = Prim.hlevel props
 kind-prop kind (layouts.Zones table) = Prim.hlevel props
-
-pub has_room-prop : (shape : Shape) (layout : AnyLayout) (cursors : List ℕ) → IsProp (HasRoom shape layout cursors)
-has_room-prop shape layout cursors = Prim.hlevel (props, kind-prop)
 
 pub laid_out-prop : (shape : Shape) (lists : Lists) (layout : AnyLayout) (cursors : List ℕ) → IsProp (IsLaidOut shape lists layout cursors)
 laid_out-prop shape lists layout cursors = Prim.hlevel (props, kind-prop)

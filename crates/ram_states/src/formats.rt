@@ -15,7 +15,8 @@ ghost use Rattle.ram_sdl.specs.Sdl.{sdl_of};
 ghost use Rattle.ram_lists.specs.Lists.{lists_of};
 ghost use Rattle.ram_format.specs.Keeping.{AreAllKept};
 ghost use Rattle.ram_transfer.specs.Shown.{shown_unformatted, shown_under};
-ghost use Rattle.ram_transfer.specs.Layouts.{HasRoom, IsLaidOut};
+ghost use Rattle.ram_groups.specs.Layouts.{IsOfKind};
+ghost use Rattle.ram_transfer.specs.Layouts.{IsLaidOut};
 ghost use Rattle.ram_states.specs.Shown.{shown_bare, shown_ready, shown_state, medium_under};
 ghost use Rattle.ram_states.specs.Formats.{FormatSteps};
 
@@ -34,7 +35,7 @@ impl<M: MediumControl> NotFormatted<M> {
         requires on { IsTrue (M.world medium).power }
         requires bare { GivesNone geometry (M.world medium).cells }
         requires marked { AreMarkedWithin geometry (M.world medium).cells mark }
-        requires room { HasRoom geometry memory.workspace.layout memory.workspace.cursors }
+        requires kind { IsOfKind geometry.layout memory.workspace.layout }
         ensures shown { shown_bare result ≡ shown_unformatted geometry
             (machine_shown M.world M.arms M.armed_cut medium) mark }
         ensures medium { result.medium ≡ medium }
@@ -158,7 +159,7 @@ impl<M: MediumControl> Ready<M> {
         requires settled { AreSettled geometry (M.world medium).cells (lists_of memory.lists) }
         requires lawful_dds { IsLawfulDds (dds_of memory.lists.dds) }
         requires lawful_sdl { IsLawfulSdl (sdl_of memory.lists.sdl) }
-        requires room { HasRoom geometry memory.workspace.layout memory.workspace.cursors }
+        requires kind { IsOfKind geometry.layout memory.workspace.layout }
         ensures shown { shown_ready result ≡ shown_under geometry
             (machine_shown M.world M.arms M.armed_cut medium) (lists_of memory.lists) [] }
         ensures medium { result.medium ≡ medium }

@@ -16,7 +16,7 @@ ghost use Rattle.ram_dds.specs.Dds.{dds_of};
 ghost use Rattle.ram_sdl.specs.Sdl.{sdl_of};
 ghost use Rattle.ram_lists.specs.Lists.{lists_of};
 ghost use Rattle.ram_transfer.specs.Shown.{shown_without, shown_under};
-ghost use Rattle.ram_transfer.specs.Layouts.{HasRoom};
+ghost use Rattle.ram_groups.specs.Layouts.{IsOfKind};
 ghost use Rattle.ram_states.specs.Shown.{shown_off, shown_bare, shown_ready};
 ghost use Rattle.ram_states.specs.Powers.{turned_off, shown_after, medium_after, power_out, PowerSteps, StopsPower};
 
@@ -69,7 +69,7 @@ fn stopped_mount<M: MediumControl>(
 ) -> PowerOn<M>
     requires size { M.block_count medium ≡ total geometry }
     requires off { ¬ IsTrue (M.world medium).power }
-    requires room { HasRoom geometry memory.workspace.layout memory.workspace.cursors }
+    requires kind { IsOfKind geometry.layout memory.workspace.layout }
     requires was_on { ¬ (stop ≡ stops.Off) }
     ensures shown { shown_after result ≡ shown_without geometry (machine_shown M.world M.arms M.armed_cut medium) }
     ensures medium { medium_after result ≡ medium }

@@ -12,8 +12,9 @@ ghost use Rattle.model_volume.proofs.OneProof.{settled-prop};
 ghost use Rattle.ram_dds.specs.Dds.{dds_of};
 ghost use Rattle.ram_sdl.specs.Sdl.{sdl_of};
 ghost use Rattle.ram_lists.specs.Lists.{lists_of};
-ghost use Rattle.ram_transfer.specs.Layouts.{HasRoom, IsLaidOut};
-ghost use Rattle.ram_states.specs.OneProof.{lawful_dds-prop, has_room-prop, laid_out-prop};
+ghost use Rattle.ram_groups.specs.Layouts.{IsOfKind};
+ghost use Rattle.ram_transfer.specs.Layouts.{IsLaidOut};
+ghost use Rattle.ram_states.specs.OneProof.{lawful_dds-prop, kind-prop, laid_out-prop};
 
 use ram_bytes::{Block, SECTORS_PER_BLOCK};
 use ram_medium::MediumControl;
@@ -29,7 +30,7 @@ pub struct PoweredOff<M: MediumControl> {
     pub(crate) memory: Memory,
     ghost size: { M.block_count medium ≡ total geometry },
     ghost off: { ¬ IsTrue (M.world medium).power } by { Prim.hlevel props },
-    ghost room: { HasRoom geometry memory.workspace.layout memory.workspace.cursors } by { has_room-prop _ _ _ },
+    ghost kind: { IsOfKind geometry.layout memory.workspace.layout } by { kind-prop _ _ },
 }
 
 /// A drive with its power on and a formatted disc. Its lists are valid, and each of their copies is exactly its text, or
@@ -61,7 +62,7 @@ pub struct NotFormatted<M: MediumControl> {
     ghost on: { IsTrue (M.world medium).power } by { Prim.hlevel props },
     ghost bare: { GivesNone geometry (M.world medium).cells } by { Prim.hlevel props },
     ghost marked: { AreMarkedWithin geometry (M.world medium).cells mark } by { Prim.hlevel props },
-    ghost room: { HasRoom geometry memory.workspace.layout memory.workspace.cursors } by { has_room-prop _ _ _ },
+    ghost kind: { IsOfKind geometry.layout memory.workspace.layout } by { kind-prop _ _ },
 }
 
 /// A drive in any of its states.
@@ -99,7 +100,7 @@ impl<M: MediumControl> PoweredOff<M> {
     pub fn new(medium: M, geometry: Geometry, memory: Memory) -> PoweredOff<M>
         requires size { M.block_count medium ≡ total geometry }
         requires off { ¬ IsTrue (M.world medium).power }
-        requires room { HasRoom geometry memory.workspace.layout memory.workspace.cursors }
+        requires kind { IsOfKind geometry.layout memory.workspace.layout }
         ensures shown { shown_off result ≡ shown_without geometry (machine_shown M.world M.arms M.armed_cut medium) }
         ensures medium { result.medium ≡ medium }
     {
@@ -113,7 +114,7 @@ impl<M: MediumControl> PoweredOff<M> {
     /// The medium, and the memory.
     pub fn into_parts(self) -> (M, Memory)
         ensures medium { result.0 ≡ self.medium }
-        ensures room { HasRoom self.geometry result.1.workspace.layout result.1.workspace.cursors }
+        ensures kind { IsOfKind self.geometry.layout result.1.workspace.layout }
     {
         let PoweredOff { medium, memory, .. } = self;
         (medium, memory)
@@ -133,7 +134,7 @@ impl<M: MediumControl> NotFormatted<M> {
     /// The medium, with its power on, and the memory.
     pub fn into_parts(self) -> (M, Memory)
         ensures medium { result.0 ≡ self.medium }
-        ensures room { HasRoom self.geometry result.1.workspace.layout result.1.workspace.cursors }
+        ensures kind { IsOfKind self.geometry.layout result.1.workspace.layout }
     {
         let NotFormatted { medium, memory, .. } = self;
         (medium, memory)
@@ -176,7 +177,7 @@ impl<M: MediumControl> Ready<M> {
     /// The medium, with its power on, and the memory.
     pub fn into_parts(self) -> (M, Memory)
         ensures medium { result.0 ≡ self.medium }
-        ensures room { HasRoom self.geometry result.1.workspace.layout result.1.workspace.cursors }
+        ensures kind { IsOfKind self.geometry.layout result.1.workspace.layout }
     {
         let Ready { medium, memory, .. } = self;
         (medium, memory)

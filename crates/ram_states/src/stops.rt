@@ -4,7 +4,7 @@ ghost use Rattle.std.specs.Prelude.{◌≡◌, IsTrue};
 ghost use Rattle.model_geometry.specs.Geometry.{total};
 ghost use Rattle.model_stops.specs.declared.Stop.{Stop};
 ghost use Rattle.ram_medium.specs.Laws.{machine_shown};
-ghost use Rattle.ram_transfer.specs.Layouts.{HasRoom};
+ghost use Rattle.ram_groups.specs.Layouts.{IsOfKind};
 ghost use Rattle.ram_transfer.specs.Shown.{shown_without};
 ghost use Rattle.ram_transfer.specs.Stopped.{read_stopped_by, write_stopped_by, format_stopped_by, expand_stopped_by};
 ghost use Rattle.ram_states.specs.Shown.{shown_state, medium_under};
@@ -83,7 +83,7 @@ pub fn stopped<M: MediumControl, O: StoppableOut>(
 ) -> (State<M>, O)
     requires size { M.block_count medium ≡ total geometry }
     requires off { ¬ IsTrue (M.world medium).power }
-    requires room { HasRoom geometry memory.workspace.layout memory.workspace.cursors }
+    requires kind { IsOfKind geometry.layout memory.workspace.layout }
     ensures state { shown_state result.0 ≡ shown_without geometry (machine_shown M.world M.arms M.armed_cut medium) }
     ensures medium { medium_under result.0 ≡ medium }
     ensures out { result.1 ≡ O.stopped_by stop }

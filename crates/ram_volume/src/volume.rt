@@ -33,7 +33,7 @@ impl<M: MediumControl> Volume<M> {
     ghost use Rattle.model_drive.specs.Shown.{StandsFor};
     ghost use Rattle.ram_medium.specs.Laws.{machine_shown};
     ghost use Rattle.ram_medium.specs.Control.{Fails, Arms, WearRule, with_armed_cut};
-    ghost use Rattle.ram_transfer.specs.Layouts.{HasRoom};
+    ghost use Rattle.ram_groups.specs.Layouts.{IsOfKind};
     ghost use Rattle.ram_transfer.specs.Shown.{shown_without};
     ghost use Rattle.ram_volume.specs.Drives.{shown_by, medium_by};
     ghost use Rattle.ram_states.specs.Control.{FailOnDrive, FailStands, KeepsMemory};
@@ -43,7 +43,7 @@ impl<M: MediumControl> Volume<M> {
     pub fn new(medium: M, geometry: Geometry, memory: Memory) -> Volume<M>
         requires size { M.block_count medium ≡ total geometry }
         requires off { ¬ IsTrue (M.world medium).power }
-        requires room { HasRoom geometry memory.workspace.layout memory.workspace.cursors }
+        requires kind { IsOfKind geometry.layout memory.workspace.layout }
         ensures shown { shown_by result ≡ shown_without geometry (machine_shown M.world M.arms M.armed_cut medium) }
         ensures medium { medium_by result ≡ medium }
     {
@@ -98,7 +98,7 @@ impl<M: MediumControl> Volume<M> {
     pub fn into_parts(self) -> (M, Memory)
         ensures medium { result.0 ≡ medium_by self }
         ensures machine { machine_shown M.world M.arms M.armed_cut result.0 ≡ (shown_by self).medium }
-        ensures room { HasRoom (shown_by self).shape result.1.workspace.layout result.1.workspace.cursors }
+        ensures kind { IsOfKind (shown_by self).shape.layout result.1.workspace.layout }
     {
         let Volume { state } = self;
         match state {

@@ -15,7 +15,7 @@ invariant_of-self g c =
       on = ap (λ (m : Machine). m.world.power) c.in-Done.ensures.rule.1 ∙ c.args.self.on;
       bare = bare_dies c.args.self.geometry (g.M.Medium.world c.args.self.medium).cells (g.M.Medium.world c.fail.new.self).cells dies c.args.self.bare;
       marked = marked_dies c.args.self.geometry (g.M.Medium.world c.args.self.medium).cells (g.M.Medium.world c.fail.new.self).cells c.args.self.mark dies c.args.self.marked;
-      room = c.args.self.room;
+      kind = c.args.self.kind;
     }
 
 pub invariant_of-self-in-NoBlock : goal.invariant_of-self-in-NoBlock
@@ -26,7 +26,7 @@ invariant_of-self-in-NoBlock g c =
       on = ap (λ (m : Machine). m.world.power) c.in-NoBlock.ensures.rule.2 ∙ c.args.self.on;
       bare = bare_dies c.args.self.geometry (g.M.Medium.world c.args.self.medium).cells (g.M.Medium.world c.fail.new.self).cells dies c.args.self.bare;
       marked = marked_dies c.args.self.geometry (g.M.Medium.world c.args.self.medium).cells (g.M.Medium.world c.fail.new.self).cells c.args.self.mark dies c.args.self.marked;
-      room = c.args.self.room;
+      kind = c.args.self.kind;
     }
 
 pub returns-in-Failed-clause-stands : goal.returns-in-Failed-clause-stands

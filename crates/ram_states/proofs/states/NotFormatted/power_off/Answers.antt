@@ -10,3 +10,6 @@ pub returns-clause-stands : goal.returns-clause-stands
 returns-clause-stands g c =
     goes_off (shown_bare c.args.self) c.args.self.on (shown_without c.args.self.geometry (machine_shown g.M.Medium.world g.M.MediumControl.arms g.M.MediumControl.armed_cut c.power_off.new.self))
     (ap (shown_without c.args.self.geometry) (g.met.M.MediumControl.control_laws.exactly c.args.self.medium c.power_off.new.self PowerOff c.power_off.ensures.event))
+
+pub invariant_of-result-clause-kind : goal.invariant_of-result-clause-kind
+invariant_of-result-clause-kind g c = c.args.self.kind

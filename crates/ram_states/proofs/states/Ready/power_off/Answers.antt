@@ -14,3 +14,6 @@ returns-clause-stands g c =
 pub returns-clause-shows : goal.returns-clause-shows
 returns-clause-shows g c =
     ap (shown_without c.args.self.geometry) (g.met.M.MediumControl.control_laws.exactly c.args.self.medium c.power_off.new.self PowerOff c.power_off.ensures.event)
+
+pub invariant_of-result-clause-kind : goal.invariant_of-result-clause-kind
+invariant_of-result-clause-kind g c = c.args.self.laid_out.kind

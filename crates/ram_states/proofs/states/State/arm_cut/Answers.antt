@@ -17,7 +17,7 @@ invariant_of-bare g c =
       on = ap (λ (w : World). w.power) same ∙ c.in-NotFormatted.bare.on;
       bare = subst (λ (w : World). GivesNone c.in-NotFormatted.bare.geometry w.cells) (sym same) c.in-NotFormatted.bare.bare;
       marked = subst (λ (w : World). AreMarkedWithin c.in-NotFormatted.bare.geometry w.cells c.in-NotFormatted.bare.mark) (sym same) c.in-NotFormatted.bare.marked;
-      room = c.in-NotFormatted.bare.room;
+      kind = c.in-NotFormatted.bare.kind;
     }
 
 pub returns-in-Off-clause-stands : goal.returns-in-Off-clause-stands
