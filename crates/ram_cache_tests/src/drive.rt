@@ -43,7 +43,7 @@ impl InMemory for Volume<MemMedium> {
         if medium.blocks() != geometry.total() {
             return Ok(None);
         }
-        let memory = Memory::new(alloc, &geometry)?;
+        let memory = Memory::new(alloc, geometry.layout())?;
         Ok(Some(Volume::new(medium, geometry, memory)))
     }
 

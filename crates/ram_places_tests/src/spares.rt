@@ -17,7 +17,7 @@ use ram_lists::is_valid_sdl;
 use ram_sdl::Sdl;
 use ram_slip::{Place, is_valid_pdl};
 use ram_spare::{Cursors, FreeSpare, SpareCounts, counts, free_from, home, next_free};
-use ram_zones::Geometry;
+use ram_zones::{Geometry, MOST_ZONES};
 use std::alloc::{AllocError, Global};
 use std::fmt::Write;
 
@@ -75,7 +75,8 @@ pub fn next(
     sdl: &Sdl,
     after: Option<u32>,
 ) -> Result<Option<u32>, AllocError> {
-    let cursors = Cursors::new(alloc, 1)?;
+    let mut cursors = Cursors::new(alloc)?;
+    cursors.reset(1);
     let Some(AnyLayout::Slip(layout)) = layout_of(alloc, geometry, dds, sdl.ssa)? else {
         return Ok(Some(0));
     };
@@ -187,7 +188,8 @@ impl Places {
         pools: u32,
         answer: &mut String,
     ) -> Result<(), AllocError> {
-        let cursors = Cursors::new(alloc, pools)?;
+        let mut cursors = Cursors::new(alloc)?;
+        cursors.reset(pools.min(MOST_ZONES));
         for pool in 0..cursors.pools() {
             write!(answer, "{} ", cursors.at(pool))?;
         }

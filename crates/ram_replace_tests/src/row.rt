@@ -110,7 +110,7 @@ fn format_and_write<M: MediumControl>(
     let Memory {
         mut lists,
         mut workspace,
-    } = Memory::new(alloc, geometry)?;
+    } = Memory::new(alloc, geometry.layout())?;
     let zero = zero_block(alloc)?;
     medium.power_on();
     let work = &mut workspace;

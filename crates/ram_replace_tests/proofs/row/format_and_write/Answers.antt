@@ -1,4 +1,3 @@
-use Rattle.std.proofs.Common.{sym, ◌∙◌}
 use Rattle.ram_groups.specs.Layouts.{layout_pools}
 use Rattle.ram_lists.specs.Lists.{lists_of}
 use Rattle.ram_replace_tests.proofs.First.{first_inside, some_cursor}
@@ -23,7 +22,7 @@ step_of-before-requires-clause-one g c =
     let laid = c.lay_out.ensures.laid_out in
     some_cursor (layout_pools c.lay_out.new.self.layout) c.lay_out.new.self.cursors
     (first_inside c.args.geometry.now (lists_of c.full_format.new.lists) (layout_pools c.lay_out.new.self.layout) c.in-Good.ensures.rule.valid laid.pools_are)
-    (laid.room.one_each ∙ sym laid.room.roomy.pools)
+    laid.one_each
 
 pub step_of-first-requires-clause-one : goal.step_of-first-requires-clause-one
 step_of-first-requires-clause-one g c =
