@@ -1,10 +1,10 @@
 -- A script that grows by steps: what stands so far, and what is still to come.
-use Rattle.std.proofs.Common.{◌≡◌, ℕ, suc, ◌+◌, ◌-◌, ◌<◌, ◌≤◌, List, [], ◌++◌, Bool, true, false, Result, Ok, Err, refl, sym, ap, ◌∙◌, subst, arith, append_assoc, append-nil}
-use Rattle.std.specs.Prelude.{nat_le, ◌==◌, if◌then◌else◌, OnOk}
-use Rattle.std.proofs.lemmas.Bool.{leb-true, eqb-true, false_from_ne_true}
+use Rattle.std.proofs.Common.{◌≡◌, ℕ, suc, ◌+◌, ◌-◌, ◌<◌, ◌≤◌, List, [], ◌++◌, Bool, true, false, refl, sym, ap, ◌∙◌, subst, arith, length, decimal, append_assoc, append-nil, length-append}
+use Rattle.std.specs.Prelude.{nat_le, ◌==◌, if◌then◌else◌}
+use Rattle.std.proofs.lemmas.Fmt.{length-decimal-le}
+use Rattle.std.proofs.lemmas.Bool.{le-leb, lt-leb, eqb-true, false_from_ne_true}
 use Rattle.rand_pcg.specs.Lcg.{Lcg}
 use Rattle.ram_generate.specs.Drawing.{draw}
-use Rattle.ram_generate.specs.Lines.{power_text}
 use Rattle.ram_generate.specs.Script.{Drawn, AddsStep, write_step, read_step, fail_step, wear_step, cut_step, power_step, step_by, one_step, steps_text}
 
 -- nothing is drawn yet
@@ -36,12 +36,12 @@ whole_script script whole count k words done so_far =
     ∙ ap (λ (n : ℕ). script ++ steps_text n words) (omega (arith, done))
     ∙ so_far
 
--- the last kind of step is power lines
-step_power : (kind : ℕ) (words : Lcg) → 98 ≤ kind → step_by kind words ≡ power_step words
+-- the last kinds of step are power lines
+pub step_power : (kind : ℕ) (words : Lcg) → 98 ≤ kind → step_by kind words ≡ power_step words
 step_power kind words many =
     by_tests (nat_le kind 44) (nat_le kind 94) (kind == 95) (kind == 96) (kind == 97)
-    (false_from_ne_true (nat_le kind 44) (λ e. let few = leb-true kind 44 e in absurd (omega (arith, few, many))))
-    (false_from_ne_true (nat_le kind 94) (λ e. let few = leb-true kind 94 e in absurd (omega (arith, few, many))))
+    (lt-leb kind 44 (omega (arith, many)))
+    (lt-leb kind 94 (omega (arith, many)))
     (false_from_ne_true (kind == 95) (λ e. let same = eqb-true kind 95 e in absurd (omega (arith, same, many))))
     (false_from_ne_true (kind == 96) (λ e. let same = eqb-true kind 96 e in absurd (omega (arith, same, many))))
     (false_from_ne_true (kind == 97) (λ e. let same = eqb-true kind 97 e in absurd (omega (arith, same, many))))
@@ -55,14 +55,36 @@ step_power kind words many =
     by_tests false false false true e ea eb ec ed ee = absurd cc
     by_tests false false false false true ea eb ec ed ee = absurd cc
 
--- the script grew by them
-pub grown_by_power : {E : Type 0} (old new : List ℕ) (words after : Lcg) (kind : ℕ) (result : Result (Unit {0}) E) → 98 ≤ kind → kind ≡ (draw 100 words).0 → after ≡ (draw 100 words).1
-    → OnOk result (new ≡ old ++ power_text) → AddsStep old new after (one_step words) result
-grown_by_power {E = E} old new words after kind result many kind_is after_is added =
-    subst (λ (drawn : Drawn). AddsStep old new after drawn result)
-    (sym (step_power (draw 100 words).0 (draw 100 words).1 (subst (λ (k : ℕ). 98 ≤ k) kind_is many)))
-    (both result added)
+-- the first kinds of step are writes
+pub step_write : (kind : ℕ) (words : Lcg) → kind ≤ 44 → step_by kind words ≡ write_step words
+step_write kind words few = by_test (nat_le kind 44) (le-leb kind 44 few)
   where
-    both : (r : Result (Unit {0}) E) → OnOk r (new ≡ old ++ power_text) → AddsStep old new after (power_step (draw 100 words).1) r
-    both (Ok done) grew = (grew, after_is)
-    both (Err why) grew = tt
+    by_test : (a : Bool) → a ≡ true
+        → (if a then write_step words else if nat_le kind 94 then read_step words else if kind == 95 then fail_step words else if kind == 96 then wear_step words else if kind == 97 then cut_step words else power_step words) ≡ write_step words
+    by_test true ea = refl
+    by_test false ea = absurd cc
+
+-- the next kinds are reads
+pub step_read : (kind : ℕ) (words : Lcg) → 44 < kind → kind ≤ 94 → step_by kind words ≡ read_step words
+step_read kind words more few = by_tests (nat_le kind 44) (nat_le kind 94) (lt-leb kind 44 more) (le-leb kind 94 few)
+  where
+    by_tests : (a b : Bool) → a ≡ false → b ≡ true
+        → (if a then write_step words else if b then read_step words else if kind == 95 then fail_step words else if kind == 96 then wear_step words else if kind == 97 then cut_step words else power_step words) ≡ read_step words
+    by_tests false true ea eb = refl
+    by_tests false false ea eb = absurd cc
+    by_tests true b ea eb = absurd cc
+
+-- the script grew by a step of the kind that was drawn
+pub grown_by : (old new : List ℕ) (words next after : Lcg) (kind : ℕ) (step : Drawn) → step_by kind next ≡ step → kind ≡ (draw 100 words).0 → next ≡ (draw 100 words).1
+    → AddsStep old new after step → AddsStep old new after (one_step words)
+grown_by old new words next after kind step same kind_is next_is added =
+    subst (λ (drawn : Drawn). AddsStep old new after drawn)
+    (sym same ∙ ap (λ (k : ℕ). step_by k next) kind_is ∙ ap (λ (w : Lcg). step_by (draw 100 words).0 w) next_is)
+    added
+
+-- a number below a thousand adds three digits at most
+pub short_number : (old new : List ℕ) (n : ℕ) → n < 1000 → new ≡ old ++ decimal n → length new ≤ length old + 3
+short_number old new n small grew =
+    let digits = length-decimal-le 3 n (omega arith) (omega (arith, small)) (omega (arith, small)) in
+    let added = ap (λ (l : List ℕ). length l) grew ∙ length-append old (decimal n) in
+    omega (arith, digits, added)

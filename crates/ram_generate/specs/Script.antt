@@ -1,5 +1,5 @@
 -- The script that is drawn from a number: its first lines, and two thousand steps. (This project's own, as all here.)
-use Rattle.std.specs.Prelude.{◌≡◌, ℕ, zero, suc, ◌+◌, nat_le, ◌==◌, if◌then◌else◌, Result, List, [], ◌++◌, OnOk}
+use Rattle.std.specs.Prelude.{◌≡◌, ℕ, zero, suc, ◌+◌, nat_le, ◌==◌, if◌then◌else◌, List, [], ◌++◌}
 use Rattle.rand_pcg.specs.Lcg.{Lcg}
 use Rattle.ram_generate.specs.Drawing.{generator, draw}
 use Rattle.ram_generate.specs.Lines.{write_text, read_text, fail_text, wear_text, cut_text, power_text, head_text}
@@ -61,6 +61,6 @@ steps_text (suc n) words = (one_step words).0 ++ steps_text n (one_step words).1
 abbrev pub script_from : (seed : ℕ) → List ℕ
 script_from seed = head_text ++ steps_text 2000 (generator seed)
 
--- a script grew by what a step adds, unless memory ran out; the generator stands behind it
-abbrev pub AddsStep : {E : Type 0} → (old new : List ℕ) → Lcg → Drawn → Result (Unit {0}) E → Type 0
-AddsStep old new words drawn result = OnOk result ((new ≡ old ++ drawn.0) × (words ≡ drawn.1))
+-- a script grew by what a step adds; the generator stands behind it
+abbrev pub AddsStep : (old new : List ℕ) → Lcg → Drawn → Type 0
+AddsStep old new words drawn = (new ≡ old ++ drawn.0) × (words ≡ drawn.1)

@@ -1,18 +1,18 @@
 //! A large script from a number: the load that a user tries a disc with. It presses and formats a disc, and then draws two
-//! thousand steps: writes, reads, failures of blocks, cuts and power lines.
+//! thousand steps: writes, reads, failures of blocks, cuts and power lines. No call takes memory.
 #![tactic(auto)]
 
 mod drawing;
 mod steps;
 mod texts;
 
-ghost use Rattle.std.specs.Prelude.{◌≡◌, IfOk};
+ghost use Rattle.std.specs.Prelude.{◌≡◌, ◌≤◌, vec_capacity};
 ghost use Rattle.ram_generate.specs.Script.{script_from};
+ghost use Rattle.ram_generate.specs.declared.TheConstants.{SCRIPT_ROOM};
 
 use crate::drawing::started;
-use crate::steps::add_steps;
+use crate::steps::{LONGEST_STEP, add_steps};
 pub use crate::texts::{add, add_number};
-use std::alloc::{AllocError, Global};
 
 /// How many steps are drawn behind the first lines.
 pub const STEPS: u32 = 2_000;
@@ -24,14 +24,19 @@ cdb 000000000000
 cdb 041100000000 hex 00000008000005a000000800
 ";
 
-/// The script that is drawn from this number. The same number gives the same script.
-pub fn generated(alloc: Global, seed: u64) -> Result<Vec<u8>, AllocError>
-    ensures { IfOk result (λ script. script.items ≡ script_from seed) }
+/// Room for the longest script that is drawn: the first lines, and as many of the longest step as steps are drawn.
+pub const SCRIPT_ROOM: usize = HEAD.len() + STEPS as usize * LONGEST_STEP;
+
+/// Draws the script of this number into the room, in place of what it held. The same number gives the same script.
+pub fn draw_script(script: &mut Vec<u8>, seed: u64)
+    requires room { SCRIPT_ROOM ≤ vec_capacity script.old }
+    ensures text { script.new.items ≡ script_from seed }
+    ensures room { vec_capacity script.old ≤ vec_capacity script.new }
 {
-    let mut script = Vec::from_slice(alloc, HEAD)?;
+    script.clear();
+    add(script, HEAD);
     let mut words = started(seed);
-    add_steps(&mut script, &mut words, STEPS)?;
-    Ok(script)
+    add_steps(script, &mut words, STEPS);
 }
 
 #[cfg(test)]

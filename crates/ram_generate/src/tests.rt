@@ -1,4 +1,4 @@
-//! The scripts of three numbers, against what was worked out apart.
+//! The scripts of three numbers, against what was worked out apart. Each is drawn over another.
 
 use super::*;
 use std::test::Fail;
@@ -18,8 +18,11 @@ fn a_number_gives_one_script(rt: HostRuntime) -> Result<(), Fail> {
             b"cdb 28000000043c00001000\ncdb 2a000000033900001000 count 89\n",
         ),
     ];
+    assert_eq!(rt; SCRIPT_ROOM, 68_081);
     for (seed, bytes, last) in due {
-        let script = generated(rt.alloc(), seed)?;
+        let mut script = Vec::with_capacity(rt.alloc(), SCRIPT_ROOM)?;
+        draw_script(&mut script, 1);
+        draw_script(&mut script, seed);
         assert_eq!(rt; script.len(), bytes, "{seed}");
         assert!(rt; script.starts_with(HEAD), "{seed}: another beginning");
         assert!(rt; script.ends_with(last), "{seed}: another end");

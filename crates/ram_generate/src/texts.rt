@@ -1,43 +1,48 @@
-//! Texts of lines, added to a script or to another text.
+//! Texts of lines, added to a script or to another text. The room for them is there.
 
-ghost use Rattle.std.specs.Prelude.{◌≡◌, ◌++◌, decimal, OnOk};
+ghost use Rattle.std.specs.Prelude.{◌≡◌, ◌+◌, ◌≤◌, ◌++◌, length, decimal, vec_capacity};
 ghost use Rattle.ram_generate.specs.Lines.{transfer_block, transfer_text};
 
 use itoa::Buffer;
 use ram_bytes::encode_hex;
-use std::alloc::AllocError;
 
-/// Adds a text.
-pub fn add(script: &mut Vec<u8>, text: &[u8]) -> Result<(), AllocError>
-    ensures { OnOk result (script.new.items ≡ script.old.items ++ text.now) }
+/// Adds words.
+pub fn add(text: &mut Vec<u8>, words: &[u8])
+    requires room { length text.old.items + length words.now ≤ vec_capacity text.old }
+    ensures items { text.new.items ≡ text.old.items ++ words.now }
+    ensures len { length text.new.items ≡ length text.old.items + length words.now }
+    ensures room { vec_capacity text.old ≤ vec_capacity text.new }
 {
-    script.extend_from_slice(text)
+    match text.extend_from_slice(words) {
+        Ok(()) => {}
+        Err(_) => unreachable!(),
+    }
 }
 
-/// Adds a number in decimal digits.
-pub fn add_number(script: &mut Vec<u8>, number: u64) -> Result<(), AllocError>
-    ensures { OnOk result (script.new.items ≡ script.old.items ++ decimal number) }
+/// Adds a number in decimal digits, of which there are at most twenty.
+pub fn add_number(text: &mut Vec<u8>, number: u64)
+    requires room { length text.old.items + 20 ≤ vec_capacity text.old }
+    ensures items { text.new.items ≡ text.old.items ++ decimal number }
+    ensures len { length text.new.items ≤ length text.old.items + 20 }
+    ensures room { vec_capacity text.old ≤ vec_capacity text.new }
 {
     let mut buffer = Buffer::new();
-    add(script, buffer.format(number).as_bytes())
+    add(text, buffer.format(number).as_bytes());
 }
 
 /// Adds a line that moves `n` sectors from sector `lba` on, with its data behind the command block.
-pub fn add_transfer(
-    script: &mut Vec<u8>,
-    code: u8,
-    lba: u32,
-    n: u16,
-    tail: &[u8],
-) -> Result<(), AllocError>
-    ensures { OnOk result (script.new.items ≡ script.old.items ++ transfer_text code lba n tail.now) }
+pub fn add_transfer(script: &mut Vec<u8>, code: u8, lba: u32, n: u16, tail: &[u8])
+    requires room { length script.old.items + 24 + length tail.now ≤ vec_capacity script.old }
+    ensures items { script.new.items ≡ script.old.items ++ transfer_text code lba n tail.now }
+    ensures len { length script.new.items ≡ length script.old.items + 24 + length tail.now }
+    ensures room { vec_capacity script.old ≤ vec_capacity script.new }
 {
     let block = transfer_block(code, lba, n);
     let mut digits = [0u8; 20];
     encode_hex(&block, &mut digits);
-    add(script, b"cdb ")?;
-    add(script, &digits)?;
-    add(script, tail)
+    add(script, b"cdb ");
+    add(script, &digits);
+    add(script, tail);
 }
 
 /// The command block of a READ(10) or WRITE(10).
