@@ -40,7 +40,6 @@ IsRefused kind before after faults faults' (faulty.Length len) = IsUnchanged bef
     × IfSome before
     (λ held. (len ≡ length held) × ((len < 16) ⊎ ((shape : Shape) × HasHeader shape held × (len ≢ image_len (total shape)))))
 IsRefused kind before after faults faults' faulty.Fault = ImageFails before after faults faults'
-IsRefused kind before after faults faults' faulty.NoMemory = IsUnchanged before after faults faults'
 
 -- What the start of an image was found to be. (This project's own.)
 abbrev pub HeaderRule : Option (List ℕ) → Option (List ℕ) → ℕ → ℕ → HeaderFound → Type 0

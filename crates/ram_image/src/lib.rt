@@ -9,6 +9,6 @@ pub mod opening;
 pub mod pressing;
 
 pub use geometries::geometry_in;
-pub use medium::ImageMedium;
-pub use opening::{OpenFault, open};
+pub use medium::{ImageMedium, MediumRooms};
+pub use opening::{OpenFault, Refused, open};
 pub use pressing::{PressOut, press};

@@ -15,10 +15,28 @@ use ram_bytes::Block;
 use ram_medium::{Arm, Armed, Due, FailEnd, Fate, Medium, MediumControl, ReadEnd, WriteEnd};
 use ram_outside::{Image, Moved};
 use ram_zones::Geometry;
+use std::alloc::{AllocError, Global};
 use std::mem::swap;
 
-/// The controllable medium of a disc whose blocks lie in an image. It keeps room for one block and for what is armed, and takes
-/// no more memory.
+/// The memory of a medium over an image: room for one block, and for what is armed. Media use it one after another; what it held
+/// before does not matter.
+#[derive(Drop)]
+pub struct MediumRooms {
+    block: Block,
+    armed: Box<Armed>,
+}
+
+impl MediumRooms {
+    /// All the memory that a medium takes, for whatever disc.
+    pub fn new(alloc: Global) -> Result<MediumRooms, AllocError> {
+        Ok(MediumRooms {
+            block: Block::zeros(alloc)?,
+            armed: Box::new(alloc, Armed::new())?,
+        })
+    }
+}
+
+/// The controllable medium of a disc whose blocks lie in an image, in rooms that its opener took.
 pub struct ImageMedium<I: Image> {
     image: I,
     geometry: Geometry,
@@ -96,16 +114,16 @@ impl<I: Image> ImageMedium<I> {
     ghost use Rattle.ram_image.specs.Begun.{IsNew, ImageBeginRule, BeginBytes, LookRule, ReadOnRule, WriteCutRule, WriteCutBytes, LeaveRule, LeaveBytes};
 
     /// The medium of a disc of this geometry over its image, with the power off, nothing counted and nothing armed.
-    pub(crate) fn new(image: I, geometry: Geometry, room: Block, armed: Box<Armed>) -> Self
+    pub(crate) fn new(image: I, geometry: Geometry, rooms: MediumRooms) -> Self
         requires disc { ForSome (I.bytes image) (IsDiscImage geometry) }
-        requires arms { arms_of armed.value ≡ [] }
-        requires cut { armed_cut_of armed.value ≡ None }
         ensures { IsNew image geometry result }
     {
+        let MediumRooms { block, mut armed } = rooms;
+        *armed = Armed::new();
         ImageMedium {
             image,
             geometry,
-            room,
+            room: block,
             powered: false,
             uses: 0,
             cuts: 0,
@@ -115,26 +133,26 @@ impl<I: Image> ImageMedium<I> {
         }
     }
 
-    /// The image, as the medium leaves it.
-    pub fn into_image(self) -> I
-        ensures image { result ≡ self.image }
-        ensures count { I.faults result ≡ (world_of self).faults }
-        ensures cells { MatchOption (I.bytes result)
+    /// The image, as the medium leaves it, and the memory.
+    pub fn into_parts(self) -> (I, MediumRooms)
+        ensures image { result.0 ≡ self.image }
+        ensures count { I.faults result.0 ≡ (world_of self).faults }
+        ensures cells { MatchOption (I.bytes result.0)
             ((world_of self).known ≡ false)
             (IsImageOf (shape_of_medium self) (world_of self).cells) }
     {
         let ImageMedium {
             image,
             geometry: _,
-            room: _,
+            room,
             powered: _,
             uses: _,
             cuts: _,
-            armed: _,
+            armed,
             good_from: _,
             good_to: _,
         } = self;
-        image
+        (image, MediumRooms { block: room, armed })
     }
 
     /// Begins a use of the block: it is counted, the arms of the block and the armed cut count down, and a block that

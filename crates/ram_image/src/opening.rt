@@ -1,16 +1,12 @@
 //! Opening an image that is there. It reads the image, and changes none of its bytes.
 
-ghost use Rattle.std.specs.Prelude.{◌≡◌, ◌≤◌, MatchResult, IfOk, IfSome, None, [], length, take};
-ghost use Rattle.ram_medium.specs.Countdown.{arms_of, armed_cut_of};
+ghost use Rattle.std.specs.Prelude.{◌≡◌, ◌≤◌, MatchResult, IfSome, length, take};
 ghost use Rattle.ram_image.specs.Opening.{HeaderRule, IsOpened, IsRefused};
 
 use crate::header::{HEADER_BYTES, geometry_of, image_len};
-use crate::medium::ImageMedium;
-use ram_bytes::Block;
-use ram_medium::Armed;
+use crate::medium::{ImageMedium, MediumRooms};
 use ram_outside::{Image, Length, Moved};
 use ram_zones::{Geometry, LayoutKind};
-use std::alloc::{AllocError, Global};
 use thiserror::Error;
 
 /// Why an image was not opened.
@@ -25,9 +21,16 @@ pub enum OpenFault {
     /// It failed, and counted it.
     #[error("the image failed")]
     Fault,
-    /// There was no memory for one block, or for what may be armed.
-    #[error("out of memory")]
-    NoMemory,
+}
+
+/// An image that was not opened, the memory that was to be used for it, and why.
+pub struct Refused<I, R> {
+    /// The image, with the bytes that it had.
+    pub image: I,
+    /// The memory.
+    pub rooms: R,
+    /// Why the image was not opened.
+    pub fault: OpenFault,
 }
 
 /// What stands at the start of an image.
@@ -37,23 +40,29 @@ enum HeaderFound {
     Failed,
 }
 
-/// Opens an image as the medium of a disc with a layout of this kind. The power is off. Room for one block is taken, and where
-/// the image is refused it is handed back as it was.
+/// Opens an image as the medium of a disc with a layout of this kind. The power is off. Where the image is refused it is handed
+/// back as it was, with the memory.
 pub fn open<I: Image>(
-    alloc: Global,
+    rooms: MediumRooms,
     image: I,
     kind: LayoutKind,
-) -> Result<(ImageMedium<I>, Geometry), (I, OpenFault)>
+) -> Result<(ImageMedium<I>, Geometry), Refused<I, MediumRooms>>
     ensures { MatchResult result
         (λ opened. IsOpened image opened.0 kind opened.1)
-        (λ refused. IsRefused kind (I.bytes image) (I.bytes refused.0) (I.faults image) (I.faults refused.0) refused.1) }
+        (λ refused. IsRefused kind (I.bytes image) (I.bytes refused.image)
+        (I.faults image) (I.faults refused.image) refused.fault) }
 {
     let mut image = image;
-    match find_header(&mut image) {
-        HeaderFound::Failed => Err((image, OpenFault::Fault)),
-        HeaderFound::Short { len } => Err((image, OpenFault::Length { len })),
-        HeaderFound::Bytes { len, header } => open_disc(alloc, image, kind, len, &header),
-    }
+    let fault = match find_header(&mut image) {
+        HeaderFound::Failed => OpenFault::Fault,
+        HeaderFound::Short { len } => OpenFault::Length { len },
+        HeaderFound::Bytes { len, header } => return open_disc(rooms, image, kind, len, &header),
+    };
+    Err(Refused {
+        image,
+        rooms,
+        fault,
+    })
 }
 
 /// Reads the header of an image, where it is long enough to have one.
@@ -74,35 +83,31 @@ fn find_header<I: Image>(image: &mut I) -> HeaderFound
     }
 }
 
-/// The memory of a medium: room for one block, and for what is armed, which is nothing.
-fn room_and_arms(alloc: Global) -> Result<(Block, Box<Armed>), AllocError>
-    ensures { IfOk result (λ memory. (arms_of memory.1.value ≡ []) × (armed_cut_of memory.1.value ≡ None)) }
-{
-    Ok((Block::zeros(alloc)?, Box::new(alloc, Armed::new())?))
-}
-
 /// Opens an image of so many bytes with these at its front.
 fn open_disc<I: Image>(
-    alloc: Global,
+    rooms: MediumRooms,
     image: I,
     kind: LayoutKind,
     len: u64,
     header: &[u8; 16],
-) -> Result<(ImageMedium<I>, Geometry), (I, OpenFault)>
+) -> Result<(ImageMedium<I>, Geometry), Refused<I, MediumRooms>>
     requires { IfSome (I.bytes image)
         (λ held. (len ≡ length held) × (16 ≤ length held) × (header.now ≡ take 16 held)) }
     ensures { MatchResult result
         (λ opened. IsOpened image opened.0 kind opened.1)
-        (λ refused. IsRefused kind (I.bytes image) (I.bytes refused.0) (I.faults image) (I.faults refused.0) refused.1) }
+        (λ refused. IsRefused kind (I.bytes image) (I.bytes refused.image)
+        (I.faults image) (I.faults refused.image) refused.fault) }
 {
-    let Some(geometry) = geometry_of(header, kind) else {
-        return Err((image, OpenFault::Header));
+    let fault = match geometry_of(header, kind) {
+        None => OpenFault::Header,
+        Some(geometry) if len == image_len(&geometry) => {
+            return Ok((ImageMedium::new(image, geometry, rooms), geometry));
+        }
+        Some(_) => OpenFault::Length { len },
     };
-    if len != image_len(&geometry) {
-        return Err((image, OpenFault::Length { len }));
-    }
-    match room_and_arms(alloc) {
-        Err(_) => Err((image, OpenFault::NoMemory)),
-        Ok((room, armed)) => Ok((ImageMedium::new(image, geometry, room, armed), geometry)),
-    }
+    Err(Refused {
+        image,
+        rooms,
+        fault,
+    })
 }
