@@ -43,7 +43,6 @@ not_pressed : (s t : State) (shape : Shape) (outcome : Outcome) → PressStep s 
 not_pressed s t shape (Ok (replies.Event events.Pressed)) step unlawful = absurd (unlawful step.0)
 not_pressed s t shape (Ok (replies.Event events.NotPressed)) step unlawful = step.1
 not_pressed s t shape (Err stopped.ImageFault) step unlawful = absurd (unlawful step.0)
-not_pressed s t shape (Err stopped.NoMemory) step unlawful = absurd (unlawful step.0)
 not_pressed s t shape _ step unlawful = absurd step
 
 -- a geometry that is lawful with a layout of some kind is so with one group of spares

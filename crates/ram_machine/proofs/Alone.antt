@@ -500,8 +500,6 @@ press_plainly s t p shape (Err stopped.ImageFault) is (lawful, inl half) =
     let now = half_plainly s t p is half in (now.0, (lawful, inl now.1), now.2)
 press_plainly s t p shape (Err stopped.ImageFault) is (lawful, inr unopened) =
     let now = unopened_plainly shape t unopened in (now.0, (lawful, inr now.1), now.2)
-press_plainly s t p shape (Err stopped.NoMemory) is step =
-    let now = unopened_plainly shape t step.1 in (now.0, (step.0, now.1), now.2)
 press_plainly s t p shape _ is step = absurd step
 
 module _ (s t : Served) (p : PlainServed) (is : IsServedPlainly s p) where

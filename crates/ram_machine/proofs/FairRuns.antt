@@ -188,7 +188,6 @@ press_fair s t shape (Ok (replies.Event events.Pressed)) step fair = pressed_fai
 press_fair s t shape (Ok (replies.Event events.NotPressed)) step fair = subst FairNow (sym step.1) fair
 press_fair s t shape (Err stopped.ImageFault) (lawful, inl half) fair = half_fair s t half
 press_fair s t shape (Err stopped.ImageFault) (lawful, inr unopened) fair = unopened_fair shape t unopened
-press_fair s t shape (Err stopped.NoMemory) step fair = unopened_fair shape t step.1
 press_fair s t shape _ step fair = absurd step
 
 on_disc_fair : (s t : State) (line : Line) (payload : List ℕ) (outcome : Outcome) (data_in : List ℕ) → OnDisc s line payload outcome data_in t → FairNow s → FairNow t

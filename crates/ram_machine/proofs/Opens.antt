@@ -34,6 +34,7 @@ use Rattle.ram_sectors.specs.declared.caching.Caching.{Ghosts as Drives}
 use Rattle.ram_report.specs.declared.printing.Event.TheVariants as events
 use Rattle.ram_transfer.specs.Shown.{shown_without}
 use Rattle.ram_machine.specs.declared.inserted.Inserted.TheVariants as inserts
+use Rattle.ram_machine.specs.declared.rooms.TargetRooms.{TargetRooms}
 use Rattle.ram_machine.specs.declared.stopped.Stopped.TheVariants as whys
 use Rattle.ram_machine.specs.Drive.{IsOpenedBy, OpensDrive}
 use Rattle.ram_machine.specs.Replies.{event, stopped_by}
@@ -151,13 +152,13 @@ pressed_bytes s shape (Some before) (Some after) left pressed = record { bytes =
 
 module _ {D I : Type 0} (drives : Drives D) (lies_in : D → Option (List ℕ)) (images : Images I) (s : State) (kind : LayoutKind) (shape : Shape) (kind_is : shape.layout ≡ kind) (its : kind ≡ kind_of s) (lawful : IsLawful shape) where
   -- the image stopped a press
-  pub press_stopped : (before : Option (List ℕ)) (image : I) → LeavesImage s before → WhereKnown before (images.bytes image) IsStoppedPress → IsPressAnswered s shape (Stands drives lies_in images (inserts.Image image kind)) (Err whys.ImageFault)
-  press_stopped before image left stopped = by_bytes before (images.bytes image) left stopped refl
+  pub press_stopped : (before : Option (List ℕ)) (image : I) (rooms : TargetRooms) → rooms.drive.kind ≡ kind → LeavesImage s before → WhereKnown before (images.bytes image) IsStoppedPress → IsPressAnswered s shape (Stands drives lies_in images (inserts.Image image rooms)) (Err whys.ImageFault)
+  press_stopped before image rooms same left stopped = by_bytes before (images.bytes image) left stopped refl
     where
-      by_bytes : (b a : Option (List ℕ)) → LeavesImage s b → WhereKnown b a IsStoppedPress → images.bytes image ≡ a → IsPressAnswered s shape (Stands drives lies_in images (inserts.Image image kind)) (Err whys.ImageFault)
+      by_bytes : (b a : Option (List ℕ)) → LeavesImage s b → WhereKnown b a IsStoppedPress → images.bytes image ≡ a → IsPressAnswered s shape (Stands drives lies_in images (inserts.Image image rooms)) (Err whys.ImageFault)
       by_bytes None a l w e = absurd l
       by_bytes (Some held) None l w e = absurd w
-      by_bytes (Some held) (Some now) l w e = record { state = Unopened (record { kind = kind; bytes = now }); step = (lawful, inl (held, l, w, its)); stands = (e, refl) }
+      by_bytes (Some held) (Some now) l w e = record { state = Unopened (record { kind = kind; bytes = now }); step = (lawful, inl (held, l, w, its)); stands = (e, same) }
 
   module _ (before : Option (List ℕ)) (image : I) (left : LeavesImage s before) (pressed : WhereKnown before (images.bytes image) (PressesImage shape)) where
     found : IsPressed shape (images.bytes image)
@@ -182,13 +183,13 @@ module _ {D I : Type 0} (drives : Drives D) (lies_in : D → Option (List ℕ)) 
           stands = (is_in drives lies_in images kind found.bytes target by host_is lies, its_kind drives lies_in images kind found.bytes target by host_is lies);
         }
 
-    -- a pressed image is refused only where it failed, or there was no memory
-    pub press_refused : (image' : I) (faults faults' : ℕ) (fault : OpenFault) → IsRefused kind (images.bytes image) (images.bytes image') faults faults' fault → IsPressAnswered s shape (Stands drives lies_in images (inserts.Image image' kind)) (Err (stopped_by fault))
-    press_refused image' faults faults' faulty.Header refused = absurd (bad.1 shape kind_is found.image_is.disc.has_header)
+    -- a pressed image is refused only where it failed
+    pub press_refused : (image' : I) (rooms : TargetRooms) → rooms.drive.kind ≡ kind → (faults faults' : ℕ) (fault : OpenFault) → IsRefused kind (images.bytes image) (images.bytes image') faults faults' fault → IsPressAnswered s shape (Stands drives lies_in images (inserts.Image image' rooms)) (Err (stopped_by fault))
+    press_refused image' rooms same faults faults' faulty.Header refused = absurd (bad.1 shape kind_is found.image_is.disc.has_header)
       where
         bad : (16 ≤ length found.bytes) × ((z : Shape) → z.layout ≡ kind → ¬ HasHeader z found.bytes)
         bad = subst (λ o. IfSome o (λ held. (16 ≤ length held) × ((z : Shape) → z.layout ≡ kind → ¬ HasHeader z held))) found.known refused.1
-    press_refused image' faults faults' (faulty.Length len) refused = absurd (cases bad.1)
+    press_refused image' rooms same faults faults' (faulty.Length len) refused = absurd (cases bad.1)
       where
         bad : (len ≡ length found.bytes) × ((len < 16) ⊎ ((z : Shape) × HasHeader z found.bytes × (len ≢ image_len (total z))))
         bad = subst (λ o. IfSome o (λ held. (len ≡ length held) × ((len < 16) ⊎ ((z : Shape) × HasHeader z held × (len ≢ image_len (total z)))))) found.known refused.1
@@ -199,8 +200,7 @@ module _ {D I : Type 0} (drives : Drives D) (lies_in : D → Option (List ℕ)) 
         cases : (len < 16) ⊎ ((z : Shape) × HasHeader z found.bytes × (len ≢ image_len (total z))) → ⊥
         cases (inl short) = omega (arith, bad.0, long)
         cases (inr other) = other.2 (bad.0 ∙ long ∙ ap image_len (total_by_header shape other.0 found.bytes found.image_is.disc.has_header other.1))
-    press_refused image' faults faults' faulty.Fault refused = record { state = Unopened (record { kind = kind; bytes = found.bytes }); step = (lawful, inr (found.image_is, sym kind_is)); stands = (refused.same ∙ found.known, refl) }
-    press_refused image' faults faults' faulty.NoMemory refused = record { state = Unopened (record { kind = kind; bytes = found.bytes }); step = (lawful, (found.image_is, sym kind_is)); stands = (refused.same ∙ found.known, refl) }
+    press_refused image' rooms same faults faults' faulty.Fault refused = record { state = Unopened (record { kind = kind; bytes = found.bytes }); step = (lawful, inr (found.image_is, sym kind_is)); stands = (refused.same ∙ found.known, same) }
 
 module _ {D I : Type 0} (drives : Drives D) (lies_in : D → Option (List ℕ)) (images : Images I) (kind : LayoutKind) (image : I) where
   -- a disc was opened
@@ -217,21 +217,21 @@ module _ {D I : Type 0} (drives : Drives D) (lies_in : D → Option (List ℕ)) 
       }
 
   -- an image that holds no disc is left as it is
-  pub first_unopened : (image' : I) (faults faults' : ℕ) (fault : OpenFault) → IsRefused kind (images.bytes image) (images.bytes image') faults faults' fault → (fault ≡ faulty.Header) ⊎ ((len : ℕ) × (fault ≡ faulty.Length len))
-      → ((bytes : List ℕ) → images.bytes image ≡ Some bytes → StandsFirst kind bytes (Stands drives lies_in images (inserts.Image image' kind))) × (faults' ≡ faults)
-  first_unopened image' faults faults' why refused (inl e) = (λ bytes known. without_header bytes known (subst (IsRefused kind (images.bytes image) (images.bytes image') faults faults') e refused), (subst (IsRefused kind (images.bytes image) (images.bytes image') faults faults') e refused).0.count)
+  pub first_unopened : (image' : I) (rooms : TargetRooms) → rooms.drive.kind ≡ kind → (faults faults' : ℕ) (fault : OpenFault) → IsRefused kind (images.bytes image) (images.bytes image') faults faults' fault → (fault ≡ faulty.Header) ⊎ ((len : ℕ) × (fault ≡ faulty.Length len))
+      → ((bytes : List ℕ) → images.bytes image ≡ Some bytes → StandsFirst kind bytes (Stands drives lies_in images (inserts.Image image' rooms))) × (faults' ≡ faults)
+  first_unopened image' rooms same faults faults' why refused (inl e) = (λ bytes known. without_header bytes known (subst (IsRefused kind (images.bytes image) (images.bytes image') faults faults') e refused), (subst (IsRefused kind (images.bytes image) (images.bytes image') faults faults') e refused).0.count)
     where
-      without_header : (bytes : List ℕ) → images.bytes image ≡ Some bytes → IsRefused kind (images.bytes image) (images.bytes image') faults faults' faulty.Header → StandsFirst kind bytes (Stands drives lies_in images (inserts.Image image' kind))
+      without_header : (bytes : List ℕ) → images.bytes image ≡ Some bytes → IsRefused kind (images.bytes image) (images.bytes image') faults faults' faulty.Header → StandsFirst kind bytes (Stands drives lies_in images (inserts.Image image' rooms))
       without_header bytes known r =
           let bad : (16 ≤ length bytes) × ((z : Shape) → z.layout ≡ kind → ¬ HasHeader z bytes) = subst (λ o. IfSome o (λ held. (16 ≤ length held) × ((z : Shape) → z.layout ≡ kind → ¬ HasHeader z held))) known r.1 in
-          record { state = Unopened (record { kind = kind; bytes = bytes }); kind_is = refl; first = (refl, λ shape same there. bad.1 shape same there.has_header); stands_first = (r.0.same ∙ known, refl) }
-  first_unopened image' faults faults' why refused (inr other) = (λ bytes known. of_other_length bytes known (subst (IsRefused kind (images.bytes image) (images.bytes image') faults faults') other.1 refused), (subst (IsRefused kind (images.bytes image) (images.bytes image') faults faults') other.1 refused).0.count)
+          record { state = Unopened (record { kind = kind; bytes = bytes }); kind_is = refl; first = (refl, λ shape its there. bad.1 shape its there.has_header); stands_first = (r.0.same ∙ known, same) }
+  first_unopened image' rooms same faults faults' why refused (inr other) = (λ bytes known. of_other_length bytes known (subst (IsRefused kind (images.bytes image) (images.bytes image') faults faults') other.1 refused), (subst (IsRefused kind (images.bytes image) (images.bytes image') faults faults') other.1 refused).0.count)
     where
       clash : (bytes : List ℕ) (shape : Shape) → other.0 ≡ length bytes → IsDiscImage shape bytes → (other.0 < 16) ⊎ ((z : Shape) × HasHeader z bytes × (other.0 ≢ image_len (total z))) → ⊥
       clash bytes shape long there (inl short) = let whole = there.as_long in omega (arith, long, whole)
       clash bytes shape long there (inr z) = z.2 (long ∙ there.as_long ∙ ap image_len (total_by_header shape z.0 bytes there.has_header z.1))
 
-      of_other_length : (bytes : List ℕ) → images.bytes image ≡ Some bytes → IsRefused kind (images.bytes image) (images.bytes image') faults faults' (faulty.Length other.0) → StandsFirst kind bytes (Stands drives lies_in images (inserts.Image image' kind))
+      of_other_length : (bytes : List ℕ) → images.bytes image ≡ Some bytes → IsRefused kind (images.bytes image) (images.bytes image') faults faults' (faulty.Length other.0) → StandsFirst kind bytes (Stands drives lies_in images (inserts.Image image' rooms))
       of_other_length bytes known r =
           let bad : (other.0 ≡ length bytes) × ((other.0 < 16) ⊎ ((z : Shape) × HasHeader z bytes × (other.0 ≢ image_len (total z)))) = subst (λ o. IfSome o (λ held. (other.0 ≡ length held) × ((other.0 < 16) ⊎ ((z : Shape) × HasHeader z held × (other.0 ≢ image_len (total z)))))) known r.1 in
-          record { state = Unopened (record { kind = kind; bytes = bytes }); kind_is = refl; first = (refl, λ shape same there. clash bytes shape bad.0 there bad.1); stands_first = (r.0.same ∙ known, refl) }
+          record { state = Unopened (record { kind = kind; bytes = bytes }); kind_is = refl; first = (refl, λ shape its there. clash bytes shape bad.0 there bad.1); stands_first = (r.0.same ∙ known, same) }

@@ -1,6 +1,10 @@
 -- What a write cache over a volume over the medium in an image is as a drive of a run.
 use Rattle.std.specs.Prelude.{◌≡◌, ℕ, Bool, false, List, [], ◌∷◌}
-use Rattle.std.proofs.Common.{refl}
+use Rattle.std.proofs.Common.{refl, sym, ◌∙◌}
+use Rattle.model_geometry.specs.declared.kinds.LayoutKind.{LayoutKind}
+use Rattle.ram_groups.specs.declared.any_layout.AnyLayout.{AnyLayout}
+use Rattle.ram_groups.specs.declared.any_layout.AnyLayout.TheVariants as layouts
+use Rattle.ram_groups.specs.Layouts.{IsOfKind}
 use Rattle.model_sectors.specs.Discs.{Standing, On, Off}
 use Rattle.model_drive.specs.Shown.{Shown, StandsFor}
 use Rattle.model_cache.specs.Plain.{uncached}
@@ -30,3 +34,8 @@ module _ (old new : Shown) (pending : List (ℕ × List ℕ)) where
 -- a cache that was just made over a drive is off, and nothing is pending
 pub fresh_cache : (drive shown : Shown) (p : List (ℕ × List ℕ)) (on : Bool) → drive ≡ shown → p ≡ [] → on ≡ false → (let cached : CacheShown = record { drive = drive; pending = p; caches = on } in cached) ≡ uncached shown
 fresh_cache drive shown p on is none off = rw (is, none, off) refl
+
+-- a layout is of one kind
+pub one_kind : (kind kind' : LayoutKind) (layout : AnyLayout) → IsOfKind kind layout → IsOfKind kind' layout → kind ≡ kind'
+one_kind kind kind' (layouts.Slip table) is is' = is ∙ sym is'
+one_kind kind kind' (layouts.Zones table) is is' = is ∙ sym is'

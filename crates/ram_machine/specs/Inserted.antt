@@ -14,8 +14,8 @@ use Rattle.ram_machine.specs.LineSteps.{PressStep, Step}
 module _ {D I : Type 0} (drives : Drives D) (lies_in : D → Option (List ℕ)) (images : Images I) where
   -- the inserted disc stands for this state, and the bytes of its image are known (this project's own, as all here)
   abbrev pub Stands : Inserted D I → State → Type 0
-  Stands (inserts.Image image kind) (Unopened bare) = (images.bytes image ≡ Some bare.bytes) × (kind ≡ bare.kind)
-  Stands (inserts.Image image kind) (Disc s) = ⊥
+  Stands (inserts.Image image rooms) (Unopened bare) = (images.bytes image ≡ Some bare.bytes) × (rooms.drive.kind ≡ bare.kind)
+  Stands (inserts.Image image rooms) (Disc s) = ⊥
   Stands (inserts.Disc target kind) (Unopened bare) = ⊥
   Stands (inserts.Disc target kind) (Disc s) = IsIn (drives.shows target.disc) (drives.stands target.disc) target.host
       (lies_in target.disc) s × (kind ≡ kind_of (Disc s))
@@ -23,7 +23,7 @@ module _ {D I : Type 0} (drives : Drives D) (lies_in : D → Option (List ℕ)) 
 module _ {D I : Type 0} (drives : Drives D) (images : Images I) where
   -- how often the image of the inserted disc has failed
   abbrev pub faults_of : Inserted D I → ℕ
-  faults_of (inserts.Image image kind) = images.faults image
+  faults_of (inserts.Image image rooms) = images.faults image
   faults_of (inserts.Disc target kind) = (drives.shows target.disc).drive.medium.world.faults
 
 -- the bytes of the image that is left are known, and they are those of the state

@@ -10,6 +10,5 @@ use Rattle.ram_machine.specs.declared.stopped.Stopped.TheVariants as stopped
 abbrev pub LineCount : ℕ → ℕ → Result Reply Stopped → Type 0
 LineCount faults faults' (Ok reply) = faults' ≡ faults
 LineCount faults faults' (Err stopped.NotADisc) = faults' ≡ faults
-LineCount faults faults' (Err stopped.NoMemory) = faults' ≡ faults
 LineCount faults faults' (Err stopped.ImageFault) = Rose faults faults'
 LineCount faults faults' (Err why) = ⊥

@@ -38,7 +38,6 @@ abbrev pub PressStep : State → Shape → Outcome → State → Type 0
 PressStep s shape (Ok (replies.Event events.Pressed)) t = IsLawful shape × IsPressedDisc shape t
 PressStep s shape (Ok (replies.Event events.NotPressed)) t = ¬ IsLawful shape × (t ≡ s)
 PressStep s shape (Err stopped.ImageFault) t = IsLawful shape × (IsHalfPressed s t ⊎ IsPressedUnopened shape t)
-PressStep s shape (Err stopped.NoMemory) t = IsLawful shape × IsPressedUnopened shape t
 PressStep s shape _ t = ⊥
 
 -- What a line does on a disc: what the drive shows, may stand for, and remembers for its host, before and after.

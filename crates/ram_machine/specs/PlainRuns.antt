@@ -196,7 +196,6 @@ PlainPress p shape (Ok (replies.Event events.Pressed)) q = IsLawful shape × IsP
 PlainPress p shape (Ok (replies.Event events.NotPressed)) q = ¬ IsLawful shape × (q ≡ p)
 PlainPress p shape (Err stopped.ImageFault) q = IsLawful shape
     × (IsUnopenedPlainly (IsHalfPlainly p) q ⊎ IsUnopenedPlainly (IsUnopenedPress shape) q)
-PlainPress p shape (Err stopped.NoMemory) q = IsLawful shape × IsUnopenedPlainly (IsUnopenedPress shape) q
 PlainPress p shape _ q = ⊥
 
 -- From p a line with these data may have this outcome, give these data, and leave q.

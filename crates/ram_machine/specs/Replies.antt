@@ -70,7 +70,6 @@ abbrev pub stopped_by : OpenFault → Stopped
 stopped_by opens.Header = stopped.NotADisc
 stopped_by (opens.Length len) = stopped.NotADisc
 stopped_by opens.Fault = stopped.ImageFault
-stopped_by opens.NoMemory = stopped.NoMemory
 
 -- a reply that can be printed: of a command one that has words, and a read that was done has its address
 abbrev pub CanPrint : Reply → Type 0

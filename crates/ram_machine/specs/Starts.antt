@@ -4,8 +4,6 @@ use Rattle.model_counts.specs.Counts.{Rose}
 use Rattle.ram_outside.specs.declared.image.Image.{Ghosts as Images}
 use Rattle.ram_sectors.specs.declared.caching.Caching.{Ghosts as Drives}
 use Rattle.ram_machine.specs.declared.inserted.Inserted.{Inserted}
-use Rattle.ram_machine.specs.declared.stopped.Stopped.{Stopped}
-use Rattle.ram_machine.specs.declared.stopped.Stopped.TheVariants as stopped
 use Rattle.model_geometry.specs.declared.kinds.LayoutKind.{LayoutKind}
 use Rattle.ram_machine.specs.States.{State, kind_of, IsFirst}
 use Rattle.ram_machine.specs.Inserted.{Stands, faults_of}
@@ -18,17 +16,11 @@ pub record StandsFirst (kind : LayoutKind) (bytes : List ℕ) (stands : State �
   pub first : IsFirst bytes state
   pub stands_first : stands state
 
--- why a run stops before its first line: the image failed and counted it, or there was no memory
-abbrev pub StartCount : ℕ → ℕ → Stopped → Type 0
-StartCount faults faults' stopped.ImageFault = Rose faults faults'
-StartCount faults faults' stopped.NoMemory = faults' ≡ faults
-StartCount faults faults' _ = ⊥
-
 module _ {D I : Type 0} (drives : Drives D) (lies_in : D → Option (List ℕ)) (images : Images I) where
-  -- What a run begins with, or why it stops; then the image has the bytes that it had.
-  abbrev pub StartRule : LayoutKind → I → Result (Inserted D I) (I × Stopped) → Type 0
+  -- What a run begins with; or the image failed and counted it, and has the bytes that it had.
+  abbrev pub StartRule : LayoutKind → I → Result (Inserted D I) I → Type 0
   StartRule kind image (Ok inserted) =
       ((bytes : List ℕ) → images.bytes image ≡ Some bytes → StandsFirst kind bytes (Stands drives lies_in images inserted))
       × (faults_of drives images inserted ≡ images.faults image)
   StartRule kind image (Err refused) =
-      (images.bytes refused.0 ≡ images.bytes image) × StartCount (images.faults image) (images.faults refused.0) refused.1
+      (images.bytes refused ≡ images.bytes image) × Rose (images.faults image) (images.faults refused)

@@ -10,12 +10,11 @@ ghost use Rattle.ram_states.specs.Control.{KeepsMemory, FailOnDrive};
 ghost use Rattle.ram_machine.specs.Drive.{OpensDrive, DriveLaws};
 ghost use Rattle.ram_machine.specs.Control.{contents_after_fail};
 
-use ram_image::OpenFault;
+use crate::rooms::DriveRooms;
+use ram_image::Refused;
 use ram_medium::{Arm, FailEnd, Fate};
 use ram_outside::Image;
 use ram_sectors::Caching;
-use ram_zones::LayoutKind;
-use std::alloc::Global;
 
 /// A drive with a write cache over a medium that lies in an image, and that can be made to fail. What is done to the medium
 /// leaves the cache as it is.
@@ -26,23 +25,21 @@ pub trait Drive: Caching {
     /// The bytes of the image, also those under cells that are not good, where they are known.
     ghost lies_in: { Self → Option (List ℕ) };
 
-    /// The drive over the disc that the image holds, with a layout of this kind, and with the power off. Else the image is handed
-    /// back with the bytes that it had, and the reason: it has no such disc's header or length, it failed, or there was no
-    /// memory.
-    fn open(
-        alloc: Global,
-        image: Self::Image,
-        kind: LayoutKind,
-    ) -> Result<Self, (Self::Image, OpenFault)>
-        ensures { MatchResult result (λ drive. OpensDrive kind (Self.Image.bytes image)
+    /// The drive over the disc that the image holds, with a layout of the kind that the rooms are for, and with the power off.
+    /// Else the image is handed back with the bytes that it had, with the rooms and the reason: it has no such disc's header or
+    /// length, or it failed.
+    fn open(rooms: DriveRooms, image: Self::Image) -> Result<Self, Refused<Self::Image, DriveRooms>>
+        ensures { MatchResult result (λ drive. OpensDrive rooms.kind (Self.Image.bytes image)
             (Self.Image.faults image) (Self.shows drive) (Self.stands drive) (lies_in drive))
-            (λ refused. IsRefused kind (Self.Image.bytes image) (Self.Image.bytes refused.0)
-            (Self.Image.faults image) (Self.Image.faults refused.0) refused.1) };
+            (λ refused. (refused.rooms.kind ≡ rooms.kind)
+            × IsRefused rooms.kind (Self.Image.bytes image) (Self.Image.bytes refused.image)
+            (Self.Image.faults image) (Self.Image.faults refused.image) refused.fault) };
 
-    /// The image, with the bytes in which the drive lay.
-    fn into_image(self) -> Self::Image
-        ensures count { Self.Image.faults result ≡ (Self.shows self).drive.medium.world.faults }
-        ensures bytes { Self.Image.bytes result ≡ lies_in self };
+    /// The image, with the bytes in which the drive lay, and the rooms.
+    fn into_parts(self) -> (Self::Image, DriveRooms)
+        ensures count { Self.Image.faults result.0 ≡ (Self.shows self).drive.medium.world.faults }
+        ensures bytes { Self.Image.bytes result.0 ≡ lies_in self }
+        ensures kind { result.1.kind ≡ (Self.shows self).drive.shape.layout };
 
     /// Makes block `block` of the medium dead, counted from 0, with the power on or off: `Done`. There is no such block:
     /// `NoBlock`, with how many there are. The image failed: `Failed`, and the power is off. What is kept in memory stays,

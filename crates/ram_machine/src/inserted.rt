@@ -1,5 +1,5 @@
 //! The inserted disc, and what one line does with it: the drive is worked on where it lies, and only a press takes its
-//! image out.
+//! image and its rooms out.
 ghost use Rattle.std.specs.Prelude.{◌≡◌, ◌≤◌, MatchResult, vec_capacity};
 ghost use Rattle.model_geometry.specs.Geometry.{shape_in};
 ghost use Rattle.ram_text.specs.declared.payload.TheConstants.{PAYLOAD_ROOM};
@@ -14,10 +14,11 @@ ghost use Rattle.ram_machine.specs.Starts.{StartRule};
 
 use crate::drive::Drive;
 use crate::reply::Reply;
+use crate::rooms::TargetRooms;
 use crate::stopped::Stopped;
 use core::mem::replace_with;
-use ram_bytes::{Block, Cdb};
-use ram_image::{OpenFault, PressOut, geometry_in, press};
+use ram_bytes::Cdb;
+use ram_image::{OpenFault, PressOut, Refused, geometry_in, press};
 use ram_medium::{Arm, FailEnd};
 use ram_mmc::{Answer, Target};
 use ram_outside::Image;
@@ -25,29 +26,30 @@ use ram_report::Event;
 use ram_sectors::{PowerOut, TickOut};
 use ram_text::Line;
 use ram_zones::LayoutKind;
-use std::alloc::Global;
 
-/// What lies in the drive: an image that was not opened as a disc, or a disc with what is remembered for its host; and the kind
-/// of layout that its discs have.
+/// What lies in the drive: an image that was not opened as a disc, or a disc with what is remembered for its host.
 pub enum Inserted<D: Drive> {
-    /// An image that was not opened.
-    Image(D::Image, LayoutKind),
-    /// A disc.
+    /// An image that was not opened, and the rooms for a disc.
+    Image(D::Image, TargetRooms),
+    /// A disc, and the kind of its layout.
     Disc(Target<D>, LayoutKind),
 }
 
 impl<D: Drive> Inserted<D> {
-    /// The image, as it is left.
-    pub fn into_image(self) -> D::Image
-        ensures count { D.Image.faults result ≡ faults_of D.Caching D.Image.Image self }
+    /// The image, as it is left, and the rooms.
+    pub fn into_parts(self) -> (D::Image, TargetRooms)
+        ensures count { D.Image.faults result.0 ≡ faults_of D.Caching D.Image.Image self }
         ensures left { (s : State) → Stands D.Caching D.lies_in D.Image.Image self s
-            → LeavesImage s (D.Image.bytes result) }
+            → LeavesImage s (D.Image.bytes result.0) }
+        ensures kind { (s : State) → Stands D.Caching D.lies_in D.Image.Image self s
+            → result.1.drive.kind ≡ kind_of s }
     {
         match self {
-            Inserted::Image(image, _) => image,
+            Inserted::Image(image, rooms) => (image, rooms),
             Inserted::Disc(target, _) => {
-                let (drive, _) = target.into_parts();
-                drive.into_image()
+                let (disc, block) = target.into_parts();
+                let (image, drive) = disc.into_parts();
+                (image, TargetRooms { drive, block })
             }
         }
     }
@@ -57,16 +59,15 @@ impl<D: Drive> Inserted<D> {
         ensures { (s : State) → Stands D.Caching D.lies_in D.Image.Image self.now s → result ≡ kind_of s }
     {
         match self {
-            Inserted::Image(_, kind) => *kind,
+            Inserted::Image(_, rooms) => rooms.drive.kind,
             Inserted::Disc(_, kind) => *kind,
         }
     }
 
     /// What a line does, with its data in `payload`. The data that a command gives are then in `data_in`, and what it held
-    /// before does not matter. A press alone takes memory.
+    /// before does not matter.
     pub fn answer(
         &mut self,
-        alloc: Global,
         line: Line,
         payload: &[u8],
         data_in: &mut Vec<u8>,
@@ -85,7 +86,7 @@ impl<D: Drive> Inserted<D> {
         match (&mut *self, line) {
             (_, Line::Empty) => Ok(Reply::Nothing),
             (inserted, Line::Press { zones, scale, psa }) => {
-                replace_with(inserted, (alloc, zones, scale, psa), press_disc::<D>)
+                replace_with(inserted, (zones, scale, psa), press_disc::<D>)
             }
             (Inserted::Disc(target, _), Line::Power) => power_outcome(target.power()),
             (Inserted::Disc(target, _), Line::Fail { block }) => fail_outcome(
@@ -184,43 +185,56 @@ fn command_outcome(cdb: Cdb, answer: Answer) -> Result<Reply, Stopped>
     }
 }
 
-/// The disc that an image holds, with a layout of this kind, and with what is remembered for its host when its power just came on.
-/// Else the image is handed back with the bytes that it had, and the reason. Room for the text of the disc's structure is taken
-/// first.
+/// The disc that an image holds, with a layout of the kind that the rooms are for, and with what is remembered for its host when its
+/// power just came on. Else the image is handed back with the bytes that it had, with the rooms and the reason.
 fn insert<D: Drive>(
-    alloc: Global,
+    rooms: TargetRooms,
     image: D::Image,
-    kind: LayoutKind,
-) -> Result<Target<D>, (D::Image, OpenFault)>
+) -> Result<Target<D>, Refused<D::Image, TargetRooms>>
     ensures { MatchResult result
-        (λ target. IsInsertedTarget kind (D.Image.bytes image) (D.Image.faults image)
+        (λ target. IsInsertedTarget rooms.drive.kind (D.Image.bytes image) (D.Image.faults image)
         (D.shows target.disc) (D.stands target.disc) (D.lies_in target.disc) target.host)
-        (λ refused. IsRefused kind (D.Image.bytes image) (D.Image.bytes refused.0)
-        (D.Image.faults image) (D.Image.faults refused.0) refused.1) }
+        (λ refused. (refused.rooms.drive.kind ≡ rooms.drive.kind)
+        × IsRefused rooms.drive.kind (D.Image.bytes image) (D.Image.bytes refused.image)
+        (D.Image.faults image) (D.Image.faults refused.image) refused.fault) }
 {
-    let Ok(block) = Block::zeros(alloc) else {
-        return Err((image, OpenFault::NoMemory));
-    };
-    match D::open(alloc, image, kind) {
+    let TargetRooms { drive, block } = rooms;
+    match D::open(drive, image) {
         Ok(disc) => Ok(Target::new(disc, block)),
-        Err(refused) => Err(refused),
+        Err(
+            Refused {
+                image,
+                rooms: drive,
+                fault,
+            },
+        ) => {
+            let rooms = TargetRooms { drive, block };
+            Err(Refused {
+                image,
+                rooms,
+                fault,
+            })
+        }
     }
 }
 
-/// What lies in the drive when a run begins: a disc where the image holds one, with a layout of this kind. Where the image failed,
-/// or there is no memory, it is handed back with the reason.
-pub fn begin<D: Drive>(
-    alloc: Global,
-    image: D::Image,
-    kind: LayoutKind,
-) -> Result<Inserted<D>, (D::Image, Stopped)>
-    ensures { StartRule D.Caching D.lies_in D.Image.Image kind image result }
+/// What lies in the drive when a run begins: a disc where the image holds one, with a layout of the kind that the rooms are for.
+/// Where the image failed, it is handed back.
+pub fn begin<D: Drive>(rooms: TargetRooms, image: D::Image) -> Result<Inserted<D>, D::Image>
+    ensures { StartRule D.Caching D.lies_in D.Image.Image rooms.drive.kind image result }
 {
-    match insert::<D>(alloc, image, kind) {
+    let kind = rooms.drive.kind;
+    match insert::<D>(rooms, image) {
         Ok(target) => Ok(Inserted::Disc(target, kind)),
-        Err((image, fault)) => match fault {
-            OpenFault::Header | OpenFault::Length { .. } => Ok(Inserted::Image(image, kind)),
-            OpenFault::Fault | OpenFault::NoMemory => Err((image, Stopped::from(fault))),
+        Err(
+            Refused {
+                image,
+                rooms,
+                fault,
+            },
+        ) => match fault {
+            OpenFault::Header | OpenFault::Length { .. } => Ok(Inserted::Image(image, rooms)),
+            OpenFault::Fault => Err(image),
         },
     }
 }
@@ -229,30 +243,36 @@ pub fn begin<D: Drive>(
 /// drive, where they are within their limits. Its layout is of the drive's kind.
 fn press_disc<D: Drive>(
     inserted: Inserted<D>,
-    wanted: (Global, u32, u32, u32),
+    wanted: (u32, u32, u32),
 ) -> (Inserted<D>, Result<Reply, Stopped>)
     ensures step { (s : State) → Stands D.Caching D.lies_in D.Image.Image inserted s
-        → IsPressAnswered s (shape_in (kind_of s) wanted.1 wanted.2 wanted.3)
+        → IsPressAnswered s (shape_in (kind_of s) wanted.0 wanted.1 wanted.2)
         (Stands D.Caching D.lies_in D.Image.Image result.0) result.1 }
     ensures printable { PrintsWhere result.1 }
     ensures count { LineCount (faults_of D.Caching D.Image.Image inserted)
         (faults_of D.Caching D.Image.Image result.0) result.1 }
 {
-    let (alloc, zones, scale, psa) = wanted;
+    let (zones, scale, psa) = wanted;
     let kind = inserted.kind();
     let Some(geometry) = geometry_in(kind, zones, scale, psa) else {
         return (inserted, Ok(Reply::Event(Event::NotPressed)));
     };
-    let mut image = inserted.into_image();
+    let (mut image, rooms) = inserted.into_parts();
     match press(&mut image, &geometry) {
-        PressOut::Failed => return (Inserted::Image(image, kind), Err(Stopped::ImageFault)),
+        PressOut::Failed => return (Inserted::Image(image, rooms), Err(Stopped::ImageFault)),
         PressOut::Done => {}
     }
-    match insert::<D>(alloc, image, kind) {
+    match insert::<D>(rooms, image) {
         Ok(target) => (
             Inserted::Disc(target, kind),
             Ok(Reply::Event(Event::Pressed)),
         ),
-        Err((image, fault)) => (Inserted::Image(image, kind), Err(Stopped::from(fault))),
+        Err(
+            Refused {
+                image,
+                rooms,
+                fault,
+            },
+        ) => (Inserted::Image(image, rooms), Err(Stopped::from(fault))),
     }
 }

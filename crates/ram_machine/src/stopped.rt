@@ -21,8 +21,6 @@ pub enum Stopped {
     SinkFault,
     /// The image failed, and counted it.
     ImageFault,
-    /// There was no memory.
-    NoMemory,
 }
 
 impl From<OpenFault> for Stopped {
@@ -34,7 +32,6 @@ impl From<OpenFault> for Stopped {
         match fault {
             OpenFault::Header | OpenFault::Length { .. } => Stopped::NotADisc,
             OpenFault::Fault => Stopped::ImageFault,
-            OpenFault::NoMemory => Stopped::NoMemory,
         }
     }
 }

@@ -5,42 +5,63 @@ ghost use Rattle.ram_volume.specs.Drives.{shown_by, medium_by};
 ghost use Rattle.ram_machine.specs.Lying.{has_cells, by_events, shown_medium, has_blocks};
 
 use crate::drive::Drive;
-use ram_cache::{Cached, PendingBlocks};
-use ram_image::{ImageMedium, OpenFault, open};
+use crate::rooms::DriveRooms;
+use ram_cache::Cached;
+use ram_image::{ImageMedium, Refused, open};
 use ram_medium::{Arm, FailEnd, Fate};
 use ram_outside::Image;
-use ram_transfer::Memory;
 use ram_volume::Volume;
-use ram_zones::LayoutKind;
-use std::alloc::Global;
 
 impl<I: Image> Drive for Cached<Volume<ImageMedium<I>>> {
     type Image = I;
 
     ghost lies_in = { λ cached. bytes_in (medium_by cached.disc) };
 
-    fn open(alloc: Global, image: I, kind: LayoutKind) -> Result<Self, (I, OpenFault)> {
-        let Ok(pending) = PendingBlocks::new(alloc) else {
-            return Err((image, OpenFault::NoMemory));
-        };
-        match open(alloc, image, kind) {
+    fn open(rooms: DriveRooms, image: I) -> Result<Self, Refused<I, DriveRooms>> {
+        let DriveRooms {
+            kind,
+            memory,
+            pending,
+            medium,
+        } = rooms;
+        match open(medium, image, kind) {
             Ok((medium, geometry)) => {
-                let Ok(memory) = Memory::new(alloc, geometry.layout()) else {
-                    return Err((medium.into_image(), OpenFault::NoMemory));
-                };
                 let volume = Volume::new(medium, geometry, memory);
                 Ok(Cached::new(volume, pending))
             }
-            Err(refused) => Err(refused),
+            Err(
+                Refused {
+                    image,
+                    rooms: medium,
+                    fault,
+                },
+            ) => {
+                let rooms = DriveRooms {
+                    kind,
+                    memory,
+                    pending,
+                    medium,
+                };
+                Err(Refused {
+                    image,
+                    rooms,
+                    fault,
+                })
+            }
         }
     }
 
-    fn into_image(self) -> I {
+    fn into_parts(self) -> (I, DriveRooms) {
         let (volume, pending) = self.into_parts();
-        drop(pending);
         let (medium, memory) = volume.into_parts();
-        drop(memory);
-        medium.into_image()
+        let (image, medium) = medium.into_parts();
+        let rooms = DriveRooms {
+            kind: memory.workspace.layout.kind(),
+            memory,
+            pending,
+            medium,
+        };
+        (image, rooms)
     }
 
     fn fail(&mut self, block: u32) -> FailEnd {
