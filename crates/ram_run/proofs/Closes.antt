@@ -37,8 +37,7 @@ module _ (source source' sink sink' faults failed : ℕ) where
     behind_there : (far : SoFar first) → StoodBehind far after inside inside' → StoodBehind far after outside outside'
     behind_there far (inl alone) = inl (sink_alone alone.0, alone.1)
     behind_there far (inr (inl source)) = inr (inl (source_too source.0, source.1))
-    behind_there far (inr (inr (inl image))) = inr (inr (inl (image_too image.0, image.1)))
-    behind_there far (inr (inr (inr none))) = inr (inr (inr (sink_alone none.0, none.1)))
+    behind_there far (inr (inr image)) = inr (inr (image_too image.0, image.1))
 
     -- what stands with a status is told with the opener's count
     pub stands_there : (status : Status) → StandsWith first after inside inside' status → StandsWith first after outside outside' status

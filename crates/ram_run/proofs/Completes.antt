@@ -239,24 +239,17 @@ sink_failed before after (inr (inr image)) = image.sink
 
 module _ (first : Beginning) (language : IsInLanguage first.script) (begins : BeginsWithDisc first) (before after : Counts) (none : NoneRose before after) where
   comes_to_its_end : (aftermath : Aftermath) (status : Status) → StatusCounts before after status → StandsWith first aftermath before after status → IsComplete status
-  comes_to_its_end aftermath statuses.Done counts leaves = tt
+  comes_to_its_end aftermath statuses.Done counts leaves = refl
   comes_to_its_end aftermath statuses.Usage counts leaves = absurd leaves
   comes_to_its_end aftermath statuses.Script counts leaves = absurd (well_spelled first leaves.2.far leaves.0 language leaves.1 leaves.2.last_is)
   comes_to_its_end aftermath statuses.NotADisc counts leaves = absurd (never_lacks first begins leaves.1.far leaves.0 leaves.1.last_is)
   comes_to_its_end aftermath statuses.SourceFault counts leaves = absurd (none.source counts.source)
   comes_to_its_end aftermath statuses.SinkFault counts leaves = absurd (none.sink (sink_failed before after counts))
   comes_to_its_end aftermath statuses.ImageFault counts leaves = absurd (none.image counts.image)
-  comes_to_its_end aftermath statuses.NoMemory counts leaves = tt
+  comes_to_its_end aftermath statuses.NoMemory counts leaves = absurd leaves
 
   unopened : (status : Status) → StatusCounts before after status → IsUnopened status → IsComplete status
-  unopened statuses.Done counts un = absurd un
-  unopened statuses.Usage counts un = absurd un
-  unopened statuses.Script counts un = absurd un
-  unopened statuses.NotADisc counts un = absurd un
-  unopened statuses.SourceFault counts un = absurd un
-  unopened statuses.SinkFault counts un = absurd un
-  unopened statuses.ImageFault counts un = absurd (none.image counts.image)
-  unopened statuses.NoMemory counts un = tt
+  unopened status counts un = absurd (none.image (subst (StatusCounts before after) un counts).image)
 
 -- such a run comes to its end
 pub completes : (first : Beginning) → IsInLanguage first.script → BeginsWithDisc first → (before after : Counts) → NoneRose before after

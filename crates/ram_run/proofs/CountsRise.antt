@@ -25,7 +25,6 @@ why_counts a b c stopped.NotInLanguage p q = none_rose a b c p q
 why_counts a b c stopped.LineTooLong p q = none_rose a b c p q
 why_counts a b c stopped.ScriptTooLong p q = none_rose a b c p q
 why_counts a b c stopped.NotADisc p q = none_rose a b c p q
-why_counts a b c stopped.NoMemory p q = none_rose a b c p q
 why_counts a b c stopped.SourceFault p q = record { source = subst (λ n. Rose n c.source) p.source q.source; sink = q.sink ∙ p.sink; image = q.image ∙ p.image }
 why_counts a b c stopped.SinkFault p q = record { source = q.source ∙ p.source; sink = subst (λ n. Rose n c.sink) p.sink q.sink; image = q.image ∙ p.image }
 why_counts a b c stopped.ImageFault p q = record { source = q.source ∙ p.source; sink = q.sink ∙ p.sink; image = subst (λ n. Rose n c.image) p.image q.image }
@@ -42,12 +41,10 @@ module _ (source sink sink' image image' : ℕ) (old new : View) (data_in : List
   line_counts (Ok reply) (Err stopped.NotADisc) line count rule = absurd rule
   line_counts (Ok reply) (Err stopped.SourceFault) line count rule = absurd rule
   line_counts (Ok reply) (Err stopped.ImageFault) line count rule = absurd rule
-  line_counts (Ok reply) (Err stopped.NoMemory) line count rule = absurd rule
   line_counts (Err why) result line count rule = subst (StopCounts (counts_of source sink image) (counts_of source sink' image')) (sym rule.0) (by_why why line)
     where
       by_why : (stop : Stopped) → LineCount image image' (Err stop) → WhyCounts (counts_of source sink image) (counts_of source sink' image') stop
       by_why stopped.NotADisc is = record { source = refl; sink = count; image = is }
-      by_why stopped.NoMemory is = record { source = refl; sink = count; image = is }
       by_why stopped.ImageFault is = record { source = refl; sink = count; image = is }
       by_why stopped.NotInLanguage is = absurd is
       by_why stopped.LineTooLong is = absurd is
@@ -65,7 +62,6 @@ module _ (source source' sink sink' sink'' image image' : ℕ) (due before writt
   sink_rose (Err stopped.LineTooLong) c (inr rose) le = subst (λ n. Rose n sink'') c.sink rose
   sink_rose (Err stopped.ScriptTooLong) c (inr rose) le = subst (λ n. Rose n sink'') c.sink rose
   sink_rose (Err stopped.NotADisc) c (inr rose) le = subst (λ n. Rose n sink'') c.sink rose
-  sink_rose (Err stopped.NoMemory) c (inr rose) le = subst (λ n. Rose n sink'') c.sink rose
   sink_rose (Err stopped.SourceFault) c (inr rose) le = subst (λ n. Rose n sink'') c.sink rose
   sink_rose (Err stopped.ImageFault) c (inr rose) le = subst (λ n. Rose n sink'') c.sink rose
   sink_rose (Err stopped.SinkFault) c (inr rose) le = omega (arith, c.sink, le)
@@ -78,7 +74,6 @@ module _ (source source' sink sink' sink'' image image' : ℕ) (due before writt
   behind (Err stopped.LineTooLong) c cause le = record { source = c.source; sink = sink_rose (Err stopped.LineTooLong) c cause le; image = c.image }
   behind (Err stopped.ScriptTooLong) c cause le = record { source = c.source; sink = sink_rose (Err stopped.ScriptTooLong) c cause le; image = c.image }
   behind (Err stopped.NotADisc) c cause le = record { source = c.source; sink = sink_rose (Err stopped.NotADisc) c cause le; image = c.image }
-  behind (Err stopped.NoMemory) c cause le = record { source = c.source; sink = sink_rose (Err stopped.NoMemory) c cause le; image = c.image }
   behind (Err stopped.SinkFault) c cause le = record { source = c.source; sink = sink_rose (Err stopped.SinkFault) c cause le; image = c.image }
   behind (Err stopped.SourceFault) c cause le = record { source = c.source; sink = sink_rose (Err stopped.SourceFault) c cause le; image = c.image }
   behind (Err stopped.ImageFault) c cause le = record { source = c.source; sink = sink_rose (Err stopped.ImageFault) c cause le; image = c.image }
@@ -90,7 +85,6 @@ module _ (source source' sink sink' sink'' image image' : ℕ) (due before writt
   at_most_one (Err stopped.LineTooLong) b = inl b
   at_most_one (Err stopped.ScriptTooLong) b = inl b
   at_most_one (Err stopped.NotADisc) b = inl b
-  at_most_one (Err stopped.NoMemory) b = inl b
   at_most_one (Err stopped.SinkFault) b = inl b
   at_most_one (Err stopped.SourceFault) b = inr (inl b)
   at_most_one (Err stopped.ImageFault) b = inr (inr b)
@@ -103,7 +97,6 @@ module _ (source source' sink sink' sink'' image image' : ℕ) (due before writt
   by_ending (Err stopped.LineTooLong) other c same = record { source = c.source; sink = same ∙ c.sink; image = c.image }
   by_ending (Err stopped.ScriptTooLong) other c same = record { source = c.source; sink = same ∙ c.sink; image = c.image }
   by_ending (Err stopped.NotADisc) other c same = record { source = c.source; sink = same ∙ c.sink; image = c.image }
-  by_ending (Err stopped.NoMemory) other c same = record { source = c.source; sink = same ∙ c.sink; image = c.image }
   by_ending (Err stopped.SourceFault) other c same = record { source = c.source; sink = same ∙ c.sink; image = c.image }
   by_ending (Err stopped.ImageFault) other c same = record { source = c.source; sink = same ∙ c.sink; image = c.image }
   by_ending (Err stopped.SinkFault) other c same = absurd (other refl)

@@ -1,12 +1,13 @@
 -- How a run ends: what its lines left, and what was then written.
-use Rattle.std.specs.Prelude.{◌≡◌, ℕ, ◌+◌, ◌≤◌, ◌⊎◌, Option, None, Some, Ok, Err, List, [], ◌++◌, length, take, drop}
+use Rattle.std.specs.Prelude.{◌≡◌, ℕ, ◌+◌, ◌≤◌, ◌⊎◌, true, Option, None, Some, IfSome, is_some, Ok, Err, List, [], ◌++◌, length, take, drop}
 use Rattle.std.specs.Io.KnownBytes.{append_known, prepend_known}
 use Rattle.std.proofs.Common.{arith, refl, sym, ap, ◌∙◌, inl, inr, subst, append_assoc, append-nil, length-append, take-append-drop}
+use Rattle.std.proofs.lemmas.Bool.{false≢true}
 use Rattle.model_geometry.specs.declared.kinds.LayoutKind.{LayoutKind}
 use Rattle.ram_report.proofs.Puts.{append_known-twice}
 use Rattle.ram_report.specs.ReportLines.{last_text}
 use Rattle.ram_report.specs.Writer.{IsCutShort}
-use Rattle.ram_text.specs.Dialogue.{dialogue_room, sink_of, source_of}
+use Rattle.ram_text.specs.Dialogue.{dialogue_room, gathered_of, sink_of, source_of}
 use Rattle.ram_text.specs.DialogueRoom.{IsEmptyRoom}
 use Rattle.ram_text.specs.declared.dialogue.Dialogue.{Dialogue}
 use Rattle.ram_report.specs.declared.gathered.TheConstants.{GATHERED_ROOM}
@@ -28,7 +29,7 @@ use Rattle.ram_machine.specs.Inserted.{LeavesImage}
 use Rattle.ram_run.specs.Answered.{report_text}
 use Rattle.ram_machine.specs.Starts.{StandsFirst}
 use Rattle.ram_run.specs.RunState.{IsFresh}
-use Rattle.ram_run.specs.Progress.{Beginning, SoFar, View, Between, IsReported, IsReportedInPart, ComesOut, IsLast, Ending, last_line, IsLastIfAny, EndsBetween, EndsInLine, Ends, due_before, run_view}
+use Rattle.ram_run.specs.Progress.{Beginning, SoFar, View, Between, IsReported, IsDue, IsDueInPart, ComesOut, IsLast, Ending, last_line, IsLastIfAny, EndsBetween, EndsInLine, Ends, due_before, run_view}
 use Rattle.ram_run.specs.Endings.{status_of, whole_text, text_if_any, last_of, LastLineRule, IsEnded, ComesToThis, IsStoppedInLine, IsWrittenInPart, IsReportCutOff, IsCutBySource, IsNearlyWritten, StandsWith, aftermath, sink_view, EndsAtSink, EndsWhole, FinishRule}
 use Rattle.ram_run.specs.RunCounts.{Counts, OnlySinkRose}
 use Rattle.ram_run.proofs.Behind.{Behind}
@@ -47,6 +48,21 @@ with_where_known due report answers last known = ap (λ o. append_known o last) 
 append_known-nil : (o : Option (List ℕ)) → append_known o [] ≡ o
 append_known-nil None = refl
 append_known-nil (Some bytes) = ap Some (append-nil bytes)
+
+-- what is due is known, so it is the answers so far
+told : {first : Beginning} (far : SoFar first) (due : Option (List ℕ)) → is_some due ≡ true → IsDue far due → IsReported far due
+told far None known is = absurd (false≢true known)
+told far (Some text) known is = ap Some is
+
+-- the same of the beginning of it
+told_in_part : {first : Beginning} (far : SoFar first) (due : Option (List ℕ)) → is_some due ≡ true → (part : IsDueInPart far due) → due ≡ Some part.written
+told_in_part far None known part = absurd (false≢true known)
+told_in_part far (Some text) known part = ap Some part.due_is
+
+-- where something was written that is known, what is due then is known
+pub due_known : (written : Option (List ℕ)) (gathered report : List ℕ) → written ≡ Some report → is_some (append_known written gathered) ≡ true
+due_known None gathered report is = absurd (let clash : Some report ≡ None = sym is in cc)
+due_known (Some bytes) gathered report is = refl
 
 module _ (first : Beginning) (far : SoFar first) (due written : Option (List ℕ)) where
   -- the answers alone were written
@@ -71,15 +87,16 @@ module _ (first : Beginning) (far : SoFar first) (due written : Option (List ℕ
       record { bytes = found.0; more = more; written_is = found.1; prefix = inl found.2; nearly = nearly_before nearly known found.0 found.1 }
 
   -- a prefix of a front was written
-  prefix_of_prefix : IsNearlyWritten due written → (more : List ℕ) → IsReportedInPart far due → append_known written more ≡ append_known due [] → IsWrittenInPart far written
-  prefix_of_prefix nearly more part prefix =
-      let found = known_prefix written more part.written (prefix ∙ append_known-nil due ∙ part.due_is) in
+  prefix_of_prefix : IsNearlyWritten due written → (more : List ℕ) → is_some due ≡ true → IsDueInPart far due → append_known written more ≡ append_known due [] → IsWrittenInPart far written
+  prefix_of_prefix nearly more known part prefix =
+      let due_is = told_in_part far due known part in
+      let found = known_prefix written more part.written (prefix ∙ append_known-nil due ∙ due_is) in
       record {
         bytes = found.0;
         more = more ++ part.more;
         written_is = found.1;
         prefix = inl (sym (append_assoc found.0 more part.more) ∙ ap (λ l. l ++ part.more) found.2 ∙ part.prefix);
-        nearly = omega (arith, nearly part.written found.0 part.due_is found.1, part.before);
+        nearly = omega (arith, nearly part.written found.0 due_is found.1, part.before);
       }
 
   -- a prefix of the answers and of a last line, if there is one
@@ -91,9 +108,18 @@ module _ (first : Beginning) (far : SoFar first) (due written : Option (List ℕ
 pub not_sink : (ending : Ending) (status : Status) → status ≡ status_of ending → ending ≡ Err stopped.SinkFault → (statuses.SinkFault ≡ status → ⊥) → ⊥
 not_sink ending status is sink other = other (sym (is ∙ ap status_of sink))
 
+-- nothing is gathered, so what was written is due
+nothing_gathered : (written : Option (List ℕ)) (gathered report : List ℕ) → gathered ≡ [] → IfSome written (λ text. text ≡ report) → IfSome (append_known written gathered) (λ text. text ≡ report ++ [])
+nothing_gathered None gathered report none is = tt
+nothing_gathered (Some text) gathered report none is = ap (λ (l : List ℕ). text ++ l) none ∙ ap (λ (l : List ℕ). l ++ []) is
+
+-- what is known of what was written
+pub where_known : (written : Option (List ℕ)) (report : List ℕ) → written ≡ Some report → IfSome written (λ text. text ≡ report)
+where_known written report is = subst (λ (o : Option (List ℕ)). IfSome o (λ text. text ≡ report)) (sym is) refl
+
 -- the lines begin with nothing read and nothing gathered
 pub begins : {S K : Type 0} (sources : Sources S) (sinks : Sinks K) (first : Beginning) (kind : LayoutKind) (stands : State → Type 0) (dialogue : Dialogue S K) (state : RunState) → first.kind ≡ kind → IsFresh state → IsEmptyRoom (dialogue_room dialogue)
-    → sources.left (source_of dialogue) ≡ Some first.script → sinks.written (sink_of dialogue) ≡ Some first.report
+    → sources.left (source_of dialogue) ≡ Some first.script → IfSome (sinks.written (sink_of dialogue)) (λ text. text ≡ first.report)
     → StandsFirst kind first.image stands → Between first stands (run_view sources sinks dialogue state.tally)
 begins sources sinks first kind stands dialogue state same fresh empty left_is written_is start = record {
   far = record { start = start.state; events = []; now = start.state; rest = first.script; starts = start.first; kind_is = start.kind_is ∙ sym same; run = refl; lines = inl refl; within = omega arith };
@@ -102,7 +128,7 @@ begins sources sinks first kind stands dialogue state same fresh empty left_is w
     left_is = ap (λ l. prepend_known l (sources.left (source_of dialogue))) empty.buffered ∙ ap (prepend_known []) left_is;
     taken_is = ap (λ n. n + length first.script) empty.taken ∙ omega arith;
     tallied = record { lines = ap (λ (t : Tally). t.lines) fresh.tally; answered = ap (λ (t : Tally). t.answered) fresh.tally; counts = ap (λ (t : Tally). t.counts) fresh.tally };
-    due_is = ap (append_known (sinks.written (sink_of dialogue))) empty.gathered ∙ ap (λ o. append_known o []) written_is;
+    due_is = nothing_gathered (sinks.written (sink_of dialogue)) (gathered_of dialogue) first.report empty.gathered written_is;
   };
 }
 
@@ -142,7 +168,6 @@ module _ (due due' before written : Option (List ℕ)) (gathered : List ℕ) (f 
   failed_at_last (Err stopped.SinkFault) rule = record { more = gathered; prefix = sym is ∙ rule.1 ∙ sym (append_known-nil due); nearly = nearly_by due written gathered [] few (sym is ∙ rule.1 ∙ sym (append_known-nil due)); count = omega (arith, rule.2); cause = inl refl }
   failed_at_last (Err stopped.SourceFault) rule = none_printed stopped.SourceFault rule
   failed_at_last (Err stopped.ImageFault) rule = none_printed stopped.ImageFault rule
-  failed_at_last (Err stopped.NoMemory) rule = none_printed stopped.NoMemory rule
 
 -- the last line is printed, where there is one
 module _ (due due' : Option (List ℕ)) (f f' : ℕ) (tally : Tally) where
@@ -158,7 +183,6 @@ module _ (due due' : Option (List ℕ)) (f f' : ℕ) (tally : Tally) where
   last_printed (Err stopped.SinkFault) rule = absurd (let clash : prints.Done ≡ prints.Failed = rule.0 in cc)
   last_printed (Err stopped.SourceFault) rule = no_last stopped.SourceFault refl rule
   last_printed (Err stopped.ImageFault) rule = no_last stopped.ImageFault refl rule
-  last_printed (Err stopped.NoMemory) rule = no_last stopped.NoMemory refl rule
 
   -- the sink failed when all was to be handed over
   pub failed_at_flush : (due'' before written : Option (List ℕ)) (gathered : List ℕ) (f'' : ℕ) → due'' ≡ append_known written gathered → length gathered ≤ GATHERED_ROOM → (ending : Ending)
@@ -187,7 +211,7 @@ module _ (first : Beginning) (stands : State → Type 0) (image : Option (List �
     image_is = leaves out.state out.stands_after;
   }
 
-  module _ (view : View) (written : Option (List ℕ)) (counts counts' : Counts) where
+  module _ (view : View) (known : is_some view.due ≡ true) (written : Option (List ℕ)) (counts counts' : Counts) where
     -- the source failed after the lines
     cut_by_source : (e : EndsBetween first stands view (Err stopped.SourceFault)) → IsCutBySource e.far (aftermath view.left written image)
     cut_by_source e = record { image_is = leaves e.far.now e.stands_now; given = view.buffered; unended = e.stopped_at.unended.0; rest_is = e.stopped_at.unended.1 }
@@ -197,7 +221,7 @@ module _ (first : Beginning) (stands : State → Type 0) (image : Option (List �
         → OnlySinkRose counts counts' → IsReportCutOff first (aftermath view.left written image) counts counts'
     sink_between ending more e prefix nearly alone = record {
       far = e.far;
-      written_is = prefix_with_any first e.far view.due written nearly more (last_line view.tally ending) e.stopped_at.due_is e.stopped_at.last_is prefix;
+      written_is = prefix_with_any first e.far view.due written nearly more (last_line view.tally ending) (told e.far view.due known e.stopped_at.due_is) e.stopped_at.last_is prefix;
       behind = inl (alone, leaves e.far.now e.stands_now);
     }
 
@@ -211,34 +235,29 @@ module _ (first : Beginning) (stands : State → Type 0) (image : Option (List �
     at_sink (Err stopped.NotADisc) more e prefix nearly behind = sink_between (Err stopped.NotADisc) more e prefix nearly behind
     at_sink (Err stopped.SourceFault) more e prefix nearly behind = record {
       far = e.far;
-      written_is = prefix_of_due first e.far view.due written nearly more e.stopped_at.due_is prefix;
+      written_is = prefix_of_due first e.far view.due written nearly more (told e.far view.due known e.stopped_at.due_is) prefix;
       behind = inr (inl (behind, cut_by_source e));
     }
     at_sink (Err stopped.SinkFault) more e prefix nearly behind =
-        record { far = e.far; written_is = prefix_of_prefix first e.far view.due written nearly more e.part prefix; behind = inl (behind, leaves e.far.now e.stands_now) }
+        record { far = e.far; written_is = prefix_of_prefix first e.far view.due written nearly more known e.part prefix; behind = inl (behind, leaves e.far.now e.stands_now) }
     at_sink (Err stopped.ImageFault) more e prefix nearly behind = record {
       far = e.far;
-      written_is = prefix_of_due first e.far view.due written nearly more e.due_is prefix;
-      behind = inr (inr (inl (behind, comes_to e.far (Err stopped.ImageFault) e.line)));
-    }
-    at_sink (Err stopped.NoMemory) more e prefix nearly behind = record {
-      far = e.far;
-      written_is = prefix_of_due first e.far view.due written nearly more e.due_is prefix;
-      behind = inr (inr (inr (behind, comes_to e.far (Err stopped.NoMemory) e.line)));
+      written_is = prefix_of_due first e.far view.due written nearly more (told e.far view.due known e.due_is) prefix;
+      behind = inr (inr (behind, comes_to e.far (Err stopped.ImageFault) e.line));
     }
 
     -- all was written, and there is a last line
-    ended : (last : LastLine) (far : SoFar first) → stands far.now → IsReported far view.due → IsLast far last → written ≡ append_known view.due (last_text last) → IsEnded first (aftermath view.left written image) last
+    ended : (last : LastLine) (far : SoFar first) → stands far.now → IsDue far view.due → IsLast far last → written ≡ append_known view.due (last_text last) → IsEnded first (aftermath view.left written image) last
     ended last far now due_is last_is whole = record {
       far = far;
       last_is = last_is;
-      written_is = whole ∙ with_where_known view.due first.report (report_text far.events) (last_text last) due_is;
+      written_is = whole ∙ with_where_known view.due first.report (report_text far.events) (last_text last) (told far view.due known due_is);
       image_is = leaves far.now now;
     }
 
     -- the next line was not done whole, and is not told
     stopped_in : (outcome : Outcome) → EndsInLine first stands view outcome → written ≡ append_known view.due [] → IsStoppedInLine first (aftermath view.left written image) outcome
-    stopped_in outcome e whole = record { far = e.far; written_is = written_as_due first e.far view.due written e.due_is whole; line = comes_to e.far outcome e.line }
+    stopped_in outcome e whole = record { far = e.far; written_is = written_as_due first e.far view.due written (told e.far view.due known e.due_is) whole; line = comes_to e.far outcome e.line }
 
     -- all was written, and the status tells how the lines ended
     at_end : (ending : Ending) → Ends first stands view ending → (ending ≡ Err stopped.SinkFault → ⊥) → written ≡ append_known view.due (last_of view.tally ending) → StandsWith first (aftermath view.left written image) counts counts' (status_of ending)
@@ -253,12 +272,11 @@ module _ (first : Beginning) (stands : State → Type 0) (image : Option (List �
     at_end (Err stopped.SourceFault) e other whole =
         record {
           far = e.far;
-          written_is = written_as_due first e.far view.due written e.stopped_at.due_is whole;
+          written_is = written_as_due first e.far view.due written (told e.far view.due known e.stopped_at.due_is) whole;
           cut = cut_by_source e;
         }
     at_end (Err stopped.SinkFault) e other whole = absurd (other refl)
     at_end (Err stopped.ImageFault) e other whole = inr (stopped_in (Err stopped.ImageFault) e whole)
-    at_end (Err stopped.NoMemory) e other whole = inr (stopped_in (Err stopped.NoMemory) e whole)
 
     module _ (ending : Ending) (before : Option (List ℕ)) (f f' : ℕ) (behind : (ending ≡ Err stopped.SinkFault) ⊎ Rose f f' → f ≤ f' → Behind counts counts' ending) where
       by_status : (status : Status) → (statuses.SinkFault ≡ status → ⊥) → Ends first stands view ending → EndsWhole view.due (sink_view before f) (sink_view written f') view.tally ending status → StandsWith first (aftermath view.left written image) counts counts' status

@@ -11,12 +11,12 @@ use Rattle.ram_machine.specs.declared.status.Status.{Status}
 use Rattle.ram_machine.specs.declared.status.Status.TheVariants as statuses
 use Rattle.ram_machine.specs.States.{State}
 use Rattle.ram_machine.specs.Inserted.{LeavesImage}
-use Rattle.ram_machine.specs.Starts.{StartCount}
 use Rattle.ram_run.specs.Progress.{Beginning, View, Ending, Ends}
 use Rattle.ram_run.specs.RunCounts.{StopCounts, counts_of}
-use Rattle.ram_run.specs.Words.{Surroundings}
+use Rattle.ram_run.specs.Words.{Surroundings, WritesText}
 use Rattle.ram_run.specs.Summary.{tally_text}
-use Rattle.ram_run.specs.Generating.{BeginsFrom, IsAnsweredWhole, LeavesBy, StopsWith, EndsAs, EndCount, ended_by, GeneratedWith, TellsOrNot}
+use Rattle.ram_run.specs.Endings.{status_of}
+use Rattle.ram_run.specs.Generating.{BeginsFrom, IsAnsweredWhole, LeavesBy, StopsWith, EndCount, GeneratedWith}
 use Rattle.ram_run.proofs.Finishes.{comes_to}
 use Rattle.ram_run.proofs.Summaries.{tally_is_summary}
 
@@ -30,65 +30,41 @@ leaves_by first stands image leaves view (Err stopped.NotADisc) e = record { far
 leaves_by first stands image leaves view (Err stopped.SourceFault) e = record { far = e.far; last_is = tt; image_is = leaves e.far.now e.stands_now }
 leaves_by first stands image leaves view (Err stopped.SinkFault) e = record { far = e.far; last_is = tt; image_is = leaves e.far.now e.stands_now }
 leaves_by first stands image leaves view (Err stopped.ImageFault) e = inr (record { far = e.far; line = comes_to first stands image leaves e.far (Err stopped.ImageFault) e.line })
-leaves_by first stands image leaves view (Err stopped.NoMemory) e = inr (record { far = e.far; line = comes_to first stands image leaves e.far (Err stopped.NoMemory) e.line })
 
--- the run did not begin
-pub not_begun : (first : Beginning) (tally : Tally) (image image' : Option (List ℕ)) (f f' : ℕ) (why : Stopped) → StartCount f f' why → image' ≡ image → image ≡ Some first.image → LeavesBy first tally image' (Err why)
-not_begun first tally image image' f f' stopped.ImageFault count same known = inl (same ∙ known)
-not_begun first tally image image' f f' stopped.NoMemory count same known = inl (same ∙ known)
-not_begun first tally image image' f f' stopped.NotInLanguage count same known = absurd count
-not_begun first tally image image' f f' stopped.LineTooLong count same known = absurd count
-not_begun first tally image image' f f' stopped.ScriptTooLong count same known = absurd count
-not_begun first tally image image' f f' stopped.NotADisc count same known = absurd count
-not_begun first tally image image' f f' stopped.SourceFault count same known = absurd count
-not_begun first tally image image' f f' stopped.SinkFault count same known = absurd count
-
-pub not_begun_counts : (source sink f f' : ℕ) (why : Stopped) → StartCount f f' why → StopCounts {X = Unit {0}} (counts_of source sink f) (counts_of source sink f') (Err why)
-not_begun_counts source sink f f' stopped.ImageFault count = record { source = refl; sink = refl; image = count }
-not_begun_counts source sink f f' stopped.NoMemory count = record { source = refl; sink = refl; image = count }
-not_begun_counts source sink f f' stopped.NotInLanguage count = absurd count
-not_begun_counts source sink f f' stopped.LineTooLong count = absurd count
-not_begun_counts source sink f f' stopped.ScriptTooLong count = absurd count
-not_begun_counts source sink f f' stopped.NotADisc count = absurd count
-not_begun_counts source sink f f' stopped.SourceFault count = absurd count
-not_begun_counts source sink f f' stopped.SinkFault count = absurd count
-
--- a source that never fails
+-- a count that stands still
 never_rose : Rose 0 0 → ⊥
 never_rose rose = absurd (omega (arith, rose))
 
--- how the lines ended, told by a status
-pub ends_as : (first : Beginning) (tally : Tally) (image : Option (List ℕ)) (sink sink' f f' : ℕ) (ending : Ending) → LeavesBy first tally image ending → StopCounts (counts_of 0 sink f) (counts_of 0 sink' f') ending → EndsAs first tally image (ended_by ending)
-ends_as first tally image sink sink' f f' (Ok done) e counts = e
-ends_as first tally image sink sink' f f' (Err stopped.NotInLanguage) e counts = (lasts.NotInLanguage (tally.lines + 1), tt, e)
-ends_as first tally image sink sink' f f' (Err stopped.LineTooLong) e counts = (lasts.LineTooLong (tally.lines + 1), tt, e)
-ends_as first tally image sink sink' f f' (Err stopped.ScriptTooLong) e counts = (lasts.ScriptTooLong, tt, e)
-ends_as first tally image sink sink' f f' (Err stopped.NotADisc) e counts = (tally.lines + 1, e)
-ends_as first tally image sink sink' f f' (Err stopped.SourceFault) e counts = absurd (never_rose counts.source)
-ends_as first tally image sink sink' f f' (Err stopped.SinkFault) e counts = inr (e.far, e.image_is)
-ends_as first tally image sink sink' f f' (Err stopped.ImageFault) e counts = e
-ends_as first tally image sink sink' f f' (Err stopped.NoMemory) e counts = inl e
+-- source and sink cannot fail, so the image alone can have stopped the lines
+pub end_count : (f f' : ℕ) (ending : Ending) → StopCounts (counts_of 0 0 f) (counts_of 0 0 f') ending → EndCount f f' ending
+end_count f f' (Ok done) counts = counts.image
+end_count f f' (Err stopped.NotInLanguage) counts = counts.image
+end_count f f' (Err stopped.LineTooLong) counts = counts.image
+end_count f f' (Err stopped.ScriptTooLong) counts = counts.image
+end_count f f' (Err stopped.NotADisc) counts = counts.image
+end_count f f' (Err stopped.SourceFault) counts = never_rose counts.source
+end_count f f' (Err stopped.SinkFault) counts = never_rose counts.sink
+end_count f f' (Err stopped.ImageFault) counts = counts.image
 
-pub end_count : (sink sink' f f' : ℕ) (ending : Ending) → StopCounts (counts_of 0 sink f) (counts_of 0 sink' f') ending → EndCount f f' (ended_by ending)
-end_count sink sink' f f' (Ok done) counts = counts.image
-end_count sink sink' f f' (Err stopped.NotInLanguage) counts = counts.image
-end_count sink sink' f f' (Err stopped.LineTooLong) counts = counts.image
-end_count sink sink' f f' (Err stopped.ScriptTooLong) counts = counts.image
-end_count sink sink' f f' (Err stopped.NotADisc) counts = counts.image
-end_count sink sink' f f' (Err stopped.SourceFault) counts = never_rose counts.source
-end_count sink sink' f f' (Err stopped.SinkFault) counts = counts.image
-end_count sink sink' f f' (Err stopped.ImageFault) counts = counts.image
-end_count sink sink' f f' (Err stopped.NoMemory) counts = counts.image
+-- the lines did not come to the script's end, and the status tells why
+pub stops_with : (first : Beginning) (tally : Tally) (image : Option (List ℕ)) (f f' : ℕ) (why : Stopped) → EndCount f f' (Err why) → LeavesBy first tally image (Err why) → StopsWith first image (status_of (Err why))
+stops_with first tally image f f' stopped.NotInLanguage counts e = (lasts.NotInLanguage (tally.lines + 1), tt, e)
+stops_with first tally image f f' stopped.LineTooLong counts e = (lasts.LineTooLong (tally.lines + 1), tt, e)
+stops_with first tally image f f' stopped.ScriptTooLong counts e = (lasts.ScriptTooLong, tt, e)
+stops_with first tally image f f' stopped.NotADisc counts e = (tally.lines + 1, e)
+stops_with first tally image f f' stopped.SourceFault counts e = absurd counts
+stops_with first tally image f f' stopped.SinkFault counts e = absurd counts
+stops_with first tally image f f' stopped.ImageFault counts e = e
 
 -- the whole script was answered, and the summary told
-pub summed : (seed : ℕ) (first : Beginning) (tally : Tally) (before after image : Option (List ℕ)) (status : Status) → IsAnsweredWhole first tally image → TellsOrNot before after (tally_text seed tally) status → GeneratedWith seed first before after image status
+pub summed : (seed : ℕ) (first : Beginning) (tally : Tally) (before after image : Option (List ℕ)) (status : Status) → IsAnsweredWhole first tally image → WritesText before after (tally_text seed tally) status → GeneratedWith seed first before after image status
 summed seed first tally before after image statuses.Done whole tells =
     record { far = whole.far; ended = whole.ended; image_is = whole.image_is; written_is = subst (λ (text : List ℕ). after ≡ append_known before text) (tally_is_summary seed first whole.far tally whole.tallied) tells }
 summed seed first tally before after image statuses.SinkFault whole tells = (
   tells.0,
   record { far = whole.far; ended = whole.ended; image_is = whole.image_is; written_is = subst (λ (text : List ℕ). after ≡ append_known before (take tells.0 text)) (tally_is_summary seed first whole.far tally whole.tallied) tells.1 },
 )
-summed seed first tally before after image statuses.NoMemory whole tells = (tells, inr (whole.far, whole.image_is))
+summed seed first tally before after image statuses.NoMemory whole tells = absurd tells
 summed seed first tally before after image statuses.Usage whole tells = absurd tells
 summed seed first tally before after image statuses.Script whole tells = absurd tells
 summed seed first tally before after image statuses.ImageFault whole tells = absurd tells

@@ -10,7 +10,7 @@ use Rattle.ram_run.specs.declared.state.Tally.{Tally}
 use Rattle.ram_machine.specs.declared.stopped.Stopped.TheVariants as stopped
 use Rattle.ram_run.specs.NextLines.{IsNextLine, IsNextWithin}
 use Rattle.ram_machine.specs.LineSteps.{CountsUses}
-use Rattle.ram_run.specs.Progress.{Beginning, SoFar, View, IsReported, IsTallied, IsAt, Taken, IsStoppedAt, unread}
+use Rattle.ram_run.specs.Progress.{Beginning, SoFar, View, IsDue, IsTallied, IsAt, Taken, IsStoppedAt, unread}
 
 -- what follows a line that was taken from what is left
 record Follows (left' : Option (List ℕ)) (taken taken' : ℕ) (rest raw : List ℕ) : Type 0 where
@@ -39,8 +39,8 @@ follows (Some after) taken taken' rest raw f f' gives = cases gives.ends
 
 -- What the search for the next line may find after these lines, where the view was theirs; what is due stays.
 module _ (first : Beginning) (far : SoFar first) (old new : View) (at : IsAt far old) (same_due : new.due ≡ old.due) (same_tally : new.tally ≡ old.tally) where
-  still_due : IsReported far new.due
-  still_due = same_due ∙ at.due_is
+  still_due : IsDue far new.due
+  still_due = subst (λ (o : Option (List ℕ)). IsDue far o) (sym same_due) at.due_is
 
   still_tallied : IsTallied far new.tally
   still_tallied = record { lines = ap (λ (t : Tally). t.lines) same_tally ∙ at.tallied.lines; answered = ap (λ (t : Tally). t.answered) same_tally ∙ at.tallied.answered; counts = ap (λ (t : Tally). t.counts) same_tally ∙ at.tallied.counts }

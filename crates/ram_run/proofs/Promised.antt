@@ -96,8 +96,7 @@ promised first after old new statuses.ImageFault (inl p) = not_begun first after
 promised first after old new statuses.ImageFault (inr p) = stopped_in first after (Err stopped.ImageFault) p
 promised first after old new statuses.SourceFault stands = reported first stands.far after.written stands.written_is
 promised first after old new statuses.SinkFault stands = in_part first stands.far after.written stands.written_is
-promised first after old new statuses.NoMemory (inl p) = not_begun first after.written p.written_is
-promised first after old new statuses.NoMemory (inr p) = stopped_in first after (Err stopped.NoMemory) p
+promised first after old new statuses.NoMemory p = absurd p
 promised first after old new statuses.NotADisc stands = ended first after (lasts.NotADisc stands.0) stands.1
 
 -- and so does a run of the words `run IMAGE`, also where no image was opened

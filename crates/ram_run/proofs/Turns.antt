@@ -1,7 +1,7 @@
 -- How the lines so far go on by one line, and how they end.
-use Rattle.std.specs.Prelude.{◌≡◌, ℕ, ◌+◌, ◌<◌, ◌≤◌, ◌⊎◌, Option, Some, Ok, Err, List, [], ◌∷◌, ◌++◌, length, take, drop}
+use Rattle.std.specs.Prelude.{◌≡◌, ℕ, ◌+◌, ◌<◌, ◌≤◌, ◌⊎◌, Option, None, Some, IfSome, is_some, Ok, Err, List, [], ◌∷◌, ◌++◌, length, take, drop}
 use Rattle.std.specs.Io.KnownBytes.{append_known, prepend_known}
-use Rattle.std.proofs.Common.{arith, sym, ap, ◌∙◌, inl, inr, subst, append_assoc, append-nil, length-append, take-append-drop}
+use Rattle.std.proofs.Common.{arith, refl, sym, ap, ◌∙◌, inl, inr, subst, append_assoc, append-nil, length-append, take-append-drop}
 use Rattle.ram_text.specs.Lines.{line_feed}
 use Rattle.ram_run.specs.declared.counts.AnswerCounts.{AnswerCounts}
 use Rattle.ram_text.specs.declared.script.Line.{Line}
@@ -31,8 +31,27 @@ reaches_more ends script text rest raw after (inr ended) (inl parts) = absurd (o
 reaches_more ends script text rest raw after (inr ended) (inr last) = absurd (omega (arith, ap length (sym ended.0 ∙ last.0), last.1))
 
 -- what is due after one text more
-due_more : (due due' : Option (List ℕ)) (report so_far text : List ℕ) → due ≡ Some (report ++ so_far) → due' ≡ append_known due text → due' ≡ Some (report ++ (so_far ++ text))
-due_more due due' report so_far text known grew = grew ∙ ap (λ o. append_known o text) known ∙ ap Some (append_assoc report so_far text)
+due_more : (due due' : Option (List ℕ)) (report so_far text : List ℕ) → IfSome due (λ bytes. bytes ≡ report ++ so_far) → due' ≡ append_known due text → IfSome due' (λ bytes. bytes ≡ report ++ (so_far ++ text))
+due_more None due' report so_far text known grew = subst (λ (o : Option (List ℕ)). IfSome o (λ bytes. bytes ≡ report ++ (so_far ++ text))) (sym grew) tt
+due_more (Some bytes) due' report so_far text known grew =
+    subst (λ (o : Option (List ℕ)). IfSome o (λ all. all ≡ report ++ (so_far ++ text))) (sym grew) (ap (λ (l : List ℕ). l ++ text) known ∙ append_assoc report so_far text)
+
+-- a text more leaves what is due known, or unknown
+known_still : (due : Option (List ℕ)) (text : List ℕ) → is_some (append_known due text) ≡ is_some due
+known_still None text = refl
+known_still (Some bytes) text = refl
+
+-- so does what a line is answered
+pub known_after : (old new : View) (data_in : List ℕ) (outcome : Outcome) (result : Ending) → TellRule old new data_in outcome result → is_some new.due ≡ is_some old.due
+known_after old new data_in (Ok reply) (Ok done) rule = ap (λ (o : Option (List ℕ)). is_some o) rule.grew ∙ known_still old.due (line_text (old.tally.lines + 1) reply data_in)
+known_after old new data_in (Ok reply) (Err stopped.SinkFault) rule = ap (λ (o : Option (List ℕ)). is_some o) rule.1 ∙ known_still old.due (take rule.0 (line_text (old.tally.lines + 1) reply data_in))
+known_after old new data_in (Ok reply) (Err stopped.NotInLanguage) rule = absurd rule
+known_after old new data_in (Ok reply) (Err stopped.LineTooLong) rule = absurd rule
+known_after old new data_in (Ok reply) (Err stopped.ScriptTooLong) rule = absurd rule
+known_after old new data_in (Ok reply) (Err stopped.NotADisc) rule = absurd rule
+known_after old new data_in (Ok reply) (Err stopped.SourceFault) rule = absurd rule
+known_after old new data_in (Ok reply) (Err stopped.ImageFault) rule = absurd rule
+known_after old new data_in (Err why) result rule = ap (λ (v : View). is_some v.due) rule.1
 
 -- what was due before the newest line is a part of what is due
 pub before_within : (report : List ℕ) (events : List AnsweredLine) → length (report ++ report_text (lines_before events)) ≤ length (report ++ report_text events)
@@ -100,7 +119,7 @@ module _ (first : Beginning) (far : SoFar first) (view : View) (line : Line) (pa
         length-append (report_text far.events) (take cut.0 text),
       )
 
-      grown : new.due ≡ Some written
+      grown : IfSome new.due (λ text. text ≡ written)
       grown = due_more view.due new.due first.report (report_text far.events) (take cut.0 text) t.due_is cut.1
 
       whole : written ++ drop cut.0 text ≡ first.report ++ (report_text far.events ++ line_text (length far.events + 1) reply data_in)
@@ -144,13 +163,11 @@ module _ (first : Beginning) (far : SoFar first) (view : View) (line : Line) (pa
   answered_line new f f' (Ok reply) (Err stopped.NotADisc) answered count rule = absurd rule
   answered_line new f f' (Ok reply) (Err stopped.SourceFault) answered count rule = absurd rule
   answered_line new f f' (Ok reply) (Err stopped.ImageFault) answered count rule = absurd rule
-  answered_line new f f' (Ok reply) (Err stopped.NoMemory) answered count rule = absurd rule
   answered_line new f f' (Err why) result answered count rule = subst (TurnsTo first stands new) (sym rule.0) (subst (λ v. Ends first stands v (Err why)) (sym rule.1) (by_why why count answered))
     where
       by_why : (stop : Stopped) → LineCount f f' (Err stop) → IsAnswered far.now line payload data_in stands (Err stop) → Ends first stands view (Err stop)
       by_why stopped.NotADisc counts stops = ends_without_disc stops
       by_why stopped.ImageFault counts stops = ends_in_line (Err stopped.ImageFault) stops
-      by_why stopped.NoMemory counts stops = ends_in_line (Err stopped.NoMemory) stops
       by_why stopped.NotInLanguage counts stops = absurd counts
       by_why stopped.LineTooLong counts stops = absurd counts
       by_why stopped.ScriptTooLong counts stops = absurd counts
@@ -176,4 +193,3 @@ ends_between first stands far view stopped.SinkFault now at is = record {
 }
 ends_between first stands far view stopped.NotADisc now at is = absurd is
 ends_between first stands far view stopped.ImageFault now at is = absurd is
-ends_between first stands far view stopped.NoMemory now at is = absurd is

@@ -62,8 +62,6 @@ pub record NoneRose (before after : Counts) : Type 0 where
   pub sink : ¬ Rose before.sink after.sink
   pub image : ¬ Rose before.image after.image
 
--- the whole script was answered, or there was no memory
+-- the whole script was answered
 abbrev pub IsComplete : Status → Type 0
-IsComplete statuses.Done = Unit {0}
-IsComplete statuses.NoMemory = Unit {0}
-IsComplete _ = ⊥
+IsComplete status = status ≡ statuses.Done

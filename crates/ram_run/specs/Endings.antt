@@ -1,5 +1,5 @@
 -- How a run ends: what stands with each status. For the main clause of the run, and the calls that end a report.
-use Rattle.std.specs.Prelude.{◌≡◌, ℕ, ◌+◌, ◌≤◌, ◌⊎◌, Bool, true, Option, None, Some, Ok, Err, List, [], ◌++◌, length}
+use Rattle.std.specs.Prelude.{◌≡◌, ℕ, ◌+◌, ◌≤◌, ◌⊎◌, Bool, true, Option, None, Some, IfSome, Ok, Err, List, [], ◌++◌, length}
 use Rattle.std.specs.Io.KnownBytes.{append_known, prepend_known}
 use Rattle.model_counts.specs.Counts.{Rose}
 use Rattle.ram_text.specs.Lines.{HasNoFeed}
@@ -35,7 +35,6 @@ status_of (Err stopped.NotADisc) = statuses.NotADisc
 status_of (Err stopped.SourceFault) = statuses.SourceFault
 status_of (Err stopped.SinkFault) = statuses.SinkFault
 status_of (Err stopped.ImageFault) = statuses.ImageFault
-status_of (Err stopped.NoMemory) = statuses.NoMemory
 
 -- What is known afterwards: what the source has left, what is written, and the image's bytes.
 pub record Aftermath : Type 0 where
@@ -103,14 +102,12 @@ pub record IsWrittenInPart {first : Beginning} (far : SoFar first) (written : Op
       ⊎ ((last : LastLine) × IsLast far last × (bytes ++ more ≡ whole_text far last))
   pub nearly : due_before far ≤ length bytes + GATHERED_ROOM
 
--- What else failed before the sink did: nothing; the source; or the image, in the next line. Where memory ran out in the
--- next line, nothing else failed.
+-- What else failed before the sink did: nothing; the source; or the image, in the next line.
 abbrev pub StoodBehind : {first : Beginning} → SoFar first → Aftermath → (old new : Counts) → Type 0
 StoodBehind far after old new =
     (OnlySinkRose old new × LeavesImage far.now after.image)
     ⊎ (SourceAndSinkRose old new × IsCutBySource far after)
     ⊎ (ImageAndSinkRose old new × ComesToThis far after.image (Err stopped.ImageFault))
-    ⊎ (OnlySinkRose old new × ComesToThis far after.image (Err stopped.NoMemory))
 
 -- the sink failed
 pub record IsReportCutOff (first : Beginning) (after : Aftermath) (old new : Counts) : Type 0 where
@@ -135,8 +132,7 @@ StandsWith first after old new statuses.ImageFault =
     IsNotBegun first after ⊎ IsStoppedInLine first after (Err stopped.ImageFault)
 StandsWith first after old new statuses.SourceFault = IsBroken first after
 StandsWith first after old new statuses.SinkFault = IsReportCutOff first after old new
-StandsWith first after old new statuses.NoMemory =
-    IsNotBegun first after ⊎ IsStoppedInLine first after (Err stopped.NoMemory)
+StandsWith first after old new statuses.NoMemory = ⊥
 StandsWith first after old new statuses.NotADisc = (line : ℕ) × IsEnded first after (lasts.NotADisc line)
 
 -- the sink failed, and of source and image at most the one that had stopped the lines before
@@ -167,8 +163,6 @@ LastLineRule due due' faults faults' tally (Err stopped.SinkFault) result =
 LastLineRule due due' faults faults' tally (Err stopped.SourceFault) result =
     (result ≡ prints.Done) × (due' ≡ due) × (faults' ≡ faults)
 LastLineRule due due' faults faults' tally (Err stopped.ImageFault) result =
-    (result ≡ prints.Done) × (due' ≡ due) × (faults' ≡ faults)
-LastLineRule due due' faults faults' tally (Err stopped.NoMemory) result =
     (result ≡ prints.Done) × (due' ≡ due) × (faults' ≡ faults)
 LastLineRule due due' faults faults' tally ending result = PrintRule due due' faults faults' (last_of tally ending) result
 
@@ -213,6 +207,12 @@ pub record Begins (first : Beginning) (left written image : Option (List ℕ)) :
   pub written_is : written ≡ Some first.report
   pub image_is : image ≡ Some first.image
 
+-- the same, where what is written may be unknown
+pub record BeginsWhereKnown (first : Beginning) (left written image : Option (List ℕ)) : Type 0 where
+  pub left_is : left ≡ Some first.script
+  pub written_is : IfSome written (λ text. text ≡ first.report)
+  pub image_is : image ≡ Some first.image
+
 -- What is known of source, sink and opener is what the run begins with: the script that is left, what was written before,
 -- and the image that is opened next. The opener tells what is handed back.
 pub record IsBeginning {I : Type 0} (bytes_of : I → Option (List ℕ)) (first : Beginning) (before : Surroundings I)
@@ -231,13 +231,12 @@ bytes_returned bytes_of (Some image) = bytes_of image
 abbrev pub aftermath_of : {I : Type 0} → (I → Option (List ℕ)) → Surroundings I → Aftermath
 aftermath_of bytes_of after = aftermath after.left after.written (bytes_returned bytes_of after.opener.returned)
 
--- the status of a run that opened no image: the opener failed, or there was no memory
+-- the status of a run that opened no image: the opener failed
 abbrev pub IsUnopened : Status → Type 0
-IsUnopened statuses.ImageFault = Unit {0}
-IsUnopened statuses.NoMemory = Unit {0}
-IsUnopened _ = ⊥
+IsUnopened status = status ≡ statuses.ImageFault
 
--- the status is not that of usage
-abbrev pub IsNoUsage : Status → Type 0
-IsNoUsage statuses.Usage = ⊥
-IsNoUsage _ = Unit {0}
+-- the status is that of a run whose words had a form and whose rooms were taken
+abbrev pub IsOfRun : Status → Type 0
+IsOfRun statuses.Usage = ⊥
+IsOfRun statuses.NoMemory = ⊥
+IsOfRun _ = Unit {0}

@@ -1,5 +1,5 @@
 -- What stands with each status where a script was drawn from a number. For the program's form that runs such a script.
-use Rattle.std.specs.Prelude.{◌≡◌, ℕ, ◌⊎◌, Bool, true, Option, Some, Result, Ok, Err, List, [], take}
+use Rattle.std.specs.Prelude.{◌≡◌, ℕ, ◌⊎◌, Bool, true, Option, Some, Ok, Err, List, [], take}
 use Rattle.std.specs.Io.KnownBytes.{append_known}
 use Rattle.model_counts.specs.Counts.{Rose}
 use Rattle.model_geometry.specs.declared.kinds.LayoutKind.TheVariants.{OneGroup}
@@ -17,9 +17,9 @@ use Rattle.ram_machine.specs.Replies.{Outcome}
 use Rattle.ram_machine.specs.Inserted.{LeavesImage}
 use Rattle.ram_run.specs.RunCounts.{counts_of}
 use Rattle.ram_run.specs.Progress.{Beginning, SoFar, IsTallied, IsLastIfAny, Ending, last_line}
-use Rattle.ram_run.specs.Endings.{ComesToThis, IsOfScript, IsUnopened, bytes_returned, status_of}
+use Rattle.ram_run.specs.Endings.{ComesToThis, IsOfScript, IsUnopened, bytes_returned}
 use Rattle.ram_run.specs.Summary.{summary_text}
-use Rattle.ram_run.specs.Words.{Surroundings, IsNotOpened, AsksOnce, WritesText, TextCount}
+use Rattle.ram_run.specs.Words.{Surroundings, IsNotOpened, AsksOnce}
 
 -- What a run of the script of this number begins with: one group of spares, no report, and the image that is opened next. The
 -- opener tells what is handed back. (This project's own, as all here.)
@@ -59,35 +59,20 @@ IsLeftBy first image outcome = (image ≡ Some first.image) ⊎ IsLeftInLine fir
 abbrev pub LeavesBy : Beginning → Tally → Option (List ℕ) → Ending → Type 0
 LeavesBy first tally image (Ok done) = IsAnsweredWhole first tally image
 LeavesBy first tally image (Err stopped.ImageFault) = IsLeftBy first image (Err stopped.ImageFault)
-LeavesBy first tally image (Err stopped.NoMemory) = IsLeftBy first image (Err stopped.NoMemory)
 LeavesBy first tally image ending = IsLeftBetween first image (last_line tally ending)
 
--- Where the summary does not come: what the image is like, by the status. Memory may run out at any time.
+-- Where the summary does not come: what the image is like, by the status.
 abbrev pub StopsWith : Beginning → Option (List ℕ) → Status → Type 0
 StopsWith first image statuses.Script = (last : LastLine) × IsOfScript last × IsLeftBetween first image (Some last)
 StopsWith first image statuses.NotADisc = (line : ℕ) × IsLeftBetween first image (Some (lasts.NotADisc line))
 StopsWith first image statuses.ImageFault = IsLeftBy first image (Err stopped.ImageFault)
-StopsWith first image statuses.NoMemory =
-    IsLeftBy first image (Err stopped.NoMemory) ⊎ ((far : SoFar first) × LeavesImage far.now image)
 StopsWith first image _ = ⊥
 
--- how the lines ended: whole, or told by a status
-abbrev pub EndsAs : Beginning → Tally → Option (List ℕ) → Result (Unit {0}) Status → Type 0
-EndsAs first tally image (Ok done) = IsAnsweredWhole first tally image
-EndsAs first tally image (Err status) = StopsWith first image status
-
--- The status that the lines' end is told by: where the report that is kept aside has no room, that of no memory.
-abbrev pub ended_by : Ending → Result (Unit {0}) Status
-ended_by (Ok done) = Ok tt
-ended_by (Err stopped.SinkFault) = Err statuses.NoMemory
-ended_by ending = Err (status_of ending)
-
--- the image's count by how the lines ended: it rose exactly where the status tells so
-abbrev pub EndCount : ℕ → ℕ → Result (Unit {0}) Status → Type 0
-EndCount faults faults' (Err statuses.ImageFault) = Rose faults faults'
-EndCount faults faults' (Err statuses.SinkFault) = ⊥
-EndCount faults faults' (Err statuses.SourceFault) = ⊥
-EndCount faults faults' (Err statuses.Usage) = ⊥
+-- the image's count by how the lines ended, where neither source nor sink can fail: it rose exactly where the image stopped them
+abbrev pub EndCount : ℕ → ℕ → Ending → Type 0
+EndCount faults faults' (Err stopped.ImageFault) = Rose faults faults'
+EndCount faults faults' (Err stopped.SinkFault) = ⊥
+EndCount faults faults' (Err stopped.SourceFault) = ⊥
 EndCount faults faults' _ = faults' ≡ faults
 
 -- The whole script was answered, and the image is as it leaves it; this beginning of the summary, or all of it, was written.
@@ -118,16 +103,6 @@ pub record AsksUnread {I : Type 0} (old new : Surroundings I) (name : List ℕ) 
   pub asks : AsksOnce old new name status
   pub left : new.left ≡ old.left
   pub count : new.counts.source ≡ old.counts.source
-
--- a text is written, by the status; with that of no memory nothing is
-abbrev pub TellsOrNot : Option (List ℕ) → Option (List ℕ) → List ℕ → Status → Type 0
-TellsOrNot written written' text statuses.NoMemory = written' ≡ written
-TellsOrNot written written' text status = WritesText written written' text status
-
--- the sink's count then
-abbrev pub TellsOrNotCount : ℕ → ℕ → Status → Type 0
-TellsOrNotCount faults faults' statuses.NoMemory = faults' ≡ faults
-TellsOrNotCount faults faults' status = TextCount faults faults' status
 
 module _ {K O I : Type 0} (left : Option (List ℕ)) (source : ℕ) (sinks : Sinks K) (openers : Openers O I) where
   -- the surroundings of sink and opener, beside a source that has this left and has failed so often

@@ -7,6 +7,7 @@ pub mod RunCounts
 pub mod Summary
 pub mod Words
 pub mod RunState
+pub mod Rooms
 pub mod Progress
 pub mod Endings
 pub mod Generating

@@ -1,6 +1,6 @@
 -- How far a run came: what stands between two lines, in a line, and where the lines end. For the loop over the lines and
 -- the calls below it.
-use Rattle.std.specs.Prelude.{◌≡◌, ℕ, ◌+◌, ◌<◌, ◌≤◌, Option, None, Some, Result, Ok, Err, List, [], ◌∷◌, ◌++◌, length, take}
+use Rattle.std.specs.Prelude.{◌≡◌, ℕ, ◌+◌, ◌<◌, ◌≤◌, Option, None, Some, IfSome, Result, Ok, Err, List, [], ◌∷◌, ◌++◌, length, take}
 use Rattle.std.specs.Io.KnownBytes.{append_known, prepend_known}
 use Rattle.model_geometry.specs.declared.kinds.LayoutKind.{LayoutKind}
 use Rattle.ram_text.specs.Lines.{HasNoFeed}
@@ -50,6 +50,10 @@ pub record SoFar (first : Beginning) : Type 0 where
 abbrev pub IsReported : {first : Beginning} → SoFar first → Option (List ℕ) → Type 0
 IsReported {first} far due = due ≡ Some (first.report ++ report_text far.events)
 
+-- where the bytes that are due are known, they are the answers so far and no more
+abbrev pub IsDue : {first : Beginning} → SoFar first → Option (List ℕ) → Type 0
+IsDue {first} far due = IfSome due (λ text. text ≡ first.report ++ report_text far.events)
+
 -- so many lines were read, of which so many were answered, and the commands among them so
 pub record IsTallied {first : Beginning} (far : SoFar first) (tally : Tally) : Type 0 where
   pub lines : tally.lines ≡ length far.events
@@ -85,7 +89,7 @@ pub record IsAt {first : Beginning} (far : SoFar first) (view : View) : Type 0 w
   pub left_is : unread view ≡ Some far.rest
   pub taken_is : view.taken + length far.rest ≡ length first.script
   pub tallied : IsTallied far view.tally
-  pub due_is : IsReported far view.due
+  pub due_is : IsDue far view.due
 
 -- Between two lines: the inserted disc stands for the state that the lines lead to, and the view is theirs. (From here on,
 -- stands tells which states those are.)
@@ -102,7 +106,7 @@ pub record Taken {first : Beginning} (far : SoFar first) (view : View) (line : L
   pub left_is : unread view ≡ Some comes.next.after
   pub taken_is : view.taken + length comes.next.after ≡ length first.script
   pub tallied : IsTallied far view.tally
-  pub due_is : IsReported far view.due
+  pub due_is : IsDue far view.due
 
 -- why the last line of a report says what it says
 abbrev pub IsLast : {first : Beginning} → SoFar first → LastLine → Type 0
@@ -130,7 +134,6 @@ last_line tally (Err stopped.NotADisc) = Some (lasts.NotADisc (tally.lines + 1))
 last_line tally (Err stopped.SourceFault) = None
 last_line tally (Err stopped.SinkFault) = None
 last_line tally (Err stopped.ImageFault) = None
-last_line tally (Err stopped.NoMemory) = None
 
 -- the last line, if there is one, tells why the lines stop here
 abbrev pub IsLastIfAny : {first : Beginning} → SoFar first → Option LastLine → Type 0
@@ -144,7 +147,7 @@ IsUnended far view _ = Unit {0}
 
 -- The answers so far are due and counted, and where the lines stop between two of them the last line says why.
 pub record IsStoppedAt {first : Beginning} (far : SoFar first) (view : View) (ending : Ending) : Type 0 where
-  pub due_is : IsReported far view.due
+  pub due_is : IsDue far view.due
   pub last_is : IsLastIfAny far (last_line view.tally ending)
   pub unended : IsUnended far view ending
   pub tallied : IsTallied far view.tally
@@ -153,7 +156,6 @@ pub record IsStoppedAt {first : Beginning} (far : SoFar first) (view : View) (en
 abbrev pub IsStop : Stopped → Type 0
 IsStop stopped.NotADisc = ⊥
 IsStop stopped.ImageFault = ⊥
-IsStop stopped.NoMemory = ⊥
 IsStop _ = Unit {0}
 
 -- What the search for the next line makes of the lines so far.
@@ -181,11 +183,11 @@ lines_before (event ∷ events) = events
 abbrev pub due_before : {first : Beginning} → SoFar first → ℕ
 due_before {first} far = length (first.report ++ report_text (lines_before far.events))
 
--- the beginning of the text of the answers is due, with all that was due before the newest line
-pub record IsReportedInPart {first : Beginning} (far : SoFar first) (due : Option (List ℕ)) : Type 0 where
+-- where it is known, the beginning of the text of the answers is due, with all that was due before the newest line
+pub record IsDueInPart {first : Beginning} (far : SoFar first) (due : Option (List ℕ)) : Type 0 where
   pub written : List ℕ
   pub more : List ℕ
-  pub due_is : due ≡ Some written
+  pub due_is : IfSome due (λ text. text ≡ written)
   pub prefix : written ++ more ≡ first.report ++ report_text far.events
   pub before : due_before far ≤ length written
 
@@ -209,19 +211,18 @@ pub record EndsBetween (first : Beginning) (stands : State → Type 0) (view : V
 pub record EndsCutOff (first : Beginning) (stands : State → Type 0) (view : View) : Type 0 where
   pub far : SoFar first
   pub stands_now : stands far.now
-  pub part : IsReportedInPart far view.due
+  pub part : IsDueInPart far view.due
 
 -- the next line was not done whole, and is not told
 pub record EndsInLine (first : Beginning) (stands : State → Type 0) (view : View) (outcome : Outcome) : Type 0 where
   pub far : SoFar first
-  pub due_is : IsReported far view.due
+  pub due_is : IsDue far view.due
   pub line : ComesOut far stands outcome
 
 -- Why the lines end there, and what the inserted disc then stands for and is due.
 abbrev pub Ends : Beginning → (State → Type 0) → View → Ending → Type 0
 Ends first stands view (Err stopped.SinkFault) = EndsCutOff first stands view
 Ends first stands view (Err stopped.ImageFault) = EndsInLine first stands view (Err stopped.ImageFault)
-Ends first stands view (Err stopped.NoMemory) = EndsInLine first stands view (Err stopped.NoMemory)
 Ends first stands view ending = EndsBetween first stands view ending
 
 -- What one line makes of what stands between two lines.

@@ -12,8 +12,8 @@ use Rattle.ram_outside.specs.declared.sink.Sink.{Ghosts as Sinks}
 use Rattle.ram_outside.specs.declared.source.Source.{Ghosts as Sources}
 use Rattle.ram_text.specs.ScriptWords.{decimal_value}
 use Rattle.ram_run.specs.RunCounts.{Counts, counts_of}
-use Rattle.ram_run.specs.declared.run.Form.{Form}
-use Rattle.ram_run.specs.declared.run.Form.TheVariants as forms
+use Rattle.ram_run.specs.declared.form.Form.{Form}
+use Rattle.ram_run.specs.declared.form.Form.TheVariants as forms
 use Rattle.ram_machine.specs.declared.status.Status.{Status}
 use Rattle.ram_machine.specs.declared.status.Status.TheVariants as statuses
 
@@ -63,6 +63,11 @@ IsWordForm words =
 abbrev pub UsageRule : List (List ℕ) → Status → Type 0
 UsageRule words statuses.Usage = ¬ IsWordForm words
 UsageRule words _ = IsWordForm words
+
+-- no run ends for want of memory
+abbrev pub MemoryRule : Status → Type 0
+MemoryRule statuses.NoMemory = ⊥
+MemoryRule _ = Unit {0}
 
 -- this text is written, by the status: all of it, or the beginning of it where the sink failed
 abbrev pub WritesText : Option (List ℕ) → Option (List ℕ) → List ℕ → Status → Type 0
@@ -129,10 +134,9 @@ module _ {I : Type 0} (old new : Surroundings I) where
     pub unasked : new.opener.asked ≡ old.opener.asked
     pub unopened : IsNotOpened
 
-  -- The opener was asked for this name, once; or it failed, or there was no memory, before it was.
+  -- The opener was asked for this name, once; or it failed before it was.
   abbrev pub AsksOnce : List ℕ → Status → Type 0
   AsksOnce name statuses.ImageFault = IsAskedFor name ⊎ IsNotAsked
-  AsksOnce name statuses.NoMemory = IsAskedFor name ⊎ IsNotAsked
   AsksOnce name _ = IsAskedFor name
 
 -- the form of the words, where they have one

@@ -1,7 +1,7 @@
 //! The end of a report, and the status that tells how the run ended.
 ghost use Rattle.std.specs.Prelude.{◌≡◌, ◌-◌, ◌<◌, ◌^◌};
 ghost use Rattle.ram_text.specs.Dialogue.{HasSameEnds, AsksNothing, due_in, sink_of};
-ghost use Rattle.ram_run.specs.Endings.{status_of, sink_view, IsNoUsage, LastLineRule, FinishRule};
+ghost use Rattle.ram_run.specs.Endings.{status_of, sink_view, IsOfRun, LastLineRule, FinishRule};
 
 use crate::state::Tally;
 use ram_machine::Stopped;
@@ -13,7 +13,7 @@ use ram_text::Dialogue;
 /// The status that an ending is told by.
 pub fn status_of(ending: Result<(), Stopped>) -> Status
     ensures status { result ≡ status_of ending }
-    ensures other { IsNoUsage result }
+    ensures other { IsOfRun result }
 {
     match ending {
         Ok(()) => Status::Done,
@@ -24,7 +24,6 @@ pub fn status_of(ending: Result<(), Stopped>) -> Status
         Err(Stopped::SourceFault) => Status::SourceFault,
         Err(Stopped::SinkFault) => Status::SinkFault,
         Err(Stopped::ImageFault) => Status::ImageFault,
-        Err(Stopped::NoMemory) => Status::NoMemory,
     }
 }
 
@@ -35,7 +34,7 @@ pub fn finish<S: Source, K: Sink>(
     ending: Result<(), Stopped>,
 ) -> Status
     requires { tally.lines < 2 ^ 64 - 1 }
-    ensures other { IsNoUsage result }
+    ensures other { IsOfRun result }
     ensures ends { HasSameEnds dialogue.old dialogue.new }
     ensures nothing { AsksNothing dialogue.old dialogue.new }
     ensures rule { FinishRule (due_in S.Source K.Sink dialogue.old)
@@ -74,7 +73,7 @@ fn print_ending<S: Source, K: Sink>(
         Err(Stopped::ScriptTooLong) => LastLine::ScriptTooLong,
         Err(Stopped::NotADisc) => LastLine::NotADisc { line },
         Err(Stopped::SinkFault) => return Print::Failed,
-        Err(Stopped::SourceFault | Stopped::ImageFault | Stopped::NoMemory) => return Print::Done,
+        Err(Stopped::SourceFault | Stopped::ImageFault) => return Print::Done,
     };
     dialogue.print_last(&last)
 }

@@ -1,42 +1,42 @@
 //! The run of a script that is drawn from a number, and its summary in place of the report.
-ghost use Rattle.std.specs.Prelude.{◌≡◌, ℕ, Option, Some, List, []};
+ghost use Rattle.std.specs.Prelude.{◌≡◌, ◌≤◌, ℕ, Option, Some, List, [], vec_capacity};
 ghost use Rattle.model_geometry.specs.declared.kinds.LayoutKind.TheVariants.{OneGroup};
-ghost use Rattle.ram_generate.specs.Script.{script_from};
-ghost use Rattle.ram_text.specs.DialogueRoom.{IsEmptyRoom};
-ghost use Rattle.ram_run.specs.RunState.{IsFresh, HasRoom};
+ghost use Rattle.ram_run.specs.declared.summary.TheConstants.{SUMMARY_ROOM};
+ghost use Rattle.ram_run.specs.Rooms.{AreReady, AreReadyFor};
 ghost use Rattle.ram_run.specs.Progress.{Beginning};
-ghost use Rattle.ram_run.specs.Words.{AsksOnce};
-ghost use Rattle.ram_run.specs.Endings.{IsNoUsage, StatusCounts};
+ghost use Rattle.ram_run.specs.Words.{AsksOnce, TextCount, WritesText};
+ghost use Rattle.ram_run.specs.Endings.{IsOfRun, StatusCounts};
 ghost use Rattle.ram_run.specs.Summary.{tally_text};
-ghost use Rattle.ram_run.specs.Generating.{BeginsFrom, EndsAs, EndCount, Generates, TellsOrNot, TellsOrNotCount, beside, ended_by};
+ghost use Rattle.ram_run.specs.Generating.{BeginsFrom, EndCount, Generates, LeavesBy, beside};
 
+use crate::dropped::DroppedReport;
 use crate::ending::status_of;
 use crate::kept::KeptScript;
+use crate::rooms::{GenerateRooms, ScriptRooms};
 use crate::serve::answer_lines;
-use crate::state::{RunState, Tally};
-use crate::summary::summary;
+use crate::state::Tally;
+use crate::summary::put_summary;
 use crate::telling::write_text;
 use ram_cache::Cached;
-use ram_generate::generated;
+use ram_generate::draw_script;
 use ram_image::ImageMedium;
 use ram_machine::Stopped;
 use ram_machine::status::Status;
-use ram_outside::{Image, MemSink, Opened, Opener, Sink};
-use ram_text::{Dialogue, DialogueRoom};
+use ram_outside::{Image, Opened, Opener, Sink};
+use ram_text::Dialogue;
 use ram_volume::Volume;
-use ram_zones::LayoutKind;
-use std::alloc::Global;
 
 /// Runs the script of the number `seed` over the image of this name, and writes a summary of the answers. The image is
 /// closed on every way out.
 pub fn generate_image<K: Sink, O: Opener>(
-    alloc: Global,
+    rooms: GenerateRooms,
     name: &str,
     seed: u64,
     report: &mut K,
     opener: &mut O,
 ) -> Status
-    ensures other { IsNoUsage result }
+    requires ready { AreReadyFor rooms }
+    ensures other { IsOfRun result }
     ensures causes { (left : Option (List ℕ)) (source : ℕ) → StatusCounts
         (beside left source K.Sink O.Opener report.old opener.old).counts
         (beside left source K.Sink O.Opener report.new opener.new).counts result }
@@ -50,77 +50,62 @@ pub fn generate_image<K: Sink, O: Opener>(
         (beside left source K.Sink O.Opener report.old opener.old)
         (beside left source K.Sink O.Opener report.new opener.new) result }
 {
-    let Ok(script) = generated(alloc, seed) else {
-        return Status::NoMemory;
-    };
-    let Ok(state) = RunState::new(alloc) else {
-        return Status::NoMemory;
-    };
-    let Ok(room) = DialogueRoom::new(alloc) else {
-        return Status::NoMemory;
-    };
-    let (mut state, mut room) = (state, room);
+    let GenerateRooms {
+        lines,
+        mut script,
+        mut summary,
+    } = rooms;
+    draw_script(&mut script, seed);
     match opener.open(name) {
         Opened::Failed => Status::ImageFault,
         Opened::Image(image) => {
-            let (image, ended) = answer_script(alloc, image, script, &mut state, &mut room);
+            let (image, tally, ending) = answer_script(lines, script, image);
             opener.close(image);
-            match ended {
-                Ok(()) => tell_summary(alloc, seed, &state.tally, report),
-                Err(status) => status,
+            match ending {
+                Ok(()) => tell_summary(&mut summary, seed, &tally, report),
+                Err(_) => status_of(ending),
             }
         }
     }
 }
 
-/// Answers the script over an image, and hands the image back. Its report is kept aside, and dropped; where there is no
-/// memory for it, the run ends.
+/// Answers the script over an image, and hands the image back, with the tally of the lines and why they ended. Nobody reads their
+/// report.
 fn answer_script<I: Image>(
-    alloc: Global,
-    image: I,
+    rooms: ScriptRooms,
     script: Vec<u8>,
-    state: &mut RunState,
-    room: &mut DialogueRoom,
-) -> (I, Result<(), Status>)
-    requires fresh { IsFresh state.old }
-    requires empty { IsEmptyRoom room.old }
-    requires room { HasRoom state.old }
-    ensures ends { (first : Beginning) → first.kind ≡ OneGroup → first.script ≡ script.items → first.report ≡ []
+    image: I,
+) -> (I, Tally, Result<(), Stopped>)
+    requires ready { AreReady OneGroup rooms }
+    ensures ends { (first : Beginning) → first.kind ≡ OneGroup → first.script ≡ script.items
         → I.bytes image ≡ Some first.image
-        → EndsAs first state.new.tally (I.bytes result.0) result.1 }
-    ensures count { EndCount (I.faults image) (I.faults result.0) result.1 }
+        → LeavesBy first result.1 (I.bytes result.0) result.2 }
+    ensures count { EndCount (I.faults image) (I.faults result.0) result.2 }
 {
+    let ScriptRooms {
+        mut state,
+        dialogue: mut room,
+        target,
+    } = rooms;
     let mut script = KeptScript::new(script);
-    let mut aside = MemSink::new(alloc, usize::MAX, Vec::new(alloc));
-    let mut dialogue = Dialogue::new(&mut script, &mut aside, room);
-    let (image, ending) = answer_lines::<Cached<Volume<ImageMedium<I>>>, KeptScript, MemSink>(
-        alloc,
-        LayoutKind::OneGroup,
+    let mut report = DroppedReport;
+    let mut dialogue = Dialogue::new(&mut script, &mut report, &mut room);
+    let (image, ending) = answer_lines::<Cached<Volume<ImageMedium<I>>>, KeptScript, DroppedReport>(
+        target,
         image,
-        state,
+        &mut state,
         &mut dialogue,
     );
-    (image, ended_by(ending))
-}
-
-/// The status that the lines' end is told by. Where the report that is kept aside has no room, that is no memory.
-fn ended_by(ending: Result<(), Stopped>) -> Result<(), Status>
-    ensures { result ≡ ended_by ending }
-{
-    match ending {
-        Ok(()) => Ok(()),
-        Err(Stopped::SinkFault) => Err(Status::NoMemory),
-        Err(_) => Err(status_of(ending)),
-    }
+    (image, state.tally, ending)
 }
 
 /// Writes the summary of the lines that were counted.
-fn tell_summary<K: Sink>(alloc: Global, seed: u64, tally: &Tally, report: &mut K) -> Status
-    ensures writes { TellsOrNot (K.written report.old) (K.written report.new) (tally_text seed tally.now) result }
-    ensures count { TellsOrNotCount (K.faults report.old) (K.faults report.new) result }
+fn tell_summary<K: Sink>(room: &mut Vec<u8>, seed: u64, tally: &Tally, report: &mut K) -> Status
+    requires room { SUMMARY_ROOM ≤ vec_capacity room.old }
+    ensures other { IsOfRun result }
+    ensures writes { WritesText (K.written report.old) (K.written report.new) (tally_text seed tally.now) result }
+    ensures count { TextCount (K.faults report.old) (K.faults report.new) result }
 {
-    match summary(alloc, seed, tally) {
-        Ok(text) => write_text(report, &text),
-        Err(_) => Status::NoMemory,
-    }
+    put_summary(room, seed, tally);
+    write_text(report, room)
 }

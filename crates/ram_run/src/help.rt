@@ -9,7 +9,8 @@ pub const HELP: &[u8] = b"ram_drive: a DVD-RAM drive that hides dead blocks, ove
 
   ram_drive run IMAGE    answer the script on standard input over this image and
                          print the report; the file is made where there is none
-  ram_drive groups IMAGE the same over discs that have spares in each zone, in
+  ram_drive groups IMAGE
+                         the same over discs that have spares in each zone, in
                          place of one group of spares for all zones
   ram_drive generate IMAGE N
                          try a disc with a load: answer the two thousand steps

@@ -1,52 +1,41 @@
-//! The words of the program, and what is done for each form.
+//! What the program does for each form of its words.
 ghost use Rattle.std.specs.Prelude.{◌≡◌, ◌⊎◌, ℕ, List, map};
 ghost use Rattle.ram_run.specs.declared.help.TheConstants.{HELP, VERSION};
 ghost use Rattle.model_geometry.specs.declared.kinds.LayoutKind.{LayoutKind};
 ghost use Rattle.ram_run.specs.Progress.{Beginning};
 ghost use Rattle.ram_run.specs.Completes.{IsInLanguage, BeginsWithDisc, NoneRose, IsComplete};
-ghost use Rattle.ram_run.specs.Words.{IsServedOf, IsServedImage, IsGenerateOf, IsHelp, IsVersion, UsageRule, FormRule, IsNotOpened, UntouchedByUsage, TellsText, AsksOnce, around};
-ghost use Rattle.ram_run.specs.Endings.{IsBeginning, IsUnopened, IsNoUsage, StandsWith, StatusCounts, aftermath_of};
+ghost use Rattle.ram_run.specs.Words.{IsServedOf, IsServedImage, IsGenerateOf, IsHelp, IsVersion, UsageRule, MemoryRule, IsNotOpened, UntouchedByUsage, TellsText, AsksOnce, around};
+ghost use Rattle.ram_run.specs.Endings.{IsBeginning, IsUnopened, IsOfRun, StandsWith, StatusCounts, aftermath_of};
 ghost use Rattle.ram_run.specs.Promise.{KeepsBytes};
 ghost use Rattle.ram_run.specs.Generating.{BeginsFrom, Generates, AsksUnread};
+ghost use Rattle.ram_run.specs.Rooms.{AreReady, AreRoomsFor};
 
+use crate::form::{Form, form_of};
 use crate::generate::generate_image;
 use crate::help::{HELP, VERSION};
-use crate::seed::seed_of;
+use crate::rooms::{Rooms, ScriptRooms, of_number, of_script};
 use crate::serve::serve;
-use crate::state::RunState;
 use crate::telling::write_text;
 use ram_cache::Cached;
 use ram_image::ImageMedium;
 use ram_machine::status::Status;
 use ram_outside::{Opened, Opener, Sink, Source};
-use ram_text::{Dialogue, DialogueRoom};
+use ram_text::Dialogue;
 use ram_volume::Volume;
-use ram_zones::LayoutKind;
-use std::alloc::Global;
-
-/// The forms of the program's words.
-#[derive(Clone, Copy, Debug, PartialEq, Eq)]
-enum Form<'a> {
-    /// Run a script over the image of this name, whose discs have a layout of this kind.
-    Run(LayoutKind, &'a str),
-    /// Run the script of a number over the image of this name.
-    Generate(&'a str, u64),
-    /// Tell what the program does.
-    Help,
-    /// Tell the program's version.
-    Version,
-}
 
 /// Runs the words of the program: `run IMAGE` answers the script over the image of that name, and reports every answer; `groups IMAGE`
 /// does the same for discs with a group of spares in each zone; `generate IMAGE N` answers the script that is drawn from the number N,
-/// and tells how often each answer came; `--help` and `--version` tell of the program.
+/// and tells how often each answer came; `--help` and `--version` tell of the program. The rooms are those that the words ask for; no
+/// more memory is taken.
 pub fn run<S: Source, K: Sink, O: Opener>(
-    alloc: Global,
+    rooms: Rooms,
     words: &[&str],
     script: &mut S,
     report: &mut K,
     opener: &mut O,
 ) -> Status
+    requires rooms { AreRoomsFor (map (λ word. word.now) words.now) rooms }
+    ensures memory { MemoryRule result }
     ensures usage { UsageRule (map (λ word. word.now) words.now) result }
     ensures untouched { UntouchedByUsage
         (around S.Source K.Sink O.Opener script.old report.old opener.old)
@@ -100,48 +89,46 @@ pub fn run<S: Source, K: Sink, O: Opener>(
         → IsComplete result }
 {
     match form_of(words) {
-        Some(Form::Run(kind, name)) => run_image(alloc, kind, name, script, report, opener),
-        Some(Form::Generate(name, seed)) => generate_image(alloc, name, seed, report, opener),
-        Some(Form::Help) => write_text(report, HELP),
-        Some(Form::Version) => write_text(report, VERSION),
-        None => Status::Usage,
+        Some(Form::Run(kind, name)) => {
+            let rooms = of_script(rooms, kind);
+            run_image(rooms, name, script, report, opener)
+        }
+        Some(Form::Generate(name, seed)) => {
+            generate_image(of_number(rooms), name, seed, report, opener)
+        }
+        Some(Form::Help) => {
+            drop(rooms);
+            write_text(report, HELP)
+        }
+        Some(Form::Version) => {
+            drop(rooms);
+            write_text(report, VERSION)
+        }
+        None => {
+            drop(rooms);
+            Status::Usage
+        }
     }
 }
 
-/// The form of the words, if they have one.
-fn form_of<'a>(words: &[&'a str]) -> Option<Form<'a>>
-    ensures { FormRule (map (λ word. word.now) words.now) result }
-{
-    match words {
-        [verb, name] if *verb == "run" => Some(Form::Run(LayoutKind::OneGroup, *name)),
-        [verb, name] if *verb == "groups" => Some(Form::Run(LayoutKind::EachZone, *name)),
-        [verb, name, number] if *verb == "generate" => match seed_of(number.as_bytes()) {
-            Some(seed) => Some(Form::Generate(*name, seed)),
-            None => None,
-        },
-        [word] if *word == "--help" => Some(Form::Help),
-        [word] if *word == "--version" => Some(Form::Version),
-        _ => None,
-    }
-}
-
-/// Answers the script over the image of this name, whose discs have a layout of this kind. The image is closed on every way out.
+/// Answers the script over the image of this name, whose discs have a layout of the kind that the rooms are for. The image is closed
+/// on every way out.
 fn run_image<S: Source, K: Sink, O: Opener>(
-    alloc: Global,
-    kind: LayoutKind,
+    rooms: ScriptRooms,
     name: &str,
     script: &mut S,
     report: &mut K,
     opener: &mut O,
 ) -> Status
-    ensures other { IsNoUsage result }
+    requires ready { AreReady rooms.target.drive.kind rooms }
+    ensures other { IsOfRun result }
     ensures causes { StatusCounts
         (around S.Source K.Sink O.Opener script.old report.old opener.old).counts
         (around S.Source K.Sink O.Opener script.new report.new opener.new).counts result }
     ensures asks { AsksOnce
         (around S.Source K.Sink O.Opener script.old report.old opener.old)
         (around S.Source K.Sink O.Opener script.new report.new opener.new) name.now result }
-    ensures run { (first : Beginning) → first.kind ≡ kind
+    ensures run { (first : Beginning) → first.kind ≡ rooms.target.drive.kind
         → IsBeginning O.Image.bytes first
         (around S.Source K.Sink O.Opener script.old report.old opener.old) O.returned_known
         → StandsWith first (aftermath_of O.Image.bytes
@@ -152,20 +139,17 @@ fn run_image<S: Source, K: Sink, O: Opener>(
         (around S.Source K.Sink O.Opener script.old report.old opener.old)
         (around S.Source K.Sink O.Opener script.new report.new opener.new)) }
 {
-    let Ok(state) = RunState::new(alloc) else {
-        return Status::NoMemory;
-    };
-    let Ok(room) = DialogueRoom::new(alloc) else {
-        return Status::NoMemory;
-    };
-    let (mut state, mut room) = (state, room);
+    let ScriptRooms {
+        mut state,
+        dialogue: mut room,
+        target,
+    } = rooms;
     match opener.open(name) {
         Opened::Failed => Status::ImageFault,
         Opened::Image(image) => {
             let mut dialogue = Dialogue::new(script, report, &mut room);
             let (image, status) = serve::<Cached<Volume<ImageMedium<O::Image>>>, S, K>(
-                alloc,
-                kind,
+                target,
                 image,
                 &mut state,
                 &mut dialogue,

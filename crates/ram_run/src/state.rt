@@ -1,7 +1,7 @@
 //! The state of a run beside what lies in the drive and what goes between script and report: room for the data of a
 //! command both ways, and how many lines came.
-ghost use Rattle.std.specs.Prelude.{◌≡◌, ◌^◌, ◌<◌, ◌+◌, ℕ, IfOk};
-ghost use Rattle.ram_text.specs.Dialogue.{HasSameEnds, AsksNothing, reader_of, sink_of};
+ghost use Rattle.std.specs.Prelude.{◌≡◌, ◌^◌, ◌<◌, ◌+◌, ℕ, IfOk, is_some};
+ghost use Rattle.ram_text.specs.Dialogue.{HasSameEnds, AsksNothing, due_in, reader_of, sink_of};
 ghost use Rattle.ram_run.specs.Counting.{AreAtMost};
 ghost use Rattle.ram_machine.specs.Replies.{PrintsWhere};
 ghost use Rattle.ram_run.specs.RunCounts.{StopCounts, TellCount, counts_with};
@@ -90,6 +90,7 @@ pub fn take_line<S: Source, K: Sink>(
         (counts_with S.Source K.Sink dialogue.new image) result }
     ensures takes { TakesBytes (reader_of dialogue.old).taken (reader_of dialogue.new).taken result }
     ensures uses { FoundCountsUses result }
+    ensures same_due { due_in S.Source K.Sink dialogue.new ≡ due_in S.Source K.Sink dialogue.old }
     ensures same_tally { state.new.tally ≡ state.old.tally }
     ensures room { HasRoom state.new }
 {
@@ -122,6 +123,7 @@ pub fn tell<S: Source, K: Sink>(
     ensures nothing { AsksNothing dialogue.old dialogue.new }
     ensures tells { TellRule (run_view S.Source K.Sink dialogue.old state.old.tally)
         (run_view S.Source K.Sink dialogue.new state.new.tally) state.old.data_in.items outcome result }
+    ensures known { is_some (due_in S.Source K.Sink dialogue.new) ≡ is_some (due_in S.Source K.Sink dialogue.old) }
     ensures count { TellCount (K.faults (sink_of dialogue.old)) (K.faults (sink_of dialogue.new)) outcome result }
     ensures tally { TallyRule state.old.tally state.new.tally result }
     ensures room { HasRoom state.old → HasRoom state.new }

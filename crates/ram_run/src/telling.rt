@@ -1,5 +1,5 @@
 //! A text that is written to the report as it is.
-ghost use Rattle.ram_run.specs.Endings.{IsNoUsage};
+ghost use Rattle.ram_run.specs.Endings.{IsOfRun};
 ghost use Rattle.ram_run.specs.Words.{WritesText, TextCount};
 
 use ram_machine::status::Status;
@@ -8,7 +8,7 @@ use ram_report::hand_over;
 
 /// Writes a text to the report. It takes no memory.
 pub fn write_text<K: Sink>(report: &mut K, text: &[u8]) -> Status
-    ensures other { IsNoUsage result }
+    ensures other { IsOfRun result }
     ensures writes { WritesText (K.written report.old) (K.written report.new) text.now result }
     ensures count { TextCount (K.faults report.old) (K.faults report.new) result }
 {

@@ -1,10 +1,12 @@
 use Rattle.std.specs.Borrow.{Bor}
-use Rattle.std.proofs.Common.{◌≡◌, refl, sym, subst, inl, inr, ℕ, List, map}
+use Rattle.std.proofs.Common.{◌≡◌, refl, sym, ◌∙◌, subst, inl, inr, ℕ, List, map}
 use Rattle.model_geometry.specs.declared.kinds.LayoutKind.{LayoutKind}
-use Rattle.ram_run.specs.Endings.{aftermath_of}
+use Rattle.ram_run.specs.Endings.{IsOfRun, aftermath_of}
 use Rattle.ram_run.specs.Generating.{BeginsFrom, Generates}
 use Rattle.ram_run.specs.Progress.{Beginning}
-use Rattle.ram_run.specs.Words.{IsNotOpened, IsServedOf, IsServedImage, IsGenerateOf, AsksOnce, around}
+use Rattle.ram_machine.specs.declared.status.Status.{Status}
+use Rattle.ram_machine.specs.declared.status.Status.TheVariants as statuses
+use Rattle.ram_run.specs.Words.{MemoryRule, UsageRule, IsWordForm, IsNotOpened, IsServedOf, IsServedImage, IsGenerateOf, AsksOnce, around}
 use Rattle.ram_run.proofs.Completes.{completes}
 use Rattle.ram_run.proofs.Few.{one_served, one_generate}
 use Rattle.ram_run.proofs.Promised.{promised_by_run}
@@ -13,6 +15,51 @@ use Rattle.ram_run.proofs.run.run.Goals as goal
 -- the word tells the kind
 its_kind : (texts : List (List ℕ)) (kind : LayoutKind) (name : List ℕ) → IsServedOf kind name texts → (first : Beginning) → IsServedImage first.kind texts → first.kind ≡ kind
 its_kind texts kind name told first served = (one_served texts first.kind kind served.0 name served.1 told).0
+
+-- a run whose rooms were taken does not end for want of them
+remembers : (status : Status) → IsOfRun status → MemoryRule status
+remembers statuses.Done of = tt
+remembers statuses.Usage of = tt
+remembers statuses.Script of = tt
+remembers statuses.ImageFault of = tt
+remembers statuses.SourceFault of = tt
+remembers statuses.SinkFault of = tt
+remembers statuses.NoMemory of = of
+remembers statuses.NotADisc of = tt
+
+-- and its words have a form
+has_form : (words : List (List ℕ)) (status : Status) → IsOfRun status → IsWordForm words → UsageRule words status
+has_form words statuses.Done of form = form
+has_form words statuses.Usage of form = absurd of
+has_form words statuses.Script of form = form
+has_form words statuses.ImageFault of form = form
+has_form words statuses.SourceFault of form = form
+has_form words statuses.SinkFault of form = form
+has_form words statuses.NoMemory of form = form
+has_form words statuses.NotADisc of form = form
+
+pub of_script-rooms-requires : goal.of_script-rooms-requires
+of_script-rooms-requires g c =
+    let texts : List (List ℕ) = map (λ (word : Bor (List ℕ)). word.now) c.args.words.now in
+    let told : IsServedOf c.in-Some-Run.kind c.in-Some-Run.name.now texts = rw (c.in-Some-Run.is, c.in-Some-Run.field-0-is) at c.form_of.ensures in
+    c.requires.rooms.served c.in-Some-Run.kind (c.in-Some-Run.name.now, told)
+
+pub run_image-requires : goal.run_image-requires
+run_image-requires g c =
+    let ready = c.of_script-rooms.ensures in
+    record { ready = record { fresh = ready.fresh; room = ready.room; empty = ready.empty; kind_is = refl } }
+
+pub of_number-requires : goal.of_number-requires
+of_number-requires g c =
+    let texts : List (List ℕ) = map (λ (word : Bor (List ℕ)). word.now) c.args.words.now in
+    let told : IsGenerateOf c.in-Some-Generate.name.now c.in-Some-Generate.seed texts = rw (c.in-Some-Generate.is, c.in-Some-Generate.field-0-is) at c.form_of.ensures in
+    c.requires.rooms.generate (c.in-Some-Generate.name.now, c.in-Some-Generate.seed, told)
+
+pub returns-in-Some-Run-clause-usage : goal.returns-in-Some-Run-clause-usage
+returns-in-Some-Run-clause-usage g c =
+    let texts : List (List ℕ) = map (λ (word : Bor (List ℕ)). word.now) c.args.words.now in
+    let told : IsServedOf c.in-Some-Run.kind c.in-Some-Run.name.now texts = rw (c.in-Some-Run.is, c.in-Some-Run.field-0-is) at c.form_of.ensures in
+    has_form texts c.run_image.result c.run_image.ensures.other (inl (c.in-Some-Run.kind, (c.in-Some-Run.name.now, told)))
 
 pub returns-in-Some-Run-clause-asks : goal.returns-in-Some-Run-clause-asks
 returns-in-Some-Run-clause-asks g c kind name words =
@@ -26,7 +73,7 @@ pub returns-in-Some-Run-clause-run : goal.returns-in-Some-Run-clause-run
 returns-in-Some-Run-clause-run g c first words known =
     let texts : List (List ℕ) = map (λ (word : Bor (List ℕ)). word.now) c.args.words.now in
     let told : IsServedOf c.in-Some-Run.kind c.in-Some-Run.name.now texts = rw (c.in-Some-Run.is, c.in-Some-Run.field-0-is) at c.form_of.ensures in
-    c.run_image.ensures.run first (its_kind texts c.in-Some-Run.kind c.in-Some-Run.name.now told first words) known
+    c.run_image.ensures.run first (its_kind texts c.in-Some-Run.kind c.in-Some-Run.name.now told first words ∙ sym c.of_script-rooms.ensures.kind_is) known
 
 pub returns-in-Some-Run-clause-promise : goal.returns-in-Some-Run-clause-promise
 returns-in-Some-Run-clause-promise g c first words known =
@@ -34,7 +81,7 @@ returns-in-Some-Run-clause-promise g c first words known =
     let told : IsServedOf c.in-Some-Run.kind c.in-Some-Run.name.now texts = rw (c.in-Some-Run.is, c.in-Some-Run.field-0-is) at c.form_of.ensures in
     let before = around g.S.Source g.K.Sink g.O.Opener c.args.script.now c.args.report.now c.args.opener.now in
     let after = around g.S.Source g.K.Sink g.O.Opener c.run_image.new.script c.run_image.new.report c.run_image.new.opener in
-    promised_by_run g.O.Image.Image.bytes first before after g.O.Opener.returned_known c.run_image.result known (c.run_image.ensures.run first (its_kind texts c.in-Some-Run.kind c.in-Some-Run.name.now told first words) known)
+    promised_by_run g.O.Image.Image.bytes first before after g.O.Opener.returned_known c.run_image.result known (c.run_image.ensures.run first (its_kind texts c.in-Some-Run.kind c.in-Some-Run.name.now told first words ∙ sym c.of_script-rooms.ensures.kind_is) known)
 
 pub returns-in-Some-Run-clause-completes : goal.returns-in-Some-Run-clause-completes
 returns-in-Some-Run-clause-completes g c first words known language begins none =
@@ -43,7 +90,7 @@ returns-in-Some-Run-clause-completes g c first words known language begins none 
     let before = around g.S.Source g.K.Sink g.O.Opener c.args.script.now c.args.report.now c.args.opener.now in
     let after = around g.S.Source g.K.Sink g.O.Opener c.run_image.new.script c.run_image.new.report c.run_image.new.opener in
     completes first language begins before.counts after.counts none (aftermath_of g.O.Image.Image.bytes after) (IsNotOpened before after) c.run_image.result
-    c.run_image.ensures.causes (c.run_image.ensures.run first (its_kind texts c.in-Some-Run.kind c.in-Some-Run.name.now told first words) known)
+    c.run_image.ensures.causes (c.run_image.ensures.run first (its_kind texts c.in-Some-Run.kind c.in-Some-Run.name.now told first words ∙ sym c.of_script-rooms.ensures.kind_is) known)
 
 pub returns-in-Some-Generate-clause-causes : goal.returns-in-Some-Generate-clause-causes
 returns-in-Some-Generate-clause-causes g c = c.generate_image.ensures.causes (g.S.Source.left c.args.script.now) (g.S.Source.faults c.args.script.now)
@@ -77,3 +124,15 @@ returns-in-None-clause-generate_asks g c name seed words = absurd (c.in-None.ens
 
 pub returns-in-None-clause-generate : goal.returns-in-None-clause-generate
 returns-in-None-clause-generate g c first name seed words known = absurd (c.in-None.ensures (inr (inl (name, seed, words))))
+
+pub returns-in-Some-Run-clause-memory : goal.returns-in-Some-Run-clause-memory
+returns-in-Some-Run-clause-memory g c = remembers c.run_image.result c.run_image.ensures.other
+
+pub returns-in-Some-Generate-clause-memory : goal.returns-in-Some-Generate-clause-memory
+returns-in-Some-Generate-clause-memory g c = remembers c.generate_image.result c.generate_image.ensures.other
+
+pub returns-in-Some-Help-clause-memory : goal.returns-in-Some-Help-clause-memory
+returns-in-Some-Help-clause-memory g c = remembers c.write_text.result c.write_text.ensures.other
+
+pub returns-in-Some-Version-clause-memory : goal.returns-in-Some-Version-clause-memory
+returns-in-Some-Version-clause-memory g c = remembers c.write_text-in-Some-Version.result c.write_text-in-Some-Version.ensures.other

@@ -1,4 +1,4 @@
-use Rattle.std.proofs.Common.{arith, ap, ◌∙◌}
+use Rattle.std.proofs.Common.{arith, ap, ◌∙◌, Option, List, ℕ, is_some}
 use Rattle.ram_text.specs.Lines.{Reading}
 use Rattle.ram_text.specs.Dialogue.{reader_of}
 use Rattle.ram_machine.specs.Inserted.{Stands, faults_of}
@@ -49,6 +49,7 @@ loop-stopped-preserved g c =
           (none_rose (counts_with g.S.Source g.K.Sink c.args.dialogue.now (faults_of g.D.Caching g.D.Image.Image c.args.inserted)) (counts_with g.S.Source g.K.Sink c.loop-stopped.dialogue (faults_of g.D.Caching g.D.Image.Image c.loop-stopped.inserted))
           (counts_with g.S.Source g.K.Sink c.take_line.new.dialogue (faults_of g.D.Caching g.D.Image.Image c.loop-stopped.inserted))
           c.loop-stopped.invariant.counts (rw c.in-Ok-Some.is at (c.take_line.ensures.counts (faults_of g.D.Caching g.D.Image.Image c.loop-stopped.inserted)))) c.in-Ok.ensures.counts;
+      known = c.answer_line.ensures.known ∙ ap (λ (o : Option (List ℕ)). is_some o) c.take_line.ensures.same_due ∙ c.loop-stopped.invariant.known;
       room = c.answer_line.ensures.room;
       few = few_more c.loop-stopped.state.tally c.take_line.new.state.tally c.answer_line.new.state.tally (reader_of c.loop-stopped.dialogue).taken (reader_of c.take_line.new.dialogue).taken (reader_of c.answer_line.new.dialogue).taken c.loop-stopped.invariant.few takes.0 reader tally more;
       within = omega (arith, takes.1, reader);
@@ -71,3 +72,12 @@ returns-in-Err-answer_line-clause-counts g c =
 pub returns-in-Err-answer_line-clause-few : goal.returns-in-Err-answer_line-clause-few
 returns-in-Err-answer_line-clause-few g c =
     few_still c.loop-stopped.state.tally c.take_line.new.state.tally c.answer_line.new.state.tally (reader_of c.loop-stopped.dialogue).taken c.loop-stopped.invariant.few c.loop-stopped.invariant.within c.take_line.ensures.same_tally c.in-Err-answer_line.ensures.tally
+
+pub returns-in-Err-clause-known : goal.returns-in-Err-clause-known
+returns-in-Err-clause-known g c = ap (λ (o : Option (List ℕ)). is_some o) c.take_line.ensures.same_due ∙ c.loop-stopped.invariant.known
+
+pub returns-in-Ok-None-clause-known : goal.returns-in-Ok-None-clause-known
+returns-in-Ok-None-clause-known g c = ap (λ (o : Option (List ℕ)). is_some o) c.take_line.ensures.same_due ∙ c.loop-stopped.invariant.known
+
+pub returns-in-Err-answer_line-clause-known : goal.returns-in-Err-answer_line-clause-known
+returns-in-Err-answer_line-clause-known g c = c.answer_line.ensures.known ∙ ap (λ (o : Option (List ℕ)). is_some o) c.take_line.ensures.same_due ∙ c.loop-stopped.invariant.known

@@ -1,5 +1,5 @@
-use Rattle.std.proofs.Common.{◌≤◌, ◌-◌}
-use Rattle.ram_text.specs.Dialogue.{HasSameEnds, reader_of}
+use Rattle.std.proofs.Common.{◌≡◌, ◌≤◌, ◌-◌, is_some}
+use Rattle.ram_text.specs.Dialogue.{HasSameEnds, due_in, reader_of}
 use Rattle.ram_machine.specs.Inserted.{Stands, faults_of}
 use Rattle.ram_run.specs.RunCounts.{SameCounts, counts_with}
 use Rattle.ram_run.specs.RunState.{HasRoom}
@@ -14,6 +14,7 @@ invariant-loop-stopped g l = record {
       → Between first (Stands g.D.Caching g.D.Drive.lies_in g.D.Image.Image l.inserted) (run_view g.S.Source g.K.Sink l.dialogue l.state.tally);
   counts : SameCounts (counts_with g.S.Source g.K.Sink l.fn.dialogue (faults_of g.D.Caching g.D.Image.Image l.fn.inserted))
       (counts_with g.S.Source g.K.Sink l.dialogue (faults_of g.D.Caching g.D.Image.Image l.inserted));
+  known : is_some (due_in g.S.Source g.K.Sink l.dialogue) ≡ is_some (due_in g.S.Source g.K.Sink l.fn.dialogue);
   room : HasRoom l.state;
   few : IsFewLines l.state.tally (reader_of l.dialogue).taken;
   within : (reader_of l.dialogue).taken ≤ 67108864;

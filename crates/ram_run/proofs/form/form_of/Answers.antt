@@ -4,8 +4,8 @@ use Rattle.std.proofs.lemmas.Bool.{false≢true}
 use Rattle.std.proofs.lemmas.Slice.Eq.{bytes_eq-Decides}
 use Rattle.ram_run.specs.Words.{seed_of}
 use Rattle.ram_run.proofs.Few.{map_of_one, map_of_two, map_of_three, by_number, not_served}
-use Rattle.ram_run.proofs.run.form_of.Goals.{in_default-via-then-words-lt1, in_default-via-in-len1-2+else-eq-2, in_default-via-in-len2-2+else-eq-4, in_default-via-in-len3+else-eq-5, in_default-via-else-words-lt1+else-words-lt2+else-words-lt3+else-words-lt4}
-use Rattle.ram_run.proofs.run.form_of.Goals as goal
+use Rattle.ram_run.proofs.form.form_of.Goals.{in_default-via-then-words-lt1, in_default-via-in-len1-2+else-eq-2, in_default-via-in-len2-2+else-eq-4, in_default-via-in-len3+else-eq-5, in_default-via-else-words-lt1+else-words-lt2+else-words-lt3+else-words-lt4}
+use Rattle.ram_run.proofs.form.form_of.Goals as goal
 
 pub returns-in-len1 : goal.returns-in-len1
 returns-in-len1 c =

@@ -1,0 +1,36 @@
+//! The forms of the program's words.
+ghost use Rattle.std.specs.Prelude.{map};
+ghost use Rattle.ram_run.specs.Words.{FormRule};
+
+use crate::seed::seed_of;
+use ram_zones::LayoutKind;
+
+/// The forms of the program's words.
+#[derive(Clone, Copy, Debug, PartialEq, Eq)]
+pub enum Form<'a> {
+    /// Run a script over the image of this name, whose discs have a layout of this kind.
+    Run(LayoutKind, &'a str),
+    /// Run the script of a number over the image of this name.
+    Generate(&'a str, u64),
+    /// Tell what the program does.
+    Help,
+    /// Tell the program's version.
+    Version,
+}
+
+/// The form of the words, if they have one.
+pub fn form_of<'a>(words: &[&'a str]) -> Option<Form<'a>>
+    ensures { FormRule (map (λ word. word.now) words.now) result }
+{
+    match words {
+        [verb, name] if *verb == "run" => Some(Form::Run(LayoutKind::OneGroup, *name)),
+        [verb, name] if *verb == "groups" => Some(Form::Run(LayoutKind::EachZone, *name)),
+        [verb, name, number] if *verb == "generate" => match seed_of(number.as_bytes()) {
+            Some(seed) => Some(Form::Generate(*name, seed)),
+            None => None,
+        },
+        [word] if *word == "--help" => Some(Form::Help),
+        [word] if *word == "--version" => Some(Form::Version),
+        _ => None,
+    }
+}
