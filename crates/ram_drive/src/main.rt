@@ -5,6 +5,7 @@
 
 use ram_machine::status::Status;
 use ram_outside::{FileOpener, StdSink, StdSource};
+use ram_run::rooms::Rooms;
 use ram_run::run::run;
 use std::fs::File;
 use std::os::unix::fs::FileExt;
@@ -50,7 +51,7 @@ where
     }
 }
 
-/// Takes the program's words, and runs them.
+/// Takes the program's words, and the rooms that they ask for, and runs them.
 fn run_words<R: Input + Print + Files + Env + AllocGlobal>(rt: &R) -> io::Result<Status>
 where
     R::File: FileExt,
@@ -60,11 +61,12 @@ where
     for word in &words {
         texts.push(word.as_str())?;
     }
+    let rooms = Rooms::new(rt.alloc(), texts.as_slice())?;
     let mut script = StdSource::new(rt);
     let mut report = StdSink::new(rt);
     let mut opener = FileOpener::new(rt);
     Ok(run(
-        rt.alloc(),
+        rooms,
         texts.as_slice(),
         &mut script,
         &mut report,
@@ -72,7 +74,7 @@ where
     ))
 }
 
-/// The status where the words could not be taken: there was no memory, or one of them is no text.
+/// The status where the words or their rooms could not be taken: there was no memory, or one of the words is no text.
 fn refusal(error: &io::Error) -> Status {
     match error.kind() {
         io::ErrorKind::OutOfMemory => Status::NoMemory,
