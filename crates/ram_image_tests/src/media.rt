@@ -3,7 +3,7 @@ use crate::steps::{Step, straight};
 use crate::uses::{Answer, take};
 use ram_bytes::Block;
 use ram_image::header::image_len;
-use ram_image::{ImageMedium, PressOut, open, press};
+use ram_image::{ImageMedium, MediumRooms, PressOut, Refused, open, press};
 use ram_medium::{MediumControl, MemMedium};
 use ram_outside::MemImage;
 use ram_zones::{Geometry, LayoutKind};
@@ -62,7 +62,7 @@ fn take_image(
 ) -> Result<Vec<Answer>, AllocError> {
     let mut medium = medium;
     let answers = take_all(alloc, &mut medium, steps, is_straight);
-    let _ = medium.into_image();
+    let _ = medium.into_parts();
     answers
 }
 
@@ -75,9 +75,19 @@ pub fn over_image(
     is_straight: bool,
 ) -> Result<Vec<Answer>, AllocError> {
     let image = MemImage::new(pressed(alloc)?, failing);
-    match open(alloc, image, LayoutKind::OneGroup) {
+    match open(MediumRooms::new(alloc)?, image, LayoutKind::OneGroup) {
         Ok((medium, _)) => take_image(alloc, medium, steps, is_straight),
-        Err(_) => Ok(Vec::new(alloc)),
+        Err(
+            Refused {
+                image,
+                rooms,
+                fault: _,
+            },
+        ) => {
+            drop(image);
+            drop(rooms);
+            Ok(Vec::new(alloc))
+        }
     }
 }
 

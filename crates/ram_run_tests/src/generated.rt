@@ -1,6 +1,6 @@
 //! Scripts that are drawn from a number, and their summaries.
 use crate::runs::{PIECE, Ran, run_script, run_words};
-use ram_generate::generated;
+use ram_generate::{SCRIPT_ROOM, draw_script};
 use std::alloc::{AllocError, Global};
 use std::fmt::Write;
 
@@ -74,7 +74,8 @@ fn summed(alloc: Global, number: u64) -> Result<Ran, AllocError> {
 /// Adds whether the summary of the script of this number is the same twice, has the counts of its report, and comes with
 /// the same image.
 pub fn answer_generated(alloc: Global, number: u64, answer: &mut String) -> Result<(), AllocError> {
-    let script = generated(alloc, number)?;
+    let mut script = Vec::with_capacity(alloc, SCRIPT_ROOM)?;
+    draw_script(&mut script, number);
     let reported = run_script(alloc, &script, b"", (PIECE, PIECE), None)?;
     let first = summed(alloc, number)?;
     let again = summed(alloc, number)?;

@@ -1,6 +1,7 @@
 //! One run over objects in memory, and what it leaves.
 use ram_machine::status::Status;
 use ram_outside::{MemImage, MemOpener, MemSink, MemSource, Opener, Sink, Source};
+use ram_run::rooms::Rooms;
 use ram_run::run::run;
 use std::alloc::{AllocError, Global};
 
@@ -87,8 +88,9 @@ fn run_program<S: Source, K: Sink, O: Opener>(
     script: &mut S,
     report: &mut K,
     opener: &mut O,
-) -> Status {
-    run(alloc, words, script, report, opener)
+) -> Result<Status, AllocError> {
+    let rooms = Rooms::new(alloc, words)?;
+    Ok(run(rooms, words, script, report, opener))
 }
 
 /// Runs the words of the program over a script and the image that the opener gives.
@@ -100,7 +102,7 @@ fn run_over(
     opener: MemOpener,
 ) -> Result<Ran, AllocError> {
     let (mut script, mut report, mut opener) = (script, report, opener);
-    let status = run_program(alloc, words, &mut script, &mut report, &mut opener);
+    let status = run_program(alloc, words, &mut script, &mut report, &mut opener)?;
     what_is_left(alloc, status, script.calls(), &report, &opener)
 }
 
