@@ -1,7 +1,7 @@
 # Builds the proved program, and installs it with the tools over it, the manual pages, and completion for bash:
 #     make
 #     make install PREFIX=/usr/local DESTDIR=
-# `make check` runs the gate.
+# `make docs` makes the pages of definitions, and `make check` runs the gate.
 PREFIX = /usr/local
 DESTDIR =
 INSTALL = install
@@ -14,9 +14,12 @@ lib = $(DESTDIR)$(PREFIX)/lib/ram_drive
 man1 = $(DESTDIR)$(PREFIX)/share/man/man1
 completions = $(DESTDIR)$(PREFIX)/share/bash-completion/completions
 
-.PHONY: all check install uninstall
+.PHONY: all docs check install uninstall
 all:
 	./drive --version
+
+docs:
+	checks/definitions
 
 check:
 	.ci/run
