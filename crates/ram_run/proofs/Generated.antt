@@ -1,35 +1,22 @@
 -- How a script that was drawn from a number ends, and what its summary says.
 use Rattle.std.specs.Prelude.{◌≡◌, ℕ, ◌+◌, Bool, Option, Some, IfSome, Ok, Err, List, take}
 use Rattle.std.specs.Io.KnownBytes.{append_known}
-use Rattle.std.proofs.Common.{arith, refl, sym, ◌∙◌, inl, inr, subst}
+use Rattle.std.proofs.Common.{arith, refl, sym, subst}
 use Rattle.model_counts.specs.Counts.{Rose}
 use Rattle.ram_report.specs.declared.printing.LastLine.TheVariants as lasts
-use Rattle.ram_run.specs.declared.state.Tally.{Tally}
+use Rattle.ram_script.specs.declared.state.Tally.{Tally}
 use Rattle.ram_machine.specs.declared.stopped.Stopped.{Stopped}
 use Rattle.ram_machine.specs.declared.stopped.Stopped.TheVariants as stopped
 use Rattle.ram_machine.specs.declared.status.Status.{Status}
 use Rattle.ram_machine.specs.declared.status.Status.TheVariants as statuses
-use Rattle.ram_machine.specs.States.{State}
-use Rattle.ram_machine.specs.Inserted.{LeavesImage}
-use Rattle.ram_run.specs.Progress.{Beginning, View, Ending, Ends}
-use Rattle.ram_run.specs.RunCounts.{StopCounts, counts_of}
+use Rattle.ram_script.specs.Progress.{Beginning, Ending}
+use Rattle.ram_script.specs.RunCounts.{StopCounts, counts_of}
 use Rattle.ram_run.specs.Words.{Surroundings, WritesText}
 use Rattle.ram_run.specs.Summary.{tally_text}
-use Rattle.ram_run.specs.Endings.{status_of}
-use Rattle.ram_run.specs.Generating.{BeginsFrom, IsAnsweredWhole, LeavesBy, StopsWith, EndCount, GeneratedWith}
-use Rattle.ram_run.proofs.Finishes.{comes_to}
+use Rattle.ram_script.specs.Endings.{status_of}
+use Rattle.ram_script.specs.Leaving.{IsAnsweredWhole, LeavesBy}
+use Rattle.ram_run.specs.Generating.{BeginsFrom, StopsWith, EndCount, GeneratedWith}
 use Rattle.ram_run.proofs.Summaries.{tally_is_summary}
-
--- what the lines leave of the image
-pub leaves_by : (first : Beginning) (stands : State → Type 0) (image : Option (List ℕ)) → ((s : State) → stands s → LeavesImage s image) → (view : View) (ending : Ending) → Ends first stands view ending → LeavesBy first view.tally image ending
-leaves_by first stands image leaves view (Ok done) e = record { far = e.far; ended = e.stopped_at.last_is.0; tallied = e.stopped_at.tallied; image_is = leaves e.far.now e.stands_now }
-leaves_by first stands image leaves view (Err stopped.NotInLanguage) e = record { far = e.far; last_is = e.stopped_at.last_is; image_is = leaves e.far.now e.stands_now }
-leaves_by first stands image leaves view (Err stopped.LineTooLong) e = record { far = e.far; last_is = e.stopped_at.last_is; image_is = leaves e.far.now e.stands_now }
-leaves_by first stands image leaves view (Err stopped.ScriptTooLong) e = record { far = e.far; last_is = e.stopped_at.last_is; image_is = leaves e.far.now e.stands_now }
-leaves_by first stands image leaves view (Err stopped.NotADisc) e = record { far = e.far; last_is = e.stopped_at.last_is; image_is = leaves e.far.now e.stands_now }
-leaves_by first stands image leaves view (Err stopped.SourceFault) e = record { far = e.far; last_is = tt; image_is = leaves e.far.now e.stands_now }
-leaves_by first stands image leaves view (Err stopped.SinkFault) e = record { far = e.far; last_is = tt; image_is = leaves e.far.now e.stands_now }
-leaves_by first stands image leaves view (Err stopped.ImageFault) e = inr (record { far = e.far; line = comes_to first stands image leaves e.far (Err stopped.ImageFault) e.line })
 
 -- a count that stands still
 never_rose : Rose 0 0 → ⊥

@@ -1,13 +1,5 @@
-pub mod Counted
-pub mod Completes
-pub mod Turns
-pub mod Behind
-pub mod LinesTaken
-pub mod CountsRise
-pub mod FewLines
-pub mod Finishes
 pub mod Summaries
 pub mod Generated
 pub mod Few
 pub mod Closes
-pub mod Promised
+pub mod PromisedByRun

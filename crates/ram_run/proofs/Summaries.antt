@@ -4,11 +4,11 @@ use Rattle.std.specs.List.{flat_map}
 use Rattle.std.proofs.Common.{refl, sym, ap, ◌∙◌}
 use Rattle.model_sense.specs.declared.sense.Sense.{Sense}
 use Rattle.model_target.specs.Senses.{senses}
-use Rattle.ram_run.specs.declared.counts.AnswerCounts.{AnswerCounts}
-use Rattle.ram_run.specs.declared.state.Tally.{Tally}
-use Rattle.ram_run.specs.Counting.{is_good, is_cut, is_off, is_check, times, sense_count_of, counts_in}
-use Rattle.ram_run.specs.Progress.{Beginning, SoFar, IsTallied}
-use Rattle.ram_run.specs.Answered.{AnsweredLine}
+use Rattle.ram_script.specs.declared.counts.AnswerCounts.{AnswerCounts}
+use Rattle.ram_script.specs.declared.state.Tally.{Tally}
+use Rattle.ram_script.specs.Counting.{is_good, is_cut, is_off, is_check, times, sense_count_of, counts_in}
+use Rattle.ram_script.specs.Progress.{Beginning, SoFar, IsTallied}
+use Rattle.ram_script.specs.Answered.{AnsweredLine}
 use Rattle.ram_run.specs.Summary.{count_text, check_text, came_in, summary_text, row_text, tally_text}
 
 -- a sense that came so often has a line, or none where it did not come

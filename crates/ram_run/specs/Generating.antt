@@ -9,15 +9,15 @@ use Rattle.ram_outside.specs.declared.opener.Opener.{Ghosts as Openers}
 use Rattle.ram_outside.specs.declared.sink.Sink.{Ghosts as Sinks}
 use Rattle.ram_report.specs.declared.printing.LastLine.{LastLine}
 use Rattle.ram_report.specs.declared.printing.LastLine.TheVariants as lasts
-use Rattle.ram_run.specs.declared.state.Tally.{Tally}
 use Rattle.ram_machine.specs.declared.status.Status.{Status}
 use Rattle.ram_machine.specs.declared.status.Status.TheVariants as statuses
 use Rattle.ram_machine.specs.declared.stopped.Stopped.TheVariants as stopped
-use Rattle.ram_machine.specs.Replies.{Outcome}
 use Rattle.ram_machine.specs.Inserted.{LeavesImage}
-use Rattle.ram_run.specs.RunCounts.{counts_of}
-use Rattle.ram_run.specs.Progress.{Beginning, SoFar, IsTallied, IsLastIfAny, Ending, last_line}
-use Rattle.ram_run.specs.Endings.{ComesToThis, IsOfScript, IsUnopened, bytes_returned}
+use Rattle.ram_script.specs.RunCounts.{counts_of}
+use Rattle.ram_script.specs.Progress.{Beginning, SoFar, Ending}
+use Rattle.ram_script.specs.Endings.{IsOfScript, IsUnopened}
+use Rattle.ram_script.specs.Leaving.{IsLeftBetween, IsLeftBy}
+use Rattle.ram_run.specs.Opened.{bytes_returned}
 use Rattle.ram_run.specs.Summary.{summary_text}
 use Rattle.ram_run.specs.Words.{Surroundings, IsNotOpened, AsksOnce}
 
@@ -32,34 +32,6 @@ pub record BeginsFrom {I : Type 0} (bytes_of : I → Option (List ℕ)) (seed : 
   pub next_is : before.opener.next ≡ Some image
   pub image_is : bytes_of image ≡ Some first.image
   pub returned_known_is : returned_known ≡ true
-
--- The script was answered to its end: the tally is that of the lines, and the image is as they leave it.
-pub record IsAnsweredWhole (first : Beginning) (tally : Tally) (image : Option (List ℕ)) : Type 0 where
-  pub far : SoFar first
-  pub ended : far.rest ≡ []
-  pub tallied : IsTallied far tally
-  pub image_is : LeavesImage far.now image
-
--- The lines ended between two of them, for the reason that this last line tells, and the image is as they leave it.
-pub record IsLeftBetween (first : Beginning) (image : Option (List ℕ)) (last : Option LastLine) : Type 0 where
-  pub far : SoFar first
-  pub last_is : IsLastIfAny far last
-  pub image_is : LeavesImage far.now image
-
--- The next line came out so, and the image is as it leaves it.
-pub record IsLeftInLine (first : Beginning) (image : Option (List ℕ)) (outcome : Outcome) : Type 0 where
-  pub far : SoFar first
-  pub line : ComesToThis far image outcome
-
--- the run did not begin, and the image has the bytes that it had, or the next line came out so
-abbrev pub IsLeftBy : Beginning → Option (List ℕ) → Outcome → Type 0
-IsLeftBy first image outcome = (image ≡ Some first.image) ⊎ IsLeftInLine first image outcome
-
--- How the lines end, and what they leave of the image.
-abbrev pub LeavesBy : Beginning → Tally → Option (List ℕ) → Ending → Type 0
-LeavesBy first tally image (Ok done) = IsAnsweredWhole first tally image
-LeavesBy first tally image (Err stopped.ImageFault) = IsLeftBy first image (Err stopped.ImageFault)
-LeavesBy first tally image ending = IsLeftBetween first image (last_line tally ending)
 
 -- Where the summary does not come: what the image is like, by the status.
 abbrev pub StopsWith : Beginning → Option (List ℕ) → Status → Type 0

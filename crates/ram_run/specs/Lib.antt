@@ -1,16 +1,6 @@
-pub mod Counting
 pub mod Kept
-pub mod NextLines
-pub mod Answered
-pub mod Run
-pub mod RunCounts
 pub mod Summary
 pub mod Words
-pub mod RunState
 pub mod Rooms
-pub mod Progress
-pub mod Endings
+pub mod Opened
 pub mod Generating
-pub mod Completes
-pub mod Promise
-pub mod Printed

@@ -9,7 +9,7 @@ use Rattle.ram_run.specs.declared.rooms.GenerateRooms.{GenerateRooms}
 use Rattle.ram_run.specs.declared.rooms.Rooms.{Rooms}
 use Rattle.ram_run.specs.declared.rooms.Rooms.TheVariants as taken
 use Rattle.ram_run.specs.declared.summary.TheConstants.{SUMMARY_ROOM}
-use Rattle.ram_run.specs.RunState.{IsFresh, HasRoom}
+use Rattle.ram_script.specs.RunState.{IsFresh, HasRoom}
 use Rattle.ram_run.specs.Words.{IsServedImage, IsGenerate}
 
 -- The rooms are for discs with a layout of this kind, and no line came yet. (This project's own, as all here.)

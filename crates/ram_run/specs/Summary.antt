@@ -4,10 +4,10 @@ use Rattle.std.specs.List.{flat_map}
 use Rattle.model_sense.specs.declared.sense.Sense.{Sense}
 use Rattle.model_target.specs.Senses.{senses}
 use Rattle.ram_report.specs.ReportLines.{sense_code}
-use Rattle.ram_run.specs.declared.counts.SenseCount.{SenseCount}
-use Rattle.ram_run.specs.declared.state.Tally.{Tally}
-use Rattle.ram_run.specs.Counting.{is_good, is_cut, is_off, is_check, times}
-use Rattle.ram_run.specs.Answered.{AnsweredLine}
+use Rattle.ram_script.specs.declared.counts.SenseCount.{SenseCount}
+use Rattle.ram_script.specs.declared.state.Tally.{Tally}
+use Rattle.ram_script.specs.Counting.{is_good, is_cut, is_off, is_check, times}
+use Rattle.ram_script.specs.Answered.{AnsweredLine}
 
 -- these words, a number, and the end of the line (this project's own, as all here)
 abbrev pub count_text : List ℕ → ℕ → List ℕ

@@ -11,7 +11,7 @@ use Rattle.ram_outside.specs.declared.opener.Opener.{Ghosts as Openers}
 use Rattle.ram_outside.specs.declared.sink.Sink.{Ghosts as Sinks}
 use Rattle.ram_outside.specs.declared.source.Source.{Ghosts as Sources}
 use Rattle.ram_text.specs.ScriptWords.{decimal_value}
-use Rattle.ram_run.specs.RunCounts.{Counts, counts_of}
+use Rattle.ram_script.specs.RunCounts.{Counts, counts_of}
 use Rattle.ram_run.specs.declared.form.Form.{Form}
 use Rattle.ram_run.specs.declared.form.Form.TheVariants as forms
 use Rattle.ram_machine.specs.declared.status.Status.{Status}

@@ -3,18 +3,16 @@ ghost use Rattle.std.specs.Prelude.{◌≡◌, ◌≤◌, ℕ, Option, Some, Lis
 ghost use Rattle.model_geometry.specs.declared.kinds.LayoutKind.TheVariants.{OneGroup};
 ghost use Rattle.ram_run.specs.declared.summary.TheConstants.{SUMMARY_ROOM};
 ghost use Rattle.ram_run.specs.Rooms.{AreReady, AreReadyFor};
-ghost use Rattle.ram_run.specs.Progress.{Beginning};
+ghost use Rattle.ram_script.specs.Progress.{Beginning};
 ghost use Rattle.ram_run.specs.Words.{AsksOnce, TextCount, WritesText};
-ghost use Rattle.ram_run.specs.Endings.{IsOfRun, StatusCounts};
+ghost use Rattle.ram_script.specs.Endings.{IsOfRun, StatusCounts};
 ghost use Rattle.ram_run.specs.Summary.{tally_text};
-ghost use Rattle.ram_run.specs.Generating.{BeginsFrom, EndCount, Generates, LeavesBy, beside};
+ghost use Rattle.ram_script.specs.Leaving.{LeavesBy};
+ghost use Rattle.ram_run.specs.Generating.{BeginsFrom, EndCount, Generates, beside};
 
 use crate::dropped::DroppedReport;
-use crate::ending::status_of;
 use crate::kept::KeptScript;
 use crate::rooms::{GenerateRooms, ScriptRooms};
-use crate::serve::answer_lines;
-use crate::state::Tally;
 use crate::summary::put_summary;
 use crate::telling::write_text;
 use ram_cache::Cached;
@@ -23,6 +21,8 @@ use ram_image::ImageMedium;
 use ram_machine::Stopped;
 use ram_machine::status::Status;
 use ram_outside::{Image, Opened, Opener, Sink};
+use ram_script::serve::answer_lines;
+use ram_script::{Tally, status_of};
 use ram_text::Dialogue;
 use ram_volume::Volume;
 

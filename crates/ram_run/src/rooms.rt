@@ -5,10 +5,10 @@ ghost use Rattle.model_geometry.specs.declared.kinds.LayoutKind.TheVariants.{One
 ghost use Rattle.ram_run.specs.Rooms.{AreReady, AreReadyFor, AreOfScript, AreOfNumber, AreRoomsFor};
 
 use crate::form::{Form, form_of};
-use crate::state::RunState;
 use crate::summary::SUMMARY_ROOM;
 use ram_generate::SCRIPT_ROOM;
 use ram_machine::TargetRooms;
+use ram_script::RunState;
 use ram_text::DialogueRoom;
 use ram_zones::LayoutKind;
 use std::alloc::{AllocError, Global};

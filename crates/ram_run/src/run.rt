@@ -2,11 +2,12 @@
 ghost use Rattle.std.specs.Prelude.{◌≡◌, ◌⊎◌, ℕ, List, map};
 ghost use Rattle.ram_run.specs.declared.help.TheConstants.{HELP, VERSION};
 ghost use Rattle.model_geometry.specs.declared.kinds.LayoutKind.{LayoutKind};
-ghost use Rattle.ram_run.specs.Progress.{Beginning};
-ghost use Rattle.ram_run.specs.Completes.{IsInLanguage, BeginsWithDisc, NoneRose, IsComplete};
+ghost use Rattle.ram_script.specs.Progress.{Beginning};
+ghost use Rattle.ram_script.specs.Completes.{IsInLanguage, BeginsWithDisc, NoneRose, IsComplete};
 ghost use Rattle.ram_run.specs.Words.{IsServedOf, IsServedImage, IsGenerateOf, IsHelp, IsVersion, UsageRule, MemoryRule, IsNotOpened, UntouchedByUsage, TellsText, AsksOnce, around};
-ghost use Rattle.ram_run.specs.Endings.{IsBeginning, IsUnopened, IsOfRun, StandsWith, StatusCounts, aftermath_of};
-ghost use Rattle.ram_run.specs.Promise.{KeepsBytes};
+ghost use Rattle.ram_script.specs.Endings.{IsUnopened, IsOfRun, StandsWith, StatusCounts};
+ghost use Rattle.ram_run.specs.Opened.{IsBeginning, aftermath_of};
+ghost use Rattle.ram_script.specs.Promise.{KeepsBytes};
 ghost use Rattle.ram_run.specs.Generating.{BeginsFrom, Generates, AsksUnread};
 ghost use Rattle.ram_run.specs.Rooms.{AreReady, AreRoomsFor};
 
@@ -14,12 +15,12 @@ use crate::form::{Form, form_of};
 use crate::generate::generate_image;
 use crate::help::{HELP, VERSION};
 use crate::rooms::{Rooms, ScriptRooms, of_number, of_script};
-use crate::serve::serve;
 use crate::telling::write_text;
 use ram_cache::Cached;
 use ram_image::ImageMedium;
 use ram_machine::status::Status;
 use ram_outside::{Opened, Opener, Sink, Source};
+use ram_script::serve::serve;
 use ram_text::Dialogue;
 use ram_volume::Volume;
 

@@ -4,10 +4,9 @@ ghost use Rattle.std.specs.List.{flat_map};
 ghost use Rattle.ram_run.specs.declared.summary.TheConstants.{SUMMARY_ROOM};
 ghost use Rattle.ram_run.specs.Summary.{count_text, row_text, tally_text};
 
-use crate::counts::SenseCount;
-use crate::state::Tally;
 use ram_generate::{add, add_number};
 use ram_report::digits_of;
+use ram_script::{SenseCount, Tally};
 
 /// Room for any summary, in bytes: six lines, and a line for each of fourteen senses, none longer than 36 bytes.
 pub const SUMMARY_ROOM: usize = 720;

@@ -1,5 +1,5 @@
 //! A text that is written to the report as it is.
-ghost use Rattle.ram_run.specs.Endings.{IsOfRun};
+ghost use Rattle.ram_script.specs.Endings.{IsOfRun};
 ghost use Rattle.ram_run.specs.Words.{WritesText, TextCount};
 
 use ram_machine::status::Status;

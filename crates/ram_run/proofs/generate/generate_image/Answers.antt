@@ -1,5 +1,6 @@
 use Rattle.std.proofs.Common.{sym, ◌∙◌, inl}
-use Rattle.ram_run.specs.Endings.{bytes_returned, status_of}
+use Rattle.ram_script.specs.Endings.{status_of}
+use Rattle.ram_run.specs.Opened.{bytes_returned}
 use Rattle.ram_run.specs.Generating.{beside}
 use Rattle.ram_run.proofs.Closes.{handed_back}
 use Rattle.ram_run.proofs.Generated.{summed, not_summed, generated_there, image_known, stops_with}

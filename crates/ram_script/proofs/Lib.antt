@@ -1,0 +1,10 @@
+pub mod Counted
+pub mod Completes
+pub mod Turns
+pub mod Behind
+pub mod LinesTaken
+pub mod CountsRise
+pub mod FewLines
+pub mod Finishes
+pub mod Left
+pub mod Promised

@@ -1,0 +1,17 @@
+use Rattle.std.proofs.Common.{refl}
+use Rattle.ram_text.specs.Dialogue.{due_in, gathered_of, sink_of}
+use Rattle.ram_script.proofs.Finishes.{failed_at_last, failed_at_flush}
+use Rattle.ram_script.proofs.ending.finish.Goals as goal
+
+pub returns-in-Failed-clause-rule : goal.returns-in-Failed-clause-rule
+returns-in-Failed-clause-rule g c =
+    failed_at_last (due_in g.S.Source g.K.Sink c.args.dialogue.now) (due_in g.S.Source g.K.Sink c.print_ending.new.dialogue)
+    (g.K.Sink.written (sink_of c.args.dialogue.now)) (g.K.Sink.written (sink_of c.print_ending.new.dialogue)) (gathered_of c.print_ending.new.dialogue)
+    (g.K.Sink.faults (sink_of c.args.dialogue.now)) (g.K.Sink.faults (sink_of c.print_ending.new.dialogue)) c.args.tally refl c.print_ending.new.dialogue.room.now.writer.few c.args.ending c.in-Failed.ensures.rule
+
+pub returns-in-Failed-flush-clause-rule : goal.returns-in-Failed-flush-clause-rule
+returns-in-Failed-flush-clause-rule g c =
+    failed_at_flush (due_in g.S.Source g.K.Sink c.args.dialogue.now) (due_in g.S.Source g.K.Sink c.print_ending.new.dialogue)
+    (g.K.Sink.faults (sink_of c.args.dialogue.now)) (g.K.Sink.faults (sink_of c.print_ending.new.dialogue)) c.args.tally
+    (due_in g.S.Source g.K.Sink c.flush.new.self) (g.K.Sink.written (sink_of c.args.dialogue.now)) (g.K.Sink.written (sink_of c.flush.new.self)) (gathered_of c.flush.new.self)
+    (g.K.Sink.faults (sink_of c.flush.new.self)) refl c.flush.new.self.room.now.writer.few c.args.ending c.in-Done.ensures.rule c.in-Failed-flush.ensures.rule.0 c.in-Failed-flush.ensures.rule.1

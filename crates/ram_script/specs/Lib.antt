@@ -1,0 +1,12 @@
+pub mod Counting
+pub mod NextLines
+pub mod Answered
+pub mod Run
+pub mod RunCounts
+pub mod RunState
+pub mod Progress
+pub mod Endings
+pub mod Leaving
+pub mod Completes
+pub mod Promise
+pub mod Printed
