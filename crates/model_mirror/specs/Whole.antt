@@ -1,0 +1,190 @@
+-- Why each answer of the power on, of a format and of a resynchronisation of a mirror comes. (This project's own, as all here.)
+use Rattle.std.specs.Prelude.{◌≡◌, ℕ, zero, suc, ◌*◌, ◌<◌, ◌==◌, ◌⊎◌, ◌&&◌, MatchBool, if◌then◌else◌, Bool, true, false, List, replicate}
+use Rattle.model_sectors.specs.declared.ReadOut.{ReadOut}
+use Rattle.model_sectors.specs.declared.ReadOut.TheVariants as reads
+use Rattle.model_sectors.specs.declared.PowerOut.{PowerOut}
+use Rattle.model_sectors.specs.declared.PowerOut.TheVariants as powers
+use Rattle.model_drive.specs.declared.WriteOut.{WriteOut}
+use Rattle.model_drive.specs.declared.WriteOut.TheVariants as writes
+use Rattle.model_drive.specs.declared.FormatOut.{FormatOut}
+use Rattle.model_drive.specs.declared.FormatOut.TheVariants as formats
+use Rattle.model_drive.specs.declared.Kind.TheVariants as kinds
+use Rattle.model_drive.specs.Shown.{Shown, IsOn, IsFormatted, block_count}
+use Rattle.model_drive.specs.Power.{PowerCause}
+use Rattle.model_drive.specs.Formats.{FormatCause}
+use Rattle.model_mirror.specs.declared.Resync.{Resync}
+use Rattle.model_mirror.specs.declared.Resync.TheVariants as resyncs
+use Rattle.model_mirror.specs.Table.{AreMarked, is_apart, count_apart, is_block}
+use Rattle.model_mirror.specs.Shown.{MirrorShown, turned_off, led_by}
+use Rattle.model_mirror.specs.Reads.{LeadReads}
+use Rattle.model_mirror.specs.Writes.{WritesSide}
+
+-- whether a side was powered on with this capacity
+abbrev pub is_ready_with : ℕ → PowerOut → Bool
+is_ready_with known (powers.Ready other) = other == known
+is_ready_with known _ = false
+
+-- Both sides were powered, and answered so. The same side leads as before.
+pub record PowersBoth (old new : MirrorShown) (lead other : PowerOut) : Type 0 where
+  pub led : PowerCause old.lead new.lead lead
+  pub followed : PowerCause old.other new.other other
+  pub same_lead : new.lead_is_a ≡ old.lead_is_a
+
+-- every block of the lead's disc is apart
+abbrev pub all_apart : Shown → List Bool
+all_apart lead = replicate (block_count lead) true
+
+-- none is
+abbrev pub none_apart : Shown → List Bool
+none_apart lead = replicate (block_count lead) false
+
+-- The lead is ready with this capacity: so is the other side where it is up, and every block is apart.
+pub record IsReadyWith (old new : MirrorShown) (known : ℕ) : Type 0 where
+  pub told : PowerOut
+  pub both : PowersBoth old new (powers.Ready known) told
+  pub on : new.on ≡ true
+  pub up : new.up ≡ is_ready_with known told
+  pub table : new.table ≡ all_apart new.lead
+
+-- The lead's disc is not formatted.
+pub record IsBareMirror (old new : MirrorShown) : Type 0 where
+  pub told : PowerOut
+  pub both : PowersBoth old new powers.NotFormatted told
+  pub on : new.on ≡ true
+  pub up : new.up ≡ false
+
+-- The lead was stopped, and the mirror stays off.
+pub record StaysOff (old new : MirrorShown) (lead : PowerOut) : Type 0 where
+  pub told : PowerOut
+  pub both : PowersBoth old new lead told
+  pub on : new.on ≡ false
+  pub up : new.up ≡ false
+
+-- The cause of each answer of the turning on of the power.
+abbrev pub MirrorPowerCause : MirrorShown → MirrorShown → PowerOut → Type 0
+MirrorPowerCause old new (powers.Ready known) = IsReadyWith old new known
+MirrorPowerCause old new powers.NotFormatted = IsBareMirror old new
+MirrorPowerCause old new powers.Cut = StaysOff old new powers.Cut
+MirrorPowerCause old new powers.Fault = StaysOff old new powers.Fault
+
+-- the lead was formatted anew, and it went so
+abbrev pub LeadFormats : MirrorShown → MirrorShown → FormatOut → Type 0
+LeadFormats old mid out = FormatCause old.lead mid.lead (kinds.Full true) out × (mid ≡ led_by old mid.lead)
+
+-- whether the other side is up after a format of both
+abbrev pub up_after_format : (lead other : FormatOut) → (here there : ℕ) → Bool
+up_after_format formats.Good formats.Good here there = here == there
+up_after_format _ _ here there = false
+
+-- After a good format of the lead the other side was formatted. It is up, with no block apart, where that was good with an equal
+-- capacity; else it is down.
+pub record FormatsBoth (old new : MirrorShown) : Type 0 where
+  pub mid : MirrorShown
+  pub lead : LeadFormats old mid formats.Good
+  pub told : FormatOut
+  pub other : FormatCause mid.other new.other (kinds.Full true) told
+  pub new_is : new ≡ record mid {
+    other = new.other;
+    up = up_after_format formats.Good told (block_count mid.lead) (block_count new.other);
+    table = new.table;
+  }
+  pub table : new.table ≡ none_apart new.lead
+
+-- The format of the lead ended otherwise, and the other side was not touched: it is down where the lead's disc is not formatted
+-- now. Where the lead has its disc still, nothing else happened.
+pub record FormatsLead (old new : MirrorShown) (out : FormatOut) : Type 0 where
+  pub mid : MirrorShown
+  pub lead : LeadFormats old mid out
+  pub ends : (IsFormatted mid.lead × (new ≡ mid)) ⊎ (¬ IsFormatted mid.lead × (new ≡ record mid { up = false }))
+
+-- The lead was stopped, and the mirror is off.
+pub record FormatStopped (old new : MirrorShown) (out : FormatOut) : Type 0 where
+  pub mid : MirrorShown
+  pub lead : LeadFormats old mid out
+  pub new_is : new ≡ turned_off mid
+
+-- the format of a mirror that is on
+abbrev pub FormatsOn : MirrorShown → MirrorShown → FormatOut → Type 0
+FormatsOn old new formats.Good = FormatsBoth old new
+FormatsOn old new (formats.TooMany found) = FormatsLead old new (formats.TooMany found)
+FormatsOn old new (formats.NoUpdate counter) = FormatsLead old new (formats.NoUpdate counter)
+FormatsOn old new formats.Cut = FormatStopped old new formats.Cut
+FormatsOn old new formats.Off = LeadFormats old new formats.Off
+FormatsOn old new formats.Fault = FormatStopped old new formats.Fault
+
+-- The cause of each answer of a format.
+abbrev pub MirrorFormatCause : MirrorShown → MirrorShown → FormatOut → Type 0
+MirrorFormatCause old new out = MatchBool old.on (FormatsOn old new out) ((out ≡ formats.Off) × (new ≡ old))
+
+-- What the answer of the other side makes of a block that was copied to it.
+module _ (mid new : MirrorShown) (i : ℕ) where
+  abbrev pub CopyEnds : WriteOut → Type 0
+  CopyEnds writes.Good =
+      (new ≡ record mid { other = new.other; table = new.table }) × AreMarked (is_block i) false mid.table new.table
+  CopyEnds (writes.Unread named block) = new ≡ record mid { other = new.other }
+  CopyEnds (writes.NoSpare named) = new ≡ record mid { other = new.other }
+  CopyEnds (writes.NoUpdate counter) = new ≡ record mid { other = new.other }
+  CopyEnds _ = new ≡ record mid { other = new.other; up = false }
+
+  -- the block was written to the other side
+  pub record WritesCopy : Type 0 where
+    pub told : WriteOut
+    pub wrote : WritesSide mid.other new.other (16 * i) 16 told
+    pub ends : CopyEnds told
+
+  -- what comes of a block by the lead's answer: it is copied, or it cannot be read and stays apart
+  abbrev pub CopyGoesOn : ReadOut → Type 0
+  CopyGoesOn reads.Good = WritesCopy
+  CopyGoesOn (reads.Unread named block) = new ≡ mid
+  CopyGoesOn _ = ⊥
+
+-- One block was copied from the lead to the other side, or could not be.
+pub record CopiesBlock (old new : MirrorShown) (i : ℕ) : Type 0 where
+  pub mid : MirrorShown
+  pub told : ReadOut
+  pub reads : LeadReads old mid (16 * i) 16 told
+  pub goes_on : CopyGoesOn mid new i told
+
+-- whether a block is to be copied
+abbrev pub is_to_copy : MirrorShown → ℕ → Bool
+is_to_copy shown i = shown.up && is_apart shown.table i
+
+-- The first so many blocks were gone through, rising: each that is apart was copied, while the other side is up.
+abbrev pub CopiesBlocks : MirrorShown → MirrorShown → ℕ → Type 0
+CopiesBlocks old new zero = new ≡ old
+CopiesBlocks old new (suc k) = (mid : MirrorShown) × CopiesBlocks old mid k
+    × MatchBool (is_to_copy mid k) (CopiesBlock mid new k) (new ≡ mid)
+
+-- how many blocks are left
+abbrev pub left_of : MirrorShown → ℕ
+left_of shown = if shown.up then count_apart shown.table else block_count shown.lead
+
+-- all blocks were gone through
+pub record ResyncsAll (old new : MirrorShown) (left : ℕ) : Type 0 where
+  pub on : IsOn old.lead
+  pub formatted : IsFormatted old.lead
+  pub copies : CopiesBlocks old new (block_count old.lead)
+  pub left_is : left ≡ left_of new
+
+-- The lead was stopped at a block. The mirror is off.
+pub record ResyncStopped (old new : MirrorShown) (told : ReadOut) : Type 0 where
+  pub before : ℕ
+  pub early : before < block_count old.lead
+  pub mid : MirrorShown
+  pub copies : CopiesBlocks old mid before
+  pub due : is_to_copy mid before ≡ true
+  pub late : MirrorShown
+  pub reads : LeadReads mid late (16 * before) 16 told
+  pub new_is : new ≡ turned_off late
+
+-- the resynchronisation of a mirror that is on
+abbrev pub ResyncsOn : MirrorShown → MirrorShown → Resync → Type 0
+ResyncsOn old new (resyncs.Done left) = ResyncsAll old new left
+ResyncsOn old new resyncs.NotFormatted = IsOn old.lead × ¬ IsFormatted old.lead × (new ≡ old)
+ResyncsOn old new resyncs.Cut = ResyncStopped old new reads.Cut
+ResyncsOn old new resyncs.Off = ¬ IsOn old.lead × (new ≡ old)
+ResyncsOn old new resyncs.Fault = ResyncStopped old new reads.Fault
+
+-- The cause of each answer of a resynchronisation.
+abbrev pub ResyncCause : MirrorShown → MirrorShown → Resync → Type 0
+ResyncCause old new out = MatchBool old.on (ResyncsOn old new out) ((out ≡ resyncs.Off) × (new ≡ old))
