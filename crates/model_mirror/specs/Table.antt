@@ -13,10 +13,14 @@ abbrev pub some_apart : List Bool → Bool
 some_apart [] = false
 some_apart (apart ∷ table) = apart || some_apart table
 
+-- 1 for a block that is apart, else 0
+abbrev pub one_if : Bool → ℕ
+one_if apart = if apart then 1 else 0
+
 -- how many are
 abbrev pub count_apart : List Bool → ℕ
 count_apart [] = 0
-count_apart (apart ∷ table) = (if apart then 1 else 0) + count_apart table
+count_apart (apart ∷ table) = one_if apart + count_apart table
 
 -- The chosen blocks have this mark now, and the others are as before.
 pub record AreMarked (chosen : ℕ → Bool) (mark : Bool) (old new : List Bool) : Type 0 where

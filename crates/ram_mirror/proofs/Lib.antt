@@ -1,0 +1,10 @@
+mod Marks
+mod Counts
+mod Ends
+mod Parts
+mod Copies
+mod ReadEnds
+mod ReadLoop
+mod ReadKept
+mod Formats
+mod Passing

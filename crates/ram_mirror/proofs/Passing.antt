@@ -1,0 +1,171 @@
+-- A resynchronisation, block after block, over plain values.
+use Rattle.std.proofs.Common.{◌≡◌, ◌≢◌, ℕ, suc, ◌+◌, ◌*◌, ◌<◌, Bool, true, false, List, refl, sym, ap, ◌∙◌, subst, arith}
+use Rattle.std.specs.Prelude.{MatchBool, IsSome}
+use Rattle.model_sectors.specs.Discs.{Standing, On, Off}
+use Rattle.model_sectors.specs.declared.ReadOut.{ReadOut}
+use Rattle.model_sectors.specs.declared.ReadOut.TheVariants as reads
+use Rattle.model_drive.specs.declared.WriteOut.{WriteOut}
+use Rattle.model_drive.specs.declared.WriteOut.TheVariants as writes
+use Rattle.model_drive.specs.Parts.{IsInRange}
+use Rattle.model_drive.specs.Reads.{VerifyStep}
+use Rattle.model_drive.specs.Shown.{IsOn, block_count}
+use Rattle.model_drive.specs.Tells.{HasDisc}
+use Rattle.model_mirror.specs.Shown.{MirrorShown, turned_off}
+use Rattle.model_mirror.specs.Standing.{MirrorStands}
+use Rattle.model_mirror.specs.Reads.{LeadReads, is_stop}
+use Rattle.model_mirror.specs.declared.Resync.TheVariants as resyncs
+use Rattle.model_mirror.specs.Steps.{ResyncStep}
+use Rattle.model_mirror.specs.Whole.{CopyEnds, CopyGoesOn, CopiesBlock, CopiesBlocks, ResyncStopped, is_to_copy}
+use Rattle.ram_mirror.specs.Sides.{CopiesOrStops}
+use Rattle.ram_mirror.specs.Resyncs.{PassesBlock, CopiesAll}
+
+-- The first so many blocks were gone through.
+pub record HasPassed (start now : MirrorShown) (k : ℕ) (lead other lead' other' : Standing → Type 0) : Type 0 where
+  pub copies : CopiesBlocks start now k
+  pub on : now.on ≡ true
+  pub disc : HasDisc now.lead
+  pub same_count : block_count now.lead ≡ block_count start.lead
+  pub stands : (disc : List ℕ) → MirrorStands start lead other (On disc) → MirrorStands now lead' other' (On disc)
+
+pub passed_none : (start : MirrorShown) (lead other : Standing → Type 0) → start.on ≡ true → HasDisc start.lead → HasPassed start start 0 lead other lead other
+passed_none start lead other on disc = record { copies = refl; on = on; disc = disc; same_count = refl; stands = λ d so. so }
+
+-- what a block that was passed keeps of the mirror
+record Keeps (old new : MirrorShown) : Type 0 where
+  pub on : new.on ≡ old.on
+  pub disc : HasDisc new.lead
+  pub same_count : block_count new.lead ≡ block_count old.lead
+
+-- the answer of the other side leaves the lead and whether the mirror is on
+ends_leave : (mid new : MirrorShown) (i : ℕ) (told : WriteOut) → CopyEnds mid new i told → (new.on ≡ mid.on) × (new.lead ≡ mid.lead)
+ends_leave mid new i writes.Good ends = (ap (λ (s : MirrorShown). s.on) ends.0, ap (λ (s : MirrorShown). s.lead) ends.0)
+ends_leave mid new i (writes.Unread named block) ends = (ap (λ (s : MirrorShown). s.on) ends, ap (λ (s : MirrorShown). s.lead) ends)
+ends_leave mid new i (writes.NoSpare named) ends = (ap (λ (s : MirrorShown). s.on) ends, ap (λ (s : MirrorShown). s.lead) ends)
+ends_leave mid new i (writes.NoUpdate counter) ends = (ap (λ (s : MirrorShown). s.on) ends, ap (λ (s : MirrorShown). s.lead) ends)
+ends_leave mid new i writes.NotFormatted ends = (ap (λ (s : MirrorShown). s.on) ends, ap (λ (s : MirrorShown). s.lead) ends)
+ends_leave mid new i (writes.Range known) ends = (ap (λ (s : MirrorShown). s.on) ends, ap (λ (s : MirrorShown). s.lead) ends)
+ends_leave mid new i writes.Cut ends = (ap (λ (s : MirrorShown). s.on) ends, ap (λ (s : MirrorShown). s.lead) ends)
+ends_leave mid new i writes.Off ends = (ap (λ (s : MirrorShown). s.on) ends, ap (λ (s : MirrorShown). s.lead) ends)
+ends_leave mid new i writes.Fault ends = (ap (λ (s : MirrorShown). s.on) ends, ap (λ (s : MirrorShown). s.lead) ends)
+
+module _ (old mid new : MirrorShown) (i : ℕ) (disc : HasDisc old.lead) where
+  counted : mid.lead.shape ≡ old.lead.shape → mid.lead.lists ≡ old.lead.lists → block_count mid.lead ≡ block_count old.lead
+  counted same_shape same = rw (same_shape, same) refl
+
+  copied_keeps : (out : ReadOut) → LeadReads old mid (16 * i) 16 out → CopyGoesOn mid new i out → Keeps old new
+  copied_keeps reads.Good (r, is) copy =
+      let left = ends_leave mid new i copy.told copy.ends in
+      record {
+        on = left.0 ∙ ap (λ (s : MirrorShown). s.on) is;
+        disc = subst HasDisc (sym left.1) (r.cause.ends.is_on, subst (λ l. IsSome l) (sym r.cause.keeps.same_lists) disc.1);
+        same_count = ap block_count left.1 ∙ counted r.leaves.same_shape r.cause.keeps.same_lists;
+      }
+  copied_keeps (reads.Unread named home) (r, is) same = record {
+    on = ap (λ (s : MirrorShown). s.on) (same ∙ is);
+    disc = subst (λ (s : MirrorShown). HasDisc s.lead) (sym same) (r.cause.ends.is_on, subst (λ l. IsSome l) (sym r.cause.keeps.same_lists) disc.1);
+    same_count = ap (λ (s : MirrorShown). block_count s.lead) same ∙ counted r.leaves.same_shape r.cause.keeps.same_lists;
+  }
+  copied_keeps reads.NotFormatted r none = absurd none
+  copied_keeps (reads.Range known) r none = absurd none
+  copied_keeps reads.Cut r none = absurd none
+  copied_keeps reads.Off r none = absurd none
+  copied_keeps reads.Fault r none = absurd none
+
+-- a block was passed: it was copied, or could not be, or was not to be
+passed_keeps : (old new : MirrorShown) (i : ℕ) (out : ReadOut) → HasDisc old.lead → is_stop out ≡ false → PassesBlock old new i out
+    → Keeps old new × MatchBool (is_to_copy old i) (CopiesBlock old new i) (new ≡ old)
+passed_keeps old new i out disc goes_on passes = go (is_to_copy old i) passes
+  where
+    go : (due : Bool) → MatchBool due (CopiesOrStops old new i out) ((new ≡ old) × (out ≡ reads.Good)) → Keeps old new × MatchBool due (CopiesBlock old new i) (new ≡ old)
+    go true copy =
+        let on = subst (λ (b : Bool). MatchBool b (new ≡ turned_off copy.mid) (CopyGoesOn copy.mid new i out)) goes_on copy.ends in
+        (copied_keeps old copy.mid new i disc out copy.reads on, record { mid = copy.mid; told = out; reads = copy.reads; goes_on = on })
+    go false (same, good) = (
+      record { on = ap (λ (s : MirrorShown). s.on) same; disc = subst (λ (s : MirrorShown). HasDisc s.lead) (sym same) disc; same_count = ap (λ (s : MirrorShown). block_count s.lead) same },
+      same,
+    )
+
+-- a read that was neither cut nor failed was not stopped
+pub goes_on : (out : ReadOut) → out ≢ reads.Cut → out ≢ reads.Fault → is_stop out ≡ false
+goes_on reads.Good cut fault = refl
+goes_on reads.NotFormatted cut fault = refl
+goes_on (reads.Range known) cut fault = refl
+goes_on (reads.Unread named home) cut fault = refl
+goes_on reads.Cut cut fault = absurd (cut refl)
+goes_on reads.Off cut fault = refl
+goes_on reads.Fault cut fault = absurd (fault refl)
+
+-- a step of a call that was not stopped leaves the disc
+verified : (after : Standing → Type 0) (disc : List ℕ) (out : ReadOut) → is_stop out ≡ false → VerifyStep after (On disc) out → after (On disc)
+verified after disc reads.Good stop step = step
+verified after disc reads.NotFormatted stop step = step
+verified after disc (reads.Range known) stop step = step
+verified after disc (reads.Unread named home) stop step = step
+verified after disc reads.Cut stop step = absurd (let w = stop in cc)
+verified after disc reads.Off stop step = absurd step
+verified after disc reads.Fault stop step = absurd (let w = stop in cc)
+
+-- the next block lies on the disc
+pub next_inside : (start now : MirrorShown) (k : ℕ) (lead other lead₁ other₁ : Standing → Type 0) → HasPassed start now k lead other lead₁ other₁ → k < block_count start.lead → IsInRange now.lead (16 * k) 16
+next_inside start now k lead other lead₁ other₁ far early =
+    let same = far.same_count in record { on = far.disc.0; formatted = far.disc.1; inside = omega (arith, same, early) }
+
+module _ (start now new : MirrorShown) (k : ℕ) (lead other lead₁ other₁ lead₂ other₂ : Standing → Type 0) (far : HasPassed start now k lead other lead₁ other₁) (early : k < block_count start.lead) where
+  pub passed_more : (out : ReadOut) → is_stop out ≡ false → PassesBlock now new k out → ((s : Standing) → MirrorStands now lead₁ other₁ s → VerifyStep (MirrorStands new lead₂ other₂) s out)
+      → HasPassed start new (k + 1) lead other lead₂ other₂
+  passed_more out stop passes step =
+      let keeps = passed_keeps now new k out far.disc stop passes in
+      let more : suc k ≡ k + 1 = omega arith in
+      record {
+        copies = subst (CopiesBlocks start new) more (now, far.copies, keeps.1);
+        on = keeps.0.on ∙ far.on;
+        disc = keeps.0.disc;
+        same_count = keeps.0.same_count ∙ far.same_count;
+        stands = λ disc so. verified (MirrorStands new lead₂ other₂) disc out stop (step (On disc) (far.stands disc so));
+      }
+
+  -- the lead was stopped at it
+  pub passing_stopped : (out : ReadOut) → is_stop out ≡ true → PassesBlock now new k out → ResyncStopped start new out
+  passing_stopped out stop passes = go (is_to_copy now k) refl passes
+    where
+      go : (due : Bool) → is_to_copy now k ≡ due → MatchBool due (CopiesOrStops now new k out) ((new ≡ now) × (out ≡ reads.Good)) → ResyncStopped start new out
+      go true due copy = record {
+        before = k;
+        early = early;
+        mid = now;
+        copies = far.copies;
+        due = due;
+        late = copy.mid;
+        reads = copy.reads;
+        new_is = subst (λ (b : Bool). MatchBool b (new ≡ turned_off copy.mid) (CopyGoesOn copy.mid new k out)) stop copy.ends;
+      }
+      go false due (same, good) = absurd (let e : true ≡ false = sym stop ∙ ap is_stop good in cc)
+
+  pub passing_step : (on_lead : IsOn start.lead) → ((discs : List (List ℕ)) → lead (Off discs) → IsOn start.lead → ⊥) → (out : ReadOut)
+      → ((s : Standing) → MirrorStands now lead₁ other₁ s → VerifyStep (MirrorStands new lead₂ other₂) s out)
+      → (s : Standing) → MirrorStands start lead other s → VerifyStep (MirrorStands new lead₂ other₂) s out
+  passing_step on_lead not_off out step (On disc) so = step (On disc) (far.stands disc so)
+  passing_step on_lead not_off out step (Off discs) (so, some) = absurd (not_off discs so on_lead)
+
+-- all blocks were passed
+pub all_passed : (start now : MirrorShown) (k : ℕ) (lead other lead₁ other₁ : Standing → Type 0) → HasPassed start now k lead other lead₁ other₁ → k ≡ block_count start.lead → CopiesAll start now reads.Good
+all_passed start now k lead other lead₁ other₁ far all = record { disc = far.disc; copies = subst (CopiesBlocks start now) all far.copies }
+
+pub all_stand : (start now : MirrorShown) (k : ℕ) (lead other lead₁ other₁ : Standing → Type 0) → HasPassed start now k lead other lead₁ other₁ → IsOn start.lead
+    → ((discs : List (List ℕ)) → lead (Off discs) → IsOn start.lead → ⊥) → (s : Standing) → MirrorStands start lead other s → VerifyStep (MirrorStands now lead₁ other₁) s reads.Good
+all_stand start now k lead other lead₁ other₁ far on_lead not_off (On disc) so = far.stands disc so
+all_stand start now k lead other lead₁ other₁ far on_lead not_off (Off discs) (so, some) = absurd (not_off discs so on_lead)
+
+-- where the lead was not stopped all blocks were gone through
+pub all_good : (old new : MirrorShown) (out : ReadOut) → CopiesAll old new out → out ≢ reads.Cut → out ≢ reads.Fault → out ≡ reads.Good
+all_good old new reads.Good all cut fault = refl
+all_good old new reads.NotFormatted all cut fault = absurd all
+all_good old new (reads.Range known) all cut fault = absurd all
+all_good old new (reads.Unread named home) all cut fault = absurd all
+all_good old new reads.Cut all cut fault = absurd (cut refl)
+all_good old new reads.Off all cut fault = absurd all
+all_good old new reads.Fault all cut fault = absurd (fault refl)
+
+pub resynced : (after : Standing → Type 0) (s : Standing) (left : ℕ) → VerifyStep after s reads.Good → ResyncStep after s (resyncs.Done left)
+resynced after (On disc) left step = step
+resynced after (Off discs) left step = absurd step

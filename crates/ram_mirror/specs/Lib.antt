@@ -1,0 +1,5 @@
+pub mod Tables
+pub mod Sides
+pub mod Mirrors
+pub mod Reading
+pub mod Resyncs

@@ -1,0 +1,246 @@
+//! A mirror of two discs, and its calls.
+
+ghost use Rattle.std.specs.Prelude.{◌≡◌, ◌≤◌, ◌*◌, true, length};
+ghost use Rattle.model_commands.specs.declared.TheConstants.{TRANSFER_LIMIT};
+ghost use Rattle.model_sectors.specs.Discs.{Standing};
+ghost use Rattle.model_drive.specs.declared.Kind.TheVariants as kinds;
+ghost use Rattle.model_drive.specs.Formats.{FormatStep};
+ghost use Rattle.model_drive.specs.Power.{PowerStep};
+ghost use Rattle.model_drive.specs.Reads.{ReadStep};
+ghost use Rattle.model_drive.specs.Writes.{WriteStep};
+ghost use Rattle.model_mirror.specs.Shown.{told_apart};
+ghost use Rattle.model_mirror.specs.Steps.{ResyncStep};
+ghost use Rattle.model_mirror.specs.Reads.{MirrorReadCause};
+ghost use Rattle.model_mirror.specs.Whole.{MirrorPowerCause, MirrorFormatCause, ResyncCause};
+ghost use Rattle.model_mirror.specs.Writes.{MirrorWriteCause};
+
+use crate::following::{Following, Led};
+use crate::formatting::format_on;
+use crate::power::power_both;
+use crate::reading::read_on;
+use crate::resync::resync_on;
+use crate::table::ApartTable;
+use crate::writing::write_on;
+use model_mirror::Resync;
+use ram_bytes::Block;
+use ram_sectors::{Disc, FormatOut, PowerOut, ReadOut, Sectors, WriteOut};
+use std::alloc::{AllocError, Global};
+
+/// The memory that a mirror works in: a table for any disc, and room for a block that is copied. All of it is taken here.
+#[derive(Drop)]
+pub struct MirrorRooms {
+    table: ApartTable,
+    block: Block,
+}
+
+impl MirrorRooms {
+    /// Takes the memory.
+    pub fn new(alloc: Global) -> Result<MirrorRooms, AllocError> {
+        Ok(MirrorRooms {
+            table: ApartTable::new(alloc)?,
+            block: Block::zeros(alloc)?,
+        })
+    }
+}
+
+/// Two discs, of which one leads: what it has the other one is to have as well. It keeps no fact about them, so that they may be
+/// lent.
+#[derive(Drop)]
+pub struct Mirror<A: Disc, B: Disc> {
+    /// The side that leads at first.
+    pub a: A,
+    /// The other one.
+    pub b: B,
+    pub(crate) lead_is_a: bool,
+    pub(crate) following: Following,
+    room: Block,
+}
+
+impl<A: Disc, B: Disc> Mirror<A, B> {
+    ghost use Rattle.ram_mirror.specs.Mirrors.{IsNew, mirror_shows, mirror_stands};
+
+    /// A mirror of these sides, which is off; side `a` leads.
+    pub fn new(rooms: MirrorRooms, a: A, b: B) -> Mirror<A, B>
+        ensures { IsNew result a b }
+    {
+        Mirror {
+            a,
+            b,
+            lead_is_a: true,
+            following: Following {
+                on: false,
+                up: false,
+                table: rooms.table,
+            },
+            room: rooms.block,
+        }
+    }
+
+    /// The memory of the mirror, and its sides, first side `a`.
+    pub fn into_parts(self) -> (MirrorRooms, A, B)
+        ensures a { result.1 ≡ self.a }
+        ensures b { result.2 ≡ self.b }
+    {
+        let Mirror {
+            a,
+            b,
+            following,
+            room,
+            ..
+        } = self;
+        let rooms = MirrorRooms {
+            table: following.table,
+            block: room,
+        };
+        (rooms, a, b)
+    }
+
+    /// Reads `n` sectors from sector `lba` on from the lead, and from the other side each block that the lead cannot give, where that one
+    /// is up and the block is not apart. The answer is the lead's. A lead that is stopped gives the lead to the other side where that has
+    /// all that the lead had.
+    pub fn read(&mut self, lba: u32, n: u32, into: &mut [u8]) -> ReadOut
+        requires few { n ≤ TRANSFER_LIMIT }
+        requires whole { length into.old ≡ 2048 * n }
+        ensures cause { MirrorReadCause (mirror_shows A.Sectors B.Sectors self.old)
+            (mirror_shows A.Sectors B.Sectors self.new) lba n result }
+        ensures step { (s : Standing) → mirror_stands A.Sectors B.Sectors self.old s
+            → ReadStep (mirror_stands A.Sectors B.Sectors self.new) s lba n into.new result }
+    {
+        if !self.following.on {
+            return ReadOut::Off;
+        }
+        if self.lead_is_a {
+            match read_on(&mut self.a, &mut self.b, &mut self.following, lba, n, into) {
+                Led::Kept(out) => out,
+                Led::Given(out) => {
+                    self.lead_is_a = false;
+                    out
+                }
+            }
+        } else {
+            match read_on(&mut self.b, &mut self.a, &mut self.following, lba, n, into) {
+                Led::Kept(out) => out,
+                Led::Given(out) => {
+                    self.lead_is_a = true;
+                    out
+                }
+            }
+        }
+    }
+
+    /// Writes `n` sectors from sector `lba` on, on the lead and then on the other side where that is up. The answer is the lead's. A
+    /// lead that is stopped gives the lead to the other side where that has all that the lead had.
+    pub fn write(&mut self, lba: u32, n: u32, from: &[u8]) -> WriteOut
+        requires few { n ≤ TRANSFER_LIMIT }
+        requires whole { length from.now ≡ 2048 * n }
+        ensures cause { MirrorWriteCause (mirror_shows A.Sectors B.Sectors self.old)
+            (mirror_shows A.Sectors B.Sectors self.new) lba n result }
+        ensures step { (s : Standing) → mirror_stands A.Sectors B.Sectors self.old s
+            → WriteStep (mirror_shows A.Sectors B.Sectors self.new).lead (mirror_stands A.Sectors B.Sectors self.new) s
+            lba n from.now result }
+    {
+        if !self.following.on {
+            return WriteOut::Off;
+        }
+        if self.lead_is_a {
+            match write_on(&mut self.a, &mut self.b, &mut self.following, lba, n, from) {
+                Led::Kept(out) => out,
+                Led::Given(out) => {
+                    self.lead_is_a = false;
+                    out
+                }
+            }
+        } else {
+            match write_on(&mut self.b, &mut self.a, &mut self.following, lba, n, from) {
+                Led::Kept(out) => out,
+                Led::Given(out) => {
+                    self.lead_is_a = true;
+                    out
+                }
+            }
+        }
+    }
+
+    /// Turns the power of both sides off and on again. The same side leads as before, and the answer is its own. The other side is up where
+    /// it is ready with the lead's capacity, and every block is apart.
+    pub fn power(&mut self) -> PowerOut
+        ensures cause { MirrorPowerCause (mirror_shows A.Sectors B.Sectors self.old)
+            (mirror_shows A.Sectors B.Sectors self.new) result }
+        ensures step { (s : Standing) → mirror_stands A.Sectors B.Sectors self.old s
+            → PowerStep (mirror_shows A.Sectors B.Sectors self.new).lead
+            (mirror_stands A.Sectors B.Sectors self.new) s result }
+    {
+        if self.lead_is_a {
+            power_both(&mut self.a, &mut self.b, &mut self.following)
+        } else {
+            power_both(&mut self.b, &mut self.a, &mut self.following)
+        }
+    }
+
+    /// Formats the lead anew, without a memory of what was defective, and where that is good the other side too. The answer is the lead's.
+    /// Where both have as many blocks then, the other side is up and no block is apart.
+    pub fn format(&mut self) -> FormatOut
+        ensures cause { MirrorFormatCause (mirror_shows A.Sectors B.Sectors self.old)
+            (mirror_shows A.Sectors B.Sectors self.new) result }
+        ensures step { (s : Standing) → mirror_stands A.Sectors B.Sectors self.old s
+            → FormatStep (mirror_shows A.Sectors B.Sectors self.old).lead (mirror_shows A.Sectors B.Sectors self.new).lead
+            (mirror_stands A.Sectors B.Sectors self.new) s (kinds.Full true) result }
+    {
+        if !self.following.on {
+            return FormatOut::Off;
+        }
+        if self.lead_is_a {
+            format_on(&mut self.a, &mut self.b, &mut self.following)
+        } else {
+            format_on(&mut self.b, &mut self.a, &mut self.following)
+        }
+    }
+
+    /// Copies each block that is apart from the lead to the other side, in rising order, while that is up. Tells how many are apart still.
+    pub fn resync(&mut self) -> Resync
+        ensures cause { ResyncCause (mirror_shows A.Sectors B.Sectors self.old)
+            (mirror_shows A.Sectors B.Sectors self.new) result }
+        ensures step { (s : Standing) → mirror_stands A.Sectors B.Sectors self.old s
+            → ResyncStep (mirror_stands A.Sectors B.Sectors self.new) s result }
+    {
+        if !self.following.on {
+            return Resync::Off;
+        }
+        if self.lead_is_a {
+            resync_on(
+                &mut self.a,
+                &mut self.b,
+                &mut self.following,
+                self.room.bytes_mut(),
+            )
+        } else {
+            resync_on(
+                &mut self.b,
+                &mut self.a,
+                &mut self.following,
+                self.room.bytes_mut(),
+            )
+        }
+    }
+
+    /// Whether side `a` leads.
+    pub fn lead_is_a(&self) -> bool
+        ensures { result ≡ (mirror_shows A.Sectors B.Sectors self.now).lead_is_a }
+    {
+        self.lead_is_a
+    }
+
+    /// Whether the side that does not lead is up.
+    pub fn other_up(&self) -> bool
+        ensures { result ≡ (mirror_shows A.Sectors B.Sectors self.now).up }
+    {
+        self.following.up
+    }
+
+    /// Whether a logical block is apart: the other side is not known to have what the lead has.
+    pub fn apart(&self, block: u32) -> bool
+        ensures { result ≡ told_apart (mirror_shows A.Sectors B.Sectors self.now) block }
+    {
+        !self.following.up || self.following.table.is_apart(block)
+    }
+}
