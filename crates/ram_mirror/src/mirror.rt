@@ -183,7 +183,8 @@ impl<A: Disc, B: Disc> Mirror<A, B> {
         ensures cause { MirrorFormatCause (mirror_shows A.Sectors B.Sectors self.old)
             (mirror_shows A.Sectors B.Sectors self.new) result }
         ensures step { (s : Standing) → mirror_stands A.Sectors B.Sectors self.old s
-            → FormatStep (mirror_shows A.Sectors B.Sectors self.old).lead (mirror_shows A.Sectors B.Sectors self.new).lead
+            → FormatStep (mirror_shows A.Sectors B.Sectors self.old).lead
+            (mirror_shows A.Sectors B.Sectors self.new).lead
             (mirror_stands A.Sectors B.Sectors self.new) s (kinds.Full true) result }
     {
         if !self.following.on {

@@ -40,7 +40,8 @@ pub(crate) fn power_both<L: Disc, O: Disc>(
     other: &mut O,
     following: &mut Following,
 ) -> PowerOut
-    ensures cause { (side : Bool) → MirrorPowerCause (shown_by L.Sectors O.Sectors side lead.old other.old following.old)
+    ensures cause { (side : Bool) → MirrorPowerCause
+        (shown_by L.Sectors O.Sectors side lead.old other.old following.old)
         (shown_by L.Sectors O.Sectors side lead.new other.new following.new) result }
     ensures step { (side : Bool) (s : Standing) → stands_by L.Sectors O.Sectors side lead.old other.old following.old s
         → PowerStep (L.shows lead.new) (stands_by L.Sectors O.Sectors side lead.new other.new following.new) s result }

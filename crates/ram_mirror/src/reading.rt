@@ -164,7 +164,8 @@ pub(crate) fn read_parts<L: Disc, O: Disc>(
     ensures gives { (side : Bool) (disc : List ℕ) → L.stands lead.old (On disc)
         → IsFollowed (shown_by L.Sectors O.Sectors side lead.old other.old following.old) (O.stands other.old) disc
         → LedGives (L.stands lead.new) (O.stands other.new)
-        (shown_by L.Sectors O.Sectors side lead.new other.new following.new) disc request.lba request.n into.new result }
+        (shown_by L.Sectors O.Sectors side lead.new other.new following.new) disc request.lba request.n
+        into.new result }
     ensures whole { length into.new ≡ length into.old }
     ensures on { following.new.on ≡ following.old.on }
     ensures table { entries_of following.new.table ≡ entries_of following.old.table }
@@ -223,10 +224,10 @@ pub(crate) fn read_on<L: Disc, O: Disc>(
     requires few { n ≤ TRANSFER_LIMIT }
     requires whole { length into.old ≡ 2048 * n }
     requires on { following.old.on ≡ true }
-    ensures cause { (side : Bool) → ReadLed L.Sectors O.Sectors side lead.old other.old following.old lead.new other.new
-        following.new lba n result }
-    ensures step { (side : Bool) → ReadLedStep L.Sectors O.Sectors side lead.old other.old following.old lead.new other.new
-        following.new lba n into.new result }
+    ensures cause { (side : Bool) → ReadLed L.Sectors O.Sectors side lead.old other.old following.old
+        lead.new other.new following.new lba n result }
+    ensures step { (side : Bool) → ReadLedStep L.Sectors O.Sectors side lead.old other.old following.old
+        lead.new other.new following.new lba n into.new result }
 {
     let out = read_led(lead, other, following, lba, n, into);
     match out {
