@@ -6,7 +6,7 @@ ghost use Rattle.model_bytes.specs.Bytes.{put_at};
 ghost use Rattle.ram_bytes.specs.Lending.{LendsBytes};
 ghost use Rattle.ram_bytes.specs.declared.block.TheConstants.{BLOCK_BYTES, SECTOR_BYTES, SECTORS_PER_BLOCK};
 
-use std::alloc::{AllocError, Global};
+use crate::budget::{Budget, MemoryRefused};
 use std::marker::Model;
 
 /// How many bytes a sector has.
@@ -36,11 +36,13 @@ impl Model for Block {
 
 impl Block {
     /// A block of zeros.
-    pub fn zeros(alloc: Global) -> Result<Block, AllocError>
-        ensures { IfOk result (λ block. block ≡ replicate BLOCK_BYTES 0) }
+    pub fn zeros(budget: &mut Budget) -> Result<Block, MemoryRefused>
+        requires free { BLOCK_BYTES ≤ budget.old }
+        ensures left { budget.new + BLOCK_BYTES ≡ budget.old }
+        ensures zeros { IfOk result (λ block. block ≡ replicate BLOCK_BYTES 0) }
     {
         Ok(Block {
-            bytes: vec![in alloc; 0; BLOCK_BYTES]?,
+            bytes: budget.zeros(BLOCK_BYTES)?,
         })
     }
 

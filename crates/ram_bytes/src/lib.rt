@@ -1,4 +1,4 @@
-//! Big-endian numbers in bytes, blocks of sixteen sectors, and command blocks.
+//! Big-endian numbers in bytes, blocks of sixteen sectors, command blocks, and memory within a budget.
 #![tactic(auto)]
 
 ghost use Rattle.std.specs.Prelude.{◌≡◌};
@@ -6,11 +6,13 @@ ghost use Rattle.ram_bytes.specs.declared.block.TheConstants.{BLOCK_BYTES, SECTO
 ghost use Rattle.ram_bytes.specs.declared.cdb.TheConstants.{CDB_LIMIT};
 
 pub mod block;
+pub mod budget;
 pub mod cdb;
 pub mod digits;
 pub mod number;
 
 pub use block::{BLOCK_BYTES, Block, SECTOR_BYTES, SECTORS_PER_BLOCK};
+pub use budget::{Budget, MemoryRefused};
 pub use cdb::{CDB_LIMIT, Cdb};
 pub use digits::encode_hex;
 pub use number::{get_u16, get_u24, get_u32, is_zero, put_u16, put_u24, put_u32};

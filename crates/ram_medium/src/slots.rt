@@ -6,7 +6,7 @@ ghost use Rattle.model_medium.specs.Cells.{Blank, Good, Dead, IsGood, cell_at, w
 ghost use Rattle.ram_medium.specs.Slots.{slot_cell, slot_cells, ChangesSlot};
 
 use model_medium::Fate;
-use ram_bytes::Block;
+use ram_bytes::{BLOCK_BYTES, Block, Budget};
 use std::alloc::{AllocError, Global};
 
 /// What a slot stands for.
@@ -34,7 +34,7 @@ pub(crate) fn blank_slots(alloc: Global, blocks: u32) -> Result<Vec<Slot>, Alloc
     for _ in 0..blocks {
         slots.push(Slot {
             state: State::Blank,
-            block: Block::zeros(alloc)?,
+            block: Block::zeros(&mut Budget::new(alloc, BLOCK_BYTES))?,
         })?;
     }
     Ok(slots)
