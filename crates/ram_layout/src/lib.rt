@@ -10,4 +10,4 @@ pub use filling::{fill, put_zone};
 pub use laws::a_table_has_the_pools_of_its_disc;
 pub use layout::Layout;
 pub use ram_runs::Run;
-pub use slip_layout::{MOST_RUNS, SlipLayout};
+pub use slip_layout::{MOST_RUNS, RUNS_MEMORY, SlipLayout};

@@ -6,19 +6,24 @@ ghost use Rattle.model_places.specs.Places.{count_of};
 ghost use Rattle.model_places.specs.Valid.{IsValidPdl, IsValidOnSome};
 ghost use Rattle.ram_dds.specs.Dds.{dds_of};
 ghost use Rattle.ram_layout.specs.Slipping.{IsSlippingOf};
+ghost use Rattle.ram_layout.specs.declared.slip_layout.TheConstants.{RUNS_MEMORY};
 ghost use Rattle.ram_runs.specs.Runs.{blocks_in};
 
 use crate::filling::fill;
 use crate::layout::Layout;
+use ram_bytes::{Budget, MemoryRefused};
 use ram_dds::DdsPdl;
 use ram_runs::{Run, block_at, count_in, place_at};
 use ram_slip::Place;
 use ram_zones::{Geometry, MOST_SPARES, MOST_ZONES};
-use std::alloc::{AllocError, Global};
 use std::marker::Model;
+use std::mem::size_of;
 
 /// The most runs that the data blocks of a disc have: each zone begins one, and each slipped block.
 pub const MOST_RUNS: usize = MOST_ZONES as usize + MOST_SPARES as usize;
+
+/// How many bytes the runs of a disc ask for.
+pub const RUNS_MEMORY: usize = MOST_RUNS * size_of::<Run>();
 
 /// The number of the one pool.
 const ONLY_POOL: u32 = 0;
@@ -46,19 +51,21 @@ impl Model for SlipLayout {
 impl SlipLayout {
     /// The layout of a structure with so many supplementary spares.
     pub fn new(
-        alloc: Global,
+        budget: &mut Budget,
         geometry: &Geometry,
         dds: &DdsPdl,
         ssa: u32,
-    ) -> Result<SlipLayout, AllocError>
+    ) -> Result<SlipLayout, MemoryRefused>
+        requires free { RUNS_MEMORY ≤ budget.old }
         requires valid { IsValidPdl geometry.now (dds_of dds.now) }
         requires area { IsValidOnSome geometry.now ssa }
         requires one { geometry.now.layout ≡ OneGroup }
-        ensures { IfOk result (IsSlippingOf geometry.now (dds_of dds.now)
+        ensures left { budget.old ≤ budget.new + RUNS_MEMORY }
+        ensures slipping { IfOk result (IsSlippingOf geometry.now (dds_of dds.now)
             (count_of geometry.now ssa)) }
     {
         let psa = geometry.psa();
-        let mut runs = Vec::with_capacity(alloc, MOST_RUNS)?;
+        let mut runs = budget.room(MOST_RUNS)?;
         let entries = dds.entries.as_slice();
         fill(&mut runs, geometry, entries);
         Ok(SlipLayout {
