@@ -1,10 +1,15 @@
 //! How far the spares of each pool are known to be used.
 
-ghost use Rattle.std.specs.Prelude.{◌≡◌, ◌<◌, ◌≤◌, IfOk, [], length, replicate, slice_index, slice_set};
+ghost use Rattle.std.specs.Prelude.{◌≡◌, ◌+◌, ◌<◌, ◌≤◌, IfOk, [], length, replicate, slice_index, slice_set};
+ghost use Rattle.ram_spare.specs.declared.cursors.TheConstants.{CURSORS_MEMORY};
 
+use ram_bytes::{Budget, MemoryRefused};
 use ram_zones::MOST_ZONES;
-use std::alloc::{AllocError, Global};
 use std::marker::Model;
+use std::mem::size_of;
+
+/// How many bytes the cursors ask for.
+pub const CURSORS_MEMORY: usize = MOST_ZONES as usize * size_of::<u32>();
 
 /// A cursor for each pool of a layout: a number of spares, counted in the order in which they are taken. They fit a secondary
 /// list where each spare before them is named by an entry, so a search may begin at them. They are seen as the list of these
@@ -27,11 +32,13 @@ impl Model for Cursors {
 
 impl Cursors {
     /// Room for the cursors of any disc, and none yet.
-    pub fn new(alloc: Global) -> Result<Cursors, AllocError>
-        ensures { IfOk result (λ cursors. cursors ≡ []) }
+    pub fn new(budget: &mut Budget) -> Result<Cursors, MemoryRefused>
+        requires free { CURSORS_MEMORY ≤ budget.old }
+        ensures left { budget.old ≤ budget.new + CURSORS_MEMORY }
+        ensures empty { IfOk result (λ cursors. cursors ≡ []) }
     {
         Ok(Cursors {
-            at: Vec::with_capacity(alloc, MOST_ZONES as usize)?,
+            at: budget.room(MOST_ZONES as usize)?,
         })
     }
 

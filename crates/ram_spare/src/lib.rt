@@ -10,7 +10,7 @@ mod laws;
 mod spare;
 
 pub use count::{SpareCounts, counts};
-pub use cursors::Cursors;
+pub use cursors::{CURSORS_MEMORY, Cursors};
 pub use homes::home;
 pub use laws::next_free_walks_through_the_free_spares;
 pub use spare::{FreeSpare, free_from, next_free};
