@@ -1,16 +1,17 @@
 //! One layout for both kinds.
 
-ghost use Rattle.std.specs.Prelude.{◌≡◌, IfOk};
+ghost use Rattle.std.specs.Prelude.{◌≡◌, ◌+◌, ◌≤◌, IfOk};
 ghost use Rattle.model_places.specs.Valid.{IsValidPdl, IsValidOnSome};
 ghost use Rattle.ram_dds.specs.Dds.{dds_of};
 ghost use Rattle.ram_groups.specs.Layouts.{IsLayoutOf, IsOfKind, MayHave, with_ssa};
+ghost use Rattle.ram_groups.specs.declared.zone_layout.TheConstants.{LAYOUT_MEMORY};
 
 use crate::zone_layout::ZoneLayout;
+use ram_bytes::{Budget, MemoryRefused};
 use ram_dds::DdsPdl;
 use ram_layout::{Layout, SlipLayout};
 use ram_slip::Place;
 use ram_zones::{Geometry, LayoutKind};
-use std::alloc::{AllocError, Global};
 
 /// The layout of a disc, of either kind.
 #[derive(Drop)]
@@ -24,20 +25,22 @@ pub enum AnyLayout {
 impl AnyLayout {
     /// The layout of a structure with so many supplementary spares, of the kind of the geometry.
     pub fn new(
-        alloc: Global,
+        budget: &mut Budget,
         geometry: &Geometry,
         dds: &DdsPdl,
         ssa: u32,
-    ) -> Result<AnyLayout, AllocError>
+    ) -> Result<AnyLayout, MemoryRefused>
+        requires free { LAYOUT_MEMORY ≤ budget.old }
         requires valid { IsValidPdl geometry.now (dds_of dds.now) }
         requires area { IsValidOnSome geometry.now ssa }
-        ensures { IfOk result (IsLayoutOf geometry.now (dds_of dds.now) ssa) }
+        ensures left { budget.old ≤ budget.new + LAYOUT_MEMORY }
+        ensures layout { IfOk result (IsLayoutOf geometry.now (dds_of dds.now) ssa) }
     {
         match geometry.layout() {
             LayoutKind::OneGroup => {
-                Ok(AnyLayout::Slip(SlipLayout::new(alloc, geometry, dds, ssa)?))
+                Ok(AnyLayout::Slip(SlipLayout::new(budget, geometry, dds, ssa)?))
             }
-            LayoutKind::EachZone => Ok(AnyLayout::Zones(ZoneLayout::new(alloc, geometry, dds)?)),
+            LayoutKind::EachZone => Ok(AnyLayout::Zones(ZoneLayout::new(budget, geometry, dds)?)),
         }
     }
 

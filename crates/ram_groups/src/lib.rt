@@ -9,4 +9,4 @@ mod zone_layout;
 
 pub use any_layout::AnyLayout;
 pub use laws::{a_layout_has_the_pools_of_its_disc, a_table_of_zones_has_the_pools_of_its_disc};
-pub use zone_layout::ZoneLayout;
+pub use zone_layout::{LAYOUT_MEMORY, ZoneLayout};

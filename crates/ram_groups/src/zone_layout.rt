@@ -6,17 +6,25 @@ ghost use Rattle.model_geometry.specs.Geometry.{spare_room};
 ghost use Rattle.model_places.specs.Valid.{IsValidPdl};
 ghost use Rattle.ram_dds.specs.Dds.{dds_of};
 ghost use Rattle.ram_groups.specs.Zoning.{IsZoneOfPlace, IsZoningOf};
+ghost use Rattle.ram_groups.specs.declared.zone_layout.TheConstants.{LAYOUT_MEMORY};
 
 use crate::filling::fill_zones;
 use crate::numbers::zone_of_number;
 use model_geometry::MOST_ZONES;
+use ram_bytes::{Budget, MemoryRefused};
 use ram_dds::DdsPdl;
-use ram_layout::{Layout, MOST_RUNS, Run};
+use ram_layout::{Layout, MOST_RUNS, RUNS_MEMORY, Run};
 use ram_runs::{block_at, place_at};
 use ram_slip::{Place, zone_count, zone_first};
 use ram_zones::Geometry;
-use std::alloc::{AllocError, Global};
 use std::marker::Model;
+use std::mem::size_of;
+
+/// How many places there are where a zone begins, and the end.
+const MOST_STARTS: usize = MOST_ZONES as usize + 1;
+
+/// How many bytes a table of runs and the places where the zones begin in it ask for.
+pub const LAYOUT_MEMORY: usize = RUNS_MEMORY + MOST_STARTS * size_of::<u32>();
 
 /// The layout of a disc with a group of spares in each zone: of the blocks of a zone that are not slipped the first are its
 /// logical blocks, and the others its spares. There is room for any disc.
@@ -40,14 +48,20 @@ impl Model for ZoneLayout {
 
 impl ZoneLayout {
     /// The layout of a structure.
-    pub fn new(alloc: Global, geometry: &Geometry, dds: &DdsPdl) -> Result<ZoneLayout, AllocError>
+    pub fn new(
+        budget: &mut Budget,
+        geometry: &Geometry,
+        dds: &DdsPdl,
+    ) -> Result<ZoneLayout, MemoryRefused>
+        requires free { LAYOUT_MEMORY ≤ budget.old }
         requires valid { IsValidPdl geometry.now (dds_of dds.now) }
         requires zones { geometry.now.layout ≡ EachZone }
-        ensures { IfOk result (IsZoningOf geometry.now (dds_of dds.now)) }
+        ensures left { budget.old ≤ budget.new + LAYOUT_MEMORY }
+        ensures zoning { IfOk result (IsZoningOf geometry.now (dds_of dds.now)) }
     {
         let _room = geometry.spare_room();
-        let mut runs = Vec::with_capacity(alloc, MOST_RUNS)?;
-        let mut starts = Vec::with_capacity(alloc, MOST_ZONES as usize + 1)?;
+        let mut runs = budget.room(MOST_RUNS)?;
+        let mut starts = budget.room(MOST_STARTS)?;
         fill_zones(&mut runs, &mut starts, geometry, dds.entries.as_slice());
         Ok(ZoneLayout {
             geometry: *geometry,
