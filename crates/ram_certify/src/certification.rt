@@ -1,6 +1,7 @@
 //! The certification of a disc.
 
-ghost use Rattle.std.specs.Prelude.{◌≡◌, ◌≤◌, IfOk, [], vec_capacity};
+ghost use Rattle.std.specs.Prelude.{◌≡◌, ◌+◌, ◌≤◌, IfOk, [], vec_capacity};
+ghost use Rattle.ram_bytes.specs.declared.block.TheConstants.{BLOCK_BYTES};
 ghost use Rattle.model_geometry.specs.Geometry.{total};
 ghost use Rattle.model_sectors.specs.Discs.{zeros};
 ghost use Rattle.model_formats.specs.Defects.{AreKept};
@@ -8,11 +9,10 @@ ghost use Rattle.ram_certify.specs.Certifying.{CertifyRule};
 
 use crate::blocks::certify_blocks;
 use model_lists::PdlEntry;
-use ram_bytes::Block;
+use ram_bytes::{Block, Budget, MemoryRefused};
 use ram_copies::Scratch;
 use ram_medium::{Medium, Stop};
 use ram_zones::Geometry;
-use std::alloc::{AllocError, Global};
 
 /// How a certification ended.
 #[derive(Clone, Copy, Debug, PartialEq, Eq)]
@@ -31,10 +31,12 @@ pub enum Certified {
 }
 
 /// A block of zeros, for a certification.
-pub fn zero_block(alloc: Global) -> Result<Block, AllocError>
-    ensures { IfOk result (λ block. block ≡ zeros 32768) }
+pub fn zero_block(budget: &mut Budget) -> Result<Block, MemoryRefused>
+    requires free { BLOCK_BYTES ≤ budget.old }
+    ensures left { budget.old ≤ budget.new + BLOCK_BYTES }
+    ensures zeros { IfOk result (λ block. block ≡ zeros 32768) }
 {
-    Block::zeros(alloc)
+    Block::zeros(budget)
 }
 
 /// Certifies the data blocks that are not kept, as [`certify_blocks`] does, where the power is on. After Cut and Fault what

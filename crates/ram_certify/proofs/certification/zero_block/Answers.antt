@@ -1,6 +1,6 @@
 use Rattle.model_sectors.specs.Discs.{zeros}
 use Rattle.ram_certify.proofs.certification.zero_block.Goals as goal
 
-pub returns : goal.returns
+pub returns-clause-zeros : goal.returns-clause-zeros
 unfolding zeros
-returns c = c.zeros.ensures
+returns-clause-zeros c = c.zeros.ensures.zeros
