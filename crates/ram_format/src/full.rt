@@ -8,17 +8,18 @@ ghost use Rattle.model_formats.specs.Defects.{AreKept};
 ghost use Rattle.ram_format.specs.Phases.{kind_by};
 ghost use Rattle.ram_lists.specs.Lists.{lists_of};
 ghost use Rattle.ram_format.specs.Full.{MakesLists, HaltsFormat, FullRule, StaysWith};
+ghost use Rattle.ram_format.specs.declared.full.TheConstants.{FORMAT_MEMORY};
 
 use crate::halts::FormatHalt;
 use crate::phases::{find_defects, with_copy};
-use ram_bytes::Block;
+use ram_bytes::{Block, Budget, MemoryRefused};
 use ram_copies::{Purpose, Scratch, put_copies};
 use ram_dds::{DdsState, PdlEntry, PdlKind};
 use ram_lists::Lists;
 use ram_medium::{Medium, Stop};
 use ram_sdl::Version;
 use ram_zones::Geometry;
-use std::alloc::{AllocError, Global};
+use std::mem::size_of;
 
 /// The greatest mark that has room for two more counters.
 const GREATEST_MARK: u32 = 4_294_967_293;
@@ -29,6 +30,10 @@ const MOST_FOUND: usize = 9_993;
 
 /// The most blocks that a disc may have slipped.
 const MOST_SLIPPED: usize = 4_092;
+
+/// How many bytes the memory of a full format asks for.
+pub const FORMAT_MEMORY: usize = MOST_FOUND * size_of::<u32>()
+    + MOST_SLIPPED * size_of::<PdlEntry>();
 
 /// How a full format ended.
 #[derive(Clone, Copy, Debug, PartialEq, Eq)]
@@ -83,10 +88,13 @@ pub struct FormatRoom {
 
 impl FormatRoom {
     /// Takes this memory.
-    pub fn new(alloc: Global) -> Result<FormatRoom, AllocError> {
+    pub fn new(budget: &mut Budget) -> Result<FormatRoom, MemoryRefused>
+        requires free { FORMAT_MEMORY ≤ budget.old }
+        ensures left { budget.old ≤ budget.new + FORMAT_MEMORY }
+    {
         Ok(FormatRoom {
-            found: Vec::with_capacity(alloc, MOST_FOUND)?,
-            merged: Vec::with_capacity(alloc, MOST_SLIPPED)?,
+            found: budget.room(MOST_FOUND)?,
+            merged: budget.room(MOST_SLIPPED)?,
         })
     }
 }
