@@ -9,7 +9,7 @@ mod reading;
 mod verifying;
 mod writing;
 
-pub use memory::{Memory, Workspace};
+pub use memory::{Memory, VOLUME_MEMORY, WORKSPACE_MEMORY, Workspace};
 pub use reading::{ended_at, read_parts};
 pub use verifying::read_homes;
 pub use writing::write_parts;

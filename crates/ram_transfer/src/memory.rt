@@ -1,27 +1,43 @@
 //! The memory that a drive works with: all of it is taken by [`Memory::new`].
 
-ghost use Rattle.std.specs.Prelude.{◌≡◌, ◌≤◌, IfOk, Some, [], length, vec_capacity};
+ghost use Rattle.std.specs.Prelude.{◌≡◌, ◌+◌, ◌≤◌, IfOk, Some, [], length, vec_capacity};
 ghost use Rattle.model_places.specs.Valid.{AreValid};
 ghost use Rattle.ram_format.specs.Keeping.{RiseApart, AreAllKept};
 ghost use Rattle.ram_groups.specs.Layouts.{IsOfKind, layout_pools};
 ghost use Rattle.ram_lists.specs.Lists.{lists_of};
 ghost use Rattle.ram_spare.specs.Turns.{AreAtFirstFree};
 ghost use Rattle.ram_transfer.specs.Layouts.{IsLaidOut};
+ghost use Rattle.ram_groups.specs.declared.zone_layout.TheConstants.{LAYOUT_MEMORY};
+ghost use Rattle.ram_transfer.specs.declared.memory.TheConstants.{WORKSPACE_MEMORY, VOLUME_MEMORY};
 
-use ram_buffer::BlockBuffer;
-use ram_bytes::Block;
-use ram_copies::Scratch;
+use ram_buffer::{BUFFER_MEMORY, BlockBuffer};
+use ram_bytes::{BLOCK_BYTES, Block, Budget, MemoryRefused};
+use ram_copies::{SCRATCH_MEMORY, Scratch};
 use ram_dds::{DdsPdl, PdlEntry};
-use ram_format::{FormatRoom, kept_entries};
-use ram_groups::AnyLayout;
+use ram_format::{FORMAT_MEMORY, FormatRoom, kept_entries};
+use ram_groups::{AnyLayout, LAYOUT_MEMORY};
 use ram_layout::Layout;
-use ram_lists::Lists;
-use ram_spare::Cursors;
+use ram_lists::{LISTS_MEMORY, Lists};
+use ram_spare::{CURSORS_MEMORY, Cursors};
 use ram_zones::{Geometry, LayoutKind};
-use std::alloc::{AllocError, Global};
+use std::mem::size_of;
 
 /// The most entries that a full format may keep: those of a primary and of a secondary defect list.
 const MOST_KEPT: usize = 12_276;
+
+/// How many bytes a [`Workspace`] asks for: the secondary list that is written next and what a mount looks at, the table of runs, the
+/// cursors, the buffer, the scratch block and what is read back, the copies of a list, and what a full format keeps and finds.
+pub const WORKSPACE_MEMORY: usize = LISTS_MEMORY
+    + LAYOUT_MEMORY
+    + CURSORS_MEMORY
+    + BUFFER_MEMORY
+    + 2 * BLOCK_BYTES
+    + SCRATCH_MEMORY
+    + MOST_KEPT * size_of::<PdlEntry>()
+    + FORMAT_MEMORY;
+
+/// How many bytes a drive's [`Memory`] asks for.
+pub const VOLUME_MEMORY: usize = LISTS_MEMORY + WORKSPACE_MEMORY;
 
 /// The memory in which the calls of a drive with its power on work, and what stays between them: the buffer, and on a formatted
 /// disc its layout, with how far its spares are used.
@@ -72,36 +88,40 @@ fn smallest(kind: LayoutKind) -> Geometry
 
 /// A layout of this kind, which has room for any disc: that of a small one, with this structure, which has no entries.
 fn layout_of_kind(
-    alloc: Global,
+    budget: &mut Budget,
     kind: LayoutKind,
     dds: &mut DdsPdl,
-) -> Result<AnyLayout, AllocError>
-    requires { dds.old.entries ≡ [] }
-    ensures { IfOk result (IsOfKind kind) }
+) -> Result<AnyLayout, MemoryRefused>
+    requires empty { dds.old.entries ≡ [] }
+    requires free { LAYOUT_MEMORY ≤ budget.old }
+    ensures left { budget.old ≤ budget.new + LAYOUT_MEMORY }
+    ensures kind { IfOk result (IsOfKind kind) }
 {
     let geometry = smallest(kind);
     dds.layout = geometry.layout();
     dds.psa = geometry.psa();
-    AnyLayout::new(alloc, &geometry, dds, 0)
+    AnyLayout::new(budget, &geometry, dds, 0)
 }
 
 impl Workspace {
     /// Takes all of it, for discs with a layout of this kind.
-    fn new(alloc: Global, kind: LayoutKind) -> Result<Workspace, AllocError>
-        ensures { IfOk result (λ workspace. IsOfKind kind workspace.layout) }
+    fn new(budget: &mut Budget, kind: LayoutKind) -> Result<Workspace, MemoryRefused>
+        requires free { WORKSPACE_MEMORY ≤ budget.old }
+        ensures left { budget.old ≤ budget.new + WORKSPACE_MEMORY }
+        ensures kind { IfOk result (λ workspace. IsOfKind kind workspace.layout) }
     {
-        let mut draft = Lists::new(alloc)?;
-        let layout = layout_of_kind(alloc, kind, &mut draft.dds)?;
+        let mut draft = Lists::new(budget)?;
+        let layout = layout_of_kind(budget, kind, &mut draft.dds)?;
         Ok(Workspace {
-            cursors: Cursors::new(alloc)?,
+            cursors: Cursors::new(budget)?,
             layout,
             draft,
-            buffer: BlockBuffer::new(alloc)?,
-            block: Block::zeros(alloc)?,
-            back: Block::zeros(alloc)?,
-            scratch: Scratch::new(alloc)?,
-            kept: Vec::with_capacity(alloc, MOST_KEPT)?,
-            format: FormatRoom::new(alloc)?,
+            buffer: BlockBuffer::new(budget)?,
+            block: Block::zeros(budget)?,
+            back: Block::zeros(budget)?,
+            scratch: Scratch::new(budget)?,
+            kept: budget.room(MOST_KEPT)?,
+            format: FormatRoom::new(budget)?,
         })
     }
 
@@ -137,12 +157,14 @@ impl Workspace {
 
 impl Memory {
     /// Takes all of it, for any disc with a layout of this kind.
-    pub fn new(alloc: Global, kind: LayoutKind) -> Result<Memory, AllocError>
-        ensures { IfOk result (λ memory. IsOfKind kind memory.workspace.layout) }
+    pub fn new(budget: &mut Budget, kind: LayoutKind) -> Result<Memory, MemoryRefused>
+        requires free { VOLUME_MEMORY ≤ budget.old }
+        ensures left { budget.old ≤ budget.new + VOLUME_MEMORY }
+        ensures kind { IfOk result (λ memory. IsOfKind kind memory.workspace.layout) }
     {
         Ok(Memory {
-            lists: Lists::new(alloc)?,
-            workspace: Workspace::new(alloc, kind)?,
+            lists: Lists::new(budget)?,
+            workspace: Workspace::new(budget, kind)?,
         })
     }
 }

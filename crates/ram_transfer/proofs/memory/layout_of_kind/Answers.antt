@@ -6,11 +6,11 @@ use Rattle.ram_transfer.proofs.memory.layout_of_kind.Goals as goal
 
 pub new-requires-clause-valid : goal.new-requires-clause-valid
 new-requires-clause-valid c =
-    nothing_slipped c.smallest-geometry.result (record (dds_of c.args.dds.now) { layout = c.layout-dds.result; psa = c.psa-dds.result }) c.layout-dds.ensures c.psa-dds.ensures.spares c.requires
+    nothing_slipped c.smallest-geometry.result (record (dds_of c.args.dds.now) { layout = c.layout-dds.result; psa = c.psa-dds.result }) c.layout-dds.ensures c.psa-dds.ensures.spares c.requires.empty
 
 pub new-requires-clause-area : goal.new-requires-clause-area
 new-requires-clause-area c = (Two, no_area c.smallest-geometry.result c.psa-dds.ensures.lawful)
 
-pub returns : goal.returns
-returns c =
-    of_kind c.args.kind c.smallest-geometry.result (record (dds_of c.args.dds.now) { layout = c.layout-dds.result; psa = c.psa-dds.result }) 0 c.new.result c.smallest-geometry.ensures c.new.ensures
+pub returns-clause-kind : goal.returns-clause-kind
+returns-clause-kind c =
+    of_kind c.args.kind c.smallest-geometry.result (record (dds_of c.args.dds.now) { layout = c.layout-dds.result; psa = c.psa-dds.result }) 0 c.new.result c.smallest-geometry.ensures c.new.ensures.layout
