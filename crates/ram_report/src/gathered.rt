@@ -3,8 +3,8 @@ ghost use Rattle.std.specs.Prelude.{◌≡◌, ◌+◌, ◌<◌, ◌≤◌, ℕ,
 ghost use Rattle.ram_report.specs.Writer.{TextRule, PrintRule, FlushRule, HandOverRule, due};
 ghost use Rattle.ram_report.specs.declared.gathered.TheConstants.{GATHERED_ROOM};
 
+use ram_bytes::{Budget, MemoryRefused};
 use ram_outside::{Put, Sink};
-use std::alloc::{AllocError, Global};
 use std::marker::Model;
 
 /// How many bytes are gathered at most before they are handed to the sink.
@@ -54,11 +54,13 @@ impl Model for Gathered {
 
 impl Gathered {
     /// Nothing is gathered.
-    pub fn new(alloc: Global) -> Result<Gathered, AllocError>
-        ensures { IfOk result (λ gathered. gathered ≡ []) }
+    pub fn new(budget: &mut Budget) -> Result<Gathered, MemoryRefused>
+        requires free { GATHERED_ROOM ≤ budget.old }
+        ensures left { budget.old ≤ budget.new + GATHERED_ROOM }
+        ensures empty { IfOk result (λ gathered. gathered ≡ []) }
     {
         Ok(Gathered {
-            bytes: Vec::with_capacity(alloc, GATHERED_ROOM)?,
+            bytes: budget.room(GATHERED_ROOM)?,
             sent: 0,
         })
     }

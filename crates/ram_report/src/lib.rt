@@ -9,4 +9,4 @@ pub mod report;
 
 pub use gathered::{GATHERED_ROOM, Print, SinkFailed, hand_over};
 pub use printing::{Event, LastLine, digits_of, print_answer, print_event, print_last, print_line};
-pub use report::ReportWriter;
+pub use report::{ReportWriter, WRITER_MEMORY};

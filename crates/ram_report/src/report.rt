@@ -1,15 +1,18 @@
 //! The writer of a report: texts, numbers and hexadecimal digits, behind what is due. It touches what is gathered,
 //! and the sink by `put` alone.
-ghost use Rattle.std.specs.Prelude.{◌≡◌, ◌*◌, ◌≤◌, [], decimal, length, vec_len, IfOk};
+ghost use Rattle.std.specs.Prelude.{◌≡◌, ◌+◌, ◌*◌, ◌≤◌, [], decimal, length, vec_len, IfOk};
 ghost use Rattle.hex.specs.Hex.{encode_lower};
 ghost use Rattle.ram_report.specs.declared.gathered.TheConstants.{GATHERED_ROOM};
+ghost use Rattle.ram_report.specs.declared.report.TheConstants.{WRITER_MEMORY};
 
-use crate::gathered::{Gathered, Print, SinkFailed};
+use crate::gathered::{GATHERED_ROOM, Gathered, Print, SinkFailed};
 use crate::hexadecimal::encode_prefix;
 use itoa::Buffer;
-use ram_bytes::SECTOR_BYTES;
+use ram_bytes::{Budget, MemoryRefused, SECTOR_BYTES};
 use ram_outside::Sink;
-use std::alloc::{AllocError, Global};
+
+/// How many bytes a writer asks for: room for the text that is gathered, and for the digits of a sector.
+pub const WRITER_MEMORY: usize = GATHERED_ROOM + 2 * SECTOR_BYTES;
 
 /// Writes a report to a sink. Texts are gathered, and handed over when 64 KiB are full or when told to. At all
 /// times what the sink has written is a prefix of the text that is due. Its room is taken when it is made.
@@ -28,12 +31,14 @@ impl ReportWriter {
     ghost use Rattle.ram_report.specs.Reports.{PutsText, HandsOver, gathered_in};
 
     /// A writer with nothing gathered.
-    pub fn new(alloc: Global) -> Result<ReportWriter, AllocError>
-        ensures { IfOk result (λ writer. gathered_in writer ≡ []) }
+    pub fn new(budget: &mut Budget) -> Result<ReportWriter, MemoryRefused>
+        requires free { WRITER_MEMORY ≤ budget.old }
+        ensures left { budget.old ≤ budget.new + WRITER_MEMORY }
+        ensures empty { IfOk result (λ writer. gathered_in writer ≡ []) }
     {
         Ok(ReportWriter {
-            gathered: Gathered::new(alloc)?,
-            digits: vec![in alloc; 0; 2 * SECTOR_BYTES]?,
+            gathered: Gathered::new(budget)?,
+            digits: budget.zeros(2 * SECTOR_BYTES)?,
         })
     }
 
