@@ -1,16 +1,20 @@
 //! Both ends of a run: the script that comes, line by line, and the report that goes. The source and the sink are reached
 //! through it alone, and nothing is asked of the source while text is gathered for the sink.
-ghost use Rattle.std.specs.Prelude.{◌≡◌, IfOk};
+ghost use Rattle.std.specs.Prelude.{◌≡◌, ◌+◌, ◌≤◌, IfOk};
 ghost use Rattle.ram_report.specs.ReportLines.{numbered, event_words, answer_text, last_text, IsPrinted, IsAddressed};
+ghost use Rattle.ram_text.specs.declared.dialogue.TheConstants.{DIALOGUE_MEMORY};
 
-use crate::lines::{LineReader, NextLine};
-use ram_bytes::Cdb;
+use crate::lines::{LineReader, NextLine, ROOM};
+use ram_bytes::{Budget, Cdb, MemoryRefused};
 use ram_outside::{Sink, Source};
 use ram_report::{
-    Event, LastLine, Print, ReportWriter, SinkFailed, print_answer, print_event, print_last,
+    Event, LastLine, Print, ReportWriter, SinkFailed, WRITER_MEMORY, print_answer, print_event,
+    print_last,
 };
 use ram_sense::Answer;
-use std::alloc::{AllocError, Global};
+
+/// How many bytes the room for a dialogue asks for: a line with what was read behind it, and the writer of the report.
+pub const DIALOGUE_MEMORY: usize = ROOM + WRITER_MEMORY;
 
 /// Room for a dialogue: the lines that come, and the report that goes.
 #[derive(Drop)]
@@ -23,12 +27,14 @@ impl DialogueRoom {
     ghost use Rattle.ram_text.specs.DialogueRoom.{IsEmptyRoom};
 
     /// Nothing was read yet, and nothing is gathered. All room is taken here.
-    pub fn new(alloc: Global) -> Result<DialogueRoom, AllocError>
-        ensures { IfOk result (λ room. IsEmptyRoom room) }
+    pub fn new(budget: &mut Budget) -> Result<DialogueRoom, MemoryRefused>
+        requires free { DIALOGUE_MEMORY ≤ budget.old }
+        ensures left { budget.old ≤ budget.new + DIALOGUE_MEMORY }
+        ensures empty { IfOk result (λ room. IsEmptyRoom room) }
     {
         Ok(DialogueRoom {
-            reader: LineReader::new(alloc)?,
-            writer: ReportWriter::new(alloc)?,
+            reader: LineReader::new(budget)?,
+            writer: ReportWriter::new(budget)?,
         })
     }
 }

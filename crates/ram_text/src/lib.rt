@@ -8,7 +8,7 @@ pub mod payload;
 pub mod script;
 mod words;
 
-pub use dialogue::{Dialogue, DialogueRoom};
+pub use dialogue::{DIALOGUE_MEMORY, Dialogue, DialogueRoom};
 pub use lines::{LINE_LIMIT, LineReader, NextLine, SCRIPT_LIMIT};
 pub use payload::PAYLOAD_ROOM;
 pub use script::{Line, Unread, parse_line};

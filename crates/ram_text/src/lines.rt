@@ -8,9 +8,9 @@ ghost use Rattle.ram_report.specs.Reports.{gathered_in};
 ghost use Rattle.ram_text.specs.declared.lines.TheConstants.{LINE_LIMIT, SCRIPT_LIMIT, PIECE, ROOM};
 
 use memchr::memchr;
+use ram_bytes::{Budget, MemoryRefused};
 use ram_outside::{Source, Take};
 use ram_report::ReportWriter;
-use std::alloc::{AllocError, Global};
 use std::marker::Model;
 
 /// How many bytes a line has at most, without its line feed. A carriage return counts.
@@ -23,7 +23,7 @@ pub const SCRIPT_LIMIT: usize = 67_108_864;
 const PIECE: usize = 65_536;
 
 /// The room for the longest line that is not ended yet, and one more piece behind it.
-const ROOM: usize = 135_536;
+pub(crate) const ROOM: usize = 135_536;
 
 /// The answer of [`LineReader::next_line`].
 #[derive(Clone, Copy, Debug, PartialEq, Eq)]
@@ -67,11 +67,13 @@ impl Model for LineReader {
 
 impl LineReader {
     /// A reader that has read nothing. Its room is taken here, and none later.
-    pub fn new(alloc: Global) -> Result<LineReader, AllocError>
-        ensures { IfOk result (λ reader. reader ≡ record { line = []; buffered = []; taken = 0 }) }
+    pub fn new(budget: &mut Budget) -> Result<LineReader, MemoryRefused>
+        requires free { ROOM ≤ budget.old }
+        ensures left { budget.old ≤ budget.new + ROOM }
+        ensures empty { IfOk result (λ reader. reader ≡ record { line = []; buffered = []; taken = 0 }) }
     {
         Ok(LineReader {
-            bytes: vec![in alloc; 0; ROOM]?,
+            bytes: budget.zeros(ROOM)?,
             line_start: 0,
             line_end: 0,
             start: 0,
