@@ -112,6 +112,23 @@ impl<R: Files> FileOpener<R> {
     }
 }
 
+impl<R: Files> FileOpener<R>
+where
+    R::File: FileExt,
+{
+    /// Opens the file of this path by these options.
+    fn open_by(&mut self, options: &OpenOptions, name: &str) -> Opened<FileImage<R::File>>
+        ensures rule { OpenRule (λ i. i) name.now
+            (opener_view None None None self.old) (opener_view None None None self.new) result }
+        ensures count { self.new ≡ count_after_open result self.old }
+    {
+        match count_error(options.open(&self.rt, name), &mut self.faults) {
+            Some(file) => Opened::Image(FileImage::new(file)),
+            None => Opened::Failed,
+        }
+    }
+}
+
 impl<R: Files> Opener for FileOpener<R>
 where
     R::File: FileExt,
@@ -137,10 +154,18 @@ where
     {
         let mut options = OpenOptions::new();
         options.read(true).write(true).create(true);
-        match count_error(options.open(&self.rt, name), &mut self.faults) {
-            Some(file) => Opened::Image(FileImage::new(file)),
-            None => Opened::Failed,
-        }
+        self.open_by(&options, name)
+    }
+
+    /// Opens the file of this path to be read alone. Where there is none it fails, and none is made.
+    fn open_to_read(&mut self, name: &str) -> Opened<FileImage<R::File>>
+        ensures rule { OpenRule (λ i. i) name.now
+            (opener_view None None None self.old) (opener_view None None None self.new) result }
+        ensures count { self.new ≡ count_after_open result self.old }
+    {
+        let mut options = OpenOptions::new();
+        options.read(true);
+        self.open_by(&options, name)
     }
 
     fn close(&mut self, image: FileImage<R::File>)

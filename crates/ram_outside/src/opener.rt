@@ -1,10 +1,10 @@
-//! The trait `Opener`: opens images by name, and takes them back. Definitions alone.
+//! The trait `Opener`: opens images by name, to be read alone or written too, and takes them back. Definitions alone.
 ghost use Rattle.std.specs.Prelude.{ℕ, Bool, Option, List};
 ghost use Rattle.ram_outside.specs.Opener.{OpenRule, CloseRule, opener_view};
 
 use crate::image::Image;
 
-/// The answer of [`Opener::open`].
+/// The answer of [`Opener::open`] and [`Opener::open_to_read`].
 pub enum Opened<I> {
     /// The image is open.
     Image(I),
@@ -20,7 +20,7 @@ pub trait Opener {
     /// Whether of openers of this kind it is known what was handed back.
     ghost returned_known: { Bool };
 
-    /// The image that the next `open` gives, where it is known.
+    /// The image that is given next, by `open` or `open_to_read`, where it is known.
     ghost next: { Self → Option Self.Image };
 
     /// The image that was handed back last, where there was one and it is known.
@@ -32,15 +32,21 @@ pub trait Opener {
     /// How often the opener has failed, or an image that it took back. It never falls, and stands still at 2^64 - 1.
     ghost faults: { Self → ℕ };
 
-    /// Opens the image of this name. Its count of failures begins at 0. `Failed` says that no image is open, and one
+    /// Opens the image of this name, to be read and written. Its count of failures begins at 0. `Failed` says that no image is open, and one
     /// failure more is counted.
     fn open(&mut self, name: &str) -> Opened<Self::Image>
         ensures { OpenRule Self.Image.faults name.now
             (opener_view (next self.old) (returned self.old) (asked self.old) (faults self.old))
             (opener_view (next self.new) (returned self.new) (asked self.new) (faults self.new)) result };
 
-    /// Takes an image back, and adds its failures to the opener's; they alone are counted. What the next `open`
-    /// gives stays.
+    /// Opens the image of this name, to be read alone: one that is not there is a failure, and none is made. It answers as
+    /// `open` does.
+    fn open_to_read(&mut self, name: &str) -> Opened<Self::Image>
+        ensures { OpenRule Self.Image.faults name.now
+            (opener_view (next self.old) (returned self.old) (asked self.old) (faults self.old))
+            (opener_view (next self.new) (returned self.new) (asked self.new) (faults self.new)) result };
+
+    /// Takes an image back, and adds its failures to the opener's; they alone are counted. What is given next stays.
     fn close(&mut self, image: Self::Image)
         ensures { CloseRule returned_known Self.Image.faults image
             (opener_view (next self.old) (returned self.old) (asked self.old) (faults self.old))

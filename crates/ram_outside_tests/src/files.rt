@@ -95,7 +95,36 @@ fn open<O: Opener>(opener: &mut O, name: &str) -> Option<O::Image> {
     }
 }
 
-/// `FOLDER`: makes the folder, and in it an image, which is changed, closed, and opened and read again.
+/// Opens an image to be read alone, if it can be.
+fn open_to_read<O: Opener>(opener: &mut O, name: &str) -> Option<O::Image> {
+    match opener.open_to_read(name) {
+        Opened::Image(image) => Some(image),
+        Opened::Failed => None,
+    }
+}
+
+/// Opens an image that is not there to be read alone, and tells whether it is open, and whether there is one then.
+fn read_missing<R: Files>(
+    rt: &R,
+    opener: &mut FileOpener<&R>,
+    name: &str,
+    answer: &mut String,
+) -> io::Result<()>
+where
+    R::File: FileExt,
+{
+    let is_open = open_to_read(opener, name).is_some();
+    let mut options = OpenOptions::new();
+    options.read(true);
+    let is_there = options.open(rt, name).is_ok();
+    write!(
+        answer,
+        "the missing image is open: {is_open}, is made: {is_there}, "
+    )?;
+    Ok(())
+}
+
+/// `FOLDER`: makes the folder, and in it an image, which is changed, closed, and opened and read again, without a write.
 pub fn answer_file<R: Files + AllocGlobal>(
     rt: &R,
     folder: &str,
@@ -110,13 +139,16 @@ where
     let mut opener = FileOpener::new(rt);
     let is_open = open(&mut opener, folder).is_some();
     write!(answer, "the folder is open: {is_open}, ")?;
+    read_missing(rt, &mut opener, name.as_str(), answer)?;
     if let Some(mut image) = open(&mut opener, name.as_str()) {
         change(&mut image, answer)?;
         opener.close(image);
     }
     add_bytes(answer, &fs::read(rt, name.as_str())?)?;
-    if let Some(mut image) = open(&mut opener, name.as_str()) {
+    if let Some(mut image) = open_to_read(&mut opener, name.as_str()) {
         read(&mut image, answer)?;
+        let written = image.write_at(0, b"x");
+        write!(answer, " {written:?}")?;
         opener.close(image);
     }
     fs::remove_dir_all(rt, folder)

@@ -35,8 +35,8 @@ impl Model for MemOpener {
 }
 
 impl MemOpener {
-    /// Opens this image once, with no failure of it counted. `failing` has the numbers, from 1 on, of the calls of
-    /// `open` that fail.
+    /// Opens this image once, with no failure of it counted. `failing` has the numbers, from 1 on, of the calls that open it
+    /// and fail.
     pub fn new(image: MemImage, failing: Vec<u64>) -> MemOpener
         ensures { result ≡ record {
           next = Some (unfailed image);
@@ -69,22 +69,9 @@ impl MemOpener {
             Err(_) => false,
         }
     }
-}
 
-impl Opener for MemOpener {
-    type Image = MemImage;
-
-    ghost returned_known = { true };
-
-    ghost next = { λ o. o.next };
-
-    ghost returned = { λ o. o.returned };
-
-    ghost asked = { λ o. Some o.asked };
-
-    ghost faults = { λ o. o.calls.faults };
-
-    fn open(&mut self, name: &str) -> Opened<MemImage>
+    /// Gives the image, where it still has it and the call is none that fails.
+    fn give(&mut self, name: &str) -> Opened<MemImage>
         ensures rule { OpenRule (λ i. i.calls.faults) name.now (view_of self.old) (view_of self.new) result }
         ensures exactly { OpensExactly name.now self.old self.new result }
     {
@@ -108,6 +95,35 @@ impl Opener for MemOpener {
                 Opened::Failed
             }
         }
+    }
+}
+
+impl Opener for MemOpener {
+    type Image = MemImage;
+
+    ghost returned_known = { true };
+
+    ghost next = { λ o. o.next };
+
+    ghost returned = { λ o. o.returned };
+
+    ghost asked = { λ o. Some o.asked };
+
+    ghost faults = { λ o. o.calls.faults };
+
+    fn open(&mut self, name: &str) -> Opened<MemImage>
+        ensures rule { OpenRule (λ i. i.calls.faults) name.now (view_of self.old) (view_of self.new) result }
+        ensures exactly { OpensExactly name.now self.old self.new result }
+    {
+        self.give(name)
+    }
+
+    /// It does what `open` does.
+    fn open_to_read(&mut self, name: &str) -> Opened<MemImage>
+        ensures rule { OpenRule (λ i. i.calls.faults) name.now (view_of self.old) (view_of self.new) result }
+        ensures exactly { OpensExactly name.now self.old self.new result }
+    {
+        self.give(name)
     }
 
     fn close(&mut self, image: MemImage)
