@@ -9,3 +9,4 @@ pub mod MachineParts
 mod LeftMachine
 mod GoodRows
 mod Faults
+pub mod Knowing

@@ -41,6 +41,15 @@ not_good_found total block inside before after e found = subst (λ o. ¬ IsGood 
     cases None h = λ good. good
     cases (Some held) h = λ good. h (subst IsGood (cell_at-cells_of total held block inside) good)
 
+-- a cell that was found to be dead
+pub dead_found : (total block : ℕ) → block < total → (before after : Option (List ℕ)) → after ≡ before → IfSome before (λ held. cell_in total held block ≡ Dead)
+    → cell_at (cells_known total after) block ≡ Dead
+dead_found total block inside before after e found = subst (λ o. cell_at (cells_known total o) block ≡ Dead) (sym e) (cases before found)
+  where
+    cases : (o : Option (List ℕ)) → IfSome o (λ held. cell_in total held block ≡ Dead) → cell_at (cells_known total o) block ≡ Dead
+    cases None h = refl
+    cases (Some held) h = cell_at-cells_of total held block inside ∙ h
+
 -- where no block of a row is good, the first is not
 pub none_good : (total block count : ℕ) → count ≡ 0 → (o : Option (List ℕ)) → IfSome o (λ held. count ≡ 0 → ¬ IsGood (cell_in total held block)) → IfSome o (λ held. ¬ IsGood (cell_in total held block))
 none_good total block count none None h = tt

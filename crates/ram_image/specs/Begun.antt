@@ -25,6 +25,8 @@ use Rattle.ram_image.specs.declared.medium.Begun.{Begun}
 use Rattle.ram_image.specs.declared.medium.Begun.TheVariants as begins
 use Rattle.ram_image.specs.declared.medium.Looked.{Looked}
 use Rattle.ram_image.specs.declared.medium.Looked.TheVariants as looks
+use Rattle.ram_image.specs.declared.cells.StateRead.{StateRead}
+use Rattle.ram_image.specs.declared.cells.StateRead.TheVariants as states
 
 -- A medium just opened over this image: its cells, with the power off, nothing counted and nothing armed. (This
 -- project's own.)
@@ -78,6 +80,21 @@ abbrev pub LookRule : Machine → Machine → (block from to : ℕ) → Looked �
 LookRule old new block from to looks.Good = (new ≡ old) × (from ≤ block) × (block < to)
 LookRule old new block from to looks.NotGood = (new ≡ old) × (¬ IsGood (cell_at new.world.cells block))
 LookRule old new block from to looks.Failed =
+    FailsWithin old new block × (cell_at new.world.cells block ≡ cell_at old.world.cells block)
+
+-- What a look at a block tells by its state byte alone, whether the power is on or not: whether it has whole bytes. Nothing
+-- changes but where the image failed. (This project's own.)
+abbrev pub HasBytesRule : Machine → Machine → (block : ℕ) → Looked → Type 0
+HasBytesRule old new block looks.Good = (new ≡ old) × OnTrue new.world.known (IsGood (cell_at new.world.cells block))
+HasBytesRule old new block looks.NotGood = (new ≡ old) × (¬ IsGood (cell_at new.world.cells block))
+HasBytesRule old new block looks.Failed =
+    FailsWithin old new block × (cell_at new.world.cells block ≡ cell_at old.world.cells block)
+
+-- The same: whether it is dead. (This project's own.)
+abbrev pub IsDeadRule : Machine → Machine → (block : ℕ) → StateRead → Type 0
+IsDeadRule old new block states.Dead = (new ≡ old) × (cell_at new.world.cells block ≡ Dead)
+IsDeadRule old new block states.Alive = (new ≡ old) × OnTrue new.world.known (cell_at new.world.cells block ≢ Dead)
+IsDeadRule old new block states.Failed =
     FailsWithin old new block × (cell_at new.world.cells block ≡ cell_at old.world.cells block)
 
 -- What a read does in a use that had begun and goes on, by its answer. (This project's own.)

@@ -105,7 +105,7 @@ pub enum StateRead {
 }
 
 /// Reads the state byte of a block in an image of so many blocks.
-fn read_state<I: Image>(image: &mut I, total: u32, block: u32) -> StateRead
+pub fn read_state<I: Image>(image: &mut I, total: u32, block: u32) -> StateRead
     requires inside { block < total }
     requires whole { ForSome (I.bytes image.old) (λ held. length held ≡ image_len total) }
     ensures { ReadStateRule (cell_call I.Image total block image.old image.new) result }

@@ -8,7 +8,8 @@ pub mod medium;
 pub mod opening;
 pub mod pressing;
 
+pub use cells::StateRead;
 pub use geometries::geometry_in;
-pub use medium::{ImageMedium, MediumRooms};
+pub use medium::{ImageMedium, Looked, MediumRooms};
 pub use opening::{OpenFault, Refused, open};
 pub use pressing::{PressOut, press};

@@ -10,7 +10,9 @@ ghost use Rattle.ram_medium.specs.Countdown.{arms_of, armed_cut_of};
 ghost use Rattle.ram_image.specs.CellCalls.{HaveGoodStates};
 ghost use Rattle.ram_image.specs.OneProof.{disc_there-prop};
 
-use crate::cells::{GoodRow, count_good, kill_cell, kill_where, leave_cell, read_data};
+use crate::cells::{
+    GoodRow, StateRead, count_good, kill_cell, kill_where, leave_cell, read_data, read_state,
+};
 use ram_bytes::Block;
 use ram_medium::{Arm, Armed, Due, FailEnd, Fate, Medium, MediumControl, ReadEnd, WriteEnd};
 use ram_outside::{Image, Moved};
@@ -94,7 +96,8 @@ fn count_use(armed: &mut Box<Armed>, block: u32) -> Due
 }
 
 /// What a look at the state byte of a block finds.
-enum Looked {
+#[derive(Clone, Copy, Debug, PartialEq, Eq)]
+pub enum Looked {
     /// The block has whole bytes.
     Good,
     /// It has none.
@@ -111,7 +114,7 @@ impl<I: Image> ImageMedium<I> {
     ghost use Rattle.ram_bytes.specs.declared.block.TheConstants.{BLOCK_BYTES};
     ghost use Rattle.ram_medium.specs.ReadInto.{bytes_read};
     ghost use Rattle.ram_image.specs.Medium.{shape_of_medium, world_of, machine_in, bytes_in, dies_in, ImageTakes};
-    ghost use Rattle.ram_image.specs.Begun.{IsNew, ImageBeginRule, BeginBytes, LookRule, ReadOnRule, WriteCutRule, WriteCutBytes, LeaveRule, LeaveBytes};
+    ghost use Rattle.ram_image.specs.Begun.{IsNew, ImageBeginRule, BeginBytes, LookRule, HasBytesRule, IsDeadRule, ReadOnRule, WriteCutRule, WriteCutBytes, LeaveRule, LeaveBytes};
 
     /// The medium of a disc of this geometry over its image, with the power off, nothing counted and nothing armed.
     pub(crate) fn new(image: I, geometry: Geometry, rooms: MediumRooms) -> Self
@@ -265,6 +268,34 @@ impl<I: Image> ImageMedium<I> {
             GoodRow::Failed => {
                 self.powered = false;
                 Looked::Failed
+            }
+        }
+    }
+
+    /// Whether a block has whole bytes, by its state byte alone. It is no use: the power may be off, and nothing is counted
+    /// but where the image failed.
+    pub fn has_bytes(&mut self, block: u32) -> Looked
+        requires { block < total (shape_of_medium self.old) }
+        ensures rule { HasBytesRule (machine_in self.old) (machine_in self.new) block result }
+        ensures bytes { bytes_in self.new ≡ bytes_in self.old }
+        ensures same_shape { shape_of_medium self.new ≡ shape_of_medium self.old }
+    {
+        self.look_at(block)
+    }
+
+    /// Whether a block is dead, by its state byte alone. It is no use either.
+    pub fn is_dead(&mut self, block: u32) -> StateRead
+        requires { block < total (shape_of_medium self.old) }
+        ensures rule { IsDeadRule (machine_in self.old) (machine_in self.new) block result }
+        ensures bytes { bytes_in self.new ≡ bytes_in self.old }
+        ensures same_shape { shape_of_medium self.new ≡ shape_of_medium self.old }
+    {
+        match read_state(&mut self.image, self.geometry.total(), block) {
+            StateRead::Dead => StateRead::Dead,
+            StateRead::Alive => StateRead::Alive,
+            StateRead::Failed => {
+                self.powered = false;
+                StateRead::Failed
             }
         }
     }

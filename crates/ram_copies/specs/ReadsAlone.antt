@@ -1,0 +1,23 @@
+-- That nothing but reads happened to a medium: for the looks at copies, and for all that leaves a medium as it is. (This
+-- project's own, as all here.)
+use Rattle.std.specs.Prelude.{List, [], ◌∷◌}
+use Rattle.model_medium.specs.Exact.{Event, Read, Write, PowerOn, PowerOff}
+use Rattle.model_medium.specs.Happened.{Happens}
+
+-- the event is a read, however it ended
+abbrev pub IsRead : Event → Type 0
+IsRead (Read block into into' how) = Unit {0}
+IsRead (Write block bytes how) = ⊥
+IsRead PowerOn = ⊥
+IsRead PowerOff = ⊥
+
+-- the events are reads
+abbrev pub AreReads : List Event → Type 0
+AreReads [] = Unit {0}
+AreReads (event ∷ events) = IsRead event × AreReads events
+
+-- Reads happened in between, and nothing else.
+pub record ReadsAlone {M : Type 0} (takes : M → M → Event → Type 0) (first last : M) : Type 0 where
+  pub events : List Event
+  pub reads : AreReads events
+  pub happens : Happens takes first events last
