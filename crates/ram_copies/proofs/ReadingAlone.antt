@@ -1,15 +1,10 @@
 -- Reads one after another.
-use Rattle.std.specs.Prelude.{ℕ, List, [], ◌∷◌, ◌++◌}
-use Rattle.std.proofs.Common.{refl}
+use Rattle.std.specs.Prelude.{ℕ, List, [], ◌∷◌}
+use Rattle.std.proofs.Common.{refl, sym, subst}
 use Rattle.model_medium.specs.Exact.{Event, Read}
 use Rattle.model_medium.specs.Happened.{Happens}
 use Rattle.model_medium.specs.declared.ReadEnd.{ReadEnd}
-use Rattle.model_medium.proofs.Happening.{happened_then}
 use Rattle.ram_copies.specs.ReadsAlone.{AreReads, ReadsAlone}
-
-reads_then : (one two : List Event) → AreReads one → AreReads two → AreReads (two ++ one)
-reads_then one [] first second = first
-reads_then one (event ∷ two) first second = (second.0, reads_then one two first second.1)
 
 module _ {M : Type 0} (takes : M → M → Event → Type 0) where
   -- no read at all, and one
@@ -19,9 +14,11 @@ module _ {M : Type 0} (takes : M → M → Event → Type 0) where
   pub read_one : (a b : M) (block : ℕ) (into into' : List ℕ) (how : ReadEnd) → takes a b (Read block into into' how) → ReadsAlone takes a b
   read_one a b block into into' how did = record { events = Read block into into' how ∷ []; reads = (tt, tt); happens = (a, refl, did) }
 
+  read_after : (a b c : M) → ReadsAlone takes a b → (events : List Event) → AreReads events → Happens takes b events c → ReadsAlone takes a c
+  read_after a b c one [] reads same = subst (ReadsAlone takes a) (sym same) one
+  read_after a b c one (event ∷ events) reads did =
+      let before = read_after a b did.0 one events reads.1 did.1 in
+      record { events = event ∷ before.events; reads = (reads.0, before.reads); happens = (did.0, before.happens, did.2) }
+
   pub read_then : (a b c : M) → ReadsAlone takes a b → ReadsAlone takes b c → ReadsAlone takes a c
-  read_then a b c one two = record {
-    events = two.events ++ one.events;
-    reads = reads_then one.events two.events one.reads two.reads;
-    happens = (happened_then takes a b c (one.events, one.happens) (two.events, two.happens)).1;
-  }
+  read_then a b c one two = read_after a b c one two.events two.reads two.happens
