@@ -1,9 +1,16 @@
--- What the choice of both lists does, which a mount begins with: for `choose_lists`. (This project's own, as all here.)
-use Rattle.std.specs.Prelude.{◌≡◌, ℕ, ◌≤◌, ◌⊎◌, Option, Some, None}
+-- What the choice of both lists does, which a mount begins with: for `choose_lists`, and by what it finds for `find_lists`. (This
+-- project's own, as all here.)
+use Rattle.std.specs.Prelude.{◌≡◌, ℕ, ◌≤◌, ◌⊎◌, true, Option, Some, None, List}
 use Rattle.model_geometry.specs.Geometry.{Shape}
-use Rattle.model_lists.specs.Values.{Dds}
+use Rattle.model_lists.specs.Values.{Dds, IsLawfulDds, IsLawfulSdl}
+use Rattle.model_medium.specs.Cells.{Cell}
 use Rattle.model_medium.specs.World.{World, Span}
+use Rattle.model_copies.specs.Parts.{Mark}
 use Rattle.model_places.specs.Places as places
+use Rattle.model_places.specs.Valid.{AreValid}
+use Rattle.model_volume.specs.Given.{AreChosen, ChoosesNone}
+use Rattle.ram_lists.specs.declared.choosing.FoundLists.{FoundLists}
+use Rattle.ram_lists.specs.declared.choosing.FoundLists.TheVariants as founds
 use Rattle.ram_zones.specs.declared.list_kind.ListKind.TheVariants as kinds
 use Rattle.ram_copies.specs.Values.{ListValue, DdsValue, SdlValue}
 use Rattle.ram_copies.specs.Choices.{held_in}
@@ -28,3 +35,26 @@ pub record ChoosesBoth {M : Type 0} (world : M → World) (reaches : M → M →
   pub no_less : dds_mark ≤ mark
   pub no_less' : sdl_mark ≤ mark
   pub one_of_both : (mark ≡ dds_mark) ⊎ (mark ≡ sdl_mark)
+
+-- These lists are chosen, in these areas.
+pub record AreChosenIn (shape : Shape) (cells : List Cell) (lists : places.Lists) (dds_area sdl_area : ℕ) : Type 0 where
+  pub chosen : AreChosen shape cells lists
+  pub dds_there : chosen.dds_area ≡ dds_area
+  pub sdl_there : chosen.sdl_area ≡ sdl_area
+
+-- The lists are valid and of their grammar, and are those that are chosen among the copies, where these are known.
+pub record FindsBoth (shape : Shape) (now : World) (lists : places.Lists) (dds_area sdl_area : ℕ) : Type 0 where
+  pub valid : AreValid shape lists
+  pub lawful_dds : IsLawfulDds lists.dds
+  pub lawful_sdl : IsLawfulSdl lists.sdl
+  pub chosen : now.known ≡ true → AreChosenIn shape now.cells lists dds_area sdl_area
+
+-- No lists are chosen among the copies, where these are known, and this is their mark.
+pub record FindsNeither (shape : Shape) (now : World) (mark : ℕ) : Type 0 where
+  pub none : now.known ≡ true → ChoosesNone shape now.cells
+  pub mark_is : now.known ≡ true → Mark shape now.cells mark
+
+-- What was found, with the lists in the room.
+abbrev pub FoundRule : Shape → World → places.Lists → FoundLists → Type 0
+FoundRule shape now lists (founds.Lists dds_area sdl_area) = FindsBoth shape now lists dds_area sdl_area
+FoundRule shape now lists (founds.Bare mark) = FindsNeither shape now mark
