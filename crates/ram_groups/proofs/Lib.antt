@@ -3,3 +3,4 @@ pub mod Layouts
 pub mod Made
 pub mod Starts
 pub mod Tables
+pub mod OfKind

@@ -13,9 +13,9 @@ ghost use Rattle.ram_transfer.specs.declared.memory.TheConstants.{WORKSPACE_MEMO
 use ram_buffer::{BUFFER_MEMORY, BlockBuffer};
 use ram_bytes::{BLOCK_BYTES, Block, Budget, MemoryRefused};
 use ram_copies::{SCRATCH_MEMORY, Scratch};
-use ram_dds::{DdsPdl, PdlEntry};
+use ram_dds::PdlEntry;
 use ram_format::{FORMAT_MEMORY, FormatRoom, kept_entries};
-use ram_groups::{AnyLayout, LAYOUT_MEMORY};
+use ram_groups::{AnyLayout, LAYOUT_MEMORY, layout_of_kind};
 use ram_layout::Layout;
 use ram_lists::{LISTS_MEMORY, Lists};
 use ram_spare::{CURSORS_MEMORY, Cursors};
@@ -71,36 +71,6 @@ pub struct Memory {
     /// The lists in use, or room for them.
     pub lists: Lists,
     pub workspace: Workspace,
-}
-
-/// The smallest geometry with a layout of this kind.
-fn smallest(kind: LayoutKind) -> Geometry
-    ensures { result.layout ≡ kind }
-{
-    let Ok(geometry) = Geometry::new(1, 1, 1) else {
-        unreachable!();
-    };
-    match kind {
-        LayoutKind::OneGroup => geometry,
-        LayoutKind::EachZone => geometry.in_zones(),
-    }
-}
-
-/// A layout of this kind, which has room for any disc: that of a small one, with this structure, which has no entries.
-fn layout_of_kind(
-    budget: &mut Budget,
-    kind: LayoutKind,
-    dds: &mut DdsPdl,
-) -> Result<AnyLayout, MemoryRefused>
-    requires empty { dds.old.entries ≡ [] }
-    requires free { LAYOUT_MEMORY ≤ budget.old }
-    ensures left { budget.old ≤ budget.new + LAYOUT_MEMORY }
-    ensures kind { IfOk result (IsOfKind kind) }
-{
-    let geometry = smallest(kind);
-    dds.layout = geometry.layout();
-    dds.psa = geometry.psa();
-    AnyLayout::new(budget, &geometry, dds, 0)
 }
 
 impl Workspace {

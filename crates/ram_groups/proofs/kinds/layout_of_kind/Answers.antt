@@ -1,8 +1,8 @@
 use Rattle.model_lists.specs.declared.versions.Version.TheVariants.{Two}
 use Rattle.model_places.proofs.ByKind.{no_area}
 use Rattle.ram_dds.specs.Dds.{dds_of}
-use Rattle.ram_transfer.proofs.Layouts.{nothing_slipped, of_kind}
-use Rattle.ram_transfer.proofs.memory.layout_of_kind.Goals as goal
+use Rattle.ram_groups.proofs.OfKind.{nothing_slipped, of_kind}
+use Rattle.ram_groups.proofs.kinds.layout_of_kind.Goals as goal
 
 pub new-requires-clause-valid : goal.new-requires-clause-valid
 new-requires-clause-valid c =
