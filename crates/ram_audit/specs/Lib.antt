@@ -1,3 +1,4 @@
 pub mod Bytes
 pub mod Telling
 pub mod Comparing
+pub mod Leaving

@@ -2,14 +2,18 @@
 #![tactic(auto)]
 
 mod comparing;
+mod copies;
+mod homes;
 mod laws;
 mod lines;
 mod lists;
+mod looking;
 mod telling;
 
 pub use comparing::{Compared, compare};
 pub use laws::{a_difference_is_in_one_line, limits_are_these};
 pub use lines::Lines;
 pub use lists::{tell_primary, tell_secondary};
+pub use looking::ImageFailed;
 pub use model_audit::{CertificateLine, CopyState};
 pub use telling::TEXT_ROOM;
