@@ -35,13 +35,17 @@ adds_none : (a : Lines) → Adds a a []
 adds_none a told are = subst (AreLines a) (sym (append-nil told)) are
 
 -- what holds of known bytes
-if_some : {P Q : List ℕ → Type 0} (bytes : Option (List ℕ)) → ((held : List ℕ) → P held → Q held) → IfSome bytes P → IfSome bytes Q
+pub if_some : {P Q : List ℕ → Type 0} (bytes : Option (List ℕ)) → ((held : List ℕ) → P held → Q held) → IfSome bytes P → IfSome bytes Q
 if_some None f h = tt
 if_some (Some held) f h = f held h
 
-both_some : {P Q R : List ℕ → Type 0} (bytes : Option (List ℕ)) → ((held : List ℕ) → P held → Q held → R held) → IfSome bytes P → IfSome bytes Q → IfSome bytes R
+pub both_some : {P Q R : List ℕ → Type 0} (bytes : Option (List ℕ)) → ((held : List ℕ) → P held → Q held → R held) → IfSome bytes P → IfSome bytes Q → IfSome bytes R
 both_some None f h k = tt
 both_some (Some held) f h k = f held h k
+
+pub three_some : {P Q R S : List ℕ → Type 0} (bytes : Option (List ℕ)) → ((held : List ℕ) → P held → Q held → R held → S held) → IfSome bytes P → IfSome bytes Q → IfSome bytes R → IfSome bytes S
+three_some None f h k l = tt
+three_some (Some held) f h k l = f held h k l
 
 if_all : {P : List ℕ → Type 0} (bytes : Option (List ℕ)) → ((held : List ℕ) → P held) → IfSome bytes P
 if_all None f = tt

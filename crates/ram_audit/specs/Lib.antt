@@ -2,3 +2,4 @@ pub mod Bytes
 pub mod Telling
 pub mod Comparing
 pub mod Leaving
+pub mod Rooms

@@ -10,7 +10,6 @@ use Rattle.ram_audit.proofs.Adding.{lost_none, lost_after}
 use Rattle.ram_audit.proofs.Numbers.{logical_long, logical_few, its_home, home_there}
 use Rattle.ram_audit.proofs.homes.tell_homes.Goals as goal
 
-
 pub loop-i-init : goal.loop-i-init
 loop-i-init g c = record {
   looks = looks_none c.args.medium.now c.requires.unarmed;
