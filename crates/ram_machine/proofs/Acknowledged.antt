@@ -13,6 +13,7 @@ use Rattle.model_drive.specs.declared.WriteOut.{WriteOut}
 use Rattle.model_cache.specs.Values.{Values, Contents, Has, MayHave}
 use Rattle.model_cache.specs.Shown.{CacheShown, CacheStandsFor}
 use Rattle.model_cache.proofs.Falls.{only, read_falls, verify_falls, expand_falls, sync_falls, tick_falls, power_falls}
+use Rattle.model_sectors.specs.declared.ReadOut.TheVariants as reads
 use Rattle.model_sense.specs.declared.sense.Sense.{Sense}
 use Rattle.model_sense.specs.declared.answer.Answer.{Answer}
 use Rattle.model_cdb.specs.declared.commands.Command.{Command}
@@ -30,16 +31,17 @@ use Rattle.ram_machine.specs.declared.reply.Reply.TheVariants as replies
 use Rattle.ram_machine.specs.declared.stopped.Stopped.TheVariants as stopped
 use Rattle.ram_machine.specs.Control.{contents_after_fail}
 use Rattle.ram_machine.specs.Replies.{Outcome}
-use Rattle.ram_machine.specs.States.{State, Served, Unopened, Disc, kind_of}
+use Rattle.ram_machine.specs.States.{State, Served, Unopened, Disc, renewed, kind_of}
 use Rattle.ram_machine.specs.LineSteps.{PressStep, DiscRule, OnDisc, Step}
 use Rattle.ram_machine.specs.Runs.{Run}
 use Rattle.ram_machine.specs.Answered.{AnsweredStep}
 use Rattle.ram_machine.specs.Acknowledged.{Acknowledged, LeavesAsAsked, LeavesAsDecoded, LeavesSector, LeaveSector}
 use Rattle.ram_machine.proofs.Decoded.{HasItsData, asks_for, its_data}
+use Rattle.ram_machine.proofs.Scrubbed.{ScrubLeaves, step_leaves, pass_leaves}
 use Rattle.ram_machine.proofs.WrittenDiscs.{Lies, SoInBlock, SoInValues, SoInContents, so_shown, written_left, written_off}
 
--- a press of no lawful geometry does nothing
-not_pressed : (s t : State) (shape : Shape) (outcome : Outcome) → PressStep s shape outcome t → ¬ IsLawful shape → t ≡ s
+-- a press of no lawful geometry makes the scrubber new, and does nothing else
+not_pressed : (s t : State) (shape : Shape) (outcome : Outcome) → PressStep s shape outcome t → ¬ IsLawful shape → t ≡ renewed s
 not_pressed s t shape (Ok (replies.Event events.Pressed)) step unlawful = absurd (unlawful step.0)
 not_pressed s t shape (Ok (replies.Event events.NotPressed)) step unlawful = step.1
 not_pressed s t shape (Err stopped.ImageFault) step unlawful = absurd (unlawful step.0)
@@ -58,8 +60,8 @@ one_lawful kind zones scale psa lawful = record {
   layout_fits = tt;
 }
 
--- so a press that is lawful with none changes nothing
-pub not_pressed_by : (s t : State) (zones scale psa : ℕ) (outcome : Outcome) → PressStep s (shape_in (kind_of s) zones scale psa) outcome t → ¬ IsLawful (shape_of zones scale psa) → t ≡ s
+-- so does a press that is lawful with none
+pub not_pressed_by : (s t : State) (zones scale psa : ℕ) (outcome : Outcome) → PressStep s (shape_in (kind_of s) zones scale psa) outcome t → ¬ IsLawful (shape_of zones scale psa) → t ≡ renewed s
 not_pressed_by s t zones scale psa outcome step unlawful = not_pressed s t (shape_in (kind_of s) zones scale psa) outcome step (λ lawful. unlawful (one_lawful (kind_of s) zones scale psa lawful))
 
 -- what is replaced elsewhere leaves the sector
@@ -86,6 +88,12 @@ module _ (S : List ℕ → Type 0) (at : ℕ) where
   fail_keeps s t fails.Done is so = subst (SoInContents S at) is so
   fail_keeps s t (fails.NoBlock blocks) is so = subst (SoInContents S at) is so
   fail_keeps s t fails.Failed is so = subst (SoInContents S at) is so
+
+  -- a scrub
+  scrub_keeps : (s t : Contents) (outcome : Outcome) → ScrubLeaves s t outcome → SoInContents S at s → SoInContents S at t
+  scrub_keeps s t outcome (inl same) so = subst (SoInContents S at) same.0 so
+  scrub_keeps s t outcome (inr (inl cut)) so = verify_falls (SoInBlock S at) (block_with at) s t reads.Cut cut.0 so
+  scrub_keeps s t outcome (inr (inr fault)) so = verify_falls (SoInBlock S at) (block_with at) s t reads.Fault fault.0 so
 
   -- any line on a disc
   module _ (old new : CacheShown) (s t : Contents) (stood : CacheStandsFor old s) (so : SoInContents S at s) where
@@ -137,6 +145,8 @@ module _ (S : List ℕ → Type 0) (at : ℕ) where
     rule_keeps host later (lines.Wear block n) payload outcome data_in p leaves = subst (SoInContents S at) (p.0.keeps.stands s refl) so
     rule_keeps host later (lines.Cut n fate) payload outcome data_in p leaves = subst (SoInContents S at) (p.0.keeps.stands s refl) so
     rule_keeps host later lines.Tick payload outcome data_in p leaves = tick_falls (SoInBlock S at) (block_with at) s t p.0.out (p.0.step s refl) so
+    rule_keeps host later (lines.Scrub false) payload outcome data_in p leaves = scrub_keeps s t outcome (step_leaves s t old new host later outcome p) so
+    rule_keeps host later (lines.Scrub true) payload outcome data_in p leaves = scrub_keeps s t outcome (pass_leaves s t old new host later outcome p) so
     rule_keeps host later (lines.Command cdb) payload outcome data_in p leaves = command_keeps host later cdb payload p.answer data_in p.step leaves
     rule_keeps host later _ payload outcome data_in p leaves = absurd p
 

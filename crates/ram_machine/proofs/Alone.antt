@@ -12,6 +12,8 @@ use Rattle.model_image.specs.Image.{blank_cells, pressed_image}
 use Rattle.model_modes.specs.Pages.{mode_data}
 use Rattle.model_modes.specs.ParameterLists.{caches_after}
 use Rattle.model_sectors.specs.Discs.{Standing, On, Off}
+use Rattle.model_sectors.specs.declared.ReadOut.{ReadOut}
+use Rattle.model_sectors.specs.declared.ReadOut.TheVariants as reads
 use Rattle.model_sectors.specs.declared.PowerOut.{PowerOut}
 use Rattle.model_sectors.specs.declared.PowerOut.TheVariants as powers
 use Rattle.model_drive.specs.Shown.{Shown, StandsFor, IsOn, capacity}
@@ -23,11 +25,18 @@ use Rattle.model_cache.specs.declared.TickOut.{TickOut}
 use Rattle.model_cache.specs.declared.TickOut.TheVariants as ticks
 use Rattle.model_cache.specs.Values.{Contents, StandsCached, plain}
 use Rattle.model_cache.specs.Shown.{CacheShown, CacheStandsFor}
-use Rattle.model_cache.specs.Causes.{ThroughCause, SyncCause, TickCause}
+use Rattle.model_cache.specs.Causes.{leaves_after_read, ThroughCause, SyncCause, TickCause}
 use Rattle.model_cache.specs.Steps.{ThroughContents, SyncContents, TickContents, PowerContents}
 use Rattle.model_cache.specs.Plain.{uncached}
 use Rattle.model_cache.proofs.Plainly.{is_uncached, plain_read_cause, plain_read_quiet, plain_read_step, plain_verify_cause, plain_verify_step, plain_write_cause, plain_write_step, plain_format_cause, plain_format_step, plain_expand_cause, plain_expand_step, plain_power_cause, plain_power_step}
 use Rattle.model_cache.proofs.SameBlocks.{stands_for_it}
+use Rattle.model_scrub.specs.declared.ends.StepEnd.{StepEnd}
+use Rattle.model_scrub.specs.declared.ends.StepEnd.TheVariants as steps
+use Rattle.model_scrub.specs.declared.ends.PassEnd.{PassEnd}
+use Rattle.model_scrub.specs.declared.ends.PassEnd.TheVariants as passes
+use Rattle.model_scrub.specs.Scrubs.{Scrubber}
+use Rattle.model_scrub.specs.Asks.{StepRule, StepContents, PassRule, PassContents}
+use Rattle.model_scrub.proofs.Chained.{HoldsOfVerifications, of_step, of_pass}
 use Rattle.model_sense.specs.Sense.{sense}
 use Rattle.model_sense.specs.declared.sense.Sense.{Sense}
 use Rattle.model_sense.specs.declared.answer.Answer.{Answer}
@@ -50,13 +59,13 @@ use Rattle.ram_machine.specs.declared.reply.Reply.TheVariants as replies
 use Rattle.ram_machine.specs.declared.stopped.Stopped.TheVariants as stopped
 use Rattle.ram_machine.specs.Control.{contents_after_fail}
 use Rattle.ram_machine.specs.Replies.{Outcome, power_outcome, tick_outcome}
-use Rattle.ram_machine.specs.States.{BareImage, State, Served, Unopened, Disc, kind_of, IsFirst, IsLeft, IsInserted, IsPressedDisc, IsHalfPressed, IsPressedUnopened}
-use Rattle.ram_machine.specs.LineSteps.{KeepsRest, PowerLine, FailLine, WearLine, CutLine, TickLine, PressStep, DiscRule, DiscStep, OnDisc, LineBytes, Step}
+use Rattle.ram_machine.specs.States.{BareImage, State, Served, Unopened, Disc, renewed, kind_of, IsFirst, IsLeft, IsInserted, IsPressedDisc, IsHalfPressed, IsPressedUnopened}
+use Rattle.ram_machine.specs.LineSteps.{KeepsRest, PowerLine, FailLine, WearLine, CutLine, TickLine, StepLine, PassLine, PressStep, DiscRule, DiscStep, OnDisc, ScrubberRule, LineBytes, Step}
 use Rattle.ram_machine.specs.Runs.{IsStep, Run}
 use Rattle.ram_machine.specs.Answered.{AnsweredStep}
 use Rattle.ram_machine.specs.Alone.{StandsAlone, IsAlone, LeavesAloneAsDecoded, LeavesAlone, LeaveAlone}
 use Rattle.ram_machine.specs.PlainCommands.{PlainAnswer, PlainRead, PlainWrite, PlainVerification, PlainFormat, PlainExpansion, PlainStructure, PlainSpares, PlainDone, PlainlyAnswered, PlainCommand}
-use Rattle.ram_machine.specs.PlainRuns.{PlainServed, PlainState, PlainImage, PlainDisc, plain_kind, IsUnopenedPress, IsPlainlyLeft, IsPlainlyInserted, IsPlainlyFirst, IsServedPlainly, IsInPlainly, stands_after_fail, KeepsPlainly, PlainPower, PlainFail, PlainWear, PlainCut, PlainTick, PlainRule, PlainDiscStep, OnPlainDisc, IsPlainlyPressed, IsUnopenedPlainly, IsHalfPlainly, PlainPress, PlainStep, PlainRun}
+use Rattle.ram_machine.specs.PlainRuns.{PlainServed, PlainState, PlainImage, PlainDisc, plainly_renewed, plain_kind, IsUnopenedPress, IsPlainlyLeft, IsPlainlyInserted, IsPlainlyFirst, IsServedPlainly, IsInPlainly, stands_after_fail, stands_after_step, stands_after_pass, PlainScrubStep, PlainScrubPass, KeepsPlainly, PlainPower, PlainFail, PlainWear, PlainCut, PlainTick, PlainRule, PlainDiscStep, OnPlainDisc, IsPlainlyPressed, IsUnopenedPlainly, IsHalfPlainly, PlainPress, PlainStep, PlainRun}
 use Rattle.ram_machine.proofs.Decoded.{asks_for}
 
 none_due : (done : List ℕ) (block : ℕ) (rest : List ℕ) → [] ≡ done ++ block ∷ rest → ⊥
@@ -84,6 +93,26 @@ module _ (host : Host) (cdb payload : List ℕ) where
   judged_formatted formatted (Ok wanted) judged =
       let is = allowed_holds host formatted payload (λ (c : Command). wanted ≡ c) wanted (Ok commands.Synchronize) judged refl in
       allowed_formatted formatted commands.Synchronize (subst (λ (c : Command). IsAllowed host formatted payload c (Ok commands.Synchronize)) is judged)
+
+-- verifications leave a cache that is off and empty
+none_after_read : (out : ReadOut) → leaves_after_read out [] ≡ []
+none_after_read reads.Good = refl
+none_after_read reads.NotFormatted = refl
+none_after_read (reads.Range known) = refl
+none_after_read (reads.Unread named block) = refl
+none_after_read reads.Cut = refl
+none_after_read reads.Off = refl
+none_after_read reads.Fault = refl
+
+abbrev StaysUncached : Bool → CacheShown → CacheShown → Type 0
+StaysUncached faulted a b = a ≡ uncached a.drive → b ≡ uncached b.drive
+
+stays_uncached : HoldsOfVerifications StaysUncached
+stays_uncached = record {
+  none = λ s is. is;
+  join = λ faulted a b c first then is. then (first is);
+  verify = λ a b lba n out cause is. is_uncached b (cause.1 ∙ ap (λ (x : CacheShown). leaves_after_read out x.pending) is ∙ none_after_read out) (cause.2 ∙ ap (λ (x : CacheShown). x.caches) is);
+}
 
 -- What a line leaves of a drive whose cache is off and empty: it is off and empty still, and this is so of what the disc stands for.
 record Leaves (new : CacheShown) (t : Contents) (says : Standing → Type 0) : Type 0 where
@@ -325,6 +354,65 @@ module _ (drive : Shown) (new : CacheShown) (s : Standing) (t : Contents) where
       as_before (λ u. PlainTick drive new.drive s u host later outcome) idle.1 (tick_stays s p.out idle.0 (p.step (plain s) refl))
       (record { same = same_drive idle.1; stands = refl; same_host = p.same_host; outcome_is = tick_told p.out outcome p.outcome_is idle.0 })
 
+  step_after : (u : Standing) (end : StepEnd) → StepContents (λ x. x ≡ t) (plain u) end → t ≡ plain (stands_after_step u end)
+  step_after (On disc) (steps.Readable i) step = sym step
+  step_after (On disc) (steps.Unreadable i) step = sym step.2
+  step_after (On disc) steps.Cut step = sym step
+  step_after (On disc) steps.Fault step = sym step
+  step_after u steps.NotFormatted step = sym step
+  step_after u steps.Off step = sym step
+  step_after (Off discs) (steps.Readable i) step = absurd step
+  step_after (Off discs) (steps.Unreadable i) step = absurd step.2
+  step_after (Off discs) steps.Cut step = absurd step
+  step_after (Off discs) steps.Fault step = absurd step
+
+  pass_after : (u : Standing) (end : PassEnd) → PassContents (λ x. x ≡ t) (plain u) end → t ≡ plain (stands_after_pass u end)
+  pass_after u passes.Done step = sym step
+  pass_after u passes.NotFormatted step = sym step
+  pass_after u passes.Off step = sym step
+  pass_after (On disc) passes.Cut step = sym step
+  pass_after (On disc) passes.Fault step = sym step
+  pass_after (Off discs) passes.Cut step = absurd step
+  pass_after (Off discs) passes.Fault step = absurd step
+
+  scrub_step_plainly : (host later : Host) (outcome : Outcome) → StepLine (uncached drive) new (λ x. x ≡ plain s) (λ x. x ≡ t) host later outcome
+      → Leaves new t (λ u. PlainScrubStep drive new.drive s u host later outcome)
+  scrub_step_plainly host later outcome p =
+      let is : new ≡ uncached new.drive = of_step StaysUncached stays_uncached (uncached drive) new p.from p.to p.end p.rule refl in
+      record {
+        uncached_is = is;
+        standing = stands_after_step s p.end;
+        contents_is = step_after s p.end (p.step (plain s) refl);
+        so = record {
+          end = p.end;
+          from = p.from;
+          to = p.to;
+          rule = subst (λ (x : CacheShown). StepRule (uncached drive) x p.from p.end p.to) is p.rule;
+          stands = refl;
+          same_host = p.same_host;
+          outcome_is = p.outcome_is;
+        };
+      }
+
+  scrub_pass_plainly : (host later : Host) (outcome : Outcome) → PassLine (uncached drive) new (λ x. x ≡ plain s) (λ x. x ≡ t) host later outcome
+      → Leaves new t (λ u. PlainScrubPass drive new.drive s u host later outcome)
+  scrub_pass_plainly host later outcome p =
+      let is : new ≡ uncached new.drive = of_pass StaysUncached stays_uncached (uncached drive) new p.from p.to p.end p.rule refl in
+      record {
+        uncached_is = is;
+        standing = stands_after_pass s p.end;
+        contents_is = pass_after s p.end (p.step (plain s) refl);
+        so = record {
+          end = p.end;
+          from = p.from;
+          to = p.to;
+          rule = subst (λ (x : CacheShown). PassRule (uncached drive) x p.from p.end p.to) is p.rule;
+          stands = refl;
+          same_host = p.same_host;
+          outcome_is = p.outcome_is;
+        };
+      }
+
   power_plainly : (host later : Host) (outcome : Outcome) → PowerLine (uncached drive) new (λ x. x ≡ plain s) (λ x. x ≡ t) host later outcome
       → Leaves new t (λ u. PlainPower drive new.drive s u host later outcome)
   power_plainly host later outcome p =
@@ -384,6 +472,8 @@ module _ (drive : Shown) (new : CacheShown) (s : Standing) (t : Contents) where
       without_data (λ u. PlainCut drive new.drive s u host later n fate outcome) data_in p.1 (cut_plainly host later n fate outcome p.0)
   rule_plainly host later lines.Tick payload outcome data_in off p =
       without_data (λ u. PlainTick drive new.drive s u host later outcome) data_in p.1 (tick_plainly host later outcome p.0)
+  rule_plainly host later (lines.Scrub false) payload outcome data_in off p = scrub_step_plainly host later outcome p
+  rule_plainly host later (lines.Scrub true) payload outcome data_in off p = scrub_pass_plainly host later outcome p
   rule_plainly host later (lines.Command cdb) payload outcome data_in off p =
       let now = command_plainly host later cdb payload p.answer data_in off p.step in
       record {
@@ -413,13 +503,14 @@ plain_served t is u same = record {
     stands = stands_plain t.disc.shown t.disc.contents u is same t.disc.stands;
   };
   host = t.host;
+  scrub = t.scrub;
   labelled = t.labelled;
   bytes = t.bytes;
   image = t.image;
 }
 
 is_served : (t : Served) (is : t.disc.shown ≡ uncached t.disc.shown.drive) (u : Standing) (same : t.disc.contents ≡ plain u) → IsServedPlainly t (plain_served t is u same)
-is_served t is u same = record { shown_is = is; contents_is = same; host_is = refl; bytes_are = refl }
+is_served t is u same = record { shown_is = is; contents_is = same; host_is = refl; scrub_is = refl; bytes_are = refl }
 
 -- what a drive with a cache that is off and empty is, it is as one without a cache
 alone_plainly : (s : State) → IsAlone s → (p : PlainState) × IsInPlainly s p
@@ -445,6 +536,7 @@ inserted_plainly shape cells bytes s is =
       record {
         opened = record { faults = is.opened.faults; shown_is = ap (λ (x : CacheShown). x.drive) is.opened.shown_is; all = is.opened.all; starts = is.opened.starts };
         host_is = is.host_is;
+        scrub_is = is.scrub_is;
         bytes_are = is.bytes_are;
       },
       is_served s off is.opened.standing is.opened.contents_is,
@@ -490,12 +582,18 @@ unopened_plainly : (shape : Shape) (t : State) → IsPressedUnopened shape t →
 unopened_plainly shape (Unopened image) is = (PlainImage image, is, refl)
 unopened_plainly shape (Disc t) is = absurd is
 
+renewed_plainly : (s : State) (p : PlainState) → IsInPlainly s p → IsInPlainly (renewed s) (plainly_renewed p)
+renewed_plainly (Unopened image) (PlainImage held) is = is
+renewed_plainly (Unopened image) (PlainDisc p) is = absurd is
+renewed_plainly (Disc s) (PlainImage held) is = absurd is
+renewed_plainly (Disc s) (PlainDisc p) is = record { shown_is = is.shown_is; contents_is = is.contents_is; host_is = is.host_is; scrub_is = refl; bytes_are = is.bytes_are }
+
 press_plainly : (s t : State) (p : PlainState) (shape : Shape) (outcome : Outcome) → IsInPlainly s p → PressStep s shape outcome t
     → (q : PlainState) × PlainPress p shape outcome q × IsInPlainly t q
 press_plainly s t p shape (Ok (replies.Event events.Pressed)) is step =
     let now = pressed_plainly shape t step.1 in (now.0, (step.0, now.1), now.2)
 press_plainly s t p shape (Ok (replies.Event events.NotPressed)) is step =
-    (p, (step.0, refl), subst (λ (x : State). IsInPlainly x p) (sym step.1) is)
+    (plainly_renewed p, (step.0, refl), subst (λ (x : State). IsInPlainly x (plainly_renewed p)) (sym step.1) (renewed_plainly s p is))
 press_plainly s t p shape (Err stopped.ImageFault) is (lawful, inl half) =
     let now = half_plainly s t p is half in (now.0, (lawful, inl now.1), now.2)
 press_plainly s t p shape (Err stopped.ImageFault) is (lawful, inr unopened) =
@@ -520,12 +618,24 @@ module _ (s t : Served) (p : PlainServed) (is : IsServedPlainly s p) where
       subst (λ (b : List ℕ). LineBytes line outcome p.disc.shown (Some b) t.disc.shown.drive (Some t.bytes)) is.bytes_are
       (subst (λ (d : Shown). LineBytes line outcome d (Some s.bytes) t.disc.shown.drive (Some t.bytes)) drive_is bytes)
 
+  scrubber_there : (line : Line) (outcome : Outcome) (data_in : List ℕ) → t.disc.shown ≡ uncached t.disc.shown.drive → ScrubberRule s.disc.shown t.disc.shown s.scrub t.scrub line outcome data_in
+      → ScrubberRule (uncached p.disc.shown) (uncached t.disc.shown.drive) p.scrub t.scrub line outcome data_in
+  scrubber_there line outcome data_in off rule =
+      subst (λ (x : CacheShown). ScrubberRule (uncached p.disc.shown) x p.scrub t.scrub line outcome data_in) off
+      (subst (λ (from : Scrubber). ScrubberRule (uncached p.disc.shown) t.disc.shown from t.scrub line outcome data_in) is.scrub_is
+      (subst (λ (x : CacheShown). ScrubberRule x t.disc.shown s.scrub t.scrub line outcome data_in) is.shown_is rule))
+
   disc_plainly : (line : Line) (payload : List ℕ) (outcome : Outcome) (data_in : List ℕ) → LeavesAlone line payload → DiscStep s t line payload outcome data_in
       → (q : PlainServed) × PlainDiscStep p q line payload outcome data_in × IsServedPlainly t q
   disc_plainly line payload outcome data_in off step =
       let now = rule_plainly p.disc.shown t.disc.shown p.disc.standing t.disc.contents p.host t.host line payload outcome data_in off (rule_there line payload outcome data_in step.rule) in (
         plain_served t now.uncached_is now.standing now.contents_is,
-        record { same_shape = step.same_shape ∙ ap (λ (d : Shown). d.shape) drive_is; rule = now.so; bytes = bytes_there line outcome step.bytes },
+        record {
+          same_shape = step.same_shape ∙ ap (λ (d : Shown). d.shape) drive_is;
+          rule = now.so;
+          scrubber = scrubber_there line outcome data_in now.uncached_is step.scrubber;
+          bytes = bytes_there line outcome step.bytes;
+        },
         is_served t now.uncached_is now.standing now.contents_is,
       )
 

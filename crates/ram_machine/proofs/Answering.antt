@@ -1,9 +1,13 @@
 -- Which lines lack a disc: none where there is one.
-use Rattle.std.specs.Prelude.{◌≡◌, ℕ, Ok, Err, List}
+use Rattle.std.specs.Prelude.{◌≡◌, ℕ, true, false, Ok, Err, List, length}
 use Rattle.model_cache.specs.Values.{Contents}
 use Rattle.model_cache.specs.Shown.{CacheShown}
 use Rattle.model_cache.specs.declared.TickOut.{TickOut}
 use Rattle.model_cache.specs.declared.TickOut.TheVariants as ticks
+use Rattle.model_scrub.specs.declared.ends.StepEnd.{StepEnd}
+use Rattle.model_scrub.specs.declared.ends.StepEnd.TheVariants as steps
+use Rattle.model_scrub.specs.declared.ends.PassEnd.{PassEnd}
+use Rattle.model_scrub.specs.declared.ends.PassEnd.TheVariants as passes
 use Rattle.model_target.specs.declared.host.Host.{Host}
 use Rattle.model_sectors.specs.declared.PowerOut.{PowerOut}
 use Rattle.model_sectors.specs.declared.PowerOut.TheVariants as powers
@@ -19,7 +23,7 @@ use Rattle.ram_text.specs.declared.script.Line.TheVariants as lines
 use Rattle.ram_machine.specs.declared.reply.Reply.{Reply}
 use Rattle.ram_machine.specs.declared.reply.Reply.TheVariants as replies
 use Rattle.ram_machine.specs.declared.stopped.Stopped.TheVariants as stopped
-use Rattle.ram_machine.specs.Replies.{Outcome, power_outcome, fail_outcome, wear_outcome, tick_outcome, command_outcome}
+use Rattle.ram_machine.specs.Replies.{Outcome, power_outcome, fail_outcome, wear_outcome, tick_outcome, step_outcome, pass_outcome, command_outcome}
 use Rattle.ram_machine.specs.States.{State, Served, Unopened, Disc}
 use Rattle.ram_machine.specs.LineSteps.{DiscRule, OnDisc, Step}
 
@@ -53,6 +57,21 @@ tick_answers ticks.Cut same = cc
 tick_answers ticks.Off same = cc
 tick_answers ticks.Fault same = cc
 
+step_answers : (end : StepEnd) → lacks ≡ step_outcome end → ⊥
+step_answers (steps.Readable i) same = cc
+step_answers (steps.Unreadable i) same = cc
+step_answers steps.NotFormatted same = cc
+step_answers steps.Cut same = cc
+step_answers steps.Off same = cc
+step_answers steps.Fault same = cc
+
+pass_answers : (end : PassEnd) (count : ℕ) → lacks ≡ pass_outcome end count → ⊥
+pass_answers passes.Done count same = cc
+pass_answers passes.NotFormatted count same = cc
+pass_answers passes.Cut count same = cc
+pass_answers passes.Off count same = cc
+pass_answers passes.Fault count same = cc
+
 command_answers : (cdb : List ℕ) (answer : Answer) → lacks ≡ command_outcome cdb answer → ⊥
 command_answers cdb answers.Good same = cc
 command_answers cdb (answers.Check sense) same = cc
@@ -69,6 +88,8 @@ rule_answers old new before after host later (lines.Fail block) payload data_in 
 rule_answers old new before after host later (lines.Wear block n) payload data_in rule = wear_answers rule.0.end rule.0.outcome_is
 rule_answers old new before after host later (lines.Cut n fate) payload data_in rule = distinct (replies.Event events.Armed) rule.0.outcome_is
 rule_answers old new before after host later lines.Tick payload data_in rule = tick_answers rule.0.out rule.0.outcome_is
+rule_answers old new before after host later (lines.Scrub false) payload data_in rule = step_answers rule.end rule.outcome_is
+rule_answers old new before after host later (lines.Scrub true) payload data_in rule = pass_answers rule.end (length rule.to.found) rule.outcome_is
 rule_answers old new before after host later (lines.Command cdb) payload data_in rule = command_answers cdb rule.answer rule.outcome_is
 rule_answers old new before after host later _ payload data_in rule = rule
 

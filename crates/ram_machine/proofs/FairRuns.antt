@@ -20,11 +20,12 @@ use Rattle.model_places.specs.Places.{Lists}
 use Rattle.model_volume.specs.Given.{IsGiven, GivesNone}
 use Rattle.model_image.specs.Image.{IsDiscImage, blank_cells, pressed_image}
 use Rattle.model_image.specs.Cells.{cells_of}
-use Rattle.model_drive.specs.Shown.{Shown, IsKnown}
+use Rattle.model_drive.specs.Shown.{Shown, IsKnown, IsOn}
 use Rattle.model_drive.specs.Sound.{IsSound}
 use Rattle.model_drive.specs.Parts.{AreSameOrDead}
 use Rattle.model_fairness.specs.Fair.{IsFair, GivesUpDeadAlone}
 use Rattle.model_fairness.proofs.Calls.{none_some, no_others_fair, die_given, dead_of_dies, dies_fair, power_fair, read_fair, verify_fair, write_fair, expand_fair, format_fair}
+use Rattle.model_scrub.proofs.Chained.{of_step, of_pass}
 use Rattle.model_sense.specs.declared.sense.Sense.{Sense}
 use Rattle.model_sense.specs.declared.answer.Answer.{Answer}
 use Rattle.model_cdb.specs.declared.commands.Command.{Command}
@@ -44,11 +45,12 @@ use Rattle.ram_text.specs.declared.script.Line.TheVariants as lines
 use Rattle.ram_machine.specs.declared.reply.Reply.TheVariants as replies
 use Rattle.ram_machine.specs.declared.stopped.Stopped.TheVariants as stopped
 use Rattle.ram_machine.specs.Replies.{Outcome}
-use Rattle.ram_machine.specs.States.{State, Served, Unopened, Disc, kind_of, IsFirst, IsInserted, IsPressedDisc, IsHalfPressed, IsPressedUnopened}
+use Rattle.ram_machine.specs.States.{State, Served, Unopened, Disc, kind_of, renewed, IsFirst, IsInserted, IsPressedDisc, IsHalfPressed, IsPressedUnopened}
 use Rattle.ram_machine.specs.LineSteps.{PressStep, DiscRule, OnDisc, Step}
 use Rattle.ram_machine.specs.Runs.{Run}
 use Rattle.ram_machine.specs.Answered.{AnsweredStep}
 use Rattle.ram_machine.specs.Fairness.{FairNow}
+use Rattle.ram_machine.proofs.Scrubbed.{AtMostDies, at_most_dies}
 use Rattle.ram_machine.proofs.SoundChains.{contents_known}
 
 one_cell : (old new : List Cell) (at : ℕ) → ((other : ℕ) → other ≢ at → cell_at new other ≡ cell_at old other) → (cell_at new at ≡ cell_at old at) ⊎ (cell_at new at ≡ Dead) → AreSameOrDead old new
@@ -79,6 +81,14 @@ module _ (old new : Shown) (same : new.shape ≡ old.shape) (fair : GivesUpDeadA
   fail_fair block fails.Failed p =
       let dies = cells_die (total old.shape) old.medium new.medium block fails.Failed p.0 in
       no_others_fair old new same (die_given old new same dies) (dead_of_dies old new dies) (λ lists is. absurd (none_some lists new.lists p.1.no_lists is)) fair
+
+  -- where at most blocks died
+  dead_fair : AtMostDies old new → GivesUpDeadAlone new
+  dead_fair p = by_lists p.lists
+    where
+      by_lists : (new.lists ≡ old.lists) ⊎ ((new.lists ≡ None) × ¬ IsOn new) → GivesUpDeadAlone new
+      by_lists (inl kept) = dies_fair old new same kept p.dies fair
+      by_lists (inr off) = no_others_fair old new same (die_given old new same p.dies) (dead_of_dies old new p.dies) (λ lists is. absurd (none_some lists new.lists off.0 is)) fair
 
   still_fair : new.lists ≡ old.lists → new.medium.world ≡ old.medium.world → GivesUpDeadAlone new
   still_fair kept world = dies_fair old new same kept (λ block. inl (ap (λ (w : World). cell_at w.cells block) world)) fair
@@ -144,6 +154,8 @@ module _ (old new : CacheShown) (same : new.drive.shape ≡ old.drive.shape) (so
   line_fair host later (lines.Wear block n) payload outcome data_in p = still_fair old.drive new.drive same fair p.0.keeps.memory.same_lists (worn_world _ old.drive.medium new.drive.medium (record { block = block; left = n }) p.0.end p.0.rule)
   line_fair host later (lines.Cut n fate) payload outcome data_in p = still_fair old.drive new.drive same fair p.0.keeps.memory.same_lists (ap (λ (m : Machine). m.world) p.0.armed)
   line_fair host later lines.Tick payload outcome data_in p = (of_tick StaysFair stays_fair old new p.0.out p.0.cause (was_known, fair)).1
+  line_fair host later (lines.Scrub false) payload outcome data_in p = dead_fair old.drive new.drive same fair (of_step (λ faulted a b. AtMostDies a.drive b.drive) at_most_dies old new p.from p.to p.end p.rule)
+  line_fair host later (lines.Scrub true) payload outcome data_in p = dead_fair old.drive new.drive same fair (of_pass (λ faulted a b. AtMostDies a.drive b.drive) at_most_dies old new p.from p.to p.end p.rule)
   line_fair host later (lines.Command cdb) payload outcome data_in p = command_fair host later cdb payload p.answer data_in p.step
   line_fair host later _ payload outcome data_in p = absurd p
 
@@ -183,9 +195,13 @@ unopened_fair : (shape : Shape) (t : State) → IsPressedUnopened shape t → Fa
 unopened_fair shape (Unopened bytes) is = tt
 unopened_fair shape (Disc t) is = absurd is
 
+renewed_fair : (s : State) → FairNow s → FairNow (renewed s)
+renewed_fair (Unopened image) fair = fair
+renewed_fair (Disc s) fair = fair
+
 press_fair : (s t : State) (shape : Shape) (outcome : Outcome) → PressStep s shape outcome t → FairNow s → FairNow t
 press_fair s t shape (Ok (replies.Event events.Pressed)) step fair = pressed_fair shape t step.1
-press_fair s t shape (Ok (replies.Event events.NotPressed)) step fair = subst FairNow (sym step.1) fair
+press_fair s t shape (Ok (replies.Event events.NotPressed)) step fair = subst FairNow (sym step.1) (renewed_fair s fair)
 press_fair s t shape (Err stopped.ImageFault) (lawful, inl half) fair = half_fair s t half
 press_fair s t shape (Err stopped.ImageFault) (lawful, inr unopened) fair = unopened_fair shape t unopened
 press_fair s t shape _ step fair = absurd step

@@ -126,6 +126,7 @@ step_back s t lines.Power payload data_in outcome at choices step writes back = 
 step_back s t (lines.Fail block) payload data_in outcome at choices step writes back = leaves_back s t (lines.Fail block) payload data_in outcome at choices step tt back
 step_back s t (lines.Wear block n) payload data_in outcome at choices step writes back = leaves_back s t (lines.Wear block n) payload data_in outcome at choices step tt back
 step_back s t (lines.Cut n fate) payload data_in outcome at choices step writes back = leaves_back s t (lines.Cut n fate) payload data_in outcome at choices step tt back
+step_back s t (lines.Scrub all) payload data_in outcome at choices step writes back = leaves_back s t (lines.Scrub all) payload data_in outcome at choices step tt back
 step_back s t lines.Tick payload data_in outcome at choices step writes back = leaves_back s t lines.Tick payload data_in outcome at choices step tt back
 
 pub run_back : (s t : State) (events : List AnsweredStep) (at : ℕ) (choices : List (List ℕ)) → Run s events t → WriteAtMost events → FallsBackTo s at choices → FallsBackTo t at (choices_after at events choices)

@@ -36,8 +36,9 @@ use Rattle.ram_text.specs.declared.script.Line.{Line}
 use Rattle.ram_text.specs.declared.script.Line.TheVariants as lines
 use Rattle.ram_machine.specs.declared.reply.Reply.{Reply}
 use Rattle.ram_machine.specs.declared.reply.Reply.TheVariants as replies
+use Rattle.ram_machine.specs.declared.stopped.Stopped.TheVariants as stopped
 use Rattle.ram_machine.specs.Control.{contents_after_fail}
-use Rattle.ram_machine.specs.Replies.{fail_outcome, tick_outcome, command_outcome}
+use Rattle.ram_machine.specs.Replies.{event, fail_outcome, tick_outcome, command_outcome}
 use Rattle.ram_machine.specs.States.{State, Served, Unopened, Disc}
 use Rattle.ram_machine.specs.LineSteps.{DiscRule, OnDisc, Step}
 use Rattle.ram_machine.specs.Runs.{IsStep, Run}
@@ -46,6 +47,7 @@ use Rattle.ram_machine.specs.Acknowledged.{StandsWithSector, HasNow, WasDone, Is
 use Rattle.ram_machine.specs.SectorBytes.{bytes_of_sector}
 use Rattle.ram_machine.proofs.Decoded.{HasItsData, asks_for, its_data}
 use Rattle.ram_machine.proofs.Acknowledged.{not_pressed_by, sector_left}
+use Rattle.ram_machine.proofs.Scrubbed.{ScrubLeaves, step_leaves, pass_leaves}
 use Rattle.ram_machine.proofs.Shortened.{front_sector, front_long}
 use Rattle.ram_machine.proofs.WrittenDiscs.{lies}
 use Rattle.ram_machine.proofs.DoneLines.{ShowsSector, ShowsNow, line_gives}
@@ -174,6 +176,11 @@ module _ (at : ℕ) (bytes : List ℕ) where
     write_shows old new (Has v) lba n fua payload out stood whole apart cause step power keeps = written_shows old new v lba n payload stood whole apart keeps fua out cause step power
     write_shows old new (MayHave all) lba n fua payload out stood whole apart cause step power keeps = absurd keeps
 
+    scrub_shows : (s : Contents) (all : Bool) (reply : Reply) → ScrubLeaves s t (Ok reply) → KeepsPower (lines.Scrub all) reply → KeepsShown s → KeepsShown t
+    scrub_shows s all reply (inl same) power keeps = subst KeepsShown same.0 keeps
+    scrub_shows s all reply (inr (inl cut)) power keeps = absurd (subst (KeepsPower (lines.Scrub all)) (let is : Ok reply ≡ event events.Cut = cut.1 in let same : reply ≡ replies.Event events.Cut = cc in same) power)
+    scrub_shows s all reply (inr (inr fault)) power keeps = absurd (let is : Ok reply ≡ Err stopped.ImageFault = fault.1 in cc)
+
     fail_shows : (s : Contents) (end : FailEnd) (reply : Reply) → contents_after_fail s end ≡ t → Ok reply ≡ fail_outcome end → KeepsShown s → KeepsShown t
     fail_shows s fails.Done reply is outcome keeps = subst KeepsShown is keeps
     fail_shows s (fails.NoBlock blocks) reply is outcome keeps = subst KeepsShown is keeps
@@ -228,6 +235,8 @@ module _ (at : ℕ) (bytes : List ℕ) where
     rule_shows host later (lines.Wear block n) payload reply data_in p power leaves = subst KeepsShown (p.0.keeps.stands s refl) keeps
     rule_shows host later (lines.Cut n fate) payload reply data_in p power leaves = subst KeepsShown (p.0.keeps.stands s refl) keeps
     rule_shows host later lines.Tick payload reply data_in p power leaves = tick_shows t s p.0.out reply (p.0.step s refl) p.0.outcome_is power keeps
+    rule_shows host later (lines.Scrub false) payload reply data_in p power leaves = scrub_shows t s false reply (step_leaves s t old new host later (Ok reply) p) power keeps
+    rule_shows host later (lines.Scrub true) payload reply data_in p power leaves = scrub_shows t s true reply (pass_leaves s t old new host later (Ok reply) p) power keeps
     rule_shows host later (lines.Command cdb) payload reply data_in p power leaves = command_shows host later cdb payload p.answer data_in p.step (stays_of cdb reply p.answer p.outcome_is power) leaves
     rule_shows host later _ payload reply data_in p power leaves = absurd p
 

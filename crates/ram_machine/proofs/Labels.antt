@@ -11,6 +11,7 @@ use Rattle.model_drive.specs.declared.WriteOut.{WriteOut}
 use Rattle.model_cache.specs.Values.{Contents}
 use Rattle.model_cache.specs.Shown.{CacheShown}
 use Rattle.model_cache.proofs.Chained.{HoldsOfChains, of_read, of_write, of_through, of_sync, of_tick}
+use Rattle.model_scrub.proofs.Chained.{of_step, of_pass}
 use Rattle.model_sense.specs.declared.sense.Sense.{Sense}
 use Rattle.model_sense.specs.declared.answer.Answer.{Answer}
 use Rattle.model_cdb.specs.declared.commands.Command.{Command}
@@ -28,6 +29,7 @@ use Rattle.ram_text.specs.declared.script.Line.TheVariants as lines
 use Rattle.ram_machine.specs.Replies.{Outcome}
 use Rattle.ram_machine.specs.States.{IsLabelled}
 use Rattle.ram_machine.specs.LineSteps.{DiscRule}
+use Rattle.ram_machine.proofs.Scrubbed.{AtMostDies, at_most_dies}
 
 module _ (old new : Shown) where
   abbrev SameLabel : Type 0
@@ -98,6 +100,8 @@ module _ (old new : CacheShown) (before after : Contents → Type 0) where
   rule_label host later (lines.Wear block n) payload outcome data_in p = wear_label old.drive new.drive _ (record { block = block; left = n }) p.0.end p.0.rule
   rule_label host later (lines.Cut n fate) payload outcome data_in p = ap (λ (m : Machine). m.world.label) p.0.armed
   rule_label host later lines.Tick payload outcome data_in p = of_tick (λ faulted a b. SameLabel a b) label_holds old new p.0.out p.0.cause
+  rule_label host later (lines.Scrub false) payload outcome data_in p = (of_step (λ faulted a b. AtMostDies a.drive b.drive) at_most_dies old new p.from p.to p.end p.rule).same_label
+  rule_label host later (lines.Scrub true) payload outcome data_in p = (of_pass (λ faulted a b. AtMostDies a.drive b.drive) at_most_dies old new p.from p.to p.end p.rule).same_label
   rule_label host later (lines.Command cdb) payload outcome data_in p = step_label host later cdb payload p.answer data_in p.step
   rule_label host later _ payload outcome data_in p = absurd p
 

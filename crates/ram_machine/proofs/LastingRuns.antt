@@ -1,5 +1,5 @@
 -- No line but a press and a full format makes a formatted disc unformatted.
-use Rattle.std.specs.Prelude.{◌≡◌, ℕ, ◌==◌, ◌*◌, Bool, true, false, IsTrue, is_some, Result, Ok, Err, List, [], ◌∷◌}
+use Rattle.std.specs.Prelude.{◌≡◌, ℕ, ◌==◌, ◌*◌, ◌⊎◌, Bool, true, false, IsTrue, is_some, None, Result, Ok, Err, List, [], ◌∷◌}
 use Rattle.std.specs.Bool.{MatchBool}
 use Rattle.std.specs.List.{Contains}
 use Rattle.std.proofs.Common.{arith, zero, suc, refl, sym, ap, ◌∙◌, inl, inr, subst}
@@ -28,6 +28,7 @@ use Rattle.model_drive.specs.Expands.{ssa_for}
 use Rattle.model_lasting.specs.Lasting.{KeepsTwoCopies, StaysFormatted, TellsSize, DeadStay}
 use Rattle.model_lasting.proofs.Staying.{begins, power_stays, read_stays, verify_stays, write_stays, expand_stays, format_stays, dies_stays}
 use Rattle.model_lasting.proofs.DeadCells.{power_dead, read_dead, verify_dead, write_dead, expand_dead, format_dead}
+use Rattle.model_scrub.proofs.Chained.{of_step, of_pass}
 use Rattle.model_sense.specs.declared.sense.Sense.{Sense}
 use Rattle.model_sense.specs.declared.answer.Answer.{Answer}
 use Rattle.model_cdb.specs.declared.commands.Command.{Command}
@@ -45,12 +46,13 @@ use Rattle.ram_text.specs.declared.script.Line.TheVariants as lines
 use Rattle.ram_machine.specs.declared.reply.Reply.{Reply}
 use Rattle.ram_machine.specs.declared.reply.Reply.TheVariants as replies
 use Rattle.ram_machine.specs.Replies.{Outcome, power_outcome}
-use Rattle.ram_machine.specs.States.{State, Served, Unopened, Disc, kind_of, IsLeft, IsFirst}
+use Rattle.ram_machine.specs.States.{State, Served, Unopened, Disc, renewed, kind_of, IsLeft, IsFirst}
 use Rattle.ram_machine.specs.LineSteps.{DiscRule, OnDisc, Step}
 use Rattle.ram_machine.specs.Runs.{IsStep, Run}
 use Rattle.ram_machine.specs.Answered.{AnsweredStep}
 use Rattle.ram_machine.specs.Survival.{KeepsAsAsked, KeepsAsDecoded, KeepsDisc, KeepDisc, AsksNoExpansion, LeavesCapacity, LeaveCapacity, HasInUse, HasTwoCopies, LastsNow, IsReadyOrCut}
 use Rattle.ram_machine.proofs.Images.{image_left, kind_again}
+use Rattle.ram_machine.proofs.Scrubbed.{AtMostDies, at_most_dies}
 use Rattle.ram_machine.proofs.SoundChains.{contents_known, IsWell}
 use Rattle.ram_machine.proofs.Decoded.{asks_for}
 use Rattle.ram_machine.proofs.Acknowledged.{not_pressed_by}
@@ -128,6 +130,10 @@ module _ (old new : CacheShown) (before after : Contents → Type 0) where
   line_dead host later (lines.Wear block n) payload outcome data_in p = world_dead old.drive new.drive (worn_world _ old.drive.medium new.drive.medium (record { block = block; left = n }) p.0.end p.0.rule)
   line_dead host later (lines.Cut n fate) payload outcome data_in p = world_dead old.drive new.drive (ap (λ (m : Machine). m.world) p.0.armed)
   line_dead host later lines.Tick payload outcome data_in p = of_tick (λ faulted a b. DeadStay a b) stays_dead old new p.0.out p.0.cause
+  line_dead host later (lines.Scrub false) payload outcome data_in p =
+      die_dead (cells_in old.drive) (cells_in new.drive) (of_step (λ faulted a b. AtMostDies a.drive b.drive) at_most_dies old new p.from p.to p.end p.rule).dies
+  line_dead host later (lines.Scrub true) payload outcome data_in p =
+      die_dead (cells_in old.drive) (cells_in new.drive) (of_pass (λ faulted a b. AtMostDies a.drive b.drive) at_most_dies old new p.from p.to p.end p.rule).dies
   line_dead host later (lines.Command cdb) payload outcome data_in p = command_dead host later cdb payload p.answer data_in p.step
   line_dead host later _ payload outcome data_in p = absurd p
 
@@ -174,6 +180,14 @@ module _ (old new : Shown) (same : new.shape ≡ old.shape) (version : Version) 
   fail_lasts block fails.Done p = dies_stays old new version sizes same s (λ on. subst (λ (m : Machine). IsTrue m.world.power) p.0.1 on) (λ on. p.1.same_lists) (cells_die (total old.shape) old.medium new.medium block fails.Done p.0)
   fail_lasts block (fails.NoBlock blocks) p = dies_stays old new version sizes same s (λ on. subst (λ (m : Machine). IsTrue m.world.power) p.0.2 on) (λ on. p.1.same_lists) (cells_die (total old.shape) old.medium new.medium block (fails.NoBlock blocks) p.0)
   fail_lasts block fails.Failed p = dies_stays old new version sizes same s (λ on. absurd (p.0.1.turns_off on)) (λ on. absurd (p.0.1.turns_off on)) (cells_die (total old.shape) old.medium new.medium block fails.Failed p.0)
+
+  -- where at most blocks died
+  dead_lasts : AtMostDies old new → StaysFormatted new version sizes
+  dead_lasts p = dies_stays old new version sizes same s p.was_on (λ on. kept on p.lists) p.dies
+    where
+      kept : IsOn new → (new.lists ≡ old.lists) ⊎ ((new.lists ≡ None) × ¬ IsOn new) → new.lists ≡ old.lists
+      kept on (inl is) = is
+      kept on (inr off) = absurd (off.1 on)
 
   still_lasts : new.lists ≡ old.lists → new.medium.world ≡ old.medium.world → StaysFormatted new version sizes
   still_lasts kept world = dies_stays old new version sizes same s (λ on. subst (λ (w : World). IsTrue w.power) world on) (λ on. kept) (λ block. inl (ap (λ (w : World). cell_at w.cells block) world))
@@ -261,6 +275,10 @@ module _ (old new : CacheShown) (same : new.drive.shape ≡ old.drive.shape) (wa
       as_sized (still_lasts old.drive new.drive same version sizes s p.0.keeps.memory.same_lists (worn_world _ old.drive.medium new.drive.medium (record { block = block; left = n }) p.0.end p.0.rule))
   line_lasts host later (lines.Cut n fate) payload outcome data_in p keeps two = as_sized (still_lasts old.drive new.drive same version sizes s p.0.keeps.memory.same_lists (ap (λ (m : Machine). m.world) p.0.armed))
   line_lasts host later lines.Tick payload outcome data_in p keeps two = as_sized (of_tick (StaysOn version sizes) (stays_on version sizes) old new p.0.out p.0.cause old.drive.shape was_on).1
+  line_lasts host later (lines.Scrub false) payload outcome data_in p keeps two =
+      as_sized (dead_lasts old.drive new.drive same version sizes s (of_step (λ faulted a b. AtMostDies a.drive b.drive) at_most_dies old new p.from p.to p.end p.rule))
+  line_lasts host later (lines.Scrub true) payload outcome data_in p keeps two =
+      as_sized (dead_lasts old.drive new.drive same version sizes s (of_pass (λ faulted a b. AtMostDies a.drive b.drive) at_most_dies old new p.from p.to p.end p.rule))
   line_lasts host later (lines.Command cdb) payload outcome data_in p keeps two = command_lasts host later cdb payload p.answer data_in p.step keeps
   line_lasts host later _ payload outcome data_in p keeps two = absurd p
 
@@ -284,7 +302,7 @@ pub step_lasts : (s t : State) (line : Line) (payload data_in : List ℕ) (outco
 step_lasts (Unopened bytes) t line payload data_in outcome version sizes step keeps two lasts = absurd lasts
 step_lasts (Disc s) t lines.Empty payload data_in outcome version sizes step keeps two lasts = stays_same (Disc s) t version sizes step.2 lasts
 step_lasts (Disc s) t (lines.Press zones scale psa) payload data_in outcome version sizes step keeps two lasts =
-    stays_same (Disc s) t version sizes (not_pressed_by (Disc s) t zones scale psa outcome step.0 keeps) lasts
+    stays_same (renewed (Disc s)) t version sizes (not_pressed_by (Disc s) t zones scale psa outcome step.0 keeps) lasts
 step_lasts (Disc s) t line payload data_in outcome version sizes step keeps two lasts = on_disc_lasts s t line payload outcome data_in version sizes step keeps two lasts
 
 on_disc_two : (s t : State) (line : Line) (payload : List ℕ) (outcome : Outcome) (data_in : List ℕ) (version : Version) → OnDisc s line payload outcome data_in t
@@ -294,12 +312,16 @@ on_disc_two (Disc s) (Unopened bytes) line payload outcome data_in version step 
 on_disc_two (Disc s) (Disc t) line payload outcome data_in version step two = two_before s.disc.shown.drive t.disc.shown.drive version step.same_shape
     (line_dead s.disc.shown t.disc.shown (λ x. x ≡ s.disc.contents) (λ x. x ≡ t.disc.contents) s.host t.host line payload outcome data_in step.rule) two
 
+renewed_two : (s : State) (version : Version) → HasTwoCopies (renewed s) version → HasTwoCopies s version
+renewed_two (Unopened image) version two = two
+renewed_two (Disc s) version two = two
+
 -- what has two copies after a line had them before it
 step_two : (s t : State) (line : Line) (payload data_in : List ℕ) (outcome : Outcome) (version : Version) → Step s line payload outcome data_in t → KeepsDisc line payload
     → HasTwoCopies t version → HasTwoCopies s version
 step_two s t lines.Empty payload data_in outcome version step keeps two = subst (λ (x : State). HasTwoCopies x version) step.2 two
 step_two s t (lines.Press zones scale psa) payload data_in outcome version step keeps two =
-    subst (λ (x : State). HasTwoCopies x version) (not_pressed_by s t zones scale psa outcome step.0 keeps) two
+    renewed_two s version (subst (λ (x : State). HasTwoCopies x version) (not_pressed_by s t zones scale psa outcome step.0 keeps) two)
 step_two s t line payload data_in outcome version step keeps two = on_disc_two s t line payload outcome data_in version step two
 
 -- ---- a run

@@ -1,3 +1,4 @@
+pub mod Scrubbed
 pub mod StatesAfter
 pub mod LineCounts
 pub mod Labels

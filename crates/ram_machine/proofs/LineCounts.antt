@@ -1,5 +1,5 @@
 -- What a line makes of the image's count: it rises exactly where the image failed.
-use Rattle.std.specs.Prelude.{◌≡◌, ℕ, List}
+use Rattle.std.specs.Prelude.{◌≡◌, ℕ, true, false, List, length}
 use Rattle.std.proofs.Common.{sym, ap, subst}
 use Rattle.model_medium.specs.Machine.{Machine}
 use Rattle.model_medium.specs.declared.WornBlock.{WornBlock}
@@ -13,6 +13,11 @@ use Rattle.model_cache.specs.Shown.{CacheShown}
 use Rattle.model_cache.specs.declared.TickOut.{TickOut}
 use Rattle.model_cache.specs.declared.TickOut.TheVariants as ticks
 use Rattle.model_cache.proofs.Chained.{tick_faulted, of_tick}
+use Rattle.model_scrub.specs.declared.ends.StepEnd.{StepEnd}
+use Rattle.model_scrub.specs.declared.ends.StepEnd.TheVariants as steps
+use Rattle.model_scrub.specs.declared.ends.PassEnd.{PassEnd}
+use Rattle.model_scrub.specs.declared.ends.PassEnd.TheVariants as passes
+use Rattle.model_scrub.proofs.Chained.{step_faulted, pass_faulted, of_step, of_pass}
 use Rattle.model_target.specs.declared.host.Host.{Host}
 use Rattle.model_target.specs.Steps.{AnswerFaults}
 use Rattle.model_target.proofs.Counted.{CountsFaults, counts_faults, step_counted}
@@ -26,9 +31,10 @@ use Rattle.model_sense.specs.declared.answer.Answer.TheVariants as answers
 use Rattle.ram_states.specs.Control.{FailOnDrive}
 use Rattle.ram_text.specs.declared.script.Line.{Line}
 use Rattle.ram_text.specs.declared.script.Line.TheVariants as lines
-use Rattle.ram_machine.specs.Replies.{Outcome, power_outcome, fail_outcome, wear_outcome, tick_outcome, command_outcome}
+use Rattle.ram_machine.specs.Replies.{Outcome, power_outcome, fail_outcome, wear_outcome, tick_outcome, step_outcome, pass_outcome, command_outcome}
 use Rattle.ram_machine.specs.LineSteps.{DiscRule}
 use Rattle.ram_machine.specs.LineFaults.{LineCount}
+use Rattle.ram_machine.proofs.Scrubbed.{scrub_counts}
 
 module _ (old new : Shown) where
   -- the count after a line that came out so
@@ -63,6 +69,21 @@ module _ (old new : Shown) where
   tick_counts ticks.Off p = p
   tick_counts ticks.Fault p = p
 
+  step_counts : (end : StepEnd) → CountsFaults (step_faulted end) old new → Counts (step_outcome end)
+  step_counts (steps.Readable i) p = p
+  step_counts (steps.Unreadable i) p = p
+  step_counts steps.NotFormatted p = p
+  step_counts steps.Cut p = p
+  step_counts steps.Off p = p
+  step_counts steps.Fault p = p
+
+  pass_counts : (end : PassEnd) (count : ℕ) → CountsFaults (pass_faulted end) old new → Counts (pass_outcome end count)
+  pass_counts passes.Done count p = p
+  pass_counts passes.NotFormatted count p = p
+  pass_counts passes.Cut count p = p
+  pass_counts passes.Off count p = p
+  pass_counts passes.Fault count p = p
+
   answer_counts : (cdb : List ℕ) (answer : Answer) → AnswerFaults old new answer → Counts (command_outcome cdb answer)
   answer_counts cdb answers.Good p = p
   answer_counts cdb (answers.Check sense) p = p
@@ -82,6 +103,12 @@ rule_counts old new before after host later (lines.Cut n fate) payload outcome d
     told old.drive new.drive outcome _ p.0.outcome_is (ap (λ (m : Machine). m.world.faults) p.0.armed)
 rule_counts old new before after host later lines.Tick payload outcome data_in p =
     told old.drive new.drive outcome (tick_outcome p.0.out) p.0.outcome_is (tick_counts old.drive new.drive p.0.out (of_tick CountsFaults counts_faults old new p.0.out p.0.cause))
+rule_counts old new before after host later (lines.Scrub false) payload outcome data_in p =
+    told old.drive new.drive outcome (step_outcome p.end) p.outcome_is
+    (step_counts old.drive new.drive p.end (of_step (λ faulted a b. CountsFaults faulted a.drive b.drive) scrub_counts old new p.from p.to p.end p.rule))
+rule_counts old new before after host later (lines.Scrub true) payload outcome data_in p =
+    told old.drive new.drive outcome (pass_outcome p.end (length p.to.found)) p.outcome_is
+    (pass_counts old.drive new.drive p.end (length p.to.found) (of_pass (λ faulted a b. CountsFaults faulted a.drive b.drive) scrub_counts old new p.from p.to p.end p.rule))
 rule_counts old new before after host later (lines.Command cdb) payload outcome data_in p =
     told old.drive new.drive outcome (command_outcome cdb p.answer) p.outcome_is (answer_counts old.drive new.drive cdb p.answer (step_counted old new before after host later cdb payload p.answer data_in p.step))
 rule_counts old new before after host later _ payload outcome data_in p = absurd p

@@ -22,6 +22,7 @@ use Rattle.model_cache.specs.Runs.{CacheLoaded, IsCacheOpenedOn}
 use Rattle.model_cache.proofs.SameBlocks.{stands_plainly}
 use Rattle.model_cache.proofs.Members.{Contains-none}
 use Rattle.model_drive.proofs.Opening.{opened_disc}
+use Rattle.model_scrub.specs.Scrubs.{fresh}
 use Rattle.model_target.specs.Host.{powered_on}
 use Rattle.ram_outside.specs.declared.image.Image.{Ghosts as Images}
 use Rattle.ram_image.specs.Medium.{machine_in, bytes_in}
@@ -32,6 +33,8 @@ use Rattle.ram_image.specs.declared.opening.OpenFault.TheVariants as faulty
 use Rattle.ram_mmc.specs.declared.target.Target.{Target}
 use Rattle.ram_sectors.specs.declared.caching.Caching.{Ghosts as Drives}
 use Rattle.ram_report.specs.declared.printing.Event.TheVariants as events
+use Rattle.ram_scrub.specs.Scrub.{scrubber_of}
+use Rattle.ram_scrub.specs.declared.scrub.Scrub.{Scrub}
 use Rattle.ram_transfer.specs.Shown.{shown_without}
 use Rattle.ram_machine.specs.declared.inserted.Inserted.TheVariants as inserts
 use Rattle.ram_machine.specs.declared.rooms.TargetRooms.{TargetRooms}
@@ -124,6 +127,7 @@ module _ {D I : Type 0} (drives : Drives D) (lies_in : D → Option (List ℕ)) 
   served = record {
     disc = by.disc;
     host = powered_on;
+    scrub = fresh;
     labelled = opened_labelled by.shape (cells_of (total by.shape) bytes) by.disc by.opened;
     bytes = bytes;
     image = opened_image by.shape bytes by.disc by.image by.opened;
@@ -136,7 +140,7 @@ module _ {D I : Type 0} (drives : Drives D) (lies_in : D → Option (List ℕ)) 
   its_kind = sym (ap (λ (x : CacheShown). x.drive.shape.layout) by.opened.shown_is ∙ by.kind_is)
 
   inserted : IsInserted by.shape (cells_of (total by.shape) bytes) bytes served
-  inserted = record { opened = by.opened; host_is = refl; bytes_are = refl }
+  inserted = record { opened = by.opened; host_is = refl; scrub_is = refl; bytes_are = refl }
 
 -- an image that was left and then pressed tells the bytes of a new disc
 record IsPressed (shape : Shape) (after : Option (List ℕ)) : Type 0 where
@@ -166,8 +170,9 @@ module _ {D I : Type 0} (drives : Drives D) (lies_in : D → Option (List ℕ)) 
 
     -- a disc was pressed and opened
     pub press_opened : (target : Target D) → target.host ≡ powered_on → ((bytes : List ℕ) → images.bytes image ≡ Some bytes → IsOpenedBy kind bytes (drives.shows target.disc) (drives.stands target.disc))
-        → lies_in target.disc ≡ images.bytes image → IsPressAnswered s shape (Stands drives lies_in images (inserts.Disc target kind)) (event events.Pressed)
-    press_opened target host_is opening same =
+        → lies_in target.disc ≡ images.bytes image → (scrub : Scrub) → scrubber_of scrub ≡ fresh
+        → IsPressAnswered s shape (Stands drives lies_in images (inserts.Disc target kind scrub)) (event events.Pressed)
+    press_opened target host_is opening same scrub new =
         let by = opening found.bytes found.known in
         let one : by.shape ≡ shape = one_header by.shape shape found.bytes (by.kind_is ∙ sym kind_is) by.image.has_header found.image_is.disc.has_header in
         let lies : lies_in target.disc ≡ Some found.bytes = same ∙ found.known in
@@ -180,7 +185,7 @@ module _ {D I : Type 0} (drives : Drives D) (lies_in : D → Option (List ℕ)) 
                 (subst (λ cells. IsInserted shape cells found.bytes disc) found.image_is.cells_are
                 (subst (λ (z : Shape). IsInserted z (cells_of (total z) found.bytes) found.bytes disc) one (inserted drives lies_in images kind found.bytes target by host_is lies))),
           );
-          stands = (is_in drives lies_in images kind found.bytes target by host_is lies, its_kind drives lies_in images kind found.bytes target by host_is lies);
+          stands = (is_in drives lies_in images kind found.bytes target by host_is lies, its_kind drives lies_in images kind found.bytes target by host_is lies, new);
         }
 
     -- a pressed image is refused only where it failed
@@ -205,15 +210,16 @@ module _ {D I : Type 0} (drives : Drives D) (lies_in : D → Option (List ℕ)) 
 module _ {D I : Type 0} (drives : Drives D) (lies_in : D → Option (List ℕ)) (images : Images I) (kind : LayoutKind) (image : I) where
   -- a disc was opened
   pub first_opened : (target : Target D) → target.host ≡ powered_on → ((bytes : List ℕ) → images.bytes image ≡ Some bytes → IsOpenedBy kind bytes (drives.shows target.disc) (drives.stands target.disc))
-      → lies_in target.disc ≡ images.bytes image → (bytes : List ℕ) → images.bytes image ≡ Some bytes → StandsFirst kind bytes (Stands drives lies_in images (inserts.Disc target kind))
-  first_opened target host_is opening same bytes known =
+      → lies_in target.disc ≡ images.bytes image → (scrub : Scrub) → scrubber_of scrub ≡ fresh
+      → (bytes : List ℕ) → images.bytes image ≡ Some bytes → StandsFirst kind bytes (Stands drives lies_in images (inserts.Disc target kind scrub))
+  first_opened target host_is opening same scrub new bytes known =
       let by = opening bytes known in
       let lies : lies_in target.disc ≡ Some bytes = same ∙ known in
       record {
         state = Disc (served drives lies_in images kind bytes target by host_is lies);
         kind_is = sym (its_kind drives lies_in images kind bytes target by host_is lies);
         first = (by.shape, by.image, inserted drives lies_in images kind bytes target by host_is lies);
-        stands_first = (is_in drives lies_in images kind bytes target by host_is lies, its_kind drives lies_in images kind bytes target by host_is lies);
+        stands_first = (is_in drives lies_in images kind bytes target by host_is lies, its_kind drives lies_in images kind bytes target by host_is lies, new);
       }
 
   -- an image that holds no disc is left as it is

@@ -328,5 +328,6 @@ module _ (at : ℕ) (new : CacheShown) (t u : Contents) (stands : CacheStandsFor
     line_both lists (lines.Fail block) payload reply data_in none one other = left_both data_in reply one other
     line_both lists (lines.Wear block n) payload reply data_in none one other = left_both data_in reply one other
     line_both lists (lines.Cut n fate) payload reply data_in none one other = left_both data_in reply one other
+    line_both lists (lines.Scrub all) payload reply data_in none one other = same (λ a. a ≡ left_in reply r) (left_in reply r) refl one other
     line_both lists lines.Tick payload reply data_in none one other = left_both data_in reply one other
     line_both lists (lines.Press zones scale psa) payload reply data_in none one other = with_none data_in (λ a. AfterPress r reply a) (press_both reply) one other

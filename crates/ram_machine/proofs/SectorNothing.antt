@@ -113,6 +113,9 @@ module _ (at : ℕ) where
   by_reply choices r (replies.Event (events.NoSpare lba)) has = has
   by_reply choices r (replies.Event events.NoUpdate) has = has
   by_reply choices r (replies.Event events.Off) has = has
+  by_reply choices r (replies.Event (events.Readable lba)) has = has
+  by_reply choices r (replies.Event (events.Unreadable lba)) has = has
+  by_reply choices r (replies.Event (events.Found count)) has = has
 
   off : (choices : List (List ℕ)) (r after : Register) → after ≡ powered r None r.falls → Among r choices → Among after choices
   off choices r after is has = carried choices (powered r None r.falls) after is (record { zero = has.zero; shows = none_found (IsIn choices); falls = has.falls })
@@ -238,6 +241,7 @@ module _ (at : ℕ) where
   by_line choices r after (lines.Wear block n) payload reply data_in turn has = carried choices (left_in reply r) after turn.1 (by_reply choices r reply has)
   by_line choices r after (lines.Cut n fate) payload reply data_in turn has = carried choices (left_in reply r) after turn.1 (by_reply choices r reply has)
   by_line choices r after lines.Tick payload reply data_in turn has = carried choices (left_in reply r) after turn.1 (by_reply choices r reply has)
+  by_line choices r after (lines.Scrub all) payload reply data_in turn has = carried choices (left_in reply r) after turn (by_reply choices r reply has)
   by_line choices r after (lines.Command cdb) payload reply data_in turn has = by_command choices r after (decoded cdb payload) payload data_in turn.0 turn.2 has
 
   by_lines : (choices : List (List ℕ)) (r after : Register) (answered : List AnsweredStep) → Turns at r answered after → Among r choices → Among after (choices_after at answered choices)

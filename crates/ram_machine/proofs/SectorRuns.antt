@@ -24,7 +24,7 @@ use Rattle.ram_text.specs.declared.script.Line.TheVariants as lines
 use Rattle.ram_machine.specs.declared.reply.Reply.{Reply}
 use Rattle.ram_machine.specs.declared.reply.Reply.TheVariants as replies
 use Rattle.ram_machine.specs.declared.stopped.Stopped.TheVariants as stopped
-use Rattle.ram_machine.specs.States.{State, Served, Unopened, Disc, kind_of, IsPressedDisc}
+use Rattle.ram_machine.specs.States.{State, Served, Unopened, Disc, renewed, kind_of, IsPressedDisc}
 use Rattle.ram_machine.specs.LineSteps.{PressStep, LeadsOn, OnDisc, Step}
 use Rattle.ram_machine.specs.Runs.{Run}
 use Rattle.ram_machine.specs.Answered.{AnsweredStep}
@@ -93,9 +93,13 @@ pressed_matches at r shape (Disc s) is = record { one = held one_lost; other = h
     }
 
 module _ (at : ℕ) (r : Register) where
+  renewed_matches : (s : State) → MatchesState at s r → MatchesState at (renewed s) r
+  renewed_matches (Unopened image) was = was
+  renewed_matches (Disc s) was = was
+
   press_turn : (s t : State) (shape : Shape) (reply : Reply) → PressStep s shape (Ok reply) t → MatchesState at s r → TurnedTo at t (λ after. AfterPress r reply after)
   press_turn s t shape (replies.Event events.Pressed) step was = record { after = powered r None []; rule = refl; matches = pressed_matches at r shape t step.1 }
-  press_turn s t shape (replies.Event events.NotPressed) step was = record { after = r; rule = refl; matches = subst (λ (x : State). MatchesState at x r) (sym step.1) was }
+  press_turn s t shape (replies.Event events.NotPressed) step was = record { after = r; rule = refl; matches = subst (λ (x : State). MatchesState at x r) (sym step.1) (renewed_matches s was) }
   press_turn s t shape _ step was = absurd step
 
   -- ---- a line
@@ -140,6 +144,7 @@ module _ (at : ℕ) (r : Register) where
   step_turn s t (lines.Wear block n) payload data_in reply was step = other_turn s t (lines.Wear block n) payload data_in reply was step
   step_turn s t (lines.Cut n fate) payload data_in reply was step = other_turn s t (lines.Cut n fate) payload data_in reply was step
   step_turn s t lines.Tick payload data_in reply was step = other_turn s t lines.Tick payload data_in reply was step
+  step_turn s t (lines.Scrub all) payload data_in reply was step = other_turn s t (lines.Scrub all) payload data_in reply was step
   step_turn s t (lines.Command cdb) payload data_in reply was step = other_turn s t (lines.Command cdb) payload data_in reply was step
 
 -- ---- a run

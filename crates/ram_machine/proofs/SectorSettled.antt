@@ -56,6 +56,9 @@ module _ (at : ℕ) (bytes : List ℕ) where
   by_reply r (replies.Event (events.NoSpare lba)) has = has
   by_reply r (replies.Event events.NoUpdate) has = has
   by_reply r (replies.Event events.Off) has = has
+  by_reply r (replies.Event (events.Readable lba)) has = has
+  by_reply r (replies.Event (events.Unreadable lba)) has = has
+  by_reply r (replies.Event (events.Found count)) has = has
 
   -- these are the bytes
   alone : (one : Value) → one ≡ Bytes bytes → (found : Value) → Contains (one ∷ []) found → found ≡ Bytes bytes
@@ -145,6 +148,7 @@ module _ (at : ℕ) (bytes : List ℕ) where
   by_line r after (lines.Wear block n) payload reply data_in turn leaves has = carried (left_in reply r) after turn.1 (by_reply r reply has)
   by_line r after (lines.Cut n fate) payload reply data_in turn leaves has = carried (left_in reply r) after turn.1 (by_reply r reply has)
   by_line r after lines.Tick payload reply data_in turn leaves has = carried (left_in reply r) after turn.1 (by_reply r reply has)
+  by_line r after (lines.Scrub all) payload reply data_in turn leaves has = carried (left_in reply r) after turn (by_reply r reply has)
   by_line r after (lines.Command cdb) payload reply data_in turn leaves has = by_command r after (decoded cdb payload) payload data_in turn.0 leaves turn.2 has
 
   pub stays_settled : (r after : Register) (answered : List AnsweredStep) → Turns at r answered after → LeaveSector at answered → HasSettled r bytes → HasSettled after bytes

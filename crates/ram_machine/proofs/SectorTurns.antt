@@ -1,10 +1,11 @@
 -- A line, and a run, and the register of a sector.
-use Rattle.std.specs.Prelude.{◌≡◌, ℕ, ◌+◌, ◌*◌, ◌<◌, Bool, false, nat_lt, MatchBool, Option, None, Some, Ok, List, [], ◌∷◌, length}
+use Rattle.std.specs.Prelude.{◌≡◌, ℕ, ◌+◌, ◌*◌, ◌<◌, Bool, true, false, nat_lt, MatchBool, Option, None, Some, Ok, Err, List, [], ◌∷◌, length}
 use Rattle.std.specs.List.{Contains}
 use Rattle.std.proofs.Common.{arith, refl, sym, ap, ◌∙◌, inl, inr, subst}
 use Rattle.std.proofs.lemmas.Bool.{cases_lt, lt-ltb, le-ltb}
 use Rattle.model_sectors.specs.Discs.{block_of, sectors_of}
 use Rattle.model_sectors.specs.Requests.{block_with}
+use Rattle.model_sectors.specs.declared.ReadOut.TheVariants as reads
 use Rattle.model_sectors.specs.declared.PowerOut.{PowerOut}
 use Rattle.model_sectors.specs.declared.PowerOut.TheVariants as powers
 use Rattle.model_places.specs.Places.{Lists}
@@ -16,7 +17,8 @@ use Rattle.model_cache.specs.Values.{Contents, Has, HasBlock, settled_values}
 use Rattle.model_cache.specs.Shown.{CacheShown, CacheStandsFor}
 use Rattle.model_cache.specs.Steps.{PowerContents, TickContents}
 use Rattle.model_cache.proofs.Members.{Contains-first}
-use Rattle.model_cache.proofs.Falls.{HasOneBy, power_finds_one, power_falls, tick_falls, one, settled_within}
+use Rattle.model_cache.proofs.Falls.{HasOneBy, power_finds_one, verify_falls, power_falls, tick_falls, one, settled_within}
+use Rattle.model_scrub.proofs.Chained.{of_step, of_pass}
 use Rattle.model_sense.specs.declared.answer.Answer.{Answer}
 use Rattle.model_sense.specs.declared.answer.Answer.TheVariants as answers
 use Rattle.model_cdb.specs.Decoding.{decoded}
@@ -31,14 +33,16 @@ use Rattle.ram_text.specs.declared.script.Line.{Line}
 use Rattle.ram_text.specs.declared.script.Line.TheVariants as lines
 use Rattle.ram_machine.specs.declared.reply.Reply.{Reply}
 use Rattle.ram_machine.specs.declared.reply.Reply.TheVariants as replies
+use Rattle.ram_machine.specs.declared.stopped.Stopped.TheVariants as stopped
 use Rattle.ram_machine.specs.Control.{contents_after_fail}
 use Rattle.ram_machine.specs.Replies.{Outcome, power_outcome, fail_outcome, wear_outcome, tick_outcome, command_outcome, event}
 use Rattle.ram_machine.specs.LineSteps.{DiscRule}
 use Rattle.ram_machine.proofs.WrittenDiscs.{SoInBlock, SoInContents, so_of_block, block_sector}
 use Rattle.ram_machine.specs.Register.{Value, Register, left_by, left_in, powered, AfterPower, Turn}
 use Rattle.ram_machine.proofs.SectorValues.{falls_under, has_bytes}
-use Rattle.ram_machine.proofs.SectorNow.{now_in, now_there, now_gone, here, tick_answer, tick_stays}
+use Rattle.ram_machine.proofs.SectorNow.{now_in, now_there, now_gone, here, verify_stays, tick_answer, tick_stays}
 use Rattle.ram_machine.proofs.CacheModes.{SameMode, tick_mode}
+use Rattle.ram_machine.proofs.Scrubbed.{ScrubLeaves, step_leaves, pass_leaves, scrub_mode}
 use Rattle.ram_machine.proofs.SectorMatching.{Matches, Turned, by_rule, stays, leaves}
 use Rattle.ram_machine.proofs.SectorCommands.{CommandUnder, command_turn}
 
@@ -152,6 +156,9 @@ module _ (lost : List ℕ) (at : ℕ) (old new : CacheShown) (s t : Contents) (r
       by_reply (replies.Event (events.NoSpare lba)) bad = kept
       by_reply (replies.Event events.NoUpdate) bad = kept
       by_reply (replies.Event events.Off) bad = kept
+      by_reply (replies.Event (events.Readable lba)) bad = kept
+      by_reply (replies.Event (events.Unreadable lba)) bad = kept
+      by_reply (replies.Event (events.Found count)) bad = kept
 
   uncut_fail : (reply : Reply) (end : FailEnd) → Ok reply ≡ fail_outcome end → ¬ (reply ≡ replies.Event events.Cut)
   uncut_fail reply fails.Done is = λ cut. cc
@@ -189,6 +196,13 @@ module _ (lost : List ℕ) (at : ℕ) (old new : CacheShown) (s t : Contents) (r
       by_out ticks.Off e went = kept ticks.Off (replies.Event events.Off) tt (replied (replies.Event events.Off) e) went refl
       by_out ticks.Fault e went = absurd cc
 
+  scrub_turn : (reply : Reply) → ScrubLeaves s t (Ok reply) → SameMode old new → To (λ after. after ≡ left_in reply r)
+  scrub_turn reply (inl same) mode = event_stays reply mode same.0 (λ cut. same.1 (ap done cut))
+  scrub_turn reply (inr (inl cut)) mode =
+      subst (λ (y : Reply). To (λ after. after ≡ left_in y r)) (same_reply reply (replies.Event events.Cut) cut.1)
+      (leaves lost at old new s t r was mode answers.Cut tt (verify_stays at s t reads.Cut cut.0) (verify_falls (SoInBlock (Contains (falls_under lost r.falls)) at) (block_with at) s t reads.Cut cut.0 was.falls))
+  scrub_turn reply (inr (inr fault)) mode = absurd (let is : Ok reply ≡ Err stopped.ImageFault = fault.1 in cc)
+
   -- ---- any line on a disc
   pub rule_turn : (host later : Host) (line : Line) (payload : List ℕ) (reply : Reply) (data_in : List ℕ) → CacheStandsFor new t
       → ((disc : List ℕ) → t ≡ Has (settled_values disc) → length disc ≡ 32768 * block_count new.drive)
@@ -208,6 +222,10 @@ module _ (lost : List ℕ) (at : ℕ) (old new : CacheShown) (s t : Contents) (r
   rule_turn host later lines.Tick payload reply data_in stands whole p =
       by_rule lost at new t (λ after. after ≡ left_in reply r) (λ after. (data_in ≡ []) × (after ≡ left_in reply r)) (λ after q. (p.1, q))
       (tick_turn reply p.0.out p.0.outcome_is (tick_mode old new p.0.out p.0.cause) (p.0.step s refl))
+  rule_turn host later (lines.Scrub false) payload reply data_in stands whole p =
+      scrub_turn reply (step_leaves s t old new host later (Ok reply) p) (of_step (λ faulted a b. b.caches ≡ a.caches) scrub_mode old new p.from p.to p.end p.rule)
+  rule_turn host later (lines.Scrub true) payload reply data_in stands whole p =
+      scrub_turn reply (pass_leaves s t old new host later (Ok reply) p) (of_pass (λ faulted a b. b.caches ≡ a.caches) scrub_mode old new p.from p.to p.end p.rule)
   rule_turn host later (lines.Command cdb) payload reply data_in stands whole p =
       let is = printed_reply cdb reply p.answer p.outcome_is in
       by_rule lost at new t (λ after. CommandUnder lost at old.drive.lists t r (decoded cdb payload) payload data_in p.answer after)

@@ -1,12 +1,14 @@
 -- What a line leaves a drive standing for, found in its clause.
-use Rattle.std.specs.Prelude.{◌≡◌, ℕ, List}
+use Rattle.std.specs.Prelude.{◌≡◌, ℕ, true, false, List}
 use Rattle.std.proofs.Common.{sym, ap, subst}
 use Rattle.model_cache.specs.Values.{Contents}
 use Rattle.model_cache.specs.Shown.{CacheShown}
 use Rattle.model_cache.specs.Steps.{PowerContents, TickContents}
 use Rattle.model_cache.proofs.Found.{power_found, tick_found}
+use Rattle.model_scrub.specs.Asks.{StepContents, PassContents}
+use Rattle.model_scrub.proofs.Chained.{step_found, pass_found}
 use Rattle.model_target.specs.declared.host.Host.{Host}
-use Rattle.model_target.proofs.Found.{step_found}
+use Rattle.model_target.proofs.Found.{step_found as command_found}
 use Rattle.ram_text.specs.declared.script.Line.{Line}
 use Rattle.ram_text.specs.declared.script.Line.TheVariants as lines
 use Rattle.ram_machine.specs.Replies.{Outcome}
@@ -66,7 +68,35 @@ module _ (old new : CacheShown) (before after : Contents → Type 0) (host later
           p.1,
         ),
       )
+  rule_found (lines.Scrub false) payload outcome data_in p =
+      let found = step_found after s p.end (p.step s stood) in (
+        found.0,
+        found.1,
+        record {
+          end = p.end;
+          from = p.from;
+          to = p.to;
+          rule = p.rule;
+          step = λ x e. subst (λ y. StepContents (λ z. z ≡ found.0) y p.end) (sym e) found.2;
+          same_host = p.same_host;
+          outcome_is = p.outcome_is;
+        },
+      )
+  rule_found (lines.Scrub true) payload outcome data_in p =
+      let found = pass_found after s p.end (p.step s stood) in (
+        found.0,
+        found.1,
+        record {
+          end = p.end;
+          from = p.from;
+          to = p.to;
+          rule = p.rule;
+          step = λ x e. subst (λ y. PassContents (λ z. z ≡ found.0) y p.end) (sym e) found.2;
+          same_host = p.same_host;
+          outcome_is = p.outcome_is;
+        },
+      )
   rule_found (lines.Command cdb) payload outcome data_in p =
-      let found = step_found old new before after s stood host later cdb payload p.answer data_in p.step in
+      let found = command_found old new before after s stood host later cdb payload p.answer data_in p.step in
       (found.0, found.1, record { answer = p.answer; step = found.2; outcome_is = p.outcome_is })
   rule_found _ payload outcome data_in p = absurd p

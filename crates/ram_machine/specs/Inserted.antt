@@ -3,6 +3,7 @@ use Rattle.std.specs.Prelude.{◌≡◌, ℕ, Option, None, Some, List, []}
 use Rattle.model_geometry.specs.Geometry.{Shape}
 use Rattle.ram_outside.specs.declared.image.Image.{Ghosts as Images}
 use Rattle.ram_sectors.specs.declared.caching.Caching.{Ghosts as Drives}
+use Rattle.ram_scrub.specs.Scrub.{scrubber_of}
 use Rattle.ram_machine.specs.declared.inserted.Inserted.{Inserted}
 use Rattle.ram_machine.specs.declared.inserted.Inserted.TheVariants as inserts
 use Rattle.ram_text.specs.declared.script.Line.{Line}
@@ -16,15 +17,20 @@ module _ {D I : Type 0} (drives : Drives D) (lies_in : D → Option (List ℕ)) 
   abbrev pub Stands : Inserted D I → State → Type 0
   Stands (inserts.Image image rooms) (Unopened bare) = (images.bytes image ≡ Some bare.bytes) × (rooms.drive.kind ≡ bare.kind)
   Stands (inserts.Image image rooms) (Disc s) = ⊥
-  Stands (inserts.Disc target kind) (Unopened bare) = ⊥
-  Stands (inserts.Disc target kind) (Disc s) = IsIn (drives.shows target.disc) (drives.stands target.disc) target.host
-      (lies_in target.disc) s × (kind ≡ kind_of (Disc s))
+  Stands (inserts.Disc target kind scrub) (Unopened bare) = ⊥
+  Stands (inserts.Disc target kind scrub) (Disc s) = IsIn (drives.shows target.disc) (drives.stands target.disc) target.host
+      (lies_in target.disc) s × (kind ≡ kind_of (Disc s)) × (scrubber_of scrub ≡ s.scrub)
 
 module _ {D I : Type 0} (drives : Drives D) (images : Images I) where
   -- how often the image of the inserted disc has failed
   abbrev pub faults_of : Inserted D I → ℕ
   faults_of (inserts.Image image rooms) = images.faults image
-  faults_of (inserts.Disc target kind) = (drives.shows target.disc).drive.medium.world.faults
+  faults_of (inserts.Disc target kind scrub) = (drives.shows target.disc).drive.medium.world.faults
+
+-- the blocks that the scrubber of the inserted disc has found; there is none without a disc
+abbrev pub found_in : {D I : Type 0} → Inserted D I → List ℕ
+found_in (inserts.Image image rooms) = []
+found_in (inserts.Disc target kind scrub) = (scrubber_of scrub).found
 
 -- the bytes of the image that is left are known, and they are those of the state
 abbrev pub LeavesImage : State → Option (List ℕ) → Type 0

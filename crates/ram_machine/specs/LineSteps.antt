@@ -1,5 +1,5 @@
 -- What one line does: the steps between the states of a run. For the run of a script, and the code that answers a line.
-use Rattle.std.specs.Prelude.{◌≡◌, ℕ, ◌≤◌, ◌⊎◌, Ok, Err, Option, Some, List, []}
+use Rattle.std.specs.Prelude.{◌≡◌, ℕ, ◌≤◌, ◌⊎◌, true, false, Ok, Err, Option, Some, List, [], length}
 use Rattle.model_geometry.specs.Geometry.{Shape, IsLawful, shape_in, total}
 use Rattle.model_medium.specs.declared.Fate.{Fate}
 use Rattle.model_sectors.specs.declared.PowerOut.{PowerOut}
@@ -9,6 +9,10 @@ use Rattle.model_cache.specs.Values.{Contents}
 use Rattle.model_cache.specs.Shown.{CacheShown, CacheStandsFor}
 use Rattle.model_cache.specs.Causes.{TickCause, KeepsCache}
 use Rattle.model_cache.specs.Steps.{TickContents}
+use Rattle.model_scrub.specs.declared.ends.StepEnd.{StepEnd}
+use Rattle.model_scrub.specs.declared.ends.PassEnd.{PassEnd}
+use Rattle.model_scrub.specs.Scrubs.{Scrubber, fresh}
+use Rattle.model_scrub.specs.Asks.{StepRule, StepContents, PassRule, PassContents}
 use Rattle.model_target.specs.declared.host.Host.{Host}
 use Rattle.model_target.specs.Steps.{IsPoweredAgain, IsStep}
 use Rattle.ram_image.specs.EventBytes.{FailBytes}
@@ -23,9 +27,9 @@ use Rattle.ram_text.specs.declared.script.Line.TheVariants as lines
 use Rattle.ram_machine.specs.declared.reply.Reply.TheVariants as replies
 use Rattle.ram_machine.specs.declared.stopped.Stopped.TheVariants as stopped
 use Rattle.ram_machine.specs.Control.{contents_after_fail}
-use Rattle.ram_machine.specs.Replies.{Outcome, event, power_outcome, fail_outcome, wear_outcome, tick_outcome, command_outcome}
+use Rattle.ram_machine.specs.Replies.{Outcome, event, power_outcome, fail_outcome, wear_outcome, tick_outcome, step_outcome, pass_outcome, command_outcome, data_told}
 use Rattle.ram_machine.specs.Underwent.{UnderwentEvents}
-use Rattle.ram_machine.specs.States.{Served, State, Unopened, Disc, IsPressedDisc, IsPressedUnopened, IsHalfPressed, kind_of}
+use Rattle.ram_machine.specs.States.{Served, State, Unopened, Disc, IsPressedDisc, IsPressedUnopened, IsHalfPressed, kind_of, renewed}
 
 -- an arm or a cut that the line sets falls at a use from the next one on (this project's own, as all here)
 abbrev pub CountsUses : Line → Type 0
@@ -36,7 +40,7 @@ CountsUses _ = Unit {0}
 -- What became of a press of this geometry.
 abbrev pub PressStep : State → Shape → Outcome → State → Type 0
 PressStep s shape (Ok (replies.Event events.Pressed)) t = IsLawful shape × IsPressedDisc shape t
-PressStep s shape (Ok (replies.Event events.NotPressed)) t = ¬ IsLawful shape × (t ≡ s)
+PressStep s shape (Ok (replies.Event events.NotPressed)) t = ¬ IsLawful shape × (t ≡ renewed s)
 PressStep s shape (Err stopped.ImageFault) t = IsLawful shape × (IsHalfPressed s t ⊎ IsPressedUnopened shape t)
 PressStep s shape _ t = ⊥
 
@@ -85,6 +89,26 @@ module _ (old new : CacheShown) (before after : Contents → Type 0) (host later
     pub same_host : later ≡ host
     pub outcome_is : outcome ≡ tick_outcome out
 
+  -- a scrubber made a step, and it ended so; which scrubber, `ScrubberRule` says
+  pub record StepLine (outcome : Outcome) : Type 0 where
+    pub end : StepEnd
+    pub from : Scrubber
+    pub to : Scrubber
+    pub rule : StepRule old new from end to
+    pub step : (s : Contents) → before s → StepContents after s end
+    pub same_host : later ≡ host
+    pub outcome_is : outcome ≡ step_outcome end
+
+  -- it made a pass, and it ended so
+  pub record PassLine (outcome : Outcome) : Type 0 where
+    pub end : PassEnd
+    pub from : Scrubber
+    pub to : Scrubber
+    pub rule : PassRule old new from end to
+    pub step : (s : Contents) → before s → PassContents after s end
+    pub same_host : later ≡ host
+    pub outcome_is : outcome ≡ pass_outcome end (length to.found)
+
   -- a command was executed, and answered so
   pub record CommandLine (cdb payload : List ℕ) (outcome : Outcome) (data_in : List ℕ) : Type 0 where
     pub answer : Answer
@@ -98,11 +122,24 @@ module _ (old new : CacheShown) (before after : Contents → Type 0) (host later
   DiscRule (lines.Wear block n) payload outcome data_in = WearLine block n outcome × (data_in ≡ [])
   DiscRule (lines.Cut n fate) payload outcome data_in = CutLine n fate outcome × (data_in ≡ [])
   DiscRule lines.Tick payload outcome data_in = TickLine outcome × (data_in ≡ [])
+  DiscRule (lines.Scrub false) payload outcome data_in = StepLine outcome
+  DiscRule (lines.Scrub true) payload outcome data_in = PassLine outcome
   DiscRule (lines.Command cdb) payload outcome data_in = CommandLine cdb payload outcome data_in
   DiscRule _ payload outcome data_in = ⊥
 
--- What a line makes of the bytes of an image, also under cells that are not good. A command, a tick and a power line change them by
--- events of the medium alone, each by the medium's rule, however the line ended; the failure of a block changes its state
+-- What a line makes of the scrubber, and the data that a scrub gives: the found blocks, where a pass is done. After a `power` line it
+-- is a new one; only a scrub uses it.
+abbrev pub ScrubberRule : CacheShown → CacheShown → Scrubber → Scrubber → Line → Outcome → (data_in : List ℕ) → Type 0
+ScrubberRule old new s t lines.Power outcome data_in = t ≡ fresh
+ScrubberRule old new s t (lines.Scrub false) outcome data_in =
+    (end : StepEnd) × StepRule old new s end t × (outcome ≡ step_outcome end) × (data_in ≡ [])
+ScrubberRule old new s t (lines.Scrub true) outcome data_in =
+    (end : PassEnd) × PassRule old new s end t × (outcome ≡ pass_outcome end (length t.found))
+    × (data_in ≡ data_told outcome [] t.found)
+ScrubberRule old new s t line outcome data_in = t ≡ s
+
+-- What a line makes of the bytes of an image, also under cells that are not good. A command, a tick, a scrub and a power line change
+-- them by events of the medium alone, each by the medium's rule, however the line ended; the failure of a block changes its state
 -- byte alone, and nothing that is armed changes any.
 abbrev pub LineBytes : Line → Outcome → Shown → Option (List ℕ) → Shown → Option (List ℕ) → Type 0
 LineBytes lines.Power outcome old before new after =
@@ -110,6 +147,8 @@ LineBytes lines.Power outcome old before new after =
 LineBytes (lines.Command cdb) outcome old before new after =
     UnderwentEvents (total old.shape) old.medium before new.medium after
 LineBytes lines.Tick outcome old before new after =
+    UnderwentEvents (total old.shape) old.medium before new.medium after
+LineBytes (lines.Scrub all) outcome old before new after =
     UnderwentEvents (total old.shape) old.medium before new.medium after
 LineBytes (lines.Fail block) outcome old before new after =
     (end : FailEnd) × (outcome ≡ fail_outcome end) × FailBytes block before after end
@@ -124,12 +163,14 @@ pub record LeadsOn (s t : Served) (line : Line) (payload : List ℕ) (outcome : 
   pub stands : CacheStandsFor t.disc.shown after
   pub rule : DiscRule s.disc.shown t.disc.shown (λ x. x ≡ before) (λ x. x ≡ after) s.host t.host line payload outcome data_in
 
--- The same between two discs of one geometry, with the bytes of their images; and so from each other thing that the drive may stand for.
+-- The same between two discs of one geometry, with their scrubbers and the bytes of their images; and so from each other thing that
+-- the drive may stand for.
 pub record DiscStep (s t : Served) (line : Line) (payload : List ℕ) (outcome : Outcome)
     (data_in : List ℕ) : Type 0 where
   pub same_shape : t.disc.shown.drive.shape ≡ s.disc.shown.drive.shape
   pub rule : DiscRule s.disc.shown t.disc.shown (λ x. x ≡ s.disc.contents) (λ x. x ≡ t.disc.contents) s.host t.host
       line payload outcome data_in
+  pub scrubber : ScrubberRule s.disc.shown t.disc.shown s.scrub t.scrub line outcome data_in
   pub bytes : LineBytes line outcome s.disc.shown.drive (Some s.bytes)
       t.disc.shown.drive (Some t.bytes)
   pub each : (before : Contents) → CacheStandsFor s.disc.shown before → LeadsOn s t line payload outcome data_in before

@@ -1,7 +1,7 @@
 -- Runs of a drive without a write cache, line by line: the causes and steps are those of the disc (`model_drive`), and nothing
 -- here speaks of a cache but how such a state is shown by a drive whose cache is off. For the law of runs in which the cache
 -- stays off. (This project's own, as all here.)
-use Rattle.std.specs.Prelude.{◌≡◌, ℕ, ◌⊎◌, Ok, Err, Some, List, [], ◌∷◌}
+use Rattle.std.specs.Prelude.{◌≡◌, ℕ, ◌⊎◌, true, false, Ok, Err, Some, List, [], ◌∷◌, length}
 use Rattle.model_geometry.specs.declared.kinds.LayoutKind.{LayoutKind}
 use Rattle.model_geometry.specs.Geometry.{Shape, IsLawful, shape_in, total}
 use Rattle.model_medium.specs.Cells.{Cell}
@@ -16,6 +16,12 @@ use Rattle.model_drive.specs.Runs.{Loaded, IsOpenedOn}
 use Rattle.model_cache.specs.declared.TickOut.TheVariants as ticks
 use Rattle.model_cache.specs.Values.{plain}
 use Rattle.model_cache.specs.Plain.{uncached}
+use Rattle.model_scrub.specs.declared.ends.StepEnd.{StepEnd}
+use Rattle.model_scrub.specs.declared.ends.StepEnd.TheVariants as steps
+use Rattle.model_scrub.specs.declared.ends.PassEnd.{PassEnd}
+use Rattle.model_scrub.specs.declared.ends.PassEnd.TheVariants as passes
+use Rattle.model_scrub.specs.Scrubs.{Scrubber, fresh}
+use Rattle.model_scrub.specs.Asks.{StepRule, PassRule}
 use Rattle.model_sense.specs.declared.answer.Answer.{Answer}
 use Rattle.model_target.specs.declared.host.Host.{Host}
 use Rattle.model_target.specs.Host.{powered_on}
@@ -29,19 +35,20 @@ use Rattle.ram_text.specs.declared.script.Line.{Line}
 use Rattle.ram_text.specs.declared.script.Line.TheVariants as lines
 use Rattle.ram_machine.specs.declared.reply.Reply.TheVariants as replies
 use Rattle.ram_machine.specs.declared.stopped.Stopped.TheVariants as stopped
-use Rattle.ram_machine.specs.Replies.{Outcome, event, power_outcome, fail_outcome, wear_outcome, tick_outcome, command_outcome}
+use Rattle.ram_machine.specs.Replies.{Outcome, event, power_outcome, fail_outcome, wear_outcome, tick_outcome, step_outcome, pass_outcome, command_outcome}
 use Rattle.ram_machine.specs.States.{BareImage, State, Served, Unopened, Disc, IsLabelled}
-use Rattle.ram_machine.specs.LineSteps.{LineBytes}
+use Rattle.ram_machine.specs.LineSteps.{ScrubberRule, LineBytes}
 use Rattle.ram_machine.specs.Answered.{AnsweredStep}
 use Rattle.ram_machine.specs.PlainCommands.{PlainCommand}
 
 -- ---- states
 
--- A disc in a drive without a write cache: what it shows and one thing that it stands for, what is remembered for its host, and
--- the bytes of its image.
+-- A disc in a drive without a write cache: what it shows and one thing that it stands for, what is remembered for its host, the
+-- scrubber of its blocks, and the bytes of its image.
 pub record PlainServed : Type 0 where
   pub disc : Loaded
   pub host : Host
+  pub scrub : Scrubber
   pub labelled : IsLabelled disc.shown
   pub bytes : List ℕ
   pub image : IsImageOf disc.shown.shape (cells_in disc.shown) bytes
@@ -50,6 +57,11 @@ pub record PlainServed : Type 0 where
 pub data PlainState : Type 0 where
   PlainImage : BareImage → PlainState
   PlainDisc : PlainServed → PlainState
+
+-- the same state, with a scrubber that has found nothing
+abbrev pub plainly_renewed : PlainState → PlainState
+plainly_renewed (PlainImage image) = PlainImage image
+plainly_renewed (PlainDisc p) = PlainDisc (record p { scrub = fresh })
 
 -- the kind of the layout that the run's discs have
 abbrev pub plain_kind : PlainState → LayoutKind
@@ -65,6 +77,7 @@ IsPlainlyLeft (PlainDisc p) bytes = bytes ≡ p.bytes
 pub record IsPlainlyInserted (shape : Shape) (cells : List Cell) (bytes : List ℕ) (p : PlainServed) : Type 0 where
   pub opened : IsOpenedOn shape cells p.disc
   pub host_is : p.host ≡ powered_on
+  pub scrub_is : p.scrub ≡ fresh
   pub bytes_are : p.bytes ≡ bytes
 
 -- what a run over an image of these bytes begins with
@@ -80,6 +93,7 @@ pub record IsServedPlainly (s : Served) (p : PlainServed) : Type 0 where
   pub shown_is : s.disc.shown ≡ uncached p.disc.shown
   pub contents_is : s.disc.contents ≡ plain p.disc.standing
   pub host_is : s.host ≡ p.host
+  pub scrub_is : s.scrub ≡ p.scrub
   pub bytes_are : s.bytes ≡ p.bytes
 
 -- the same of any state; an image that was not opened is the same one
@@ -96,6 +110,18 @@ abbrev pub stands_after_fail : Standing → FailEnd → Standing
 stands_after_fail standing fails.Done = standing
 stands_after_fail standing (fails.NoBlock blocks) = standing
 stands_after_fail standing fails.Failed = Off (candidates standing)
+
+-- what it stands for after a step of a scrubber: the same, but with the power off where it went off
+abbrev pub stands_after_step : Standing → StepEnd → Standing
+stands_after_step standing steps.Cut = Off (candidates standing)
+stands_after_step standing steps.Fault = Off (candidates standing)
+stands_after_step standing end = standing
+
+-- the same after a pass
+abbrev pub stands_after_pass : Standing → PassEnd → Standing
+stands_after_pass standing passes.Cut = Off (candidates standing)
+stands_after_pass standing passes.Fault = Off (candidates standing)
+stands_after_pass standing end = standing
 
 -- What a line does on a disc: what the drive shows, stands for, and remembers for its host, before and after.
 module _ (old new : Shown) (s t : Standing) (host later : Host) where
@@ -141,6 +167,26 @@ module _ (old new : Shown) (s t : Standing) (host later : Host) where
     pub same_host : later ≡ host
     pub outcome_is : (IsOn old × (outcome ≡ tick_outcome ticks.Idle)) ⊎ (¬ IsOn old × (outcome ≡ tick_outcome ticks.Off))
 
+  -- a scrubber made a step, and it ended so
+  pub record PlainScrubStep (outcome : Outcome) : Type 0 where
+    pub end : StepEnd
+    pub from : Scrubber
+    pub to : Scrubber
+    pub rule : StepRule (uncached old) (uncached new) from end to
+    pub stands : t ≡ stands_after_step s end
+    pub same_host : later ≡ host
+    pub outcome_is : outcome ≡ step_outcome end
+
+  -- it made a pass, and it ended so
+  pub record PlainScrubPass (outcome : Outcome) : Type 0 where
+    pub end : PassEnd
+    pub from : Scrubber
+    pub to : Scrubber
+    pub rule : PassRule (uncached old) (uncached new) from end to
+    pub stands : t ≡ stands_after_pass s end
+    pub same_host : later ≡ host
+    pub outcome_is : outcome ≡ pass_outcome end (length to.found)
+
   -- a command was executed, and answered so
   pub record PlainCommandLine (cdb payload : List ℕ) (outcome : Outcome) (data_in : List ℕ) : Type 0 where
     pub answer : Answer
@@ -154,14 +200,17 @@ module _ (old new : Shown) (s t : Standing) (host later : Host) where
   PlainRule (lines.Wear block n) payload outcome data_in = PlainWear block n outcome × (data_in ≡ [])
   PlainRule (lines.Cut n fate) payload outcome data_in = PlainCut n fate outcome × (data_in ≡ [])
   PlainRule lines.Tick payload outcome data_in = PlainTick outcome × (data_in ≡ [])
+  PlainRule (lines.Scrub false) payload outcome data_in = PlainScrubStep outcome
+  PlainRule (lines.Scrub true) payload outcome data_in = PlainScrubPass outcome
   PlainRule (lines.Command cdb) payload outcome data_in = PlainCommandLine cdb payload outcome data_in
   PlainRule _ payload outcome data_in = ⊥
 
--- the same between two discs of one geometry, with the bytes of their images
+-- the same between two discs of one geometry, with their scrubbers and the bytes of their images
 pub record PlainDiscStep (p q : PlainServed) (line : Line) (payload : List ℕ) (outcome : Outcome)
     (data_in : List ℕ) : Type 0 where
   pub same_shape : q.disc.shown.shape ≡ p.disc.shown.shape
   pub rule : PlainRule p.disc.shown q.disc.shown p.disc.standing q.disc.standing p.host q.host line payload outcome data_in
+  pub scrubber : ScrubberRule (uncached p.disc.shown) (uncached q.disc.shown) p.scrub q.scrub line outcome data_in
   pub bytes : LineBytes line outcome p.disc.shown (Some p.bytes) q.disc.shown (Some q.bytes)
 
 -- the same in any state: without a disc the line cannot be answered
@@ -193,7 +242,7 @@ IsUnopenedPress shape image = IsImageOf shape (blank_cells shape) image.bytes ×
 -- What became of a press of this geometry.
 abbrev pub PlainPress : PlainState → Shape → Outcome → PlainState → Type 0
 PlainPress p shape (Ok (replies.Event events.Pressed)) q = IsLawful shape × IsPlainlyPressed shape q
-PlainPress p shape (Ok (replies.Event events.NotPressed)) q = ¬ IsLawful shape × (q ≡ p)
+PlainPress p shape (Ok (replies.Event events.NotPressed)) q = ¬ IsLawful shape × (q ≡ plainly_renewed p)
 PlainPress p shape (Err stopped.ImageFault) q = IsLawful shape
     × (IsUnopenedPlainly (IsHalfPlainly p) q ⊎ IsUnopenedPlainly (IsUnopenedPress shape) q)
 PlainPress p shape _ q = ⊥

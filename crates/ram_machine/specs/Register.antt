@@ -136,7 +136,8 @@ abbrev pub AfterPress : Register → Reply → Register → Type 0
 AfterPress r (replies.Event events.Pressed) after = after ≡ powered r None []
 AfterPress r _ after = after ≡ r
 
--- A line that is no command, press or power line leaves the sector, unless the power was cut in it.
+-- A line that is no command, press or power line leaves the sector, unless the power was cut in it. A scrub gives the blocks that it
+-- found, and other lines no data.
 abbrev pub left_in : Reply → Register → Register
 left_in (replies.Event events.Cut) r = gone r
 left_in _ r = r
@@ -147,6 +148,7 @@ Turn at r (lines.Command cdb) payload reply data_in after =
     (answer : Answer) × (reply ≡ replies.Command cdb answer) × AfterCommand at r (decoded cdb payload) payload data_in answer after
 Turn at r (lines.Press zones scale psa) payload reply data_in after = (data_in ≡ []) × AfterPress r reply after
 Turn at r lines.Power payload reply data_in after = (data_in ≡ []) × AfterPower at r reply after
+Turn at r (lines.Scrub all) payload reply data_in after = after ≡ left_in reply r
 Turn at r line payload reply data_in after = (data_in ≡ []) × (after ≡ left_in reply r)
 
 -- The lines, the newest first, take the first register to the last.

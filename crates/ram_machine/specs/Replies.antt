@@ -1,5 +1,5 @@
 -- What becomes of a line: a reply, or the reason why the run ends. For the steps of a run and the code that does them.
-use Rattle.std.specs.Prelude.{Result, Ok, Err, List, ℕ}
+use Rattle.std.specs.Prelude.{◌*◌, Result, Ok, Err, List, ℕ}
 use Rattle.ram_image.specs.declared.opening.OpenFault.{OpenFault}
 use Rattle.ram_image.specs.declared.opening.OpenFault.TheVariants as opens
 use Rattle.model_cache.specs.declared.TickOut.{TickOut}
@@ -10,6 +10,10 @@ use Rattle.ram_medium.specs.declared.control.FailEnd.{FailEnd}
 use Rattle.ram_medium.specs.declared.control.FailEnd.TheVariants as fails
 use Rattle.ram_medium.specs.declared.control.Arm.{Arm}
 use Rattle.ram_medium.specs.declared.control.Arm.TheVariants as arming
+use Rattle.model_scrub.specs.declared.ends.StepEnd.{StepEnd}
+use Rattle.model_scrub.specs.declared.ends.StepEnd.TheVariants as steps
+use Rattle.model_scrub.specs.declared.ends.PassEnd.{PassEnd}
+use Rattle.model_scrub.specs.declared.ends.PassEnd.TheVariants as passes
 use Rattle.model_sense.specs.declared.answer.Answer.{Answer}
 use Rattle.model_sense.specs.declared.answer.Answer.TheVariants as answers
 use Rattle.ram_report.specs.ReportLines.{IsPrinted, IsAddressed}
@@ -56,6 +60,29 @@ tick_outcome (ticks.NoUpdate counter) = event events.NoUpdate
 tick_outcome ticks.Cut = event events.Cut
 tick_outcome ticks.Off = event events.Off
 tick_outcome ticks.Fault = Err stopped.ImageFault
+
+-- how each end of a step of the scrubber comes out: a block is told by its first sector
+abbrev pub step_outcome : StepEnd → Outcome
+step_outcome (steps.Readable i) = event (events.Readable (16 * i))
+step_outcome (steps.Unreadable i) = event (events.Unreadable (16 * i))
+step_outcome steps.NotFormatted = event events.NotFormatted
+step_outcome steps.Cut = event events.Cut
+step_outcome steps.Off = event events.Off
+step_outcome steps.Fault = Err stopped.ImageFault
+
+-- how each end of a pass comes out, after which the scrubber has so many blocks
+abbrev pub pass_outcome : PassEnd → (count : ℕ) → Outcome
+pass_outcome passes.Done count = event (events.Found count)
+pass_outcome passes.NotFormatted count = event events.NotFormatted
+pass_outcome passes.Cut count = event events.Cut
+pass_outcome passes.Off count = event events.Off
+pass_outcome passes.Fault count = Err stopped.ImageFault
+
+-- The data that a line gave, by what became of it: the blocks that the scrubber has, where it tells how many these are, and else
+-- the bytes of a command.
+abbrev pub data_told : Outcome → (bytes found : List ℕ) → List ℕ
+data_told (Ok (replies.Event (events.Found count))) bytes found = found
+data_told outcome bytes found = bytes
 
 -- how each answer of a command comes out: a failure of the image ends the run
 abbrev pub command_outcome : List ℕ → Answer → Outcome

@@ -9,6 +9,7 @@ use Rattle.model_drive.specs.Shown.{Shown, cells_in}
 use Rattle.model_cache.specs.Values.{Contents}
 use Rattle.model_cache.specs.Shown.{CacheShown}
 use Rattle.model_cache.specs.Runs.{CacheLoaded, IsCacheOpenedOn}
+use Rattle.model_scrub.specs.Scrubs.{Scrubber, fresh}
 use Rattle.model_target.specs.declared.host.Host.{Host}
 use Rattle.model_target.specs.Host.{powered_on}
 
@@ -16,11 +17,12 @@ use Rattle.model_target.specs.Host.{powered_on}
 abbrev pub IsLabelled : Shown → Type 0
 IsLabelled shown = shown.medium.world.label ≡ label_of shown.shape
 
--- A disc in the drive: what the drive shows and one thing that it stands for, what is remembered for its host, and the bytes of its
--- image, also those under cells that are not good.
+-- A disc in the drive: what the drive shows and one thing that it stands for, what is remembered for its host, the scrubber of its
+-- blocks, and the bytes of its image, also those under cells that are not good.
 pub record Served : Type 0 where
   pub disc : CacheLoaded
   pub host : Host
+  pub scrub : Scrubber
   pub labelled : IsLabelled disc.shown.drive
   pub bytes : List ℕ
   pub image : IsImageOf disc.shown.drive.shape (cells_in disc.shown.drive) bytes
@@ -34,6 +36,11 @@ pub record BareImage : Type 0 where
 pub data State : Type 0 where
   Unopened : BareImage → State
   Disc : Served → State
+
+-- the same state, with a scrubber that has found nothing
+abbrev pub renewed : State → State
+renewed (Unopened image) = Unopened image
+renewed (Disc s) = Disc (record s { scrub = fresh })
 
 -- the kind of the layout that the run's discs have
 abbrev pub kind_of : State → LayoutKind
@@ -54,10 +61,11 @@ IsLeft (Unopened image) bytes = bytes ≡ image.bytes
 IsLeft (Disc s) bytes = bytes ≡ s.bytes
 
 -- A disc of this geometry with these cells, in an image of these bytes, was just inserted: the drive is as when its image
--- was opened, and its host remembers a power that just came on.
+-- was opened, its host remembers a power that just came on, and its scrubber has found nothing.
 pub record IsInserted (shape : Shape) (cells : List Cell) (bytes : List ℕ) (s : Served) : Type 0 where
   pub opened : IsCacheOpenedOn shape cells s.disc
   pub host_is : s.host ≡ powered_on
+  pub scrub_is : s.scrub ≡ fresh
   pub bytes_are : s.bytes ≡ bytes
 
 -- what a run over an image of these bytes begins with: its disc, or the image where it is that of no disc of this kind

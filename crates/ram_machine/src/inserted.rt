@@ -1,14 +1,16 @@
 //! The inserted disc, and what one line does with it: the drive is worked on where it lies, and only a press takes its
 //! image and its rooms out.
-ghost use Rattle.std.specs.Prelude.{◌≡◌, ◌≤◌, MatchResult, vec_capacity};
+ghost use Rattle.std.specs.Prelude.{◌≡◌, ◌≤◌, Bool, MatchResult, vec_capacity};
 ghost use Rattle.model_geometry.specs.Geometry.{shape_in};
 ghost use Rattle.ram_text.specs.declared.payload.TheConstants.{PAYLOAD_ROOM};
 ghost use Rattle.ram_image.specs.Opening.{IsRefused};
+ghost use Rattle.model_scrub.specs.Scrubs.{fresh};
+ghost use Rattle.ram_scrub.specs.Scrub.{scrubber_of};
 ghost use Rattle.ram_machine.specs.Drive.{IsInsertedTarget};
 ghost use Rattle.ram_machine.specs.LineSteps.{CountsUses};
-ghost use Rattle.ram_machine.specs.Replies.{PrintsWhere, power_outcome, fail_outcome, wear_outcome, tick_outcome, command_outcome};
-ghost use Rattle.ram_machine.specs.States.{State, kind_of};
-ghost use Rattle.ram_machine.specs.Inserted.{Stands, LeavesImage, faults_of, data_before, IsAnswered, IsPressAnswered};
+ghost use Rattle.ram_machine.specs.Replies.{PrintsWhere, power_outcome, fail_outcome, wear_outcome, tick_outcome, step_outcome, pass_outcome, command_outcome, data_told};
+ghost use Rattle.ram_machine.specs.States.{State, kind_of, renewed};
+ghost use Rattle.ram_machine.specs.Inserted.{Stands, LeavesImage, faults_of, found_in, data_before, IsAnswered, IsPressAnswered};
 ghost use Rattle.ram_machine.specs.LineFaults.{LineCount};
 ghost use Rattle.ram_machine.specs.Starts.{StartRule};
 
@@ -23,16 +25,18 @@ use ram_medium::{Arm, FailEnd};
 use ram_mmc::{Answer, Target};
 use ram_outside::Image;
 use ram_report::Event;
+use ram_scrub::{PassEnd, Scrub, StepEnd};
 use ram_sectors::{PowerOut, TickOut};
 use ram_text::Line;
 use ram_zones::LayoutKind;
 
-/// What lies in the drive: an image that was not opened as a disc, or a disc with what is remembered for its host.
+/// What lies in the drive: an image that was not opened as a disc, or a disc with what is remembered for its host, and beside it a
+/// scrubber, which no host reaches.
 pub enum Inserted<D: Drive> {
     /// An image that was not opened, and the rooms for a disc.
     Image(D::Image, TargetRooms),
-    /// A disc, and the kind of its layout.
-    Disc(Target<D>, LayoutKind),
+    /// A disc, the kind of its layout, and the scrubber of its blocks.
+    Disc(Target<D>, LayoutKind, Scrub),
 }
 
 impl<D: Drive> Inserted<D> {
@@ -46,10 +50,15 @@ impl<D: Drive> Inserted<D> {
     {
         match self {
             Inserted::Image(image, rooms) => (image, rooms),
-            Inserted::Disc(target, _) => {
+            Inserted::Disc(target, _, scrub) => {
                 let (disc, block) = target.into_parts();
                 let (image, drive) = disc.into_parts();
-                (image, TargetRooms { drive, block })
+                let rooms = TargetRooms {
+                    drive,
+                    block,
+                    scrub,
+                };
+                (image, rooms)
             }
         }
     }
@@ -60,12 +69,34 @@ impl<D: Drive> Inserted<D> {
     {
         match self {
             Inserted::Image(_, rooms) => rooms.drive.kind,
-            Inserted::Disc(_, kind) => *kind,
+            Inserted::Disc(_, kind, _) => *kind,
+        }
+    }
+
+    /// The blocks that the scrubber found unreadable, rising.
+    pub fn found(&self) -> &[u32]
+        ensures { result.now ≡ found_in self.now }
+    {
+        match self {
+            Inserted::Image(_, _) => &[],
+            Inserted::Disc(_, _, scrub) => scrub.found(),
+        }
+    }
+
+    /// Makes the scrubber new.
+    fn renew_scrub(&mut self)
+        ensures renewed { (s : State) → Stands D.Caching D.lies_in D.Image.Image self.old s
+            → Stands D.Caching D.lies_in D.Image.Image self.new (renewed s) }
+        ensures count { faults_of D.Caching D.Image.Image self.new ≡ faults_of D.Caching D.Image.Image self.old }
+    {
+        match self {
+            Inserted::Image(_, _) => {}
+            Inserted::Disc(_, _, scrub) => scrub.restart(),
         }
     }
 
     /// What a line does, with its data in `payload`. The data that a command gives are then in `data_in`, and what it held
-    /// before does not matter.
+    /// before does not matter. The blocks that a scrub of all of them found are then in `found`.
     pub fn answer(
         &mut self,
         line: Line,
@@ -75,7 +106,7 @@ impl<D: Drive> Inserted<D> {
         requires uses { CountsUses line }
         requires room { PAYLOAD_ROOM ≤ vec_capacity data_in.old }
         ensures step { (s : State) → Stands D.Caching D.lies_in D.Image.Image self.old s
-            → IsAnswered s line payload.now data_in.new.items
+            → IsAnswered s line payload.now (data_told result data_in.new.items (found_in self.new))
             (Stands D.Caching D.lies_in D.Image.Image self.new) result }
         ensures printable { PrintsWhere result }
         ensures count { LineCount (faults_of D.Caching D.Image.Image self.old)
@@ -88,19 +119,29 @@ impl<D: Drive> Inserted<D> {
             (inserted, Line::Press { zones, scale, psa }) => {
                 replace_with(inserted, (zones, scale, psa), press_disc::<D>)
             }
-            (Inserted::Disc(target, _), Line::Power) => power_outcome(target.power()),
-            (Inserted::Disc(target, _), Line::Fail { block }) => fail_outcome(
+            (Inserted::Disc(target, _, scrub), Line::Power) => {
+                scrub.restart();
+                power_outcome(target.power())
+            }
+            (Inserted::Disc(target, _, _), Line::Fail { block }) => fail_outcome(
                 target.disc.fail(block),
             ),
-            (Inserted::Disc(target, _), Line::Wear { block, n }) => {
+            (Inserted::Disc(target, _, _), Line::Wear { block, n }) => {
                 wear_outcome(target.disc.wear(block, n))
             }
-            (Inserted::Disc(target, _), Line::Cut { n, fate }) => {
+            (Inserted::Disc(target, _, _), Line::Cut { n, fate }) => {
                 target.disc.arm_cut(n, fate);
                 Ok(Reply::Event(Event::Armed))
             }
-            (Inserted::Disc(target, _), Line::Tick) => tick_outcome(target.disc.tick()),
-            (Inserted::Disc(target, _), Line::Command { cdb }) => {
+            (Inserted::Disc(target, _, _), Line::Tick) => tick_outcome(target.disc.tick()),
+            (Inserted::Disc(target, _, scrub), Line::Scrub { all: false }) => {
+                step_outcome(scrub.step(&mut target.disc))
+            }
+            (Inserted::Disc(target, _, scrub), Line::Scrub { all: true }) => {
+                let end = scrub.pass(&mut target.disc);
+                pass_outcome(end, scrub.found().len() as u64)
+            }
+            (Inserted::Disc(target, _, _), Line::Command { cdb }) => {
                 let answer = target.execute(&cdb, payload, data_in);
                 command_outcome(cdb, answer)
             }
@@ -173,6 +214,37 @@ fn tick_outcome(out: TickOut) -> Result<Reply, Stopped>
     }
 }
 
+/// How a step of the scrubber comes out. A block is told by its first sector.
+fn step_outcome(end: StepEnd) -> Result<Reply, Stopped>
+    ensures { result ≡ step_outcome end }
+{
+    match end {
+        StepEnd::Readable { i } => Ok(Reply::Event(Event::Readable {
+            lba: 16 * i as u64,
+        })),
+        StepEnd::Unreadable { i } => Ok(Reply::Event(Event::Unreadable {
+            lba: 16 * i as u64,
+        })),
+        StepEnd::NotFormatted => Ok(Reply::Event(Event::NotFormatted)),
+        StepEnd::Cut => Ok(Reply::Event(Event::Cut)),
+        StepEnd::Off => Ok(Reply::Event(Event::Off)),
+        StepEnd::Fault => Err(Stopped::ImageFault),
+    }
+}
+
+/// How a pass of the scrubber comes out that found so many blocks.
+fn pass_outcome(end: PassEnd, count: u64) -> Result<Reply, Stopped>
+    ensures { result ≡ pass_outcome end count }
+{
+    match end {
+        PassEnd::Done => Ok(Reply::Event(Event::Found { count })),
+        PassEnd::NotFormatted => Ok(Reply::Event(Event::NotFormatted)),
+        PassEnd::Cut => Ok(Reply::Event(Event::Cut)),
+        PassEnd::Off => Ok(Reply::Event(Event::Off)),
+        PassEnd::Fault => Err(Stopped::ImageFault),
+    }
+}
+
 /// How the answer of a command comes out.
 fn command_outcome(cdb: Cdb, answer: Answer) -> Result<Reply, Stopped>
     ensures { result ≡ command_outcome cdb answer }
@@ -186,21 +258,29 @@ fn command_outcome(cdb: Cdb, answer: Answer) -> Result<Reply, Stopped>
 }
 
 /// The disc that an image holds, with a layout of the kind that the rooms are for, and with what is remembered for its host when its
-/// power just came on. Else the image is handed back with the bytes that it had, with the rooms and the reason.
+/// power just came on; and its scrubber, which has found nothing. Else the image is handed back with the bytes that it had, with the rooms and the reason.
 fn insert<D: Drive>(
     rooms: TargetRooms,
     image: D::Image,
-) -> Result<Target<D>, Refused<D::Image, TargetRooms>>
+) -> Result<(Target<D>, Scrub), Refused<D::Image, TargetRooms>>
     ensures { MatchResult result
-        (λ target. IsInsertedTarget rooms.drive.kind (D.Image.bytes image) (D.Image.faults image)
-        (D.shows target.disc) (D.stands target.disc) (D.lies_in target.disc) target.host)
+        (λ made. IsInsertedTarget rooms.drive.kind (D.Image.bytes image) (D.Image.faults image)
+        (D.shows made.0.disc) (D.stands made.0.disc) (D.lies_in made.0.disc) made.0.host
+        × (scrubber_of made.1 ≡ fresh))
         (λ refused. (refused.rooms.drive.kind ≡ rooms.drive.kind)
         × IsRefused rooms.drive.kind (D.Image.bytes image) (D.Image.bytes refused.image)
         (D.Image.faults image) (D.Image.faults refused.image) refused.fault) }
 {
-    let TargetRooms { drive, block } = rooms;
+    let TargetRooms {
+        drive,
+        block,
+        mut scrub,
+    } = rooms;
     match D::open(drive, image) {
-        Ok(disc) => Ok(Target::new(disc, block)),
+        Ok(disc) => {
+            scrub.restart();
+            Ok((Target::new(disc, block), scrub))
+        }
         Err(
             Refused {
                 image,
@@ -208,7 +288,11 @@ fn insert<D: Drive>(
                 fault,
             },
         ) => {
-            let rooms = TargetRooms { drive, block };
+            let rooms = TargetRooms {
+                drive,
+                block,
+                scrub,
+            };
             Err(Refused {
                 image,
                 rooms,
@@ -225,7 +309,7 @@ pub fn begin<D: Drive>(rooms: TargetRooms, image: D::Image) -> Result<Inserted<D
 {
     let kind = rooms.drive.kind;
     match insert::<D>(rooms, image) {
-        Ok(target) => Ok(Inserted::Disc(target, kind)),
+        Ok((target, scrub)) => Ok(Inserted::Disc(target, kind, scrub)),
         Err(
             Refused {
                 image,
@@ -240,7 +324,7 @@ pub fn begin<D: Drive>(rooms: TargetRooms, image: D::Image) -> Result<Inserted<D
 }
 
 /// Presses a disc of so many zones, this scale and so many primary spares, in this order, on the image that lies in the
-/// drive, where they are within their limits. Its layout is of the drive's kind.
+/// drive, where they are within their limits. Its layout is of the drive's kind. Whatever the answer, the scrubber is new.
 fn press_disc<D: Drive>(
     inserted: Inserted<D>,
     wanted: (u32, u32, u32),
@@ -255,6 +339,8 @@ fn press_disc<D: Drive>(
     let (zones, scale, psa) = wanted;
     let kind = inserted.kind();
     let Some(geometry) = geometry_in(kind, zones, scale, psa) else {
+        let mut inserted = inserted;
+        inserted.renew_scrub();
         return (inserted, Ok(Reply::Event(Event::NotPressed)));
     };
     let (mut image, rooms) = inserted.into_parts();
@@ -263,8 +349,8 @@ fn press_disc<D: Drive>(
         PressOut::Done => {}
     }
     match insert::<D>(rooms, image) {
-        Ok(target) => (
-            Inserted::Disc(target, kind),
+        Ok((target, scrub)) => (
+            Inserted::Disc(target, kind, scrub),
             Ok(Reply::Event(Event::Pressed)),
         ),
         Err(

@@ -6,6 +6,7 @@ ghost use Rattle.ram_states.specs.OneProof.{kind-prop};
 use ram_bytes::Block;
 use ram_cache::PendingBlocks;
 use ram_image::MediumRooms;
+use ram_scrub::Scrub;
 use ram_transfer::Memory;
 use ram_zones::LayoutKind;
 use std::alloc::{AllocError, Global};
@@ -39,13 +40,16 @@ impl DriveRooms {
     }
 }
 
-/// All the memory that a target takes: that of its drive, and room for the text of a disc's structure.
+/// All the memory that a target takes: that of its drive, room for the text of a disc's structure, and that of a scrubber of its
+/// blocks.
 #[derive(Drop)]
 pub struct TargetRooms {
     /// The memory of the drive.
     pub drive: DriveRooms,
     /// Room for the text of a disc's structure.
     pub block: Block,
+    /// The scrubber. What it found before does not matter.
+    pub scrub: Scrub,
 }
 
 impl TargetRooms {
@@ -56,6 +60,7 @@ impl TargetRooms {
         Ok(TargetRooms {
             drive: DriveRooms::new(alloc, kind)?,
             block: Block::zeros(alloc)?,
+            scrub: Scrub::new(alloc)?,
         })
     }
 }

@@ -1,5 +1,5 @@
 -- Texts that are printed piece by piece.
-use Rattle.std.proofs.Common.{◌≡◌, ℕ, ◌+◌, ◌-◌, ◌*◌, ◌<◌, ◌≤◌, Option, None, Some, Result, List, [], ◌∷◌, ◌++◌, length, take, drop, min, suc, zero, refl, sym, ◌∙◌, ap, subst, arith, append_assoc, take-add}
+use Rattle.std.proofs.Common.{◌≡◌, ℕ, ◌+◌, ◌-◌, ◌*◌, ◌<◌, ◌≤◌, Option, None, Some, Result, List, [], ◌∷◌, ◌++◌, length, get_or, take, drop, min, suc, zero, refl, sym, ◌∙◌, ap, subst, arith, append_assoc, take-add}
 use Rattle.std.specs.List.{flat_map, range_with_len}
 use Rattle.std.specs.Io.KnownBytes.{append_known}
 use Rattle.std.proofs.lemmas.List.{append-nil, map-id, flat_map_more, take_all}
@@ -7,7 +7,7 @@ use Rattle.std.proofs.lemmas.List.FromFn.{map-range_with_len_more}
 use Rattle.hex.specs.Hex.{encode_lower, encode_with, lower_digits}
 use Rattle.ram_report.specs.declared.gathered.SinkFailed.{SinkFailed}
 use Rattle.ram_report.specs.Writer.{IsPut, IsCutShort, TextRule}
-use Rattle.ram_report.specs.ReportLines.{sectors_text, sector_text, sector_at}
+use Rattle.ram_report.specs.ReportLines.{lost_line, lost_text, sectors_text, sector_text, sector_at}
 use Rattle.ram_report.proofs.Prints.{put_both, put_cut, cut_first}
 
 -- nothing is printed yet
@@ -51,6 +51,15 @@ sectors_text_more lba bytes k =
 
 pub sectors_text_every : (lba : ℕ) (bytes : List ℕ) (k : ℕ) → (rest : List ℕ) × (sectors_text lba bytes (k + 1) ≡ sectors_text lba bytes k ++ rest)
 sectors_text_every lba bytes k = (sector_text (lba + k) (sector_at bytes k), sectors_text_more lba bytes k)
+
+-- one block more
+pub lost_text_more : (found : List ℕ) (k : ℕ) → lost_text found (k + 1) ≡ lost_text found k ++ lost_line (get_or found k 0)
+lost_text_more found k =
+    let f : ℕ → List ℕ = λ j. lost_line (get_or found j 0) in
+    ap (flat_map f) (range_more k) ∙ sym (flat_map_more f [] (range_with_len 0 k) k)
+
+pub lost_text_every : (found : List ℕ) (k : ℕ) → (rest : List ℕ) × (lost_text found (k + 1) ≡ lost_text found k ++ rest)
+lost_text_every found k = (lost_line (get_or found k 0), lost_text_more found k)
 
 -- the part of sector k
 pub sector_is : (bytes : List ℕ) (k : ℕ) → take (2048 * (k + 1) - 2048 * k) (drop (2048 * k) bytes) ≡ sector_at bytes k

@@ -33,6 +33,26 @@ event_words (events.Written lba) = codes "written " ++ decimal lba
 event_words (events.NoSpare lba) = codes "check 3/32/00 info " ++ decimal lba
 event_words events.NoUpdate = codes "check 3/32/01"
 event_words events.Off = codes "off"
+event_words (events.Readable lba) = codes "readable " ++ decimal lba
+event_words (events.Unreadable lba) = codes "unreadable " ++ decimal lba
+event_words (events.Found count) = codes "found " ++ decimal count
+
+-- the line of a block that cannot be read, by its first sector (this project's own)
+abbrev pub lost_line : (block : ℕ) → List ℕ
+lost_line block = codes "lost " ++ decimal (16 * block) ++ codes "\n"
+
+-- the lines of the first so many of these blocks (this project's own)
+abbrev pub lost_text : (blocks : List ℕ) → (count : ℕ) → List ℕ
+lost_text blocks count = flat_map (λ k. lost_line (slice_index blocks k)) (range_with_len 0 count)
+
+-- the lines behind an answer that tells how many blocks a scrub found: these blocks (this project's own)
+abbrev pub found_text : Event → (found : List ℕ) → List ℕ
+found_text (events.Found count) found = lost_text found (length found)
+found_text event found = []
+
+-- the lines of an answer to a line that is no command (this project's own)
+abbrev pub event_text : ℕ → Event → (found : List ℕ) → List ℕ
+event_text number event found = numbered number (event_words event) ++ found_text event found
 
 -- K/AA/QQ: the sense key, which is its low four bits, as one hexadecimal digit, and the code and its qualifier as two
 -- each, in lower case (this project's own, of the numbers of INCITS MMC)

@@ -51,6 +51,21 @@ pub enum Event {
     NoUpdate,
     /// The power is off.
     Off,
+    /// A scrub could read the next block.
+    Readable {
+        /// Its first sector.
+        lba: u64,
+    },
+    /// A scrub could not read the next block: its home has no whole bytes.
+    Unreadable {
+        /// Its first sector.
+        lba: u64,
+    },
+    /// A scrub of all blocks found so many that cannot be read. They are told behind this line.
+    Found {
+        /// How many.
+        count: u64,
+    },
 }
 
 /// The last line of a report, by how the run ended.

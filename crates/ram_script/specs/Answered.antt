@@ -2,7 +2,7 @@
 -- knows no state.
 use Rattle.std.specs.Prelude.{◌≡◌, ℕ, ◌+◌, ◌<◌, ◌⊎◌, List, [], ◌∷◌, ◌++◌, length}
 use Rattle.ram_text.specs.Lines.{line_feed}
-use Rattle.ram_report.specs.ReportLines.{numbered, event_words, answer_text}
+use Rattle.ram_report.specs.ReportLines.{event_text, answer_text}
 use Rattle.ram_text.specs.Script.{Reads}
 use Rattle.ram_machine.specs.declared.reply.Reply.{Reply}
 use Rattle.ram_machine.specs.declared.reply.Reply.TheVariants as replies
@@ -30,10 +30,10 @@ abbrev pub script_text : List AnsweredLine → List ℕ
 script_text [] = []
 script_text (event ∷ events) = script_text events ++ (event.raw ++ line_feed ∷ [])
 
--- the text of what a line is answered, with its number
+-- the text of what a line is answered, with its number and the data that it gave
 abbrev pub line_text : ℕ → Reply → List ℕ → List ℕ
 line_text number replies.Nothing data_in = []
-line_text number (replies.Event event) data_in = numbered number (event_words event)
+line_text number (replies.Event event) data_in = event_text number event data_in
 line_text number (replies.Command cdb answer) data_in = answer_text number answer cdb data_in
 
 -- The text of all answers. Lines are numbered from 1 on.

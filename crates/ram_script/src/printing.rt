@@ -1,7 +1,7 @@
 //! What a line is answered, printed behind what the report has.
-ghost use Rattle.std.specs.Prelude.{◌≡◌};
+ghost use Rattle.std.specs.Prelude.{◌≡◌, Ok};
 ghost use Rattle.ram_text.specs.Dialogue.{Tells};
-ghost use Rattle.ram_machine.specs.Replies.{CanPrint};
+ghost use Rattle.ram_machine.specs.Replies.{CanPrint, data_told};
 ghost use Rattle.ram_script.specs.Answered.{line_text};
 ghost use Rattle.ram_script.specs.Printed.{printed};
 
@@ -10,19 +10,21 @@ use ram_outside::{Sink, Source};
 use ram_report::Print;
 use ram_text::Dialogue;
 
-/// Prints what a line of this number is answered, with the data that a command gave.
+/// Prints what a line of this number is answered, with the data that a command gave, or the blocks that a scrub found.
 pub fn print_reply<S: Source, K: Sink>(
     dialogue: &mut Dialogue<S, K>,
     number: u64,
     reply: &Reply,
     data_in: &[u8],
+    found: &[u32],
 ) -> Print
     requires { CanPrint reply.now }
-    ensures { Tells S.Source K.Sink dialogue.old dialogue.new (line_text number reply.now data_in.now) result }
+    ensures { Tells S.Source K.Sink dialogue.old dialogue.new 
+        (line_text number reply.now (data_told (Ok reply.now) data_in.now found.now)) result }
 {
     match reply {
         Reply::Nothing => Print::Done,
-        Reply::Event(event) => dialogue.print_event(number, event),
+        Reply::Event(event) => dialogue.print_event(number, event, found),
         Reply::Command { cdb, answer } => dialogue.print_answer(number, answer, cdb, data_in),
     }
 }

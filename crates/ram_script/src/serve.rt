@@ -45,7 +45,7 @@ fn answer_line<D: Drive, S: Source, K: Sink>(
     ensures room { HasRoom state.new }
 {
     let outcome = inserted.answer(line, &state.payload, &mut state.data_in);
-    tell(state, dialogue, outcome)
+    tell(state, dialogue, outcome, inserted.found())
 }
 
 /// Answers the lines of a script one after another, and tells why they end.

@@ -3,7 +3,7 @@
 ghost use Rattle.std.specs.Prelude.{◌≡◌, ◌^◌, ◌<◌, ◌+◌, ℕ, IfOk, is_some};
 ghost use Rattle.ram_text.specs.Dialogue.{HasSameEnds, AsksNothing, due_in, reader_of, sink_of};
 ghost use Rattle.ram_script.specs.Counting.{AreAtMost};
-ghost use Rattle.ram_machine.specs.Replies.{PrintsWhere};
+ghost use Rattle.ram_machine.specs.Replies.{PrintsWhere, data_told};
 ghost use Rattle.ram_script.specs.RunCounts.{StopCounts, TellCount, counts_with};
 ghost use Rattle.ram_script.specs.RunState.{IsFresh, HasRoom, TallyRule};
 ghost use Rattle.ram_script.specs.Progress.{Beginning, SoFar, IsAt, NextRule, FoundCountsUses, TakesBytes, TellRule, run_view, tally_with};
@@ -109,11 +109,12 @@ pub fn take_line<S: Source, K: Sink>(
     }
 }
 
-/// Tells what became of a line: its reply is printed, and the line counts; else the run ends.
+/// Tells what became of a line: its reply is printed, and the line counts; else the run ends. The scrubber has these blocks.
 pub fn tell<S: Source, K: Sink>(
     state: &mut RunState,
     dialogue: &mut Dialogue<S, K>,
     outcome: Result<Reply, Stopped>,
+    found: &[u32],
 ) -> Result<(), Stopped>
     requires printable { PrintsWhere outcome }
     requires lines { state.old.tally.lines < 2 ^ 63 }
@@ -122,7 +123,8 @@ pub fn tell<S: Source, K: Sink>(
     ensures ends { HasSameEnds dialogue.old dialogue.new }
     ensures nothing { AsksNothing dialogue.old dialogue.new }
     ensures tells { TellRule (run_view S.Source K.Sink dialogue.old state.old.tally)
-        (run_view S.Source K.Sink dialogue.new state.new.tally) state.old.data_in.items outcome result }
+        (run_view S.Source K.Sink dialogue.new state.new.tally) 
+        (data_told outcome state.old.data_in.items found.now) outcome result }
     ensures known { is_some (due_in S.Source K.Sink dialogue.new) ≡ is_some (due_in S.Source K.Sink dialogue.old) }
     ensures count { TellCount (K.faults (sink_of dialogue.old)) (K.faults (sink_of dialogue.new)) outcome result }
     ensures tally { TallyRule state.old.tally state.new.tally result }
@@ -130,7 +132,7 @@ pub fn tell<S: Source, K: Sink>(
 {
     let reply = outcome?;
     let number = state.tally.lines + 1;
-    printed(print_reply(dialogue, number, &reply, &state.data_in))?;
+    printed(print_reply(dialogue, number, &reply, &state.data_in, found))?;
     state.tally.add(&reply);
     Ok(())
 }

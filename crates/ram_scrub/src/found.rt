@@ -43,6 +43,13 @@ impl FoundBlocks {
         })
     }
 
+    /// Drops all blocks.
+    pub fn clear(&mut self)
+        ensures { blocks_of self.new ≡ [] }
+    {
+        self.numbers.clear();
+    }
+
     /// The blocks, rising.
     pub fn as_slice(&self) -> &[u32]
         ensures { result.now ≡ blocks_of self.now }

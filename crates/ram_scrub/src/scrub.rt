@@ -58,6 +58,14 @@ impl Scrub {
         })
     }
 
+    /// Forgets what was found, and begins at block 0 again, in the room that it has.
+    pub fn restart(&mut self)
+        ensures { scrubber_of self.new ≡ fresh }
+    {
+        self.found.clear();
+        self.next = 0;
+    }
+
     /// The blocks that were found unreadable, rising. A block stays there until a step can read it, or meets a formatted disc
     /// that does not have it: also where it was written meanwhile, and where a format slipped over its home.
     pub fn found(&self) -> &[u32]

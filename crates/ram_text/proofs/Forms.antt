@@ -11,10 +11,10 @@ use Rattle.model_medium.specs.declared.Fate.{Fate}
 use Rattle.model_medium.specs.declared.Fate.TheVariants.{Old, New, Torn}
 use Rattle.ram_text.specs.ScriptWords.{words_of, without_return, IsNumber}
 use Rattle.ram_text.specs.Script.{Reads, IsForm, IsCommandBlock, IsFilled, IsCountedUp, IsSpelled, fate_word, filled, counted_up}
-use Rattle.ram_text.specs.ScriptReading.{◌>>=◌, number_of, hex_byte_of, command_block_of, only_word, first_number, only_number, fate_of, kind_of, form_of, press_of, power_of, fail_of, wear_of, cut_of, tick_of, payload_by, payload_of, command_of, alone, line_by, line_of, reading_of, Puts}
+use Rattle.ram_text.specs.ScriptReading.{◌>>=◌, number_of, hex_byte_of, command_block_of, only_word, first_number, only_number, fate_of, kind_of, form_of, press_of, power_of, fail_of, wear_of, cut_of, tick_of, scrub_of, payload_by, payload_of, command_of, alone, line_by, line_of, reading_of, Puts}
 use Rattle.ram_text.specs.declared.script.Unread.{Unread}
 use Rattle.ram_text.specs.declared.script.Line.{Line}
-use Rattle.ram_text.specs.declared.script.Line.TheVariants.{Empty, Press, Power, Fail, Wear, Cut, Tick, Command}
+use Rattle.ram_text.specs.declared.script.Line.TheVariants.{Empty, Press, Power, Fail, Wear, Cut, Tick, Scrub, Command}
 use Rattle.ram_text.specs.declared.script.Form.{Form}
 use Rattle.ram_text.specs.declared.script.Form.TheVariants as forms
 use Rattle.ram_text.specs.declared.payload.Kind.{Kind}
@@ -29,6 +29,7 @@ form_word forms.Fail = codes "fail"
 form_word forms.Wear = codes "wear"
 form_word forms.Cut = codes "cut"
 form_word forms.Tick = codes "tick"
+form_word forms.Scrub = codes "scrub"
 form_word forms.Command = codes "cdb"
 
 -- the words that name the kinds of data
@@ -55,8 +56,11 @@ form_named word f h =
               | inl t ↦ named form_word word (codes "cut") forms.Cut f t.0 refl t.1
               | inr t ↦ elim (chosen (bytes_eq word (codes "tick")) forms.Tick _ f t.1) [
                 | inl t ↦ named form_word word (codes "tick") forms.Tick f t.0 refl t.1
-                | inr t ↦ let l = tested_some (bytes_eq word (codes "cdb")) forms.Command f t.1 in
-                    named form_word word (codes "cdb") forms.Command f l.0 refl l.1
+                | inr t ↦ elim (chosen (bytes_eq word (codes "scrub")) forms.Scrub _ f t.1) [
+                  | inl t ↦ named form_word word (codes "scrub") forms.Scrub f t.0 refl t.1
+                  | inr t ↦ let l = tested_some (bytes_eq word (codes "cdb")) forms.Command f t.1 in
+                      named form_word word (codes "cdb") forms.Command f l.0 refl l.1
+                ]
               ]
             ]
           ]
@@ -165,6 +169,14 @@ unfolding tick_of
 tick_found [] line h = moved (codes "tick") [] [] line Tick refl h (refl, refl)
 tick_found (w ∷ words) line h = cc
 
+scrub_found : (words : List (List ℕ)) (line : Line) → scrub_of words ≡ Some line → IsForm (codes "scrub" ∷ words) line []
+unfolding scrub_of
+scrub_found [] line h = moved (codes "scrub") [] [] line (Scrub false) refl h (refl, refl)
+scrub_found (w ∷ []) line h =
+    let t = tested_some (bytes_eq w (codes "all")) (Scrub true) line h in
+    moved (codes "scrub") (w ∷ []) (w ∷ []) line (Scrub true) refl (ap Some t.1) (refl, (bytes_eq-Decides w (codes "all")).0 t.0, refl)
+scrub_found (w ∷ v ∷ words) line h = cc
+
 -- the data of each kind
 payload_found : (cdb word digits : List ℕ) (k : Kind) (payload : List ℕ) → word ≡ kind_word k → payload_by cdb digits k ≡ Some payload → IsFilled cdb word digits payload ⊎ IsCountedUp cdb word digits payload ⊎ IsSpelled word digits payload
 payload_found cdb word digits kinds.Fill payload is h =
@@ -225,6 +237,7 @@ by_form forms.Fail words line payload h = let a = alone_found (fail_of words) li
 by_form forms.Wear words line payload h = let a = alone_found (wear_of words) line payload h in without (codes "wear") words line payload a.1 (wear_found words line a.0)
 by_form forms.Cut words line payload h = let a = alone_found (cut_of words) line payload h in without (codes "cut") words line payload a.1 (cut_found words line a.0)
 by_form forms.Tick words line payload h = let a = alone_found (tick_of words) line payload h in without (codes "tick") words line payload a.1 (tick_found words line a.0)
+by_form forms.Scrub words line payload h = let a = alone_found (scrub_of words) line payload h in without (codes "scrub") words line payload a.1 (scrub_found words line a.0)
 by_form forms.Command words line payload h = command_found words line payload h
 
 -- what is read is a form
@@ -274,10 +287,13 @@ behind : (word text : List ℕ) (words : List (List ℕ)) → word ≡ text → 
 behind word text words is = ap (λ w. line_of (w ∷ words)) is
 
 form_given : (words : List (List ℕ)) (line : Line) (payload : List ℕ) → IsForm words line payload → line_of words ≡ Some (line, payload)
-unfolding line_of power_of tick_of command_of payload_of
+unfolding line_of power_of tick_of scrub_of command_of payload_of
 form_given [] Empty payload h = ap (λ p. Some (Empty, p)) (sym h)
 form_given (word ∷ []) Power payload h = behind word (codes "power") [] h.0 ∙ ap (λ p. Some (Power, p)) (sym h.1)
 form_given (word ∷ []) Tick payload h = behind word (codes "tick") [] h.0 ∙ ap (λ p. Some (Tick, p)) (sym h.1)
+form_given (word ∷ []) (Scrub false) payload h = behind word (codes "scrub") [] h.0 ∙ ap (λ p. Some (Scrub false, p)) (sym h.1)
+form_given (word ∷ a ∷ []) (Scrub true) payload h =
+    behind word (codes "scrub") (a ∷ []) h.0 ∙ ap (λ w. alone (scrub_of (w ∷ []))) h.1 ∙ ap (λ p. Some (Scrub true, p)) (sym h.2)
 form_given (word ∷ a ∷ []) (Fail block) payload h =
     behind word (codes "fail") (a ∷ []) h.0 ∙ ap alone (fail_given a block h.1) ∙ ap (λ p. Some (Fail block, p)) (sym h.2)
 form_given (word ∷ a ∷ []) (Command cdb) payload h =

@@ -1,12 +1,12 @@
 -- What a line of a script reads as, with its data: for the parser, and for the run that answers lines.
-use Rattle.std.specs.Prelude.{◌≡◌, ℕ, ◌+◌, ◌/◌, ◌%◌, ◌<◌, ◌≤◌, ◌⊎◌, List, [], ◌∷◌, length, slice_index, map, replicate, codes}
+use Rattle.std.specs.Prelude.{◌≡◌, ℕ, ◌+◌, ◌/◌, ◌%◌, ◌<◌, ◌≤◌, ◌⊎◌, true, false, List, [], ◌∷◌, length, slice_index, map, replicate, codes}
 use Rattle.std.specs.List.{range_with_len}
 use Rattle.model_commands.specs.Commands.{out_length_of}
 use Rattle.model_medium.specs.declared.Fate.{Fate}
 use Rattle.model_medium.specs.declared.Fate.TheVariants.{Old, New, Torn}
 use Rattle.ram_text.specs.ScriptWords.{words_of, without_return, number_sign, IsNumber, IsHex}
 use Rattle.ram_text.specs.declared.script.Line.{Line}
-use Rattle.ram_text.specs.declared.script.Line.TheVariants.{Empty, Press, Power, Fail, Wear, Cut, Tick, Command}
+use Rattle.ram_text.specs.declared.script.Line.TheVariants.{Empty, Press, Power, Fail, Wear, Cut, Tick, Scrub, Command}
 
 -- the word for what a cut leaves of the block in progress (this project's own)
 abbrev pub fate_word : Fate → List ℕ
@@ -61,6 +61,8 @@ IsForm (word ∷ a ∷ b ∷ []) (Wear block n) payload =
 IsForm (word ∷ a ∷ b ∷ []) (Cut n fate) payload =
     (word ≡ codes "cut") × IsNumber a n × (0 < n) × (b ≡ fate_word fate) × (payload ≡ [])
 IsForm (word ∷ []) Tick payload = (word ≡ codes "tick") × (payload ≡ [])
+IsForm (word ∷ []) (Scrub false) payload = (word ≡ codes "scrub") × (payload ≡ [])
+IsForm (word ∷ a ∷ []) (Scrub true) payload = (word ≡ codes "scrub") × (a ≡ codes "all") × (payload ≡ [])
 IsForm (word ∷ a ∷ []) (Command cdb) payload = (word ≡ codes "cdb") × IsCommandBlock a cdb × (payload ≡ [])
 IsForm (word ∷ a ∷ b ∷ c ∷ []) (Command cdb) payload =
     (word ≡ codes "cdb") × IsCommandBlock a cdb

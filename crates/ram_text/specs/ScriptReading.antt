@@ -1,5 +1,5 @@
 -- How the words of a line are read, one after another: each reading gives what it found and the words after it.
-use Rattle.std.specs.Prelude.{◌≡◌, ℕ, ◌==◌, ◌&&◌, nat_lt, nat_le, if◌then◌else◌, Option, Some, None, option_map, option_and_then, List, [], ◌∷◌, length, slice_index, codes}
+use Rattle.std.specs.Prelude.{◌≡◌, ℕ, ◌==◌, ◌&&◌, nat_lt, nat_le, if◌then◌else◌, true, false, Option, Some, None, option_map, option_and_then, List, [], ◌∷◌, length, slice_index, codes}
 use Rattle.std.specs.List.{list_all}
 use Rattle.std.specs.Result.{result_ok}
 use Rattle.std.specs.Char.{is_ascii_digit}
@@ -11,7 +11,7 @@ use Rattle.model_medium.specs.declared.Fate.TheVariants.{Old, New, Torn}
 use Rattle.ram_text.specs.ScriptWords.{words_of, number_sign, decimal_value}
 use Rattle.ram_text.specs.Script.{filled, counted_up}
 use Rattle.ram_text.specs.declared.script.Line.{Line}
-use Rattle.ram_text.specs.declared.script.Line.TheVariants.{Empty, Press, Power, Fail, Wear, Cut, Tick, Command}
+use Rattle.ram_text.specs.declared.script.Line.TheVariants.{Empty, Press, Power, Fail, Wear, Cut, Tick, Scrub, Command}
 use Rattle.ram_text.specs.declared.script.Form.{Form}
 use Rattle.ram_text.specs.declared.script.Form.TheVariants as forms
 use Rattle.ram_text.specs.declared.payload.Kind.{Kind}
@@ -87,6 +87,7 @@ form_of word =
     else if bytes_eq word (codes "wear") then Some forms.Wear
     else if bytes_eq word (codes "cut") then Some forms.Cut
     else if bytes_eq word (codes "tick") then Some forms.Tick
+    else if bytes_eq word (codes "scrub") then Some forms.Scrub
     else if bytes_eq word (codes "cdb") then Some forms.Command
     else None
 
@@ -129,6 +130,12 @@ unfoldable pub tick_of : List (List ℕ) → Option Line
 tick_of [] = Some Tick
 tick_of (word ∷ words) = None
 
+-- the line that the words behind `scrub` make (this project's own)
+unfoldable pub scrub_of : List (List ℕ) → Option Line
+scrub_of [] = Some (Scrub false)
+scrub_of (word ∷ []) = if bytes_eq word (codes "all") then Some (Scrub true) else None
+scrub_of (word ∷ next ∷ words) = None
+
 -- the data of each kind (this project's own)
 abbrev pub payload_by : List ℕ → List ℕ → Kind → Option (List ℕ)
 payload_by cdb digits kinds.Fill = hex_byte_of digits >>= λ byte. Some (filled byte (out_length_of cdb))
@@ -163,6 +170,7 @@ line_by words forms.Fail = alone (fail_of words)
 line_by words forms.Wear = alone (wear_of words)
 line_by words forms.Cut = alone (cut_of words)
 line_by words forms.Tick = alone (tick_of words)
+line_by words forms.Scrub = alone (scrub_of words)
 line_by words forms.Command = command_of words
 
 -- the line of these words, with its data (this project's own)

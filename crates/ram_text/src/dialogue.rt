@@ -1,7 +1,7 @@
 //! Both ends of a run: the script that comes, line by line, and the report that goes. The source and the sink are reached
 //! through it alone, and nothing is asked of the source while text is gathered for the sink.
 ghost use Rattle.std.specs.Prelude.{◌≡◌, ◌+◌, ◌≤◌, IfOk};
-ghost use Rattle.ram_report.specs.ReportLines.{numbered, event_words, answer_text, last_text, IsPrinted, IsAddressed};
+ghost use Rattle.ram_report.specs.ReportLines.{event_text, answer_text, last_text, IsPrinted, IsAddressed};
 ghost use Rattle.ram_text.specs.declared.dialogue.TheConstants.{DIALOGUE_MEMORY};
 
 use crate::lines::{LineReader, NextLine, ROOM};
@@ -89,11 +89,18 @@ impl<'a, S: Source, K: Sink> Dialogue<'a, S, K> {
         self.room.reader.line()
     }
 
-    /// Prints the answer of the line of this number, which is no command.
-    pub fn print_event(&mut self, number: u64, event: &Event) -> Print
-        ensures { Tells S.Source K.Sink self.old self.new (numbered number (event_words event.now)) result }
+    /// Prints the answer of the line of this number, which is no command. The blocks that were found are told behind how many
+    /// they are.
+    pub fn print_event(&mut self, number: u64, event: &Event, found: &[u32]) -> Print
+        ensures { Tells S.Source K.Sink self.old self.new (event_text number event.now found.now) result }
     {
-        print_event(&mut self.room.writer, &mut *self.report, number, event)
+        print_event(
+            &mut self.room.writer,
+            &mut *self.report,
+            number,
+            event,
+            found,
+        )
     }
 
     /// Prints the answer to a command, and behind `good` its reply.

@@ -2,7 +2,7 @@
 ghost use Rattle.std.specs.Prelude.{◌≡◌, ◌≤◌, [], ℕ, List, MatchResult, length, vec_capacity};
 ghost use Rattle.ram_text.specs.ScriptWords.{words_of};
 ghost use Rattle.ram_text.specs.Script.{Reads};
-ghost use Rattle.ram_text.specs.ScriptReading.{press_of, power_of, fail_of, wear_of, cut_of, tick_of, command_of, fate_of, form_of, line_by, line_of, reading_of, Puts};
+ghost use Rattle.ram_text.specs.ScriptReading.{press_of, power_of, fail_of, wear_of, cut_of, tick_of, scrub_of, command_of, fate_of, form_of, line_by, line_of, reading_of, Puts};
 ghost use Rattle.ram_text.specs.declared.lines.TheConstants.{LINE_LIMIT};
 ghost use Rattle.ram_text.specs.declared.payload.TheConstants.{PAYLOAD_ROOM};
 ghost use Rattle.ram_text.specs.declared.script.Line.{Line as Read};
@@ -50,6 +50,11 @@ pub enum Line {
     },
     /// The drive writes the oldest block that is pending in its write cache.
     Tick,
+    /// Blocks of the disc are verified, and nothing is written: the next one, or each.
+    Scrub {
+        /// Each block.
+        all: bool,
+    },
     /// A command for the drive. Its data are put beside the line.
     Command {
         /// The command block.
@@ -70,6 +75,7 @@ enum Form {
     Wear,
     Cut,
     Tick,
+    Scrub,
     Command,
 }
 
@@ -131,6 +137,7 @@ fn read_form(form: Form, rest: &[u8], payload: &mut Vec<u8>) -> Option<Line>
         Form::Wear => wear(rest),
         Form::Cut => cut(rest),
         Form::Tick => tick(rest),
+        Form::Scrub => scrub(rest),
         Form::Command => command(rest, payload),
     }
 }
@@ -155,6 +162,9 @@ fn form_named(word: &[u8]) -> Option<Form>
     }
     if word == b"tick".as_slice() {
         return Some(Form::Tick);
+    }
+    if word == b"scrub".as_slice() {
+        return Some(Form::Scrub);
     }
     if word == b"cdb".as_slice() {
         return Some(Form::Command);
@@ -223,6 +233,22 @@ fn tick(rest: &[u8]) -> Option<Line>
 {
     match next_word(rest) {
         None => Some(Line::Tick),
+        Some(_) => None,
+    }
+}
+
+#[tactic(auto, unfolding(crate::specs::ScriptReading::scrub_of))]
+fn scrub(rest: &[u8]) -> Option<Line>
+    ensures { result ≡ scrub_of (words_of rest.now) }
+{
+    let Some((word, rest)) = next_word(rest) else {
+        return Some(Line::Scrub { all: false });
+    };
+    if word != b"all".as_slice() {
+        return None;
+    }
+    match next_word(rest) {
+        None => Some(Line::Scrub { all: true }),
         Some(_) => None,
     }
 }

@@ -1,7 +1,7 @@
 //! The answers to lines that are no commands: `pressed`, `ready`, `cut` and the like. Text alone.
-ghost use Rattle.std.specs.Prelude.{◌++◌, codes};
+ghost use Rattle.std.specs.Prelude.{◌++◌, codes, length};
 ghost use Rattle.ram_report.specs.Reports.{Prints, PutsText};
-ghost use Rattle.ram_report.specs.ReportLines.{numbered, event_words};
+ghost use Rattle.ram_report.specs.ReportLines.{numbered, event_words, event_text, found_text, lost_text};
 
 use crate::gathered::{Print, SinkFailed, printed};
 use crate::printing::Event;
@@ -9,21 +9,38 @@ use crate::printing::parts::print_counted;
 use crate::report::ReportWriter;
 use ram_outside::Sink;
 
-/// Prints the answer to a line that is no command.
+/// Prints the answer to a line that is no command. The blocks that were found are told behind how many they are, and behind no
+/// other answer.
 pub fn print_event<K: Sink>(
     writer: &mut ReportWriter,
     sink: &mut K,
     number: u64,
     event: &Event,
+    found: &[u32],
 ) -> Print
     ensures { Prints K.Sink writer.old sink.old writer.new sink.new
-        (numbered number (event_words event.now)) result }
+        (event_text number event.now found.now) result }
 {
-    printed(put_event(writer, sink, number, event))
+    printed(put_event(writer, sink, number, event, found))
 }
 
 /// The same, by how it went.
 fn put_event<K: Sink>(
+    writer: &mut ReportWriter,
+    sink: &mut K,
+    number: u64,
+    event: &Event,
+    found: &[u32],
+) -> Result<(), SinkFailed>
+    ensures { PutsText K.Sink writer.old sink.old writer.new sink.new
+        (event_text number event.now found.now) result }
+{
+    put_event_line(writer, sink, number, event)?;
+    print_found(writer, sink, event, found)
+}
+
+/// Prints the first line of the answer.
+fn put_event_line<K: Sink>(
     writer: &mut ReportWriter,
     sink: &mut K,
     number: u64,
@@ -34,6 +51,37 @@ fn put_event<K: Sink>(
 {
     writer.put_number(sink, number)?;
     print_event_words(writer, sink, event)
+}
+
+/// Prints the lines behind an answer that tells how many blocks were found.
+fn print_found<K: Sink>(
+    writer: &mut ReportWriter,
+    sink: &mut K,
+    event: &Event,
+    found: &[u32],
+) -> Result<(), SinkFailed>
+    ensures { PutsText K.Sink writer.old sink.old writer.new sink.new
+        (found_text event.now found.now) result }
+{
+    match event {
+        Event::Found { .. } => print_lost(writer, sink, found),
+        _ => Ok(()),
+    }
+}
+
+/// Prints a line for each of these blocks.
+fn print_lost<K: Sink>(
+    writer: &mut ReportWriter,
+    sink: &mut K,
+    found: &[u32],
+) -> Result<(), SinkFailed>
+    ensures { PutsText K.Sink writer.old sink.old writer.new sink.new
+        (lost_text found.now (length found.now)) result }
+{
+    for block in found {
+        print_counted(writer, sink, b"lost ", 16 * *block as u64)?;
+    }
+    Ok(())
 }
 
 /// Prints the words of an event, after a space, and ends the line.
@@ -62,5 +110,8 @@ fn print_event_words<K: Sink>(
         }
         Event::NoUpdate => writer.put(sink, b" check 3/32/01\n"),
         Event::Off => writer.put(sink, b" off\n"),
+        Event::Readable { lba } => print_counted(writer, sink, b" readable ", *lba),
+        Event::Unreadable { lba } => print_counted(writer, sink, b" unreadable ", *lba),
+        Event::Found { count } => print_counted(writer, sink, b" found ", *count),
     }
 }

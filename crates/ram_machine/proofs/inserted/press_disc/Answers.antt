@@ -27,9 +27,9 @@ returns-in-Ok-clause-step g c s h =
     press_opened g.D.Caching g.D.Drive.lies_in g.D.Image.Image s c.kind-kind.result (shape_in (kind_of s) c.args.wanted.0 c.args.wanted.1 c.args.wanted.2) (sym its) its lawful
     (g.D.Image.Image.bytes c.into_parts-image.result.0) c.press.new.image (c.into_parts-image.ensures.left s h)
     (subst (λ (z : Shape). WhereKnown (g.D.Image.Image.bytes c.into_parts-image.result.0) (g.D.Image.Image.bytes c.press.new.image) (PressesImage z)) same c.in-Done.ensures.0)
-    c.in-Ok.target c.in-Ok.ensures.host_is
-    (λ bytes known. subst (λ (k : LayoutKind). IsOpenedBy k bytes (g.D.Caching.shows c.in-Ok.target.disc) (g.D.Caching.stands c.in-Ok.target.disc)) (c.into_parts-image.ensures.kind s h ∙ sym its) (c.in-Ok.ensures.opens.opened bytes known))
-    c.in-Ok.ensures.opens.same_bytes
+    c.in-Ok.target c.in-Ok.ensures.0.host_is
+    (λ bytes known. subst (λ (k : LayoutKind). IsOpenedBy k bytes (g.D.Caching.shows c.in-Ok.target.disc) (g.D.Caching.stands c.in-Ok.target.disc)) (c.into_parts-image.ensures.kind s h ∙ sym its) (c.in-Ok.ensures.0.opens.opened bytes known))
+    c.in-Ok.ensures.0.opens.same_bytes c.in-Ok.scrub c.in-Ok.ensures.1
 
 pub returns-in-Err-clause-step : goal.returns-in-Err-clause-step
 returns-in-Err-clause-step g c s h =

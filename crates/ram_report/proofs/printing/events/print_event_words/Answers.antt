@@ -15,3 +15,6 @@ returns-in-NoUpdate g c = rw c.in-NoUpdate.is c.put-in-NoUpdate.ensures
 
 pub returns-in-NoSpare : goal.returns-in-NoSpare
 returns-in-NoSpare g c = rw c.in-NoSpare.is c.print_counted-in-NoSpare.ensures
+
+pub returns-in-Unreadable : goal.returns-in-Unreadable
+returns-in-Unreadable g c = rw c.in-Unreadable.is c.print_counted-in-Unreadable.ensures
