@@ -31,7 +31,8 @@ class Lines:
         """Something that uses the medium."""
         draws: Dict[Callable[[], str], float] = {
             self.write: 8, self.read: 8, self.verify: 1, self.full_format: 1, self.rewriting_format: 1,
-            self.expansion: 1, self.on: 2, self.tick: 2, self.synchronization: 1,
+            self.expansion: 1, self.on: 2, self.tick: 2, self.scrub: 2,
+            self.synchronization: 1,
         }
         return self.one_of(draws)()
 
@@ -61,6 +62,9 @@ class Lines:
     def tick(self) -> str:
         return "tick"
 
+    def scrub(self) -> str:
+        return self.random.choice(["scrub", "scrub all"])
+
     def block(self) -> int:
         """A block of the medium: of a list, one of the first or last data blocks, or any."""
         geometry, data = self.geometry, self.geometry.data_blocks
@@ -86,9 +90,10 @@ class Lines:
 
     def no_form(self) -> str:
         long = self.random.choice(["#".ljust(70_001), "#".rjust(70_001), "#".ljust(70_002)])
-        return self.random.choice([" # a", "Power", "tick 1", "Tick", "press 1 1", "wear 13 0", "cut 0 old",
-                                   "fail 4294967296", "cut 1 New", "cdb 0", "cdb " + "00" * 17, "cdb 00 fill",
-                                   "cdb 00 hex 0", "cdb\t00", "power\t", "\tpower", long, long])
+        return self.random.choice([" # a", "Power", "tick 1", "Tick", "scrub 1", "scrub all all", "press 1 1",
+                                   "wear 13 0", "cut 0 old", "fail 4294967296", "cut 1 New", "cdb 0",
+                                   "cdb " + "00" * 17, "cdb 00 fill", "cdb 00 hex 0", "cdb\t00", "power\t",
+                                   "\tpower", long, long])
 
     # Commands.
 

@@ -201,6 +201,9 @@ class Promise:
             yield from self.command(line.block, data_of(line), answer, breaks_off)
         elif answer.has_more:
             raise NoReport(f"line {answer.number} of the script is no command, and gives data")
+        elif not breaks_off and len(answer.lost) != (answer.found or 0):
+            raise NoReport(f"line {answer.number} of the script is answered {answer.words!r}, and tells "
+                           f"{len(answer.lost)} blocks")
         elif line.name == "power":
             yield from self.power(answer)
         elif line.name == "press" and answer.words == "pressed":

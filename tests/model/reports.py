@@ -13,10 +13,11 @@ COMMAND = re.compile(f"good|cut|off|check [0-9a-f]/[0-9a-f]{{2}}/[0-9a-f]{{2}}(?
 """What a command may be answered."""
 EVENT = re.compile(
     f"pressed|not pressed|ready {NUMBER}|not formatted|failed|no such block|armed|full|idle|written {NUMBER}"
-    f"|check 3/32/00 info {NUMBER}|check 3/32/01|cut|off")
+    f"|check 3/32/00 info {NUMBER}|check 3/32/01|cut|off|readable {NUMBER}|unreadable {NUMBER}|found {NUMBER}")
 """What any other line may be answered."""
 SHOWN = re.compile(f"sector ({NUMBER}) (?:fill ([0-9a-f]{{2}})|hex ([0-9a-f]{{4096}}))")
 DATA = re.compile(f"data ({NUMBER}) ((?:[0-9a-f]{{2}})+)")
+LOST = re.compile(f"lost ({NUMBER})")
 LAST = re.compile(f"end {NUMBER}|script too long|{NUMBER} (?:not in the script language|too long|not a disc)")
 
 
@@ -31,6 +32,7 @@ class Answer:
     words: str
     sectors: List[Tuple[int, bytes]] = field(default_factory=list)
     data: Optional[bytes] = None
+    lost: List[int] = field(default_factory=list)
 
     @property
     def is_good(self) -> bool:
@@ -44,6 +46,12 @@ class Answer:
     def has_more(self) -> bool:
         """Whether lines stand behind the answer."""
         return bool(self.sectors) or self.data is not None
+
+    @property
+    def found(self) -> Optional[int]:
+        """How many blocks a scrub of all of them found."""
+        first, *rest = self.words.split(" ")
+        return int(rest[0]) if first == "found" else None
 
     @property
     def reason(self) -> str:
@@ -97,6 +105,10 @@ def add(answer: Answer, line: str) -> bool:
         sector = bytes.fromhex(fill) * SECTOR if fill else bytes.fromhex(digits)
         answer.sectors.append((int(at), sector))
         return line == sector_line(int(at), sector)
+    lost = LOST.fullmatch(line)
+    if lost:
+        answer.lost.append(int(lost[1]))
+        return answer.found is not None
     if data and answer.data is None:
         answer.data = bytes.fromhex(data[2])
         return len(answer.data) == int(data[1])

@@ -9,13 +9,14 @@ from .cache import CachedDrive
 from .commands import READS, Block, Target
 from .drive import Check
 from .medium import MOST_WEARS, SECTOR, Cut, Fate, Geometry, LayoutKind, Medium, PowerCut, State, Wear
+from .scrub import Scrubber
 
 LONGEST_LINE = 70_000
 LONGEST_SCRIPT = 67_108_864
 LONGEST_BLOCK = 16
 LARGEST_NUMBER = 4_294_967_295
 WORDS = {"NUMBER": "([0-9]{1,10})", "HEX": "((?:[0-9a-fA-F]{2})+)", "XX": "([0-9a-fA-F]{2})"}
-FORMS = ("(press) NUMBER NUMBER NUMBER", "(power)", "(tick)", "(fail) NUMBER", "(wear) NUMBER NUMBER",
+FORMS = ("(press) NUMBER NUMBER NUMBER", "(power)", "(tick)", "(scrub)", "(scrub) (all)", "(fail) NUMBER", "(wear) NUMBER NUMBER",
          "(cut) NUMBER (old|new|torn)", "(cdb) HEX", "(cdb) HEX (fill|count) XX", "(cdb) HEX (hex) HEX")
 PATTERNS = [re.compile(re.sub("NUMBER|HEX|XX", lambda word: WORDS[str(word.group())], form))
             for form in FORMS]
@@ -63,6 +64,8 @@ def line_of(line: bytes) -> Optional[Line]:
         block, kind, data = words if len(words) == 3 else (words[0], "hex", "")
         found = Line(name, block=Block(bytes.fromhex(block)), kind=kind, data=bytes.fromhex(data))
         return found if len(found.block.bytes) <= LONGEST_BLOCK else None
+    if name == "scrub":
+        return Line(name, kind="".join(words))
     fate = Fate(words.pop()) if name == "cut" else Fate.OLD
     found = Line(name, tuple(int(word) for word in words), fate)
     return found if found.is_within_limits else None
@@ -111,6 +114,7 @@ class Run:
         self.image = bytearray(image)
         self.layout = layout
         self.target: Optional[Target] = None
+        self.scrubber = Scrubber()
         self.insert()
 
     def insert(self) -> None:
@@ -120,6 +124,8 @@ class Run:
 
     def answer(self, line: Line) -> List[str]:
         """Does what a line says: its answer, and the lines after it."""
+        if line.name in ("press", "power"):
+            self.scrubber = Scrubber()
         if line.name == "press":
             zones, scale, spares = line.numbers
             return [self.press(Geometry(zones, scale, spares, self.layout))]
@@ -130,6 +136,8 @@ class Run:
                 return [self.power(self.target)]
             if line.name == "tick":
                 return [self.target.drive.tick()]
+            if line.name == "scrub":
+                return self.scrub(self.target, line.kind == "all")
             if line.name == "cdb":
                 return self.command(self.target, line)
         except PowerCut:
@@ -148,6 +156,10 @@ class Run:
     def power(target: Target) -> str:
         target.power()
         return "not formatted" if target.drive.lists is None else f"ready {target.drive.sectors}"
+
+    def scrub(self, target: Target, everything: bool) -> List[str]:
+        drive = target.drive
+        return self.scrubber.scrub_all(drive) if everything else [self.scrubber.step(drive)]
 
     @staticmethod
     def arm(medium: Medium, line: Line) -> str:

@@ -16,6 +16,8 @@ REPLY = bytes.fromhex("080200000a0a0280000000020004").ljust(2_052, b"\0")
 FORMATTED = "press 1 1 4\npower\ncdb 000000000000\ncdb 041100000000 hex 000000080000013000000800\n"
 FORMATTED_REPORT = "1 pressed\n2 not formatted\n3 check 6/29/00\n4 good\n"
 LENGTHS_AT_ONCE = 158
+BEHIND = ("sector", "lost")
+"""The first words of lines that stand behind an answer."""
 
 
 @dataclass
@@ -55,7 +57,7 @@ def answers_behind(report: str) -> str:
     """What the lines behind the cut are answered, without their numbers."""
     _, _, later = report.partition(" armed\n")
     answers = (line.split(" ", 1) for line in later.splitlines() if not line.startswith("end "))
-    return ", ".join(" ".join(words) if words[0] == "sector" else words[1] for words in answers)
+    return ", ".join(" ".join(words) if words[0] in BEHIND else words[1] for words in answers)
 
 
 def spans(texts: List[str]) -> Iterator[Tuple[int, int, str]]:

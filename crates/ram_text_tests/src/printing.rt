@@ -47,6 +47,16 @@ fn numbered_of(words: &str) -> Option<Event> {
             lba: lba.parse().ok()?,
         });
     }
+    if let Some(lba) = words.strip_prefix("readable ") {
+        return Some(Event::Readable {
+            lba: lba.parse().ok()?,
+        });
+    }
+    if let Some(lba) = words.strip_prefix("unreadable ") {
+        return Some(Event::Unreadable {
+            lba: lba.parse().ok()?,
+        });
+    }
     Some(Event::Ready {
         capacity: words.strip_prefix("ready ")?.parse().ok()?,
     })
@@ -107,6 +117,7 @@ fn cdb_of(alloc: Global, digits: &str) -> Option<Cdb> {
 #[derive(Clone, Copy)]
 enum Printed<'a> {
     Event(Event),
+    Found(&'a str),
     Last(LastLine),
     Line(&'a str),
 }
@@ -116,6 +127,7 @@ fn printed_of<'a>(words: &'a str) -> Option<(u64, Printed<'a>)> {
     let (kind, rest) = words.split_once(' ')?;
     let (first, rest_of_rest) = rest.split_once(' ').unwrap_or((rest, ""));
     match kind {
+        "found" => Some((number_of(first), Printed::Found(rest_of_rest))),
         "event" => Some((number_of(first), Printed::Event(event_of(rest_of_rest)?))),
         "last" => Some((0, Printed::Last(last_of(first, number_of(rest_of_rest))?))),
         "line" => Some((0, Printed::Line(rest))),
@@ -123,18 +135,36 @@ fn printed_of<'a>(words: &'a str) -> Option<(u64, Printed<'a>)> {
     }
 }
 
-/// Prints it.
+/// Prints it. Behind how many blocks were found these are told.
 fn print<K: Sink>(
     writer: &mut ReportWriter,
     sink: &mut K,
     number: u64,
     printed: &Printed,
+    found: &[u32],
 ) -> Print {
     match printed {
-        Printed::Event(event) => print_event(writer, sink, number, event),
+        Printed::Event(event) => print_event(writer, sink, number, event, found),
+        Printed::Found(_) => {
+            let count = found.len() as u64;
+            print_event(writer, sink, number, &Event::Found { count }, found)
+        }
         Printed::Last(last) => print_last(writer, sink, last),
         Printed::Line(line) => print_line(writer, sink, line.as_bytes()),
     }
+}
+
+/// The blocks of these words.
+fn blocks_of(alloc: Global, printed: &Printed) -> Result<Vec<u32>, AllocError> {
+    let mut blocks = Vec::new(alloc);
+    if let Printed::Found(words) = printed {
+        for word in words.split(' ') {
+            if let Ok(block) = word.parse() {
+                blocks.push(block)?;
+            }
+        }
+    }
+    Ok(blocks)
 }
 
 /// Prints the answer to a command, unless it is done and its command block has too few bytes for the sectors it reads.
@@ -191,7 +221,10 @@ fn print_row<K: Sink>(
         return print_words(alloc, writer, sink, &words);
     }
     match printed_of(words) {
-        Some((number, printed)) => Ok(print(writer, sink, number, &printed)),
+        Some((number, printed)) => {
+            let found = blocks_of(alloc, &printed)?;
+            Ok(print(writer, sink, number, &printed, &found))
+        }
         None => Ok(Print::Failed),
     }
 }
