@@ -27,6 +27,8 @@ The script has one of these a line; words are parted by spaces, # is a comment:
   wear BLOCK N           this block is dead at its N-th use from now on
   tick                   the drive is idle: it writes the block that has waited
                          longest in its write cache
+  scrub                  verify the next block of the disc: can it be read?
+  scrub all              verify each block, and list those that cannot be read
   cut N FATE             cut the power at the N-th use of any block from now on;
                          a block being written then is left old, new or torn
   cdb HEX                a command block of 1 to 16 bytes, without data
