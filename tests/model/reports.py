@@ -13,7 +13,8 @@ COMMAND = re.compile(f"good|cut|off|check [0-9a-f]/[0-9a-f]{{2}}/[0-9a-f]{{2}}(?
 """What a command may be answered."""
 EVENT = re.compile(
     f"pressed|not pressed|ready {NUMBER}|not formatted|failed|no such block|armed|full|idle|written {NUMBER}"
-    f"|check 3/32/00 info {NUMBER}|check 3/32/01|cut|off|readable {NUMBER}|unreadable {NUMBER}|found {NUMBER}")
+    f"|check 3/32/00 info {NUMBER}|check 3/32/01|cut|off|readable {NUMBER}|unreadable {NUMBER}"
+    f"|found {NUMBER}")
 """What any other line may be answered."""
 SHOWN = re.compile(f"sector ({NUMBER}) (?:fill ([0-9a-f]{{2}})|hex ([0-9a-f]{{4096}}))")
 DATA = re.compile(f"data ({NUMBER}) ((?:[0-9a-f]{{2}})+)")
