@@ -1,9 +1,9 @@
 -- What a step of a scrubber asks of its drive, and what a pass leaves of it. (This project's own, as all here.)
 use Rattle.std.specs.Prelude.{◌≡◌, ℕ, zero, suc, ◌*◌, ◌<◌, ◌↔◌, Some, None, List}
 use Rattle.std.specs.List.{Contains}
-use Rattle.model_medium.specs.Cells.{IsGood}
+use Rattle.model_medium.specs.Cells.{IsGood, cell_at}
 use Rattle.model_sectors.specs.declared.ReadOut.TheVariants as reads
-use Rattle.model_drive.specs.Shown.{Shown, IsOn, IsFormatted, block_count, home_cell}
+use Rattle.model_drive.specs.Shown.{Shown, IsOn, IsFormatted, block_count, cells_in, home_cell}
 use Rattle.model_cache.specs.Values.{Contents}
 use Rattle.model_cache.specs.Shown.{CacheShown}
 use Rattle.model_cache.specs.Causes.{CacheVerifyCause}
@@ -106,3 +106,7 @@ PassContents after s passes.Fault = VerifyContents after s reads.Fault
 -- The found blocks are just the logical blocks whose homes have no whole bytes now.
 abbrev pub AreUnreadNow : Shown → List ℕ → Type 0
 AreUnreadNow shown found = (j : ℕ) → Contains found j ↔ ((j < block_count shown) × ¬ IsGood (home_cell shown j))
+
+-- Each cell with whole bytes has whole bytes afterwards: no block died.
+abbrev pub StayWhole : Shown → Shown → Type 0
+StayWhole old new = (block : ℕ) → IsGood (cell_at (cells_in old) block) → IsGood (cell_at (cells_in new) block)

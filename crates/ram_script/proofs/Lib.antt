@@ -8,3 +8,4 @@ pub mod FewLines
 pub mod Finishes
 pub mod Left
 pub mod Promised
+pub mod Told
