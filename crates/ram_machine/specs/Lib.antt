@@ -19,3 +19,4 @@ pub mod SectorBytes
 pub mod Runs
 pub mod LineFaults
 pub mod Register
+pub mod Scrubs

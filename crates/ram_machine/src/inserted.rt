@@ -219,12 +219,8 @@ fn step_outcome(end: StepEnd) -> Result<Reply, Stopped>
     ensures { result ≡ step_outcome end }
 {
     match end {
-        StepEnd::Readable { i } => Ok(Reply::Event(Event::Readable {
-            lba: 16 * i as u64,
-        })),
-        StepEnd::Unreadable { i } => Ok(Reply::Event(Event::Unreadable {
-            lba: 16 * i as u64,
-        })),
+        StepEnd::Readable { i } => Ok(Reply::Event(Event::Readable { lba: 16 * i as u64 })),
+        StepEnd::Unreadable { i } => Ok(Reply::Event(Event::Unreadable { lba: 16 * i as u64 })),
         StepEnd::NotFormatted => Ok(Reply::Event(Event::NotFormatted)),
         StepEnd::Cut => Ok(Reply::Event(Event::Cut)),
         StepEnd::Off => Ok(Reply::Event(Event::Off)),
