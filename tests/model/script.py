@@ -17,7 +17,8 @@ LONGEST_BLOCK = 16
 LARGEST_NUMBER = 4_294_967_295
 WORDS = {"NUMBER": "([0-9]{1,10})", "HEX": "((?:[0-9a-fA-F]{2})+)", "XX": "([0-9a-fA-F]{2})"}
 FORMS = ("(press) NUMBER NUMBER NUMBER", "(power)", "(tick)", "(scrub)", "(scrub) (all)",
-         "(fail) NUMBER", "(wear) NUMBER NUMBER", "(cut) NUMBER (old|new|torn)", "(cdb) HEX", "(cdb) HEX (fill|count) XX", "(cdb) HEX (hex) HEX")
+         "(fail) NUMBER", "(wear) NUMBER NUMBER", "(cut) NUMBER (old|new|torn)", "(cdb) HEX",
+         "(cdb) HEX (fill|count) XX", "(cdb) HEX (hex) HEX")
 PATTERNS = [re.compile(re.sub("NUMBER|HEX|XX", lambda word: WORDS[str(word.group())], form))
             for form in FORMS]
 
