@@ -14,7 +14,7 @@ from typing import Callable, List, NamedTuple, Sequence, Tuple
 HERE = Path(__file__).resolve().parent
 sys.path.append(str(HERE.parent / "tools"))
 
-from dvdram.protocol import Session, Statistics, rows_after_good  # noqa: E402
+from dvdram.protocol import Session, Statistics, rows_after  # noqa: E402
 
 # The power goes on, and the first command is told so.
 POWER = "power\ncdb 000000000000\n"
@@ -91,9 +91,8 @@ class Timed(Session):
 
     def answer_with_rows(self, number: int, line: str) -> str:
         answer = self.answer(number)
-        if answer == "good" and line.startswith("cdb "):
-            for _ in range(rows_after_good(bytes.fromhex(line.split()[1]))):
-                self.row()
+        for _ in range(rows_after(line, answer)):
+            self.row()
         return answer
 
 

@@ -8,8 +8,8 @@ from typing import Iterable, List, Optional, Sequence, Tuple
 
 import discs
 from dvdram.lists import MOST_SPARES
-from measuring import (CACHE_ON, FORMAT, POWER, SYNCHRONIZE, Bench, Measured, Piece, Timed, best, in_turn,
-                       loop_line, read_command, write_command)
+from measuring import (CACHE_ON, FORMAT, POWER, SYNCHRONIZE, Bench, Measured, Piece, Timed, best,
+                       in_session, in_turn, loop_line, read_command, write_command)
 
 # How many blocks are measured.
 BLOCKS = 896
@@ -30,6 +30,8 @@ READS = 1, 2, 4, 8, 14, 16, 32, 64
 # The blocks of a piece that is measured, about.
 IN_PIECE = 64
 CACHED = 32
+# A disc of nine zones: the blocks of its medium, the first logical block's, and how many it has.
+SCRUBBED = 10_456, 25, 10_406
 # In milliseconds.
 MOST_MOUNT = 10.0
 
@@ -211,6 +213,17 @@ def cache(program: Path, folder: Path, loops: Path, disc: Tuple[int, int]) -> No
     cached, past = map(middle, times)
     row("16 writes into one block and a synchronisation, beside FUA", cached, past)
     synchronisations(bench, loops, disc)
+    bench.image.unlink()
+
+
+def scrubs(program: Path, folder: Path, loops: Path) -> None:
+    """A scrub of all blocks, beside a loop of bare reads of as many, one after another."""
+    bench = Bench(program, folder / "scrubs.img")
+    bench.once("press 9 40 16\n" + POWER + FORMAT)
+    total, first, blocks = SCRUBBED
+    bare = in_session(loops, bench.image, loop_line("read", (total, first), blocks, 1))
+    idle, scrubbed, read = best([bench.runs(POWER), bench.runs(POWER + "scrub all\n"), bare])
+    row("a block scrubbed, beside a bare read", (scrubbed - idle) / blocks, read / blocks, 1.2)
     bench.image.unlink()
 
 

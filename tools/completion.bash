@@ -20,7 +20,7 @@ _ram_map() {
 _ram_ctl() {
     case $COMP_CWORD in
         1) mapfile -t COMPREPLY < <(compgen -f -- "$2") ;;
-        *) mapfile -t COMPREPLY < <(compgen -W 'fail wear cut power cdb stats list disarm' -- "$2") ;;
+        *) mapfile -t COMPREPLY < <(compgen -W 'fail wear cut power scrub cdb stats list disarm' -- "$2") ;;
     esac
 }
 

@@ -12,7 +12,7 @@ from typing import Any, Callable, Iterable, Iterator, TypeVar
 
 from . import Ended, Refused
 from .lists import LayoutKind
-from .protocol import SECTOR, Session, Statistics, line_of, rows_after_good
+from .protocol import SECTOR, Session, Statistics, line_of, rows_after
 
 BLOCK_SECTORS = 16
 MOST_SECTORS = 1024  # in one command that reads or writes
@@ -115,8 +115,7 @@ class Drive:
         if text == "armed":
             kept = [arm for arm in self.armed if words[0] != "cut" or not arm.startswith("cut")]
             self.armed = [*kept, line]
-        count = rows_after_good(bytes.fromhex(words[1])) if words[0] == "cdb" and text == "good" else 0
-        return [text, *(self.live.row().decode() for _ in range(count))]
+        return [text, *(self.live.row().decode() for _ in range(rows_after(line, text)))]
 
     def answer_to(self, number: int) -> str:
         """The answer to the line of this number. Heeds that the power was cut, and that an attention was

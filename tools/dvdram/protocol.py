@@ -22,7 +22,7 @@ SET_PIPE_SIZE = 1031  # of Linux
 HEX = "(?:[0-9a-fA-F]{2})"
 NUMBER = r"\d{1,10}"
 FORMS = re.compile(
-    rf"power|tick|fail {NUMBER}|wear {NUMBER} {NUMBER}|cut {NUMBER} (?:old|new|torn)"
+    rf"power|tick|scrub(?: all)?|fail {NUMBER}|wear {NUMBER} {NUMBER}|cut {NUMBER} (?:old|new|torn)"
     rf"|cdb {HEX}{{1,16}}(?: (?:fill|count) {HEX}| hex {HEX}+)?", re.ASCII)
 
 
@@ -68,6 +68,14 @@ def rows_after_good(command: bytes) -> int:
     if code in (0x28, 0xA8):
         return number
     return 1 if code == 0x25 or number else 0
+
+
+def rows_after(line: str, text: str) -> int:
+    """How many lines stand behind this answer to this line."""
+    if text.startswith("found "):
+        return int(text.split()[1])
+    is_good = line.startswith("cdb ") and text == "good"
+    return rows_after_good(bytes.fromhex(line.split()[1])) if is_good else 0
 
 
 class Session:

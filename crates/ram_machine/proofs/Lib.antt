@@ -21,6 +21,7 @@ pub mod ExpandedLines
 mod DataStays
 mod FairRuns
 mod NoSpares
+pub mod ScrubbedLines
 mod LastingRuns
 pub mod SoundChains
 pub mod KeptPower

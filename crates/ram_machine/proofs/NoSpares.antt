@@ -27,7 +27,7 @@ use Rattle.ram_machine.specs.Fairness.{FairNow, WasToldNoSpare, HasNoSpareLeft}
 use Rattle.ram_machine.proofs.FairRuns.{step_fair}
 
 -- the answer that tells it
-checked_outcome : (cdb : List ℕ) (why : Sense) (answer : Answer) → Ok (replies.Command cdb (answers.Check why)) ≡ command_outcome cdb answer → answer ≡ answers.Check why
+pub checked_outcome : (cdb : List ℕ) (why : Sense) (answer : Answer) → Ok (replies.Command cdb (answers.Check why)) ≡ command_outcome cdb answer → answer ≡ answers.Check why
 checked_outcome cdb why answers.Good is = absurd cc
 checked_outcome cdb why (answers.Check other) is = cc
 checked_outcome cdb why answers.Cut is = absurd cc

@@ -1,5 +1,5 @@
 //! Laws of runs, for whoever relies on a drive: what it acknowledged stays, and is read back.
-ghost use Rattle.std.specs.Prelude.{◌≡◌, ◌*◌, ◌<◌, ◌≤◌, ℕ, Bool, Ok, Some, List, [], ◌∷◌, length};
+ghost use Rattle.std.specs.Prelude.{◌≡◌, ◌↔◌, ◌*◌, ◌<◌, ◌≤◌, ℕ, Bool, Ok, Some, List, [], ◌∷◌, length};
 ghost use Rattle.std.specs.List.{Contains};
 ghost use Rattle.model_geometry.specs.Geometry.{Shape, total};
 ghost use Rattle.model_places.specs.Places.{Lists};
@@ -25,6 +25,7 @@ ghost use Rattle.ram_machine.specs.Acknowledged.{Acknowledged, HasNow, GoesThrou
 ghost use Rattle.ram_machine.specs.SectorBytes.{bytes_of_sector};
 ghost use Rattle.ram_machine.specs.Alone.{IsAlone, LeavesAlone, LeaveAlone};
 ghost use Rattle.ram_machine.specs.PlainRuns.{PlainState, IsPlainlyFirst, IsInPlainly, PlainStep, PlainRun};
+ghost use Rattle.ram_machine.specs.Scrubs.{ToldFound, WasToldUnreadable, IsUnreadableNow, HasNoArms};
 ghost use Rattle.ram_machine.specs.Fairness.{FairNow, WasToldNoSpare, HasNoSpareLeft};
 
 /// What was acknowledged of a sector stays so while no line writes it, through every failure of a block and
@@ -151,6 +152,19 @@ pub fn a_ticked_block_is_in_the_image()
     ensures { (s t : State) (event : AnsweredStep) (i : ℕ) (bytes image : List ℕ)
         → IsStep s event t → event.line ≡ lines.Tick → event.reply ≡ replies.Event (told.Written (16 * i))
         → IsPendingIn s i bytes → IsLeft t image → HasBlockInImage t image i bytes }
+{}
+
+/// After a scrub of all blocks that told how many it found, the blocks that it told are just those that cannot be read, and so many.
+/// While no block is armed to die, a read that is the next line is refused for a block that cannot be read only where the scrub told
+/// that block: so one of other blocks is not.
+pub fn a_read_is_unreadable_where_a_scrub_told_it()
+    ensures told { (s t : State) (scrub : AnsweredStep) (count : ℕ) → IsStep s scrub t → ToldFound scrub count
+        → (i : ℕ) → Contains scrub.data_in i ↔ IsUnreadableNow t i }
+    ensures number { (s t : State) (scrub : AnsweredStep) (count : ℕ) → IsStep s scrub t → ToldFound scrub count
+        → count ≡ length scrub.data_in }
+    ensures read { (s t u : State) (scrub read : AnsweredStep) (count lba n named : ℕ) → IsStep s scrub t
+        → ToldFound scrub count → HasNoArms t → IsStep t read u → WasToldUnreadable read lba n named
+        → Contains scrub.data_in (block_with named) }
 {}
 
 /// After a power loss a sector has what was acknowledged of it, or what a later write sent, and nothing older or other: however
