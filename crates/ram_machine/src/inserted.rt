@@ -134,12 +134,13 @@ impl<D: Drive> Inserted<D> {
                 Ok(Reply::Event(Event::Armed))
             }
             (Inserted::Disc(target, _, _), Line::Tick) => tick_outcome(target.disc.tick()),
-            (Inserted::Disc(target, _, scrub), Line::Scrub { all: false }) => {
-                step_outcome(scrub.step(&mut target.disc))
-            }
-            (Inserted::Disc(target, _, scrub), Line::Scrub { all: true }) => {
-                let end = scrub.pass(&mut target.disc);
-                pass_outcome(end, scrub.found().len() as u64)
+            (Inserted::Disc(target, _, scrub), Line::Scrub { all }) => {
+                if all {
+                    let end = scrub.pass(&mut target.disc);
+                    pass_outcome(end, scrub.found().len() as u64)
+                } else {
+                    step_outcome(scrub.step(&mut target.disc))
+                }
             }
             (Inserted::Disc(target, _, _), Line::Command { cdb }) => {
                 let answer = target.execute(&cdb, payload, data_in);
