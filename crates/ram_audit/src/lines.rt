@@ -5,7 +5,7 @@ ghost use Rattle.ram_audit.specs.declared.telling.TheConstants.{TEXT_ROOM};
 
 use crate::telling::{TEXT_ROOM, put_line};
 use model_audit::CertificateLine;
-use std::alloc::{AllocError, Global};
+use ram_bytes::{Budget, MemoryRefused};
 
 /// Lines of a certificate, as their text, and how many they are. There is room for the text of any disc.
 #[derive(Drop)]
@@ -24,11 +24,13 @@ impl Lines {
     ghost use Rattle.ram_audit.specs.Telling.{AreLines, bytes_of};
 
     /// No lines, and the room of the text of any disc.
-    pub fn new(alloc: Global) -> Result<Lines, AllocError>
-        ensures { IfOk result (λ lines. AreLines lines []) }
+    pub fn new(budget: &mut Budget) -> Result<Lines, MemoryRefused>
+        requires free { TEXT_ROOM ≤ budget.old }
+        ensures left { budget.old ≤ budget.new + TEXT_ROOM }
+        ensures empty { IfOk result (λ lines. AreLines lines []) }
     {
         Ok(Lines {
-            text: Vec::with_capacity(alloc, TEXT_ROOM)?,
+            text: budget.room(TEXT_ROOM)?,
             count: 0,
         })
     }

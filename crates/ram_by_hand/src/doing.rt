@@ -5,7 +5,7 @@ use crate::numbers::{byte_all_over, byte_of, put};
 use crate::structures::{Structure, add_structure};
 use crate::version::Version;
 use crate::work::Work;
-use ram_bytes::{Block, SECTOR_BYTES};
+use ram_bytes::{Block, Budget, SECTOR_BYTES};
 use ram_medium::{Medium, ReadEnd, WriteEnd};
 use ram_zones::{Geometry, ListKind};
 use std::alloc::{AllocError, Global};
@@ -62,14 +62,14 @@ fn add_writing<M: Medium>(
 
 /// A block with this byte all over.
 fn filled(alloc: Global, byte: u8) -> Result<Block, AllocError> {
-    let mut block = Block::zeros(alloc)?;
+    let mut block = Block::zeros(&mut Budget::ample(alloc))?;
     block.fill(byte);
     Ok(block)
 }
 
 /// A block of which each sector has a byte all over: this one, and then the next ones.
 fn counted(alloc: Global, first: u8) -> Result<Block, AllocError> {
-    let mut block = Block::zeros(alloc)?;
+    let mut block = Block::zeros(&mut Budget::ample(alloc))?;
     let mut byte = first;
     for sector in block.bytes_mut().chunks_exact_mut(SECTOR_BYTES) {
         sector.fill(byte);
@@ -96,7 +96,7 @@ fn add_putting<M: Medium>(
     bytes: &[u8],
     answer: &mut String,
 ) -> Result<(), AllocError> {
-    let mut text = Block::zeros(alloc)?;
+    let mut text = Block::zeros(&mut Budget::ample(alloc))?;
     let end = read_block(medium, block, &mut text);
     if end != ReadEnd::Done {
         return write!(answer, "{end:?}");
@@ -181,7 +181,7 @@ fn add_structure_in<M: Medium>(
     area: u32,
     answer: &mut String,
 ) -> Result<(), AllocError> {
-    let mut block = Block::zeros(alloc)?;
+    let mut block = Block::zeros(&mut Budget::ample(alloc))?;
     match read_list_block(taken, area, ListKind::Dds, &mut block) {
         ReadEnd::Done => add_structure(alloc, &block, answer),
         end => add_end(end, answer),
@@ -196,7 +196,7 @@ fn add_list_in<M: Medium>(
     area: u32,
     answer: &mut String,
 ) -> Result<(), AllocError> {
-    let mut first = Block::zeros(alloc)?;
+    let mut first = Block::zeros(&mut Budget::ample(alloc))?;
     let end = read_list_block(taken, area, ListKind::Sdl, &mut first);
     if end != ReadEnd::Done {
         return add_end(end, answer);
@@ -204,7 +204,7 @@ fn add_list_in<M: Medium>(
     if !is_first_part(&first) {
         return add_list(alloc, &first, None, answer);
     }
-    let mut second = Block::zeros(alloc)?;
+    let mut second = Block::zeros(&mut Budget::ample(alloc))?;
     match read_list_block(taken, area, ListKind::SdlTwo, &mut second) {
         ReadEnd::Done => add_list(alloc, &first, Some(&second), answer),
         end => add_end(end, answer),
@@ -282,7 +282,7 @@ fn add_block<M: Medium>(
     block: u32,
     answer: &mut String,
 ) -> Result<(), AllocError> {
-    let mut into = Block::zeros(alloc)?;
+    let mut into = Block::zeros(&mut Budget::ample(alloc))?;
     let end = read_block(medium, block, &mut into);
     match (end, byte_all_over(into.bytes())) {
         (ReadEnd::Done, Some(byte)) => write!(answer, "{byte:02x}"),

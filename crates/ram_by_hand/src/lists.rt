@@ -2,7 +2,7 @@
 
 use crate::numbers::{number_at, number_of, put};
 use crate::version::Version;
-use ram_bytes::Block;
+use ram_bytes::{Block, Budget};
 use std::alloc::{AllocError, Global};
 use std::fmt::Write;
 
@@ -201,7 +201,7 @@ pub fn is_first_part(block: &Block) -> bool {
 impl List {
     /// The text of one part, with those of the entries that lie in it. A list of one block has part 0.
     fn part(&self, alloc: Global, part: u8, entries: &[Entry]) -> Result<Block, AllocError> {
-        let mut text = Block::zeros(alloc)?;
+        let mut text = Block::zeros(&mut Budget::ample(alloc))?;
         let count = (self.entries.len() & 0xffff) as u16;
         put(&mut text, 0, &BEGIN);
         put(&mut text, 2, &[self.version.byte(), part]);

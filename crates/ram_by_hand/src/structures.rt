@@ -2,7 +2,7 @@
 
 use crate::numbers::{number_at, put};
 use crate::version::Version;
-use ram_bytes::Block;
+use ram_bytes::{Block, Budget};
 use std::alloc::{AllocError, Global};
 use std::fmt::Write;
 
@@ -41,7 +41,7 @@ impl Structure {
 
     /// The text of this structure, with the bytes of its slipped blocks.
     pub fn text(&self, alloc: Global, slipped: &[u8]) -> Result<Block, AllocError> {
-        let mut text = Block::zeros(alloc)?;
+        let mut text = Block::zeros(&mut Budget::ample(alloc))?;
         let [_, _, a, b] = self.spares.to_be_bytes();
         let count = ((slipped.len() / ENTRY_BYTES) & 0xffff) as u16;
         put(&mut text, 0, &BEGIN);

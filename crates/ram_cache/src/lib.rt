@@ -9,4 +9,4 @@ mod reading;
 mod writing;
 
 pub use cached::Cached;
-pub use pending::PendingBlocks;
+pub use pending::{PENDING_MEMORY, PendingBlocks};

@@ -13,13 +13,16 @@ ghost use Rattle.model_cache.specs.Chains.{ReadsDisc};
 ghost use Rattle.model_cache.specs.Causes.{put_over};
 ghost use Rattle.model_cache.proofs.OneProof.{apart-prop};
 
-use ram_bytes::Block;
+use ram_bytes::{BLOCK_BYTES, Block, Budget, MemoryRefused};
 use ram_requests::{Part, Request};
 use ram_sectors::{Disc, ReadOut, Sectors};
-use std::alloc::{AllocError, Global};
+use std::mem::size_of;
 
 /// How many rooms there are: as many as blocks are pending at most.
 const ROOMS: usize = 32;
+
+/// How many bytes the pending blocks ask for.
+pub const PENDING_MEMORY: usize = ROOMS * size_of::<(u32, Block)>() + ROOMS * BLOCK_BYTES;
 
 /// The pending blocks, each a number and its bytes, the oldest first. All room is taken when they are made: a block that is not
 /// pending any more leaves its room behind the others, and no block's bytes move.
@@ -38,15 +41,18 @@ pub struct PendingBlocks {
 impl PendingBlocks {
     ghost use Rattle.std.specs.Prelude.{IfOk, IsTrue, ◌↔◌};
     ghost use Rattle.model_cache.specs.Shown.{pending_below};
+    ghost use Rattle.ram_cache.specs.declared.pending.TheConstants.{PENDING_MEMORY};
     ghost use Rattle.ram_cache.specs.Rooms.{pending_of, staged_of, room_of, pending_at, FirstOf};
 
     /// No pending blocks, and the rooms of as many as there may be.
-    pub fn new(alloc: Global) -> Result<PendingBlocks, AllocError>
-        ensures { IfOk result (λ pending. pending_of pending ≡ []) }
+    pub fn new(budget: &mut Budget) -> Result<PendingBlocks, MemoryRefused>
+        requires free { PENDING_MEMORY ≤ budget.old }
+        ensures left { budget.old ≤ budget.new + PENDING_MEMORY }
+        ensures empty { IfOk result (λ pending. pending_of pending ≡ []) }
     {
-        let mut rooms = Vec::with_capacity(alloc, ROOMS)?;
+        let mut rooms = budget.room(ROOMS)?;
         for k in 0..ROOMS {
-            rooms.push((k as u32, Block::zeros(alloc)?))?;
+            rooms.push((k as u32, Block::zeros(budget)?)).unwrap();
         }
         Ok(PendingBlocks { rooms, count: 0 })
     }

@@ -2,6 +2,7 @@
 
 use crate::calls::answer_words;
 use ram_by_hand::{Controlled, Taken};
+use ram_bytes::Budget;
 use ram_cache::{Cached, PendingBlocks};
 use ram_drives_by_hand::Rig;
 use ram_medium::{Arm, FailEnd, Fate, Medium, MemMedium};
@@ -43,7 +44,7 @@ impl InMemory for Volume<MemMedium> {
         if medium.blocks() != geometry.total() {
             return Ok(None);
         }
-        let memory = Memory::new(alloc, geometry.layout())?;
+        let memory = Memory::new(&mut Budget::ample(alloc), geometry.layout())?;
         Ok(Some(Volume::new(medium, geometry, memory)))
     }
 
@@ -93,7 +94,7 @@ impl<D: InMemory> Rig for Drive<D> {
         let Some(disc) = D::over(alloc, medium, geometry)? else {
             return Ok(None);
         };
-        let pending = PendingBlocks::new(alloc)?;
+        let pending = PendingBlocks::new(&mut Budget::ample(alloc))?;
         Ok(Some(Drive {
             cached: Cached::new(disc, pending),
             geometry,

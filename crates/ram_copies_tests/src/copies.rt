@@ -1,7 +1,7 @@
 //! Mixtures of the four copies of a list, each call on them, and each stop of a use, beside the plain reference.
 
 use crate::copies_reference::{Area, Held, Laid, NEW, NEXT, OLD, Reference, Way};
-use ram_bytes::Block;
+use ram_bytes::{Block, Budget};
 use ram_lists_by_hand::{
     Answer, Bench, Call, DDS_BLOCKS, Fresh, Lists, Texts, blank, structure_text,
 };
@@ -166,7 +166,7 @@ fn held<M: Fresh>(
     block: u32,
     part: Part,
 ) -> Result<Held, AllocError> {
-    let mut into = Block::zeros(alloc)?;
+    let mut into = Block::zeros(&mut Budget::ample(alloc))?;
     if bench.look(block, &mut into) != ReadEnd::Done {
         return Ok(Held::Nothing);
     }
@@ -236,7 +236,7 @@ fn foreign(alloc: Global, texts: &Texts, block: u32, part: Part) -> Result<Block
     let [_, other_second, _, other_fourth] = texts.lists.second_blocks();
     let is_even = block == second || block == fourth;
     if is_even || Some(block) == other_second || Some(block) == other_fourth {
-        let mut text = Block::zeros(alloc)?;
+        let mut text = Block::zeros(&mut Budget::ample(alloc))?;
         text.fill(0xa5);
         return Ok(text);
     }

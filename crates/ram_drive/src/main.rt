@@ -3,10 +3,12 @@
 //! tell of the program. The exit status tells how the run ended.
 #![tactic(auto)]
 
+use ram_bytes::Budget;
 use ram_machine::status::Status;
 use ram_outside::{FileOpener, StdSink, StdSource};
-use ram_run::rooms::Rooms;
+use ram_run::rooms::{MOST_BYTES, Rooms};
 use ram_run::run::run;
+use std::alloc::AllocError;
 use std::fs::File;
 use std::os::unix::fs::FileExt;
 use std::process::ExitCode;
@@ -61,7 +63,8 @@ where
     for word in &words {
         texts.push(word.as_str())?;
     }
-    let rooms = Rooms::new(rt.alloc(), texts.as_slice())?;
+    let mut budget = Budget::new(rt.alloc(), MOST_BYTES);
+    let rooms = Rooms::new(&mut budget, texts.as_slice()).map_err(AllocError::from)?;
     let mut script = StdSource::new(rt);
     let mut report = StdSink::new(rt);
     let mut opener = FileOpener::new(rt);

@@ -3,7 +3,7 @@
 use crate::calls::{Call, Calls};
 use crate::sectors::add_sectors;
 use ram_by_hand::add_structure;
-use ram_bytes::Block;
+use ram_bytes::{Block, Budget};
 use ram_sectors::{DriveCounts, Kind, ReadOut};
 use std::alloc::{AllocError, Global};
 use std::fmt::Write;
@@ -109,7 +109,7 @@ fn add_in_use<D, C: Calls<D>>(
     drive: &D,
     answer: &mut String,
 ) -> Result<(), AllocError> {
-    let mut block = Block::zeros(alloc)?;
+    let mut block = Block::zeros(&mut Budget::ample(alloc))?;
     if C::dds_block(drive, &mut block) {
         add_structure(alloc, &block, answer)
     } else {

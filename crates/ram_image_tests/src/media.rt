@@ -1,7 +1,7 @@
 //! The media of a row, each taken through its steps.
 use crate::steps::{Step, straight};
 use crate::uses::{Answer, take};
-use ram_bytes::Block;
+use ram_bytes::{Block, Budget};
 use ram_image::header::image_len;
 use ram_image::{ImageMedium, MediumRooms, PressOut, Refused, open, press};
 use ram_medium::{MediumControl, MemMedium};
@@ -19,7 +19,7 @@ fn take_all<M: MediumControl>(
     steps: &[Step],
     is_straight: bool,
 ) -> Result<Vec<Answer>, AllocError> {
-    let mut block = Block::zeros(alloc)?;
+    let mut block = Block::zeros(&mut Budget::ample(alloc))?;
     let mut answers = Vec::new(alloc);
     for step in steps {
         let step = if is_straight { straight(*step) } else { *step };
@@ -75,7 +75,7 @@ pub fn over_image(
     is_straight: bool,
 ) -> Result<Vec<Answer>, AllocError> {
     let image = MemImage::new(pressed(alloc)?, failing);
-    match open(MediumRooms::new(alloc)?, image, LayoutKind::OneGroup) {
+    match open(MediumRooms::new(&mut Budget::ample(alloc))?, image, LayoutKind::OneGroup) {
         Ok((medium, _)) => take_image(alloc, medium, steps, is_straight),
         Err(
             Refused {

@@ -1,7 +1,7 @@
 //! A small disc in memory, with the memory that calls on its lists need.
 
 use ram_by_hand::Taken;
-use ram_bytes::Block;
+use ram_bytes::{Block, Budget};
 use ram_copies::{ListBlock, Scratch};
 use ram_dds::DdsPdl;
 use ram_lists::Lists;
@@ -45,13 +45,13 @@ pub trait Roomy: ListBlock {
 
 impl Roomy for DdsPdl {
     fn roomy(alloc: Global) -> Result<DdsPdl, AllocError> {
-        DdsPdl::new(alloc)
+        Ok(DdsPdl::new(&mut Budget::ample(alloc))?)
     }
 }
 
 impl Roomy for Sdl {
     fn roomy(alloc: Global) -> Result<Sdl, AllocError> {
-        Sdl::new(alloc)
+        Ok(Sdl::new(&mut Budget::ample(alloc))?)
     }
 }
 
@@ -75,9 +75,9 @@ pub fn blank<M: Fresh>(alloc: Global, failing: Vec<u64>) -> Result<Option<Bench<
     medium.power_on();
     Ok(Some(Bench {
         taken: Taken { medium, geometry },
-        lists: Lists::new(alloc)?,
-        other: Lists::new(alloc)?,
-        scratch: Scratch::new(alloc)?,
+        lists: Lists::new(&mut Budget::ample(alloc))?,
+        other: Lists::new(&mut Budget::ample(alloc))?,
+        scratch: Scratch::new(&mut Budget::ample(alloc))?,
     }))
 }
 
@@ -116,7 +116,7 @@ impl<M: MediumControl> Bench<M> {
 
     /// Whether the next use is stopped, which is one of no copy. The power is on afterwards.
     pub fn is_stopped_next(&mut self, alloc: Global) -> Result<bool, AllocError> {
-        let mut into = Block::zeros(alloc)?;
+        let mut into = Block::zeros(&mut Budget::ample(alloc))?;
         self.look(OTHER_BLOCK, &mut into);
         let medium = &mut self.taken.medium;
         let is_stopped = !medium.powered();

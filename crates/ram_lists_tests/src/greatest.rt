@@ -1,5 +1,6 @@
 //! The greatest secondary list, on the greatest disc.
 
+use ram_bytes::Budget;
 use ram_dds::{DdsPdl, DdsState};
 use ram_lists::is_valid_sdl;
 use ram_sdl::{SDL_LIMIT, Sdl, SdlEntry};
@@ -25,7 +26,7 @@ fn put_entry(sdl: &mut Sdl, entry: SdlEntry) {
 
 /// A list in which each primary spare replaces a logical block, the last one by the spare of this number.
 fn full_list(alloc: Global, geometry: &Geometry, last: u32) -> Result<Sdl, AllocError> {
-    let mut sdl = Sdl::new(alloc)?;
+    let mut sdl = Sdl::new(&mut Budget::ample(alloc))?;
     sdl.counter = 1;
     sdl.dds_counter = 2;
     for k in 0..SPARES {
@@ -59,7 +60,7 @@ pub fn answer_greatest(alloc: Global, answers: &mut String) -> Result<(), AllocE
     let Ok(geometry) = Geometry::new(35, 100, SPARES) else {
         return answers.push_str("no such disc\n");
     };
-    let mut dds = DdsPdl::new(alloc)?;
+    let mut dds = DdsPdl::new(&mut Budget::ample(alloc))?;
     for last in [4_085, 4_084, 0, 4_092] {
         let sdl = full_list(alloc, &geometry, last)?;
         let word = if is_valid(&geometry, &mut dds, &sdl) {

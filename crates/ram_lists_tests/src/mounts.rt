@@ -4,7 +4,7 @@ use crate::mounts_reference::{
     Copied, Copies, Form, Holds, Mount, Text, dds_kinds, expected, sdl_kinds,
 };
 use ram_by_hand::put;
-use ram_bytes::Block;
+use ram_bytes::{Block, Budget};
 use ram_lists_by_hand::{Bench, DDS_BLOCKS, Found, Fresh, SDL_BLOCKS, blank, text_of};
 use ram_medium::{Fate, ReadEnd};
 use ram_zones::ListKind;
@@ -48,7 +48,7 @@ fn bytes_of(alloc: Global, text: Text) -> Result<Block, AllocError> {
 
 /// Whole bytes that are no text.
 fn junk(alloc: Global) -> Result<Block, AllocError> {
-    let mut block = Block::zeros(alloc)?;
+    let mut block = Block::zeros(&mut Budget::ample(alloc))?;
     put(&mut block, 0, b"junk");
     Ok(block)
 }
@@ -98,7 +98,7 @@ fn shows<M: Fresh>(
     block: u32,
     copy: Copied,
 ) -> Result<bool, AllocError> {
-    let mut into = Block::zeros(alloc)?;
+    let mut into = Block::zeros(&mut Budget::ample(alloc))?;
     let end = bench.look(block, &mut into);
     match copy.used().holds {
         Holds::Torn | Holds::Dead => Ok(end == ReadEnd::Unreadable),

@@ -4,7 +4,7 @@ use crate::greatest::answer_greatest;
 use crate::mounts::{answer_dead, answer_mixtures};
 use crate::steps::{Step, step_of};
 use ram_by_hand::{Controlled, Rows, answer_event, answer_work};
-use ram_bytes::Block;
+use ram_bytes::{Block, Budget};
 use ram_dds::DdsPdl;
 use ram_lists_by_hand::{Answer, Bench, Call, Fresh, Lists, Text, Texts, blank};
 use ram_medium::MemMedium;
@@ -29,7 +29,7 @@ fn repair_as<M: Fresh>(
     list: ListKind,
     block: u32,
 ) -> Result<Answer, AllocError> {
-    let mut first = Block::zeros(alloc)?;
+    let mut first = Block::zeros(&mut Budget::ample(alloc))?;
     bench.look(block, &mut first);
     let text = Text {
         first,

@@ -15,5 +15,5 @@ mod volume;
 pub use drive::Drive;
 pub use inserted::{Inserted, begin};
 pub use reply::Reply;
-pub use rooms::{DriveRooms, TargetRooms};
+pub use rooms::{DRIVE_MEMORY, DriveRooms, TARGET_MEMORY, TargetRooms};
 pub use stopped::Stopped;

@@ -1,15 +1,21 @@
 //! The memory of a drive. It is taken once, goes by the limits of a disc, and is handed on from one disc to the next.
-ghost use Rattle.std.specs.Prelude.{◌≡◌, IfOk};
+ghost use Rattle.std.specs.Prelude.{◌≡◌, ◌+◌, ◌≤◌, IfOk};
 ghost use Rattle.ram_groups.specs.Layouts.{IsOfKind};
 ghost use Rattle.ram_states.specs.OneProof.{kind-prop};
+ghost use Rattle.ram_machine.specs.declared.rooms.TheConstants.{DRIVE_MEMORY, TARGET_MEMORY};
 
-use ram_bytes::Block;
-use ram_cache::PendingBlocks;
-use ram_image::MediumRooms;
-use ram_scrub::Scrub;
-use ram_transfer::Memory;
+use ram_bytes::{BLOCK_BYTES, Block, Budget, MemoryRefused};
+use ram_cache::{PENDING_MEMORY, PendingBlocks};
+use ram_image::{MEDIUM_MEMORY, MediumRooms};
+use ram_scrub::{SCRUB_MEMORY, Scrub};
+use ram_transfer::{Memory, VOLUME_MEMORY};
 use ram_zones::LayoutKind;
-use std::alloc::{AllocError, Global};
+
+/// How many bytes a drive asks for: those of its volume, of the pending blocks of its cache, and of its medium.
+pub const DRIVE_MEMORY: usize = VOLUME_MEMORY + PENDING_MEMORY + MEDIUM_MEMORY;
+
+/// How many bytes a target asks for: those of its drive, the text of a disc's structure, and the blocks that a scrub found.
+pub const TARGET_MEMORY: usize = DRIVE_MEMORY + BLOCK_BYTES + SCRUB_MEMORY;
 
 /// All the memory that a drive takes for discs with a layout of this kind: that of its volume, room for its pending blocks, and
 /// that of its medium. What it held before does not matter.
@@ -28,14 +34,16 @@ pub struct DriveRooms {
 
 impl DriveRooms {
     /// The memory of a drive whose discs have a layout of this kind.
-    pub fn new(alloc: Global, kind: LayoutKind) -> Result<DriveRooms, AllocError>
-        ensures { IfOk result (λ rooms. rooms.kind ≡ kind) }
+    pub fn new(budget: &mut Budget, kind: LayoutKind) -> Result<DriveRooms, MemoryRefused>
+        requires free { DRIVE_MEMORY ≤ budget.old }
+        ensures left { budget.old ≤ budget.new + DRIVE_MEMORY }
+        ensures kind { IfOk result (λ rooms. rooms.kind ≡ kind) }
     {
         Ok(DriveRooms {
             kind,
-            memory: Memory::new(alloc, kind)?,
-            pending: PendingBlocks::new(alloc)?,
-            medium: MediumRooms::new(alloc)?,
+            memory: Memory::new(budget, kind)?,
+            pending: PendingBlocks::new(budget)?,
+            medium: MediumRooms::new(budget)?,
         })
     }
 }
@@ -54,13 +62,15 @@ pub struct TargetRooms {
 
 impl TargetRooms {
     /// The memory of a target whose discs have a layout of this kind.
-    pub fn new(alloc: Global, kind: LayoutKind) -> Result<TargetRooms, AllocError>
-        ensures { IfOk result (λ rooms. rooms.drive.kind ≡ kind) }
+    pub fn new(budget: &mut Budget, kind: LayoutKind) -> Result<TargetRooms, MemoryRefused>
+        requires free { TARGET_MEMORY ≤ budget.old }
+        ensures left { budget.old ≤ budget.new + TARGET_MEMORY }
+        ensures kind { IfOk result (λ rooms. rooms.drive.kind ≡ kind) }
     {
         Ok(TargetRooms {
-            drive: DriveRooms::new(alloc, kind)?,
-            block: Block::zeros(alloc)?,
-            scrub: Scrub::new(alloc)?,
+            drive: DriveRooms::new(budget, kind)?,
+            block: Block::zeros(budget)?,
+            scrub: Scrub::new(budget)?,
         })
     }
 }

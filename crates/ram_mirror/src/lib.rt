@@ -11,5 +11,5 @@ mod resync;
 mod table;
 mod writing;
 
-pub use mirror::{Mirror, MirrorRooms};
+pub use mirror::{MIRROR_MEMORY, Mirror, MirrorRooms};
 pub use model_mirror::Resync;

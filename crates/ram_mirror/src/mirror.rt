@@ -1,6 +1,6 @@
 //! A mirror of two discs, and its calls.
 
-ghost use Rattle.std.specs.Prelude.{◌≡◌, ◌≤◌, ◌*◌, true, length};
+ghost use Rattle.std.specs.Prelude.{◌≡◌, ◌≤◌, ◌+◌, ◌*◌, true, length};
 ghost use Rattle.model_commands.specs.declared.TheConstants.{TRANSFER_LIMIT};
 ghost use Rattle.model_sectors.specs.Discs.{Standing};
 ghost use Rattle.model_drive.specs.declared.Kind.TheVariants as kinds;
@@ -13,18 +13,21 @@ ghost use Rattle.model_mirror.specs.Steps.{ResyncStep};
 ghost use Rattle.model_mirror.specs.Reads.{MirrorReadCause};
 ghost use Rattle.model_mirror.specs.Whole.{MirrorPowerCause, MirrorFormatCause, ResyncCause};
 ghost use Rattle.model_mirror.specs.Writes.{MirrorWriteCause};
+ghost use Rattle.ram_mirror.specs.declared.mirror.TheConstants.{MIRROR_MEMORY};
 
 use crate::following::{Following, Led};
 use crate::formatting::format_on;
 use crate::power::power_both;
 use crate::reading::read_on;
 use crate::resync::resync_on;
-use crate::table::ApartTable;
+use crate::table::{ApartTable, TABLE_MEMORY};
 use crate::writing::write_on;
 use model_mirror::Resync;
-use ram_bytes::Block;
+use ram_bytes::{BLOCK_BYTES, Block, Budget, MemoryRefused};
 use ram_sectors::{Disc, FormatOut, PowerOut, ReadOut, Sectors, WriteOut};
-use std::alloc::{AllocError, Global};
+
+/// How many bytes a mirror asks for beside its sides: its table, and a block.
+pub const MIRROR_MEMORY: usize = TABLE_MEMORY + BLOCK_BYTES;
 
 /// The memory that a mirror works in: a table for any disc, and room for a block that is copied. All of it is taken here.
 #[derive(Drop)]
@@ -35,10 +38,13 @@ pub struct MirrorRooms {
 
 impl MirrorRooms {
     /// Takes the memory.
-    pub fn new(alloc: Global) -> Result<MirrorRooms, AllocError> {
+    pub fn new(budget: &mut Budget) -> Result<MirrorRooms, MemoryRefused>
+        requires free { MIRROR_MEMORY ≤ budget.old }
+        ensures left { budget.old ≤ budget.new + MIRROR_MEMORY }
+    {
         Ok(MirrorRooms {
-            table: ApartTable::new(alloc)?,
-            block: Block::zeros(alloc)?,
+            table: ApartTable::new(budget)?,
+            block: Block::zeros(budget)?,
         })
     }
 }

@@ -5,8 +5,11 @@ ghost use Rattle.ram_sectors.specs.declared.TheConstants.{MOST_BLOCKS};
 ghost use Rattle.model_mirror.specs.Table.{is_apart, some_apart, one_if, count_apart, AreMarked};
 ghost use Rattle.model_cache.specs.Values.{is_among};
 
+use ram_bytes::{Budget, MemoryRefused};
 use ram_sectors::MOST_BLOCKS;
-use std::alloc::{AllocError, Global};
+
+/// How many bytes a table asks for: an entry for each block of any disc.
+pub const TABLE_MEMORY: usize = MOST_BLOCKS as usize;
 
 /// Which logical blocks are apart, by their numbers. There is room for as many as any disc has.
 #[derive(Drop)]
@@ -18,13 +21,16 @@ pub struct ApartTable {
 
 impl ApartTable {
     ghost use Rattle.ram_mirror.specs.Tables.{entries_of};
+    ghost use Rattle.ram_mirror.specs.declared.table.TheConstants.{TABLE_MEMORY};
 
     /// A table without entries, with room for those of any disc.
-    pub fn new(alloc: Global) -> Result<ApartTable, AllocError>
-        ensures { IfOk result (λ table. entries_of table ≡ []) }
+    pub fn new(budget: &mut Budget) -> Result<ApartTable, MemoryRefused>
+        requires free { TABLE_MEMORY ≤ budget.old }
+        ensures left { budget.old ≤ budget.new + TABLE_MEMORY }
+        ensures empty { IfOk result (λ table. entries_of table ≡ []) }
     {
         Ok(ApartTable {
-            entries: Vec::with_capacity(alloc, MOST_BLOCKS as usize)?,
+            entries: budget.room(MOST_BLOCKS as usize)?,
         })
     }
 

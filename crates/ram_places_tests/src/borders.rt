@@ -2,6 +2,7 @@
 
 use crate::filter::agrees;
 use crate::places::{Places, found_at, layout_of, rebuilt, take_slipped};
+use ram_bytes::Budget;
 use ram_dds::DdsPdl;
 use ram_groups::AnyLayout;
 use ram_layout::Layout;
@@ -101,7 +102,7 @@ impl Pairs {
 impl Places {
     /// Adds for how many lists of one or two blocks at borders the table says what a look at all blocks says.
     pub fn add_borders(&self, alloc: Global, answer: &mut String) -> Result<(), AllocError> {
-        let mut dds = DdsPdl::new(alloc)?;
+        let mut dds = DdsPdl::new(&mut Budget::ample(alloc))?;
         dds.layout = self.geometry.layout();
         dds.psa = self.geometry.psa();
         let borders = borders_in(alloc, &self.geometry)?;

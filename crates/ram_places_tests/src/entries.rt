@@ -1,5 +1,6 @@
 //! The entries of both lists in their room, and an entry that is put, changed and found.
 
+use ram_bytes::Budget;
 use ram_dds::{PdlEntries, PdlEntry, PdlKind};
 use ram_sdl::{SDL_LIMIT, Sdl, SdlEntry};
 use std::alloc::{AllocError, Global};
@@ -22,7 +23,7 @@ const LOWER: SdlEntry = SdlEntry {
 
 /// A list with an entry that was changed, and one that was put before it. Adds what is found in between.
 fn changed(alloc: Global, answers: &mut String) -> Result<Sdl, AllocError> {
-    let mut sdl = Sdl::new(alloc)?;
+    let mut sdl = Sdl::new(&mut Budget::ample(alloc))?;
     sdl.counter = 1;
     sdl.dds_counter = 2;
     sdl.set(FIRST);
@@ -35,7 +36,7 @@ fn changed(alloc: Global, answers: &mut String) -> Result<Sdl, AllocError> {
 
 /// Another list, with one entry.
 fn other_list(alloc: Global) -> Result<Sdl, AllocError> {
-    let mut sdl = Sdl::new(alloc)?;
+    let mut sdl = Sdl::new(&mut Budget::ample(alloc))?;
     sdl.counter = 7;
     sdl.dds_counter = 8;
     sdl.ssa = 9;
@@ -69,11 +70,11 @@ fn answer_pdl(alloc: Global, answers: &mut String) -> Result<(), AllocError> {
         kind: PdlKind::P,
         block: 9,
     };
-    let none = PdlEntries::new(alloc)?;
-    let mut one = PdlEntries::new(alloc)?;
+    let none = PdlEntries::new(&mut Budget::ample(alloc))?;
+    let mut one = PdlEntries::new(&mut Budget::ample(alloc))?;
     one.push(entry);
     let (empty, len) = (none.is_empty(), one.len());
-    let mut other = PdlEntries::new(alloc)?;
+    let mut other = PdlEntries::new(&mut Budget::ample(alloc))?;
     other.copy_from(one.as_slice());
     let items = other.as_slice();
     writeln!(answers, "empty {empty}, {len} entries: {items:?}")

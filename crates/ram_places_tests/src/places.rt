@@ -1,6 +1,7 @@
 //! A disc of a geometry with its lists: which block a logical block is, and what a block is.
 
 use ram_by_hand::{Entry, number_of};
+use ram_bytes::Budget;
 use ram_dds::{DdsPdl, DdsState, PdlEntry, PdlKind};
 use ram_groups::AnyLayout;
 use ram_layout::Layout;
@@ -64,7 +65,7 @@ pub fn take_slipped(dds: &mut DdsPdl, first: u32, second: u32) {
 
 /// The structure of a formatted disc with these slipped blocks.
 pub fn slipping(alloc: Global, psa: u32, blocks: &[&str]) -> Result<DdsPdl, AllocError> {
-    let mut dds = DdsPdl::new(alloc)?;
+    let mut dds = DdsPdl::new(&mut Budget::ample(alloc))?;
     dds.counter = 2;
     dds.state = DdsState::Formatted;
     dds.psa = psa;
@@ -83,7 +84,7 @@ fn put_entry(sdl: &mut Sdl, entry: SdlEntry) {
 
 /// The secondary list with so many supplementary spares and these entries.
 pub fn replacing(alloc: Global, ssa: u32, entries: &[Entry]) -> Result<Sdl, AllocError> {
-    let mut sdl = Sdl::new(alloc)?;
+    let mut sdl = Sdl::new(&mut Budget::ample(alloc))?;
     sdl.counter = 1;
     sdl.dds_counter = 2;
     sdl.ssa = ssa;
@@ -107,7 +108,7 @@ pub fn layout_of(
     ssa: u32,
 ) -> Result<Option<AnyLayout>, AllocError> {
     if is_valid_pdl(geometry, dds) && is_valid_ssa(geometry, dds.version, ssa) {
-        return Ok(Some(AnyLayout::new(alloc, geometry, dds, ssa)?));
+        return Ok(Some(AnyLayout::new(&mut Budget::ample(alloc), geometry, dds, ssa)?));
     }
     Ok(None)
 }
@@ -118,7 +119,7 @@ pub fn rebuilt(
     geometry: &Geometry,
     dds: &DdsPdl,
 ) -> Result<Option<AnyLayout>, AllocError> {
-    let mut empty = DdsPdl::new(alloc)?;
+    let mut empty = DdsPdl::new(&mut Budget::ample(alloc))?;
     empty.layout = geometry.layout();
     empty.psa = geometry.psa();
     if !is_valid_pdl(geometry, &empty) {
@@ -130,7 +131,7 @@ pub fn rebuilt(
     if !is_valid_ssa(geometry, dds.version, 0) {
         return Ok(None);
     }
-    let mut layout = AnyLayout::new(alloc, geometry, &empty, 0)?;
+    let mut layout = AnyLayout::new(&mut Budget::ample(alloc), geometry, &empty, 0)?;
     layout.rebuild(geometry, dds, 0);
     Ok(Some(layout))
 }

@@ -7,7 +7,7 @@ use crate::places::{Places, replacing, slipping};
 use crate::states::answer_states;
 use crate::texts::{add_both, add_dds, add_more, add_sdl};
 use ram_by_hand::{List, Rows, Version, byte_of, entries_of, number_of, put};
-use ram_bytes::Block;
+use ram_bytes::{Block, Budget};
 use ram_sdl::Version as SdlVersion;
 use ram_slip::{is_valid_pdl, is_valid_ssa};
 use ram_zones::Geometry;
@@ -48,8 +48,8 @@ fn small(alloc: Global) -> Result<Option<Table>, AllocError> {
     };
     Ok(Some(Table {
         places,
-        text: Block::zeros(alloc)?,
-        second: Block::zeros(alloc)?,
+        text: Block::zeros(&mut Budget::ample(alloc))?,
+        second: Block::zeros(&mut Budget::ample(alloc))?,
     }))
 }
 
@@ -187,7 +187,7 @@ fn add_put(
 
 /// A block like this one, but for one byte where words name one.
 fn changed(alloc: Global, block: &Block, words: &[&str]) -> Result<Block, AllocError> {
-    let mut text = Block::zeros(alloc)?;
+    let mut text = Block::zeros(&mut Budget::ample(alloc))?;
     text.copy_from(block);
     if let [at, byte] = words {
         put_words(alloc, &mut text, number_of(at).unwrap_or(0), &[*byte])?;

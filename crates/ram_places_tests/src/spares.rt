@@ -10,6 +10,7 @@ ghost use Rattle.ram_layout.specs.Slipping.{slip_pools};
 ghost use Rattle.ram_spare.specs.Spares.{both_lists};
 
 use crate::places::{Places, layout_of};
+use ram_bytes::Budget;
 use ram_dds::{DdsPdl, DdsState};
 use ram_groups::AnyLayout;
 use ram_layout::{Layout, SlipLayout};
@@ -75,7 +76,7 @@ pub fn next(
     sdl: &Sdl,
     after: Option<u32>,
 ) -> Result<Option<u32>, AllocError> {
-    let mut cursors = Cursors::new(alloc)?;
+    let mut cursors = Cursors::new(&mut Budget::ample(alloc))?;
     cursors.reset(1);
     let Some(AnyLayout::Slip(layout)) = layout_of(alloc, geometry, dds, sdl.ssa)? else {
         return Ok(Some(0));
@@ -188,7 +189,7 @@ impl Places {
         pools: u32,
         answer: &mut String,
     ) -> Result<(), AllocError> {
-        let mut cursors = Cursors::new(alloc)?;
+        let mut cursors = Cursors::new(&mut Budget::ample(alloc))?;
         cursors.reset(pools.min(MOST_ZONES));
         for pool in 0..cursors.pools() {
             write!(answer, "{} ", cursors.at(pool))?;

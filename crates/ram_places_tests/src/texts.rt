@@ -1,6 +1,6 @@
 //! The texts of both lists: what a block says, and what is written of that again.
 
-use ram_bytes::Block;
+use ram_bytes::{Block, Budget};
 use ram_dds::DdsPdl;
 use ram_sdl::Sdl;
 use ram_zones::LayoutKind;
@@ -9,7 +9,7 @@ use std::fmt::Write;
 
 /// A block with other bytes than those of any text.
 fn spoiled(alloc: Global) -> Result<Block, AllocError> {
-    let mut block = Block::zeros(alloc)?;
+    let mut block = Block::zeros(&mut Budget::ample(alloc))?;
     block.fill(0xff);
     Ok(block)
 }
@@ -25,7 +25,7 @@ fn add_again(same: bool, answer: &mut String) -> Result<(), AllocError> {
 
 /// Adds the structure whose text a block is, and whether it is written again so.
 pub fn add_dds(alloc: Global, text: &Block, answer: &mut String) -> Result<(), AllocError> {
-    let mut value = DdsPdl::new(alloc)?;
+    let mut value = DdsPdl::new(&mut Budget::ample(alloc))?;
     if !value.decode(text) {
         return answer.push_str("no text");
     }
@@ -57,7 +57,7 @@ fn add_list(value: &Sdl, answer: &mut String) -> Result<(), AllocError> {
 
 /// Adds the secondary list whose text a block is, and whether it is written again so.
 pub fn add_sdl(alloc: Global, text: &Block, answer: &mut String) -> Result<(), AllocError> {
-    let mut value = Sdl::new(alloc)?;
+    let mut value = Sdl::new(&mut Budget::ample(alloc))?;
     if !value.decode(text, None) {
         return answer.push_str("no text");
     }
@@ -74,7 +74,7 @@ pub fn add_both(
     second: &Block,
     answer: &mut String,
 ) -> Result<(), AllocError> {
-    let mut value = Sdl::new(alloc)?;
+    let mut value = Sdl::new(&mut Budget::ample(alloc))?;
     if !value.decode(first, Some(second)) {
         return answer.push_str("no text");
     }

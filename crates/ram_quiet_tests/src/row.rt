@@ -3,7 +3,7 @@
 ghost use Rattle.std.specs.Prelude.{◌≡◌};
 ghost use Rattle.model_geometry.specs.Geometry.{total};
 
-use ram_bytes::Block;
+use ram_bytes::{Block, Budget};
 use ram_certify::zero_block;
 use ram_copies::Scratch;
 use ram_format::{FormatRoom, FullEnd, full_format};
@@ -54,13 +54,13 @@ fn format_and_step<M: MediumControl>(
 ) -> Result<Answer, AllocError>
     requires size { M.block_count medium.old ≡ total geometry.now }
 {
-    let mut lists = Lists::new(alloc)?;
-    let mut others = Lists::new(alloc)?;
-    let mut draft = Lists::new(alloc)?;
-    let mut format = FormatRoom::new(alloc)?;
-    let mut scratch = Scratch::new(alloc)?;
-    let zero = zero_block(alloc)?;
-    let mut room = Block::zeros(alloc)?;
+    let mut lists = Lists::new(&mut Budget::ample(alloc))?;
+    let mut others = Lists::new(&mut Budget::ample(alloc))?;
+    let mut draft = Lists::new(&mut Budget::ample(alloc))?;
+    let mut format = FormatRoom::new(&mut Budget::ample(alloc))?;
+    let mut scratch = Scratch::new(&mut Budget::ample(alloc))?;
+    let zero = zero_block(&mut Budget::ample(alloc))?;
+    let mut room = Block::zeros(&mut Budget::ample(alloc))?;
     if medium.blocks() < 14 {
         return Ok(Answer::NotFormatted);
     }

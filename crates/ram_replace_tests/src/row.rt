@@ -11,7 +11,7 @@ ghost use Rattle.ram_groups.specs.Layouts.{layout_pools};
 ghost use Rattle.ram_lists.specs.Fit.{IsFit};
 ghost use Rattle.ram_lists.specs.Lists.{lists_of};
 
-use ram_bytes::BLOCK_BYTES;
+use ram_bytes::{BLOCK_BYTES, Budget};
 use ram_certify::zero_block;
 use ram_format::{FullEnd, full_format};
 use ram_lists::{Lists, Mounted, mount};
@@ -110,8 +110,8 @@ fn format_and_write<M: MediumControl>(
     let Memory {
         mut lists,
         mut workspace,
-    } = Memory::new(alloc, geometry.layout())?;
-    let zero = zero_block(alloc)?;
+    } = Memory::new(&mut Budget::ample(alloc), geometry.layout())?;
+    let zero = zero_block(&mut Budget::ample(alloc))?;
     medium.power_on();
     let work = &mut workspace;
     let Mounted::Bare { mark } = mount(

@@ -35,6 +35,11 @@ abbrev pub AreOfNumber : Rooms → Type 0
 AreOfNumber (taken.Generate rooms) = AreReadyFor rooms
 AreOfNumber _ = ⊥
 
+-- The words need no rooms: they neither run the lines of a script nor one that is drawn from a number.
+pub record NeedNoRooms (words : List (List ℕ)) : Type 0 where
+  pub served : (kind : LayoutKind) → ¬ IsServedImage kind words
+  pub generate : ¬ IsGenerate words
+
 -- They are those that the words ask for.
 pub record AreRoomsFor (words : List (List ℕ)) (rooms : Rooms) : Type 0 where
   pub served : (kind : LayoutKind) → IsServedImage kind words → AreOfScript kind rooms

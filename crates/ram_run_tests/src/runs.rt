@@ -1,4 +1,5 @@
 //! One run over objects in memory, and what it leaves.
+use ram_bytes::Budget;
 use ram_machine::status::Status;
 use ram_outside::{MemImage, MemOpener, MemSink, MemSource, Opener, Sink, Source};
 use ram_run::rooms::Rooms;
@@ -89,7 +90,7 @@ fn run_program<S: Source, K: Sink, O: Opener>(
     report: &mut K,
     opener: &mut O,
 ) -> Result<Status, AllocError> {
-    let rooms = Rooms::new(alloc, words)?;
+    let rooms = Rooms::new(&mut Budget::ample(alloc), words)?;
     Ok(run(rooms, words, script, report, opener))
 }
 

@@ -10,4 +10,4 @@ mod state;
 
 pub use counts::{AnswerCounts, SenseCount};
 pub use ending::status_of;
-pub use state::{RunState, Tally};
+pub use state::{RunState, STATE_MEMORY, Tally};

@@ -19,7 +19,7 @@ pub fn print_reply<S: Source, K: Sink>(
     found: &[u32],
 ) -> Print
     requires { CanPrint reply.now }
-    ensures { Tells S.Source K.Sink dialogue.old dialogue.new 
+    ensures { Tells S.Source K.Sink dialogue.old dialogue.new
         (line_text number reply.now (data_told (Ok reply.now) data_in.now found.now)) result }
 {
     match reply {

@@ -1,6 +1,7 @@
 //! The state of a run beside what lies in the drive and what goes between script and report: room for the data of a
 //! command both ways, and how many lines came.
-ghost use Rattle.std.specs.Prelude.{◌≡◌, ◌^◌, ◌<◌, ◌+◌, ℕ, IfOk, is_some};
+ghost use Rattle.std.specs.Prelude.{◌≡◌, ◌^◌, ◌<◌, ◌≤◌, ◌+◌, ℕ, IfOk, is_some};
+ghost use Rattle.ram_script.specs.declared.state.TheConstants.{STATE_MEMORY};
 ghost use Rattle.ram_text.specs.Dialogue.{HasSameEnds, AsksNothing, due_in, reader_of, sink_of};
 ghost use Rattle.ram_script.specs.Counting.{AreAtMost};
 ghost use Rattle.ram_machine.specs.Replies.{PrintsWhere, data_told};
@@ -10,11 +11,14 @@ ghost use Rattle.ram_script.specs.Progress.{Beginning, SoFar, IsAt, NextRule, Fo
 
 use crate::counts::AnswerCounts;
 use crate::printing::{print_reply, printed};
+use ram_bytes::{Budget, MemoryRefused};
 use ram_machine::{Reply, Stopped};
 use ram_outside::{Sink, Source};
 use ram_report::SinkFailed;
 use ram_text::{Dialogue, Line, NextLine, PAYLOAD_ROOM, parse_line};
-use std::alloc::{AllocError, Global};
+
+/// How many bytes a [`RunState`] asks for: the data of a command, both ways.
+pub const STATE_MEMORY: usize = 2 * PAYLOAD_ROOM;
 
 /// How many lines came so far.
 #[derive(Clone, Copy, Debug, PartialEq, Eq)]
@@ -40,13 +44,15 @@ pub struct RunState {
 
 impl RunState {
     /// The state in which no line came yet. All its room is taken here.
-    pub fn new(alloc: Global) -> Result<RunState, AllocError>
+    pub fn new(budget: &mut Budget) -> Result<RunState, MemoryRefused>
+        requires free { STATE_MEMORY ≤ budget.old }
+        ensures left { budget.old ≤ budget.new + STATE_MEMORY }
         ensures fresh { IfOk result (λ state. IsFresh state) }
         ensures room { IfOk result (λ state. HasRoom state) }
     {
         Ok(RunState {
-            payload: Vec::with_capacity(alloc, PAYLOAD_ROOM)?,
-            data_in: Vec::with_capacity(alloc, PAYLOAD_ROOM)?,
+            payload: budget.room(PAYLOAD_ROOM)?,
+            data_in: budget.room(PAYLOAD_ROOM)?,
             tally: Tally {
                 lines: 0,
                 answered: 0,
@@ -123,7 +129,7 @@ pub fn tell<S: Source, K: Sink>(
     ensures ends { HasSameEnds dialogue.old dialogue.new }
     ensures nothing { AsksNothing dialogue.old dialogue.new }
     ensures tells { TellRule (run_view S.Source K.Sink dialogue.old state.old.tally)
-        (run_view S.Source K.Sink dialogue.new state.new.tally) 
+        (run_view S.Source K.Sink dialogue.new state.new.tally)
         (data_told outcome state.old.data_in.items found.now) outcome result }
     ensures known { is_some (due_in S.Source K.Sink dialogue.new) ≡ is_some (due_in S.Source K.Sink dialogue.old) }
     ensures count { TellCount (K.faults (sink_of dialogue.old)) (K.faults (sink_of dialogue.new)) outcome result }

@@ -1,14 +1,19 @@
 //! The blocks that were found unreadable, in their order. No call but `new` takes memory.
 
-ghost use Rattle.std.specs.Prelude.{◌≡◌, ◌<◌, ◌≤◌, MatchResult, vec_capacity};
+ghost use Rattle.std.specs.Prelude.{◌≡◌, ◌+◌, ◌<◌, ◌≤◌, MatchResult, vec_capacity};
 ghost use Rattle.std.specs.List.{All};
 ghost use Rattle.std.specs.List.Sorted.{IsStrictlyIncreasing};
 ghost use Rattle.std.proofs.Props.{props};
 ghost use Rattle.ram_sectors.specs.declared.TheConstants.{MOST_BLOCKS};
 ghost use Rattle.ram_scrub.specs.Places.{IsPlaceAt, IsGapAt};
+ghost use Rattle.ram_scrub.specs.declared.found.TheConstants.{SCRUB_MEMORY};
 
+use ram_bytes::{Budget, MemoryRefused};
 use ram_sectors::MOST_BLOCKS;
-use std::alloc::{AllocError, Global};
+use std::mem::size_of;
+
+/// How many bytes a scrubber asks for: room for all blocks that it may find on any disc.
+pub const SCRUB_MEMORY: usize = MOST_BLOCKS as usize * size_of::<u32>();
 
 /// Logical blocks, each once and rising, all of them blocks that a disc may have. There is room for as many as there are of
 /// these, so one more always finds a place.
@@ -35,11 +40,13 @@ impl FoundBlocks {
     ghost use Rattle.ram_scrub.specs.Found.{blocks_of};
 
     /// No blocks, and room for all that may be found.
-    pub fn new(alloc: Global) -> Result<FoundBlocks, AllocError>
-        ensures { IfOk result (λ found. blocks_of found ≡ []) }
+    pub fn new(budget: &mut Budget) -> Result<FoundBlocks, MemoryRefused>
+        requires free { SCRUB_MEMORY ≤ budget.old }
+        ensures left { budget.old ≤ budget.new + SCRUB_MEMORY }
+        ensures empty { IfOk result (λ found. blocks_of found ≡ []) }
     {
         Ok(FoundBlocks {
-            numbers: Vec::with_capacity(alloc, MOST_BLOCKS as usize)?,
+            numbers: budget.room(MOST_BLOCKS as usize)?,
         })
     }
 

@@ -5,8 +5,8 @@ ghost use Rattle.ram_scrub.specs.Calls.{EndsWithout, PassEndsWithout};
 
 use crate::found::FoundBlocks;
 use model_scrub::{PassEnd, StepEnd};
+use ram_bytes::{Budget, MemoryRefused};
 use ram_sectors::{Caching, ReadOut};
-use std::alloc::{AllocError, Global};
 
 /// Verifies the logical blocks of a drive in turn, one in each step, and remembers those that could not be read. It takes its
 /// memory when it is made.
@@ -41,20 +41,23 @@ fn pass_without<D: Caching>(disc: &D) -> PassEnd
 }
 
 impl Scrub {
-    ghost use Rattle.std.specs.Prelude.{◌≡◌, IfOk, OnOk};
+    ghost use Rattle.std.specs.Prelude.{◌≡◌, ◌+◌, ◌≤◌, IfOk, OnOk};
     ghost use Rattle.model_cache.specs.Values.{Contents};
     ghost use Rattle.model_scrub.specs.Scrubs.{fresh, begun_on};
     ghost use Rattle.model_scrub.specs.Asks.{StepRule, StepContents, AsksOn, PassRule, PassContents};
     ghost use Rattle.ram_scrub.specs.Scrub.{scrubber_of};
+    ghost use Rattle.ram_scrub.specs.declared.found.TheConstants.{SCRUB_MEMORY};
     ghost use Rattle.ram_scrub.specs.Calls.{IsReady, LeavesRead, IsAtBlock, GoesOn, EndsAt, PassedContents};
 
     /// A scrubber that has found nothing, and begins at block 0. It takes the room for all blocks that it may find on any disc.
-    pub fn new(alloc: Global) -> Result<Scrub, AllocError>
-        ensures { IfOk result (λ scrub. scrubber_of scrub ≡ fresh) }
+    pub fn new(budget: &mut Budget) -> Result<Scrub, MemoryRefused>
+        requires free { SCRUB_MEMORY ≤ budget.old }
+        ensures left { budget.old ≤ budget.new + SCRUB_MEMORY }
+        ensures fresh { IfOk result (λ scrub. scrubber_of scrub ≡ fresh) }
     {
         Ok(Scrub {
             next: 0,
-            found: FoundBlocks::new(alloc)?,
+            found: FoundBlocks::new(budget)?,
         })
     }
 

@@ -4,6 +4,7 @@ ghost use Rattle.ram_report.specs.Reports.{gathered_in};
 
 use crate::escapes::{add_bytes, bytes_of};
 use crate::made::Made;
+use ram_bytes::Budget;
 use ram_outside::{MemSource, Source};
 use ram_report::ReportWriter;
 use ram_text::{LineReader, NextLine};
@@ -32,8 +33,8 @@ fn add_lines<S: Source>(
     source: &mut S,
     answer: &mut String,
 ) -> Result<(), AllocError> {
-    let report = ReportWriter::new(alloc)?;
-    let mut reader = LineReader::new(alloc)?;
+    let report = ReportWriter::new(&mut Budget::ample(alloc))?;
+    let mut reader = LineReader::new(&mut Budget::ample(alloc))?;
     for _ in 0..100u32 {
         match reader.next_line(source, &report) {
             NextLine::Line => {
@@ -62,8 +63,8 @@ fn add_first<S: Source>(
     source: &mut S,
     answer: &mut String,
 ) -> Result<(), AllocError> {
-    let report = ReportWriter::new(alloc)?;
-    let mut reader = LineReader::new(alloc)?;
+    let report = ReportWriter::new(&mut Budget::ample(alloc))?;
+    let mut reader = LineReader::new(&mut Budget::ample(alloc))?;
     let first = reader.next_line(source, &report);
     write!(answer, "{first:?}, {} bytes", reader.line().len())
 }
@@ -85,8 +86,8 @@ fn add_count<S: Source>(
     source: &mut S,
     answer: &mut String,
 ) -> Result<(), AllocError> {
-    let report = ReportWriter::new(alloc)?;
-    let mut reader = LineReader::new(alloc)?;
+    let report = ReportWriter::new(&mut Budget::ample(alloc))?;
+    let mut reader = LineReader::new(&mut Budget::ample(alloc))?;
     for count in 0..2_000u32 {
         let last = reader.next_line(source, &report);
         if last != NextLine::Line {
@@ -126,8 +127,8 @@ pub fn answer_steps(alloc: Global, words: &str, answer: &mut String) -> Result<(
     let (piece, text) = words.split_once(' ').unwrap_or((words, ""));
     let bytes = bytes_of(alloc, text)?;
     let mut source = source_of(alloc, bytes, number_of(piece), 0)?;
-    let report = ReportWriter::new(alloc)?;
-    let mut reader = LineReader::new(alloc)?;
+    let report = ReportWriter::new(&mut Budget::ample(alloc))?;
+    let mut reader = LineReader::new(&mut Budget::ample(alloc))?;
     for _ in 0..100u32 {
         let goes_on = add_step(&mut reader, &mut source, &report, answer)?;
         write!(answer, " {}", source.calls())?;

@@ -4,7 +4,7 @@ ghost use Rattle.ram_report.specs.ReportLines.{IsPrinted};
 
 use crate::data::data_of;
 use crate::lines::number_of;
-use ram_bytes::Cdb;
+use ram_bytes::{Budget, Cdb};
 use ram_outside::{MemSink, Sink};
 use ram_report::{
     Event, LastLine, Print, ReportWriter, print_answer, print_event, print_last, print_line,
@@ -231,7 +231,7 @@ fn print_row<K: Sink>(
 
 /// Adds what a sink has after this was printed and handed over, without its last line feed.
 pub fn answer_print(alloc: Global, words: &str, answer: &mut String) -> Result<(), AllocError> {
-    let mut writer = ReportWriter::new(alloc)?;
+    let mut writer = ReportWriter::new(&mut Budget::ample(alloc))?;
     let mut sink = MemSink::new(alloc, TEXT_BYTES, Vec::new(alloc));
     let printed = print_row(alloc, &mut writer, &mut sink, words)?;
     let flushed = writer.flush(&mut sink);

@@ -1,6 +1,7 @@
 //! The drive of a row, over a disc in memory.
 
 use ram_by_hand::{Controlled, Taken};
+use ram_bytes::Budget;
 use ram_drives_by_hand::{OfDisc, Rig, answer_call, call_of};
 use ram_medium::{Arm, FailEnd, Fate, Medium, MemMedium};
 use ram_sectors::Disc;
@@ -41,7 +42,7 @@ impl InMemory for Volume<MemMedium> {
         if medium.blocks() != geometry.total() {
             return Ok(None);
         }
-        let memory = Memory::new(alloc, geometry.layout())?;
+        let memory = Memory::new(&mut Budget::ample(alloc), geometry.layout())?;
         Ok(Some(Volume::new(medium, geometry, memory)))
     }
 
