@@ -1,5 +1,5 @@
 -- What a scrub of all blocks told is what cannot be read; and a read meets nothing else.
-use Rattle.std.specs.Prelude.{◌≡◌, ◌↔◌, ℕ, ◌<◌, ◌⊎◌, Bool, true, false, Option, Some, None, is_some, Result, Ok, Err, List, [], ◌∷◌, length}
+use Rattle.std.specs.Prelude.{◌≡◌, ◌↔◌, ℕ, ◌<◌, ◌⊎◌, ◌&&◌, not, Bool, true, false, Option, Some, None, is_some, Result, Ok, Err, List, [], ◌∷◌, length}
 use Rattle.std.specs.List.{Contains, find}
 use Rattle.std.proofs.Common.{refl, sym, ap, ◌∙◌, inl, inr, subst, arith}
 use Rattle.model_commands.specs.declared.Operation.{Operation}
@@ -25,7 +25,7 @@ use Rattle.model_cdb.specs.declared.commands.Command.TheVariants as commands
 use Rattle.model_cdb.specs.Decoding.{refusal, unless, decoded_as, decoded_by, decoded}
 use Rattle.model_target.specs.declared.host.Host.{Host}
 use Rattle.model_target.specs.Host.{is_told}
-use Rattle.model_target.specs.Judging.{asked_in, asked_by, asked, IsJudgedBy, IsJudged}
+use Rattle.model_target.specs.Judging.{asked_in, asked_by, asked, ejects, needs_disc, needs_format, IsJudgedBy, IsJudged}
 use Rattle.model_target.specs.Steps.{read_answer, IsDone, IsAnsweredBy, IsStep as ExecutesTo}
 use Rattle.ram_report.specs.declared.printing.Event.TheVariants as events
 use Rattle.ram_text.specs.declared.script.Line.{Line}
@@ -54,7 +54,7 @@ told_done passes.Off count told is = absurd cc
 told_done passes.Fault count told is = absurd cc
 
 -- these blocks, so many, are just those that cannot be read
-record TellsUnreadable (t : State) (found : List ℕ) (count : ℕ) : Type 0 where
+pub record TellsUnreadable (t : State) (found : List ℕ) (count : ℕ) : Type 0 where
   pub are : (i : ℕ) → Contains found i ↔ IsUnreadableNow t i
   pub number : count ≡ length found
 
@@ -92,7 +92,7 @@ module _ (host : Host) (formatted : Bool) (payload : List ℕ) (lba n : ℕ) (wh
 
   judged_unnamed : (wanted : Result Command Sense) → (wanted ≡ Ok (commands.Read lba n)) ⊎ (wanted ≡ Err (sense 0x6 0x29 0x00)) → IsJudgedBy host formatted payload wanted (Err why) → why.info ≡ None
   judged_unnamed wanted (inl asks) judged =
-      of_three _ _ _ (subst (λ (w : Result Command Sense). IsJudgedBy host formatted payload w (Err why)) asks judged)
+      of_three (host.prevented && ejects (commands.Read lba n)) (host.out && needs_disc (commands.Read lba n)) (needs_format (commands.Read lba n) && not formatted) (subst (λ (w : Result Command Sense). IsJudgedBy host formatted payload w (Err why)) asks judged)
   judged_unnamed wanted (inr tells) judged =
       let is : Err why ≡ Err (sense 0x6 0x29 0x00) = subst (λ (w : Result Command Sense). IsJudgedBy host formatted payload w (Err why)) tells judged in
       let e : why ≡ sense 0x6 0x29 0x00 = cc in ap (λ (x : Sense). x.info) e
