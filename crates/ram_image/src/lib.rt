@@ -10,6 +10,6 @@ pub mod pressing;
 
 pub use cells::StateRead;
 pub use geometries::geometry_in;
-pub use medium::{ImageMedium, Looked, MediumRooms};
+pub use medium::{ImageMedium, Looked, MEDIUM_MEMORY, MediumRooms};
 pub use opening::{OpenFault, Refused, open};
 pub use pressing::{PressOut, press};

@@ -1,6 +1,6 @@
 //! The medium over an opened image: power, counts, arms and the armed cut, around the calls of `cells`.
 
-ghost use Rattle.std.specs.Prelude.{◌≡◌, ◌<◌, ◌≤◌, ◌↔◌, if◌then◌else◌, true, false, is_some, IsTrue, MatchOption};
+ghost use Rattle.std.specs.Prelude.{◌≡◌, ◌+◌, ◌<◌, ◌≤◌, ◌↔◌, if◌then◌else◌, true, false, is_some, IsTrue, MatchOption};
 ghost use Rattle.std.specs.Option.{ForSome};
 ghost use Rattle.std.proofs.Props.{props};
 ghost use Rattle.model_geometry.specs.Geometry.{total};
@@ -9,16 +9,19 @@ ghost use Rattle.model_medium.specs.Machine.{is_killed, arms_after, fate_due, cu
 ghost use Rattle.ram_medium.specs.Countdown.{arms_of, armed_cut_of};
 ghost use Rattle.ram_image.specs.CellCalls.{HaveGoodStates};
 ghost use Rattle.ram_image.specs.OneProof.{disc_there-prop};
+ghost use Rattle.ram_image.specs.declared.medium.TheConstants.{MEDIUM_MEMORY};
 
 use crate::cells::{
     GoodRow, StateRead, count_good, kill_cell, kill_where, leave_cell, read_data, read_state,
 };
-use ram_bytes::Block;
+use ram_bytes::{BLOCK_BYTES, Block, Budget, MemoryRefused};
 use ram_medium::{Arm, Armed, Due, FailEnd, Fate, Medium, MediumControl, ReadEnd, WriteEnd};
 use ram_outside::{Image, Moved};
 use ram_zones::Geometry;
-use std::alloc::{AllocError, Global};
-use std::mem::swap;
+use std::mem::{size_of, swap};
+
+/// How many bytes the memory of a medium asks for.
+pub const MEDIUM_MEMORY: usize = BLOCK_BYTES + size_of::<Armed>();
 
 /// The memory of a medium over an image: room for one block, and for what is armed. Media use it one after another; what it held
 /// before does not matter.
@@ -30,10 +33,13 @@ pub struct MediumRooms {
 
 impl MediumRooms {
     /// All the memory that a medium takes, for whatever disc.
-    pub fn new(alloc: Global) -> Result<MediumRooms, AllocError> {
+    pub fn new(budget: &mut Budget) -> Result<MediumRooms, MemoryRefused>
+        requires free { MEDIUM_MEMORY ≤ budget.old }
+        ensures left { budget.old ≤ budget.new + MEDIUM_MEMORY }
+    {
         Ok(MediumRooms {
-            block: Block::zeros(alloc)?,
-            armed: Box::new(alloc, Armed::new())?,
+            block: Block::zeros(budget)?,
+            armed: budget.boxed(Armed::new())?,
         })
     }
 }
