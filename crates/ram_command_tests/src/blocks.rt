@@ -1,6 +1,6 @@
 //! Rows on numbers of several bytes, blocks and command blocks.
 use crate::words::{add_bytes, bytes_of};
-use ram_bytes::{Block, Cdb, get_u16, get_u24, get_u32, is_zero, put_u16, put_u24, put_u32};
+use ram_bytes::{Block, Budget, Cdb, get_u16, get_u24, get_u32, is_zero, put_u16, put_u24, put_u32};
 use std::alloc::{AllocError, Global};
 use std::fmt::Write;
 
@@ -35,7 +35,7 @@ fn add_filled(answer: &mut String, bytes: &[u8]) -> Result<(), AllocError> {
 
 /// Adds what a block has in which one sector is written, and a number over the seam of two.
 fn add_sectors(alloc: Global, answer: &mut String) -> Result<(), AllocError> {
-    let mut block = Block::zeros(alloc)?;
+    let mut block = Block::zeros(&mut Budget::ample(alloc))?;
     add_filled(answer, block.bytes())?;
     block.set_sector(15, &[7; 2_048]);
     add_filled(answer, block.sector(15))?;
@@ -48,8 +48,8 @@ fn add_sectors(alloc: Global, answer: &mut String) -> Result<(), AllocError> {
 
 /// Adds whether two blocks are the same: both new, one filled, the other copied from it.
 fn add_copies(alloc: Global, answer: &mut String) -> Result<(), AllocError> {
-    let mut block = Block::zeros(alloc)?;
-    let mut other = Block::zeros(alloc)?;
+    let mut block = Block::zeros(&mut Budget::ample(alloc))?;
+    let mut other = Block::zeros(&mut Budget::ample(alloc))?;
     let are_new = block.same(&other);
     block.fill(0x5a);
     add_filled(answer, block.bytes())?;
