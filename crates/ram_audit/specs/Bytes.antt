@@ -1,5 +1,5 @@
--- How long a line of a certificate is at most: for the room of its text. (This project's own, as all here.)
-use Rattle.std.specs.Prelude.{ℕ}
+-- How long a line of a certificate is at most, for the room of its text; and the answer of a check. (This project's own, as all here.)
+use Rattle.std.specs.Prelude.{ℕ, List, ◌∷◌, ◌++◌, codes, decimal}
 use Rattle.model_audit.specs.declared.lines.CertificateLine.{CertificateLine}
 use Rattle.model_audit.specs.declared.lines.CertificateLine.TheVariants as lines
 
@@ -17,3 +17,7 @@ most_bytes (lines.Retired defective) = 19
 most_bytes (lines.Copy block state) = 23
 most_bytes (lines.Lost lba) = 16
 most_bytes (lines.End before) = 25
+
+-- the answer of a check that found a difference in this line: a word, the number, and a line feed
+abbrev pub difference_text : (line : ℕ) → List ℕ
+difference_text line = codes "no" ++ (32 ∷ (decimal line ++ codes "\n"))

@@ -3,3 +3,4 @@ pub mod Telling
 pub mod Comparing
 pub mod Leaving
 pub mod Rooms
+pub mod Discs

@@ -4,6 +4,7 @@
 mod certificate;
 mod comparing;
 mod copies;
+mod discs;
 mod homes;
 mod laws;
 mod lines;
@@ -14,10 +15,11 @@ mod telling;
 
 pub use certificate::tell_certificate;
 pub use comparing::{Compared, compare};
+pub use discs::{Audited, Checked, audit_disc, check_disc};
 pub use laws::{a_difference_is_in_one_line, limits_are_these};
 pub use lines::Lines;
 pub use lists::{tell_primary, tell_secondary};
 pub use looking::ImageFailed;
 pub use model_audit::{CertificateLine, CopyState};
 pub use rooms::AuditRooms;
-pub use telling::TEXT_ROOM;
+pub use telling::{TEXT_ROOM, put_difference};

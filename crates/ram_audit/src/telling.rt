@@ -3,7 +3,7 @@
 ghost use Rattle.std.specs.Prelude.{◌≡◌, ◌+◌, ◌<◌, ◌≤◌, [], ◌∷◌, ◌++◌, length, decimal, vec_capacity};
 ghost use Rattle.model_audit.specs.Text.{layout_words, version_word, kind_word, state_word, words_of, spaced, parted, line_text};
 ghost use Rattle.model_audit.specs.declared.lines.CertificateLine.TheVariants as lines;
-ghost use Rattle.ram_audit.specs.Bytes.{most_bytes};
+ghost use Rattle.ram_audit.specs.Bytes.{most_bytes, difference_text};
 
 use itoa::Buffer;
 use model_audit::{CertificateLine, CopyState};
@@ -240,5 +240,16 @@ pub fn put_line(text: &mut Vec<u8>, line: CertificateLine)
     ensures room { vec_capacity text.old ≤ vec_capacity text.new }
 {
     put_words(text, line);
+    put(text, b"\n");
+}
+
+/// Puts the answer of a check that found a difference in this line, in place of what the text had.
+pub fn put_difference(text: &mut Vec<u8>, line: u64)
+    requires { 24 ≤ vec_capacity text.old }
+    ensures { text.new.items ≡ difference_text line }
+{
+    text.clear();
+    put(text, b"no");
+    put_count(text, line);
     put(text, b"\n");
 }

@@ -1,0 +1,91 @@
+//! The audit of an image, and the check of a text against one. Neither changes a byte of the image.
+
+ghost use Rattle.ram_audit.specs.Discs.{AuditRule, CheckRule};
+ghost use Rattle.ram_audit.specs.Rooms.{AreReadyToAudit};
+
+use crate::certificate::tell_certificate;
+use crate::comparing::{Compared, compare};
+use crate::rooms::AuditRooms;
+use ram_image::{MediumRooms, OpenFault, Refused, open};
+use ram_outside::{Image, Source};
+use ram_zones::LayoutKind;
+
+/// The answer of an audit.
+#[derive(Clone, Copy, Debug, PartialEq, Eq)]
+pub enum Audited {
+    /// The certificate is in the room that was given.
+    Told,
+    /// The image is no disc's.
+    NotADisc,
+    /// The image failed, and counted it.
+    Failed,
+}
+
+/// The answer of a check.
+#[derive(Clone, Copy, Debug, PartialEq, Eq)]
+pub enum Checked {
+    /// The source's bytes are the text of the certificate.
+    Yes,
+    /// They are not: this line, counted from 1, is the first that differs, is missing or is too many.
+    No { line: u64 },
+    /// The image is no disc's.
+    NotADisc,
+    /// The image failed, and counted it. The source was not touched.
+    ImageFailed,
+    /// The source failed, and counted it.
+    SourceFailed,
+}
+
+/// Tells the certificate of the disc in an image, which is handed back.
+pub fn audit_disc<I: Image>(rooms: &mut AuditRooms, medium: MediumRooms, image: I) -> (I, Audited)
+    requires { AreReadyToAudit rooms.old }
+    ensures { AuditRule (I.bytes image) (I.bytes result.0) (I.faults image) (I.faults result.0)
+        rooms.new.lines result.1 }
+{
+    match open(medium, image, LayoutKind::OneGroup) {
+        Ok((mut medium, geometry)) => {
+            let told = tell_certificate(rooms, &mut medium, &geometry);
+            let (image, _rooms) = medium.into_parts();
+            match told {
+                Ok(()) => (image, Audited::Told),
+                Err(_) => (image, Audited::Failed),
+            }
+        }
+        Err(Refused {
+            image,
+            rooms: _,
+            fault,
+        }) => match fault {
+            OpenFault::Header => (image, Audited::NotADisc),
+            OpenFault::Length { len: _ } => (image, Audited::NotADisc),
+            OpenFault::Fault => (image, Audited::Failed),
+        },
+    }
+}
+
+/// Compares all that a source has left with the text of the certificate of the disc in an image, which is handed back. The source
+/// is asked once the image was read.
+pub fn check_disc<I: Image, S: Source>(
+    rooms: &mut AuditRooms,
+    medium: MediumRooms,
+    image: I,
+    source: &mut S,
+) -> (I, Checked)
+    requires { AreReadyToAudit rooms.old }
+    ensures { CheckRule (I.bytes image) (I.bytes result.0) (I.faults image) (I.faults result.0)
+        (S.left source.old) (S.left source.new) (S.faults source.old) (S.faults source.new) result.1 }
+{
+    let (image, audited) = audit_disc(rooms, medium, image);
+    match audited {
+        Audited::NotADisc => (image, Checked::NotADisc),
+        Audited::Failed => (image, Checked::ImageFailed),
+        Audited::Told => {
+            let room = rooms.scratch.room.bytes_mut();
+            match compare(source, rooms.lines.text(), room) {
+                Compared::Same => (image, Checked::Yes),
+                Compared::Differs { line } => (image, Checked::No { line }),
+                Compared::Failed => (image, Checked::SourceFailed),
+            }
+        }
+    }
+}
