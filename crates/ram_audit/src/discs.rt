@@ -51,11 +51,13 @@ pub fn audit_disc<I: Image>(rooms: &mut AuditRooms, medium: MediumRooms, image: 
                 Err(_) => (image, Audited::Failed),
             }
         }
-        Err(Refused {
-            image,
-            rooms: _,
-            fault,
-        }) => match fault {
+        Err(
+            Refused {
+                image,
+                rooms: _,
+                fault,
+            },
+        ) => match fault {
             OpenFault::Header => (image, Audited::NotADisc),
             OpenFault::Length { len: _ } => (image, Audited::NotADisc),
             OpenFault::Fault => (image, Audited::Failed),

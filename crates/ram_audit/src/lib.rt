@@ -21,5 +21,5 @@ pub use lines::Lines;
 pub use lists::{tell_primary, tell_secondary};
 pub use looking::ImageFailed;
 pub use model_audit::{CertificateLine, CopyState};
-pub use rooms::AuditRooms;
+pub use rooms::{AUDIT_MEMORY, AuditRooms};
 pub use telling::{TEXT_ROOM, put_difference};

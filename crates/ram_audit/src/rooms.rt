@@ -1,14 +1,19 @@
 //! The memory of an audit. It is taken once.
 
-ghost use Rattle.std.specs.Prelude.{IfOk};
+ghost use Rattle.std.specs.Prelude.{◌+◌, ◌≤◌, IfOk};
 ghost use Rattle.ram_audit.specs.Rooms.{AreReadyToAudit};
+ghost use Rattle.ram_audit.specs.declared.rooms.TheConstants.{AUDIT_MEMORY};
 
 use crate::lines::Lines;
-use ram_copies::Scratch;
-use ram_groups::{AnyLayout, layout_of_kind};
-use ram_lists::Lists as DiscLists;
+use crate::telling::TEXT_ROOM;
+use ram_bytes::{Budget, MemoryRefused};
+use ram_copies::{SCRATCH_MEMORY, Scratch};
+use ram_groups::{AnyLayout, LAYOUT_MEMORY, layout_of_kind};
+use ram_lists::{LISTS_MEMORY, Lists as DiscLists};
 use ram_zones::LayoutKind;
-use std::alloc::{AllocError, Global};
+
+/// How many bytes an audit asks for: the text, two pairs of lists, a layout of each kind, and a list's text with a copy.
+pub const AUDIT_MEMORY: usize = TEXT_ROOM + 2 * LISTS_MEMORY + 2 * LAYOUT_MEMORY + SCRATCH_MEMORY;
 
 /// All the memory that an audit takes, for whatever disc. What it held before does not matter.
 #[derive(Drop)]
@@ -29,16 +34,18 @@ pub struct AuditRooms {
 
 impl AuditRooms {
     /// All of it, for an audit of any disc.
-    pub fn new(alloc: Global) -> Result<AuditRooms, AllocError>
-        ensures { IfOk result AreReadyToAudit }
+    pub fn new(budget: &mut Budget) -> Result<AuditRooms, MemoryRefused>
+        requires free { AUDIT_MEMORY ≤ budget.old }
+        ensures left { budget.old ≤ budget.new + AUDIT_MEMORY }
+        ensures ready { IfOk result AreReadyToAudit }
     {
-        let mut lists = DiscLists::new(alloc)?;
-        let mut other = DiscLists::new(alloc)?;
+        let mut lists = DiscLists::new(budget)?;
+        let mut other = DiscLists::new(budget)?;
         Ok(AuditRooms {
-            lines: Lines::new(alloc)?,
-            slip: layout_of_kind(alloc, LayoutKind::OneGroup, &mut lists.dds)?,
-            zones: layout_of_kind(alloc, LayoutKind::EachZone, &mut other.dds)?,
-            scratch: Scratch::new(alloc)?,
+            lines: Lines::new(budget)?,
+            slip: layout_of_kind(budget, LayoutKind::OneGroup, &mut lists.dds)?,
+            zones: layout_of_kind(budget, LayoutKind::EachZone, &mut other.dds)?,
+            scratch: Scratch::new(budget)?,
             lists,
             other,
         })
