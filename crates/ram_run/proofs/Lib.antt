@@ -1,5 +1,2 @@
-pub mod Summaries
-pub mod Generated
 pub mod Few
-pub mod Closes
 pub mod PromisedByRun

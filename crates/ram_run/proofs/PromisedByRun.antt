@@ -2,8 +2,8 @@
 use Rattle.std.specs.Prelude.{◌≡◌, ℕ, ◌⊎◌, Bool, Option, List}
 use Rattle.std.proofs.Common.{◌∙◌, inl, inr}
 use Rattle.ram_machine.specs.declared.status.Status.{Status}
-use Rattle.ram_run.specs.Words.{Surroundings, IsNotOpened}
-use Rattle.ram_run.specs.Opened.{IsBeginning, aftermath_of}
+use Rattle.ram_script.specs.Around.{Surroundings, IsNotOpened}
+use Rattle.ram_script.specs.Opened.{IsBeginning, aftermath_of}
 use Rattle.ram_script.specs.Progress.{Beginning}
 use Rattle.ram_script.specs.Endings.{IsUnopened, StandsWith}
 use Rattle.ram_script.specs.Promise.{KeepsBytes}

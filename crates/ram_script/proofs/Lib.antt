@@ -9,3 +9,4 @@ pub mod Finishes
 pub mod Left
 pub mod Promised
 pub mod Told
+pub mod Closes

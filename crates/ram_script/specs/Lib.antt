@@ -10,3 +10,6 @@ pub mod Leaving
 pub mod Completes
 pub mod Promise
 pub mod Printed
+pub mod Around
+pub mod Opened
+pub mod Rooms

@@ -5,9 +5,13 @@ mod counts;
 mod ending;
 mod printing;
 pub mod promise;
+mod rooms;
 pub mod serve;
 mod state;
+mod telling;
 
 pub use counts::{AnswerCounts, SenseCount};
 pub use ending::status_of;
+pub use rooms::{SCRIPT_MEMORY, ScriptRooms};
 pub use state::{RunState, STATE_MEMORY, Tally};
+pub use telling::write_text;

@@ -2,12 +2,13 @@ use Rattle.std.specs.Borrow.{Bor}
 use Rattle.std.proofs.Common.{◌≡◌, refl, sym, ◌∙◌, subst, inl, inr, ℕ, List, map}
 use Rattle.model_geometry.specs.declared.kinds.LayoutKind.{LayoutKind}
 use Rattle.ram_script.specs.Endings.{IsOfRun}
-use Rattle.ram_run.specs.Opened.{aftermath_of}
-use Rattle.ram_run.specs.Generating.{BeginsFrom, Generates}
+use Rattle.ram_script.specs.Opened.{aftermath_of}
+use Rattle.ram_summary.specs.Generating.{BeginsFrom, Generates}
 use Rattle.ram_script.specs.Progress.{Beginning}
 use Rattle.ram_machine.specs.declared.status.Status.{Status}
 use Rattle.ram_machine.specs.declared.status.Status.TheVariants as statuses
-use Rattle.ram_run.specs.Words.{MemoryRule, UsageRule, IsWordForm, IsNotOpened, IsServedOf, IsServedImage, IsGenerateOf, AsksOnce, around}
+use Rattle.ram_run.specs.Words.{MemoryRule, UsageRule, IsWordForm, IsServedOf, IsServedImage, IsGenerateOf}
+use Rattle.ram_script.specs.Around.{IsNotOpened, AsksOnce, around}
 use Rattle.ram_script.proofs.Completes.{completes}
 use Rattle.ram_run.proofs.Few.{one_served, one_generate}
 use Rattle.ram_run.proofs.PromisedByRun.{promised_by_run}

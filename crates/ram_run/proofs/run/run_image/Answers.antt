@@ -2,8 +2,8 @@ use Rattle.std.proofs.Common.{rules, inl, refl}
 use Rattle.ram_text.specs.Dialogue.{sink_of, source_of}
 use Rattle.ram_script.specs.Endings.{aftermath}
 use Rattle.ram_script.specs.RunCounts.{counts_of}
-use Rattle.ram_run.specs.Words.{around}
-use Rattle.ram_run.proofs.Closes.{stands_there, renamed, begins_known, handed_back}
+use Rattle.ram_script.specs.Around.{around}
+use Rattle.ram_script.proofs.Closes.{stands_there, renamed, begins_known, handed_back}
 use Rattle.ram_run.proofs.run.run_image.Goals as goal
 
 pub returns-clause-run : goal.returns-clause-run

@@ -1,7 +1,7 @@
 -- What a run begins with and what is known after it, where source, sink and opener tell what they hold. For the main clause of the run.
 -- (This project's own, as all here.)
 use Rattle.std.specs.Prelude.{◌≡◌, ℕ, Bool, true, Option, None, Some, List}
-use Rattle.ram_run.specs.Words.{Surroundings}
+use Rattle.ram_script.specs.Around.{Surroundings}
 use Rattle.ram_script.specs.Progress.{Beginning}
 use Rattle.ram_script.specs.Endings.{Aftermath, Begins, aftermath}
 

@@ -1,6 +1,6 @@
 use Rattle.std.proofs.Common.{ap, sym, ◌∙◌, Some}
-use Rattle.ram_run.proofs.Generated.{end_count}
-use Rattle.ram_run.proofs.generate.answer_script.Goals as goal
+use Rattle.ram_summary.proofs.Generated.{end_count}
+use Rattle.ram_summary.proofs.generate.answer_script.Goals as goal
 
 pub returns-clause-ends : goal.returns-clause-ends
 returns-clause-ends g c first kind_is script_is image_is =

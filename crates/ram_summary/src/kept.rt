@@ -14,7 +14,7 @@ pub struct KeptScript {
 
 impl Model for KeptScript {
     ghost use Rattle.std.specs.Prelude.{◌≤◌, drop, vec_len};
-    ghost use Rattle.ram_run.specs.Kept.{KeptState};
+    ghost use Rattle.ram_summary.specs.Kept.{KeptState};
 
     ghost Value = { KeptState };
 

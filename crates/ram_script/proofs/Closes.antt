@@ -6,10 +6,10 @@ use Rattle.model_counts.specs.Counts.{counted}
 use Rattle.ram_machine.specs.declared.status.Status.{Status}
 use Rattle.ram_machine.specs.declared.status.Status.TheVariants as statuses
 use Rattle.ram_script.specs.RunCounts.{Counts, counts_of, OnlySinkRose, SourceAndSinkRose, ImageAndSinkRose}
-use Rattle.ram_run.specs.Words.{Surroundings}
+use Rattle.ram_script.specs.Around.{Surroundings}
 use Rattle.ram_script.specs.Progress.{Beginning, SoFar}
 use Rattle.ram_script.specs.Endings.{Aftermath, Begins, StandsWith, StoodBehind, aftermath}
-use Rattle.ram_run.specs.Opened.{IsBeginning, bytes_returned}
+use Rattle.ram_script.specs.Opened.{IsBeginning, bytes_returned}
 
 -- an image that had not failed was taken back: its failures are the opener's
 module _ (source source' sink sink' faults failed : ℕ) where

@@ -1,20 +1,20 @@
 //! The run of a script that is drawn from a number, and its summary in place of the report.
 ghost use Rattle.std.specs.Prelude.{◌≡◌, ◌≤◌, ℕ, Option, Some, List, [], vec_capacity};
 ghost use Rattle.model_geometry.specs.declared.kinds.LayoutKind.TheVariants.{OneGroup};
-ghost use Rattle.ram_run.specs.declared.summary.TheConstants.{SUMMARY_ROOM};
-ghost use Rattle.ram_run.specs.Rooms.{AreReady, AreReadyFor};
+ghost use Rattle.ram_summary.specs.declared.summary.TheConstants.{SUMMARY_ROOM};
+ghost use Rattle.ram_summary.specs.Rooms.{AreReadyFor};
+ghost use Rattle.ram_script.specs.Rooms.{AreReady};
 ghost use Rattle.ram_script.specs.Progress.{Beginning};
-ghost use Rattle.ram_run.specs.Words.{AsksOnce, TextCount, WritesText};
+ghost use Rattle.ram_script.specs.Around.{AsksOnce, TextCount, WritesText};
 ghost use Rattle.ram_script.specs.Endings.{IsOfRun, StatusCounts};
-ghost use Rattle.ram_run.specs.Summary.{tally_text};
+ghost use Rattle.ram_summary.specs.Summary.{tally_text};
 ghost use Rattle.ram_script.specs.Leaving.{LeavesBy};
-ghost use Rattle.ram_run.specs.Generating.{BeginsFrom, EndCount, Generates, beside};
+ghost use Rattle.ram_summary.specs.Generating.{BeginsFrom, EndCount, Generates, beside};
 
 use crate::dropped::DroppedReport;
 use crate::kept::KeptScript;
-use crate::rooms::{GenerateRooms, ScriptRooms};
+use crate::rooms::GenerateRooms;
 use crate::summary::put_summary;
-use crate::telling::write_text;
 use ram_cache::Cached;
 use ram_generate::draw_script;
 use ram_image::ImageMedium;
@@ -22,7 +22,7 @@ use ram_machine::Stopped;
 use ram_machine::status::Status;
 use ram_outside::{Image, Opened, Opener, Sink};
 use ram_script::serve::answer_lines;
-use ram_script::{Tally, status_of};
+use ram_script::{ScriptRooms, Tally, status_of, write_text};
 use ram_text::Dialogue;
 use ram_volume::Volume;
 

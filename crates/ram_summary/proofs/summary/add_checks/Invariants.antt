@@ -1,8 +1,8 @@
 -- The lines of the rows so far are there, none is longer than 36 bytes, and there is no less room.
 use Rattle.std.proofs.Common.{◌≡◌, ◌++◌, ◌+◌, ◌*◌, ◌≤◌, take, length, vec_capacity}
 use Rattle.std.specs.List.{flat_map}
-use Rattle.ram_run.specs.Summary.{row_text}
-use Rattle.ram_run.proofs.summary.add_checks.Given as goal
+use Rattle.ram_summary.specs.Summary.{row_text}
+use Rattle.ram_summary.proofs.summary.add_checks.Given as goal
 
 abbrev pub invariant-loop-row : goal.invariant-loop-row
 invariant-loop-row l = record {

@@ -1,6 +1,6 @@
 //! A text that is written to the report as it is.
 ghost use Rattle.ram_script.specs.Endings.{IsOfRun};
-ghost use Rattle.ram_run.specs.Words.{WritesText, TextCount};
+ghost use Rattle.ram_script.specs.Around.{WritesText, TextCount};
 
 use ram_machine::status::Status;
 use ram_outside::Sink;

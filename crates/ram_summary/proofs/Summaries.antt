@@ -9,7 +9,7 @@ use Rattle.ram_script.specs.declared.state.Tally.{Tally}
 use Rattle.ram_script.specs.Counting.{is_good, is_cut, is_off, is_check, times, sense_count_of, counts_in}
 use Rattle.ram_script.specs.Progress.{Beginning, SoFar, IsTallied}
 use Rattle.ram_script.specs.Answered.{AnsweredLine}
-use Rattle.ram_run.specs.Summary.{count_text, check_text, came_in, summary_text, row_text, tally_text}
+use Rattle.ram_summary.specs.Summary.{count_text, check_text, came_in, summary_text, row_text, tally_text}
 
 -- a sense that came so often has a line, or none where it did not come
 one_row : (sense : Sense) (n : ℕ) (text : Sense → List ℕ) (of : List Sense) (none : Bool) → text sense ≡ check_text sense n

@@ -17,9 +17,9 @@ use Rattle.ram_script.specs.RunCounts.{counts_of}
 use Rattle.ram_script.specs.Progress.{Beginning, SoFar, Ending}
 use Rattle.ram_script.specs.Endings.{IsOfScript, IsUnopened}
 use Rattle.ram_script.specs.Leaving.{IsLeftBetween, IsLeftBy}
-use Rattle.ram_run.specs.Opened.{bytes_returned}
-use Rattle.ram_run.specs.Summary.{summary_text}
-use Rattle.ram_run.specs.Words.{Surroundings, IsNotOpened, AsksOnce}
+use Rattle.ram_script.specs.Opened.{bytes_returned}
+use Rattle.ram_summary.specs.Summary.{summary_text}
+use Rattle.ram_script.specs.Around.{Surroundings, IsNotOpened, AsksOnce}
 
 -- What a run of the script of this number begins with: one group of spares, no report, and the image that is opened next. The
 -- opener tells what is handed back. (This project's own, as all here.)

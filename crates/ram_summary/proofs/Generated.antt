@@ -11,12 +11,12 @@ use Rattle.ram_machine.specs.declared.status.Status.{Status}
 use Rattle.ram_machine.specs.declared.status.Status.TheVariants as statuses
 use Rattle.ram_script.specs.Progress.{Beginning, Ending}
 use Rattle.ram_script.specs.RunCounts.{StopCounts, counts_of}
-use Rattle.ram_run.specs.Words.{Surroundings, WritesText}
-use Rattle.ram_run.specs.Summary.{tally_text}
+use Rattle.ram_script.specs.Around.{Surroundings, WritesText}
+use Rattle.ram_summary.specs.Summary.{tally_text}
 use Rattle.ram_script.specs.Endings.{status_of}
 use Rattle.ram_script.specs.Leaving.{IsAnsweredWhole, LeavesBy}
-use Rattle.ram_run.specs.Generating.{BeginsFrom, StopsWith, EndCount, GeneratedWith}
-use Rattle.ram_run.proofs.Summaries.{tally_is_summary}
+use Rattle.ram_summary.specs.Generating.{BeginsFrom, StopsWith, EndCount, GeneratedWith}
+use Rattle.ram_summary.proofs.Summaries.{tally_is_summary}
 
 -- a count that stands still
 never_rose : Rose 0 0 → ⊥

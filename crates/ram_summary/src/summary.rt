@@ -1,8 +1,8 @@
 //! The summary of a script that was drawn from a number.
 ghost use Rattle.std.specs.Prelude.{◌≡◌, ◌+◌, ◌*◌, ◌≤◌, ◌++◌, length, vec_capacity};
 ghost use Rattle.std.specs.List.{flat_map};
-ghost use Rattle.ram_run.specs.declared.summary.TheConstants.{SUMMARY_ROOM};
-ghost use Rattle.ram_run.specs.Summary.{count_text, row_text, tally_text};
+ghost use Rattle.ram_summary.specs.declared.summary.TheConstants.{SUMMARY_ROOM};
+ghost use Rattle.ram_summary.specs.Summary.{count_text, row_text, tally_text};
 
 use ram_generate::{add, add_number};
 use ram_report::digits_of;

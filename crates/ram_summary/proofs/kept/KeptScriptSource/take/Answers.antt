@@ -1,7 +1,7 @@
 use Rattle.std.proofs.Common.{arith, refl}
 use Rattle.std.proofs.lemmas.Grind.{common_steps}
 use Rattle.ram_outside.proofs.Pieces.{prefix_and_rest}
-use Rattle.ram_run.proofs.kept.KeptScriptSource.take.Goals as goal
+use Rattle.ram_summary.proofs.kept.KeptScriptSource.take.Goals as goal
 
 pub returns : goal.returns
 returns c = record {

@@ -1,10 +1,10 @@
 use Rattle.std.proofs.Common.{sym, ◌∙◌, inl}
 use Rattle.ram_script.specs.Endings.{status_of}
-use Rattle.ram_run.specs.Opened.{bytes_returned}
-use Rattle.ram_run.specs.Generating.{beside}
-use Rattle.ram_run.proofs.Closes.{handed_back}
-use Rattle.ram_run.proofs.Generated.{summed, not_summed, generated_there, image_known, stops_with}
-use Rattle.ram_run.proofs.generate.generate_image.Goals as goal
+use Rattle.ram_script.specs.Opened.{bytes_returned}
+use Rattle.ram_summary.specs.Generating.{beside}
+use Rattle.ram_script.proofs.Closes.{handed_back}
+use Rattle.ram_summary.proofs.Generated.{summed, not_summed, generated_there, image_known, stops_with}
+use Rattle.ram_summary.proofs.generate.generate_image.Goals as goal
 
 pub returns-in-Ok-clause-generate : goal.returns-in-Ok-clause-generate
 returns-in-Ok-clause-generate g c left source first known =

@@ -1,0 +1,81 @@
+-- What is known of source, sink and opener around a call that runs something, and what is done with them. (This project's own, as all here.)
+use Rattle.std.specs.Prelude.{◌≡◌, ℕ, ◌⊎◌, Option, List, take}
+use Rattle.std.specs.Io.KnownBytes.{append_known}
+use Rattle.model_counts.specs.Counts.{Rose}
+use Rattle.ram_outside.specs.Opener.{OpenerView, opener_view, and_asked}
+use Rattle.ram_outside.specs.declared.opener.Opener.{Ghosts as Openers}
+use Rattle.ram_outside.specs.declared.sink.Sink.{Ghosts as Sinks}
+use Rattle.ram_outside.specs.declared.source.Source.{Ghosts as Sources}
+use Rattle.ram_script.specs.RunCounts.{Counts, counts_of}
+use Rattle.ram_machine.specs.declared.status.Status.{Status}
+use Rattle.ram_machine.specs.declared.status.Status.TheVariants as statuses
+
+-- this text is written, by the status: all of it, or the beginning of it where the sink failed
+abbrev pub WritesText : Option (List ℕ) → Option (List ℕ) → List ℕ → Status → Type 0
+WritesText written written' text statuses.Done = written' ≡ append_known written text
+WritesText written written' text statuses.SinkFault = (n : ℕ) × (written' ≡ append_known written (take n text))
+WritesText written written' text _ = ⊥
+
+-- the sink's count where a text alone is written, by the status
+abbrev pub TextCount : ℕ → ℕ → Status → Type 0
+TextCount faults faults' statuses.Done = faults' ≡ faults
+TextCount faults faults' statuses.SinkFault = Rose faults faults'
+TextCount faults faults' _ = ⊥
+
+-- What is known of source, sink and opener, and how often each has failed.
+pub record Surroundings (I : Type 0) : Type 0 where
+  pub left : Option (List ℕ)
+  pub written : Option (List ℕ)
+  pub opener : OpenerView I
+  pub counts : Counts
+
+module _ {S K O I : Type 0} (sources : Sources S) (sinks : Sinks K) (openers : Openers O I) where
+  -- the surroundings that these are
+  abbrev pub around : S → K → O → Surroundings I
+  around script report opener = record {
+    left = sources.left script;
+    written = sinks.written report;
+    opener = opener_view (openers.next opener) (openers.returned opener) (openers.asked opener) (openers.faults opener);
+    counts = counts_of (sources.faults script) (sinks.faults report) (openers.faults opener);
+  }
+
+-- What is done of a run, by what is known before and after.
+module _ {I : Type 0} (old new : Surroundings I) where
+  -- nothing was opened or read
+  pub record IsUnused : Type 0 where
+    pub unread : new.left ≡ old.left
+    pub unopened : new.opener ≡ old.opener
+
+  -- nothing was opened, read or written
+  pub record IsUntouched : Type 0 where
+    pub unused : IsUnused
+    pub unwritten : new.written ≡ old.written
+
+  -- with the status of usage nothing was opened, read or written
+  abbrev pub UntouchedByUsage : Status → Type 0
+  UntouchedByUsage statuses.Usage = IsUntouched
+  UntouchedByUsage _ = Unit {0}
+
+  -- this text is written, and nothing was opened or read
+  abbrev pub TellsText : List ℕ → Status → Type 0
+  TellsText text status = IsUnused × WritesText old.written new.written text status
+
+  -- nothing was read, written or handed back: no image was opened
+  pub record IsNotOpened : Type 0 where
+    pub unread : new.left ≡ old.left
+    pub unwritten : new.written ≡ old.written
+    pub unreturned : new.opener.returned ≡ old.opener.returned
+
+  -- the opener was asked for this name, once, and for no other
+  abbrev pub IsAskedFor : List ℕ → Type 0
+  IsAskedFor name = new.opener.asked ≡ and_asked name old.opener.asked
+
+  -- the opener was asked for nothing, and no image was opened
+  pub record IsNotAsked : Type 0 where
+    pub unasked : new.opener.asked ≡ old.opener.asked
+    pub unopened : IsNotOpened
+
+  -- The opener was asked for this name, once; or it failed before it was.
+  abbrev pub AsksOnce : List ℕ → Status → Type 0
+  AsksOnce name statuses.ImageFault = IsAskedFor name ⊎ IsNotAsked
+  AsksOnce name _ = IsAskedFor name

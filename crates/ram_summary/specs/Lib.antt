@@ -1,0 +1,4 @@
+pub mod Kept
+pub mod Summary
+pub mod Rooms
+pub mod Generating
