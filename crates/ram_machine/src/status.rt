@@ -4,8 +4,10 @@ ghost use Rattle.std.specs.Prelude.{◌≡◌};
 /// How a run ended. Its number is the exit status of the program. (This project's own.)
 #[derive(Clone, Copy, Debug, PartialEq, Eq)]
 pub enum Status {
-    /// The script was read to its end, and every line was answered.
+    /// The script was read to its end, and every line was answered; or the text that was asked for is written.
     Done = 0,
+    /// A check found that the text that it read is not the image's certificate.
+    Differs = 1,
     /// The words are none of the program's forms.
     Usage = 2,
     /// A line of the script is not in its language, or passes a limit.

@@ -240,6 +240,7 @@ sink_failed before after (inr (inr image)) = image.sink
 module _ (first : Beginning) (language : IsInLanguage first.script) (begins : BeginsWithDisc first) (before after : Counts) (none : NoneRose before after) where
   comes_to_its_end : (aftermath : Aftermath) (status : Status) → StatusCounts before after status → StandsWith first aftermath before after status → IsComplete status
   comes_to_its_end aftermath statuses.Done counts leaves = refl
+  comes_to_its_end aftermath statuses.Differs counts leaves = absurd leaves
   comes_to_its_end aftermath statuses.Usage counts leaves = absurd leaves
   comes_to_its_end aftermath statuses.Script counts leaves = absurd (well_spelled first leaves.2.far leaves.0 language leaves.1 leaves.2.last_is)
   comes_to_its_end aftermath statuses.NotADisc counts leaves = absurd (never_lacks first begins leaves.1.far leaves.0 leaves.1.last_is)

@@ -109,6 +109,7 @@ module _ (source source' sink sink' sink'' image image' : ℕ) (due before writt
 
   pub status_counts : (ending : Ending) (status : Status) → StopCounts (counts_of source sink image) (counts_of source' sink' image') ending
       → FinishRule due (sink_view before sink') (sink_view written sink'') tally ending status → StatusCounts (counts_of source sink image) (counts_of source' sink'' image') status
+  status_counts ending statuses.Differs c rule = absurd rule
   status_counts ending statuses.Usage c rule = absurd rule
   status_counts ending statuses.SinkFault c rule = at_most_one ending (behind ending c rule.cause rule.count)
   status_counts ending statuses.Done c rule = by_status ending statuses.Done (λ x. cc) c rule

@@ -285,6 +285,7 @@ module _ (first : Beginning) (stands : State → Type 0) (image : Option (List �
 
       -- what is left and written, by the status that is told
       pub left_by : (status : Status) → Ends first stands view ending → FinishRule view.due (sink_view before f) (sink_view written f') view.tally ending status → StandsWith first (aftermath view.left written image) counts counts' status
+      left_by statuses.Differs e rule = absurd rule
       left_by statuses.Usage e rule = absurd rule
       left_by statuses.SinkFault e rule = at_sink ending rule.more e rule.prefix rule.nearly (behind rule.cause rule.count)
       left_by statuses.Done e rule = by_status statuses.Done (λ x. cc) e rule

@@ -89,6 +89,7 @@ module _ (first : Beginning) where
 
 pub promised : (first : Beginning) (after : Aftermath) (old new : Counts) (status : Status) → StandsWith first after old new status → KeepsBytes first.script first.report first.image after.written
 promised first after old new statuses.Done stands = ended first after (lasts.End stands.0) stands.1
+promised first after old new statuses.Differs stands = absurd stands
 promised first after old new statuses.Usage stands = absurd stands
 promised first after old new statuses.Script stands = ended first after stands.0 stands.2
 promised first after old new statuses.ImageFault (inl p) = not_begun first after.written p.written_is

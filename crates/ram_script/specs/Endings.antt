@@ -125,6 +125,7 @@ IsOfScript (lasts.NotADisc line) = ⊥
 -- What stands with each status, where the bytes of source, sink, opener and image are known; and what had failed by then.
 abbrev pub StandsWith : Beginning → Aftermath → (old new : Counts) → Status → Type 0
 StandsWith first after old new statuses.Done = (answered : ℕ) × IsEnded first after (lasts.End answered)
+StandsWith first after old new statuses.Differs = ⊥
 StandsWith first after old new statuses.Usage = ⊥
 StandsWith first after old new statuses.Script = (last : LastLine) × IsOfScript last × IsEnded first after last
 StandsWith first after old new statuses.ImageFault =
@@ -197,6 +198,7 @@ pub record EndsWhole (due : Option (List ℕ)) (old new : SinkView) (tally : Tal
 -- How a report is ended, by the status that is told.
 abbrev pub FinishRule : Option (List ℕ) → SinkView → SinkView → Tally → Ending → Status → Type 0
 FinishRule due old new tally ending statuses.SinkFault = EndsAtSink due old new tally ending
+FinishRule due old new tally ending statuses.Differs = ⊥
 FinishRule due old new tally ending statuses.Usage = ⊥
 FinishRule due old new tally ending status = EndsWhole due old new tally ending status
 
