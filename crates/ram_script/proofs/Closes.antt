@@ -43,6 +43,7 @@ module _ (source source' sink sink' faults failed : ℕ) where
     -- what stands with a status is told with the opener's count
     pub stands_there : (status : Status) → StandsWith first after inside inside' status → StandsWith first after outside outside' status
     stands_there statuses.Done stands = stands
+    stands_there statuses.Differs stands = stands
     stands_there statuses.Usage stands = stands
     stands_there statuses.Script stands = stands
     stands_there statuses.ImageFault stands = stands

@@ -52,6 +52,7 @@ summed seed first tally before after image statuses.SinkFault whole tells = (
   record { far = whole.far; ended = whole.ended; image_is = whole.image_is; written_is = subst (λ (text : List ℕ). after ≡ append_known before (take tells.0 text)) (tally_is_summary seed first whole.far tally whole.tallied) tells.1 },
 )
 summed seed first tally before after image statuses.NoMemory whole tells = absurd tells
+summed seed first tally before after image statuses.Differs whole tells = absurd tells
 summed seed first tally before after image statuses.Usage whole tells = absurd tells
 summed seed first tally before after image statuses.Script whole tells = absurd tells
 summed seed first tally before after image statuses.ImageFault whole tells = absurd tells
@@ -63,6 +64,7 @@ pub not_summed : (seed : ℕ) (first : Beginning) (before image : Option (List �
 not_summed seed first before image statuses.Done stops = absurd stops
 not_summed seed first before image statuses.SinkFault stops = absurd stops
 not_summed seed first before image statuses.NoMemory stops = (refl, stops)
+not_summed seed first before image statuses.Differs stops = (refl, stops)
 not_summed seed first before image statuses.Usage stops = (refl, stops)
 not_summed seed first before image statuses.Script stops = (refl, stops)
 not_summed seed first before image statuses.ImageFault stops = (refl, stops)
