@@ -19,7 +19,8 @@ use Rattle.ram_machine.specs.declared.status.Status.{Status}
 use Rattle.ram_machine.specs.declared.status.Status.TheVariants as statuses
 use Rattle.ram_script.specs.NextLines.{IsNextLine, ComesNext}
 use Rattle.ram_machine.specs.Replies.{Outcome}
-use Rattle.ram_machine.specs.States.{BareImage, State, Served, Unopened, Disc, kind_of, IsFirst, IsPressedDisc}
+use Rattle.ram_machine.specs.States.{BareImage, State, Served, Unopened, Disc, kind_of, renewed, IsFirst, IsPressedDisc}
+use Rattle.model_scrub.specs.Scrubs.{fresh}
 use Rattle.ram_machine.specs.LineSteps.{PressStep, OnDisc, Step}
 use Rattle.ram_script.specs.Answered.{AnsweredLine, Reaches, script_text}
 use Rattle.ram_script.specs.Run.{IsLineStep, LineRun}
@@ -78,8 +79,8 @@ pressed_disc : (shape : Shape) (t : State) → IsPressedDisc shape t → (disc :
 pressed_disc shape (Unopened bytes) pressed = absurd pressed
 pressed_disc shape (Disc disc) pressed = (disc, refl)
 
--- a press that is told of leaves a disc, or what was there where there is no such geometry
-press_leaves : (s t : State) (shape : Shape) (reply : Reply) → PressStep s shape (Ok reply) t → ((disc : Served) × (t ≡ Disc disc)) ⊎ (¬ IsLawful shape × (t ≡ s))
+-- a press that is told of leaves a disc, or what was there where there is no such geometry, with nothing found by a scrub
+press_leaves : (s t : State) (shape : Shape) (reply : Reply) → PressStep s shape (Ok reply) t → ((disc : Served) × (t ≡ Disc disc)) ⊎ (¬ IsLawful shape × (t ≡ renewed s))
 press_leaves s t shape (replies.Event events.Pressed) step = inl (pressed_disc shape t step.1)
 press_leaves s t shape (replies.Event events.NotPressed) step = inr step
 press_leaves s t shape _ step = absurd step
@@ -95,7 +96,7 @@ stays_disc s lines.Empty payload reply data_in t step = (s, step.2)
 stays_disc s (lines.Press zones scale psa) payload reply data_in t step =
     elim (press_leaves (Disc s) t (shape_in (kind_of (Disc s)) zones scale psa) reply step.0) [
       | inl disc ↦ disc
-      | inr kept ↦ (s, kept.1)
+      | inr kept ↦ (record s { scrub = fresh }, kept.1)
     ]
 stays_disc s line payload reply data_in t step = on_disc_leaves s line payload (Ok reply) data_in t step
 
@@ -161,6 +162,7 @@ module _ (image : BareImage) (script : List ℕ) (press : BeginsWithPress image.
   first_leaves (lines.Wear block n) raw payload reply data_in now step reads is = absurd (needs_none image.kind (lines.Wear block n) tt is)
   first_leaves (lines.Cut n fate) raw payload reply data_in now step reads is = absurd (needs_none image.kind (lines.Cut n fate) tt is)
   first_leaves lines.Tick raw payload reply data_in now step reads is = absurd (needs_none image.kind lines.Tick tt is)
+  first_leaves (lines.Scrub all) raw payload reply data_in now step reads is = absurd (needs_none image.kind (lines.Scrub all) tt is)
   first_leaves (lines.Command cdb) raw payload reply data_in now step reads is = absurd (needs_none image.kind (lines.Command cdb) tt is)
 
   -- a line after silent ones says nothing, or is that press
@@ -203,6 +205,7 @@ module _ (image : BareImage) (script : List ℕ) (press : BeginsWithPress image.
   first_answers (lines.Wear block n) payload data_in t step is = needs_none image.kind (lines.Wear block n) tt is
   first_answers (lines.Cut n fate) payload data_in t step is = needs_none image.kind (lines.Cut n fate) tt is
   first_answers lines.Tick payload data_in t step is = needs_none image.kind lines.Tick tt is
+  first_answers (lines.Scrub all) payload data_in t step is = needs_none image.kind (lines.Scrub all) tt is
   first_answers (lines.Command cdb) payload data_in t step is = needs_none image.kind (lines.Command cdb) tt is
 
   -- no line lacks a disc

@@ -73,6 +73,7 @@ form_uses words (lines.Press zones scale psa) payload form = tt
 form_uses words lines.Power payload form = tt
 form_uses words (lines.Fail block) payload form = tt
 form_uses words lines.Tick payload form = tt
+form_uses words (lines.Scrub all) payload form = tt
 form_uses words (lines.Command cdb) payload form = tt
 form_uses [] (lines.Wear block n) payload form = absurd form
 form_uses (a ∷ []) (lines.Wear block n) payload form = absurd form
