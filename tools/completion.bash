@@ -2,8 +2,8 @@
 
 _ram_drive() {
     case $COMP_CWORD in
-        1) mapfile -t COMPREPLY < <(compgen -W 'run groups generate --help --version' -- "$2") ;;
-        2) [[ ${COMP_WORDS[1]} != run && ${COMP_WORDS[1]} != groups && ${COMP_WORDS[1]} != generate ]] || mapfile -t COMPREPLY < <(compgen -f -- "$2") ;;
+        1) mapfile -t COMPREPLY < <(compgen -W 'run groups generate audit check --help --version' -- "$2") ;;
+        2) [[ ${COMP_WORDS[1]} == --* ]] || mapfile -t COMPREPLY < <(compgen -f -- "$2") ;;
     esac
 }
 

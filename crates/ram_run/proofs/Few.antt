@@ -38,11 +38,14 @@ module _ (words : List (Bor (List ℕ))) (none : Bor (List ℕ)) (empty : none.n
   which texts is = sym (first_text words) ∙ ap (λ (l : List (List ℕ)). get_or l 0 []) is
 
   pub by_number : IsWordForm (map (λ (word : Bor (List ℕ)). word.now) words) → ((kind : LayoutKind) → length words ≡ 2 → (get_or words 0 none).now ≡ served_word kind → ⊥) → (length words ≡ 3 → (get_or words 0 none).now ≡ codes "generate" → ⊥)
-      → (length words ≡ 1 → (get_or words 0 none).now ≡ codes "--help" → ⊥) → (length words ≡ 1 → (get_or words 0 none).now ≡ codes "--version" → ⊥) → ⊥
-  by_number (inl (kind, served)) two three help version = two kind (how_many _ served.1) (which _ served.1)
-  by_number (inr (inl (name, seed, of))) two three help version = three (how_many _ of.1) (which _ of.1)
-  by_number (inr (inr (inl is))) two three help version = help (how_many _ is) (which _ is)
-  by_number (inr (inr (inr is))) two three help version = version (how_many _ is) (which _ is)
+      → (length words ≡ 1 → (get_or words 0 none).now ≡ codes "--help" → ⊥) → (length words ≡ 1 → (get_or words 0 none).now ≡ codes "--version" → ⊥)
+      → (length words ≡ 2 → (get_or words 0 none).now ≡ codes "audit" → ⊥) → (length words ≡ 2 → (get_or words 0 none).now ≡ codes "check" → ⊥) → ⊥
+  by_number (inl (kind, served)) two three help version audit check = two kind (how_many _ served.1) (which _ served.1)
+  by_number (inr (inl (name, seed, of))) two three help version audit check = three (how_many _ of.1) (which _ of.1)
+  by_number (inr (inr (inl is))) two three help version audit check = help (how_many _ is) (which _ is)
+  by_number (inr (inr (inr (inl is)))) two three help version audit check = version (how_many _ is) (which _ is)
+  by_number (inr (inr (inr (inr (name, inl is))))) two three help version audit check = audit (how_many _ is) (which _ is)
+  by_number (inr (inr (inr (inr (name, inr is))))) two three help version audit check = check (how_many _ is) (which _ is)
 
 -- the word tells one kind of layout
 by_word : (a b : LayoutKind) → served_word a ≡ served_word b → a ≡ b
@@ -71,3 +74,7 @@ one_generate words name name' seed seed' a b = (
       let same : Some seed ≡ Some seed' = sym a.2 ∙ ap seed_of digits ∙ b.2 in
       cc,
 )
+
+-- two words tell one name
+pub one_name : (words : List (List ℕ)) (a b name name' : List ℕ) → words ≡ a ∷ name ∷ [] → words ≡ b ∷ name' ∷ [] → name ≡ name'
+one_name words a b name name' p q = ap (λ (l : List (List ℕ)). get_or l 1 []) (sym p ∙ q)

@@ -5,7 +5,8 @@ use Rattle.ram_run.specs.declared.rooms.Rooms.{Rooms}
 use Rattle.ram_run.specs.declared.rooms.Rooms.TheVariants as taken
 use Rattle.ram_script.specs.Rooms.{AreReady}
 use Rattle.ram_summary.specs.Rooms.{AreReadyFor}
-use Rattle.ram_run.specs.Words.{IsServedImage, IsGenerate}
+use Rattle.ram_certificate.specs.Rooms.{AreReadyToTell}
+use Rattle.ram_run.specs.Words.{IsServedImage, IsGenerate, IsOfCertificate}
 
 -- they are those for the lines of a script (this project's own, as all here)
 abbrev pub AreOfScript : LayoutKind → Rooms → Type 0
@@ -17,12 +18,19 @@ abbrev pub AreOfNumber : Rooms → Type 0
 AreOfNumber (taken.Generate rooms) = AreReadyFor rooms
 AreOfNumber _ = ⊥
 
--- The words need no rooms: they neither run the lines of a script nor one that is drawn from a number.
+-- they are those for a certificate
+abbrev pub AreOfCertificate : Rooms → Type 0
+AreOfCertificate (taken.Certificate rooms) = AreReadyToTell rooms
+AreOfCertificate _ = ⊥
+
+-- The words need no rooms: they neither run the lines of a script, nor one that is drawn from a number, nor tell or check a certificate.
 pub record NeedNoRooms (words : List (List ℕ)) : Type 0 where
   pub served : (kind : LayoutKind) → ¬ IsServedImage kind words
   pub generate : ¬ IsGenerate words
+  pub certificate : ¬ IsOfCertificate words
 
 -- They are those that the words ask for.
 pub record AreRoomsFor (words : List (List ℕ)) (rooms : Rooms) : Type 0 where
   pub served : (kind : LayoutKind) → IsServedImage kind words → AreOfScript kind rooms
   pub generate : IsGenerate words → AreOfNumber rooms
+  pub certificate : IsOfCertificate words → AreOfCertificate rooms

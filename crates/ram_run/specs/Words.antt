@@ -46,6 +46,18 @@ IsGenerateOf name seed words =
 abbrev pub IsGenerate : List (List ℕ) → Type 0
 IsGenerate words = (name : List ℕ) × (seed : ℕ) × IsGenerateOf name seed words
 
+-- the words are `audit` and this name of an image
+abbrev pub IsAuditOf : List ℕ → List (List ℕ) → Type 0
+IsAuditOf name words = words ≡ codes "audit" ∷ name ∷ []
+
+-- the words are `check` and this name of an image
+abbrev pub IsCheckOf : List ℕ → List (List ℕ) → Type 0
+IsCheckOf name words = words ≡ codes "check" ∷ name ∷ []
+
+-- the words are one of these and the name of an image
+abbrev pub IsOfCertificate : List (List ℕ) → Type 0
+IsOfCertificate words = (name : List ℕ) × (IsAuditOf name words ⊎ IsCheckOf name words)
+
 -- the words are `--help` alone
 abbrev pub IsHelp : List (List ℕ) → Type 0
 IsHelp words = words ≡ codes "--help" ∷ []
@@ -58,6 +70,7 @@ IsVersion words = words ≡ codes "--version" ∷ []
 abbrev pub IsWordForm : List (List ℕ) → Type 0
 IsWordForm words =
     ((kind : LayoutKind) × IsServedImage kind words) ⊎ IsGenerate words ⊎ IsHelp words ⊎ IsVersion words
+    ⊎ IsOfCertificate words
 
 -- the words are none of the program's forms exactly where the status is that of usage
 abbrev pub UsageRule : List (List ℕ) → Status → Type 0
@@ -74,5 +87,7 @@ abbrev pub FormRule : List (List ℕ) → Option Form → Type 0
 FormRule words None = ¬ IsWordForm words
 FormRule words (Some (forms.Run kind name)) = IsServedOf kind name.now words
 FormRule words (Some (forms.Generate name seed)) = IsGenerateOf name.now seed words
+FormRule words (Some (forms.Audit name)) = IsAuditOf name.now words
+FormRule words (Some (forms.Check name)) = IsCheckOf name.now words
 FormRule words (Some forms.Help) = IsHelp words
 FormRule words (Some forms.Version) = IsVersion words

@@ -12,6 +12,10 @@ pub enum Form<'a> {
     Run(LayoutKind, &'a str),
     /// Run the script of a number over the image of this name.
     Generate(&'a str, u64),
+    /// Tell what the image of this name holds.
+    Audit(&'a str),
+    /// Check a text against the image of this name.
+    Check(&'a str),
     /// Tell what the program does.
     Help,
     /// Tell the program's version.
@@ -25,6 +29,8 @@ pub fn form_of<'a>(words: &[&'a str]) -> Option<Form<'a>>
     match words {
         [verb, name] if *verb == "run" => Some(Form::Run(LayoutKind::OneGroup, *name)),
         [verb, name] if *verb == "groups" => Some(Form::Run(LayoutKind::EachZone, *name)),
+        [verb, name] if *verb == "audit" => Some(Form::Audit(*name)),
+        [verb, name] if *verb == "check" => Some(Form::Check(*name)),
         [verb, name, number] if *verb == "generate" => match seed_of(number.as_bytes()) {
             Some(seed) => Some(Form::Generate(*name, seed)),
             None => None,

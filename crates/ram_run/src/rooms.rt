@@ -1,6 +1,8 @@
 //! The rooms of a run: all the memory that it takes, before it asks for anything else.
 ghost use Rattle.std.specs.Prelude.{◌≡◌, ◌+◌, ◌≤◌, IfOk, IsOk, map};
-ghost use Rattle.ram_run.specs.Rooms.{AreOfScript, AreOfNumber, AreRoomsFor, NeedNoRooms};
+ghost use Rattle.ram_run.specs.Rooms.{AreOfScript, AreOfNumber, AreOfCertificate, AreRoomsFor, NeedNoRooms};
+ghost use Rattle.ram_certificate.specs.Rooms.{AreReadyToTell};
+ghost use Rattle.ram_certificate.specs.declared.rooms.TheConstants.{CERTIFICATE_MEMORY};
 ghost use Rattle.ram_summary.specs.Rooms.{AreReadyFor};
 ghost use Rattle.ram_script.specs.Rooms.{AreReady};
 ghost use Rattle.ram_run.specs.declared.rooms.TheConstants.{MOST_BYTES};
@@ -9,6 +11,7 @@ ghost use Rattle.ram_summary.specs.declared.rooms.TheConstants.{GENERATE_MEMORY}
 
 use crate::form::{Form, form_of};
 use ram_bytes::{Budget, MemoryRefused};
+use ram_certificate::{CERTIFICATE_MEMORY, CertificateRooms};
 use ram_script::ScriptRooms;
 use ram_summary::{GENERATE_MEMORY, GenerateRooms};
 use ram_zones::LayoutKind;
@@ -16,10 +19,12 @@ use ram_zones::LayoutKind;
 /// How many bytes the rooms ask for at most, whatever the words.
 pub const MOST_BYTES: usize = GENERATE_MEMORY;
 
-/// How many bytes the rooms ask for: those for the lines of a script, those for one that is drawn from a number, and any.
+/// How many bytes the rooms ask for: those for the lines of a script, those for one that is drawn from a number, those for a
+/// certificate, and any.
 pub fn limits_of_rooms_are_these()
     ensures script { SCRIPT_MEMORY ≡ 7011716 }
     ensures generate { GENERATE_MEMORY ≡ 7080517 }
+    ensures certificate { CERTIFICATE_MEMORY ≡ 3138783 }
     ensures most { MOST_BYTES ≡ 7080517 }
 {}
 
@@ -32,6 +37,8 @@ pub enum Rooms {
     Script(ScriptRooms),
     /// Those for a script that is drawn from a number.
     Generate(GenerateRooms),
+    /// Those for a certificate.
+    Certificate(CertificateRooms),
 }
 
 impl Rooms {
@@ -46,6 +53,9 @@ impl Rooms {
         match form_of(words) {
             Some(Form::Run(kind, _)) => Ok(Rooms::Script(ScriptRooms::new(budget, kind)?)),
             Some(Form::Generate(_, _)) => Ok(Rooms::Generate(GenerateRooms::new(budget)?)),
+            Some(Form::Audit(_) | Form::Check(_)) => {
+                Ok(Rooms::Certificate(CertificateRooms::new(budget)?))
+            }
             Some(Form::Help | Form::Version) | None => Ok(Rooms::None),
         }
     }
@@ -58,7 +68,7 @@ pub fn of_script(rooms: Rooms, kind: LayoutKind) -> ScriptRooms
 {
     match rooms {
         Rooms::Script(rooms) => rooms,
-        Rooms::None | Rooms::Generate(_) => unreachable!(),
+        Rooms::None | Rooms::Generate(_) | Rooms::Certificate(_) => unreachable!(),
     }
 }
 
@@ -69,6 +79,17 @@ pub fn of_number(rooms: Rooms) -> GenerateRooms
 {
     match rooms {
         Rooms::Generate(rooms) => rooms,
-        Rooms::None | Rooms::Script(_) => unreachable!(),
+        Rooms::None | Rooms::Script(_) | Rooms::Certificate(_) => unreachable!(),
+    }
+}
+
+/// The rooms for a certificate.
+pub fn of_certificate(rooms: Rooms) -> CertificateRooms
+    requires { AreOfCertificate rooms }
+    ensures { AreReadyToTell result }
+{
+    match rooms {
+        Rooms::Certificate(rooms) => rooms,
+        Rooms::None | Rooms::Script(_) | Rooms::Generate(_) => unreachable!(),
     }
 }

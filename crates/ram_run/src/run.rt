@@ -4,19 +4,21 @@ ghost use Rattle.ram_run.specs.declared.help.TheConstants.{HELP, VERSION};
 ghost use Rattle.model_geometry.specs.declared.kinds.LayoutKind.{LayoutKind};
 ghost use Rattle.ram_script.specs.Progress.{Beginning};
 ghost use Rattle.ram_script.specs.Completes.{IsInLanguage, BeginsWithDisc, NoneRose, IsComplete};
-ghost use Rattle.ram_run.specs.Words.{IsServedOf, IsServedImage, IsGenerateOf, IsHelp, IsVersion, UsageRule, MemoryRule};
+ghost use Rattle.ram_run.specs.Words.{IsServedOf, IsServedImage, IsGenerateOf, IsAuditOf, IsCheckOf, IsHelp, IsVersion, UsageRule, MemoryRule};
 ghost use Rattle.ram_script.specs.Around.{IsNotOpened, UntouchedByUsage, TellsText, AsksOnce, around};
 ghost use Rattle.ram_script.specs.Endings.{IsUnopened, IsOfRun, StandsWith, StatusCounts};
 ghost use Rattle.ram_script.specs.Opened.{IsBeginning, aftermath_of};
 ghost use Rattle.ram_script.specs.Promise.{KeepsBytes};
 ghost use Rattle.ram_summary.specs.Generating.{BeginsFrom, Generates, AsksUnread};
+ghost use Rattle.ram_certificate.specs.Auditing.{Audits, Checks};
 ghost use Rattle.ram_run.specs.Rooms.{AreRoomsFor};
 ghost use Rattle.ram_script.specs.Rooms.{AreReady};
 
 use crate::form::{Form, form_of};
 use crate::help::{HELP, VERSION};
-use crate::rooms::{Rooms, of_number, of_script};
+use crate::rooms::{Rooms, of_certificate, of_number, of_script};
 use ram_cache::Cached;
+use ram_certificate::{audit_image, check_image};
 use ram_image::ImageMedium;
 use ram_machine::status::Status;
 use ram_outside::{Opened, Opener, Sink, Source};
@@ -28,7 +30,8 @@ use ram_volume::Volume;
 
 /// Runs the words of the program: `run IMAGE` answers the script over the image of that name, and reports every answer; `groups IMAGE`
 /// does the same for discs with a group of spares in each zone; `generate IMAGE N` answers the script that is drawn from the number N,
-/// and tells how often each answer came; `--help` and `--version` tell of the program. The rooms are those that the words ask for; no
+/// and tells how often each answer came; `audit IMAGE` tells what an image holds, and `check IMAGE` compares such a text with it;
+/// `--help` and `--version` tell of the program. The rooms are those that the words ask for; no
 /// more memory is taken.
 pub fn run<S: Source, K: Sink, O: Opener>(
     rooms: Rooms,
@@ -67,6 +70,12 @@ pub fn run<S: Source, K: Sink, O: Opener>(
         → Generates O.Image.bytes seed first
         (around S.Source K.Sink O.Opener script.old report.old opener.old)
         (around S.Source K.Sink O.Opener script.new report.new opener.new) result }
+    ensures audit { (name : List ℕ) → IsAuditOf name (map (λ word. word.now) words.now) → Audits O.Image.bytes
+        (around S.Source K.Sink O.Opener script.old report.old opener.old)
+        (around S.Source K.Sink O.Opener script.new report.new opener.new) O.returned_known name result }
+    ensures check { (name : List ℕ) → IsCheckOf name (map (λ word. word.now) words.now) → Checks O.Image.bytes
+        (around S.Source K.Sink O.Opener script.old report.old opener.old)
+        (around S.Source K.Sink O.Opener script.new report.new opener.new) O.returned_known name result }
     ensures run { (first : Beginning) → IsServedImage first.kind (map (λ word. word.now) words.now)
         → IsBeginning O.Image.bytes first
         (around S.Source K.Sink O.Opener script.old report.old opener.old) O.returned_known
@@ -99,6 +108,8 @@ pub fn run<S: Source, K: Sink, O: Opener>(
         Some(Form::Generate(name, seed)) => {
             generate_image(of_number(rooms), name, seed, report, opener)
         }
+        Some(Form::Audit(name)) => audit_image(of_certificate(rooms), name, report, opener),
+        Some(Form::Check(name)) => check_image(of_certificate(rooms), name, script, report, opener),
         Some(Form::Help) => {
             drop(rooms);
             write_text(report, HELP)

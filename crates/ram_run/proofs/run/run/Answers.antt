@@ -7,10 +7,10 @@ use Rattle.ram_summary.specs.Generating.{BeginsFrom, Generates}
 use Rattle.ram_script.specs.Progress.{Beginning}
 use Rattle.ram_machine.specs.declared.status.Status.{Status}
 use Rattle.ram_machine.specs.declared.status.Status.TheVariants as statuses
-use Rattle.ram_run.specs.Words.{MemoryRule, UsageRule, IsWordForm, IsServedOf, IsServedImage, IsGenerateOf}
+use Rattle.ram_run.specs.Words.{MemoryRule, UsageRule, IsWordForm, IsServedOf, IsServedImage, IsGenerateOf, IsAuditOf, IsCheckOf}
 use Rattle.ram_script.specs.Around.{IsNotOpened, AsksOnce, around}
 use Rattle.ram_script.proofs.Completes.{completes}
-use Rattle.ram_run.proofs.Few.{one_served, one_generate}
+use Rattle.ram_run.proofs.Few.{one_served, one_generate, one_name}
 use Rattle.ram_run.proofs.PromisedByRun.{promised_by_run}
 use Rattle.ram_run.proofs.run.run.Goals as goal
 
@@ -21,6 +21,7 @@ its_kind texts kind name told first served = (one_served texts first.kind kind s
 -- a run whose rooms were taken does not end for want of them
 remembers : (status : Status) → IsOfRun status → MemoryRule status
 remembers statuses.Done of = tt
+remembers statuses.Differs of = tt
 remembers statuses.Usage of = tt
 remembers statuses.Script of = tt
 remembers statuses.ImageFault of = tt
@@ -32,6 +33,7 @@ remembers statuses.NotADisc of = tt
 -- and its words have a form
 has_form : (words : List (List ℕ)) (status : Status) → IsOfRun status → IsWordForm words → UsageRule words status
 has_form words statuses.Done of form = form
+has_form words statuses.Differs of form = form
 has_form words statuses.Usage of form = absurd of
 has_form words statuses.Script of form = form
 has_form words statuses.ImageFault of form = form
@@ -138,3 +140,77 @@ returns-in-Some-Help-clause-memory g c = remembers c.write_text.result c.write_t
 
 pub returns-in-Some-Version-clause-memory : goal.returns-in-Some-Version-clause-memory
 returns-in-Some-Version-clause-memory g c = remembers c.write_text-in-Some-Version.result c.write_text-in-Some-Version.ensures.other
+
+pub of_certificate-requires : goal.of_certificate-requires
+of_certificate-requires g c =
+    let texts : List (List ℕ) = map (λ (word : Bor (List ℕ)). word.now) c.args.words.now in
+    let told : IsAuditOf c.in-Some-Audit.name.now texts = rw (c.in-Some-Audit.is, c.in-Some-Audit.field-0-is) at c.form_of.ensures in
+    c.requires.rooms.certificate (c.in-Some-Audit.name.now, inl told)
+
+pub returns-in-Some-Audit-clause-memory : goal.returns-in-Some-Audit-clause-memory
+returns-in-Some-Audit-clause-memory g c = remembers c.audit_image.result c.audit_image.ensures.other
+
+pub returns-in-Some-Audit-clause-usage : goal.returns-in-Some-Audit-clause-usage
+returns-in-Some-Audit-clause-usage g c =
+    let texts : List (List ℕ) = map (λ (word : Bor (List ℕ)). word.now) c.args.words.now in
+    let told : IsAuditOf c.in-Some-Audit.name.now texts = rw (c.in-Some-Audit.is, c.in-Some-Audit.field-0-is) at c.form_of.ensures in
+    has_form texts c.audit_image.result c.audit_image.ensures.other (inr (inr (inr (inr (c.in-Some-Audit.name.now, inl told)))))
+
+pub returns-in-Some-Audit-clause-causes : goal.returns-in-Some-Audit-clause-causes
+returns-in-Some-Audit-clause-causes g c = c.audit_image.ensures.causes (g.S.Source.left c.args.script.now) (g.S.Source.faults c.args.script.now)
+
+pub returns-in-Some-Audit-clause-audit : goal.returns-in-Some-Audit-clause-audit
+returns-in-Some-Audit-clause-audit g c name words =
+    let before = around g.S.Source g.K.Sink g.O.Opener c.args.script.now c.args.report.now c.args.opener.now in
+    let after = around g.S.Source g.K.Sink g.O.Opener c.args.script.now c.audit_image.new.report c.audit_image.new.opener in
+    let texts : List (List ℕ) = map (λ (word : Bor (List ℕ)). word.now) c.args.words.now in
+    let told : IsAuditOf c.in-Some-Audit.name.now texts = rw (c.in-Some-Audit.is, c.in-Some-Audit.field-0-is) at c.form_of.ensures in
+    record {
+      asks = record {
+        asks = subst (λ (n : List ℕ). AsksOnce before after n c.audit_image.result) (one_name texts _ _ c.in-Some-Audit.name.now name told words) (c.audit_image.ensures.asks (g.S.Source.left c.args.script.now) (g.S.Source.faults c.args.script.now));
+        left = refl {a = g.S.Source.left c.args.script.now};
+        count = refl {a = g.S.Source.faults c.args.script.now};
+      };
+      tells = c.audit_image.ensures.tells (g.S.Source.left c.args.script.now) (g.S.Source.faults c.args.script.now);
+    }
+
+pub returns-in-Some-Check-clause-memory : goal.returns-in-Some-Check-clause-memory
+returns-in-Some-Check-clause-memory g c = remembers c.check_image.result c.check_image.ensures.other
+
+pub returns-in-Some-Check-clause-usage : goal.returns-in-Some-Check-clause-usage
+returns-in-Some-Check-clause-usage g c =
+    let texts : List (List ℕ) = map (λ (word : Bor (List ℕ)). word.now) c.args.words.now in
+    let told : IsCheckOf c.in-Some-Check.name.now texts = rw (c.in-Some-Check.is, c.in-Some-Check.field-0-is) at c.form_of.ensures in
+    has_form texts c.check_image.result c.check_image.ensures.other (inr (inr (inr (inr (c.in-Some-Check.name.now, inr told)))))
+
+pub returns-in-Some-Check-clause-check : goal.returns-in-Some-Check-clause-check
+returns-in-Some-Check-clause-check g c name words =
+    let before = around g.S.Source g.K.Sink g.O.Opener c.args.script.now c.args.report.now c.args.opener.now in
+    let after = around g.S.Source g.K.Sink g.O.Opener c.check_image.new.script c.check_image.new.report c.check_image.new.opener in
+    let texts : List (List ℕ) = map (λ (word : Bor (List ℕ)). word.now) c.args.words.now in
+    let told : IsCheckOf c.in-Some-Check.name.now texts = rw (c.in-Some-Check.is, c.in-Some-Check.field-0-is) at c.form_of.ensures in
+    record {
+      asks = subst (λ (n : List ℕ). AsksOnce before after n c.check_image.result) (one_name texts _ _ c.in-Some-Check.name.now name told words) c.check_image.ensures.asks;
+      tells = c.check_image.ensures.tells;
+    }
+
+pub returns-in-None-clause-audit : goal.returns-in-None-clause-audit
+returns-in-None-clause-audit g c name words = absurd (c.in-None.ensures (inr (inr (inr (inr (name, inl words))))))
+
+pub returns-in-None-clause-check : goal.returns-in-None-clause-check
+returns-in-None-clause-check g c name words = absurd (c.in-None.ensures (inr (inr (inr (inr (name, inr words))))))
+
+pub of_certificate-requires-in-Some-Check : goal.of_certificate-requires-in-Some-Check
+of_certificate-requires-in-Some-Check g c =
+    let texts : List (List ℕ) = map (λ (word : Bor (List ℕ)). word.now) c.args.words.now in
+    let told : IsCheckOf c.in-Some-Check.name.now texts = rw (c.in-Some-Check.is, c.in-Some-Check.field-0-is) at c.form_of.ensures in
+    c.requires.rooms.certificate (c.in-Some-Check.name.now, inr told)
+
+pub returns-in-Some-Generate-clause-usage : goal.returns-in-Some-Generate-clause-usage
+returns-in-Some-Generate-clause-usage g c =
+    let texts : List (List ℕ) = map (λ (word : Bor (List ℕ)). word.now) c.args.words.now in
+    let told : IsGenerateOf c.in-Some-Generate.name.now c.in-Some-Generate.seed texts = rw (c.in-Some-Generate.is, c.in-Some-Generate.field-0-is) at c.form_of.ensures in
+    has_form texts c.generate_image.result c.generate_image.ensures.other (inr (inl (c.in-Some-Generate.name.now, c.in-Some-Generate.seed, told)))
+
+pub returns-in-None-clause-completes : goal.returns-in-None-clause-completes
+returns-in-None-clause-completes g c first words known language begins none = absurd (c.in-None.ensures (inl (first.kind, words)))
