@@ -16,6 +16,10 @@ pub const HELP: &[u8] = b"ram_drive: a DVD-RAM drive that hides dead blocks, ove
                          try a disc with a load: answer the two thousand steps
                          that are drawn from the number N, at most 2^64 - 1,
                          and print how often each answer came
+  ram_drive audit IMAGE  print what this image holds: its geometry, its lists, what
+                         each of their copies has, and each block that is lost
+  ram_drive check IMAGE  compare such a text, on standard input, with this image:
+                         print yes, or no and the first line that differs
   ram_drive --help       print this text
   ram_drive --version    print the version
 
@@ -49,8 +53,8 @@ done, unless it is INQUIRY, REQUEST SENSE or GET CONFIGURATION. A new disc has
 to be formatted before it has sectors, like this:
   cdb 041100000000 hex 000000080000013000000800
 
-The exit status: 0 done, 2 other words than these, 3 a line is not in the script
-language, or it or the script is too long, 4 the image failed, 5 the script
-could not be read, 6 the report could not be written, 7 no memory, 8 a line
-needs a disc: there is none
+The exit status: 0 done, 1 a check said no, 2 other words than these, 3 a line
+is not in the script language, or it or the script is too long, 4 the image
+failed, 5 the script could not be read, 6 the report could not be written, 7 no
+memory, 8 a disc is needed: there is none
 ";
