@@ -172,6 +172,8 @@ ORDERS: Dict[str, Callable[[Row, str], None]] = {
     "repeat": lambda row, rest: row.add_text(int(rest.partition(" ")[0]), rest.partition(" ")[2]),
     "comments": lambda row, rest: row.begin(comments=int(rest)),
     "groups": lambda row, rest: setattr(row, "word", "groups"),
+    "audit": lambda row, rest: row.begin(word="audit"),
+    "check": lambda row, rest: row.begin(word="check"),
     "words": lambda row, rest: row.begin(words=rest.split("|")),
     "lengths": lambda row, rest: row.begin(lengths=int(rest)),
     "cuts": lambda row, rest: setattr(row, "cuts", int(rest)),
