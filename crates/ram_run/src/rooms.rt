@@ -53,9 +53,8 @@ impl Rooms {
         match form_of(words) {
             Some(Form::Run(kind, _)) => Ok(Rooms::Script(ScriptRooms::new(budget, kind)?)),
             Some(Form::Generate(_, _)) => Ok(Rooms::Generate(GenerateRooms::new(budget)?)),
-            Some(Form::Audit(_) | Form::Check(_)) => {
-                Ok(Rooms::Certificate(CertificateRooms::new(budget)?))
-            }
+            Some(Form::Audit(_)) => Ok(Rooms::Certificate(CertificateRooms::new(budget)?)),
+            Some(Form::Check(_)) => Ok(Rooms::Certificate(CertificateRooms::new(budget)?)),
             Some(Form::Help | Form::Version) | None => Ok(Rooms::None),
         }
     }
