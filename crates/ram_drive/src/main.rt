@@ -8,7 +8,6 @@ use ram_machine::status::Status;
 use ram_outside::{FileOpener, StdSink, StdSource};
 use ram_run::rooms::{MOST_BYTES, Rooms};
 use ram_run::run::run;
-use std::alloc::AllocError;
 use std::fs::File;
 use std::os::unix::fs::FileExt;
 use std::process::ExitCode;
@@ -64,7 +63,10 @@ where
         texts.push(word.as_str())?;
     }
     let mut budget = Budget::new(rt.alloc(), MOST_BYTES);
-    let rooms = Rooms::new(&mut budget, texts.as_slice()).map_err(AllocError::from)?;
+    let rooms = match Rooms::new(&mut budget, texts.as_slice()) {
+        Ok(rooms) => rooms,
+        Err(_) => return Ok(Status::NoMemory),
+    };
     let mut script = StdSource::new(rt);
     let mut report = StdSink::new(rt);
     let mut opener = FileOpener::new(rt);
