@@ -52,6 +52,16 @@ def press(path: Path, lists: Lists) -> None:
             image.write(text)
 
 
+def put_states(path: Path, geometry: Geometry, state: int) -> None:
+    """Gives all data blocks of a disc this state byte."""
+    with path.open("r+b") as image:
+        states = bytearray(image.read(16 + geometry.total))
+        for block in geometry.data:
+            states[16 + block] = state
+        image.seek(0)
+        image.write(states)
+
+
 def plain(path: Path) -> None:
     """The greatest disc, without a defect."""
     press(path, lists_of(GREATEST))

@@ -34,6 +34,8 @@ CACHED = 32
 SCRUBBED = 10_456, 25, 10_406
 # In milliseconds.
 MOST_MOUNT = 10.0
+MOST_AUDIT = {"good": 100.0, "dead": 400.0}
+STATES = {"good": 1, "dead": 3}
 
 Case = Tuple[bool, int, float]
 """Whether blocks are written, how many a command has, and the most that the ratio is to be."""
@@ -224,6 +226,18 @@ def scrubs(program: Path, folder: Path, loops: Path) -> None:
     bare = in_session(loops, bench.image, loop_line("read", (total, first), blocks, 1))
     idle, scrubbed, read = best([bench.runs(POWER), bench.runs(POWER + "scrub all\n"), bare])
     row("a block scrubbed, beside a bare read", (scrubbed - idle) / blocks, read / blocks, 1.2)
+    bench.image.unlink()
+
+
+def audits(program: Path, folder: Path) -> None:
+    """The certificate of the greatest disc, where all its data blocks are good, and where all are dead."""
+    bench = Bench(program, folder / "audit.img", "audit")
+    for state, most in MOST_AUDIT.items():
+        discs.plain(bench.image)
+        discs.put_states(bench.image, discs.GREATEST, STATES[state])
+        milliseconds = best([bench.runs("")])[0] * 1e3
+        bound = f"{most:>28.2f} ms{exceeds(milliseconds, most)}"
+        print(f"{f'an audit, all blocks {state}':<62}{milliseconds:>10.2f} ms{bound}")
     bench.image.unlink()
 
 
