@@ -16,10 +16,11 @@ pub const HELP: &[u8] = b"ram_drive: a DVD-RAM drive that hides dead blocks, ove
                          try a disc with a load: answer the two thousand steps
                          that are drawn from the number N, at most 2^64 - 1,
                          and print how often each answer came
-  ram_drive audit IMAGE  print what this image holds: its geometry, its lists, what
-                         each of their copies has, and each block that is lost
-  ram_drive check IMAGE  compare such a text, on standard input, with this image:
-                         print yes, or no and the first line that differs
+  ram_drive audit IMAGE  print what this image holds: its geometry, its lists,
+                         what each of their copies has, and each block that is
+                         lost
+  ram_drive check IMAGE  compare such a text, on standard input, with this
+                         image: print yes, or no and the first line that differs
   ram_drive --help       print this text
   ram_drive --version    print the version
 
