@@ -74,7 +74,6 @@ stop_one old new most stops.Fault stopped = record {
 }
 
 module _ (old new : Shown) where
-
   nothing_lost : new ≡ old → CostsOneCell (cells_in old) (cells_in new)
   nothing_lost is = none_lost (cells_in old) (cells_in new) (λ block good.
       subst (λ (s : Shown). IsGoodOrDead (cell_at (cells_in s) block)) (sym is) (good_or_dead (cell_at (cells_in old) block) good))

@@ -223,12 +223,12 @@ module _ (i : ℕ) where
               ends_living lists course 1 reached uses buffered_now ends fits (λ inside none. elim (cases_eq i (next_block lba course)) [
                 | inl here ↦
                     let there : home new (next_block lba course) ≡ home_of old.shape (lists_reached old.shape lists (block_with lba) course) i =
-                        home_by new reached (next_block lba course) ends.now_in_use
-                        ∙ ap (λ (s : Shape). home_of s reached (next_block lba course)) same
-                        ∙ ap (λ (l : Lists). home_of old.shape l (next_block lba course)) ends.wrote.reached_are
-                        ∙ ap (λ (b : ℕ). home_of old.shape (lists_reached old.shape lists (block_with lba) course) b) (sym here) in
+                    home_by new reached (next_block lba course) ends.now_in_use
+                    ∙ ap (λ (s : Shape). home_of s reached (next_block lba course)) same
+                    ∙ ap (λ (l : Lists). home_of old.shape l (next_block lba course)) ends.wrote.reached_are
+                    ∙ ap (λ (b : ℕ). home_of old.shape (lists_reached old.shape lists (block_with lba) course) b) (sym here) in
                     let was : home_of old.shape (lists_reached old.shape lists (block_with lba) course) i ≡ home_of old.shape lists i =
-                        after_other old.shape lists (block_with lba) (valid lists course 1 reached ends.wrote) course (omega (arith, fits)) ends.wrote.can i inside none in
+                    after_other old.shape lists (block_with lba) (valid lists course 1 reached ends.wrote) course (omega (arith, fits)) ends.wrote.can i inside none in
                     stays (cell_at (cells_in old) (home_of old.shape (lists_reached old.shape lists (block_with lba) course) i)) (cell_at (cells_in new) (home_of old.shape (lists_reached old.shape lists (block_with lba) course) i))
                     (subst (λ (b : ℕ). IsSameOrDead (cell_at (cells_in old) b) (cell_at (cells_in new) b)) there dies)
                     (subst (λ (b : ℕ). IsGoodOrDead (cell_at (cells_in old) b)) (sym was) (lives.in_use lists ends.wrote.in_use inside))
@@ -271,9 +271,9 @@ module _ (i : ℕ) where
                   let counts = ap (logical_count old.shape) moved.lists_are in
                   let inside : i < logical_count old.shape stopped.lists = omega (arith, total', counts, h) in
                   subst (λ (b : ℕ). IsGoodOrDead (cell_at (cells_in new) b)) (sym (ap (λ (l : Lists). home_of old.shape l i) moved.lists_are
-                      ∙ home_stays old.shape at valid' (next_block lba stopped.course) (omega (arith, total', fits))
-                      (tried_of (free_spares old.shape at (next_block lba stopped.course)) moved.tried) (slice_index (free_spares old.shape at (next_block lba stopped.course)) moved.tried)
-                      (comes_next old.shape at (next_block lba stopped.course) moved.tried moved.some_spare) i (omega (arith, total', inside)) apart))
+                  ∙ home_stays old.shape at valid' (next_block lba stopped.course) (omega (arith, total', fits))
+                  (tried_of (free_spares old.shape at (next_block lba stopped.course)) moved.tried) (slice_index (free_spares old.shape at (next_block lba stopped.course)) moved.tried)
+                  (comes_next old.shape at (next_block lba stopped.course) moved.tried moved.some_spare) i (omega (arith, total', inside)) apart))
                   (at_reached inside)
 
           pub write_living : (out : WriteOut) → IsNotStoppedIn old new lba n out i → WriteCause old new lba n out → Lives new i

@@ -1,6 +1,8 @@
 //! Rows on numbers of several bytes, blocks and command blocks.
 use crate::words::{add_bytes, bytes_of};
-use ram_bytes::{Block, Budget, Cdb, get_u16, get_u24, get_u32, is_zero, put_u16, put_u24, put_u32};
+use ram_bytes::{
+    Block, Budget, Cdb, get_u16, get_u24, get_u32, is_zero, put_u16, put_u24, put_u32,
+};
 use std::alloc::{AllocError, Global};
 use std::fmt::Write;
 

@@ -75,7 +75,11 @@ pub fn over_image(
     is_straight: bool,
 ) -> Result<Vec<Answer>, AllocError> {
     let image = MemImage::new(pressed(alloc)?, failing);
-    match open(MediumRooms::new(&mut Budget::ample(alloc))?, image, LayoutKind::OneGroup) {
+    match open(
+        MediumRooms::new(&mut Budget::ample(alloc))?,
+        image,
+        LayoutKind::OneGroup,
+    ) {
         Ok((medium, _)) => take_image(alloc, medium, steps, is_straight),
         Err(
             Refused {
