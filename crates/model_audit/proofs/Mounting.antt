@@ -1,5 +1,5 @@
 -- A certified disc mounts, and blocks that are not lost are read.
-use Rattle.std.proofs.Common.{◌≡◌, ℕ, zero, suc, ◌+◌, ◌*◌, ◌<◌, ◌≤◌, Option, Some, IsSome, List, [], ◌∷◌, ◌++◌, length, map, refl, sym, ap, ◌∙◌, inl, inr, arith, subst}
+use Rattle.std.proofs.Common.{◌≡◌, ◌≢◌, ℕ, zero, suc, ◌+◌, ◌*◌, ◌<◌, ◌≤◌, Option, Some, IsSome, List, [], ◌∷◌, ◌++◌, length, map, refl, sym, ap, ◌∙◌, inl, inr, arith, subst}
 use Rattle.std.specs.List.{Contains, range_with_len, flat_map}
 use Rattle.std.specs.Option.{option_map_or}
 use Rattle.std.proofs.lemmas.List.Elements.{Contains-append_left, Contains-append_right}
@@ -12,6 +12,7 @@ use Rattle.model_sectors.specs.declared.ReadOut.{ReadOut}
 use Rattle.model_sectors.specs.declared.ReadOut.TheVariants as reads
 use Rattle.model_sectors.specs.declared.PowerOut.{PowerOut}
 use Rattle.model_sectors.specs.declared.PowerOut.TheVariants as powers
+use Rattle.model_stops.specs.declared.Stop.{Stop}
 use Rattle.model_stops.specs.declared.Stop.TheVariants as stops
 use Rattle.model_places.specs.Places.{Lists, logical_count, capacity_of, home_of}
 use Rattle.model_places.specs.Valid.{AreValid}
@@ -22,56 +23,66 @@ use Rattle.model_volume.proofs.Moved.{home_is_data_block}
 use Rattle.model_volume.proofs.ListCells.{list_block_cases, no_data_block_second}
 use Rattle.model_geometry.proofs.ListBlocks.{no_data_block_dds, no_data_block_sdl}
 use Rattle.model_drive.specs.Shown.{Shown, IsOn, IsKnown, cells_in, capacity}
-use Rattle.model_drive.specs.Parts.{NoneCounted}
+use Rattle.model_drive.specs.Parts.{IsStopped}
 use Rattle.model_drive.specs.Power.{turned_on, MountsLists, MountsNone, PowerCause}
 use Rattle.model_drive.specs.Reads.{MeetsUnread, ReadCause}
 use Rattle.model_drive.proofs.Ends.{none_stopped}
 use Rattle.model_audit.specs.declared.lines.CertificateLine.{CertificateLine}
 use Rattle.model_audit.specs.declared.lines.CertificateLine.TheVariants as lines
 use Rattle.model_audit.specs.Certificate.{lost_line, lost_lines, list_lines, head_lines, pdl_line, sdl_line, TellsLists, IsCertificate}
-use Rattle.model_audit.specs.Reading.{lists_in, IsUndisturbed, NoneLost}
+use Rattle.model_audit.specs.Reading.{lists_in, NoneDies, IsUndisturbed, NoneLost}
 use Rattle.model_audit.proofs.ReadBack.{Tells, told_here, read_from}
 use Rattle.model_audit.proofs.Alike.{chosen_moves, seen_alike, alike_back}
 
 -- ---- the mount
 
-module _ (old new : Shown) (lists : Lists) (known : IsKnown old) (chosen : AreChosen old.shape (cells_in old) lists) (still : IsUndisturbed old new) where
+module _ (old new : Shown) (lists : Lists) (known : IsKnown old) (chosen : AreChosen old.shape (cells_in old) lists) (still : NoneDies (cells_in old) (cells_in new)) where
   -- the lists that were found are these
   pub found_same : (told : ℕ) (cause : MountsLists old new told) → cause.lists ≡ lists
   found_same told cause =
       one_pair old.shape (cells_in old) cause.lists lists
-      (chosen_moves old.shape cause.seen (cells_in old) (seen_alike old.shape (cells_in old) cause.seen (cells_in new) (cause.sees known) still.none_dies) cause.lists (cause.chosen known))
+      (chosen_moves old.shape cause.seen (cells_in old) (seen_alike old.shape (cells_in old) cause.seen (cells_in new) (cause.sees known) still) cause.lists (cause.chosen known))
       chosen
 
   not_none : MountsNone old new → ⊥
   not_none cause =
       none_lacking old.shape cause.seen cause.chosen (cause.lacks known) lists
       (chosen_moves old.shape (cells_in old) cause.seen
-      (alike_back cause.seen (cells_in old) (seen_alike old.shape (cells_in old) cause.seen (cells_in new) (cause.sees known) still.none_dies)) lists chosen)
-
-  still_on : NoneCounted (turned_on old) new
-  still_on = record { cuts = still.none_counted.cuts; faults = still.none_counted.faults }
+      (alike_back cause.seen (cells_in old) (seen_alike old.shape (cells_in old) cause.seen (cells_in new) (cause.sees known) still)) lists chosen)
 
   told_capacity : new.shape ≡ old.shape → new.lists ≡ Some lists → capacity new ≡ capacity_of old.shape lists
   told_capacity shape is =
       ap (λ (l : Option Lists). option_map_or (logical_count new.shape) l 0 * 16) is
       ∙ ap (λ (s : Shape). logical_count s lists * 16) shape
 
-  pub mounts : new.shape ≡ old.shape → (out : PowerOut) → PowerCause old new out
+  -- a mount that goes to its end has them in use
+  pub mounts : new.shape ≡ old.shape → (out : PowerOut) → out ≢ powers.Cut → out ≢ powers.Fault → PowerCause old new out
       → (new.lists ≡ Some lists) × (out ≡ powers.Ready (capacity_of old.shape lists))
-  mounts shape (powers.Ready told) cause =
+  mounts shape (powers.Ready told) no_cut no_fault cause =
       let in_use = cause.in_use ∙ ap (λ (l : Lists). Some l) (found_same told cause) in
       (in_use, ap (λ (k : ℕ). powers.Ready k) (cause.known_is ∙ told_capacity shape in_use))
-  mounts shape powers.NotFormatted cause = absurd (not_none cause)
-  mounts shape powers.Cut cause = absurd (none_stopped (turned_on old) new _ stops.Cut refl still_on cause.stopped)
-  mounts shape powers.Fault cause = absurd (none_stopped (turned_on old) new _ stops.Fault refl still_on cause.stopped)
+  mounts shape powers.NotFormatted no_cut no_fault cause = absurd (not_none cause)
+  mounts shape powers.Cut no_cut no_fault cause = absurd (no_cut refl)
+  mounts shape powers.Fault no_cut no_fault cause = absurd (no_fault refl)
 
-pub certified_mounts : (old new : Shown) (told : List CertificateLine) (lists : Lists) (out : PowerOut) → IsKnown old → new.shape ≡ old.shape
-    → IsCertificate old.shape (cells_in old) told → lists_in told ≡ Some lists → lists.dds.layout ≡ old.shape.layout
-    → PowerCause old new out → IsUndisturbed old new
-    → (new.lists ≡ Some lists) × (out ≡ powers.Ready (capacity_of old.shape lists))
-certified_mounts old new told lists out known shape is says kind cause still =
-    mounts old new lists known (read_from old.shape (cells_in old) told lists (told_here old.shape (cells_in old) told lists is says kind)).0 still shape out cause
+module _ (old new : Shown) (told : List CertificateLine) (lists : Lists) (out : PowerOut) (known : IsKnown old) (shape : new.shape ≡ old.shape)
+    (is : IsCertificate old.shape (cells_in old) told) (says : lists_in told ≡ Some lists) (kind : lists.dds.layout ≡ old.shape.layout) (cause : PowerCause old new out) where
+  -- where no cell turns dead, a mount that goes to its end is ready with the lists that are told
+  pub alive_mounts : NoneDies (cells_in old) (cells_in new) → out ≢ powers.Cut → out ≢ powers.Fault
+      → (new.lists ≡ Some lists) × (out ≡ powers.Ready (capacity_of old.shape lists))
+  alive_mounts still no_cut no_fault =
+      mounts old new lists known (read_from old.shape (cells_in old) told lists (told_here old.shape (cells_in old) told lists is says kind)).0 still
+      shape out no_cut no_fault cause
+
+  no_stop : IsUndisturbed old new → (stop : Stop) → (most : ℕ) → IsStopped (turned_on old) new most stop → ⊥
+  no_stop still stop most stopped =
+      none_stopped (turned_on old) new most stop refl (record { cuts = still.none_counted.cuts; faults = still.none_counted.faults }) stopped
+
+  pub certified_mounts : IsUndisturbed old new → (new.lists ≡ Some lists) × (out ≡ powers.Ready (capacity_of old.shape lists))
+  certified_mounts still =
+      alive_mounts still.none_dies
+      (λ e. no_stop still stops.Cut _ (subst (PowerCause old new) e cause).stopped)
+      (λ e. no_stop still stops.Fault _ (subst (PowerCause old new) e cause).stopped)
 
 -- ---- what is lost is told
 
@@ -155,7 +166,7 @@ module _ (old mid new : Shown) (told : List CertificateLine) (lists : Lists) (co
   valid = (read_from old.shape (cells_in old) told lists tells).1
 
   in_use : mid.lists ≡ Some lists
-  in_use = mount.in_use ∙ ap (λ (l : Lists). Some l) (found_same old mid lists known chosen before count mount)
+  in_use = mount.in_use ∙ ap (λ (l : Lists). Some l) (found_same old mid lists known chosen before.none_dies count mount)
 
   is_on : IsOn mid
   is_on = mount.ends.is_on

@@ -132,7 +132,7 @@ mounts_by_reading old new told lists count known shape sound is says kind all ca
     tells = told_here old.shape (cells_in old) told lists is says kind
 
     same : cause.lists ≡ lists
-    same = found_same old new lists known (read_from old.shape (cells_in old) told lists tells).0 still count cause
+    same = found_same old new lists known (read_from old.shape (cells_in old) told lists tells).0 still.none_dies count cause
 
     new_known : IsKnown new
     new_known = cause.ends.reach.lasts.as_known ∙ known

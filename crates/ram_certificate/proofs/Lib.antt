@@ -1,1 +1,3 @@
 pub mod Answering
+pub mod OneKind
+pub mod NextRun

@@ -8,6 +8,7 @@ use Rattle.model_audit.specs.Text.{text_of}
 use Rattle.ram_audit.specs.Bytes.{difference_text}
 use Rattle.ram_audit.specs.Comparing.{FirstDiffer}
 use Rattle.ram_audit.specs.Discs.{AreCertificateOf, IsNoDisc}
+use Rattle.ram_outside.specs.declared.opener.Access.TheVariants.{ReadOnly}
 use Rattle.ram_machine.specs.declared.status.Status.{Status}
 use Rattle.ram_machine.specs.declared.status.Status.TheVariants as statuses
 use Rattle.ram_script.specs.Endings.{IsUnopened}
@@ -68,13 +69,13 @@ TellsOf bytes_of held answers old new status =
     (Tells answers old.written new.written status × (bytes_returned bytes_of new.opener.returned ≡ Some held))
     ⊎ (IsUnopened status × IsNotOpened old new)
 
--- What an audit does: the opener is asked for the image once, and nothing is read from the source.
+-- What an audit does: the opener is asked for the image once, to be read alone, and nothing is read from the source.
 pub record Audits {I : Type 0} (bytes_of : I → Option (List ℕ)) (old new : Surroundings I) (returned_known : Bool) (name : List ℕ) (status : Status) : Type 0 where
-  pub asks : AsksUnread old new name status
+  pub asks : AsksUnread old new ReadOnly name status
   pub tells : (held : List ℕ) → OpensKnown bytes_of held old returned_known → TellsOf bytes_of held (AuditAnswers held) old new status
 
--- What a check does: the opener is asked for the image once.
+-- What a check does: the opener is asked for the image once, to be read alone.
 pub record Checks {I : Type 0} (bytes_of : I → Option (List ℕ)) (old new : Surroundings I) (returned_known : Bool) (name : List ℕ) (status : Status) : Type 0 where
-  pub asks : AsksOnce old new name status
+  pub asks : AsksOnce old new ReadOnly name status
   pub tells : (held left : List ℕ) → OpensKnown bytes_of held old returned_known → old.left ≡ Some left
       → TellsOf bytes_of held (CheckAnswers held left) old new status

@@ -1,2 +1,3 @@
 pub mod Rooms
 pub mod Auditing
+pub mod NextRun

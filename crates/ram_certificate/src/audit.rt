@@ -4,6 +4,7 @@ ghost use Rattle.ram_audit.specs.Rooms.{AreReadyToAudit};
 ghost use Rattle.ram_script.specs.RunCounts.{counts_of};
 ghost use Rattle.ram_script.specs.Endings.{IsOfRun, StatusCounts};
 ghost use Rattle.ram_certificate.specs.Rooms.{AreReadyToTell};
+ghost use Rattle.ram_outside.specs.declared.opener.Access.TheVariants.{ReadOnly};
 ghost use Rattle.ram_script.specs.Around.{AsksOnce, around};
 ghost use Rattle.ram_summary.specs.Generating.{beside};
 ghost use Rattle.ram_certificate.specs.Auditing.{AnswersBy, AuditAnswers, CheckAnswers, OpensKnown, Tells, TellsOf};
@@ -104,7 +105,7 @@ pub fn audit_image<K: Sink, O: Opener>(
         (beside left source K.Sink O.Opener report.new opener.new).counts result }
     ensures asks { (left : Option (List ℕ)) (source : ℕ) → AsksOnce
         (beside left source K.Sink O.Opener report.old opener.old)
-        (beside left source K.Sink O.Opener report.new opener.new) name.now result }
+        (beside left source K.Sink O.Opener report.new opener.new) ReadOnly name.now result }
     ensures tells { (left : Option (List ℕ)) (source : ℕ) (held : List ℕ) → OpensKnown O.Image.bytes held
         (beside left source K.Sink O.Opener report.old opener.old) O.returned_known
         → TellsOf O.Image.bytes held (AuditAnswers held)
@@ -136,7 +137,7 @@ pub fn check_image<S: Source, K: Sink, O: Opener>(
         (around S.Source K.Sink O.Opener script.new report.new opener.new).counts result }
     ensures asks { AsksOnce
         (around S.Source K.Sink O.Opener script.old report.old opener.old)
-        (around S.Source K.Sink O.Opener script.new report.new opener.new) name.now result }
+        (around S.Source K.Sink O.Opener script.new report.new opener.new) ReadOnly name.now result }
     ensures tells { (held left : List ℕ) → OpensKnown O.Image.bytes held
         (around S.Source K.Sink O.Opener script.old report.old opener.old) O.returned_known
         → S.left script.old ≡ Some left

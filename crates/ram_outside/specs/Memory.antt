@@ -2,7 +2,7 @@
 use Rattle.std.specs.Prelude.{◌≡◌, ℕ, ◌+◌, ◌<◌, ◌≤◌, ◌⊎◌, min, Option, Some, None, List, [], ◌∷◌, ◌++◌, length, take, drop}
 use Rattle.model_bytes.specs.Bytes.{put_at, resized}
 use Rattle.ram_outside.specs.Calls.{CallLog, NextCallFails, with_call, with_faults, with_failed_call}
-use Rattle.ram_outside.specs.Opener.{OpenerView, opener_view}
+use Rattle.ram_outside.specs.Opener.{Asking, OpenerView, opener_view, asking}
 use Rattle.ram_outside.specs.declared.source.Take.{Take}
 use Rattle.ram_outside.specs.declared.source.Take.TheVariants as takes
 use Rattle.ram_outside.specs.declared.sink.Put.{Put}
@@ -11,6 +11,7 @@ use Rattle.ram_outside.specs.declared.image.Length.{Length}
 use Rattle.ram_outside.specs.declared.image.Length.TheVariants as lengths
 use Rattle.ram_outside.specs.declared.image.Moved.{Moved}
 use Rattle.ram_outside.specs.declared.image.Moved.TheVariants as moves
+use Rattle.ram_outside.specs.declared.opener.Access.{Access}
 use Rattle.ram_outside.specs.declared.opener.Opened.{Opened}
 use Rattle.ram_outside.specs.declared.opener.Opened.TheVariants as openings
 
@@ -34,12 +35,12 @@ pub record ImageState : Type 0 where
   pub room : ℕ
   pub calls : CallLog
 
--- an opener in memory: the image that it still has, the image that was handed back last, the names that it was asked
--- for, in order, and its calls of `open` (this project's own)
+-- an opener in memory: the image that it still has, the image that was handed back last, the images that it was asked
+-- for, in order, and its calls that open one (this project's own)
 pub record OpenerState : Type 0 where
   pub next : Option ImageState
   pub returned : Option ImageState
-  pub asked : List (List ℕ)
+  pub asked : List Asking
   pub calls : CallLog
 
 -- The next n bytes came, as many as fit the slice and one piece; what the slice held behind them stays in it. (This
@@ -146,19 +147,19 @@ abbrev pub unfailed : ImageState → ImageState
 unfailed image = record image { calls = record image.calls { faults = 0 } }
 
 -- the opener after it was asked for this name too (this project's own)
-abbrev pub and_asked_now : List ℕ → OpenerState → OpenerState
-and_asked_now name opener = record opener { asked = opener.asked ++ name ∷ [] }
+abbrev pub and_asked_now : Access → List ℕ → OpenerState → OpenerState
+and_asked_now access name opener = record opener { asked = opener.asked ++ asking access name ∷ [] }
 
--- Exactly what `open` of this name does of an opener in memory, by its answer: it fails where the call is one that fails,
+-- Exactly what opening this name does of an opener in memory, by its answer: it fails where the call is one that fails,
 -- or where the image was given before; or where memory for the name was refused, and then it asked for nothing.
 -- (This project's own.)
-abbrev pub OpensExactly : List ℕ → OpenerState → OpenerState → Opened ImageState → Type 0
-OpensExactly name old new (openings.Image image) =
+abbrev pub OpensExactly : Access → List ℕ → OpenerState → OpenerState → Opened ImageState → Type 0
+OpensExactly access name old new (openings.Image image) =
     (¬ NextCallFails old.calls) × (old.next ≡ Some image)
-    × (new ≡ record (and_asked_now name old) { next = None; calls = with_call old.calls })
-OpensExactly name old new openings.Failed =
+    × (new ≡ record (and_asked_now access name old) { next = None; calls = with_call old.calls })
+OpensExactly access name old new openings.Failed =
     ((NextCallFails old.calls ⊎ (old.next ≡ None))
-    × (new ≡ record (and_asked_now name old) { calls = with_failed_call old.calls }))
+    × (new ≡ record (and_asked_now access name old) { calls = with_failed_call old.calls }))
     ⊎ (new ≡ record old { calls = with_failed_call old.calls })
 
 -- the opener after it took this image back (this project's own)

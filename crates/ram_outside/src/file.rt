@@ -4,10 +4,11 @@ ghost use Rattle.model_counts.specs.Counts.{counted};
 ghost use Rattle.ram_outside.specs.Image.{LenRule, ReadAtRule, WriteAtRule, SetLenRule};
 ghost use Rattle.ram_outside.specs.Opener.{OpenRule, CloseRule, opener_view};
 ghost use Rattle.ram_outside.specs.Adapters.{count_after_len, count_after_move, count_after_open};
+ghost use Rattle.ram_outside.specs.declared.opener.Access.TheVariants.{ReadWrite, ReadOnly};
 
 use crate::errors::count_error;
 use crate::image::{Image, Length, Moved};
-use crate::opener::{Opened, Opener};
+use crate::opener::{Access, Opened, Opener};
 use std::fs::{OpenFile, OpenOptions};
 use std::io;
 use std::io::{Seek, SeekFrom};
@@ -116,12 +117,20 @@ impl<R: Files> FileOpener<R>
 where
     R::File: FileExt,
 {
-    /// Opens the file of this path by these options.
-    fn open_by(&mut self, options: &OpenOptions, name: &str) -> Opened<FileImage<R::File>>
-        ensures rule { OpenRule (λ i. i) name.now
+    /// Opens the file of this path for this.
+    fn open_for(&mut self, name: &str, access: Access) -> Opened<FileImage<R::File>>
+        ensures rule { OpenRule (λ i. i) access name.now
             (opener_view None None None self.old) (opener_view None None None self.new) result }
         ensures count { self.new ≡ count_after_open result self.old }
     {
+        let mut options = OpenOptions::new();
+        options.read(true);
+        match access {
+            Access::ReadWrite => {
+                options.write(true).create(true);
+            }
+            Access::ReadOnly => {}
+        }
         match count_error(options.open(&self.rt, name), &mut self.faults) {
             Some(file) => Opened::Image(FileImage::new(file)),
             None => Opened::Failed,
@@ -148,24 +157,20 @@ where
     /// Opens the file of this path to be read and written. It is made, empty, where there is none; what it holds
     /// stays.
     fn open(&mut self, name: &str) -> Opened<FileImage<R::File>>
-        ensures rule { OpenRule (λ i. i) name.now
+        ensures rule { OpenRule (λ i. i) ReadWrite name.now
             (opener_view None None None self.old) (opener_view None None None self.new) result }
         ensures count { self.new ≡ count_after_open result self.old }
     {
-        let mut options = OpenOptions::new();
-        options.read(true).write(true).create(true);
-        self.open_by(&options, name)
+        self.open_for(name, Access::ReadWrite)
     }
 
     /// Opens the file of this path to be read alone. Where there is none it fails, and none is made.
     fn open_to_read(&mut self, name: &str) -> Opened<FileImage<R::File>>
-        ensures rule { OpenRule (λ i. i) name.now
+        ensures rule { OpenRule (λ i. i) ReadOnly name.now
             (opener_view None None None self.old) (opener_view None None None self.new) result }
         ensures count { self.new ≡ count_after_open result self.old }
     {
-        let mut options = OpenOptions::new();
-        options.read(true);
-        self.open_by(&options, name)
+        self.open_for(name, Access::ReadOnly)
     }
 
     fn close(&mut self, image: FileImage<R::File>)

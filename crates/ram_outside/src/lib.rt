@@ -14,7 +14,7 @@ pub mod standard;
 pub use file::{FileImage, FileOpener};
 pub use image::{Image, Length, Moved};
 pub use memory::{MemImage, MemOpener, MemSink, MemSource};
-pub use opener::{Opened, Opener};
+pub use opener::{Access, Opened, Opener};
 pub use sink::{Put, Sink};
 pub use source::{Source, Take};
 pub use standard::{StdSink, StdSource};

@@ -1,8 +1,18 @@
 //! The trait `Opener`: opens images by name, to be read alone or written too, and takes them back. Definitions alone.
 ghost use Rattle.std.specs.Prelude.{ℕ, Bool, Option, List};
-ghost use Rattle.ram_outside.specs.Opener.{OpenRule, CloseRule, opener_view};
+ghost use Rattle.ram_outside.specs.Opener.{Asking, OpenRule, CloseRule, opener_view};
+ghost use Rattle.ram_outside.specs.declared.opener.Access.TheVariants.{ReadWrite, ReadOnly};
 
 use crate::image::Image;
+
+/// What an image is opened for.
+#[derive(Debug, Clone, Copy, PartialEq, Eq, Drop)]
+pub enum Access {
+    /// To be read and written. An image that is not there is made, empty.
+    ReadWrite,
+    /// To be read alone. That an image is not there is a failure.
+    ReadOnly,
+}
 
 /// The answer of [`Opener::open`] and [`Opener::open_to_read`].
 pub enum Opened<I> {
@@ -26,8 +36,8 @@ pub trait Opener {
     /// The image that was handed back last, where there was one and it is known.
     ghost returned: { Self → Option Self.Image };
 
-    /// The names that were asked for so far, in order, where they are known.
-    ghost asked: { Self → Option (List (List ℕ)) };
+    /// The names that were asked for so far, each with what it was asked for, in order, where they are known.
+    ghost asked: { Self → Option (List Asking) };
 
     /// How often the opener has failed, or an image that it took back. It never falls, and stands still at 2^64 - 1.
     ghost faults: { Self → ℕ };
@@ -35,14 +45,14 @@ pub trait Opener {
     /// Opens the image of this name, to be read and written. Its count of failures begins at 0. `Failed` says that no image is open, and one
     /// failure more is counted.
     fn open(&mut self, name: &str) -> Opened<Self::Image>
-        ensures { OpenRule Self.Image.faults name.now
+        ensures { OpenRule Self.Image.faults ReadWrite name.now
             (opener_view (next self.old) (returned self.old) (asked self.old) (faults self.old))
             (opener_view (next self.new) (returned self.new) (asked self.new) (faults self.new)) result };
 
     /// Opens the image of this name, to be read alone: one that is not there is a failure, and none is made. It answers as
-    /// `open` does.
+    /// `open` does, and what was asked for says which of the two it was.
     fn open_to_read(&mut self, name: &str) -> Opened<Self::Image>
-        ensures { OpenRule Self.Image.faults name.now
+        ensures { OpenRule Self.Image.faults ReadOnly name.now
             (opener_view (next self.old) (returned self.old) (asked self.old) (faults self.old))
             (opener_view (next self.new) (returned self.new) (asked self.new) (faults self.new)) result };
 

@@ -5,6 +5,7 @@ ghost use Rattle.model_geometry.specs.declared.kinds.LayoutKind.{LayoutKind};
 ghost use Rattle.ram_script.specs.Progress.{Beginning};
 ghost use Rattle.ram_script.specs.Completes.{IsInLanguage, BeginsWithDisc, NoneRose, IsComplete};
 ghost use Rattle.ram_run.specs.Words.{IsServedOf, IsServedImage, IsGenerateOf, IsAuditOf, IsCheckOf, IsHelp, IsVersion, UsageRule, MemoryRule};
+ghost use Rattle.ram_outside.specs.declared.opener.Access.TheVariants.{ReadWrite};
 ghost use Rattle.ram_script.specs.Around.{IsNotOpened, UntouchedByUsage, TellsText, AsksOnce, around};
 ghost use Rattle.ram_script.specs.Endings.{IsUnopened, IsOfRun, StandsWith, StatusCounts};
 ghost use Rattle.ram_script.specs.Opened.{IsBeginning, aftermath_of};
@@ -58,11 +59,11 @@ pub fn run<S: Source, K: Sink, O: Opener>(
     ensures asks { (kind : LayoutKind) (name : List ℕ)
         → IsServedOf kind name (map (λ word. word.now) words.now) → AsksOnce
         (around S.Source K.Sink O.Opener script.old report.old opener.old)
-        (around S.Source K.Sink O.Opener script.new report.new opener.new) name result }
+        (around S.Source K.Sink O.Opener script.new report.new opener.new) ReadWrite name result }
     ensures generate_asks { (name : List ℕ) (seed : ℕ)
         → IsGenerateOf name seed (map (λ word. word.now) words.now) → AsksUnread
         (around S.Source K.Sink O.Opener script.old report.old opener.old)
-        (around S.Source K.Sink O.Opener script.new report.new opener.new) name result }
+        (around S.Source K.Sink O.Opener script.new report.new opener.new) ReadWrite name result }
     ensures generate { (first : Beginning) (name : List ℕ) (seed : ℕ)
         → IsGenerateOf name seed (map (λ word. word.now) words.now)
         → BeginsFrom O.Image.bytes seed first
@@ -141,7 +142,7 @@ fn run_image<S: Source, K: Sink, O: Opener>(
         (around S.Source K.Sink O.Opener script.new report.new opener.new).counts result }
     ensures asks { AsksOnce
         (around S.Source K.Sink O.Opener script.old report.old opener.old)
-        (around S.Source K.Sink O.Opener script.new report.new opener.new) name.now result }
+        (around S.Source K.Sink O.Opener script.new report.new opener.new) ReadWrite name.now result }
     ensures run { (first : Beginning) → first.kind ≡ rooms.target.drive.kind
         → IsBeginning O.Image.bytes first
         (around S.Source K.Sink O.Opener script.old report.old opener.old) O.returned_known

@@ -3,6 +3,7 @@ use Rattle.std.specs.Prelude.{◌≡◌, ℕ, ◌⊎◌, Option, List, take}
 use Rattle.std.specs.Io.KnownBytes.{append_known}
 use Rattle.model_counts.specs.Counts.{Rose}
 use Rattle.ram_outside.specs.Opener.{OpenerView, opener_view, and_asked}
+use Rattle.ram_outside.specs.declared.opener.Access.{Access}
 use Rattle.ram_outside.specs.declared.opener.Opener.{Ghosts as Openers}
 use Rattle.ram_outside.specs.declared.sink.Sink.{Ghosts as Sinks}
 use Rattle.ram_outside.specs.declared.source.Source.{Ghosts as Sources}
@@ -66,16 +67,16 @@ module _ {I : Type 0} (old new : Surroundings I) where
     pub unwritten : new.written ≡ old.written
     pub unreturned : new.opener.returned ≡ old.opener.returned
 
-  -- the opener was asked for this name, once, and for no other
-  abbrev pub IsAskedFor : List ℕ → Type 0
-  IsAskedFor name = new.opener.asked ≡ and_asked name old.opener.asked
+  -- the opener was asked for this name, once, for this, and for no other
+  abbrev pub IsAskedFor : Access → List ℕ → Type 0
+  IsAskedFor access name = new.opener.asked ≡ and_asked access name old.opener.asked
 
   -- the opener was asked for nothing, and no image was opened
   pub record IsNotAsked : Type 0 where
     pub unasked : new.opener.asked ≡ old.opener.asked
     pub unopened : IsNotOpened
 
-  -- The opener was asked for this name, once; or it failed before it was.
-  abbrev pub AsksOnce : List ℕ → Status → Type 0
-  AsksOnce name statuses.ImageFault = IsAskedFor name ⊎ IsNotAsked
-  AsksOnce name _ = IsAskedFor name
+  -- The opener was asked for this name, once, for this; or it failed before it was.
+  abbrev pub AsksOnce : Access → List ℕ → Status → Type 0
+  AsksOnce access name statuses.ImageFault = IsAskedFor access name ⊎ IsNotAsked
+  AsksOnce access name _ = IsAskedFor access name

@@ -5,6 +5,7 @@ use Rattle.model_counts.specs.Counts.{Rose}
 use Rattle.model_geometry.specs.declared.kinds.LayoutKind.TheVariants.{OneGroup}
 use Rattle.ram_generate.specs.Script.{script_from}
 use Rattle.ram_outside.specs.Opener.{opener_view}
+use Rattle.ram_outside.specs.declared.opener.Access.{Access}
 use Rattle.ram_outside.specs.declared.opener.Opener.{Ghosts as Openers}
 use Rattle.ram_outside.specs.declared.sink.Sink.{Ghosts as Sinks}
 use Rattle.ram_report.specs.declared.printing.LastLine.{LastLine}
@@ -70,9 +71,9 @@ Generates bytes_of seed first old new status =
     GeneratedWith seed first old.written new.written (bytes_returned bytes_of new.opener.returned) status
     ⊎ (IsUnopened status × IsNotOpened old new)
 
--- the opener was asked for this name, as for a run; the source of the program's script was not touched
-pub record AsksUnread {I : Type 0} (old new : Surroundings I) (name : List ℕ) (status : Status) : Type 0 where
-  pub asks : AsksOnce old new name status
+-- the opener was asked for this name, once, for this; the source of the program's script was not touched
+pub record AsksUnread {I : Type 0} (old new : Surroundings I) (access : Access) (name : List ℕ) (status : Status) : Type 0 where
+  pub asks : AsksOnce old new access name status
   pub left : new.left ≡ old.left
   pub count : new.counts.source ≡ old.counts.source
 

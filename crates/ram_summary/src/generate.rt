@@ -5,6 +5,7 @@ ghost use Rattle.ram_summary.specs.declared.summary.TheConstants.{SUMMARY_ROOM};
 ghost use Rattle.ram_summary.specs.Rooms.{AreReadyFor};
 ghost use Rattle.ram_script.specs.Rooms.{AreReady};
 ghost use Rattle.ram_script.specs.Progress.{Beginning};
+ghost use Rattle.ram_outside.specs.declared.opener.Access.TheVariants.{ReadWrite};
 ghost use Rattle.ram_script.specs.Around.{AsksOnce, TextCount, WritesText};
 ghost use Rattle.ram_script.specs.Endings.{IsOfRun, StatusCounts};
 ghost use Rattle.ram_summary.specs.Summary.{tally_text};
@@ -42,7 +43,7 @@ pub fn generate_image<K: Sink, O: Opener>(
         (beside left source K.Sink O.Opener report.new opener.new).counts result }
     ensures asks { (left : Option (List ℕ)) (source : ℕ) → AsksOnce
         (beside left source K.Sink O.Opener report.old opener.old)
-        (beside left source K.Sink O.Opener report.new opener.new) name.now result }
+        (beside left source K.Sink O.Opener report.new opener.new) ReadWrite name.now result }
     ensures generate { (left : Option (List ℕ)) (source : ℕ) (first : Beginning)
         → BeginsFrom O.Image.bytes seed first
         (beside left source K.Sink O.Opener report.old opener.old) O.returned_known

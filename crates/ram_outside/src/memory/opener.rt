@@ -2,26 +2,35 @@
 ghost use Rattle.std.specs.Prelude.{◌≡◌, true, Some, None, [], if◌then◌else◌};
 ghost use Rattle.std.specs.Option.{option_copied};
 ghost use Rattle.ram_outside.specs.Opener.{OpenRule, CloseRule};
+ghost use Rattle.ram_outside.specs.declared.opener.Access.TheVariants.{ReadWrite, ReadOnly};
 ghost use Rattle.ram_outside.specs.Calls.{no_calls};
 ghost use Rattle.ram_outside.specs.Memory.{OpensExactly, after_close, and_asked_now, unfailed, view_of};
 
 use crate::memory::calls::Calls;
 use crate::memory::image::MemImage;
-use crate::opener::{Opened, Opener};
+use crate::opener::{Access, Opened, Opener};
 use std::marker::Model;
+
+/// An image that was asked for: by which name, and for what.
+#[derive(Debug, Drop)]
+struct Asked {
+    name: Vec<u8>,
+    access: Access,
+}
 
 /// An opener that has one image, in memory, whatever the name. It keeps the names that it was asked for.
 #[derive(Debug, Drop)]
 pub struct MemOpener {
     image: Option<MemImage>,
     returned: Option<MemImage>,
-    asked: Vec<Vec<u8>>,
+    asked: Vec<Asked>,
     calls: Calls,
 }
 
 impl Model for MemOpener {
     ghost use Rattle.std.specs.Prelude.{map};
     ghost use Rattle.std.specs.Option.{option_map};
+    ghost use Rattle.ram_outside.specs.Opener.{asking};
     ghost use Rattle.ram_outside.specs.Memory.{OpenerState, unfailed};
 
     ghost Value = { OpenerState };
@@ -29,7 +38,7 @@ impl Model for MemOpener {
     ghost view = { λ o. record {
       next = option_map unfailed o.image;
       returned = o.returned;
-      asked = map (λ name. name.items) o.asked.items;
+      asked = map (λ one. asking one.access one.name.items) o.asked.items;
       calls = o.calls;
     } };
 }
@@ -60,23 +69,23 @@ impl MemOpener {
         self.returned.as_ref()
     }
 
-    /// Keeps a name that was asked for. Where memory is refused, none is kept.
-    fn keep_name(&mut self, name: &str) -> bool
-        ensures { self.new ≡ (if result then and_asked_now name.now self.old else self.old) }
+    /// Keeps what was asked for. Where memory is refused, nothing is kept.
+    fn keep_name(&mut self, name: &str, access: Access) -> bool
+        ensures { self.new ≡ (if result then and_asked_now access name.now self.old else self.old) }
     {
         match Vec::from_slice(*self.asked.allocator(), name.as_bytes()) {
-            Ok(name) => self.asked.push(name).is_ok(),
+            Ok(name) => self.asked.push(Asked { name, access }).is_ok(),
             Err(_) => false,
         }
     }
 
     /// Gives the image, where it still has it and the call is none that fails.
-    fn give(&mut self, name: &str) -> Opened<MemImage>
-        ensures rule { OpenRule (λ i. i.calls.faults) name.now (view_of self.old) (view_of self.new) result }
-        ensures exactly { OpensExactly name.now self.old self.new result }
+    fn give(&mut self, name: &str, access: Access) -> Opened<MemImage>
+        ensures rule { OpenRule (λ i. i.calls.faults) access name.now (view_of self.old) (view_of self.new) result }
+        ensures exactly { OpensExactly access name.now self.old self.new result }
     {
         let fails = self.calls.next_fails();
-        if !self.keep_name(name) {
+        if !self.keep_name(name, access) {
             if !fails {
                 self.calls.add_faults(1);
             }
@@ -112,18 +121,18 @@ impl Opener for MemOpener {
     ghost faults = { λ o. o.calls.faults };
 
     fn open(&mut self, name: &str) -> Opened<MemImage>
-        ensures rule { OpenRule (λ i. i.calls.faults) name.now (view_of self.old) (view_of self.new) result }
-        ensures exactly { OpensExactly name.now self.old self.new result }
+        ensures rule { OpenRule (λ i. i.calls.faults) ReadWrite name.now (view_of self.old) (view_of self.new) result }
+        ensures exactly { OpensExactly ReadWrite name.now self.old self.new result }
     {
-        self.give(name)
+        self.give(name, Access::ReadWrite)
     }
 
-    /// It does what `open` does.
+    /// It does what `open` does, but for what it keeps.
     fn open_to_read(&mut self, name: &str) -> Opened<MemImage>
-        ensures rule { OpenRule (λ i. i.calls.faults) name.now (view_of self.old) (view_of self.new) result }
-        ensures exactly { OpensExactly name.now self.old self.new result }
+        ensures rule { OpenRule (λ i. i.calls.faults) ReadOnly name.now (view_of self.old) (view_of self.new) result }
+        ensures exactly { OpensExactly ReadOnly name.now self.old self.new result }
     {
-        self.give(name)
+        self.give(name, Access::ReadOnly)
     }
 
     fn close(&mut self, image: MemImage)

@@ -8,6 +8,7 @@ use Rattle.ram_script.specs.Progress.{Beginning}
 use Rattle.ram_machine.specs.declared.status.Status.{Status}
 use Rattle.ram_machine.specs.declared.status.Status.TheVariants as statuses
 use Rattle.ram_run.specs.Words.{MemoryRule, UsageRule, IsWordForm, IsServedOf, IsServedImage, IsGenerateOf, IsAuditOf, IsCheckOf}
+use Rattle.ram_outside.specs.declared.opener.Access.TheVariants.{ReadWrite, ReadOnly}
 use Rattle.ram_script.specs.Around.{IsNotOpened, AsksOnce, around}
 use Rattle.ram_script.proofs.Completes.{completes}
 use Rattle.ram_run.proofs.Few.{one_served, one_generate, one_name}
@@ -71,7 +72,7 @@ returns-in-Some-Run-clause-asks g c kind name words =
     let after = around g.S.Source g.K.Sink g.O.Opener c.run_image.new.script c.run_image.new.report c.run_image.new.opener in
     let texts : List (List ℕ) = map (λ (word : Bor (List ℕ)). word.now) c.args.words.now in
     let told : IsServedOf c.in-Some-Run.kind c.in-Some-Run.name.now texts = rw (c.in-Some-Run.is, c.in-Some-Run.field-0-is) at c.form_of.ensures in
-    subst (λ (n : List ℕ). AsksOnce before after n c.run_image.result) (one_served texts c.in-Some-Run.kind kind c.in-Some-Run.name.now name told words).1 c.run_image.ensures.asks
+    subst (λ (n : List ℕ). AsksOnce before after ReadWrite n c.run_image.result) (one_served texts c.in-Some-Run.kind kind c.in-Some-Run.name.now name told words).1 c.run_image.ensures.asks
 
 pub returns-in-Some-Run-clause-run : goal.returns-in-Some-Run-clause-run
 returns-in-Some-Run-clause-run g c first words known =
@@ -107,7 +108,7 @@ returns-in-Some-Generate-clause-generate_asks g c name seed words =
     let told : IsGenerateOf c.in-Some-Generate.name.now c.in-Some-Generate.seed texts = rw (c.in-Some-Generate.is, c.in-Some-Generate.field-0-is) at c.form_of.ensures in
     let same = one_generate texts c.in-Some-Generate.name.now name c.in-Some-Generate.seed seed told words in
     record {
-      asks = subst (λ (n : List ℕ). AsksOnce before after n c.generate_image.result) same.0 (c.generate_image.ensures.asks (g.S.Source.left c.args.script.now) (g.S.Source.faults c.args.script.now));
+      asks = subst (λ (n : List ℕ). AsksOnce before after ReadWrite n c.generate_image.result) same.0 (c.generate_image.ensures.asks (g.S.Source.left c.args.script.now) (g.S.Source.faults c.args.script.now));
       left = refl {a = g.S.Source.left c.args.script.now};
       count = refl {a = g.S.Source.faults c.args.script.now};
     }
@@ -167,7 +168,7 @@ returns-in-Some-Audit-clause-audit g c name words =
     let told : IsAuditOf c.in-Some-Audit.name.now texts = rw (c.in-Some-Audit.is, c.in-Some-Audit.field-0-is) at c.form_of.ensures in
     record {
       asks = record {
-        asks = subst (λ (n : List ℕ). AsksOnce before after n c.audit_image.result) (one_name texts _ _ c.in-Some-Audit.name.now name told words) (c.audit_image.ensures.asks (g.S.Source.left c.args.script.now) (g.S.Source.faults c.args.script.now));
+        asks = subst (λ (n : List ℕ). AsksOnce before after ReadOnly n c.audit_image.result) (one_name texts _ _ c.in-Some-Audit.name.now name told words) (c.audit_image.ensures.asks (g.S.Source.left c.args.script.now) (g.S.Source.faults c.args.script.now));
         left = refl {a = g.S.Source.left c.args.script.now};
         count = refl {a = g.S.Source.faults c.args.script.now};
       };
@@ -190,7 +191,7 @@ returns-in-Some-Check-clause-check g c name words =
     let texts : List (List ℕ) = map (λ (word : Bor (List ℕ)). word.now) c.args.words.now in
     let told : IsCheckOf c.in-Some-Check.name.now texts = rw (c.in-Some-Check.is, c.in-Some-Check.field-0-is) at c.form_of.ensures in
     record {
-      asks = subst (λ (n : List ℕ). AsksOnce before after n c.check_image.result) (one_name texts _ _ c.in-Some-Check.name.now name told words) c.check_image.ensures.asks;
+      asks = subst (λ (n : List ℕ). AsksOnce before after ReadOnly n c.check_image.result) (one_name texts _ _ c.in-Some-Check.name.now name told words) c.check_image.ensures.asks;
       tells = c.check_image.ensures.tells;
     }
 
