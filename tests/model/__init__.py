@@ -9,6 +9,6 @@ changes an image by hand, and `unfit` lays lists on a disc that do not fit. And 
 reports with, whatever drive they are of: `reports` reads one back, `promise` says where it breaks the promise
 of docs/PROMISE.md, and `reports_by_hand` has some that do.
 
-The model is short rather than fast: whoever writes another drive can read it beside the documents, and
+The model is short rather than fast: an author of another drive can read it beside the documents, and
 compare with it.
 """

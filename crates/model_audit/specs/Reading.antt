@@ -1,4 +1,4 @@
--- What a certificate says, read from its lines alone: for whoever has one that was checked. (This project's own, as all
+-- What a certificate says, read from its lines alone: for holders of a checked one. (This project's own, as all
 -- here.)
 use Rattle.std.specs.Prelude.{◌≡◌, ℕ, ◌*◌, ◌+◌, ◌<◌, ◌≤◌, Option, Some, None, List, [], ◌∷◌}
 use Rattle.std.specs.List.{Contains}

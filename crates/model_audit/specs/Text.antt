@@ -1,4 +1,4 @@
--- The text of each line of a certificate: for whoever writes one or compares one. (This project's own, as all here.)
+-- The text of each line of a certificate: for writing and comparing one. (This project's own, as all here.)
 use Rattle.std.specs.Prelude.{ℕ, ◌<◌, ◌^◌, List, [], ◌∷◌, ◌++◌, codes, decimal}
 use Rattle.std.specs.List.{flat_map}
 use Rattle.model_geometry.specs.declared.kinds.LayoutKind.{LayoutKind}

@@ -29,7 +29,7 @@ use Rattle.model_cache.specs.Chains.{leaves_pending}
 use Rattle.model_cache.specs.Steps.{SomePending, FindsValues, FullValues, FormatValues, ReadContents, VerifyContents, WriteContents, FormatContents, ExpandContents, PowerContents}
 use Rattle.model_cache.specs.Causes.{CacheReadCause, CacheVerifyCause, CacheWriteCause, CacheFormatCause, CacheExpandCause, CachePowerCause, WritesThrough, StopsWritingThrough, leaves_after_read, leaves_after_format, leaves_after_full, leaves_after_expansion}
 use Rattle.model_cache.proofs.SameBlocks.{same_taken}
-use Rattle.model_cache.specs.Plain.{uncached, LeavesUncached, IsPlainly}
+use Rattle.model_cache.specs.Plain.{uncached, LeavesUncached, StandsForUncached}
 
 abbrev made : Shown → List (ℕ × List ℕ) → Bool → CacheShown
 made drive pending caches = record { drive = drive; pending = pending; caches = caches }
@@ -165,10 +165,10 @@ module _ (drive : Shown) (new : CacheShown) where
 -- ---- what the calls make of it
 
 -- it came to what the disc came to
-plainly : (t : Contents) (u : Standing) → plain u ≡ t → IsPlainly t (λ x. u ≡ x)
+plainly : (t : Contents) (u : Standing) → plain u ≡ t → StandsForUncached t (λ x. u ≡ x)
 plainly t u e = record { standing = u; is = sym e; so = refl }
 
-with_first : {A : Type 0} (t : Contents) (u : Standing) → A → plain u ≡ t → IsPlainly t (λ x. A × (u ≡ x))
+with_first : {A : Type 0} (t : Contents) (u : Standing) → A → plain u ≡ t → StandsForUncached t (λ x. A × (u ≡ x))
 with_first t u a e = record { standing = u; is = sym e; so = (a, refl) }
 
 none_some : (new : CacheShown) (lba n : ℕ) → new ≡ uncached new.drive → SomePending new lba n → ⊥
@@ -180,7 +180,7 @@ none_some new lba n none some =
 
 module _ (t : Contents) where
   pub plain_read_step : (s : Standing) (lba n : ℕ) (into : List ℕ) (out : ReadOut) → ReadContents (λ x. x ≡ t) (plain s) lba n into out
-      → IsPlainly t (λ u. ReadStep (λ x. x ≡ u) s lba n into out)
+      → StandsForUncached t (λ u. ReadStep (λ x. x ≡ u) s lba n into out)
   plain_read_step (On disc) lba n into reads.Good p = with_first t (On disc) (p.0) (p.1)
   plain_read_step (On disc) lba n into reads.NotFormatted p = with_first t (On disc) (p.0) (p.1)
   plain_read_step (On disc) lba n into (reads.Range known) p = plainly t (On disc) p
@@ -191,7 +191,7 @@ module _ (t : Contents) where
   plain_read_step (Off discs) lba n into reads.Off p = plainly t (Off discs) p
   plain_read_step (Off discs) lba n into _ p = absurd p
 
-  pub plain_verify_step : (s : Standing) (out : ReadOut) → VerifyContents (λ x. x ≡ t) (plain s) out → IsPlainly t (λ u. VerifyStep (λ x. x ≡ u) s out)
+  pub plain_verify_step : (s : Standing) (out : ReadOut) → VerifyContents (λ x. x ≡ t) (plain s) out → StandsForUncached t (λ u. VerifyStep (λ x. x ≡ u) s out)
   plain_verify_step (On disc) reads.Good p = plainly t (On disc) p
   plain_verify_step (On disc) reads.NotFormatted p = plainly t (On disc) p
   plain_verify_step (On disc) (reads.Range known) p = plainly t (On disc) p
@@ -203,7 +203,7 @@ module _ (t : Contents) where
   plain_verify_step (Off discs) _ p = absurd p
 
   pub plain_expand_step : (s : Standing) (sectors : ℕ) (out : ExpandOut) → ExpandContents (λ x. x ≡ t) (plain s) sectors out
-      → IsPlainly t (λ u. ExpandStep (λ x. x ≡ u) s sectors out)
+      → StandsForUncached t (λ u. ExpandStep (λ x. x ≡ u) s sectors out)
   plain_expand_step (On disc) sectors expands.Good p = plainly t (On _) p
   plain_expand_step (On disc) sectors expands.NotFormatted p = with_first t (On disc) (p.0) (p.1)
   plain_expand_step (On disc) sectors (expands.Refused known) p = plainly t (On disc) p
@@ -216,7 +216,7 @@ module _ (t : Contents) where
 
   -- a write
   pub plain_write_step : (drive : Shown) (new : CacheShown) (s : Standing) (lba n : ℕ) (bytes : List ℕ) (out : WriteOut) → new ≡ uncached new.drive
-      → WriteContents (uncached drive) new (λ x. x ≡ t) (plain s) lba n bytes out → IsPlainly t (λ u. WriteStep new.drive (λ x. x ≡ u) s lba n bytes out)
+      → WriteContents (uncached drive) new (λ x. x ≡ t) (plain s) lba n bytes out → StandsForUncached t (λ u. WriteStep new.drive (λ x. x ≡ u) s lba n bytes out)
   plain_write_step drive new (On disc) lba n bytes writes.Good none p = plainly t (On _) p
   plain_write_step drive new (On disc) lba n bytes writes.NotFormatted none p = with_first t (On disc) (p.0) (p.1)
   plain_write_step drive new (On disc) lba n bytes (writes.Range known) none p = plainly t (On disc) p
@@ -246,7 +246,7 @@ module _ (t : Contents) where
   plain_write_step drive new (Off discs) lba n bytes _ none p = absurd p
 
   -- a format
-  full_step : (old new : Shown) (disc : List ℕ) (out : FormatOut) → FullValues (λ x. x ≡ t) (settled_values disc) old new out → IsPlainly t (λ u. FullStep old new (λ x. x ≡ u) disc out)
+  full_step : (old new : Shown) (disc : List ℕ) (out : FormatOut) → FullValues (λ x. x ≡ t) (settled_values disc) old new out → StandsForUncached t (λ u. FullStep old new (λ x. x ≡ u) disc out)
   full_step old new disc formats.Good p = plainly t (On _) p
   full_step old new disc (formats.TooMany found) p = plainly t (On []) p
   full_step old new disc (formats.NoUpdate counter) (inl p) = record { standing = On disc; is = sym p.1; so = inl (p.0, refl) }
@@ -259,7 +259,7 @@ module _ (t : Contents) where
   full_step old new disc formats.Fault (inr (inl p)) = record { standing = Off _; is = sym p; so = inr (inl refl) }
   full_step old new disc formats.Fault (inr (inr p)) = record { standing = Off _; is = sym p; so = inr (inr refl) }
 
-  rewrite_step : (disc : List ℕ) (out : FormatOut) → RewriteStep (λ u. lifted [] u ≡ t) disc out → IsPlainly t (λ u. RewriteStep (λ x. x ≡ u) disc out)
+  rewrite_step : (disc : List ℕ) (out : FormatOut) → RewriteStep (λ u. lifted [] u ≡ t) disc out → StandsForUncached t (λ u. RewriteStep (λ x. x ≡ u) disc out)
   rewrite_step disc formats.Good p = plainly t (On disc) p
   rewrite_step disc (formats.NoUpdate counter) p = plainly t (On disc) p
   rewrite_step disc formats.Cut p = plainly t (Off (disc ∷ [])) p
@@ -268,19 +268,19 @@ module _ (t : Contents) where
   rewrite_step disc formats.Off p = absurd p
 
   format_by : (old new : Shown) (lists : Option Lists) (disc : List ℕ) (kind : Kind) (out : FormatOut) → FormatValues (λ x. x ≡ t) (settled_values disc) old new lists kind out
-      → IsPlainly t (λ u. FormatStepBy old new lists (λ x. x ≡ u) disc kind out)
+      → StandsForUncached t (λ u. FormatStepBy old new lists (λ x. x ≡ u) disc kind out)
   format_by old new lists disc (kinds.Full drop_sdl) out p = full_step old new disc out p
   format_by old new None disc kinds.Rewrite out p = full_step old new disc out p
   format_by old new (Some lists) disc kinds.Rewrite out p = rewrite_step disc out p
 
   pub plain_format_step : (old new : Shown) (s : Standing) (kind : Kind) (out : FormatOut) → FormatContents old new (λ x. x ≡ t) (plain s) kind out
-      → IsPlainly t (λ u. FormatStep old new (λ x. x ≡ u) s kind out)
+      → StandsForUncached t (λ u. FormatStep old new (λ x. x ≡ u) s kind out)
   plain_format_step old new (On disc) kind out p = format_by old new old.lists disc kind out p
   plain_format_step old new (Off discs) kind formats.Off p = plainly t (Off discs) p
   plain_format_step old new (Off discs) kind _ p = absurd p
 
   -- the power
-  finds : (new : Shown) (discs : List (List ℕ)) → FindsValues new (λ x. x ≡ t) (map (with_older []) discs) → IsPlainly t (λ u. FindsDisc new (λ x. x ≡ u) discs)
+  finds : (new : Shown) (discs : List (List ℕ)) → FindsValues new (λ x. x ≡ t) (map (with_older []) discs) → StandsForUncached t (λ u. FindsDisc new (λ x. x ≡ u) discs)
   finds new discs p =
       let first = subst (λ (l : List (List ℕ)). IsFirstUnder new.shape (cells_in new) p.finds.lists l p.finds.disc) (sym (same_taken discs p.discs p.taken)) p.finds.first in
       record {
@@ -293,7 +293,7 @@ module _ (t : Contents) where
   candidates_are (On disc) = refl
   candidates_are (Off discs) = refl
 
-  pub plain_power_step : (new : Shown) (s : Standing) (out : PowerOut) → PowerContents new (λ x. x ≡ t) (plain s) out → IsPlainly t (λ u. PowerStep new (λ x. x ≡ u) s out)
+  pub plain_power_step : (new : Shown) (s : Standing) (out : PowerOut) → PowerContents new (λ x. x ≡ t) (plain s) out → StandsForUncached t (λ u. PowerStep new (λ x. x ≡ u) s out)
   plain_power_step new s (powers.Ready known) p = finds new (candidates s) (subst (FindsValues new (λ x. x ≡ t)) (candidates_are s) p)
   plain_power_step new s powers.NotFormatted p = plainly t (On []) p
   plain_power_step new s powers.Cut p = plainly t (Off (candidates s)) (ap MayHave (sym (candidates_are s)) ∙ p)

@@ -11,6 +11,6 @@ stands_alike stands drive alike pending (Has v) = (λ (d, so, under). (d, (alike
 stands_alike stands drive alike pending (MayHave all) =
     (λ (discs, so, taken). (discs, (alike (Off discs)).0 so, taken), λ (discs, so, taken). (discs, (alike (Off discs)).1 so, taken))
 
--- the first so many blocks of any are few
+-- the first n blocks of any are few
 pub few_pending : (items : List (ℕ × List ℕ)) (count : ℕ) → count ≤ 32 → length (take count items) ≤ CACHED_BLOCKS
 few_pending items count few = omega (arith, length-take count items)

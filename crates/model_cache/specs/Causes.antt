@@ -68,7 +68,7 @@ ReadsPart old new lba n block None out =
     ReadsDisc old.drive new.drive (start_in lba block) (end_in lba n block - start_in lba block) out
     × (new.pending ≡ leaves_after_read out old.pending) × (new.caches ≡ old.caches)
 
--- the first so many blocks of a read were read, in rising order
+-- the first n blocks of a read were read, in rising order
 abbrev pub ReadsParts : CacheShown → CacheShown → (lba n : ℕ) → ℕ → Type 0
 ReadsParts old new lba n zero = new ≡ old
 ReadsParts old new lba n (suc k) = (mid : CacheShown) × ReadsParts old mid lba n k
@@ -99,7 +99,7 @@ abbrev pub CacheReadBy : List (ℕ × List ℕ) → CacheShown → CacheShown �
 CacheReadBy [] old new lba n out = ReadsDisc old.drive new.drive lba n out × DropsCache old new
 CacheReadBy (held ∷ pending) old new lba n out = ReadPartsCause old new lba n out
 
--- The cause of each answer of a read of so many sectors from this one on, and what the drive shows then.
+-- The cause of each answer of a read of n sectors from lba on, and what the drive shows then.
 abbrev pub CacheReadCause : CacheShown → CacheShown → (lba n : ℕ) → ReadOut → Type 0
 CacheReadCause old new lba n reads.Off = CacheWasOff old new
 CacheReadCause old new lba n out = CacheReadBy ((dropped old).pending) (dropped old) new lba n out
@@ -137,7 +137,7 @@ ThroughCause old new lba n writes.NotFormatted = CacheUnformatted old new
 ThroughCause old new lba n writes.Off = CacheWasOff old new
 ThroughCause old new lba n out = ThroughCauseOf (dropped old) new lba n out
 
--- How many blocks have to leave the cache before so many others come in.
+-- How many blocks have to leave the cache before n others come in.
 abbrev pub leave_first : CacheShown → (lba n : ℕ) → ℕ
 leave_first shown lba n = (length (pending_covered false shown lba n) + blocks_covered lba n) - CACHED_BLOCKS
 
@@ -145,7 +145,7 @@ leave_first shown lba n = (length (pending_covered false shown lba n) + blocks_c
 abbrev pub leaving : CacheShown → (lba n : ℕ) → List ℕ
 leaving shown lba n = take (leave_first shown lba n) (pending_covered false shown lba n)
 
--- the rests of the first so many blocks were read from the disc, where they are needed
+-- the rests of the first n blocks were read from the disc, where they are needed
 abbrev pub ReadsRest : CacheShown → CacheShown → (block : ℕ) → (partly : Bool) → Option (List ℕ) → Type 0
 ReadsRest old new block true None = ReadsDisc old.drive new.drive (16 * block) 16 reads.Good × KeepsCache old new
 ReadsRest old new block _ _ = new ≡ old

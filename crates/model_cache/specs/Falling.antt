@@ -26,7 +26,7 @@ FallsWithin choices i s = FallsTo (Contains choices) i s
 abbrev pub value_written : Values → (lba : ℕ) → List ℕ → ℕ → List ℕ
 value_written v lba bytes i = block_of (replaced v.disc lba bytes (i + 1)) i
 
--- the disc has so many logical blocks, and the sectors of a request are its own
+-- the disc has n logical blocks, and the sectors of a request are its own
 pub record LiesIn (disc : List ℕ) (lba n : ℕ) (bytes : List ℕ) : Type 0 where
   pub blocks : ℕ
   pub as_long : length disc ≡ 32768 * blocks

@@ -153,7 +153,7 @@ pub record Mark (shape : Shape) (cells : List Cell) (mark : ℕ) : Type 0 where
   pub reached : (mark ≡ 0) ⊎ IsMarked IsDdsText (dds_block shape) cells (counter_for shape) mark
       ⊎ IsNamed shape cells mark
 
--- Of the four copies of the secondary list just so many were written again: those whose cells were not exactly its text
+-- Of the four copies of the secondary list just n were written again: those whose cells were not exactly its text
 -- when they were read.
 abbrev pub RewritesSdl : Shape → List Cell → List Cell → Sdl → ℕ → Type 0
 RewritesSdl shape old new value count = Rewrites (λ cell. Holds IsSdlText cell value) (sdl_block shape) old new 4 count
@@ -165,15 +165,15 @@ GoesOn (Good bytes) = (names : ℕ) × IsMore bytes names
 GoesOn Torn = ⊥
 GoesOn Dead = ⊥
 
--- of the first cells of the first so many areas just so many go on
+-- how many of the first cells of the first k areas go on
 abbrev pub CountMores : Shape → List Cell → ℕ → ℕ → Type 0
 CountMores shape cells zero count = count ≡ 0
 CountMores shape cells (suc k) count = (GoesOn (cell_at cells (sdl_block shape (suc k))) × ((before : ℕ) × (count ≡ before + 1) × CountMores shape cells k before))
     ⊎ (¬ GoesOn (cell_at cells (sdl_block shape (suc k))) × CountMores shape cells k count)
 
--- how many copies of the first so many areas can be read whole, where a test says which cells are exactly their parts
+-- how many copies of the first n areas can be read whole, where a test says which cells are exactly their parts
 module _ {V : Type 0} (two : V → Type 0) (first second : V → List ℕ → Type 0) (place place' : ℕ → ℕ) (cells : List Cell) (value : V) where
-  -- just so many of the copies of the first so many areas are exactly the text
+  -- how many of the copies of the first k areas are exactly the text
   abbrev pub HaveCopies : ℕ → ℕ → Type 0
   HaveCopies zero count = count ≡ 0
   HaveCopies (suc k) count = (HasWhole two first second place place' cells value (suc k) × ((before : ℕ) × (count ≡ before + 1) × HaveCopies k before))

@@ -15,19 +15,19 @@ data_place total block = 16 + total + 32768 * block
 abbrev pub cell_of : ℕ → List ℕ → Cell
 cell_of state block_data = if state == 0 then Blank else (if state == 1 then Good block_data else (if state == 3 then Dead else Torn))
 
--- the data of a block in an image of so many blocks
+-- the data of a block in an image of n blocks
 abbrev pub data_in : ℕ → List ℕ → ℕ → List ℕ
 data_in total bytes block = take 32768 (drop (data_place total block) bytes)
 
--- the cell of a block in an image of so many blocks
+-- the cell of a block in an image of n blocks
 abbrev pub cell_in : ℕ → List ℕ → ℕ → Cell
 cell_in total bytes block = cell_of (slice_index bytes (state_place block)) (data_in total bytes block)
 
--- the cells of an image of so many blocks
+-- the cells of an image of n blocks
 abbrev pub cells_of : ℕ → List ℕ → List Cell
 cells_of total bytes = map (cell_in total bytes) (range_with_len 0 total)
 
--- how many bytes an image of so many blocks has
+-- how many bytes an image of n blocks has
 abbrev pub image_len : ℕ → ℕ
 image_len total = 16 + total + 32768 * total
 
@@ -49,7 +49,7 @@ pub record StopsInState (total block : ℕ) (cell : Cell) (before after : List �
   pub may : (left ≡ cell_at (cells_of total before) block) ⊎ (left ≡ cell)
   pub sets : SetsCell total block left before after
 
--- the cells of an image of so many blocks where its bytes are known, and none where they are not
+-- the cells of an image of n blocks where its bytes are known, and none where they are not
 abbrev pub cells_known : ℕ → Option (List ℕ) → List Cell
 cells_known total None = []
 cells_known total (Some bytes) = cells_of total bytes

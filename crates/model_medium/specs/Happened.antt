@@ -6,7 +6,7 @@ use Rattle.model_medium.specs.Machine.{Machine}
 use Rattle.model_medium.specs.Exact.{Event, Read, Write, PowerOn, PowerOff}
 use Rattle.model_medium.specs.Reach.{ReachBy}
 
--- An event of a medium of so many blocks: it uses one of them, and what is written is as long as a block. (This project's
+-- An event of a medium of n blocks: it uses one of them, and what is written is as long as a block. (This project's
 -- own, as all here.)
 abbrev pub IsEventOf : ℕ → Event → Type 0
 IsEventOf blocks (Read block into into' how) = block < blocks

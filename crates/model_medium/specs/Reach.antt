@@ -1,4 +1,4 @@
--- What can follow on a medium by so many uses that did not fail: for work of several uses.
+-- What can follow on a medium by n uses that did not fail: for work of several uses.
 use Rattle.std.specs.Prelude.{◌≡◌, ◌≢◌, ℕ, ◌+◌, ◌≤◌, ◌⊎◌, IsTrue, Option, Some, None, List, [], ◌∷◌}
 use Rattle.model_counts.specs.Counts.{counted}
 use Rattle.model_medium.specs.Cells.{Cell, Torn, Dead, IsGood, IsGoodOrDead, cell_at}
@@ -43,12 +43,12 @@ abbrev pub IsWornWithin : ℕ → ℕ → List WornBlock → Type 0
 IsWornWithin k block [] = ⊥
 IsWornWithin k block (arm ∷ arms) = ((arm.block ≡ block) × (arm.left ≤ k)) ⊎ IsWornWithin k block arms
 
--- the arm was dropped within k uses: it had at most so many left, and its block is dead
+-- the arm was dropped within k uses: it had at most k left, and its block is dead
 pub record IsDropped (k : ℕ) (cells : List Cell) (arm : WornBlock) : Type 0 where
   pub few_left : arm.left ≤ k
   pub dead : cell_at cells arm.block ≡ Dead
 
--- the arm stands after k uses: it is lowered by at most so many
+-- the arm stands after k uses: it is lowered by at most k
 pub record IsLowered (k : ℕ) (arm arm' : WornBlock) : Type 0 where
   pub same_block : arm'.block ≡ arm.block
   pub not_raised : arm'.left ≤ arm.left
@@ -69,7 +69,7 @@ CutStands k None (Some armed') = ⊥
 CutStands k (Some armed) None = ⊥
 CutStands k (Some armed) (Some armed') = (armed'.fate ≡ armed.fate) × (armed.left ≡ armed'.left + k) × (1 ≤ armed'.left)
 
--- the armed cut came at the last of k uses: it had just so many left, and is dropped
+-- the armed cut came at the last of k uses: it had just n left, and is dropped
 abbrev pub CutFell : ℕ → Option ArmedCut → Option ArmedCut → Type 0
 CutFell k None cut' = ⊥
 CutFell k (Some armed) cut' = (armed.left ≡ k) × (cut' ≡ None)

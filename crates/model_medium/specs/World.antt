@@ -121,7 +121,7 @@ WriteRule old new block bytes writes.Cut = IsCutInWrite old new block bytes
 WriteRule old new block bytes writes.Off = IsOff old new
 WriteRule old new block bytes writes.Failed = FailsInWrite old new block bytes
 
--- How far work on a medium went: by so many uses, none of which failed, or by one use that failed. (This project's own.)
+-- How far work on a medium went: by n uses, none of which failed, or by one use that failed. (This project's own.)
 pub data Span : Type 0 where
   Uses : ℕ → Span
   FailedUse : Span

@@ -45,7 +45,7 @@ pub record ReadsPart (old new : MirrorShown) (lba n block : ℕ) (out : ReadOut)
   pub reads : LeadReads old mid (start_in lba block) (end_in lba n block - start_in lba block) told
   pub ends : EndsPart mid new lba n block told out
 
--- those of the first so many blocks were, in rising order
+-- those of the first n blocks were, in rising order
 abbrev pub ReadsParts : MirrorShown → MirrorShown → (lba n : ℕ) → ℕ → Type 0
 ReadsParts old new lba n zero = new ≡ old
 ReadsParts old new lba n (suc k) = (mid : MirrorShown) × ReadsParts old mid lba n k
@@ -105,7 +105,7 @@ abbrev pub ReadsOn : MirrorShown → MirrorShown → (lba n : ℕ) → ReadOut �
 ReadsOn old new lba n out = ((is_stop out ≡ false) × ReadsLed old new lba n out)
     ⊎ ReadsElsewhere old new lba n out ⊎ ReadStopped old new lba n out
 
--- The cause of each answer of a read of so many sectors from this one on, and what the mirror shows then.
+-- The cause of each answer of a read of n sectors from lba on, and what the mirror shows then.
 abbrev pub MirrorReadCause : MirrorShown → MirrorShown → (lba n : ℕ) → ReadOut → Type 0
 MirrorReadCause old new lba n out =
     MatchBool old.on (ReadsOn old new lba n out) ((out ≡ outs.Off) × (new ≡ old))

@@ -149,7 +149,7 @@ pub record CopiesBlock (old new : MirrorShown) (i : ℕ) : Type 0 where
 abbrev pub is_to_copy : MirrorShown → ℕ → Bool
 is_to_copy shown i = shown.up && is_apart shown.table i
 
--- The first so many blocks were gone through, rising: each that is apart was copied, while the other side is up.
+-- The first n blocks were gone through, rising: each that is apart was copied, while the other side is up.
 abbrev pub CopiesBlocks : MirrorShown → MirrorShown → ℕ → Type 0
 CopiesBlocks old new zero = new ≡ old
 CopiesBlocks old new (suc k) = (mid : MirrorShown) × CopiesBlocks old mid k

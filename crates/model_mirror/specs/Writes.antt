@@ -97,7 +97,7 @@ abbrev pub WritesOn : MirrorShown → MirrorShown → (lba n : ℕ) → WriteOut
 WritesOn old new lba n out = ((is_stop out ≡ false) × WritesLed old new lba n out)
     ⊎ WritesElsewhere old new lba n out ⊎ WriteStopped old new lba n out
 
--- The cause of each answer of a write of so many sectors from this one on, and what the mirror shows then.
+-- The cause of each answer of a write of n sectors from lba on, and what the mirror shows then.
 abbrev pub MirrorWriteCause : MirrorShown → MirrorShown → (lba n : ℕ) → WriteOut → Type 0
 MirrorWriteCause old new lba n out =
     MatchBool old.on (WritesOn old new lba n out) ((out ≡ outs.Off) × (new ≡ old))

@@ -26,7 +26,7 @@ slips_few_by EachZone shape blocks = (zone : ℕ) → zone < shape.zones → sli
 unfoldable pub SlipsFew : Shape → List ℕ → Type 0
 SlipsFew shape blocks = slips_few_by shape.layout shape blocks
 
--- Of the first so many zones, the number of the first one that has more than the limit; and 0 where none has. (This project's
+-- Of the first n zones, the number of the first one that has more than the limit; and 0 where none has. (This project's
 -- own.)
 abbrev pub first_over : (limit : ℕ) → (many : ℕ → ℕ) → (zones : ℕ) → ℕ
 first_over limit many zero = 0

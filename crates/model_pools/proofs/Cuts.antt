@@ -1,4 +1,4 @@
--- A pool that is cut out of a rising list: so many of the first are spares, taken from the last of them down; the next are logical
+-- A pool that is cut out of a rising list: n of the first are spares, taken from the last of them down; the next are logical
 -- blocks; and the others are spares again, taken from the last down.
 use Rattle.std.proofs.Common.{◌≡◌, ℕ, ◌+◌, ◌-◌, ◌<◌, ◌≤◌, ◌⊎◌, inl, inr, ⊎_elim, List, [], ◌∷◌, ◌++◌, length, take, drop, get_or, Some, refl, sym, ap, ◌∙◌, subst, arith}
 use Rattle.std.specs.Prelude.{reverse, slice_get, slice_index}

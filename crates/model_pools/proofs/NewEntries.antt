@@ -45,7 +45,7 @@ module _ (pools : List Pool) (entries : List SdlEntry) (lawful : ArePools pools)
   abbrev own : ℕ
   own = block_in pools i
 
-  -- the entries once so many spares are retired
+  -- the entries once n spares are retired
   abbrev retired_by : ℕ → List SdlEntry
   retired_by k = with_retired (tried_of free k) entries
 

@@ -26,7 +26,7 @@ abbrev pub sdl_moved_in : List Pool → Sdl → (i : ℕ) → (failed : List ℕ
 sdl_moved_in pools sdl i failed spare =
     record sdl { counter = sdl.counter + 1; entries = entries_moved_in pools sdl.entries i failed spare }
 
--- the first so many of a list, the last one first
+-- the first n of a list, the last one first
 abbrev pub tried_of : List ℕ → ℕ → List ℕ
 tried_of free zero = []
 tried_of free (suc k) = slice_index free k ∷ tried_of free k

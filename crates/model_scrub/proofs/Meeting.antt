@@ -15,7 +15,7 @@ use Rattle.model_cache.specs.Shown.{CacheShown, dropped}
 use Rattle.model_cache.specs.Causes.{ReadsPart, ReadsParts, EndsReading, CacheReadBy, CacheReadCause}
 use Rattle.model_scrub.specs.Asks.{AreUnreadNow, StayWhole}
 
--- the block with the sector that is named is so many behind the first one
+-- the block with the sector that is named is k behind the first one
 named_block : (lba n named k : ℕ) → NamesBlock lba n named k → block_with named ≡ block_with lba + k
 named_block lba n named k is = ap block_with is.first ∙ block_with_start lba n k is.covered
 

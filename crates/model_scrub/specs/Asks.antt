@@ -78,7 +78,7 @@ EndsPass ends.Off out = out ≡ passes.Off
 EndsPass ends.Fault out = out ≡ passes.Fault
 EndsPass _ out = ⊥
 
--- A pass was ended by a step, after so many that went on.
+-- A pass was ended by a step, after n that went on.
 pub record StopsPass (old new : CacheShown) (s t : Scrubber) (out : PassEnd) : Type 0 where
   pub before : ℕ
   pub mid : CacheShown

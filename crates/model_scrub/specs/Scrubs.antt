@@ -22,7 +22,7 @@ without_block i found = filter (λ j. not (j == i)) found
 abbrev pub with_block : ℕ → List ℕ → List ℕ
 with_block i found = filter (λ j. nat_lt j i) found ++ i ∷ filter (λ j. nat_lt i j) found
 
--- What a step does first on a formatted disc of so many blocks: found blocks that the disc no longer has are dropped, and past
+-- What a step does first on a formatted disc of n blocks: found blocks that the disc no longer has are dropped, and past
 -- the last block it starts again at the first.
 abbrev pub begun_on : (count : ℕ) → Scrubber → Scrubber
 begun_on count s = record {
@@ -38,7 +38,7 @@ read_well s = record { next = s.next + 1; found = without_block s.next s.found }
 abbrev pub met_unread : Scrubber → Scrubber
 met_unread s = record { next = s.next + 1; found = with_block s.next s.found }
 
--- What a step on a formatted disc of so many blocks leaves, by its end.
+-- What a step on a formatted disc of n blocks leaves, by its end.
 abbrev pub LeavesOn : (count : ℕ) → Scrubber → StepEnd → Scrubber → Type 0
 LeavesOn count s (ends.Readable i) t = (i ≡ (begun_on count s).next) × (i < count) × (t ≡ read_well (begun_on count s))
 LeavesOn count s (ends.Unreadable i) t = (i ≡ (begun_on count s).next) × (i < count) × (t ≡ met_unread (begun_on count s))

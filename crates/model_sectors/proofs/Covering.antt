@@ -159,7 +159,7 @@ buffered_in_room room b i j h =
 pub buffered_after_use : (b : List ℕ) (i j : ℕ) → IsTrue (is_buffered (touched_one b i) j) → (j ≡ i) ⊎ IsTrue (is_buffered b j)
 buffered_after_use b i j h = buffered_in_room BUFFERED_BLOCKS b i j h
 
--- what is buffered after uses of so many blocks is one of them or was buffered before
+-- what is buffered after uses of k blocks is one of them or was buffered before
 pub buffered_after_uses : (b : List ℕ) (first k j : ℕ) → first + k ≤ j → IsTrue (is_buffered (touched_from b first k) j) → IsTrue (is_buffered b j)
 buffered_after_uses b first zero j past h = h
 buffered_after_uses b first (suc k) j past h = elim (buffered_after_use (touched_from b first k) (first + k) j h) [

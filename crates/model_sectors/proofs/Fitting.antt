@@ -40,7 +40,7 @@ agrees_not_good (Good held) bytes bad = absurd (bad tt)
 agrees_not_good Torn bytes bad = tt
 agrees_not_good Dead bytes bad = tt
 
--- so many zeros are so many
+-- n zeros are as many bytes
 pub length-zeros : (n : ℕ) → length (zeros n) ≡ n
 unfolding zeros
 length-zeros n = length-replicate n 0

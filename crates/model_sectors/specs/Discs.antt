@@ -10,7 +10,7 @@ pub data Standing : Type 0 where
   On : List ℕ → Standing
   Off : List (List ℕ) → Standing
 
--- the bytes of sectors of a disc, so many from this one on
+-- the bytes of sectors of a disc, n from this one on
 unfoldable pub sectors_of : List ℕ → ℕ → ℕ → List ℕ
 sectors_of disc lba n = take (2048 * n) (drop (2048 * lba) disc)
 
@@ -34,7 +34,7 @@ abbrev pub candidates : Standing → List (List ℕ)
 candidates (On disc) = disc ∷ []
 candidates (Off discs) = discs
 
--- so many zeros
+-- n zeros
 unfoldable pub zeros : ℕ → List ℕ
 zeros n = replicate n 0
 

@@ -1,5 +1,5 @@
 -- The arithmetic of requests: which logical blocks a request for sectors covers, which of its sectors and bytes lie in
--- each of them, and what putting them there makes of the block and of the disc. For whoever reads or writes sectors
+-- each of them, and what putting them there makes of the block and of the disc. For all that reads or writes sectors
 -- through whole blocks, and for the clauses that speak of a request. (This project's own, as all here.)
 use Rattle.std.specs.Prelude.{◌≡◌, ℕ, ◌+◌, ◌-◌, ◌*◌, ◌/◌, ◌<◌, ◌≤◌, ◌==◌, nat_lt, min, max, Bool, if◌then◌else◌, List, take, drop}
 use Rattle.model_bytes.specs.Bytes.{put_at}
@@ -8,7 +8,7 @@ use Rattle.model_bytes.specs.Bytes.{put_at}
 abbrev pub block_with : ℕ → ℕ
 block_with lba = lba / 16
 
--- How many logical blocks a request for so many sectors from this one on covers, whole or in part. They are numbered
+-- How many logical blocks a request for n sectors from lba on covers, whole or in part. They are numbered
 -- from that of the first sector on.
 abbrev pub blocks_covered : (lba n : ℕ) → ℕ
 blocks_covered lba n = if n == 0 then 0 else (lba + n - 1) / 16 + 1 - lba / 16
@@ -33,7 +33,7 @@ end_in lba n block = min (lba + n) (16 * block + 16)
 abbrev pub is_partly : (lba n block : ℕ) → Bool
 is_partly lba n block = nat_lt (end_in lba n block - start_in lba block) 16
 
--- so many blocks of the request come before the one in which this is its first sector
+-- k blocks of the request come before the one in which this is its first sector
 pub record NamesBlock (lba n named k : ℕ) : Type 0 where
   pub covered : k < blocks_covered lba n
   pub first : named ≡ start_in lba (block_with lba + k)

@@ -5,12 +5,12 @@ use Rattle.std.specs.List.{list_any}
 use Rattle.model_buffer.specs.Buffer.{touched_one}
 use Rattle.model_sectors.specs.Requests.{block_with, is_partly}
 
--- the buffered blocks after uses of so many blocks, in order from this one on
+-- the buffered blocks after uses of n blocks, in order from this one on
 abbrev pub touched_from : List ℕ → (first : ℕ) → ℕ → List ℕ
 touched_from buffered first zero = buffered
 touched_from buffered first (suc k) = touched_one (touched_from buffered first k) (first + k)
 
--- the last so many of the numbers from this one on, of so many, the last one first
+-- of `count` numbers from `first` on the last k, the last one first
 abbrev pub last_numbers : (first count : ℕ) → ℕ → List ℕ
 last_numbers first count zero = []
 last_numbers first zero (suc j) = []
@@ -20,11 +20,11 @@ last_numbers first (suc count) (suc j) = (first + count) ∷ last_numbers first 
 abbrev pub is_buffered : List ℕ → ℕ → Bool
 is_buffered buffered block = list_any (λ other. other == block) buffered
 
--- whether the next block after so many is at hand: it is buffered when its turn comes
+-- whether the next block after n is at hand: it is buffered when its turn comes
 abbrev pub is_at_hand : List ℕ → (first : ℕ) → ℕ → Bool
 is_at_hand buffered first k = is_buffered (touched_from buffered first k) (first + k)
 
--- How many uses of the medium a read of so many blocks from this one on takes: one for each that is not at hand.
+-- How many uses of the medium a read of n blocks from first on takes: one for each that is not at hand.
 abbrev pub read_uses : List ℕ → (first : ℕ) → ℕ → ℕ
 read_uses buffered first zero = 0
 read_uses buffered first (suc k) = read_uses buffered first k + (if is_at_hand buffered first k then 0 else 1)

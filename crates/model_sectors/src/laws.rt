@@ -33,7 +33,7 @@ pub fn what_is_replaced_reads_back()
         → length (replaced disc lba bytes block) ≡ length disc }
 {}
 
-/// After so many uses of blocks in turn, up to eight, these blocks are at the front of the buffer, the last one first, whatever
+/// After k uses of blocks in turn, up to eight, these blocks are at the front of the buffer, the last one first, whatever
 /// was buffered before. So after eight or more no other block is there, and what was buffered before does not matter.
 pub fn the_last_eight_uses_decide()
     ensures front { (b : List ℕ) (first k j : ℕ) → j ≤ k → j ≤ 8

@@ -43,7 +43,7 @@ pub enum ReadOut {
 /// How the turning on of the power ended.
 #[derive(Clone, Copy, Debug, PartialEq, Eq)]
 pub enum PowerOut {
-    /// The power is on, and the disc has so many sectors.
+    /// The power is on, and the disc has n sectors.
     Ready {
         /// How many sectors the disc has.
         capacity: u32,

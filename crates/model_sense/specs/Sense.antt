@@ -1,4 +1,4 @@
--- Sense: what it is, and its bytes as a host is given them. For whoever refuses a command or tells of a refusal.
+-- Sense: what it is, and its bytes as a host is given them. For refusing a command, and telling of a refusal.
 use Rattle.std.specs.Prelude.{ℕ, Option, Some, None, List, [], ◌∷◌, ◌++◌}
 use Rattle.byteorder.specs.Endian.{big_bytes}
 use Rattle.model_sense.specs.declared.sense.Sense.{Sense}

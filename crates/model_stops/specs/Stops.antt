@@ -10,7 +10,7 @@ abbrev pub FailsInUse : World → World → ℕ → Type 0
 FailsInUse old new block = ((into : List ℕ) × (into' : List ℕ) × FailsInRead old new block into into')
     ⊎ ((bytes : List ℕ) × FailsInWrite old new block bytes)
 
--- What a part of the work on a medium did, where `reaches` says what can follow by so many uses that did not
+-- What a part of the work on a medium did, where `reaches` says what can follow by n uses that did not
 -- fail, or by one that did.
 module _ {M : Type 0} (world : M → World) (reaches : M → M → Span → Type 0) where
   -- it went to its end by k uses, and the power is on
@@ -18,14 +18,14 @@ module _ {M : Type 0} (world : M → World) (reaches : M → M → Span → Type
     pub reach : reaches old new (Uses k)
     pub is_on : IsTrue (world new).power
 
-  -- the power was cut in the last of at most so many uses, and no fault is counted
+  -- the power was cut in the last of at most n uses, and no fault is counted
   pub record StopsByCut (old new : M) (most : ℕ) : Type 0 where
     pub uses : ℕ
     pub few : uses ≤ most
     pub reach : reaches old new (Uses uses)
     pub cut : IsCut (world old) (world new)
 
-  -- the last of at most so many uses failed and counted it, and those before did not
+  -- the last of at most n uses failed and counted it, and those before did not
   pub record StopsByFault (old new : M) (most : ℕ) : Type 0 where
     pub mid : M
     pub before : ℕ
@@ -35,7 +35,7 @@ module _ {M : Type 0} (world : M → World) (reaches : M → M → Span → Type
     pub fails : FailsInUse (world mid) (world new) block
     pub failed : reaches mid new FailedUse
 
-  -- it was stopped within so many uses, for this cause
+  -- it was stopped within n uses, for this cause
   abbrev pub Stops : M → M → ℕ → Stop → Type 0
   Stops old new most stops.Cut = StopsByCut old new most
   Stops old new most stops.Off = IsOff (world old) (world new)

@@ -102,7 +102,7 @@ pub record AddsCopies (old new : Lines) (shape : Shape) (bytes : Option (List �
   pub adds : Adds old new copies
   pub are : IfSome bytes (λ held. AreCopyLines (cells_in_image shape held) lists cells copies)
 
--- the cells of the copies of the first so many areas
+-- the cells of the copies of the first n areas
 abbrev pub cells_upto : Shape → Version → (areas : ℕ) → List (ℕ × ListPart)
 cells_upto shape version zero = []
 cells_upto shape version (suc areas) = cells_upto shape version areas ++ area_cells shape version (suc areas)
@@ -115,7 +115,7 @@ pub record AddsHome (old new : Lines) (shape : Shape) (bytes : Option (List ℕ)
   pub adds : Adds old new lost
   pub are : IfSome bytes (λ held. lost ≡ (if is_good (cell_at (cells_in_image shape held) home) then [] else (told.Lost (16 * i) ∷ [])))
 
--- The lines of those of the first so many logical blocks that are lost were added.
+-- The lines of those of the first n logical blocks that are lost were added.
 pub record AddsLost (old new : Lines) (shape : Shape) (bytes : Option (List ℕ)) (lists : places.Lists) (blocks : ℕ) : Type 0 where
   pub lost : List CertificateLine
   pub adds : Adds old new lost

@@ -37,7 +37,7 @@ module _ {X : Type 0} where
   front_twice (suc n) (suc m) [] low = refl
   front_twice (suc n) (suc m) (x ∷ xs) low = ap (λ (l : List X). x ∷ l) (front_twice n m xs (omega (arith, low)))
 
-  -- the first so many without the last of them
+  -- the first k without the last of them
   pub last_without : (k : ℕ) (xs : List X) → without k (take (suc k) xs) ≡ take k xs
   last_without k [] = sym (take_none k)
   last_without zero (x ∷ xs) = refl
@@ -151,7 +151,7 @@ none_found : (i : ℕ) (held : List (ℕ × List ℕ)) → LacksNumber i held �
 none_found i [] lacks = refl
 none_found i (h ∷ held) lacks = passed_by i h held lacks.0 ∙ none_found i held lacks.1
 
--- ---- the first so many rooms
+-- ---- the first n rooms
 
 module _ (rooms : List (ℕ × List ℕ)) (count : ℕ) (long : count ≤ length rooms) where
   many : length (take count rooms) ≡ count

@@ -1,4 +1,4 @@
-//! Memory that is asked for within a budget: all requests together ask for so many bytes at most, and only a request that the
+//! Memory that is asked for within a budget: all requests together ask for n bytes at most, and only a request that the
 //! system refused makes a refusal.
 
 ghost use Rattle.std.specs.Prelude.{◌≡◌, ◌+◌, ◌*◌, ◌<◌, ◌≤◌, ◌^◌, [], IfOk, replicate, vec_capacity};
@@ -25,7 +25,7 @@ impl From<MemoryRefused> for AllocError {
     }
 }
 
-/// Memory of which so many bytes may still be asked for. A contract sees it as that number.
+/// Memory of which n bytes may still be asked for. A contract sees it as that number.
 #[derive(Drop)]
 pub struct Budget {
     alloc: Global,
@@ -58,7 +58,7 @@ impl Budget {
         Budget::new(alloc, AMPLE)
     }
 
-    /// Takes off what so many values need.
+    /// Takes off what n values need.
     fn take_off<T>(&mut self, count: usize)
         requires { count * size (layout T.row) ≤ self.old }
         ensures { self.new + count * size (layout T.row) ≡ self.old }
@@ -67,7 +67,7 @@ impl Budget {
         self.left = left - count * size_of::<T>();
     }
 
-    /// Room for so many values.
+    /// Room for n values.
     pub fn room<T>(&mut self, count: usize) -> Result<Vec<T>, MemoryRefused>
         requires free { count * size (layout T.row) ≤ self.old }
         ensures left { self.new + count * size (layout T.row) ≡ self.old }

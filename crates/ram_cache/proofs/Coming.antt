@@ -34,7 +34,7 @@ mapped_to f (y ∷ p) x has = elim (Contains-cases y p x has) [
   | inr more ↦ Contains-later (f y) (map f p) (f x) (mapped_to f p x more)
 ]
 
--- a block has its value now among those of so many
+-- a block has its value now among those of n
 now_has : (disc : List ℕ) (first count i : ℕ) → first ≤ i → i < first + count → Contains (values_now disc first count) (i, block_of disc i)
 now_has disc first zero i low high = absurd (omega (arith, low, high))
 now_has disc first (suc k) i low high = elim (cases_lt i (first + k)) [

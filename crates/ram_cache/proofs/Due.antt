@@ -48,7 +48,7 @@ flush_one_more : (start mid new : CacheShown) (done : List ℕ) (i : ℕ) → Fl
 flush_one_more start mid new [] i all one = (new, subst (λ (s : CacheShown). Flushes s new i) all one, refl)
 flush_one_more start mid new (j ∷ done) i (next, flushed, all) one = (next, flushed, flush_one_more next mid new done i all one)
 
--- the first so many of what was done and what is left
+-- the first n of what was done and what is left
 take_past : (done : List ℕ) (m i : ℕ) (rest : List ℕ) → take (length done + suc m) (done ++ i ∷ rest) ≡ done ++ i ∷ take m rest
 take_past [] m i rest = ap (λ (n : ℕ). take n (i ∷ rest)) (one m)
   where
@@ -194,7 +194,7 @@ module _ (start : CacheShown) (among : Bool) (first count : ℕ) (before : Conte
         (ap (take most) (append-nil far.done) ∙ take_all most far.done (omega (arith, many, within)))
         (due_none first count among now none ∙ sym (ap (drop most) (append-nil far.done) ∙ drop_all most far.done (omega (arith, many, within))))
 
-    -- so many were written
+    -- n were written
     pub flushed_many : turns ≡ most → FlushesDue start now among first count most writes.Good
     flushed_many all =
         flushed_of (due_of among first count now) far.due_is (take_at far.done (due_of among first count now) most (far.many ∙ all))

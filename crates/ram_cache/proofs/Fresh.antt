@@ -111,7 +111,7 @@ one_of m (held ∷ p) apart = elim (cases_Bool (held.0 == m)) [
     absent None is at = is
     absent (Some bytes) is at = absurd (apart.0 bytes (subst (λ (n : ℕ). Contains p (n, bytes)) (sym at) (some_at p m bytes is)))
 
--- one block more is among so many
+-- one block more is among k
 among_more : (first k : ℕ) (xs : List ℕ) → length (filter (is_among first (suc k)) xs) ≡ length (filter (is_among first k) xs) + length (filter (λ i. i == first + k) xs)
 among_more first k [] = refl
 among_more first k (x ∷ xs) = three (among_more first k xs) (cases_lt x first)
@@ -173,7 +173,7 @@ none_among first (x ∷ xs) = ap length (cond-false (is_among first 0 x) (x ∷ 
     out (inl below) = low (nat_lt x first) (nat_lt x (first + 0)) (lt-ltb x first below)
     out (inr from) = high (nat_lt x first) (nat_lt x (first + 0)) (le-ltb x (first + 0) (omega (arith, from)))
 
--- those among so many, and the fresh ones, are all of these
+-- those among k, and the fresh ones, are all of these
 among_fresh : (p : List (ℕ × List ℕ)) (first k : ℕ) → AreApart p → length (filter (is_among first k) (numbers_in p)) + length (fresh_blocks p first k) ≡ k
 among_fresh p first zero apart = let none = none_among first (numbers_in p) in omega (arith, none)
 among_fresh p first (suc k) apart =

@@ -21,7 +21,7 @@ pub record CanFlush (shown : CacheShown) : Type 0 where
   pub formatted : IsFormatted shown.drive
   pub inside : All (λ (held : ℕ × List ℕ). held.0 < block_count shown.drive) shown.pending
 
--- The disc is formatted, has so many sectors, and has all pending blocks.
+-- The disc is formatted, has n sectors, and has all pending blocks.
 pub record IsReady (shown : CacheShown) (sectors : ℕ) : Type 0 where
   pub can : CanFlush shown
   pub sectors_are : sectors ≡ capacity shown.drive
@@ -55,12 +55,12 @@ FlushContents after (Has v) writes.Fault = after (MayHave (v ∷ v ∷ []))
 FlushContents after (Has v) _ = ⊥
 FlushContents after (MayHave all) _ = ⊥
 
--- the numbers of the pending blocks that are among so many from this one on, or of those that are not
+-- the numbers of the pending blocks that are among n from this one on, or of those that are not
 abbrev pub due_of : (among : Bool) → (first count : ℕ) → CacheShown → List ℕ
 due_of true first count shown = filter (is_among first count) (pending_in shown)
 due_of false first count shown = filter (λ i. not (is_among first count i)) (pending_in shown)
 
--- The first so many of the pending blocks that are due were written, the others are due still, and the disc has all that are
+-- The first n of the pending blocks that are due were written, the others are due still, and the disc has all that are
 -- pending.
 pub record FlushedDue (old new : CacheShown) (among : Bool) (first count most : ℕ) : Type 0 where
   pub flushed : FlushesAll old (take most (due_of among first count old)) new
@@ -68,7 +68,7 @@ pub record FlushedDue (old new : CacheShown) (among : Bool) (first count most : 
   pub can : CanFlush new
   pub same_count : block_count new.drive ≡ block_count old.drive
 
--- What became of the pending blocks that are due, of which so many at most are written.
+-- What became of the pending blocks that are due, of which n at most are written.
 abbrev pub FlushesDue : CacheShown → CacheShown → (among : Bool) → (first count most : ℕ) → WriteOut → Type 0
 FlushesDue old new among first count most writes.Good = FlushedDue old new among first count most
 FlushesDue old new among first count most (writes.NoSpare named) =
@@ -79,7 +79,7 @@ FlushesDue old new among first count most writes.Cut = EndsFlushing old new (tak
 FlushesDue old new among first count most writes.Fault = EndsFlushing old new (take most (due_of among first count old)) writes.Fault
 FlushesDue old new among first count most _ = ⊥
 
--- so many turns wrote so many of the blocks that are due, and no sector that is shown changed
+-- `turns` turns wrote as many of the blocks that are due, and no sector that is shown changed
 pub record FlushedSoFar (start now : CacheShown) (among : Bool) (first count turns : ℕ) (before after : Contents → Type 0) : Type 0 where
   pub done : List ℕ
   pub many : length done ≡ turns

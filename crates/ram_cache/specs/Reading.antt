@@ -19,7 +19,7 @@ PartContents after v lba n block into into' reads.Cut = after (MayHave (v ∷ []
 PartContents after v lba n block into into' reads.Fault = after (MayHave (v ∷ []))
 PartContents after v lba n block into into' _ = ⊥
 
--- The first so many blocks of a request were read, and their bytes stand at the front.
+-- The first k blocks of a request were read, and their bytes stand at the front.
 pub record ReadSoFar (start now : CacheShown) (lba n k : ℕ) (into : List ℕ) (before after : Contents → Type 0) : Type 0 where
   pub parts : ReadsParts start now lba n k
   pub same_pending : now.pending ≡ start.pending

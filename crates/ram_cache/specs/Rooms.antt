@@ -7,11 +7,11 @@ use Rattle.ram_cache.specs.declared.pending.PendingBlocks.{PendingBlocks}
 abbrev pub pending_of : PendingBlocks → List (ℕ × List ℕ)
 pending_of pending = take pending.count pending.rooms.items
 
--- the first so many of the blocks to come: the rooms behind the pending blocks
+-- the first n of the blocks to come: the rooms behind the pending blocks
 abbrev pub staged_of : PendingBlocks → ℕ → List (ℕ × List ℕ)
 staged_of pending staged = take staged (drop pending.count pending.rooms.items)
 
--- the bytes in the room behind so many of these
+-- the bytes in the room behind n of these
 abbrev pub room_of : PendingBlocks → ℕ → List ℕ
 room_of pending staged = (slice_index_or pending.rooms.items (pending.count + staged) (0, [])).1
 
@@ -19,7 +19,7 @@ room_of pending staged = (slice_index_or pending.rooms.items (pending.count + st
 abbrev pub pending_at : List (ℕ × List ℕ) → ℕ → ℕ × List ℕ
 pending_at pending k = slice_index_or pending k (0, [])
 
--- The first one of which it is so that its number is one of so many from this one on, or of which it is not so.
+-- The first one of which it is so that its number is one of n from this one on, or of which it is not so.
 abbrev pub FirstOf : List (ℕ × List ℕ) → (among : Bool) → (first count : ℕ) → Option ℕ → Type 0
 FirstOf pending among first count None =
     (j : ℕ) → j < length pending → is_among first count ((pending_at pending j).0) ≡ (if among then false else true)

@@ -65,7 +65,7 @@ StagedContents after v lba n block bytes None was now (Ok more) =
 StagedContents after v lba n block bytes (Some held) was now (Err out) = StoppedContents after v out
 StagedContents after v lba n block bytes None was now (Err out) = StoppedContents after v out
 
--- The first so many covered blocks are pending or to come.
+-- The first k covered blocks are pending or to come.
 pub record StagedSoFar (start now : CacheShown) (lba n k : ℕ) (bytes : List ℕ) (list : List (ℕ × List ℕ)) (staged : ℕ) (before after : Contents → Type 0) : Type 0 where
   pub rests : ReadsRests start now lba n k
   pub same_pending : now.pending ≡ start.pending

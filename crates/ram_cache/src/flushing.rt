@@ -19,7 +19,7 @@ pub enum Entered {
     Off,
     /// The disc is not formatted.
     NotFormatted,
-    /// The disc has so many sectors.
+    /// The disc has n sectors.
     Formatted(u32),
 }
 
@@ -102,7 +102,7 @@ impl<D: Disc> Cached<D> {
         }
     }
 
-    /// Writes the pending block at this place to the disc, which has so many sectors and all pending blocks.
+    /// Writes the pending block at this place to the disc, which has k sectors and all pending blocks.
     fn flush(&mut self, k: usize, sectors: u32) -> WriteOut
         requires there { k < length (pending_of self.old.pending) }
         requires can { CanFlush (shown_by D.Sectors self.old) }
@@ -128,7 +128,7 @@ impl<D: Disc> Cached<D> {
         out
     }
 
-    /// Writes pending blocks to the disc, the oldest first, up to the first that is refused, and so many at most: those that are
+    /// Writes pending blocks to the disc, the oldest first, up to the first that is refused, and n at most: those that are
     /// among `count` blocks from block `first` on, or those that are not.
     pub(crate) fn flush_due(
         &mut self,
@@ -159,7 +159,7 @@ impl<D: Disc> Cached<D> {
         WriteOut::Good
     }
 
-    /// Writes all pending blocks to the disc, which has so many sectors and all of them: the oldest first, up to the first that is
+    /// Writes all pending blocks to the disc, which has n sectors and all of them: the oldest first, up to the first that is
     /// refused.
     pub(crate) fn synchronize_on(&mut self, sectors: u32) -> SyncOut
         requires ready { IsReady (shown_by D.Sectors self.old) sectors }
@@ -173,7 +173,7 @@ impl<D: Disc> Cached<D> {
         told_of_sync(out)
     }
 
-    /// Writes the oldest pending block to the disc, which has so many sectors and all pending blocks.
+    /// Writes the oldest pending block to the disc, which has n sectors and all pending blocks.
     pub(crate) fn tick_on(&mut self, sectors: u32) -> TickOut
         requires ready { IsReady (shown_by D.Sectors self.old) sectors }
         ensures cause { TickCauseOf (shown_by D.Sectors self.old) (shown_by D.Sectors self.new) result }

@@ -88,7 +88,7 @@ impl<D: Disc> Cached<D> {
         ReadOut::Good
     }
 
-    /// Reads sectors of a disc that has so many, and all pending blocks.
+    /// Reads sectors of a disc that has n, and all pending blocks.
     fn read_on(&mut self, sectors: u32, lba: u32, n: u32, into: &mut [u8]) -> ReadOut
         requires few { n ≤ TRANSFER_LIMIT }
         requires whole { length into.old ≡ 2048 * n }

@@ -43,7 +43,7 @@ impl<D: Disc> Cached<D> {
         out
     }
 
-    /// Writes a request through the cache, to a disc that has so many sectors: the covered blocks that are pending go to the disc
+    /// Writes a request through the cache, to a disc that has n sectors: the covered blocks that are pending go to the disc
     /// first.
     fn write_over(&mut self, request: Request, sectors: u32, from: &[u8]) -> WriteOut
         requires few { request.n ≤ TRANSFER_LIMIT }
@@ -113,7 +113,7 @@ impl<D: Disc> Cached<D> {
         self.read_rest(part, staged)
     }
 
-    /// Makes a block of a request that is not pending one of those to come, behind `staged` others. How many these are then.
+    /// Stages a block of a request that is not pending, behind `staged` others. Returns the new count.
     fn stage_block(&mut self, part: Part, staged: usize, from: &[u8]) -> Result<usize, WriteOut>
         requires covered { IsCovered part.request.lba part.request.n part.block }
         requires inside { IsInRange (D.shows self.old.disc) part.request.lba part.request.n }
@@ -212,7 +212,7 @@ impl<D: Disc> Cached<D> {
         }
     }
 
-    /// Writes a request of few blocks into the cache, of a disc that has so many sectors: the oldest pending blocks that it does not
+    /// Writes a request of few blocks into the cache, of a disc that has n sectors: the oldest pending blocks that it does not
     /// cover leave first, as many as have to.
     fn write_into(&mut self, request: Request, sectors: u32, from: &[u8]) -> WriteOut
         requires few { blocks_covered request.lba request.n ≤ CACHED_AT_ONCE }
@@ -236,7 +236,7 @@ impl<D: Disc> Cached<D> {
         }
     }
 
-    /// Writes sectors of a disc that has so many, and all pending blocks: into the cache where that is asked and few blocks are
+    /// Writes sectors of a disc that has n, and all pending blocks: into the cache where that is asked and few blocks are
     /// covered, and else through it.
     fn write_on(
         &mut self,

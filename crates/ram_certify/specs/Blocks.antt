@@ -11,16 +11,16 @@ use Rattle.model_stops.specs.Stops.{Continues}
 use Rattle.model_sectors.specs.Discs.{zeros}
 use Rattle.model_formats.specs.Defects.{IsCertified}
 
--- The block is one of the first so many data blocks. (This project's own, as all here.)
+-- The block is one of the first n data blocks. (This project's own, as all here.)
 abbrev pub IsReached : Shape → ℕ → ℕ → Type 0
 IsReached shape n block = (d : ℕ) → d < length (data_blocks shape) → slice_index (data_blocks shape) d ≡ block → d < n
 
--- Of the kept blocks just the first so many are among the first n data blocks.
+-- Of the kept blocks just the first n are among the first n data blocks.
 abbrev pub ArePassed : Shape → List PdlEntry → (n passed : ℕ) → Type 0
 ArePassed shape kept n passed = (k d : ℕ) → k < length kept → d < length (data_blocks shape)
     → slice_index (data_blocks shape) d ≡ slice_index (pdl_blocks kept) k → (k < passed) ↔ (d < n)
 
--- the next kept block, after so many, is this one
+-- the next kept block, after n, is this one
 abbrev pub IsNextKept : List PdlEntry → (passed block : ℕ) → Type 0
 IsNextKept kept passed block = (passed < length kept) × (slice_index (pdl_blocks kept) passed ≡ block)
 
@@ -32,7 +32,7 @@ module _ {M : Type 0} (world : M → World) (reaches : M → M → Span → Type
     pub reached : IsReached shape n block
     pub dead : cell_at (world new).cells block ≡ Dead
 
-  -- The first n data blocks were looked at, of which so many are kept, and the others were certified.
+  -- The first n data blocks were looked at, of which n are kept, and the others were certified.
   pub record HasCertifiedUpTo (room : ℕ) (n passed : ℕ) (found : List ℕ) (count : ℕ) : Type 0 where
     pub continues : Continues world reaches old new (2 * (n - passed))
     pub as_known : (world new).known ≡ (world old).known

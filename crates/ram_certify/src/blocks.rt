@@ -14,7 +14,7 @@ use ram_medium::{Medium, Stop};
 use ram_slip::data_block;
 use ram_zones::Geometry;
 
-/// Whether this block is kept, where so many kept ones lie before it.
+/// Whether this block is kept, where n kept ones lie before it.
 fn is_next_kept(kept: &[PdlEntry], passed: usize, block: u32) -> bool
     ensures { IsTrue result ↔ IsNextKept kept.now passed block }
 {
@@ -24,7 +24,7 @@ fn is_next_kept(kept: &[PdlEntry], passed: usize, block: u32) -> bool
     }
 }
 
-/// Notes a block that was found, unless so many are noted.
+/// Notes a block that was found, unless n are noted.
 fn note(found: &mut Vec<u32>, block: u32, most: usize)
     requires few { length found.old.items ≤ most }
     requires room { most ≤ vec_capacity found.old }

@@ -18,7 +18,7 @@ module _ (shape : Shape) (dds : Dds) (ssa : ℕ) where
     | inr other ↦ ap (λ (x : SdlEntry). x.defective) (cond-false (is_listed (spares_in (pools_of shape dds ssa)) e.defective) (retired e.defective) e other)
   ]
 
-  -- the entries, of which the first so many are those of the expansion
+  -- the entries, of which the first n are those of the expansion
   abbrev pub expanded_until : ℕ → List SdlEntry → List SdlEntry
   expanded_until k es = map (entry_expanded shape dds ssa) (take k es) ++ drop k es
 

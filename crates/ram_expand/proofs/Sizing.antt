@@ -11,7 +11,7 @@ use Rattle.model_places.proofs.ByKind.{room_grows, slip_area_grows, no_zone_grow
 use Rattle.model_drive.specs.Expands.{ssa_for, IsLawfulSize}
 use Rattle.ram_expand.specs.Sizes.{IsSmaller, IsPresent}
 
--- the size of the area that leaves so many sectors
+-- the size of the area that leaves n sectors
 pub area_is : (shape : Shape) (count room capacity : ℕ) → count ≡ length (data_blocks shape) → room ≡ spare_room shape 0 → count - room - capacity / 16 ≡ ssa_for shape capacity
 area_is shape count room capacity count_is room_is = omega (arith, count_is, room_is)
 

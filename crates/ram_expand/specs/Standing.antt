@@ -7,7 +7,7 @@ use Rattle.ram_sdl.specs.Sdl.{sdl_of}
 use Rattle.ram_lists.specs.Lists.{lists_of}
 use Rattle.ram_lists.specs.declared.lists.Lists.{Lists}
 
--- A medium of so many blocks and the lists in use fit this geometry: the medium has its blocks, the lists are valid, and the
+-- A medium of n blocks and the lists in use fit this geometry: the medium has its blocks, the lists are valid, and the
 -- secondary one is of the grammar. No layout is asked for: an expansion changes which blocks are spares, and looks for none.
 pub record AreFit (shape : Shape) (blocks : ℕ) (lists : Lists) : Type 0 where
   pub size : blocks ≡ total shape

@@ -51,8 +51,8 @@ pub enum Grown {
     },
 }
 
-/// Gives a formatted disc a capacity of so many sectors: the logical blocks behind them become supplementary spares. Where
-/// the disc has just so many, nothing is done. Else the new secondary list, with the larger area and a counter one greater,
+/// Gives a formatted disc a capacity of n sectors: the logical blocks behind them become supplementary spares. Where
+/// the disc has just n, nothing is done. Else the new secondary list, with the larger area and a counter one greater,
 /// is updated, in 8 uses for each of its parts, and taken over: an entry of a block that is a spare now says that it is
 /// retired, and its replacement is free again. The version stays. `draft` holds that list until then, and nothing of use
 /// before and after. It takes no memory.

@@ -21,7 +21,7 @@ pub enum Size {
     Smaller,
 }
 
-/// The size of the supplementary spare area that leaves so many sectors, in blocks.
+/// The size of the supplementary spare area that leaves n sectors, in blocks.
 pub fn area_for(geometry: &Geometry, capacity: u32) -> u32
     requires { spare_room geometry.now 0 + capacity / 16 ≤ length (data_blocks geometry.now) }
     ensures area { result ≡ ssa_for geometry.now capacity }

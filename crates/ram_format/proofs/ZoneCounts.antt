@@ -54,7 +54,7 @@ module _ (shape : Shape) where
   total_in xs zero = 0
   total_in xs (suc n) = total_in xs n + slipped_in shape xs n
 
-  -- each block lies in one of the first so many zones
+  -- each block lies in one of the first n zones
   abbrev pub AreZoned : ℕ → List ℕ → Type 0
   AreZoned n xs = All (λ b. (v : ℕ) × (v < n) × (is_inside shape b v ≡ true)) xs
 

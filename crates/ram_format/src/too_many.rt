@@ -22,7 +22,7 @@ fn found_in(geometry: &Geometry, found: &[u32], zone: u32) -> usize
     count
 }
 
-/// How many of both are data blocks of the first zone where they are more than its spares. None where no zone has so many.
+/// How many of both are data blocks of the first zone where they are more than its spares. None where no zone has n.
 fn first_zone_over(geometry: &Geometry, kept: &[PdlEntry], found: &[u32]) -> Option<u32>
     requires few { length kept.now + length found.now ≤ 4294967295 }
     ensures { TellsZone geometry.now kept.now found.now result }

@@ -11,11 +11,11 @@ transfer_block code lba n = code ∷ 0 ∷ big_bytes 4 lba ++ 0 ∷ big_bytes 2 
 abbrev pub transfer_text : (code lba n : ℕ) → List ℕ → List ℕ
 transfer_text code lba n data' = codes "cdb " ++ (encode_lower (transfer_block code lba n) ++ data')
 
--- a write of so many sectors, the first filled with this byte and each other with a byte one greater
+-- a write of n sectors, the first filled with this byte and each other with a byte one greater
 abbrev pub write_text : (lba n first : ℕ) → List ℕ
 write_text lba n first = transfer_text 0x2a lba n (codes " count " ++ (encode_lower (first ∷ []) ++ codes "\n"))
 
--- a read of so many sectors
+-- a read of n sectors
 abbrev pub read_text : (lba n : ℕ) → List ℕ
 read_text lba n = transfer_text 0x28 lba n (codes "\n")
 

@@ -52,7 +52,7 @@ step_by kind words =
 abbrev pub one_step : Lcg → Drawn
 one_step words = let kind = draw 100 words in step_by kind.0 kind.1
 
--- the text of so many steps
+-- the text of n steps
 unfoldable pub steps_text : ℕ → Lcg → List ℕ
 steps_text zero words = []
 steps_text (suc n) words = (one_step words).0 ++ steps_text n (one_step words).1

@@ -10,11 +10,11 @@ use crate::texts::{add, add_number, add_transfer};
 use ram_bytes::encode_hex;
 use rand_pcg::Pcg32;
 
-/// How many bytes a step adds at most. A write adds so many: `cdb` and a space, twenty digits, and ten bytes of ` count ` with
+/// How many bytes a step adds at most. A write adds n: `cdb` and a space, twenty digits, and ten bytes of ` count ` with
 /// two digits and the end of the line.
 pub const LONGEST_STEP: usize = 34;
 
-/// Adds so many steps.
+/// Adds n steps.
 pub fn add_steps(script: &mut Vec<u8>, words: &mut Pcg32, count: u32)
     requires room { length script.old.items + LONGEST_STEP * count ≤ vec_capacity script.old }
     ensures text { script.new.items ≡ script.old.items ++ steps_text count words.old }

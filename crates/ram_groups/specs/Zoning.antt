@@ -54,7 +54,7 @@ pub record IsZoneOfPlace (table : ZoneTable) (place zone : ℕ) : Type 0 where
   pub from : slice_index table.starts zone ≤ place
   pub before : place < slice_index table.starts (zone + 1)
 
--- The numbers of blocks of the zones before each of the first so many zones, of those that are not slipped.
+-- The numbers of blocks of the zones before each of the first n zones, of those that are not slipped.
 pub record AreStarts (shape : Shape) (slipped : List ℕ) (count : ℕ) (starts : List ℕ) : Type 0 where
   pub many : length starts ≡ count
   pub each : (zone : ℕ) → zone < count → slice_index starts zone ≡ length (kept_in slipped (zones_data shape zone))

@@ -23,7 +23,7 @@ pub enum AnyLayout {
 }
 
 impl AnyLayout {
-    /// The layout of a structure with so many supplementary spares, of the kind of the geometry.
+    /// The layout of a structure with n supplementary spares, of the kind of the geometry.
     pub fn new(
         budget: &mut Budget,
         geometry: &Geometry,
@@ -54,7 +54,7 @@ impl AnyLayout {
         }
     }
 
-    /// Makes it the layout of a structure with so many supplementary spares. It is of the kind of the geometry. It takes no
+    /// Makes it the layout of a structure with n supplementary spares. It is of the kind of the geometry. It takes no
     /// memory.
     pub fn rebuild(&mut self, geometry: &Geometry, dds: &DdsPdl, ssa: u32)
         requires valid { IsValidPdl geometry.now (dds_of dds.now) }

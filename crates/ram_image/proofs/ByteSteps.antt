@@ -17,7 +17,7 @@ use Rattle.ram_outside.specs.declared.image.Moved.{Moved}
 use Rattle.ram_outside.specs.declared.image.Moved.TheVariants as moves
 use Rattle.ram_image.specs.CellCalls.{call_between, WriteStateBytes, WriteCellBytes, LeaveCellBytes}
 
--- the image is as long as one of so many blocks
+-- the image is as long as one of n blocks
 abbrev IsWhole : ℕ → List ℕ → Type 0
 IsWhole total held = length held ≡ image_len total
 

@@ -25,7 +25,7 @@ pub record CellCall : Type 0 where
   pub faults : ℕ
   pub faults' : ℕ
 
--- the call on this block of an image of so many, between these bytes and counts
+-- the call on this block of an image of n, between these bytes and counts
 abbrev pub call_between : ℕ → ℕ → Option (List ℕ) → Option (List ℕ) → ℕ → ℕ → CellCall
 call_between total block before after faults faults' =
     record { total = total; block = block; before = before; after = after; faults = faults; faults' = faults' }
@@ -60,7 +60,7 @@ BytesRule call done failed moves.Failed = WhereKnown call.before call.after fail
 abbrev pub HaveGoodStates : List ℕ → (from to : ℕ) → Type 0
 HaveGoodStates held from to = (k : ℕ) → from ≤ k → k < to → slice_index held (state_place k) ≡ good_state
 
--- so many state bytes at the start are those of good blocks, and the next one, where there is one, is not
+-- n state bytes at the start are those of good blocks, and the next one, where there is one, is not
 pub record LeadsWithGood (states : List ℕ) (count : ℕ) : Type 0 where
   pub inside : count ≤ length states
   pub good : (k : ℕ) → k < count → slice_index states k ≡ good_state

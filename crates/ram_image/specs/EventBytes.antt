@@ -51,7 +51,7 @@ WriteBytes dies due total block block_data before after writes.Off = after ≡ b
 WriteBytes dies due total block block_data before after writes.Failed =
     WhereKnown before after (MayLeaveBytes dies total block block_data)
 
--- What an event makes of the bytes of an image of so many blocks.
+-- What an event makes of the bytes of an image of n blocks.
 abbrev pub BytesAt : Machine → ℕ → Option (List ℕ) → Option (List ℕ) → Event → Type 0
 BytesAt old total before after (Read block into into' how) = ReadBytes (is_killed block old.arms) block before after how
 BytesAt old total before after (Write block block_data how) =

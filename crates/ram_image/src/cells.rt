@@ -36,7 +36,7 @@ pub enum GoodRow {
     Failed,
 }
 
-/// How many blocks have whole bytes, from this one on, in an image of so many blocks. It looks at 64 of them at most, by
+/// How many blocks have whole bytes, from this one on, in an image of n blocks. It looks at 64 of them at most, by
 /// one read of their state bytes.
 pub fn count_good<I: Image>(image: &mut I, total: u32, block: u32) -> GoodRow
     requires inside { block < total }
@@ -62,7 +62,7 @@ fn leading_good(states: &[u8]) -> usize
         .unwrap_or(states.len())
 }
 
-/// Reads the data of a block that has whole bytes, in an image of so many blocks, straight into the caller's bytes.
+/// Reads the data of a block that has whole bytes, in an image of n blocks, straight into the caller's bytes.
 pub fn read_data<I: Image>(image: &mut I, total: u32, block: u32, into: &mut [u8]) -> Moved
     requires inside { block < total }
     requires fits { length into.old ≡ BLOCK_BYTES }
@@ -73,7 +73,7 @@ pub fn read_data<I: Image>(image: &mut I, total: u32, block: u32, into: &mut [u8
     image.read_at(data_place(total, block), into)
 }
 
-/// Writes the cell of a block that is not dead, in an image of so many blocks: the state byte of a torn block, the
+/// Writes the cell of a block that is not dead, in an image of n blocks: the state byte of a torn block, the
 /// data, and then the state byte of one with whole bytes.
 pub fn write_cell<I: Image>(image: &mut I, total: u32, block: u32, from: &[u8]) -> Moved
     requires inside { block < total }
@@ -104,7 +104,7 @@ pub enum StateRead {
     Failed,
 }
 
-/// Reads the state byte of a block in an image of so many blocks.
+/// Reads the state byte of a block in an image of n blocks.
 pub fn read_state<I: Image>(image: &mut I, total: u32, block: u32) -> StateRead
     requires inside { block < total }
     requires whole { ForSome (I.bytes image.old) (λ held. length held ≡ image_len total) }
@@ -207,7 +207,7 @@ fn state_place(block: u32) -> u64
     HEADER_BYTES as u64 + u64::from(block)
 }
 
-/// Where the data of a block begin, in an image of so many blocks.
+/// Where the data of a block begin, in an image of n blocks.
 fn data_place(total: u32, block: u32) -> u64
     ensures { result ≡ 16 + total + 32768 * block }
 {

@@ -83,7 +83,7 @@ fn find_header<I: Image>(image: &mut I) -> HeaderFound
     }
 }
 
-/// Opens an image of so many bytes with these at its front.
+/// Opens an image of n bytes with these at its front.
 fn open_disc<I: Image>(
     rooms: MediumRooms,
     image: I,

@@ -11,7 +11,7 @@ use Rattle.ram_runs.specs.Runs.{blocks_in, IsTable, end_of}
 abbrev pub kept_in : List ℕ → List ℕ → List ℕ
 kept_in slipped blocks = filter (λ block. not (is_listed slipped block)) blocks
 
--- The runs of so many zones were made, and so many slipped blocks were passed.
+-- The runs of the zones before this one were made, and `passed` slipped blocks were passed.
 pub record HasZones (shape : Shape) (slipped : List ℕ) (zone passed : ℕ) (runs : List Run) : Type 0 where
   pub table : IsTable runs
   pub blocks : blocks_in runs ≡ kept_in slipped (zones_data shape zone)

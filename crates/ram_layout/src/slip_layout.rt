@@ -49,7 +49,7 @@ impl Model for SlipLayout {
 }
 
 impl SlipLayout {
-    /// The layout of a structure with so many supplementary spares.
+    /// The layout of a structure with n supplementary spares.
     pub fn new(
         budget: &mut Budget,
         geometry: &Geometry,
@@ -76,7 +76,7 @@ impl SlipLayout {
         })
     }
 
-    /// Makes it the layout of a structure with so many supplementary spares. It takes no memory.
+    /// Makes it the layout of a structure with n supplementary spares. It takes no memory.
     pub fn rebuild(&mut self, geometry: &Geometry, dds: &DdsPdl, ssa: u32)
         requires valid { IsValidPdl geometry.now (dds_of dds.now) }
         requires area { IsValidOnSome geometry.now ssa }

@@ -9,7 +9,7 @@ use Rattle.ram_sdl.specs.Sdl.{sdl_of}
 use Rattle.ram_lists.specs.Lists.{lists_of}
 use Rattle.ram_lists.specs.declared.lists.Lists.{Lists}
 
--- A medium of so many blocks, a layout with these pools and cursors, and the lists in use fit this geometry: the medium has its
+-- A medium of n blocks, a layout with these pools and cursors, and the lists in use fit this geometry: the medium has its
 -- blocks; the lists are valid, and the secondary one is of the grammar; the pools are those of the disc, and there is a
 -- cursor for each, before which each spare is named. (This project's own.)
 pub record IsFit (shape : Shape) (blocks : ℕ) (pools : List Pool) (cursors : List ℕ) (lists : Lists) : Type 0 where

@@ -1,5 +1,5 @@
 -- To what a sector may fall back when power is lost, over the lines of a run.
-use Rattle.std.specs.Prelude.{◌≡◌, ℕ, ◌+◌, ◌*◌, ◌<◌, ◌≤◌, ◌⊎◌, Bool, true, false, ◌&&◌, not, nat_lt, if◌then◌else◌, Option, Some, None, Result, Ok, Err, List, [], ◌∷◌, length}
+use Rattle.std.specs.Prelude.{◌≡◌, ℕ, ◌+◌, ◌*◌, ◌<◌, ◌≤◌, ◌⊎◌, Bool, true, false, ◌&&◌, not, nat_lt, if◌then◌else◌, Option, Some, None, Result, Ok, Err, List, [], ◌∷◌, length, All}
 use Rattle.std.specs.List.{Contains}
 use Rattle.std.proofs.Common.{arith, refl, sym, ap, ◌∙◌, inl, inr, subst}
 use Rattle.std.proofs.lemmas.Bool.{cases_lt, lt-ltb, le-ltb, true≢false}
@@ -24,7 +24,7 @@ use Rattle.ram_machine.specs.States.{State, Unopened, Disc}
 use Rattle.ram_machine.specs.LineSteps.{Step}
 use Rattle.ram_machine.specs.Runs.{Run}
 use Rattle.ram_machine.specs.Answered.{AnsweredStep}
-use Rattle.ram_machine.specs.Acknowledged.{Acknowledged, FallsBackTo, StandsWithSector, HasNow, IsAmong, LeavesAsDecoded, LeavesSector, WritesAsDecoded, WritesAtMost, WriteAtMost, choices_asked, choices_with, choices_after}
+use Rattle.ram_machine.specs.Acknowledged.{Acknowledged, FallsBackTo, StandsWithSector, HasNow, IsAmong, LeavesAsDecoded, LeavesSector, WritesAsDecoded, NeitherPressesNorFormats, choices_asked, choices_with, choices_after}
 use Rattle.ram_machine.specs.SectorBytes.{bytes_of_sector, is_sector_among}
 use Rattle.ram_machine.proofs.Acknowledged.{SoInState, step_keeps}
 use Rattle.ram_machine.proofs.WrittenDiscs.{SoInBlock, SoInContents, so_shown}
@@ -117,7 +117,7 @@ module _ (s t : State) (cdb payload data_in : List ℕ) (outcome : Outcome) (at 
   decoded_back (Ok (commands.ModeSense control page alloc)) asks writes = leave_back (Ok (commands.ModeSense control page alloc)) asks tt
   decoded_back (Ok (commands.Structure format alloc)) asks writes = leave_back (Ok (commands.Structure format alloc)) asks tt
 
-pub step_back : (s t : State) (line : Line) (payload data_in : List ℕ) (outcome : Outcome) (at : ℕ) (choices : List (List ℕ)) → Step s line payload outcome data_in t → WritesAtMost line payload
+pub step_back : (s t : State) (line : Line) (payload data_in : List ℕ) (outcome : Outcome) (at : ℕ) (choices : List (List ℕ)) → Step s line payload outcome data_in t → NeitherPressesNorFormats line payload
     → FallsBackTo s at choices → FallsBackTo t at (choices_with at line payload choices)
 step_back s t (lines.Command cdb) payload data_in outcome at choices step writes back = decoded_back s t cdb payload data_in outcome at choices step back (decoded cdb payload) refl writes
 step_back s t lines.Empty payload data_in outcome at choices step writes back = leaves_back s t lines.Empty payload data_in outcome at choices step tt back
@@ -129,12 +129,12 @@ step_back s t (lines.Cut n fate) payload data_in outcome at choices step writes 
 step_back s t (lines.Scrub all) payload data_in outcome at choices step writes back = leaves_back s t (lines.Scrub all) payload data_in outcome at choices step tt back
 step_back s t lines.Tick payload data_in outcome at choices step writes back = leaves_back s t lines.Tick payload data_in outcome at choices step tt back
 
-pub run_back : (s t : State) (events : List AnsweredStep) (at : ℕ) (choices : List (List ℕ)) → Run s events t → WriteAtMost events → FallsBackTo s at choices → FallsBackTo t at (choices_after at events choices)
+pub run_back : (s t : State) (events : List AnsweredStep) (at : ℕ) (choices : List (List ℕ)) → Run s events t → All (λ (e : AnsweredStep). NeitherPressesNorFormats e.line e.payload) events → FallsBackTo s at choices → FallsBackTo t at (choices_after at events choices)
 run_back s t [] at choices run writes back = subst (λ (x : State). FallsBackTo x at choices) (sym run) back
 run_back s t (event ∷ events) at choices run writes back =
     step_back run.0 t event.line event.payload event.data_in (Ok event.reply) at (choices_after at events choices) run.2
-    (All-head (λ (e : AnsweredStep). WritesAtMost e.line e.payload) event events writes)
-    (run_back s run.0 events at choices run.1 (All-tail (λ (e : AnsweredStep). WritesAtMost e.line e.payload) event events writes) back)
+    (All-head (λ (e : AnsweredStep). NeitherPressesNorFormats e.line e.payload) event events writes)
+    (run_back s run.0 events at choices run.1 (All-tail (λ (e : AnsweredStep). NeitherPressesNorFormats e.line e.payload) event events writes) back)
 
 -- a disc has whole blocks
 whole_by : (shape : Shape) (cells : List Cell) (lists : Option Lists) (buffer : List (ℕ × List ℕ)) (disc : List ℕ) → StandsBy shape cells lists buffer disc → (blocks : ℕ) × (length disc ≡ 32768 * blocks)

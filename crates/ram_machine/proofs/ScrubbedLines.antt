@@ -53,7 +53,7 @@ told_done passes.Cut count told is = absurd cc
 told_done passes.Off count told is = absurd cc
 told_done passes.Fault count told is = absurd cc
 
--- these blocks, so many, are just those that cannot be read
+-- these blocks, n, are just those that cannot be read
 pub record TellsUnreadable (t : State) (found : List ℕ) (count : ℕ) : Type 0 where
   pub are : (i : ℕ) → Contains found i ↔ IsUnreadableNow t i
   pub number : count ≡ length found

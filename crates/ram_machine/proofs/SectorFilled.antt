@@ -13,7 +13,7 @@ use Rattle.model_places.specs.Places.{Lists, logical_count, home_of}
 use Rattle.model_volume.specs.Starts.{Found, IsDiscStart, homes_under}
 use Rattle.model_volume.specs.Covers.{FitsUnder, SomeFit, Cover}
 
--- so many bytes that are all the same
+-- n bytes that are all the same
 unfoldable pub filled : (fill n : ℕ) → List ℕ
 filled fill n = replicate n fill
 

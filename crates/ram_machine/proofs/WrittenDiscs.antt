@@ -23,7 +23,7 @@ use Rattle.model_cache.proofs.Falls.{one, write_falls, older_cached}
 use Rattle.model_target.specs.Steps.{WrittenCause, WrittenContents}
 use Rattle.ram_machine.specs.SectorBytes.{bytes_of_sector}
 
--- the sectors of a request are the disc's, which has so many blocks
+-- the sectors of a request are the disc's, which has n blocks
 pub record Lies (disc : List ℕ) (lba n : ℕ) : Type 0 where
   pub blocks : ℕ
   pub inside : lba + n ≤ 16 * blocks

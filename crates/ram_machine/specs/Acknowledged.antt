@@ -79,7 +79,7 @@ pub record WasDone (event : AnsweredStep) (asked : Command) : Type 0 where
   pub asks : decoded cdb event.payload ≡ Ok asked
   pub reply_is : event.reply ≡ replies.Command cdb answers.Good
 
--- the sector is one of so many from this one on
+-- the sector is one of n from this one on
 abbrev pub IsAmong : (lba n at : ℕ) → Type 0
 IsAmong lba n at = (lba ≤ at) × (at < lba + n)
 
@@ -128,14 +128,10 @@ WritesAsDecoded (Ok asked) = WritesAsAsked asked
 WritesAsDecoded (Err why) = Unit {0}
 
 -- The same of a line, with its data: it is no press of a lawful geometry, and formats nothing.
-abbrev pub WritesAtMost : Line → (payload : List ℕ) → Type 0
-WritesAtMost (lines.Press zones scale psa) payload = ¬ IsLawful (shape_of zones scale psa)
-WritesAtMost (lines.Command cdb) payload = WritesAsDecoded (decoded cdb payload)
-WritesAtMost _ payload = Unit {0}
-
--- so it is of each of these lines
-abbrev pub WriteAtMost : List AnsweredStep → Type 0
-WriteAtMost events = All (λ (event : AnsweredStep). WritesAtMost event.line event.payload) events
+abbrev pub NeitherPressesNorFormats : Line → (payload : List ℕ) → Type 0
+NeitherPressesNorFormats (lines.Press zones scale psa) payload = ¬ IsLawful (shape_of zones scale psa)
+NeitherPressesNorFormats (lines.Command cdb) payload = WritesAsDecoded (decoded cdb payload)
+NeitherPressesNorFormats _ payload = Unit {0}
 
 -- what a sector may fall back to after a command that may have sent other bytes of it
 abbrev pub choices_asked : (at : ℕ) → Result Command Sense → (payload : List ℕ) → List (List ℕ) → List (List ℕ)

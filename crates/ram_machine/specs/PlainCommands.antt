@@ -34,7 +34,7 @@ module _ (old new : Shown) (s t : Standing) where
     pub same : new ≡ old
     pub stands : t ≡ s
 
-  -- a read of so many sectors was answered so, with these data
+  -- a read of n sectors was answered so, with these data
   pub record PlainRead (lba n : ℕ) (answer : Answer) (data_in : List ℕ) : Type 0 where
     pub out : ReadOut
     pub bytes : List ℕ
@@ -52,7 +52,7 @@ module _ (old new : Shown) (s t : Standing) where
     pub answer_is : answer ≡ write_answer out
     pub no_data : data_in ≡ []
 
-  -- a verification of so many sectors was answered so
+  -- a verification of n sectors was answered so
   pub record PlainVerification (lba n : ℕ) (answer : Answer) (data_in : List ℕ) : Type 0 where
     pub out : ReadOut
     pub cause : VerifyCause old new lba n out
@@ -68,7 +68,7 @@ module _ (old new : Shown) (s t : Standing) where
     pub answer_is : answer ≡ format_answer out
     pub no_data : data_in ≡ []
 
-  -- an expansion that leaves so many sectors was answered so
+  -- an expansion that leaves n sectors was answered so
   pub record PlainExpansion (sectors : ℕ) (answer : Answer) (data_in : List ℕ) : Type 0 where
     pub out : ExpandOut
     pub cause : ExpandCause old new sectors out

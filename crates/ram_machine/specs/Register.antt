@@ -97,7 +97,7 @@ pub record Shows (at : ℕ) (r : Register) (lba n : ℕ) (data_in : List ℕ) : 
   pub whole : length data_in ≡ 2048 * n
   pub shown : is_sector_among lba n at ≡ true → r.now ≡ Some (Bytes (bytes_of_sector lba data_in at))
 
--- A command that was answered Good, but a write and a format: a read, a synchronisation, an expansion to so many sectors, and a list
+-- A command that was answered Good, but a write and a format: a read, a synchronisation, an expansion to n sectors, and a list
 -- of mode pages, which may turn the cache on or off.
 abbrev pub AfterGood : (at : ℕ) → Register → Command → (payload data_in : List ℕ) → Register → Type 0
 AfterGood at r (commands.Read lba n) payload data_in after = Shows at r lba n data_in × (after ≡ r)

@@ -70,7 +70,7 @@ step_outcome steps.Cut = event events.Cut
 step_outcome steps.Off = event events.Off
 step_outcome steps.Fault = Err stopped.ImageFault
 
--- how each end of a pass comes out, after which the scrubber has so many blocks
+-- how each end of a pass comes out, after which the scrubber has n blocks
 abbrev pub pass_outcome : PassEnd → (count : ℕ) → Outcome
 pass_outcome passes.Done count = event (events.Found count)
 pass_outcome passes.NotFormatted count = event events.NotFormatted

@@ -18,7 +18,7 @@ pub record ToldFound (event : AnsweredStep) (count : ℕ) : Type 0 where
   pub line_is : event.line ≡ lines.Scrub true
   pub reply_is : event.reply ≡ replies.Event (events.Found count)
 
--- The line was a read of so many sectors from this one on, and was answered that the block of this sector cannot be read (3/11/00).
+-- The line was a read of n sectors from lba on, and was answered that the block of this sector cannot be read (3/11/00).
 pub record WasToldUnreadable (event : AnsweredStep) (lba n named : ℕ) : Type 0 where
   pub cdb : List ℕ
   pub line_is : event.line ≡ lines.Command cdb

@@ -1,4 +1,4 @@
--- The exit status of the program. For the program, and for whoever starts it.
+-- The exit status of the program. For the program, and for those who start it.
 use Rattle.std.specs.Prelude.{ℕ}
 use Rattle.ram_machine.specs.declared.status.Status.{Status}
 use Rattle.ram_machine.specs.declared.status.Status.TheVariants.{Done, Differs, Usage, Script, ImageFault, SourceFault, SinkFault, NoMemory, NotADisc}

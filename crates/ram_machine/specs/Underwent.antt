@@ -11,7 +11,7 @@ pub record InImage : Type 0 where
   pub machine : Machine
   pub bytes : Option (List ℕ)
 
--- An event does to a medium of so many blocks exactly what it is to do, with its arms and its armed cut, and to the bytes of
+-- An event does to a medium of n blocks exactly what it is to do, with its arms and its armed cut, and to the bytes of
 -- the image what the medium's rule says, and changes no other byte.
 pub record DoesInImage (blocks : ℕ) (old new : InImage) (event : Event) : Type 0 where
   pub lawful : IsEventOf blocks event

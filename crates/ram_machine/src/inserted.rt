@@ -229,7 +229,7 @@ fn step_outcome(end: StepEnd) -> Result<Reply, Stopped>
     }
 }
 
-/// How a pass of the scrubber comes out that found so many blocks.
+/// How a pass of the scrubber comes out that found n blocks.
 fn pass_outcome(end: PassEnd, count: u64) -> Result<Reply, Stopped>
     ensures { result ≡ pass_outcome end count }
 {
@@ -320,7 +320,7 @@ pub fn begin<D: Drive>(rooms: TargetRooms, image: D::Image) -> Result<Inserted<D
     }
 }
 
-/// Presses a disc of so many zones, this scale and so many primary spares, in this order, on the image that lies in the
+/// Presses a disc of this many zones, this scale and this many primary spares, in this order, on the image that lies in the
 /// drive, where they are within their limits. Its layout is of the drive's kind. Whatever the answer, the scrubber is new.
 fn press_disc<D: Drive>(
     inserted: Inserted<D>,

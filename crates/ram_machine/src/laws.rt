@@ -1,5 +1,5 @@
-//! Laws of runs, for whoever relies on a drive: what it acknowledged stays, and is read back.
-ghost use Rattle.std.specs.Prelude.{◌≡◌, ◌↔◌, ◌*◌, ◌<◌, ◌≤◌, ℕ, Bool, Ok, Some, List, [], ◌∷◌, length};
+//! Laws of runs, for those who rely on a drive: what it acknowledged stays, and is read back.
+ghost use Rattle.std.specs.Prelude.{◌≡◌, ◌↔◌, ◌*◌, ◌<◌, ◌≤◌, ℕ, Bool, Ok, Some, List, [], ◌∷◌, length, All};
 ghost use Rattle.std.specs.List.{Contains};
 ghost use Rattle.model_geometry.specs.Geometry.{Shape, total};
 ghost use Rattle.model_places.specs.Places.{Lists};
@@ -21,7 +21,7 @@ ghost use Rattle.ram_machine.specs.LineSteps.{Step};
 ghost use Rattle.ram_machine.specs.Underwent.{UnderwentEvents, WritesNone};
 ghost use Rattle.ram_machine.specs.Runs.{IsStep, Run};
 ghost use Rattle.ram_machine.specs.Answered.{AnsweredStep};
-ghost use Rattle.ram_machine.specs.Acknowledged.{Acknowledged, HasNow, GoesThrough, WasDone, IsAmong, LeavesSector, LeaveSector, KeepPower, HoldsOldOrNew, FallsBackTo, choices_with, choices_after, WritesAtMost, WriteAtMost, HasInImage, HasBlockInImage, IsPendingIn};
+ghost use Rattle.ram_machine.specs.Acknowledged.{Acknowledged, HasNow, GoesThrough, WasDone, IsAmong, LeavesSector, LeaveSector, KeepPower, HoldsOldOrNew, FallsBackTo, choices_with, choices_after, NeitherPressesNorFormats, HasInImage, HasBlockInImage, IsPendingIn};
 ghost use Rattle.ram_machine.specs.SectorBytes.{bytes_of_sector};
 ghost use Rattle.ram_machine.specs.Alone.{IsAlone, LeavesAlone, LeaveAlone};
 ghost use Rattle.ram_machine.specs.PlainRuns.{PlainState, IsPlainlyFirst, IsInPlainly, PlainStep, PlainRun};
@@ -154,7 +154,7 @@ pub fn a_ticked_block_is_in_the_image()
         → IsPendingIn s i bytes → IsLeft t image → HasBlockInImage t image i bytes }
 {}
 
-/// After a scrub of all blocks that told how many it found, the blocks that it told are just those that cannot be read, and so many.
+/// After a scrub of all blocks that told how many it found, the blocks that it told are just those that cannot be read, and n.
 /// While no block is armed to die, a read that is the next line is refused for a block that cannot be read only where the scrub told
 /// that block: so one of other blocks is not.
 pub fn a_read_is_unreadable_where_a_scrub_told_it()
@@ -173,10 +173,11 @@ pub fn a_read_is_unreadable_where_a_scrub_told_it()
 pub fn after_a_power_loss_a_sector_has_one_of_its_values()
     ensures begins { (s : State) (at : ℕ) (bytes : List ℕ) → Acknowledged s at bytes → FallsBackTo s at (bytes ∷ []) }
     ensures step { (s t : State) (line : Line) (payload data_in : List ℕ) (outcome : Outcome) (at : ℕ)
-        (choices : List (List ℕ)) → Step s line payload outcome data_in t → WritesAtMost line payload
+        (choices : List (List ℕ)) → Step s line payload outcome data_in t → NeitherPressesNorFormats line payload
         → FallsBackTo s at choices → FallsBackTo t at (choices_with at line payload choices) }
     ensures run { (s t : State) (events : List AnsweredStep) (at : ℕ) (choices : List (List ℕ)) → Run s events t
-        → WriteAtMost events → FallsBackTo s at choices → FallsBackTo t at (choices_after at events choices) }
+        → All (λ (event : AnsweredStep). NeitherPressesNorFormats event.line event.payload) events
+        → FallsBackTo s at choices → FallsBackTo t at (choices_after at events choices) }
     ensures found { (s : State) (at : ℕ) (choices : List (List ℕ)) (bytes : List ℕ) → FallsBackTo s at choices
         → HasNow s at bytes → Contains choices bytes }
 {}

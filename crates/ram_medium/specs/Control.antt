@@ -35,7 +35,7 @@ pub record FailsInFail (old new : Machine) (block : ℕ) : Type 0 where
   pub arms_same : new.arms ≡ old.arms
   pub cut_same : new.cut ≡ old.cut
 
--- What the failure of a block does on a medium of so many blocks, by its answer. (This project's own.)
+-- What the failure of a block does on a medium of n blocks, by its answer. (This project's own.)
 abbrev pub FailRule : ℕ → Machine → Machine → ℕ → FailEnd → Type 0
 FailRule total old new block fails.Done = (block < total) × (new ≡ with_dead block old)
 FailRule total old new block (fails.NoBlock blocks) = (total ≤ block) × (blocks ≡ total) × (new ≡ old)
@@ -45,7 +45,7 @@ FailRule total old new block fails.Failed = (block < total) × FailsInFail old n
 abbrev pub with_arm : WornBlock → Machine → Machine
 with_arm worn machine = record machine { arms = machine.arms ++ worn ∷ [] }
 
--- What the arming of a block does to the arms of a medium of so many blocks, by its answer. (This project's own.)
+-- What the arming of a block does to the arms of a medium of n blocks, by its answer. (This project's own.)
 abbrev pub ArmsRule : ℕ → List WornBlock → List WornBlock → WornBlock → Arm → Type 0
 ArmsRule total old new worn arming.Set = (worn.block < total) × (length old < MOST_ARMS) × (new ≡ old ++ worn ∷ [])
 ArmsRule total old new worn (arming.NoBlock blocks) = (total ≤ worn.block) × (blocks ≡ total) × (new ≡ old)

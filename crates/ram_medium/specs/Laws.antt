@@ -10,7 +10,7 @@ use Rattle.model_medium.specs.declared.WornBlock.{WornBlock}
 use Rattle.model_medium.specs.declared.ArmedCut.{ArmedCut}
 use Rattle.ram_medium.specs.declared.countdown.TheConstants.{MOST_ARMS}
 
--- What holds of `reaches`, which says what can follow by so many uses that did not fail, or by one that did: nothing follows by
+-- What holds of `reaches`, which says what can follow by n uses that did not fail, or by one that did: nothing follows by
 -- none, one part after another adds up, and what follows is what can follow on any medium. A medium whose cells are known shows
 -- one for each block, and one that does not shows none. Cells with whole bytes have those of a block. (This project's own.)
 pub record MediumLaws {M : Type 0} (world : M → World) (block_count : M → ℕ) (reaches : M → M → Span → Type 0) : Type 0 where

@@ -20,7 +20,7 @@ pub trait Medium {
     /// How many blocks it has.
     ghost block_count: { Self → ℕ };
 
-    /// What can follow by so many uses that did not fail, or by one that did.
+    /// What can follow by n uses that did not fail, or by one that did.
     ghost reaches: { Self → Self → Span → Type 0 };
 
     /// That this event happened in between. What it does exactly, a controllable medium says.

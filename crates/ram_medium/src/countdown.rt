@@ -66,7 +66,7 @@ impl Armed {
         }
     }
 
-    /// Makes a block of so many dead at its `n`-th use from now on, unless there is no such block or as many arms stand
+    /// Makes a block of n dead at its `n`-th use from now on, unless there is no such block or as many arms stand
     /// as can.
     pub fn wear(&mut self, blocks: u32, block: u32, n: u32) -> Arm
         requires { 1 ≤ n }

@@ -44,7 +44,7 @@ impl MemMedium {
     ghost use Rattle.ram_medium.specs.Memory.{mem_world, mem_machine, failing_of, MemTakes};
     ghost use Rattle.ram_medium.specs.Begun.{IsNewInMemory, MemBeginRule};
 
-    /// A medium of so many blank blocks, with the power off. `failing` has the numbers, from 1 on, of the uses that
+    /// A medium of n blank blocks, with the power off. `failing` has the numbers, from 1 on, of the uses that
     /// fail.
     pub fn new(alloc: Global, blocks: u32, failing: Vec<u64>) -> Result<MemMedium, AllocError>
         ensures { IfOk result (IsNewInMemory blocks failing.items) }

@@ -19,7 +19,7 @@ use Rattle.model_mirror.specs.Whole.{CopyEnds, CopyGoesOn, CopiesBlock, CopiesBl
 use Rattle.ram_mirror.specs.Sides.{CopiesOrStops}
 use Rattle.ram_mirror.specs.Resyncs.{PassesBlock, CopiesAll}
 
--- The first so many blocks were gone through.
+-- The first k blocks were gone through.
 pub record HasPassed (start now : MirrorShown) (k : ℕ) (lead other lead' other' : Standing → Type 0) : Type 0 where
   pub copies : CopiesBlocks start now k
   pub on : now.on ≡ true

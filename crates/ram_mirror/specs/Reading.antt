@@ -77,7 +77,7 @@ abbrev pub OffGives : (lead' other' : Standing → Type 0) → List (List ℕ) �
 OffGives lead' other' discs reads.Off = lead' (Off discs) × StandsSomehow other'
 OffGives lead' other' discs _ = ⊥
 
--- The first so many blocks of a request were read, and their bytes stand at the front.
+-- The first k blocks of a request were read, and their bytes stand at the front.
 pub record ReadSoFar (start now : MirrorShown) (lba n k : ℕ) (into : List ℕ) (lead other lead' other' : Standing → Type 0) : Type 0 where
   pub parts : ReadsParts start now lba n k
   pub on : IsOn now.lead

@@ -22,7 +22,7 @@ NextCallFails log = Contains log.failing (counted log.made 1)
 abbrev pub with_call : CallLog → CallLog
 with_call log = record log { made = counted log.made 1 }
 
--- so many failures more (this project's own)
+-- n failures more (this project's own)
 abbrev pub with_faults : ℕ → CallLog → CallLog
 with_faults more log = record log { faults = counted log.faults more }
 

@@ -1,4 +1,4 @@
--- Exactly what the objects in memory do at each call: for the forms in memory, and for whoever brings their bytes.
+-- Exactly what the objects in memory do at each call: for the forms in memory, and for tests that bring their bytes.
 use Rattle.std.specs.Prelude.{◌≡◌, ℕ, ◌+◌, ◌<◌, ◌≤◌, ◌⊎◌, min, Option, Some, None, List, [], ◌∷◌, ◌++◌, length, take, drop}
 use Rattle.model_bytes.specs.Bytes.{put_at, resized}
 use Rattle.ram_outside.specs.Calls.{CallLog, NextCallFails, with_call, with_faults, with_failed_call}

@@ -82,7 +82,7 @@ module _ {M : Type 0} (world : M → World) (reaches : M → M → Span → Type
         ((end : Arm) × WearRule (total shape) (machine old) (machine new) (record { block = block; left = n }) end) × (room' ≡ room)
     StepRule old room (steps.Cut n fate) new room' = (machine new ≡ with_armed_cut n fate (machine old)) × (room' ≡ room)
 
-    -- After so many of the steps: the last of them leads here from where the ones before it have led.
+    -- After n of the steps: the last of them leads here from where the ones before it have led.
     abbrev pub Follows : List Quiet → ℕ → M → List ℕ → M → List ℕ → Type 0
     Follows all zero start room now room' = (now ≡ start) × (room' ≡ room)
     Follows all (suc k) start room now room' = (before : M) × (room_before : List ℕ)

@@ -15,7 +15,7 @@ use Rattle.ram_replace.specs.declared.spares.Found.{Found}
 use Rattle.ram_replace.specs.Spares.{StandsAt, StandsAtTurn}
 use Rattle.ram_replace.specs.Cursors.{GoesToTurn}
 
--- each of the first so many was tried
+-- each of the first n was tried
 was_tried : (free : List ℕ) (count j : ℕ) → j < count → Contains (tried_of free count) (slice_index free j)
 was_tried free zero j below = absurd (omega (arith, below))
 was_tried free (suc count) j below = elim (cases_eq j count) [

@@ -9,7 +9,7 @@ use Rattle.model_drive.specs.Course.{AreDead}
 use Rattle.ram_spare.specs.Turns.{ArePassed}
 use Rattle.ram_replace.specs.declared.spares.Found.{Found}
 
--- The spare is the free one that comes after so many in their order. (This project's own, as all here.)
+-- The spare is the free one that comes after n in their order. (This project's own, as all here.)
 pub record StandsAt (free : List ℕ) (found : Found) : Type 0 where
   pub inside : found.tried < length free
   pub spare_is : found.spare ≡ slice_index free found.tried
@@ -25,7 +25,7 @@ module _ {M : Type 0} (world : M → World) (reaches : M → M → Span → Type
   ChangesSparesAlone = (block : ℕ) → ¬ Contains free block
       → cell_at (world new).cells block ≡ cell_at (world old).cells block
 
-  -- The first so many free spares were written and read back, and are dead.
+  -- The first n free spares were written and read back, and are dead.
   pub record HaveFailed (tried : ℕ) : Type 0 where
     pub few : tried ≤ length free
     pub continues : Continues world reaches old new (2 * tried)

@@ -18,7 +18,7 @@ use ram_sdl::{Sdl, SdlEntry};
 use ram_spare::free_from;
 use ram_zones::Geometry;
 
-/// Says of a spare that it is never used again.
+/// Retires a spare.
 fn retire(list: &mut Sdl, spare: u32)
     requires rise { IsStrictlyIncreasing (defectives list.old.entries) }
     requires room { (length list.old.entries < 8184) ⊎ Contains (defectives list.old.entries) spare }
@@ -33,7 +33,7 @@ fn retire(list: &mut Sdl, spare: u32)
     });
 }
 
-/// Retires the first so many of the free spares of a pool. Before the turn `first` no spare is free.
+/// Retires the first n of the free spares of a pool. Before the turn `first` no spare is free.
 fn retire_tried<L: Layout>(
     layout: &L,
     sdl: &Sdl,

@@ -41,7 +41,7 @@ event_words (events.Found count) = codes "found " ++ decimal count
 abbrev pub lost_line : (block : ℕ) → List ℕ
 lost_line block = codes "lost " ++ decimal (16 * block) ++ codes "\n"
 
--- the lines of the first so many of these blocks (this project's own)
+-- the lines of the first n of these blocks (this project's own)
 abbrev pub lost_text : (blocks : List ℕ) → (count : ℕ) → List ℕ
 lost_text blocks count = flat_map (λ k. lost_line (slice_index blocks k)) (range_with_len 0 count)
 

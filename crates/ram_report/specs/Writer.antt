@@ -38,7 +38,7 @@ abbrev pub FlushRule : Option (List ℕ) → Option (List ℕ) → List ℕ → 
 FlushRule before after gathered faults faults' Done = (after ≡ before) × (gathered ≡ []) × (faults' ≡ faults)
 FlushRule before after gathered faults faults' Failed = (after ≡ before) × Rose faults faults'
 
--- What handing over a text at once may do: all of it is written, or a prefix of so many bytes and the sink failed.
+-- What handing over a text at once may do: all of it is written, or a prefix of n bytes and the sink failed.
 -- (This project's own.)
 abbrev pub HandOverRule : Option (List ℕ) → Option (List ℕ) → ℕ → ℕ → List ℕ → Result (Unit {0}) ℕ → Type 0
 HandOverRule written written' faults faults' text (Ok done) = (written' ≡ append_known written text) × (faults' ≡ faults)

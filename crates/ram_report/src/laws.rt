@@ -1,4 +1,4 @@
-//! Laws of the report, for whoever relies on its definitions.
+//! Laws of the report, for those who rely on its definitions.
 ghost use Rattle.std.specs.Prelude.{◌≡◌};
 ghost use Rattle.ram_report.specs.ReportLines.{answer_words, HasWords};
 ghost use Rattle.model_sense.specs.declared.answer.Answer.{Answer as Reported};

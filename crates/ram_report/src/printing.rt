@@ -18,7 +18,7 @@ pub enum Event {
     Pressed,
     /// There is no such geometry, and nothing was changed.
     NotPressed,
-    /// The power is on, and the disc has so many sectors.
+    /// The power is on, and the disc has n sectors.
     Ready {
         /// How many sectors the disc has.
         capacity: u32,
@@ -61,7 +61,7 @@ pub enum Event {
         /// Its first sector.
         lba: u64,
     },
-    /// A scrub of all blocks found so many that cannot be read. They are told behind this line.
+    /// A scrub of all blocks found n that cannot be read. They are told behind this line.
     Found {
         /// How many.
         count: u64,

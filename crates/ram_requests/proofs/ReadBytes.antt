@@ -167,7 +167,7 @@ one_more_use b first count k covered not_hand =
     let rise : read_uses b first (suc k) ≤ read_uses b first count = read_uses_rise b first (suc k) count (omega arith) in
     subst (λ (m : ℕ). m ≤ read_uses b first count) (one_use_of_medium b first k not_hand) rise
 
--- a buffer that has few blocks after so many uses had few before
+-- a buffer that has few blocks after k uses had few before
 pub few_before_uses : (b : List ℕ) (first k : ℕ) (held : List (ℕ × List ℕ)) → numbers_in held ≡ touched_from b first k → (k ≡ 0) ⊎ (length b ≤ BUFFERED_BLOCKS) → length held ≤ BUFFERED_BLOCKS
     → length b ≤ BUFFERED_BLOCKS
 few_before_uses b first k held touched (inl none) few =

@@ -6,7 +6,7 @@ ghost use Rattle.model_sectors.specs.declared.TheConstants.{MOST_SECTORS};
 use crate::parts::Part;
 use ram_bytes::SECTORS_PER_BLOCK;
 
-/// A request for so many sectors from one on. It ends at sector [`MOST_SECTORS`](crate::MOST_SECTORS) at the latest, so
+/// A request for n sectors from one on. It ends at sector [`MOST_SECTORS`](crate::MOST_SECTORS) at the latest, so
 /// that no number of its arithmetic overflows, however many sectors it is for.
 #[derive(Clone, Copy, Debug)]
 pub struct Request {

@@ -25,13 +25,13 @@ abbrev pub end_of : ℕ → List Run → ℕ
 end_of block [] = block
 end_of block (run ∷ runs) = end_of (run.first + run.len + 1) runs
 
--- so many of these numbers, which rise, are this one at most
+-- n of these numbers, which rise, are this one at most
 pub record IsCountUpTo (keys : List ℕ) (most count : ℕ) : Type 0 where
   pub within : count ≤ length keys
   pub low : (k : ℕ) → k < count → slice_index keys k ≤ most
   pub high : (k : ℕ) → count ≤ k → k < length keys → most < slice_index keys k
 
--- so many of these numbers, which rise, are less than this one
+-- n of these numbers, which rise, are less than this one
 pub record IsCountBelow (keys : List ℕ) (limit count : ℕ) : Type 0 where
   pub within : count ≤ length keys
   pub lower : (k : ℕ) → k < count → slice_index keys k < limit

@@ -54,7 +54,7 @@ pub fn count_below(slipped: &[PdlEntry], block: u32) -> usize
 }
 
 /// Puts the blocks from `first` on to before `end` behind the others, without those that are slipped. Of the slipped blocks,
-/// so many (`before`) come before `first`, and so many (`until`) before `end`.
+/// `before` come before `first`, and `until` before `end`.
 pub fn push_kept(
     runs: &mut Vec<Run>,
     slipped: &[PdlEntry],

@@ -54,7 +54,7 @@ IsReported {first} far due = due ≡ Some (first.report ++ report_text far.event
 abbrev pub IsDue : {first : Beginning} → SoFar first → Option (List ℕ) → Type 0
 IsDue {first} far due = IfSome due (λ text. text ≡ first.report ++ report_text far.events)
 
--- so many lines were read, of which so many were answered, and the commands among them so
+-- how many lines were read, how many of these were answered, and how the commands among them
 pub record IsTallied {first : Beginning} (far : SoFar first) (tally : Tally) : Type 0 where
   pub lines : tally.lines ≡ length far.events
   pub answered : tally.answered ≡ answered_in far.events
@@ -74,7 +74,7 @@ abbrev pub unread : View → Option (List ℕ)
 unread view = prepend_known view.buffered view.left
 
 module _ {S K : Type 0} (sources : Sources S) (sinks : Sinks K) where
-  -- the view of a run with this dialogue, of which so many lines came
+  -- the view of a run with this dialogue, of which n lines came
   abbrev pub run_view : Dialogue S K → Tally → View
   run_view dialogue tally = record {
     buffered = (reader_of dialogue).buffered;

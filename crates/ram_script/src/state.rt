@@ -82,7 +82,7 @@ impl Tally {
 }
 
 /// Takes the next line of the script, with its data; None where the script has ended. The data that
-/// the line before gave are let go. The answers so far are handed over before more is asked of the source.
+/// the line before gave are let go. Pending answers are flushed before more input is read.
 pub fn take_line<S: Source, K: Sink>(
     state: &mut RunState,
     dialogue: &mut Dialogue<S, K>,

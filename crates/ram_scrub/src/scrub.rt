@@ -84,7 +84,7 @@ impl Scrub {
         self.next
     }
 
-    /// Drops found blocks that a disc of so many blocks does not have, and past its last block starts again at the first.
+    /// Drops found blocks that a disc of n blocks does not have, and past its last block starts again at the first.
     fn begin(&mut self, blocks: u32)
         ensures { scrubber_of self.new ≡ begun_on blocks (scrubber_of self.old) }
     {

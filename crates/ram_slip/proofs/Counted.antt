@@ -35,7 +35,7 @@ inside_then shape zone block start end start_is end_is least after =
 pub start_least : (shape : Shape) (zone start : ℕ) → start ≡ zone_start shape zone → 8 ≤ start
 start_least shape zone start is = omega (arith, is, zone_start_closed shape zone)
 
--- so many of the first k entries lie in the zone
+-- n of the first k entries lie in the zone
 abbrev pub CountsUpTo : Shape → List PdlEntry → ℕ → ℕ → ℕ → Type 0
 CountsUpTo shape entries zone k count = count ≡ length (filter (λ block. is_inside shape block zone) (take k (pdl_blocks entries)))
 

@@ -16,7 +16,7 @@ pub fn count_before(entries: &[PdlEntry], block: u32) -> usize
     entries.partition_point(|entry| entry.block < block)
 }
 
-/// Whether an entry names this block, where so many name blocks before it.
+/// Whether an entry names this block, where n name blocks before it.
 pub fn is_named(entries: &[PdlEntry], before: usize, block: u32) -> bool
     requires rising { IsStrictlyIncreasing (pdl_blocks entries.now) }
     requires before { IsCountBefore entries.now block before }

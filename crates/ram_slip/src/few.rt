@@ -30,7 +30,7 @@ pub fn slipped_in(geometry: &Geometry, entries: &[PdlEntry], zone: u32) -> usize
     count
 }
 
-/// Whether each zone has no more of the entries than so many.
+/// Whether each zone has no more of the entries than n.
 fn zones_have_few(geometry: &Geometry, entries: &[PdlEntry], most: u32) -> bool
     ensures { IsTrue result ↔ ((zone : ℕ) → zone < geometry.now.zones
         → slipped_in geometry.now (pdl_blocks entries.now) zone ≤ most) }

@@ -40,7 +40,7 @@ enum Rank {
     Outside,
     /// It is slipped.
     Slipped,
-    /// It is there, with so many before it.
+    /// It is there, with n before it.
     At { place: u32 },
 }
 
@@ -102,7 +102,7 @@ fn turn_in_group(geometry: &Geometry, dds: &DdsPdl, ssa: u32, place: u32) -> Opt
     Some(primary + (primary + logical + ssa - 1 - place))
 }
 
-/// What a block is to a disc with so many supplementary spares.
+/// What a block is to a disc with n supplementary spares.
 pub fn place_of(geometry: &Geometry, dds: &DdsPdl, ssa: u32, block: u32) -> Place
     requires valid { IsValidPdl geometry.now (dds_of dds.now) }
     requires area { IsValidOnSome geometry.now ssa }

@@ -70,7 +70,7 @@ pub fn is_valid_pdl(geometry: &Geometry, dds: &DdsPdl) -> bool
     are_data(geometry, entries)
 }
 
-/// Whether the layout may have so many supplementary spares.
+/// Whether the layout may have n supplementary spares.
 fn may_have(geometry: &Geometry, ssa: u32) -> bool
     requires lawful { IsLawful geometry.now }
     ensures { IsTrue result ↔ area_fits_by geometry.now.layout geometry.now ssa }
@@ -81,7 +81,7 @@ fn may_have(geometry: &Geometry, ssa: u32) -> bool
     }
 }
 
-/// Whether so many supplementary spares are valid: the spares are no more than a disc of this version may have, a logical
+/// Whether n supplementary spares are valid: the spares are no more than a disc of this version may have, a logical
 /// block is left, and the layout may have them.
 pub fn is_valid_ssa(geometry: &Geometry, version: Version, ssa: u32) -> bool
     ensures { IsTrue result ↔ IsValidSsa geometry.now version ssa }

@@ -97,7 +97,7 @@ module _ (p : ℕ → Bool) (spares : List ℕ) (turn : ℕ) (before : IsBeforeF
 
 -- ---- the cursors, one pool after another
 
--- those of the first so many pools are at their first free spares
+-- those of the first n pools are at their first free spares
 pub record AreSet (pools : List Pool) (entries : List SdlEntry) (many count : ℕ) (cursors : List ℕ) : Type 0 where
   pub one_each : length cursors ≡ many
   pub set : (pool : ℕ) → pool < count → slice_index cursors pool ≡ first_free_turn pools entries pool

@@ -9,7 +9,7 @@ use Rattle.model_pools.specs.Pools.{Pool, spares_at, is_unnamed}
 use Rattle.ram_spare.specs.declared.spare.FreeSpare.{FreeSpare}
 use Rattle.ram_spare.specs.declared.cursors.Cursors.TheInside.{Inside}
 
--- there are no more cursors than a disc has zones, and room for so many
+-- there are no more cursors than a disc has zones, and room for n
 pub record AreFewCursors (cursors : Inside) : Type 0 where
   pub few : length cursors.at.items ≤ 35
   pub roomy : 35 ≤ vec_capacity cursors.at
@@ -43,7 +43,7 @@ module _ (is_free : ℕ → Bool) (spares : List ℕ) where
   FindsFree first None = AreUsed first (length spares)
   FindsFree first (Some found) = IsNextFree first found
 
-  -- Before this turn come just so many free spares: those after them are the free ones from this turn on, and each free one
+  -- Before this turn come just n free spares: those after them are the free ones from this turn on, and each free one
   -- before this turn is one of them.
   pub record ArePassed (count turn : ℕ) : Type 0 where
     pub few : count ≤ length (filter is_free spares)

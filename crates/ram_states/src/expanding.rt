@@ -13,8 +13,8 @@ use ram_medium::MediumControl;
 use ram_sectors::ExpandOut;
 
 impl<M: MediumControl> Ready<M> {
-    /// Gives the disc a capacity of so many sectors, as many as it has or fewer: the logical blocks behind them become
-    /// supplementary spares, and the sectors that are left stay. Where the disc has just so many, no block of the medium is
+    /// Gives the disc a capacity of n sectors, as many as it has or fewer: the logical blocks behind them become
+    /// supplementary spares, and the sectors that are left stay. Where the disc has just n, no block of the medium is
     /// used; else the new secondary list is written, in 8 uses for each of its parts. No block is buffered then, and no memory
     /// is taken.
     ///

@@ -14,11 +14,11 @@ fate_word Old = codes "old"
 fate_word New = codes "new"
 fate_word Torn = codes "torn"
 
--- so many bytes, each this one (this project's own)
+-- n bytes, each this one (this project's own)
 abbrev pub filled : ℕ → ℕ → List ℕ
 filled byte n = replicate n byte
 
--- so many bytes that count up by sectors of 2,048 bytes, from this one on, and after FFh from 00h on (this project's
+-- n bytes that count up by sectors of 2,048 bytes, from this one on, and after FFh from 00h on (this project's
 -- own)
 abbrev pub counted_up : ℕ → ℕ → List ℕ
 counted_up byte n = map (λ place. (byte + place / 2048) % 256) (range_with_len 0 n)

@@ -1,4 +1,4 @@
-//! Laws of the script language, for whoever relies on its definitions.
+//! Laws of the script language, for those who rely on its definitions.
 ghost use Rattle.std.specs.Prelude.{◌≡◌, ◌≢◌, ◌<◌, ℕ, Option, Some, List, [], ◌∷◌, ◌++◌, length, All};
 ghost use Rattle.ram_text.specs.ScriptWords.{words_of, space};
 ghost use Rattle.ram_text.specs.Lines.{GivesLine, LineIsTooLong, ScriptIsTooLong};

@@ -17,7 +17,7 @@ use ram_bytes::Cdb;
 pub enum Line {
     /// It has no words, or is a comment. It has no answer.
     Empty,
-    /// Make the image anew, for a disc of so many zones, this scale and so many primary spares. Numbers of which there is
+    /// Make the image anew, for a disc of this many zones, this scale and this many primary spares. Numbers of which there is
     /// no disc are answered `not pressed`.
     Press {
         /// How many zones the disc has, from 1 to 35.

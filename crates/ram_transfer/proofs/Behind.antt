@@ -53,7 +53,7 @@ module _ (b : List ℕ) (lba n : ℕ) where
   abbrev front_numbers : ℕ → List ℕ
   front_numbers k = touched_from b first (front_used (is_partly lba n first) k)
 
-  -- the blocks of the buffer after so many of the request
+  -- the blocks of the buffer after n of the request
   abbrev pub numbers_behind : ℕ → List ℕ
   numbers_behind k = touched_from (front_numbers k) (first + last) (k - last)
 

@@ -33,7 +33,7 @@ module _ {M : Type 0} (world : M → World) (reaches : M → M → Span → Type
     failed = tt;
   }
 
-  -- or it was stopped within so many uses
+  -- or it was stopped within n uses
   pub machine_stops : (most uses : ℕ) → most ≡ uses → (stop : Stop) → Stops world reaches old new most stop → Stops (λ (m : Machine). m.world) ReachBy (machine old) (machine new) uses stop
   machine_stops most uses same stop s =
       subst (λ (n : ℕ). Stops (λ (m : Machine). m.world) ReachBy (machine old) (machine new) n stop) same (stops_there most stop s)

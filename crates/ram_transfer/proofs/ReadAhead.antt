@@ -58,7 +58,7 @@ shorter disc into lba some all le prefix =
     ∙ take-take (2048 * some) (2048 * all) _ (omega (arith, le))
 
 module _ {M : Type 0} (world : M → World) (reaches : M → M → Span → Type 0) (shape : Shape) (lists : Lists) where
-  -- The request is long, and some of its first so many blocks went past the buffer: `held` is what was buffered before them,
+  -- The request is long, and some of its first k blocks went past the buffer: `held` is what was buffered before them,
   -- `due` would be there if none had, and `held'` is.
   pub record IsBehind (old : M) (held due held' : List (ℕ × List ℕ)) (lba n k : ℕ) : Type 0 where
     pub long : IsLong lba n held

@@ -62,7 +62,7 @@ module _ (shape : Shape) (old mid : Machine) (lists reached : Lists) (held held'
     pub makes : (disc : List ℕ) → StandsFor (shown_under shape old lists held) (On disc) → FitsUnder shape mid.world.cells reached (disc_after disc lba n bytes (length course))
     pub holds : (disc : List ℕ) → StandsFor (shown_under shape old lists held) (On disc) → HoldsBlocksOf (disc_after disc lba n bytes (length course)) held'
 
-  -- so many blocks were written
+  -- k blocks were written
   pub record WroteSome (k : ℕ) : Type 0 where
     pub course : List Placing
     pub as_many : length course ≡ k

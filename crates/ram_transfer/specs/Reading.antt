@@ -18,7 +18,7 @@ use Rattle.model_drive.specs.Shown.{HoldsBlocksOf, StandsUnder}
 use Rattle.ram_buffer.specs.Held.{IsOneFrom}
 use Rattle.ram_transfer.specs.Blocks.{DiesAtMost, IsFetched, CannotBeRead}
 
--- How a read ends that was not stopped: well, or at the block after so many, which it names by the first sector of the
+-- How a read ends that was not stopped: well, or at the block after n, which it names by the first sector of the
 -- request in it, and by its home.
 abbrev pub read_end_at : Shape → Lists → (lba : ℕ) → Option ℕ → ReadOut
 read_end_at shape lists lba None = outs.Good
@@ -29,7 +29,7 @@ read_end_at shape lists lba (Some before) =
 abbrev pub StoodFor : Shape → Lists → World → List (ℕ × List ℕ) → List ℕ → Type 0
 StoodFor shape lists world held disc = (world.known ≡ true) × StandsUnder shape world.cells lists held disc
 
--- each of so many logical blocks from this one on has whole bytes in its home, or was buffered before
+-- each of n logical blocks from this one on has whole bytes in its home, or was buffered before
 abbrev pub HaveBytes : Shape → Lists → List Cell → List ℕ → (first count : ℕ) → Type 0
 HaveBytes shape lists cells buffered first count = (k : ℕ) → k < count
     → IsGood (cell_at cells (home_of shape lists (first + k))) ⊎ IsTrue (is_buffered buffered (first + k))
@@ -39,7 +39,7 @@ abbrev pub KeepsBefore : (lba block : ℕ) → (into into' : List ℕ) → Type 
 KeepsBefore lba block into into' =
     take (2048 * (start_in lba block - lba)) into' ≡ take (2048 * (start_in lba block - lba)) into
 
--- A request covers so many blocks, none of them buffered, that those before its last ones may be read past the buffer.
+-- A request covers n blocks, none of them buffered, that those before its last ones may be read past the buffer.
 pub record IsLong (lba n : ℕ) (held : List (ℕ × List ℕ)) : Type 0 where
   pub many : 16 ≤ blocks_covered lba n
   pub none : (i : ℕ) → IsOneFrom (block_with lba) (blocks_covered lba n) i → bytes_at i held ≡ None
@@ -90,7 +90,7 @@ module _ {M : Type 0} (world : M → World) (reaches : M → M → Span → Type
       ReadsPart found = MatchBool found IsReadPart IsUnreadPart
 
   module _ (shape : Shape) (lists : Lists) (lba n : ℕ) where
-    -- The block after so many is one of the request, and was not at hand. No cell changed but that of its home.
+    -- The block after n is one of the request, and was not at hand. No cell changed but that of its home.
     pub record EndsInBlock (before : ℕ) : Type 0 where
       pub covered : before < blocks_covered lba n
       pub not_at_hand : ¬ IsTrue (is_at_hand (numbers_in held) (block_with lba) before)
@@ -105,7 +105,7 @@ module _ {M : Type 0} (world : M → World) (reaches : M → M → Span → Type
           (read_uses (numbers_in held) (block_with lba) (blocks_covered lba n)) stop
 
     module _ (held' : List (ℕ × List ℕ)) where
-      -- the first so many blocks of the request were read
+      -- the first k blocks of the request were read
       pub record HasReadUpTo (k : ℕ) : Type 0 where
         pub continues : Continues world reaches old new (read_uses (numbers_in held) (block_with lba) k)
         pub touched : numbers_in held' ≡ touched_from (numbers_in held) (block_with lba) k
@@ -121,7 +121,7 @@ module _ {M : Type 0} (world : M → World) (reaches : M → M → Span → Type
         pub all : HasReadUpTo (blocks_covered lba n)
         pub gives : (disc : List ℕ) → StoodFor shape lists (world old) held disc → into ≡ sectors_of disc lba n
 
-      -- the block after so many has no whole bytes in its home
+      -- the block after n has no whole bytes in its home
       pub record MeetsBlock (before : ℕ) : Type 0 where
         pub ended : EndsInBlock before
         pub continues : Continues world reaches old new (read_uses (numbers_in held) (block_with lba) before + 1)
@@ -131,7 +131,7 @@ module _ {M : Type 0} (world : M → World) (reaches : M → M → Span → Type
         pub not_good : ¬ IsGood (cell_at (world new).cells (home_of shape lists (block_with lba + before)))
         pub holds : (disc : List ℕ) → StoodFor shape lists (world old) held disc → HoldsBlocksOf disc held'
 
-      -- How the reading of all parts ends: all were read, or the block after so many cannot be, or it was stopped.
+      -- How the reading of all parts ends: all were read, or the block after n cannot be, or it was stopped.
       abbrev pub PartsEnd : List ℕ → Result (Option ℕ) Stop → Type 0
       PartsEnd into (Ok None) = ReadsParts into
       PartsEnd into (Ok (Some before)) = MeetsBlock before

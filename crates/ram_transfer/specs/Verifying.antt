@@ -11,23 +11,23 @@ use Rattle.ram_transfer.specs.Blocks.{DiesAtMost}
 
 module _ {M : Type 0} (world : M → World) (reaches : M → M → Span → Type 0) (old new : M) (shape : Shape) (lists : Lists)
     (lba : ℕ) where
-  -- the home of the block after so many
+  -- the home of the block after n
   abbrev pub place_after : ℕ → ℕ
   place_after before = home_of shape lists (block_with lba + before)
 
-  -- each of the first so many homes has whole bytes
+  -- each of the first n homes has whole bytes
   abbrev pub HaveWholeHomes : ℕ → Type 0
   HaveWholeHomes count = (world old).known ≡ true
       → (k : ℕ) → k < count → IsGood (cell_at (world new).cells (place_after k))
 
-  -- the homes of the first so many blocks of the request were read
+  -- the homes of the first k blocks of the request were read
   pub record HasVerifiedUpTo (k : ℕ) : Type 0 where
     pub continues : Continues world reaches old new k
     pub same_cells : (world new).cells ≡ (world old).cells
     pub good : HaveWholeHomes k
 
   module _ (n : ℕ) where
-    -- the home of the block after so many has no whole bytes
+    -- the home of the block after n has no whole bytes
     pub record MeetsBadHome (before : ℕ) : Type 0 where
       pub covered : before < blocks_covered lba n
       pub continues : Continues world reaches old new (before + 1)
@@ -42,7 +42,7 @@ module _ {M : Type 0} (world : M → World) (reaches : M → M → Span → Type
       pub stops : Stops world reaches old new (blocks_covered lba n) stop
       pub dies : DiesAtMost (world old).cells (world new).cells (place_after before)
 
-    -- How the reading of all homes ends: all have whole bytes, or that of the block after so many has none, or it was
+    -- How the reading of all homes ends: all have whole bytes, or that of the block after n has none, or it was
     -- stopped.
     abbrev pub HomesEnd : Result (Option ℕ) Stop → Type 0
     HomesEnd (Ok None) = HasVerifiedUpTo (blocks_covered lba n)

@@ -102,8 +102,7 @@ fn put_part(buffer: &mut BlockBuffer, block: &mut Block, part: Part, into: &[u8]
     }
 }
 
-/// Makes the blocks before the one after `k` others of a request those used last, as many as the buffer has room for, in their
-/// order.
+/// Marks the first `k` blocks of a request as most recently used, in their order, as far as the buffer has room for them.
 fn put_before(buffer: &mut BlockBuffer, block: &mut Block, request: Request, k: u32, into: &[u8])
     requires covered { k < blocks_covered request.lba request.n }
     requires whole { length into.now ≡ 2048 * request.n }
@@ -115,7 +114,7 @@ fn put_before(buffer: &mut BlockBuffer, block: &mut Block, request: Request, k: 
     }
 }
 
-/// Whether a request covers so many blocks, and none of them buffered, that some are read past the buffer.
+/// Whether a request covers n blocks, and none of them buffered, that some are read past the buffer.
 fn is_long(buffer: &BlockBuffer, request: Request) -> bool
     ensures long { IsTrue result ↔ IsLong request.lba request.n buffer.now }
     ensures few { length buffer.now ≤ BUFFERED_BLOCKS }
@@ -173,7 +172,7 @@ pub fn read_parts<M: Medium>(
     Ok(None)
 }
 
-/// How a read ended that was not stopped: at the block after so many, where there is such a one.
+/// How a read ended that was not stopped: at the block after n, where there is such a one.
 pub fn ended_at(
     geometry: &Geometry,
     layout: &AnyLayout,

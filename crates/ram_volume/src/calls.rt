@@ -135,7 +135,7 @@ pub fn verify_state<M: MediumControl>(state: State<M>, lba: u32, n: u32) -> (Sta
     }
 }
 
-/// Gives the disc a capacity of so many sectors, where there is a formatted disc.
+/// Gives the disc a capacity of n sectors, where there is a formatted disc.
 pub fn expand_state<M: MediumControl>(state: State<M>, capacity: u32) -> (State<M>, ExpandOut)
     ensures cause { ExpandCause (shown_state state) (shown_state result.0) capacity result.1 }
     ensures step { ExpandSteps (shown_state state) (shown_state result.0) capacity result.1 }

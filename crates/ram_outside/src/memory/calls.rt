@@ -59,7 +59,7 @@ impl Calls {
         fails
     }
 
-    /// Counts so many failures more.
+    /// Counts n failures more.
     pub(crate) fn add_faults(&mut self, more: u64)
         ensures { self.new ≡ with_faults more self.old }
     {

@@ -1,4 +1,4 @@
--- Those of the first so many entries are there, and the room stays.
+-- Those of the first n entries are there, and the room stays.
 use Rattle.std.specs.Prelude.{◌≤◌, vec_capacity}
 use Rattle.ram_spare.proofs.FirstFree.{HasPut}
 use Rattle.ram_spare.proofs.first_free.put_replacements.Given as goal

@@ -1,7 +1,7 @@
 use Rattle.std.proofs.Common.{◌≡◌, ◌+◌, ◌*◌, ◌≤◌, vec_len, vec_capacity}
 use Rattle.ram_cache.proofs.pending.PendingBlocks.new.Given as goal
 
--- so many rooms were made, of the room that was taken for 32
+-- n rooms were made, of the room that was taken for 32
 abbrev pub invariant-loop-k : goal.invariant-loop-k
 invariant-loop-k l = record {
   many : vec_len l.rooms ≡ l.k;
