@@ -146,7 +146,7 @@ class Measured(NamedTuple):
 
 def in_turn(all_measured: Sequence[Measured], rounds: int,
             sessions: int = 10) -> List[List[Tuple[float, ...]]]:
-    """The seconds that each piece of each of these took, in some sessions, each of so many rounds over all
+    """The seconds that each piece of each of these took, in some sessions, each of this many rounds over all
     pieces: where the memory of a program lies may change its pace from one session to the next. A piece has
     another script than the one before it, and so finds none of its blocks near. In every other session the
     last of these comes first."""
@@ -171,7 +171,7 @@ def loops_in(folder: Path) -> Path:
 
 
 def loop_line(what: str, disc: Tuple[int, int], blocks: int, group: int, kept: int = 8) -> str:
-    """The line that asks for a loop over so many blocks, in groups, where so many are kept. Of the disc is
+    """The line that asks for a loop over this many blocks, in groups, where this many are kept. Of the disc is
     said how many blocks it has, and with which of them the loop begins."""
     total, first = disc
     return f"{what} {total} {first} {blocks} {group} {kept}\n"

@@ -57,7 +57,7 @@ def row(what: str, one: float, other: float, most: Optional[float] = None) -> No
 
 
 def scripts_of(write: bool, starts: Iterable[int], count: int = 1) -> List[str]:
-    """Scripts of commands that each write or read so many blocks, from each of these logical blocks on. Each
+    """Scripts of commands that each write or read this many blocks, from each of these logical blocks on. Each
     script has 64 blocks, or a few less."""
     lines = [write_command(16 * i, 16 * count, i) if write else read_command(16 * i, 16 * count)
              for i in starts]
@@ -290,7 +290,7 @@ def beside(program: Path, other: Path, folder: Path, name: str, cases: Sequence[
 
 
 def most_of(blocks: int) -> float:
-    """The most that a read of so many blocks may take with eight blocks buffered, beside one with the last
+    """The most that a read of this many blocks may take with eight blocks buffered, beside one with the last
     alone."""
     return 1.05 if blocks == 1 else 1.15 if blocks < 16 else 1.07
 

@@ -267,7 +267,7 @@ class Lists:
 
     @property
     def has_lawful_area(self) -> bool:
-        """Whether there may be so many supplementary spares."""
+        """Whether there may be this many supplementary spares."""
         if self.of_zones:
             return self.secondary.spares == 0
         spares = self.structure.spares + self.secondary.spares

@@ -132,7 +132,7 @@ class Sectors:
     def __init__(self, first: Register) -> None:
         self.first = first
         self.known: Dict[int, Tuple[Set[Register], int]] = {}
-        """The registers of each sector that was looked at, after so many of the changes."""
+        """The registers of each sector that was looked at, after this many of the changes."""
         self.changes: List[Tuple[Change, Optional[int]]] = []
         """What happened to all sectors; with a limit, to those below it, and the others are gone."""
 

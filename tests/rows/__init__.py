@@ -21,6 +21,6 @@ cuts N            the script is run once for each of the first N uses behind its
                   each fate; the power is cut there. What the lines behind that one are answered is told,
                   of uses in a row that are answered alike once
 lengths N         whether READ DVD STRUCTURE replies as much as each allocation length below N asks for
-last N, first N   so many lines of the report are told
+last N, first N   this many lines of the report are told
 image             what the image has then is told: that it is as it was, or all of it but zeros
 """

@@ -45,7 +45,7 @@ def in_session(call: Callable[..., T]) -> Callable[..., T]:
 
 class Drive:
     """A drive over an image of a disc of this layout. A session is begun when it is needed first, and another
-    after so many bytes. Each call raises `Ended` and `Refused`."""
+    after this many bytes. Each call raises `Ended` and `Refused`."""
 
     def __init__(self, program: list[str], image: str, layout: LayoutKind = LayoutKind.ONE_GROUP, *,
                  is_on: bool = True, renew_at: int = RENEW_AT) -> None:
@@ -91,13 +91,13 @@ class Drive:
         self.begin()
 
     def make_room(self, size: int) -> None:
-        """Renews a session that has no room for so many bytes. One in which something is armed goes on as
+        """Renews a session that has no room for this many bytes. One in which something is armed goes on as
         long as it can."""
         if self.live.sent + size > (SCRIPT_LIMIT if self.armed else self.renew_at):
             self.renew()
 
     def serve_host(self, size: int) -> None:
-        """Makes room for a host's commands of so many bytes, and takes the attention, of which a host is not
+        """Makes room for a host's commands of this many bytes, and takes the attention, of which a host is not
         told."""
         self.make_room(size + LINE_ROOM)
         if self.has_attention:
@@ -227,7 +227,7 @@ def bytes_of(row: bytes, sector: int) -> bytes:
 
 
 def parts(sector: int, count: int, most: int = MOST_SECTORS) -> Iterator[tuple[int, int]]:
-    """The parts of a request, of at most so many sectors, which end with a logical block: the first sector,
+    """The parts of a request, of at most this many sectors, which end with a logical block: the first sector,
     and how many."""
     end = sector + count
     while sector < end:
