@@ -206,6 +206,12 @@ fn tell_all<I: Image>(
 
 /// Tells the certificate of a disc in an image, whatever kind of layout its lists name. The power is off, and is off afterwards;
 /// no byte of the image changes.
+///
+/// # Answers
+///
+/// - `Ok`: nothing failed. Then: the lines are the certificate; each byte of the image is as it was, and the power is off.
+///   (`AreCertificate`, `LooksOn`)
+/// - `Err`: the image counted a failure. Then: each byte is as it was, and the power is off. (`FailsLooking`)
 pub fn tell_certificate<I: Image>(
     rooms: &mut AuditRooms,
     medium: &mut ImageMedium<I>,

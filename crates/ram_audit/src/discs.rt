@@ -37,6 +37,15 @@ pub enum Checked {
 }
 
 /// Tells the certificate of the disc in an image, which is handed back.
+///
+/// # Answers
+///
+/// The image is handed back with each byte as it was.
+///
+/// - `Told`: the bytes are those of a disc's image. Then: the lines of its certificate are in the room; nothing is counted.
+///   (`AreLinesOf`)
+/// - `NotADisc`: they are no disc's. Then: nothing is counted. (`IsNoDisc`)
+/// - `Failed`: the image counted a failure. Then: what is in the room is not said. (`ImageFails`)
 pub fn audit_disc<I: Image>(rooms: &mut AuditRooms, medium: MediumRooms, image: I) -> (I, Audited)
     requires { AreReadyToAudit rooms.old }
     ensures { AuditRule (I.bytes image) (I.bytes result.0) (I.faults image) (I.faults result.0)
@@ -67,6 +76,17 @@ pub fn audit_disc<I: Image>(rooms: &mut AuditRooms, medium: MediumRooms, image: 
 
 /// Compares all that a source has left with the text of the certificate of the disc in an image, which is handed back. The source
 /// is asked once the image was read.
+///
+/// # Answers
+///
+/// The image is handed back with each byte as it was.
+///
+/// - `Yes`: the source's bytes up to its end are the text of the certificate. Then: nothing is counted. (`IsTextOf`)
+/// - `No`: they are not; told is the line, counted from 1, of the first byte behind their common front. Then: nothing is counted.
+///   (`DiffersFirst`)
+/// - `NotADisc`: the image is no disc's. Then: the source was not touched. (`IsNoDisc`)
+/// - `ImageFailed`: the image counted a failure. Then: the source was not touched. (`ImageFails`)
+/// - `SourceFailed`: the source counted a failure. Then: the image counted none. (`CheckRule`)
 pub fn check_disc<I: Image, S: Source>(
     rooms: &mut AuditRooms,
     medium: MediumRooms,

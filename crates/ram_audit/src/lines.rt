@@ -24,6 +24,11 @@ impl Lines {
     ghost use Rattle.ram_audit.specs.Telling.{AreLines, bytes_of};
 
     /// No lines, and the room of the text of any disc.
+    ///
+    /// # Answers
+    ///
+    /// - `Ok`: memory for the text of any disc was given. Then: there are no lines. (`AreLines`)
+    /// - `Err`: the system refused memory that was asked for within the budget. Then: nothing is there. (clause)
     pub fn new(budget: &mut Budget) -> Result<Lines, MemoryRefused>
         requires free { TEXT_ROOM ≤ budget.old }
         ensures left { budget.old ≤ budget.new + TEXT_ROOM }

@@ -34,6 +34,11 @@ pub struct AuditRooms {
 
 impl AuditRooms {
     /// All of it, for an audit of any disc.
+    ///
+    /// # Answers
+    ///
+    /// - `Ok`: memory for an audit of any disc was given. Then: there is a layout of each kind. (`AreReadyToAudit`)
+    /// - `Err`: memory was refused. Then: nothing is there. (clause)
     pub fn new(budget: &mut Budget) -> Result<AuditRooms, MemoryRefused>
         requires free { AUDIT_MEMORY ≤ budget.old }
         ensures left { budget.old ≤ budget.new + AUDIT_MEMORY }

@@ -36,6 +36,11 @@ impl Model for Block {
 
 impl Block {
     /// A block of zeros.
+    ///
+    /// # Answers
+    ///
+    /// - `Ok`: a block of zeros. (clause)
+    /// - `Err`: the system refused memory that was asked for within the budget. (clause)
     pub fn zeros(budget: &mut Budget) -> Result<Block, MemoryRefused>
         requires free { BLOCK_BYTES ≤ budget.old }
         ensures left { budget.new + BLOCK_BYTES ≡ budget.old }
@@ -97,6 +102,10 @@ impl Block {
     }
 
     /// Whether both blocks have the same bytes.
+    ///
+    /// # Answers
+    ///
+    /// - `true`, `false`: `true` exactly when both blocks have the same bytes. (clause)
     pub fn same(&self, other: &Block) -> bool
         ensures { IsTrue result ↔ (self.now ≡ other.now) }
     {

@@ -68,6 +68,11 @@ impl Budget {
     }
 
     /// Room for n values.
+    ///
+    /// # Answers
+    ///
+    /// - `Ok`: room for this many values, whose bytes are taken off the budget. (clause)
+    /// - `Err`: the system refused it; its bytes are taken off all the same. (clause)
     pub fn room<T>(&mut self, count: usize) -> Result<Vec<T>, MemoryRefused>
         requires free { count * size (layout T.row) ≤ self.old }
         ensures left { self.new + count * size (layout T.row) ≡ self.old }
@@ -81,6 +86,11 @@ impl Budget {
     }
 
     /// So many bytes, all zero.
+    ///
+    /// # Answers
+    ///
+    /// - `Ok`: this many zeros. (clause)
+    /// - `Err`: the system refused them. (clause)
     pub fn zeros(&mut self, count: usize) -> Result<Vec<u8>, MemoryRefused>
         requires free { count ≤ self.old }
         ensures left { self.new + count ≡ self.old }
@@ -94,6 +104,11 @@ impl Budget {
     }
 
     /// The value in a room of its own.
+    ///
+    /// # Answers
+    ///
+    /// - `Ok`: the value in a room of its own. (clause)
+    /// - `Err`: the system refused the room. (clause)
     pub fn boxed<T: Drop>(&mut self, value: T) -> Result<Box<T>, MemoryRefused>
         requires free { size (layout T.row) ≤ self.old }
         ensures left { self.new + size (layout T.row) ≡ self.old }

@@ -30,6 +30,10 @@ impl Model for Cdb {
 
 impl Cdb {
     /// The command block of these bytes. None exactly where they are none, or more than 16.
+    ///
+    /// # Answers
+    ///
+    /// - `Some`, `None`: `Some`, with these bytes, exactly when there are 1 to 16 of them. (clause)
     pub fn from_bytes(bytes: &[u8]) -> Option<Cdb>
         ensures { SomeIff result ((0 < length bytes.now) × (length bytes.now ≤ CDB_LIMIT)) bytes.now }
     {

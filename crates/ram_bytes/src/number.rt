@@ -56,6 +56,10 @@ pub fn put_u32(bytes: &mut [u8], at: usize, value: u32)
 }
 
 /// Whether each byte is zero.
+///
+/// # Answers
+///
+/// - `true`, `false`: `true` exactly when every byte is 0. (clause)
 pub fn is_zero(bytes: &[u8]) -> bool
     ensures { IsTrue result ↔ (bytes.now ≡ replicate (length bytes.now) 0) }
 {

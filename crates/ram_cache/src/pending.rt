@@ -45,6 +45,11 @@ impl PendingBlocks {
     ghost use Rattle.ram_cache.specs.Rooms.{pending_of, staged_of, room_of, pending_at, FirstOf};
 
     /// No pending blocks, and the rooms of as many as there may be.
+    ///
+    /// # Answers
+    ///
+    /// - `Ok`: memory for 32 blocks was given. Then: none is pending. (`pending_of`)
+    /// - `Err`: the system refused memory that was asked for within the budget. Then: nothing is there. (clause)
     pub fn new(budget: &mut Budget) -> Result<PendingBlocks, MemoryRefused>
         requires free { PENDING_MEMORY ≤ budget.old }
         ensures left { budget.old ≤ budget.new + PENDING_MEMORY }
@@ -65,6 +70,11 @@ impl PendingBlocks {
     }
 
     /// Whether there are none.
+    ///
+    /// # Answers
+    ///
+    /// - `true`: nothing is pending. Then: nothing changed. (`pending_of`)
+    /// - `false`: some block is. Then: nothing changed. (`pending_of`)
     pub fn is_empty(&self) -> bool
         ensures { IsTrue result ↔ (pending_of self.now ≡ []) }
     {
@@ -89,6 +99,12 @@ impl PendingBlocks {
 
     /// The place of the oldest one that is one of `count` logical blocks from block `first` on, or of the oldest that is none of
     /// them.
+    ///
+    /// # Answers
+    ///
+    /// - `Some`: a pending block is among these numbers, or not among them, as is asked; the place of the oldest is told. Then:
+    ///   nothing changed. (`FirstOf`)
+    /// - `None`: there is none. Then: nothing changed. (`FirstOf`)
     pub fn first_of(&self, among: bool, first: u32, count: u32) -> Option<usize>
         ensures { FirstOf (pending_of self.now) among first count result }
     {

@@ -20,6 +20,29 @@ use ram_sense::codes::{
 
 /// What a command block asks for, with the command's data in `payload`, or the first refusal that applies: 5/20/00 for an
 /// unknown operation code, and then those of [`decode_as`]. (After INCITS MMC and SPC.)
+///
+/// # Answers
+///
+/// `refusals_have_their_causes` proves of each refusal that it is the answer exactly when it applies and none before it does.
+///
+/// - `Ok`: no reason applies. Then: what the command block asks for, within the limits of a command. (`decoded`,
+///   `IsWithinLimits`)
+/// - `Err`: 5/20/00 for a code that is not in the table, else the first reason of `decode_as`. Then: the sense. (`decoded_by`)
+/// - `TestUnitReady`, `ReadCapacity`, `Synchronize`, `ModeSelect`: the command of that name, which has no field that is looked
+///   at. (`meaning`)
+/// - `RequestSense`, `Inquiry`, `FormatCapacities`: the command of that name, with its allocation length. (`meaning`)
+/// - `Format`: FORMAT UNIT of format type 0: a rewriting one where FOV and DCRT are set, else a full one. (`meaning`,
+///   `format_kind`)
+/// - `Expand`: FORMAT UNIT of format type 1, with the number of sectors that the disc is to have. (`meaning`)
+/// - `StartStop`, `Prevent`: the command of that name, with its bits. (`meaning`)
+/// - `Read`: READ(10) or READ(12). Then: at most 1,024 sectors. (`meaning`, `IsWithinLimits`)
+/// - `Write`: WRITE(10), WRITE(12), or WRITE AND VERIFY(10), which is one with FUA. Then: at most 1,024 sectors, and the data of
+///   exactly that many. (`meaning`, `IsWithinLimits`)
+/// - `Verify`: VERIFY(10). Then: at most 65,535 sectors. (`meaning`, `IsWithinLimits`)
+/// - `Configuration`: GET CONFIGURATION. Then: its request type is 0 to 2. (`meaning`, `IsWithinLimits`)
+/// - `ModeSense`: MODE SENSE(10). Then: its page control is 0 to 2, its page code one of the drive's or that of all. (`meaning`,
+///   `IsWithinLimits`)
+/// - `Structure`: READ DVD STRUCTURE, with its format. (`meaning`)
 pub fn decode(cdb: &Cdb, payload: &[u8]) -> Result<Command, Sense>
     ensures exact { result ≡ decoded cdb.now payload.now }
     ensures limits { IfOk result (IsWithinLimits payload.now) }
@@ -33,6 +56,14 @@ pub fn decode(cdb: &Cdb, payload: &[u8]) -> Result<Command, Sense>
 /// The same for a command block whose operation is known: 5/24/00 where it is too short or has a field that is not taken,
 /// then 5/39/00 where saved mode pages are asked for, then 5/1A/00 where the data have another length than the command
 /// takes, then 5/26/00 where the parameter list of FORMAT UNIT is not taken. (After INCITS MMC and SPC.)
+///
+/// # Answers
+///
+/// As for `decode`, of a command of the table; these are its reasons, in their order.
+///
+/// - `Ok`: no reason applies. Then: what the command block asks for. (`decoded_as`)
+/// - `Err`: the first that applies: 5/24/00 a field, 5/39/00 saved pages, 5/1A/00 the length of the data, 5/26/00 the parameter
+///   list. Then: the sense. (`refusals`)
 pub fn decode_as(operation: Operation, cdb: &[u8], payload: &[u8]) -> Result<Command, Sense>
     ensures exact { result ≡ decoded_as operation cdb.now payload.now }
     ensures limits { IfOk result (IsWithinLimits payload.now) }

@@ -24,6 +24,10 @@ pub fn limits_are_these()
 {}
 
 /// Whether the drive knows the command, by its operation code alone.
+///
+/// # Answers
+///
+/// - `true`, `false`: `true` exactly when the operation code is in the table. (`operation_of`)
 pub fn known(cdb: &Cdb) -> bool
     ensures { IsTrue result ↔ IsSome (operation_of cdb.now) }
 {
@@ -46,6 +50,15 @@ pub fn out_length(cdb: &Cdb) -> usize
 }
 
 /// The command with this operation code.
+///
+/// # Answers
+///
+/// - `Some`, `None`: the command with this code; `None` exactly when the table has none. (`operation_with`)
+/// - `TestUnitReady`, `RequestSense`, `FormatUnit`, `Inquiry`, `StartStopUnit`, `PreventAllowMediumRemoval`: the code is that of
+///   the command. (`operation_with`)
+/// - `ReadFormatCapacities`, `ReadCapacity10`, `Read10`, `Write10`, `WriteAndVerify10`, `Verify10`, `Read12`, `Write12`:
+///   likewise. (`operation_with`)
+/// - `SynchronizeCache`, `GetConfiguration`, `ModeSelect10`, `ModeSense10`, `ReadDvdStructure`: likewise. (`operation_with`)
 pub fn operation(code: u8) -> Option<Operation>
     ensures { result ≡ operation_with code }
 {

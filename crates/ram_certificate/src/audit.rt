@@ -92,6 +92,14 @@ fn check_here<I: Image, S: Source, K: Sink>(
 }
 
 /// Tells what the image of this name holds. The image is closed on every way out.
+///
+/// # Answers
+///
+/// - `Done`: the certificate of the image is written. (`AuditAnswers`)
+/// - `NotADisc`: the image is no disc's, and a line says so. (`AuditAnswers`)
+/// - `ImageFault`: the opener or the image counted a failure; nothing is written. (`AuditAnswers`, `TellsOf`)
+/// - `SinkFault`: the sink counted a failure; a beginning of what was due is written. (`Tells`)
+/// - `Differs`, `Usage`, `Script`, `SourceFault`, `NoMemory`: never. (`AuditAnswers`)
 pub fn audit_image<K: Sink, O: Opener>(
     rooms: CertificateRooms,
     name: &str,
@@ -123,6 +131,15 @@ pub fn audit_image<K: Sink, O: Opener>(
 }
 
 /// Checks what a source has left against the image of this name. The image is closed on every way out.
+///
+/// # Answers
+///
+/// - `Done`: what the source had left is the text of the certificate, and `yes` is written. (`CheckAnswers`)
+/// - `Differs`: it is not, and `no N` is written, with the first line that differs. (`CheckAnswers`)
+/// - `NotADisc`: the image is no disc's, and a line says so. (`CheckAnswers`)
+/// - `ImageFault`, `SourceFault`: one of these counted a failure; nothing is written. (`CheckAnswers`, `TellsOf`)
+/// - `SinkFault`: the sink counted a failure; a beginning of what was due is written. (`Tells`)
+/// - `Usage`, `Script`, `NoMemory`: never. (`CheckAnswers`)
 pub fn check_image<S: Source, K: Sink, O: Opener>(
     rooms: CertificateRooms,
     name: &str,

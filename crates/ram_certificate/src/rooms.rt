@@ -26,6 +26,11 @@ pub struct CertificateRooms {
 
 impl CertificateRooms {
     /// The rooms for a certificate.
+    ///
+    /// # Answers
+    ///
+    /// - `Ok`: the memory of an audit, and room for the answer of a check. (`AreReadyToTell`)
+    /// - `Err`: the system refused memory that was asked for within the budget. (clause)
     pub fn new(budget: &mut Budget) -> Result<CertificateRooms, MemoryRefused>
         requires free { CERTIFICATE_MEMORY ≤ budget.old }
         ensures left { budget.old ≤ budget.new + CERTIFICATE_MEMORY }

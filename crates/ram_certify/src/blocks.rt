@@ -44,6 +44,18 @@ fn note(found: &mut Vec<u32>, block: u32, most: usize)
 ///
 /// `kept` names data blocks that rise, `zero` is a block of zeros, and `found` is empty. Where the work was stopped, what it
 /// has is not said. (After ECMA-330's certification; the order is this project's own.)
+///
+/// # Answers
+///
+/// What `certify` does with the power on, which is asked for.
+///
+/// - `Ok`: each block that is not kept was written and read back; how many are dead. Then: as after `Done` of `certify`.
+///   (`HasCertified`)
+/// - `Err`: it was stopped: `Cut`, `Off` or `Fault`. Then: each certified cell is as before, zeros, torn or dead.
+///   (`StopsCertifying`)
+/// - `Cut`: the power was cut within the uses of the certification. Then: off. (`StopsByCut`)
+/// - `Off`: the power was off. As the power is on at entry, this does not come. (`Stops`)
+/// - `Fault`: what the medium lies on counted a failure within as many. Then: off. (`StopsByFault`)
 pub fn certify_blocks<M: Medium>(
     medium: &mut M,
     geometry: &Geometry,

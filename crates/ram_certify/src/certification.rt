@@ -31,6 +31,11 @@ pub enum Certified {
 }
 
 /// A block of zeros, for a certification.
+///
+/// # Answers
+///
+/// - `Ok`: a block of zeros. (clause)
+/// - `Err`: the system refused memory that was asked for within the budget. (clause)
 pub fn zero_block(budget: &mut Budget) -> Result<Block, MemoryRefused>
     requires free { BLOCK_BYTES ≤ budget.old }
     ensures left { budget.old ≤ budget.new + BLOCK_BYTES }
@@ -41,6 +46,17 @@ pub fn zero_block(budget: &mut Budget) -> Result<Block, MemoryRefused>
 
 /// Certifies the data blocks that are not kept, as [`certify_blocks`] does, where the power is on. After Cut and Fault what
 /// `found` has is not said.
+///
+/// # Answers
+///
+/// No cell changes but those that are certified.
+///
+/// - `Done`: each block that is not kept was written and read back. Then: it has zeros or is dead; told is how many are dead, and
+///   the lowest of them as far as there was room. (`HasCertified`)
+/// - `Cut`: the power was cut in the certification. Then: off; each certified cell is as before, zeros, torn or dead.
+///   (`StopsCertifying`)
+/// - `Off`: exactly when the power was off. Then: nothing changed, and nothing was found. (`IsOff`)
+/// - `Fault`: what the medium lies on counted a failure. Then: as after `Cut`. (`StopsCertifying`)
 pub fn certify<M: Medium>(
     medium: &mut M,
     geometry: &Geometry,

@@ -61,6 +61,19 @@ pub enum Grown {
 /// of its version may have: 4,092, or 8,184; and with a group of spares in each zone each but the present one.
 /// The lists in memory change with Good alone, once a copy of the new list can be read. (Spare areas after ECMA-330; how
 /// one grows is this project's own.)
+///
+/// # Answers
+///
+/// What `expand_lists` does with the power on, which is asked for.
+///
+/// - `Ok`: it was not stopped. (`EndsGrowing`)
+/// - `Good`: as of `expand_lists`. Then: as there. (`KeepsSize`, `HasGrown`)
+/// - `Refused`: as of `expand_lists`. Then: as there. (`RefusesCapacity`)
+/// - `NoUpdate`: as of `expand_lists`. Then: as there. (`LacksUpdate`)
+/// - `Err`: it was stopped: `Cut`, `Off` or `Fault`. Then: as after that answer of `expand_lists`. (`StopsGrowing`)
+/// - `Cut`: the power was cut in the update. Then: off. (`StopsByCut`)
+/// - `Off`: the power was off. As the power is on at entry, this does not come. (`Stops`)
+/// - `Fault`: what the medium lies on counted a failure. Then: off. (`StopsByFault`)
 pub fn grow<M: Medium>(
     medium: &mut M,
     geometry: &Geometry,
@@ -98,6 +111,21 @@ pub fn grow<M: Medium>(
 }
 
 /// Gives a formatted disc a capacity, as [`grow`] does, where the power is on.
+///
+/// # Answers
+///
+/// No cell changes but those of the secondary list; the lists in memory change on `Good` alone.
+///
+/// - `Good`: the disc has this capacity already. Then: nothing changed. (`KeepsSize`)
+/// - `Good` of a smaller one: the secondary list was updated, and has a copy. Then: the lists are the new ones; the first sectors
+///   of a disc that fitted fit. (`HasGrown`)
+/// - `Refused`: exactly when the power is on and the disc cannot have the capacity. Then: nothing changed. (`RefusesCapacity`)
+/// - `NoUpdate`: no copy of the secondary list is left, or its counter, which is told, is the last. Then: the lists are as
+///   before, and a disc that fitted fits. (`LacksUpdate`)
+/// - `Cut`: the power was cut in the update. Then: off; the cells give the old lists or the new ones; the disc or its first
+///   sectors fit. (`StopsGrowing`)
+/// - `Off`: exactly when the power was off. Then: nothing changed. (`FindsOff`)
+/// - `Fault`: what the medium lies on counted a failure. Then: as after `Cut`. (`StopsGrowing`)
 pub fn expand_lists<M: Medium>(
     medium: &mut M,
     geometry: &Geometry,

@@ -88,6 +88,11 @@ pub struct FormatRoom {
 
 impl FormatRoom {
     /// Takes this memory.
+    ///
+    /// # Answers
+    ///
+    /// - `Ok`: room for what a full format finds of any disc. (clause)
+    /// - `Err`: the system refused memory that was asked for within the budget. (clause)
     pub fn new(budget: &mut Budget) -> Result<FormatRoom, MemoryRefused>
         requires free { FORMAT_MEMORY ≤ budget.old }
         ensures left { budget.old ≤ budget.new + FORMAT_MEMORY }
@@ -167,6 +172,17 @@ fn format_disc<M: Medium>(
 ///
 /// `kept` names data blocks that rise, `first` says that the disc was not formatted before, `mark` is no less than the
 /// disc's, and `zero` is a block of zeros. (After ECMA-330; the counters and the order are this project's own.)
+///
+/// # Answers
+///
+/// What `full_format` does with the power on, which is asked for.
+///
+/// - `Ok`: as `Good` of `full_format`. Then: as there. (`MakesLists`)
+/// - `Err`: it did not come to its end. (`HaltsFormat`)
+/// - `TooMany`: as of `full_format`. Then: as there. (`MeetsTooMany`)
+/// - `NoRoom`: as of `full_format`. Then: as there, and the lists in the room stay. (`HasNoRoom`, `StaysWith`)
+/// - `NoCopy`: as of `full_format`. Then: as there. (`LosesFirst`, `LosesSecond`, `LosesThird`)
+/// - `Stopped`: for a cut or a fault. Then: off; as after `Cut` of `full_format`. (`FormatStopped`)
 pub fn format_lists<M: Medium>(
     medium: &mut M,
     geometry: &Geometry,
@@ -199,6 +215,22 @@ pub fn format_lists<M: Medium>(
 }
 
 /// Formats a disc, as [`format_lists`] does, where the power is on.
+///
+/// # Answers
+///
+/// No cell changes but those of lists and of the blocks that are certified (`FormatGoes`).
+///
+/// - `Good`: the defective blocks are no more than may be slipped, and each list has a copy. Then: the lists in the room are new,
+///   valid and settled, and name the defective blocks; the others have zeros or are dead. (`MakesLists`)
+/// - `TooMany`: more blocks are defective than may be slipped; the number that is told of them, and the mark from now on. Then:
+///   the cells give no lists. (`MeetsTooMany`)
+/// - `NoRoom`: exactly when the power is on and the mark has no room for two more. Then: nothing changed. (`HasNoRoom`)
+/// - `NoCopy`: an update left no copy of its list: the first of the structure, that of the secondary list, or the last. Then: the
+///   cells give no lists; told are the counter and the mark from now on. (`LosesFirst`, `LosesSecond`, `LosesThird`)
+/// - `Cut`: the power was cut in this format. Then: off; the cells give lists that they gave before, or the new ones, and the
+///   lists are written up to there. (`FormatStopped`, `FormatsInPart`)
+/// - `Off`: exactly when the power was off. Then: nothing changed. (`FoundOff`)
+/// - `Fault`: what the medium lies on counted a failure. Then: as after `Cut`. (`FormatStopped`)
 pub fn full_format<M: Medium>(
     medium: &mut M,
     geometry: &Geometry,

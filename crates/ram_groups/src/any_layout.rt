@@ -24,6 +24,13 @@ pub enum AnyLayout {
 
 impl AnyLayout {
     /// The layout of a structure with n supplementary spares, of the kind of the geometry.
+    ///
+    /// # Answers
+    ///
+    /// - `Ok`, `Slip`: the geometry has one group of spares: the layout of the structure and of the size of the supplementary
+    ///   spare area. (`IsLayoutOf`)
+    /// - `Ok`, `Zones`: it has a group in each zone: the layout of the structure. (`IsLayoutOf`)
+    /// - `Err`: the system refused memory that was asked for within the budget. (clause)
     pub fn new(
         budget: &mut Budget,
         geometry: &Geometry,
@@ -45,6 +52,10 @@ impl AnyLayout {
     }
 
     /// Its kind.
+    ///
+    /// # Answers
+    ///
+    /// - `OneGroup`, `EachZone`: the kind that the layout is of. (`IsOfKind`)
     pub fn kind(&self) -> LayoutKind
         ensures { IsOfKind result self.now }
     {

@@ -23,6 +23,11 @@ fn smallest(kind: LayoutKind) -> Geometry
 }
 
 /// A layout of this kind, which has room for any disc: that of a small one, with this structure, which has no entries.
+///
+/// # Answers
+///
+/// - `Ok`, `Slip`, `Zones`: a layout of this kind, with room for that of any disc. (`IsOfKind`)
+/// - `Err`: the system refused memory that was asked for within the budget. (clause)
 pub fn layout_of_kind(
     budget: &mut Budget,
     kind: LayoutKind,

@@ -48,6 +48,11 @@ impl Model for ZoneLayout {
 
 impl ZoneLayout {
     /// The layout of a structure.
+    ///
+    /// # Answers
+    ///
+    /// - `Ok`: the table of the structure, with room for that of any disc. (`IsZoningOf`)
+    /// - `Err`: the system refused memory that was asked for within the budget. (clause)
     pub fn new(
         budget: &mut Budget,
         geometry: &Geometry,

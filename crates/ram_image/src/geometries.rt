@@ -6,6 +6,10 @@ ghost use Rattle.model_geometry.specs.Geometry.{IsLawful, shape_in};
 use ram_zones::{Geometry, LayoutKind};
 
 /// The geometry of these numbers with a layout of this kind, where that is within its limits.
+///
+/// # Answers
+///
+/// - `Some`, `None`: the geometry of these numbers, with a layout of this kind; `None` exactly when it is not lawful. (clause)
 pub fn geometry_in(kind: LayoutKind, zones: u32, scale: u32, psa: u32) -> Option<Geometry>
     ensures { MatchOption result (¬ IsLawful (shape_in kind zones scale psa))
         (λ geometry. (geometry ≡ shape_in kind zones scale psa) × IsLawful geometry) }

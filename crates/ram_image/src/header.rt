@@ -36,6 +36,10 @@ pub fn header(geometry: &Geometry) -> [u8; 16]
 }
 
 /// The geometry with a layout of this kind of which this is the header.
+///
+/// # Answers
+///
+/// - `Some`, `None`: the lawful geometry of which this is the header; `None` exactly when there is none. (clause)
 pub fn geometry_of(bytes: &[u8; 16], kind: LayoutKind) -> Option<Geometry>
     ensures { MatchOption result
         ((shape : Shape) → shape.layout ≡ kind → IsLawful shape → bytes.now ≡ header_of shape → ⊥)

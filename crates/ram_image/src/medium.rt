@@ -33,6 +33,11 @@ pub struct MediumRooms {
 
 impl MediumRooms {
     /// All the memory that a medium takes, for whatever disc.
+    ///
+    /// # Answers
+    ///
+    /// - `Ok`: the memory of a medium; what it holds is not said. (clause)
+    /// - `Err`: the system refused memory that was asked for within the budget. (clause)
     pub fn new(budget: &mut Budget) -> Result<MediumRooms, MemoryRefused>
         requires free { MEDIUM_MEMORY ≤ budget.old }
         ensures left { budget.old ≤ budget.new + MEDIUM_MEMORY }
@@ -280,6 +285,14 @@ impl<I: Image> ImageMedium<I> {
 
     /// Whether a block has whole bytes, by its state byte alone. It is no use: the power may be off, and nothing is counted
     /// but where the image failed.
+    ///
+    /// # Answers
+    ///
+    /// No byte of the image changes, and no use is counted.
+    ///
+    /// - `Good`: the block has whole bytes. Then: nothing changed. (`HasBytesRule`)
+    /// - `NotGood`: it has none. Then: nothing changed. (`HasBytesRule`)
+    /// - `Failed`: the image counted a failure. Then: the power is off. (`FailsWithin`)
     pub fn has_bytes(&mut self, block: u32) -> Looked
         requires { block < total (shape_of_medium self.old) }
         ensures rule { HasBytesRule (machine_in self.old) (machine_in self.new) block result }
@@ -290,6 +303,14 @@ impl<I: Image> ImageMedium<I> {
     }
 
     /// Whether a block is dead, by its state byte alone. It is no use either.
+    ///
+    /// # Answers
+    ///
+    /// No byte of the image changes, and no use is counted.
+    ///
+    /// - `Dead`: the block is dead. Then: nothing changed. (`IsDeadRule`)
+    /// - `Alive`: it is not. Then: nothing changed. (`IsDeadRule`)
+    /// - `Failed`: the image counted a failure. Then: the power is off. (`FailsWithin`)
     pub fn is_dead(&mut self, block: u32) -> StateRead
         requires { block < total (shape_of_medium self.old) }
         ensures rule { IsDeadRule (machine_in self.old) (machine_in self.new) block result }

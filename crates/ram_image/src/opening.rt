@@ -42,6 +42,16 @@ enum HeaderFound {
 
 /// Opens an image as the medium of a disc with a layout of this kind. The power is off. Where the image is refused it is handed
 /// back as it was, with the memory.
+///
+/// # Answers
+///
+/// - `Ok`: the bytes are a disc image of the geometry that is given. Then: a medium with its cells; the power is off, nothing is
+///   counted or armed. (`IsOpened`)
+/// - `Err`: one of the next three. Then: the image is handed back with the bytes that it had, and the memory. (`IsRefused`)
+/// - `Header`: it has 16 bytes at least, and the first 16 are no lawful header. Then: no failure is counted. (`IsRefused`)
+/// - `Length`: it has fewer than 16 bytes, or a lawful header and another length than goes with it; it says the length. Then: no
+///   failure is counted. (`IsRefused`)
+/// - `Fault`: the image counted a failure. (`IsRefused`)
 pub fn open<I: Image>(
     rooms: MediumRooms,
     image: I,

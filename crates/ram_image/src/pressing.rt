@@ -18,6 +18,13 @@ pub enum PressOut {
 
 /// Makes the image anew: a disc of this geometry with blank cells. Its length is set to 0, then to the full number,
 /// and then the header is written.
+///
+/// # Answers
+///
+/// - `Done`: the image was made anew. Then: it is the header and zeros: a disc of this geometry with blank cells.
+///   (`PressesImage`)
+/// - `Failed`: the image counted a failure. Then: it is as before, or, where it is a disc image, all its cells are blank.
+///   (`IsStoppedPress`)
 pub fn press<I: Image>(image: &mut I, geometry: &Geometry) -> PressOut
     ensures { PressRule I.Image image.old image.new geometry.now result }
 {

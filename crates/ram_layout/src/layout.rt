@@ -37,11 +37,24 @@ pub trait Layout {
         ensures inside { result < length (pools self.now) };
 
     /// The spare of this pool that is taken as the `k`-th, counted from 0. None exactly where it has no more than `k`.
+    ///
+    /// # Answers
+    ///
+    /// - `Some`, `None`: the spare of the pool that is taken as the k-th; `None` exactly when it has no more than k.
+    ///   (`spares_at`)
     fn spare(&self, pool: u32, k: u32) -> Option<u32>
         requires { pool < length (pools self.now) }
         ensures { result ≡ slice_get (spares_at (pools self.now) pool) k };
 
     /// What a block is.
+    ///
+    /// # Answers
+    ///
+    /// - `Logical`: the block is that logical block. (`IsPlaceIn`)
+    /// - `Primary`: it is a spare. (`IsPlaceIn`)
+    /// - `Supplementary`: it is a spare. (`IsPlaceIn`)
+    /// - `Slipped`: it is a data block, but no logical block and no spare. (`IsPlaceIn`)
+    /// - `Outside`: it is no data block. (`IsPlaceIn`)
     fn place(&self, block: u32) -> Place
         ensures { IsPlaceIn (blocks self.now) (pools self.now) block result };
 }

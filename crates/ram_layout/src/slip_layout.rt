@@ -50,6 +50,11 @@ impl Model for SlipLayout {
 
 impl SlipLayout {
     /// The layout of a structure with n supplementary spares.
+    ///
+    /// # Answers
+    ///
+    /// - `Ok`: the table of the structure, with room for that of any disc. (`IsSlippingOf`)
+    /// - `Err`: the system refused memory that was asked for within the budget. (clause)
     pub fn new(
         budget: &mut Budget,
         geometry: &Geometry,

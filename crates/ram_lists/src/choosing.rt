@@ -90,6 +90,17 @@ fn choose_under<M: Medium>(
 
 /// Chooses the lists of a disc: 8 uses, and one more for each first part of a secondary list after which another follows. The
 /// lists are in `lists` then; `other` is room for the copies that are looked at, and has any lists afterwards.
+///
+/// # Answers
+///
+/// It only reads (`ReadsAlone`).
+///
+/// - `Ok`: all copies were looked at. Then: the structure that is chosen is in the room, if one is, and the secondary list under
+///   it, if one is. (`ChoosesBoth`)
+/// - `Err`: it was stopped: `Cut`, `Off` or `Fault`. Then: as after that answer of `mount`. (`WasStopped`)
+/// - `Cut`: the power was cut. Then: off. (`WasStopped`)
+/// - `Off`: the power was off. As the power is on at entry, this does not come. (`WasStopped`)
+/// - `Fault`: what the medium lies on counted a failure. Then: off. (`WasStopped`)
 pub fn choose_lists<M: Medium>(
     medium: &mut M,
     geometry: &Geometry,
@@ -136,6 +147,18 @@ pub fn choose_lists<M: Medium>(
 }
 
 /// Finds the lists of a disc, as a mount does, and repairs none of their copies.
+///
+/// # Answers
+///
+/// It only reads (`ReadsAlone`).
+///
+/// - `Ok`: all copies were looked at. Then: the power is on, and neither a cut nor a fault is counted. (`FoundRule`)
+/// - `Lists`: those in the room are chosen, in these areas. Then: they are valid. (`FindsBoth`)
+/// - `Bare`: none are chosen. Then: its mark is that of the copies. (`FindsNeither`)
+/// - `Err`: it was stopped: `Cut`, `Off` or `Fault`. Then: as after that answer of `mount`. (`WasStopped`)
+/// - `Cut`: the power was cut. Then: off. (`WasStopped`)
+/// - `Off`: the power was off. As the power is on at entry, this does not come. (`WasStopped`)
+/// - `Fault`: what the medium lies on counted a failure. Then: off. (`WasStopped`)
 pub fn find_lists<M: Medium>(
     medium: &mut M,
     geometry: &Geometry,

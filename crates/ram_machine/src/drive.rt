@@ -28,6 +28,14 @@ pub trait Drive: Caching {
     /// The drive over the disc that the image holds, with a layout of the kind that the rooms are for, and with the power off.
     /// Else the image is handed back with the bytes that it had, with the rooms and the reason: it has no such disc's header or
     /// length, or it failed.
+    ///
+    /// # Answers
+    ///
+    /// - `Ok`: the image is a disc's, where its bytes are known, and it did not fail. Then: the drive lies in the same bytes,
+    ///   with the power off and the cache off and empty. (`OpensDrive`)
+    /// - `Err`: it is not, or it failed. Then: the image is handed back with the bytes that it had, and the rooms. (`IsRefused`)
+    /// - `Header`, `Length`: as of `open` of `ram_image`. Then: the image did not fail. (`IsRefused`)
+    /// - `Fault`: the image counted a failure. (`IsRefused`)
     fn open(rooms: DriveRooms, image: Self::Image) -> Result<Self, Refused<Self::Image, DriveRooms>>
         ensures { MatchResult result (λ drive. OpensDrive rooms.kind (Self.Image.bytes image)
             (Self.Image.faults image) (Self.shows drive) (Self.stands drive) (lies_in drive))
@@ -44,6 +52,14 @@ pub trait Drive: Caching {
     /// Makes block `block` of the medium dead, counted from 0, with the power on or off: `Done`. There is no such block:
     /// `NoBlock`, with how many there are. The image failed: `Failed`, and the power is off. What is kept in memory stays,
     /// unless the power goes off.
+    ///
+    /// # Answers
+    ///
+    /// As for `MediumControl::fail`; what is kept in memory stays, unless the power goes off.
+    ///
+    /// - `Done`: as of `MediumControl::fail`. Then: lists, buffer and cache stay. (`FailOnDrive`)
+    /// - `NoBlock`: as of `MediumControl::fail`. Then: nothing changed. (`FailOnDrive`)
+    /// - `Failed`: as of `MediumControl::fail`. Then: the power is off. (`FailOnDrive`)
     fn fail(&mut self, block: u32) -> FailEnd
         ensures rule { FailOnDrive (Self.shows self.old).drive (Self.shows self.new).drive block result }
         ensures cache { KeepsCache (Self.shows self.old) (Self.shows self.new) }
@@ -53,6 +69,12 @@ pub trait Drive: Caching {
 
     /// Makes block `block` of the medium dead at its `n`-th use from now on, the next one being the first: `Set`. There
     /// is no such block: `NoBlock`. As many arms stand as can, 64: `Full`.
+    ///
+    /// # Answers
+    ///
+    /// As for `MediumControl::wear`; lists, buffer, cache and disc stay (`KeepsMemory`).
+    ///
+    /// - `Set`, `NoBlock`, `Full`: as of `MediumControl::wear`. Then: as of it. (`WearRule`)
     fn wear(&mut self, block: u32, n: u32) -> Arm
         requires { 1 ≤ n }
         ensures rule { WearRule (total (Self.shows self.old).drive.shape) (Self.shows self.old).drive.medium

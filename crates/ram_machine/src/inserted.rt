@@ -97,6 +97,20 @@ impl<D: Drive> Inserted<D> {
 
     /// What a line does, with its data in `payload`. The data that a command gives are then in `data_in`, and what it held
     /// before does not matter. The blocks that a scrub of all of them found are then in `found`.
+    ///
+    /// # Answers
+    ///
+    /// - `Ok`: the line was answered. Then: the state is that after the step of the line. (`IsAnswered`)
+    /// - `Nothing`: the line says nothing. Then: nothing changed. (`Step`)
+    /// - `Event`: the line is no command; each event by its cause. Then: as its step says. (`DiscRule`, `PressStep`,
+    ///   `ScrubberRule`)
+    /// - `Command`: the line is a command; each answer by its cause. Then: as its step says. (`CommandLine`)
+    /// - `Err`: the run ends at the line. Then: as its step says. (`IsAnswered`)
+    /// - `ImageFault`: the image counted a failure. Then: the image is as the line leaves it. (`LineCount`, `DiscRule`,
+    ///   `PressStep`)
+    /// - `NotADisc`: the line needs a disc, and there is none. Then: nothing changed. (`OnDisc`)
+    /// - `NotInLanguage`, `LineTooLong`, `ScriptTooLong`, `SourceFault`, `SinkFault`: never: these are told by who reads and
+    ///   prints lines. (`LineCount`)
     pub fn answer(
         &mut self,
         line: Line,
@@ -301,6 +315,13 @@ fn insert<D: Drive>(
 
 /// What lies in the drive when a run begins: a disc where the image holds one, with a layout of the kind that the rooms are for.
 /// Where the image failed, it is handed back.
+///
+/// # Answers
+///
+/// - `Ok`: the image was looked at, and did not fail. Then: what lies in the drive is what a run over its bytes begins with.
+///   (`StandsFirst`)
+/// - `Disc`, `Image`: a disc where the image holds one, else the image. (`StandsFirst`)
+/// - `Err`: the image counted a failure. Then: the image is handed back with the bytes that it had. (`StartRule`)
 pub fn begin<D: Drive>(rooms: TargetRooms, image: D::Image) -> Result<Inserted<D>, D::Image>
     ensures { StartRule D.Caching D.lies_in D.Image.Image rooms.drive.kind image result }
 {

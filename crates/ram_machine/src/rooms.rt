@@ -34,6 +34,11 @@ pub struct DriveRooms {
 
 impl DriveRooms {
     /// The memory of a drive whose discs have a layout of this kind.
+    ///
+    /// # Answers
+    ///
+    /// - `Ok`: the memory of a drive whose discs have a layout of this kind. (clause)
+    /// - `Err`: the system refused memory that was asked for within the budget. (clause)
     pub fn new(budget: &mut Budget, kind: LayoutKind) -> Result<DriveRooms, MemoryRefused>
         requires free { DRIVE_MEMORY ≤ budget.old }
         ensures left { budget.old ≤ budget.new + DRIVE_MEMORY }
@@ -62,6 +67,11 @@ pub struct TargetRooms {
 
 impl TargetRooms {
     /// The memory of a target whose discs have a layout of this kind.
+    ///
+    /// # Answers
+    ///
+    /// - `Ok`: the memory of a target whose discs have a layout of this kind, and of a scrubber. (clause)
+    /// - `Err`: the system refused memory that was asked for within the budget. (clause)
     pub fn new(budget: &mut Budget, kind: LayoutKind) -> Result<TargetRooms, MemoryRefused>
         requires free { TARGET_MEMORY ≤ budget.old }
         ensures left { budget.old ≤ budget.new + TARGET_MEMORY }

@@ -31,11 +31,27 @@ pub trait Medium {
         ensures { result ≡ block_count self.now };
 
     /// Whether the power is on.
+    ///
+    /// # Answers
+    ///
+    /// - `true`, `false`: `true` exactly when the power is on. (clause)
     fn powered(&self) -> bool
         ensures { result ≡ (world self.now).power };
 
     /// Reads a block. `into` changes only where all of it was read. With the power off nothing happens; where the answer
     /// is a cut or a failure the power is off afterwards.
+    ///
+    /// # Answers
+    ///
+    /// `read_into` says nothing of the caller's bytes on any answer but `Done`. `read` leaves them as they were on each of these.
+    ///
+    /// - `Done`: the cell is good, where cells are known. Then: the caller has its bytes; no cell changed; one use. (`ReadsCell`)
+    /// - `Unreadable`: the cell is not good now. Then: it is as before or dead; one use. (`FindsNoBytes`)
+    /// - `Cut`: the power was cut in this use, and the cut was counted. Then: the power is off; the cell is as before or dead.
+    ///   (`IsCutInRead`)
+    /// - `Off`: the power was off. Then: nothing changed, and no use is counted. (`IsOff`)
+    /// - `Failed`: what the medium lies on counted a failure. Then: the power is off; the cell is as before or dead.
+    ///   (`FailsInRead`)
     fn read(&mut self, block: u32, into: &mut Block) -> ReadEnd
         requires { block < block_count self.old }
         ensures rule { ReadRule (world self.old) (world self.new) block into.old into.new result }
@@ -45,6 +61,10 @@ pub trait Medium {
 
     /// Reads a block straight into the caller's bytes, as many as a block has. It does what `read` does, but that what these
     /// bytes are is said only where all of the block was read.
+    ///
+    /// # Answers
+    ///
+    /// As for `Medium::read`.
     fn read_into(&mut self, block: u32, into: &mut [u8]) -> ReadEnd
         requires inside { block < block_count self.old }
         requires whole { length into.old ≡ BLOCK_BYTES }
@@ -55,6 +75,15 @@ pub trait Medium {
 
     /// Writes a block. A dead one stays dead, and the write of one is done all the same: a read tells. With the power off
     /// nothing happens; where the answer is a cut or a failure the power is off afterwards.
+    ///
+    /// # Answers
+    ///
+    /// - `Done`: the write went to its end. Then: the cell has the bytes, or is dead; one use. A read tells which. (`WritesCell`)
+    /// - `Cut`: the power was cut in this use, and the cut was counted. Then: the power is off; the cell is as before, has the
+    ///   bytes, or is torn or dead. (`IsCutInWrite`)
+    /// - `Off`: the power was off. Then: nothing changed, and no use is counted. (`IsOff`)
+    /// - `Failed`: what the medium lies on counted a failure. Then: the power is off; the cell is as after a cut.
+    ///   (`FailsInWrite`)
     fn write(&mut self, block: u32, from: &Block) -> WriteEnd
         requires { block < block_count self.old }
         ensures rule { WriteRule (world self.old) (world self.new) block from.now result }
@@ -63,6 +92,10 @@ pub trait Medium {
         ensures as_many { block_count self.new ≡ block_count self.old };
 
     /// Writes a block straight from the caller's bytes, as many as a block has. It does what `write` does.
+    ///
+    /// # Answers
+    ///
+    /// As for `Medium::write`.
     fn write_from(&mut self, block: u32, from: &[u8]) -> WriteEnd
         requires inside { block < block_count self.old }
         requires whole { length from.now ≡ BLOCK_BYTES }

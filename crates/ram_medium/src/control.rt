@@ -51,6 +51,15 @@ pub trait MediumControl: Medium {
 
     /// Makes the block of this number, counted from 0, dead, with the power on or off. It is no use: nothing is counted
     /// and no arm counts down.
+    ///
+    /// # Answers
+    ///
+    /// What it makes of the bytes of an image: `FailBytes` in `crates/ram_image/specs/EventBytes.antt`.
+    ///
+    /// - `Done`: there is such a block. Then: it is dead, and nothing else changed; it was no use. (`FailRule`)
+    /// - `NoBlock`: exactly when there is no such block; it says how many there are. Then: nothing changed. (`FailRule`)
+    /// - `Failed`: what the medium lies on counted a failure. Then: the power is off; the cell is as before or dead, and no other
+    ///   changed. (`FailsInFail`)
     fn fail(&mut self, block: u32) -> FailEnd
         ensures rule { FailRule (Self.block_count self.old) (machine_shown Self.world arms armed_cut self.old)
             (machine_shown Self.world arms armed_cut self.new) block result }
@@ -59,6 +68,12 @@ pub trait MediumControl: Medium {
 
     /// Makes a block dead at its `n`-th use from now on: 1 is the next. At most [`MOST_ARMS`](crate::MOST_ARMS) arms
     /// stand, and a block may have several.
+    ///
+    /// # Answers
+    ///
+    /// - `Set`: there is such a block, and fewer than 64 arms stand. Then: one arm more. (`WearRule`)
+    /// - `NoBlock`: exactly when there is no such block; it says how many there are. Then: nothing changed. (`WearRule`)
+    /// - `Full`: there is such a block, and 64 arms stand. Then: nothing changed. (`WearRule`)
     fn wear(&mut self, block: u32, n: u32) -> Arm
         requires { 1 ≤ n }
         ensures rule { WearRule (Self.block_count self.old) (machine_shown Self.world arms armed_cut self.old)

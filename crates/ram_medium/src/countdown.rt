@@ -68,6 +68,12 @@ impl Armed {
 
     /// Makes a block of n dead at its `n`-th use from now on, unless there is no such block or as many arms stand
     /// as can.
+    ///
+    /// # Answers
+    ///
+    /// - `Set`: there is such a block, and fewer than 64 arms stand. Then: one arm more; the armed cut stays. (`ArmsRule`)
+    /// - `NoBlock`: exactly when there is no such block; it says how many there are. Then: nothing changed. (`ArmsRule`)
+    /// - `Full`: there is such a block, and 64 arms stand. Then: nothing changed. (`ArmsRule`)
     pub fn wear(&mut self, blocks: u32, block: u32, n: u32) -> Arm
         requires { 1 ≤ n }
         ensures arms { ArmsRule blocks (arms_of self.old) (arms_of self.new)

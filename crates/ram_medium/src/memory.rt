@@ -46,6 +46,11 @@ impl MemMedium {
 
     /// A medium of n blank blocks, with the power off. `failing` has the numbers, from 1 on, of the uses that
     /// fail.
+    ///
+    /// # Answers
+    ///
+    /// - `Ok`: this many blank blocks, with the power off and nothing counted or armed. (`IsNewInMemory`)
+    /// - `Err`: memory was refused. (none)
     pub fn new(alloc: Global, blocks: u32, failing: Vec<u64>) -> Result<MemMedium, AllocError>
         ensures { IfOk result (IsNewInMemory blocks failing.items) }
     {

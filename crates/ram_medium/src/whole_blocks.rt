@@ -14,6 +14,16 @@ use model_stops::Stop;
 use ram_bytes::Block;
 
 /// Reads a block. Whether it has whole bytes, or why the read was stopped; `into` changes only where it has.
+///
+/// # Answers
+///
+/// - `Ok`: the read was not stopped; `true` or `false`. Then: the power is on; one use. (`EndedRead`)
+/// - `true`: the cell is good, where cells are known. Then: the caller has its bytes. (`ReadsCell`)
+/// - `false`: the cell is not good now. Then: it is as before or dead. (`FindsNoBytes`)
+/// - `Err`: the read was stopped: `Cut`, `Off` or `Fault`. Then: the power is off. (`StoppedRead`)
+/// - `Cut`: as for `Cut` of a read. (`IsCutInRead`)
+/// - `Off`: as for `Off` of a read. (`IsOff`)
+/// - `Fault`: as for `Failed` of a read. (`FailsInRead`)
 pub fn read_whole<M: Medium>(medium: &mut M, block: u32, into: &mut Block) -> Result<bool, Stop>
     requires { block < M.block_count medium.old }
     ensures rule { MatchResult result
@@ -36,6 +46,10 @@ pub fn read_whole<M: Medium>(medium: &mut M, block: u32, into: &mut Block) -> Re
 
 /// Reads a block straight into the caller's bytes, as many as a block has. Whether it has whole bytes, or why the read was
 /// stopped; what the caller's bytes are then is said only where it has.
+///
+/// # Answers
+///
+/// As for `read_whole`.
 pub fn read_whole_into<M: Medium>(medium: &mut M, block: u32, into: &mut [u8]) -> Result<bool, Stop>
     requires inside { block < M.block_count medium.old }
     requires whole { length into.old ≡ BLOCK_BYTES }
@@ -60,6 +74,14 @@ pub fn read_whole_into<M: Medium>(medium: &mut M, block: u32, into: &mut [u8]) -
 
 /// Writes a block straight from the caller's bytes, as many as a block has, or says why the write was stopped. A dead block
 /// stays dead.
+///
+/// # Answers
+///
+/// - `Ok`: the write went to its end. Then: as for `Done` of a write. (`WritesCell`)
+/// - `Err`: the write was stopped: `Cut`, `Off` or `Fault`. Then: the power is off. (`StoppedWrite`)
+/// - `Cut`: as for `Cut` of a write. (`IsCutInWrite`)
+/// - `Off`: as for `Off` of a write. (`IsOff`)
+/// - `Fault`: as for `Failed` of a write. (`FailsInWrite`)
 pub fn write_whole<M: Medium>(medium: &mut M, block: u32, from: &[u8]) -> Result<(), Stop>
     requires inside { block < M.block_count medium.old }
     requires whole { length from.now ≡ BLOCK_BYTES }

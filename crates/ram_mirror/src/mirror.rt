@@ -38,6 +38,11 @@ pub struct MirrorRooms {
 
 impl MirrorRooms {
     /// Takes the memory.
+    ///
+    /// # Answers
+    ///
+    /// - `Ok`: the memory was taken. (clause)
+    /// - `Err`: the system refused memory that was asked for within the budget. (clause)
     pub fn new(budget: &mut Budget) -> Result<MirrorRooms, MemoryRefused>
         requires free { MIRROR_MEMORY ≤ budget.old }
         ensures left { budget.old ≤ budget.new + MIRROR_MEMORY }
@@ -104,6 +109,19 @@ impl<A: Disc, B: Disc> Mirror<A, B> {
     /// Reads `n` sectors from sector `lba` on from the lead, and from the other side each block that the lead cannot give, where that one
     /// is up and the block is not apart. The answer is the lead's. A lead that is stopped gives the lead to the other side where that has
     /// all that the lead had.
+    ///
+    /// # Answers
+    ///
+    /// The lead answers; where it was stopped and the other side may lead, that one answers (`ReadsElsewhere`).
+    ///
+    /// - `Good`: every block came from the lead, or from the other side in its place. Then: the bytes are the disc's.
+    ///   (`ReadsLed`)
+    /// - `NotFormatted`, `Range`: the lead refused so. Then: nothing changed. (`LeadReads`)
+    /// - `Unread`: at the first block that the lead cannot give, and the other side may not stand in or cannot either.
+    ///   (`EndsReading`, `AsksOther`)
+    /// - `Cut`, `Fault`: the lead was stopped, and the other side may not lead, or was stopped too. Then: the mirror is off.
+    ///   (`ReadStopped`, `ReadsElsewhere`)
+    /// - `Off`: the mirror is off, or its lead. Then: nothing changed. (`MirrorReadCause`, `LeadReads`)
     pub fn read(&mut self, lba: u32, n: u32, into: &mut [u8]) -> ReadOut
         requires few { n ≤ TRANSFER_LIMIT }
         requires whole { length into.old ≡ 2048 * n }
@@ -136,6 +154,19 @@ impl<A: Disc, B: Disc> Mirror<A, B> {
 
     /// Writes `n` sectors from sector `lba` on, on the lead and then on the other side where that is up. The answer is the lead's. A
     /// lead that is stopped gives the lead to the other side where that has all that the lead had.
+    ///
+    /// # Answers
+    ///
+    /// The lead answers; where it was stopped and the other side may lead, that one answers (`WritesElsewhere`).
+    ///
+    /// - `Good`: the lead has written all. Then: so has the other side where it is up, or the blocks that it may lack are apart.
+    ///   (`WritesBoth`)
+    /// - `Unread`, `NoSpare`: the lead refused at this block. Then: those before it are apart. (`LeadRefuses`)
+    /// - `NoUpdate`: the lead could not write its list. Then: all covered blocks are apart. (`LeadRefuses`)
+    /// - `NotFormatted`, `Range`: the lead refused so. Then: nothing changed. (`LeadWrites`)
+    /// - `Cut`, `Fault`: the lead was stopped, and the other side may not lead, or was stopped too. Then: the mirror is off.
+    ///   (`WriteStopped`, `WritesElsewhere`)
+    /// - `Off`: the mirror is off, or its lead. Then: nothing changed. (`MirrorWriteCause`, `LeadWrites`)
     pub fn write(&mut self, lba: u32, n: u32, from: &[u8]) -> WriteOut
         requires few { n ≤ TRANSFER_LIMIT }
         requires whole { length from.now ≡ 2048 * n }
@@ -169,6 +200,13 @@ impl<A: Disc, B: Disc> Mirror<A, B> {
 
     /// Turns the power of both sides off and on again. The same side leads as before, and the answer is its own. The other side is up where
     /// it is ready with the lead's capacity, and every block is apart.
+    ///
+    /// # Answers
+    ///
+    /// - `Ready`: the lead is. Then: every block is apart; the other side is up where it is ready with this capacity.
+    ///   (`IsReadyWith`)
+    /// - `NotFormatted`: the lead is not formatted. Then: the other side is down. (`IsBareMirror`)
+    /// - `Cut`, `Fault`: the lead was stopped. Then: the mirror is off. (`StaysOff`)
     pub fn power(&mut self) -> PowerOut
         ensures cause { MirrorPowerCause (mirror_shows A.Sectors B.Sectors self.old)
             (mirror_shows A.Sectors B.Sectors self.new) result }
@@ -185,6 +223,14 @@ impl<A: Disc, B: Disc> Mirror<A, B> {
 
     /// Formats the lead anew, without a memory of what was defective, and where that is good the other side too. The answer is the lead's.
     /// Where both have as many blocks then, the other side is up and no block is apart.
+    ///
+    /// # Answers
+    ///
+    /// - `Good`: the lead is formatted. Then: so is the other side, or it is down. (`FormatsBoth`)
+    /// - `TooMany`, `NoUpdate`: the lead refused so. Then: the other side was not touched, and is down where the lead has no disc
+    ///   now. (`FormatsLead`)
+    /// - `Cut`, `Fault`: the lead was stopped. Then: the mirror is off. (`FormatStopped`)
+    /// - `Off`: the mirror is off, or its lead. Then: nothing changed. (`MirrorFormatCause`, `LeadFormats`)
     pub fn format(&mut self) -> FormatOut
         ensures cause { MirrorFormatCause (mirror_shows A.Sectors B.Sectors self.old)
             (mirror_shows A.Sectors B.Sectors self.new) result }
@@ -204,6 +250,14 @@ impl<A: Disc, B: Disc> Mirror<A, B> {
     }
 
     /// Copies each block that is apart from the lead to the other side, in rising order, while that is up. Tells how many are apart still.
+    ///
+    /// # Answers
+    ///
+    /// - `Done`: all blocks were gone through. Then: each that was apart was copied where both sides could; this many are left.
+    ///   (`ResyncsAll`)
+    /// - `NotFormatted`: the lead is not formatted. Then: nothing changed. (`ResyncsOn`)
+    /// - `Cut`, `Fault`: the lead was stopped at a block. Then: the mirror is off. (`ResyncStopped`)
+    /// - `Off`: the mirror is off, or its lead. Then: nothing changed. (`ResyncCause`)
     pub fn resync(&mut self) -> Resync
         ensures cause { ResyncCause (mirror_shows A.Sectors B.Sectors self.old)
             (mirror_shows A.Sectors B.Sectors self.new) result }
@@ -231,6 +285,10 @@ impl<A: Disc, B: Disc> Mirror<A, B> {
     }
 
     /// Whether side `a` leads.
+    ///
+    /// # Answers
+    ///
+    /// - `true`, `false`: whether side `a` leads. (`mirror_shows`)
     pub fn lead_is_a(&self) -> bool
         ensures { result ≡ (mirror_shows A.Sectors B.Sectors self.now).lead_is_a }
     {
@@ -238,6 +296,10 @@ impl<A: Disc, B: Disc> Mirror<A, B> {
     }
 
     /// Whether the side that does not lead is up.
+    ///
+    /// # Answers
+    ///
+    /// - `true`, `false`: whether the other side is up. (`mirror_shows`)
     pub fn other_up(&self) -> bool
         ensures { result ≡ (mirror_shows A.Sectors B.Sectors self.now).up }
     {
@@ -245,6 +307,10 @@ impl<A: Disc, B: Disc> Mirror<A, B> {
     }
 
     /// Whether a logical block is apart: the other side is not known to have what the lead has.
+    ///
+    /// # Answers
+    ///
+    /// - `true`, `false`: whether the block is apart, as each is while the other side is down. (`told_apart`)
     pub fn apart(&self, block: u32) -> bool
         ensures { result ≡ told_apart (mirror_shows A.Sectors B.Sectors self.now) block }
     {

@@ -68,6 +68,11 @@ impl<D: Caching> Target<D> {
 
     /// Turns the power off and on again, and the write cache off. Then the disc is in, its removal is allowed, and the host is to
     /// be told.
+    ///
+    /// # Answers
+    ///
+    /// As for `Caching::power`. On every answer the write cache is off, the disc is in, its removal is allowed, and the host is
+    /// to be told that the power came on (`IsPoweredAgain`).
     pub fn power(&mut self) -> PowerOut
         ensures rule { IsPoweredAgain (D.shows self.old.disc) (D.shows self.new.disc)
             (D.stands self.old.disc) (D.stands self.new.disc) self.new.host result }
@@ -89,6 +94,36 @@ impl<D: Caching> Target<D> {
     /// removal prevented; 2/3A/00 without a disc; 3/31/00 on a disc that is not formatted; 5/21/00 past its end; 5/26/00 for
     /// an expansion to a capacity that it cannot have; and what the disc answers.
     /// (After INCITS MMC; the order is this project's own.)
+    ///
+    /// # Answers
+    ///
+    /// The data are empty on every answer but `Good`. The reasons are judged in the order that
+    /// [SCRIPT](SCRIPT.md#when-a-command-is-refused) has; the first that applies is the answer. Else the command is one call of
+    /// the disc, whose answers are told as below, or a reply. What is remembered for the host afterwards, by the command and its
+    /// answer, is `host_after`.
+    ///
+    /// - `Good`: no reason applies, and the call of the disc answered Good where there is one. Then: the data are the reply of
+    ///   the command, cut to its allocation length. (`IsDone`)
+    /// - `Check`, judged: 5/20/00, 6/29/00, and then what `decode_as` refuses. Then: the disc is as before. (`asked_by`)
+    /// - `Check`, hindered: 5/53/02 ejection is prevented, 2/3A/00 the disc is out, 3/31/00 it is not formatted. Then: the disc
+    ///   is as before. (`hindrances`)
+    /// - `Check` of mode pages: 5/26/00: the list of MODE SELECT is not taken. Then: the disc is as before. (`IsAllowed`)
+    /// - `Check` of a read: 3/11/00 with the sector for `Unread`, 5/21/00 for `Range`. Then: as after that answer of
+    ///   `Caching::read`. (`read_answer`, `IsRead`)
+    /// - `Check` of a verification: the same. Then: as after that answer of `Caching::verify`. (`read_answer`, `IsVerified`)
+    /// - `Check` of a write: 3/11/00 with the sector for `Unread`, 3/32/00 with the sector for `NoSpare`, 3/32/01 for `NoUpdate`,
+    ///   5/21/00 for `Range`. Then: as after that answer of `Caching::write_through` with FUA and of WRITE AND VERIFY, and of
+    ///   `Caching::write` else. (`write_answer`, `IsWritten`)
+    /// - `Check` of a synchronisation: 3/32/00 with the sector for `NoSpare`, 3/32/01 for `NoUpdate`. Then: as after that answer
+    ///   of `Caching::synchronize`. (`sync_answer`, `IsSynchronised`)
+    /// - `Check` of a format: 3/31/01 for `TooMany` and `NoUpdate`. Then: as after that answer of `Caching::format`.
+    ///   (`format_answer`, `IsFormatted`)
+    /// - `Check` of an expansion: 5/26/00 for `Refused`, 3/32/01 for `NoUpdate`. Then: as after that answer of `Caching::expand`.
+    ///   (`expand_answer`, `IsExpanded`)
+    /// - `Cut`: the power was cut in the call of the disc. Then: as after `Cut` of that call. (`IsDone`)
+    /// - `Off`: exactly when the power was off. Then: nothing changed, and the host's four things stay. (`IsOffFor`)
+    /// - `Fault`: what the medium lies on counted a failure in the call of the disc. Then: as after `Fault` of that call.
+    ///   (`IsDone`)
     pub fn execute(&mut self, cdb: &Cdb, payload: &[u8], data_in: &mut Vec<u8>) -> Answer
         requires room { 2048 * TRANSFER_LIMIT ≤ vec_capacity data_in.old }
         ensures step { IsStep (D.shows self.old.disc) (D.shows self.new.disc)

@@ -59,6 +59,12 @@ impl Modes {
     /// Takes the parameter list of MODE SELECT(10). A list that is empty, or names no other value than one in force but that of
     /// WCE, is taken, and its last caching page sets WCE; every other one is refused with 5/26/00, and changes nothing. (After
     /// INCITS SPC.)
+    ///
+    /// # Answers
+    ///
+    /// - `Ok`: the list is empty, or its pages have their default values but for the write cache; that is as the last caching
+    ///   page says, and as before without one. (`Selects`)
+    /// - `Err`: every other list, as 5/26/00; nothing changed. (`Selects`)
     pub fn select(&mut self, payload: &[u8]) -> Result<(), Sense>
         ensures cases { Selects payload.now self.old.caches self.new.caches result }
     {

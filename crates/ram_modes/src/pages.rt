@@ -61,6 +61,10 @@ pub fn page_with(wanted: u8) -> Option<Page>
 }
 
 /// Whether this code asks for a page.
+///
+/// # Answers
+///
+/// - `true`, `false`: `true` exactly for the code of a page, or that of all. (`is_page_code`)
 pub fn is_page_code(wanted: u8) -> bool
     ensures { result ≡ is_page_code wanted }
 {
@@ -88,6 +92,10 @@ pub fn header(pages: u8) -> [u8; HEADER_BYTES]
 }
 
 /// Whether so many bytes are no list of pages: a list has none, or a header and up to two pages.
+///
+/// # Answers
+///
+/// - `true`, `false`: `false` exactly for 0, 8, 20 and 32 bytes. (`is_no_list_length`)
 pub fn is_no_list_length(bytes: usize) -> bool
     ensures { result ≡ is_no_list_length bytes }
 {

@@ -30,11 +30,21 @@ pub trait Image {
     ghost faults: { Self → ℕ };
 
     /// The number of bytes, from 0 to 2^64 - 1. It changes none.
+    ///
+    /// # Answers
+    ///
+    /// - `Is`: the number of bytes. Then: nothing changed. (`IsUnchanged`)
+    /// - `Failed`: the image counted a failure. Then: no byte changed. (`ImageFails`)
     fn len(&mut self) -> Length
         ensures { LenRule (bytes self.old) (bytes self.new) (faults self.old) (faults self.new) result };
 
     /// Reads the bytes from byte `at` on into the whole of `into`; the range lies inside the image. It changes no byte
     /// of the image. `Failed` says nothing of what `into` then holds.
+    ///
+    /// # Answers
+    ///
+    /// - `Done`: the slice has the bytes from that place on. Then: the image is as before. (`ReadAtRule`)
+    /// - `Failed`: the image counted a failure. Then: the image is as before; what the slice holds is not said. (`ImageFails`)
     fn read_at(&mut self, at: u64, into: &mut [u8]) -> Moved
         requires { ForSome (bytes self.old) (λ held. at + length into.old ≤ length held) }
         ensures { ReadAtRule (bytes self.old) (bytes self.new)
@@ -42,6 +52,12 @@ pub trait Image {
 
     /// Writes all of `from` from byte `at` on; the range lies inside the image. Where it fails, each byte of that range
     /// is the old or the new one, and nothing else differs.
+    ///
+    /// # Answers
+    ///
+    /// - `Done`: all bytes were written. Then: the image has them there, and differs nowhere else. (`IsChanged`)
+    /// - `Failed`: the image counted a failure. Then: each byte of the range is the old or the new one; nothing else differs.
+    ///   (`WriteAtRule`)
     fn write_at(&mut self, at: u64, from: &[u8]) -> Moved
         requires { ForSome (bytes self.old) (λ held. at + length from.now ≤ length held) }
         ensures { WriteAtRule (bytes self.old) (bytes self.new)
@@ -49,6 +65,11 @@ pub trait Image {
 
     /// Makes the image `len` bytes long: keeps the bytes below both lengths, and grows with zeros. Where it fails, the
     /// image is as it was, or as after a call that is done.
+    ///
+    /// # Answers
+    ///
+    /// - `Done`: the image has that length. Then: bytes below both lengths stay, and it grew with zeros. (`IsChanged`)
+    /// - `Failed`: the image counted a failure. Then: it is as before, or as after a call that is done. (`SetLenRule`)
     fn set_len(&mut self, len: u64) -> Moved
         ensures { SetLenRule (bytes self.old) (bytes self.new)
             (faults self.old) (faults self.new) len result };

@@ -44,6 +44,12 @@ pub trait Opener {
 
     /// Opens the image of this name, to be read and written. Its count of failures begins at 0. `Failed` says that no image is open, and one
     /// failure more is counted.
+    ///
+    /// # Answers
+    ///
+    /// - `Image`: the image that was next is open. Then: it has counted no failure; the opener was asked for this name. (`Opens`)
+    /// - `Failed`: the opener counted a failure. Then: no image is open, and the next one stays; it was asked for this name, or
+    ///   failed before that. (`OpenerFails`)
     fn open(&mut self, name: &str) -> Opened<Self::Image>
         ensures { OpenRule Self.Image.faults ReadWrite name.now
             (opener_view (next self.old) (returned self.old) (asked self.old) (faults self.old))
@@ -51,6 +57,14 @@ pub trait Opener {
 
     /// Opens the image of this name, to be read alone: one that is not there is a failure, and none is made. It answers as
     /// `open` does, and what was asked for says which of the two it was.
+    ///
+    /// # Answers
+    ///
+    /// As for `Opener::open`. As `Opener::open`, but the image is only read, and a missing one is a failure.
+    ///
+    /// - `Image`: the image that was next is open. Then: it has counted no failure; the opener was asked for this name. (`Opens`)
+    /// - `Failed`: the opener counted a failure. Then: no image is open, and the next one stays; it was asked for this name, or
+    ///   failed before that. (`OpenerFails`)
     fn open_to_read(&mut self, name: &str) -> Opened<Self::Image>
         ensures { OpenRule Self.Image.faults ReadOnly name.now
             (opener_view (next self.old) (returned self.old) (asked self.old) (faults self.old))

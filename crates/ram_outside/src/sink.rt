@@ -21,6 +21,12 @@ pub trait Sink {
 
     /// Writes the first bytes of `piece`, which has one byte at least: as many as the sink takes at once, from 1 to
     /// all. `Took` says how many. `Failed` says that nothing was written, and one failure more is counted.
+    ///
+    /// # Answers
+    ///
+    /// - `Took`: the sink took the first bytes of the piece: one at least, all at most. Then: just these are written, behind what
+    ///   was. (`Takes`)
+    /// - `Failed`: the sink counted a failure. Then: nothing was written. (`SinkFails`)
     fn put(&mut self, piece: &[u8]) -> Put
         requires { 0 < length piece.now }
         ensures { PutRule (written self.old) (written self.new)

@@ -24,6 +24,13 @@ pub trait Source {
     /// Puts the next bytes that are left at the beginning of `into`, which has room for one byte at least: as many as
     /// come at once, from 1 to all of `into`. `Got` says how many. `End` says that nothing is left, `Failed` that as
     /// much is left as before and one failure more is counted.
+    ///
+    /// # Answers
+    ///
+    /// - `Got`: the next bytes came: one at least, and no more than the slice holds. Then: they are at the start of the slice,
+    ///   and no longer left. (`GivesNext`)
+    /// - `End`: nothing was left. Then: nothing changed. (`HasEnded`)
+    /// - `Failed`: the source counted a failure. Then: as much is left as before. (`SourceFails`)
     fn take(&mut self, into: &mut [u8]) -> Take
         requires { 0 < length into.old }
         ensures { TakeRule (left self.old) (left self.new)

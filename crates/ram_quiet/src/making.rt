@@ -16,6 +16,13 @@ use ram_zones::Geometry;
 /// Makes the steps in their order, and mounts the disc once more. No answer of a step ends them. `lists` are the only ones that
 /// the disc gives: then they still are, and a mount that finds lists finds these. Lists that the last mount finds are in `found`
 /// then; `other` is room.
+///
+/// # Answers
+///
+/// The answer is that of the last mount (`FollowsAll`); the cells give no lists but those that they gave before (`GivesAlone`).
+///
+/// - `Lists`: the last mount found lists. Then: they are those that the disc had, where cells are known. (`TellsAlone`)
+/// - `Bare`, `Cut`, `Off`, `Fault`: as of `mount`. Then: the lists that are given stay the only ones. (`GivesAlone`)
 pub fn quiet<M: MediumControl>(
     medium: &mut M,
     geometry: &Geometry,

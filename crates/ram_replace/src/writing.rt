@@ -67,6 +67,20 @@ pub enum Outcome {
 ///
 /// The lists in memory change with Done alone, once a copy of the new list can be read. (Linear replacement after
 /// ECMA-330; the order of the steps is this project's own.)
+///
+/// # Answers
+///
+/// What `write_home` does with the power on, which is asked for.
+///
+/// - `Ok`: it was not stopped. (`EndsPlacing`)
+/// - `Done`: as of `write_home`. Then: as there. (`PlacesBlock`, `PutsBlock`)
+/// - `NoSpare`: as of `write_home`. Then: as there. (`MeetsNoSpare`, `FindsNoSpare`)
+/// - `NoUpdate`: as of `write_home`. Then: as there. (`MeetsNoCopy`, `FindsNoCopy`)
+/// - `Err`: it was stopped: `Cut`, `Off` or `Fault`. Then: as after that answer of `write_home`. (`PlacingStopped`,
+///   `StopsAtBlock`)
+/// - `Cut`: the power was cut in this write. Then: off. (`StopsByCut`)
+/// - `Off`: the power was off. As the power is on at entry, this does not come. (`Stops`)
+/// - `Fault`: what the medium lies on counted a failure. Then: off. (`StopsByFault`)
 pub fn place_block<M: Medium, L: Layout>(
     medium: &mut M,
     geometry: &Geometry,
@@ -119,6 +133,22 @@ pub fn place_block<M: Medium, L: Layout>(
 }
 
 /// Writes a logical block, as [`place_block`] does, where the power is on.
+///
+/// # Answers
+///
+/// The lists in memory change on `Done` alone.
+///
+/// - `Done`: the home, or a spare, has the bytes; a move has a readable copy of the list that says so. Then: the disc has the new
+///   block; the lists are those after the move, if there was one, and the cursor stands behind the spare. (`PlacesBlock`,
+///   `PutsBlock`)
+/// - `NoSpare`: the home is dead, and so are all spares that are free for the block. Then: the disc and the lists are as before.
+///   (`MeetsNoSpare`, `FindsNoSpare`)
+/// - `NoUpdate`: the home is dead, a spare has the bytes, but the secondary list has no copy left, or its counter, which is told,
+///   is the last. Then: the disc and the lists are as before. (`MeetsNoCopy`, `FindsNoCopy`)
+/// - `Cut`: the power was cut in this write. Then: off; the cells give the lists before or after, and the disc before or after
+///   fits under them. (`PlacingStopped`, `StopsAtBlock`)
+/// - `Off`: exactly when the power was off. Then: nothing changed. (`FoundOff`)
+/// - `Fault`: what the medium lies on counted a failure. Then: as after `Cut`. (`PlacingStopped`, `StopsAtBlock`)
 pub fn write_home<M: Medium, L: Layout>(
     medium: &mut M,
     geometry: &Geometry,

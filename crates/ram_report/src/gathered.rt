@@ -54,6 +54,11 @@ impl Model for Gathered {
 
 impl Gathered {
     /// Nothing is gathered.
+    ///
+    /// # Answers
+    ///
+    /// - `Ok`: nothing is gathered. (clause)
+    /// - `Err`: the system refused memory that was asked for within the budget. (clause)
     pub fn new(budget: &mut Budget) -> Result<Gathered, MemoryRefused>
         requires free { GATHERED_ROOM ≤ budget.old }
         ensures left { budget.old ≤ budget.new + GATHERED_ROOM }
@@ -67,6 +72,11 @@ impl Gathered {
 
     /// Puts a text behind what is gathered; where it does not fit, what is gathered goes to the sink first. A text
     /// longer than the room goes to the sink at once.
+    ///
+    /// # Answers
+    ///
+    /// - `Ok`: the whole text is due. (`IsPut`)
+    /// - `Err`: the sink counted a failure; a prefix of the text is due. (`IsCutShort`)
     pub fn put<K: Sink>(&mut self, sink: &mut K, text: &[u8]) -> Result<(), SinkFailed>
         ensures rule { TextRule (due (K.written sink.old) self.old) (due (K.written sink.new) self.new)
             (K.faults sink.old) (K.faults sink.new) text.now result }
@@ -89,6 +99,10 @@ impl Gathered {
     }
 
     /// Hands over what is gathered.
+    ///
+    /// # Answers
+    ///
+    /// As for `ReportWriter::flush`.
     pub fn flush<K: Sink>(&mut self, sink: &mut K) -> Print
         ensures rule { FlushRule (due (K.written sink.old) self.old) (due (K.written sink.new) self.new)
             self.new (K.faults sink.old) (K.faults sink.new) result }
@@ -120,6 +134,11 @@ impl Gathered {
 }
 
 /// Hands the sink the whole text, or tells how many bytes it took before it failed, and counted it.
+///
+/// # Answers
+///
+/// - `Ok`: the whole text was written. (`HandOverRule`)
+/// - `Err`: the sink counted a failure; exactly this many bytes of the text were written, which are not all. (`HandOverRule`)
 pub fn hand_over<K: Sink>(sink: &mut K, text: &[u8]) -> Result<(), usize>
     ensures { HandOverRule (K.written sink.old) (K.written sink.new)
         (K.faults sink.old) (K.faults sink.new) text.now result }

@@ -31,6 +31,11 @@ impl ReportWriter {
     ghost use Rattle.ram_report.specs.Reports.{PutsText, HandsOver, gathered_in};
 
     /// A writer with nothing gathered.
+    ///
+    /// # Answers
+    ///
+    /// - `Ok`: nothing is gathered. (clause)
+    /// - `Err`: the system refused memory that was asked for within the budget. (clause)
     pub fn new(budget: &mut Budget) -> Result<ReportWriter, MemoryRefused>
         requires free { WRITER_MEMORY ≤ budget.old }
         ensures left { budget.old ≤ budget.new + WRITER_MEMORY }
@@ -43,6 +48,11 @@ impl ReportWriter {
     }
 
     /// Puts a text behind what is due. Where the sink fails, a prefix of the text is.
+    ///
+    /// # Answers
+    ///
+    /// - `Ok`: the whole text is due. (`IsPut`)
+    /// - `Err`: the sink counted a failure; a prefix of the text is due. (`IsCutShort`)
     pub fn put<K: Sink>(&mut self, sink: &mut K, text: &[u8]) -> Result<(), SinkFailed>
         ensures { PutsText K.Sink self.old sink.old self.new sink.new text.now result }
     {
@@ -50,6 +60,11 @@ impl ReportWriter {
     }
 
     /// Hands the sink what is gathered.
+    ///
+    /// # Answers
+    ///
+    /// - `Done`: all was handed over. Then: what is due is as before; nothing is gathered. (`FlushRule`)
+    /// - `Failed`: the sink counted a failure. Then: what is due is as before. (`FlushRule`)
     pub fn flush<K: Sink>(&mut self, sink: &mut K) -> Print
         ensures { HandsOver K.Sink self.old sink.old self.new sink.new result }
     {
@@ -57,6 +72,11 @@ impl ReportWriter {
     }
 
     /// Puts a number in decimal digits behind what is due.
+    ///
+    /// # Answers
+    ///
+    /// - `Ok`: the digits of the number are due. (`IsPut`)
+    /// - `Err`: the sink counted a failure; a prefix of them is due. (`IsCutShort`)
     pub fn put_number<K: Sink>(&mut self, sink: &mut K, number: u64) -> Result<(), SinkFailed>
         ensures { PutsText K.Sink self.old sink.old self.new sink.new (decimal number) result }
     {
@@ -65,6 +85,11 @@ impl ReportWriter {
     }
 
     /// Puts bytes in lower-case hexadecimal digits behind what is due, at most a sector's.
+    ///
+    /// # Answers
+    ///
+    /// - `Ok`: the digits of the bytes are due. (`IsPut`)
+    /// - `Err`: the sink counted a failure; a prefix of them is due. (`IsCutShort`)
     pub fn put_hex<K: Sink>(&mut self, sink: &mut K, bytes: &[u8]) -> Result<(), SinkFailed>
         requires { length bytes.now ≤ SECTOR_BYTES }
         ensures { PutsText K.Sink self.old sink.old self.new sink.new (encode_lower bytes.now) result }

@@ -54,6 +54,10 @@ impl Part {
     }
 
     /// Whether it is less than the whole block.
+    ///
+    /// # Answers
+    ///
+    /// - `true`, `false`: `true` exactly when the request covers less than the whole block. (`is_partly`)
     pub fn is_partly(self) -> bool
         ensures { result ≡ is_partly self.request.lba self.request.n self.block }
     {

@@ -20,6 +20,10 @@ pub struct Request {
 impl Request {
     /// The request for `n` sectors from sector `lba` on, of a disc of `capacity` sectors. None exactly where some of them
     /// are none of the disc's.
+    ///
+    /// # Answers
+    ///
+    /// - `Some`, `None`: the request; `None` exactly when `lba + n` is more than the capacity. (clause)
     pub fn within(capacity: u32, lba: u32, n: u32) -> Option<Request>
         requires { capacity ≤ MOST_SECTORS }
         ensures { MatchOption result (capacity < lba + n)

@@ -43,6 +43,13 @@ pub enum Rooms {
 
 impl Rooms {
     /// Takes the rooms that these words ask for. Words that need none ask for nothing, and are not refused.
+    ///
+    /// # Answers
+    ///
+    /// - `Ok`: the rooms that the words ask for. (`AreRoomsFor`)
+    /// - `Script`, `Generate`, `Certificate`, `None`: those for the lines of a script, those for a script from a number, those
+    ///   for a certificate, or none. (`AreOfScript`, `AreOfNumber`, `AreOfCertificate`)
+    /// - `Err`: the system refused memory that was asked for within the budget. (clause)
     pub fn new(budget: &mut Budget, words: &[&str]) -> Result<Rooms, MemoryRefused>
         requires free { MOST_BYTES ≤ budget.old }
         ensures left { budget.old ≤ budget.new + MOST_BYTES }

@@ -34,6 +34,44 @@ use ram_volume::Volume;
 /// and tells how often each answer came; `audit IMAGE` tells what an image holds, and `check IMAGE` compares such a text with it;
 /// `--help` and `--version` tell of the program. The rooms are those that the words ask for; no
 /// more memory is taken.
+///
+/// # Answers
+///
+/// Of the words `run IMAGE` and `groups IMAGE`, where the bytes are known. `StatusCounts` says of every status which count rose, and
+/// `UsageRule` which words it was.
+///
+/// - `Done`: the script was answered to its end. Then: all answers and the last line `end N` are written; the image is as the
+///   lines leave it. (`IsEnded`)
+/// - `Differs`: never: only `check` answers so. (`StandsWith`)
+/// - `Usage`: exactly when the words have no known form. Then: nothing was opened, read or written. (`UsageRule`)
+/// - `Script`: the next line is none of the language, or passes a limit, or the script does. Then: all answers and that last line
+///   are written; the image is as the lines leave it. (`IsOfScript`, `IsEnded`)
+/// - `ImageFault`: the opener or the image counted a failure. Then: nothing was opened; or no line was begun; or all answers are
+///   written, and the image is as the next line, in which it failed, leaves it. (`IsNotBegun`, `IsStoppedInLine`)
+/// - `SourceFault`: the source counted a failure. Then: every whole line that came is answered; the image is as the lines leave
+///   it. (`IsBroken`)
+/// - `SinkFault`: the sink counted a failure; image or source may have too. Then: a beginning of the text due is written, of
+///   which at most 64 KiB are missing from before the last line done; the image is as the lines leave it, or the next one in
+///   which it failed. (`IsReportCutOff`, `StoodBehind`)
+/// - `NoMemory`: never: the memory was taken before. (`MemoryRule`)
+/// - `NotADisc`: the next line needs a disc, and there is none. Then: all answers and that last line are written; the image is as
+///   the lines leave it. (`IsEnded`)
+///
+/// Of `generate IMAGE N` (`Generates`). `Done`: the whole script was answered, and the summary is written. `SinkFault`: the whole
+/// script was answered, and a beginning of the summary is written. `Script`, `ImageFault`, `NotADisc`: nothing is written, and the
+/// image is as the lines leave it (`StopsWith`), or was not opened. `SourceFault` never comes.
+///
+/// Of `audit IMAGE` (`Audits`). The image is opened to be read alone, and is handed back with each byte as it was; the source is not
+/// touched. `Done`: the text of the certificate is written. `NotADisc`: the image is no disc's, and that is written. `SinkFault`: a
+/// beginning of one of these is written. `ImageFault`: nothing is written.
+///
+/// Of `check IMAGE` (`Checks`). The same of the image; the source is asked once the image was read. `Done`: the source's bytes are
+/// the text of the certificate, and `yes` is written. `Differs`: they are not, and `no N` is written, with the first line that
+/// differs. `NotADisc`: as for `audit`. `SinkFault`: a beginning of one of these is written. `ImageFault`, `SourceFault`: nothing is
+/// written.
+///
+/// Of `--help` and `--version` (`TellsText`). `Done`: the text is written. `SinkFault`: a beginning of it is. Nothing is opened or
+/// read.
 pub fn run<S: Source, K: Sink, O: Opener>(
     rooms: Rooms,
     words: &[&str],

@@ -11,6 +11,11 @@ use ram_report::{LastLine, Print};
 use ram_text::Dialogue;
 
 /// The status that an ending is told by.
+///
+/// # Answers
+///
+/// - `Done`, `Differs`, `Usage`, `Script`, `ImageFault`, `SourceFault`, `SinkFault`, `NoMemory`, `NotADisc`: the status of that
+///   ending; never `Differs`, `Usage` or `NoMemory`. (`status_of`)
 pub fn status_of(ending: Result<(), Stopped>) -> Status
     ensures status { result ≡ status_of ending }
     ensures other { IsOfRun result }

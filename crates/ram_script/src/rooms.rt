@@ -25,6 +25,11 @@ pub struct ScriptRooms {
 
 impl ScriptRooms {
     /// The rooms for the lines of a script over discs with a layout of this kind.
+    ///
+    /// # Answers
+    ///
+    /// - `Ok`: no line came yet, and the rooms are for discs with a layout of this kind. (`AreReady`)
+    /// - `Err`: the system refused memory that was asked for within the budget. (clause)
     pub fn new(budget: &mut Budget, kind: LayoutKind) -> Result<ScriptRooms, MemoryRefused>
         requires free { SCRIPT_MEMORY ≤ budget.old }
         ensures left { budget.old ≤ budget.new + SCRIPT_MEMORY }

@@ -84,6 +84,12 @@ fn serve_lines<D: Drive, S: Source, K: Sink>(
 
 /// Answers the lines of a script over an image, whose discs have a layout of the kind that the rooms are for, and tells why they end.
 /// The image is handed back as they leave it.
+///
+/// # Answers
+///
+/// - `Ok`: the script was answered to its end. (`LeavesBy`)
+/// - `Err`, `NotInLanguage`, `LineTooLong`, `ScriptTooLong`, `NotADisc`, `SourceFault`, `SinkFault`, `ImageFault`: why the lines
+///   end there, with the image as they leave it. (`LeavesBy`)
 pub fn answer_lines<D: Drive, S: Source, K: Sink>(
     rooms: TargetRooms,
     image: D::Image,
@@ -111,6 +117,11 @@ pub fn answer_lines<D: Drive, S: Source, K: Sink>(
 
 /// Serves a script over an image, whose discs have a layout of the kind that the rooms are for, and hands the image back as the lines
 /// leave it.
+///
+/// # Answers
+///
+/// - `Done`, `Differs`, `Usage`, `Script`, `ImageFault`, `SourceFault`, `SinkFault`, `NoMemory`, `NotADisc`: as for `run` of
+///   ram_run; never `Differs`, `Usage` or `NoMemory`. (`StandsWith`, `StatusCounts`)
 pub fn serve<D: Drive, S: Source, K: Sink>(
     rooms: TargetRooms,
     image: D::Image,

@@ -44,6 +44,11 @@ pub struct RunState {
 
 impl RunState {
     /// The state in which no line came yet. All its room is taken here.
+    ///
+    /// # Answers
+    ///
+    /// - `Ok`: no line came yet, and there is room for the data of any line. (`IsFresh`, `HasRoom`)
+    /// - `Err`: the system refused memory that was asked for within the budget. (clause)
     pub fn new(budget: &mut Budget) -> Result<RunState, MemoryRefused>
         requires free { STATE_MEMORY ≤ budget.old }
         ensures left { budget.old ≤ budget.new + STATE_MEMORY }

@@ -50,6 +50,11 @@ impl Scrub {
     ghost use Rattle.ram_scrub.specs.Calls.{IsReady, LeavesRead, IsAtBlock, GoesOn, EndsAt, PassedContents};
 
     /// A scrubber that has found nothing, and begins at block 0. It takes the room for all blocks that it may find on any disc.
+    ///
+    /// # Answers
+    ///
+    /// - `Ok`: memory for 146,930 numbers was given. Then: nothing is found, and block 0 is next. (`scrubber_of`)
+    /// - `Err`: the system refused memory that was asked for within the budget. Then: nothing is there. (clause)
     pub fn new(budget: &mut Budget) -> Result<Scrub, MemoryRefused>
         requires free { SCRUB_MEMORY ≤ budget.old }
         ensures left { budget.old ≤ budget.new + SCRUB_MEMORY }
@@ -136,6 +141,22 @@ impl Scrub {
     ///
     /// Only the disc is asked: blocks that wait in a write cache are not looked at, and are not written first. What the drive
     /// stands for stays, but that after `Cut` and `Fault` the power is off. (This project's own.)
+    ///
+    /// # Answers
+    ///
+    /// Causes: `StepRule`; the values: `StepContents`. On a formatted disc the found blocks that it does not have are dropped
+    /// first, and a number past its last block becomes 0 (`begun_on`).
+    ///
+    /// - `Readable`: the next block was verified by `Caching::verify`, whose answer was `Good`; it is told. Then: it is not among
+    ///   the found blocks, and the one behind it is next; every value stays. (`AsksOn`, `LeavesOn`)
+    /// - `Unreadable`: the same, and the answer was `Unread`. Then: it is among the found blocks, and the one behind it is next;
+    ///   every value stays. (`AsksOn`, `LeavesOn`)
+    /// - `NotFormatted`: exactly when the power is on and the disc is not formatted. Then: drive and scrubber are as before.
+    ///   (`StepsWithout`)
+    /// - `Cut`: the same, and the answer was `Cut`. Then: off, as after that answer; the same block is next. (`AsksOn`,
+    ///   `LeavesOn`)
+    /// - `Off`: exactly when the power was off. Then: drive and scrubber are as before. (`StepsWithout`)
+    /// - `Fault`: the same, and the answer was `Fault`. Then: as after `Cut`. (`AsksOn`, `LeavesOn`)
     pub fn step<D: Caching>(&mut self, disc: &mut D) -> StepEnd
         ensures rule { StepRule (D.shows disc.old) (D.shows disc.new)
             (scrubber_of self.old) result (scrubber_of self.new) }
@@ -179,6 +200,19 @@ impl Scrub {
     ///   takes block 0.
     ///
     /// (This project's own.)
+    ///
+    /// # Answers
+    ///
+    /// Causes: `PassRule`; the values: `PassContents`. It begins at block 0.
+    ///
+    /// - `Done`: one step for each logical block, each `Readable` or `Unreadable`. Then: the found blocks are those that could
+    ///   not be read; every value stays. (`StepsThrough`)
+    /// - `NotFormatted`: exactly when the power is on and the disc is not formatted. Then: the drive is as before, and block 0 is
+    ///   next. (`StopsPass`)
+    /// - `Cut`: a step answered so, after some that were `Readable` or `Unreadable`. Then: off, as after that step; its block is
+    ///   next. (`StopsPass`)
+    /// - `Off`: exactly when the power was off. Then: the drive is as before, and block 0 is next. (`StopsPass`)
+    /// - `Fault`: as `Cut`. Then: as after `Cut`. (`StopsPass`)
     pub fn pass<D: Caching>(&mut self, disc: &mut D) -> PassEnd
         ensures rule { PassRule (D.shows disc.old) (D.shows disc.new)
             (scrubber_of self.old) result (scrubber_of self.new) }

@@ -35,16 +35,42 @@ pub trait Caching {
     ghost underwent: { Self → Self → Type 0 };
 
     /// How many sectors the disc has, a multiple of 16. None exactly where the power is off or the disc is not formatted.
+    ///
+    /// # Answers
+    ///
+    /// - `Some`, `None`: how many sectors, of at most 146,930 blocks; `None` exactly when the power is off or the disc is not
+    ///   formatted. (`CapacityRule`)
     fn capacity(&self) -> Option<u32>
         ensures rule { CapacityRule (shows self.now).drive result }
         ensures few { IfSome result (λ sectors. sectors ≤ 16 * MOST_BLOCKS) };
 
     /// Whether writes go into the cache.
+    ///
+    /// # Answers
+    ///
+    /// - `true`, `false`: `true` exactly when the cache is on. (clause)
     fn caches(&self) -> bool
         ensures { result ≡ (shows self.now).caches };
 
     /// Reads `n` sectors from sector `lba` on: pending blocks from the cache, the others from the disc, one after another. The
     /// answers are those of a read of the disc.
+    ///
+    /// # Answers
+    ///
+    /// Causes: `CacheReadCause`; the values: `ReadContents`. Pending blocks that the disc does not have any more are dropped
+    /// first, as in each of the calls below but `verify`.
+    ///
+    /// - `Good`: each block was pending, or was read as by `Sectors::read`. Then: the bytes are the last ones; every value stays.
+    ///   (`ReadsParts`)
+    /// - `NotFormatted`: exactly when the power is on and the disc is not formatted. Then: nothing is pending. (`CacheReadBy`)
+    /// - `Range`: exactly when the disc is formatted and `lba + n` is more than its capacity, which is told. Then: every value
+    ///   stays. (`CacheOutOfRange`)
+    /// - `Unread`: a block that is not pending cannot be read; told as by `Sectors::read`. Then: every value stays.
+    ///   (`EndsReading`)
+    /// - `Cut`: the power was cut in this read. Then: off; nothing is pending; the disc with all values is the only candidate.
+    ///   (`EndsReading`)
+    /// - `Off`: exactly when the power was off. Then: nothing changed. (`CacheWasOff`)
+    /// - `Fault`: what the medium lies on counted a failure. Then: as after `Cut`. (`EndsReading`)
     fn read(&mut self, lba: u32, n: u32, into: &mut [u8]) -> ReadOut
         requires few { n ≤ TRANSFER_LIMIT }
         requires whole { length into.old ≡ 2048 * n }
@@ -57,6 +83,28 @@ pub trait Caching {
     /// Writes `n` sectors from sector `lba` on: into the cache where that is on and few blocks are covered, and else through it.
     /// A write into the cache makes room first, by writing the oldest pending blocks that it does not cover to the disc; then it
     /// reads the rests of blocks that it covers in part. One that is refused changes no contents.
+    ///
+    /// # Answers
+    ///
+    /// Where the cache is on and at most 16 blocks are covered (`goes_into_cache`), it is as follows, by `CachedCause` and
+    /// `CachedContents`; else it is `write_through`.
+    ///
+    /// - `Good`: the oldest blocks that had to leave the cache are on the disc, and the rests that were needed were read. Then:
+    ///   the covered blocks are pending; each has a new value, and its older ones stay. (`GoesIntoCache`, `CachedValues`)
+    /// - `NotFormatted`: exactly when the power is on and the disc is not formatted. Then: nothing is pending.
+    ///   (`CacheUnformatted`)
+    /// - `Range`: exactly when the disc is formatted and `lba + n` is more than its capacity, which is told. Then: every value
+    ///   stays. (`CacheOutOfRange`)
+    /// - `Unread`: a block is covered in part, is not pending, and cannot be read; told are the first sector of the request in
+    ///   it, and its home. Then: every value stays. (`LacksRestInCache`)
+    /// - `NoSpare`: a block that had to leave cannot be written: its home is dead, and so is every free spare; told is its first
+    ///   sector. Then: every value stays, and that block is pending. (`EndsFlushing`)
+    /// - `NoUpdate`: a block that had to leave cannot be written: its move cannot be noted. Then: every value stays, and that
+    ///   block is pending. (`EndsFlushing`)
+    /// - `Cut`: the power was cut in this write. Then: off; nothing is pending; the disc with the values before this write.
+    ///   (`EndsFlushing`, `LacksRestInCache`)
+    /// - `Off`: exactly when the power was off. Then: nothing changed. (`CacheWasOff`)
+    /// - `Fault`: what the medium lies on counted a failure. Then: as after `Cut`. (`EndsFlushing`, `LacksRestInCache`)
     fn write(&mut self, lba: u32, n: u32, from: &[u8]) -> WriteOut
         requires few { n ≤ TRANSFER_LIMIT }
         requires whole { length from.now ≡ 2048 * n }
@@ -67,6 +115,16 @@ pub trait Caching {
         ensures underwent { underwent self.old self.new };
 
     /// Turns the power off and on again. Pending blocks are lost.
+    ///
+    /// # Answers
+    ///
+    /// Nothing is pending on any answer. Causes: `CachePowerCause`; the values: `PowerContents`.
+    ///
+    /// - `Ready`: as that of the disc. Then: of the discs that are taken from the candidates, one from each, the first that fits
+    ///   is there; each block has one value. (`CachePowerCause`, `FindsValues`)
+    /// - `NotFormatted`: as that of the disc. Then: the disc has no sectors. (`CachePowerCause`)
+    /// - `Cut`: as that of the disc. Then: off; the candidates stay, with all values. (`CachePowerCause`)
+    /// - `Fault`: as that of the disc. Then: as after `Cut`. (`CachePowerCause`)
     fn power(&mut self) -> PowerOut
         ensures cause { CachePowerCause (shows self.old) (shows self.new) result }
         ensures step { (s : Contents) → stands self.old s
@@ -75,6 +133,21 @@ pub trait Caching {
         ensures underwent { underwent self.old self.new };
 
     /// Formats the disc. After a full format that is done nothing is pending, nor where the disc is not formatted afterwards.
+    ///
+    /// # Answers
+    ///
+    /// Each answer comes as that of `Disc::format` (`CacheFormatCause`). The values: `FormatContents`.
+    ///
+    /// - `Good`: as that of the disc. Then: of a full one: nothing is pending, and each block has the value of zeros alone; of a
+    ///   rewriting one everything stays. (`CacheFormatCause`, `FullValues`)
+    /// - `TooMany`: as that of the disc. Then: nothing is pending, and the disc has no sectors. (`CacheFormatCause`,
+    ///   `FullValues`)
+    /// - `NoUpdate`: as that of the disc. Then: as after that answer of the disc; nothing is pending where it is not formatted.
+    ///   (`CacheFormatCause`, `FormatValues`)
+    /// - `Cut`: as that of the disc. Then: off; nothing is pending; the candidates of the disc, with all values of the old one.
+    ///   (`CacheFormatCause`, `FormatValues`)
+    /// - `Off`: as that of the disc. Then: nothing changed. (`CacheFormatCause`)
+    /// - `Fault`: as that of the disc. Then: as after `Cut`. (`CacheFormatCause`, `FormatValues`)
     fn format(&mut self, kind: Kind) -> FormatOut
         ensures cause { CacheFormatCause (shows self.old) (shows self.new) kind result }
         ensures step { (s : Contents) → stands self.old s
@@ -83,6 +156,20 @@ pub trait Caching {
         ensures underwent { underwent self.old self.new };
 
     /// Gives the disc a smaller capacity, in sectors. The blocks that it loses are not pending then.
+    ///
+    /// # Answers
+    ///
+    /// Each answer comes as that of `Disc::expand` (`CacheExpandCause`). The values: `ExpandContents`.
+    ///
+    /// - `Good`: as that of the disc. Then: the blocks that are left keep their values, and stay pending if they were.
+    ///   (`CacheExpandCause`, `leaves_after_expansion`)
+    /// - `NotFormatted`: as that of the disc. Then: every value stays. (`CacheExpandCause`)
+    /// - `Refused`: as that of the disc. Then: every value stays, and what is pending. (`CacheExpandCause`)
+    /// - `NoUpdate`: as that of the disc. Then: every value stays, and what is pending. (`CacheExpandCause`)
+    /// - `Cut`: as that of the disc. Then: off; nothing is pending; the disc with all values, and its first blocks with theirs,
+    ///   are the candidates. (`CacheExpandCause`)
+    /// - `Off`: as that of the disc. Then: nothing changed. (`CacheExpandCause`)
+    /// - `Fault`: as that of the disc. Then: as after `Cut`. (`CacheExpandCause`)
     fn expand(&mut self, capacity: u32) -> ExpandOut
         ensures cause { CacheExpandCause (shows self.old) (shows self.new) capacity result }
         ensures step { (s : Contents) → stands self.old s → ExpandContents (stands self.new) s capacity result }
@@ -90,6 +177,19 @@ pub trait Caching {
         ensures underwent { underwent self.old self.new };
 
     /// Verifies sectors: the disc alone is asked.
+    ///
+    /// # Answers
+    ///
+    /// The disc alone is asked (`CacheVerifyCause`): each answer comes as that of `Disc::verify`. The values: `VerifyContents`.
+    ///
+    /// - `Good`: as that of the disc. Then: every value stays, and what is pending. (`CacheVerifyCause`)
+    /// - `NotFormatted`: as that of the disc. Then: the same. (`CacheVerifyCause`)
+    /// - `Range`: as that of the disc. Then: the same. (`CacheVerifyCause`)
+    /// - `Unread`: as that of the disc. Then: the same. (`CacheVerifyCause`)
+    /// - `Cut`: as that of the disc. Then: off; nothing is pending; the disc with all values is the only candidate.
+    ///   (`CacheVerifyCause`)
+    /// - `Off`: as that of the disc. Then: nothing changed. (`CacheVerifyCause`)
+    /// - `Fault`: as that of the disc. Then: as after `Cut`. (`CacheVerifyCause`)
     fn verify(&mut self, lba: u32, n: u32) -> ReadOut
         requires few { n ≤ VERIFY_LIMIT }
         ensures cause { CacheVerifyCause (shows self.old) (shows self.new) lba n result }
@@ -103,6 +203,11 @@ pub trait Caching {
 
     /// Puts the text of the disc definition structure in use into the block. False, with the block as it was, exactly where
     /// the power is off or the disc is not formatted.
+    ///
+    /// # Answers
+    ///
+    /// - `true`: the power is on and the disc is formatted; the block has the text of the structure in use. (`DdsRule`)
+    /// - `false`: exactly when the power is off or the disc is not formatted; the block is as before. (`DdsRule`)
     fn dds_block(&self, into: &mut Block) -> bool
         ensures { DdsRule (shows self.now).drive into.old into.new result };
 
@@ -113,6 +218,30 @@ pub trait Caching {
         ensures underwent { underwent self.old self.new };
 
     /// Writes sectors through the cache: the covered blocks that are pending are written back first, the oldest first.
+    ///
+    /// # Answers
+    ///
+    /// Causes: `ThroughCause`; the values: `ThroughContents`. The pending blocks that it covers are written first, the oldest
+    /// first; then it is `Sectors::write` on the disc.
+    ///
+    /// - `Good`: all were written. Then: each covered block has its new value alone, and is not pending. (`WritesThrough`,
+    ///   `ThroughValues`)
+    /// - `NotFormatted`: exactly when the power is on and the disc is not formatted. Then: nothing is pending.
+    ///   (`CacheUnformatted`)
+    /// - `Range`: exactly when the disc is formatted and `lba + n` is more than its capacity, which is told. Then: every value
+    ///   stays. (`CacheOutOfRange`)
+    /// - `Unread`: as by `Sectors::write`, with nothing pending of what it covers. Then: the covered blocks before the one that
+    ///   is named have their new values alone. (`WritesThrough`, `ThroughValues`)
+    /// - `NoSpare`: a covered pending block cannot be written, or, as by `Sectors::write`, a block of the request. Then: where a
+    ///   covered block is pending, every value stays; else the covered blocks before it have their new values alone.
+    ///   (`StopsWritingThrough`, `ThroughValues`)
+    /// - `NoUpdate`: the same. Then: where a covered block is pending, every value stays; else the covered blocks before the
+    ///   first whose home is dead have their new values alone. (`StopsWritingThrough`, `EndsThrough`)
+    /// - `Cut`: the power was cut in this write. Then: off; nothing is pending; two candidates: the blocks before one have their
+    ///   new values alone, and that one has its values as before in one and the new one alone in the other; or all values as
+    ///   before, where a pending block was being written. (`StopsThrough`, `StopsBefore`)
+    /// - `Off`: exactly when the power was off. Then: nothing changed. (`CacheWasOff`)
+    /// - `Fault`: what the medium lies on counted a failure. Then: as after `Cut`. (`StopsThrough`, `StopsBefore`)
     fn write_through(&mut self, lba: u32, n: u32, from: &[u8]) -> WriteOut
         requires few { n ≤ TRANSFER_LIMIT }
         requires whole { length from.now ≡ 2048 * n }
@@ -123,6 +252,22 @@ pub trait Caching {
         ensures underwent { underwent self.old self.new };
 
     /// Writes all pending blocks to the disc, the oldest first, up to the first that is refused.
+    ///
+    /// # Answers
+    ///
+    /// Causes: `SyncCause`; the values: `SyncContents`.
+    ///
+    /// - `Good`: each pending block was written, the oldest first. Then: nothing is pending, and each block has its last value
+    ///   alone. (`SyncsAll`, `SyncValues`)
+    /// - `NotFormatted`: exactly when the power is on and the disc is not formatted. Then: nothing is pending.
+    ///   (`CacheUnformatted`)
+    /// - `NoSpare`: a pending block cannot be written: its home is dead, and so is every free spare; told is its first sector.
+    ///   Then: every value stays; it and those behind it are pending. (`StopsSyncing`)
+    /// - `NoUpdate`: a pending block cannot be written: its move cannot be noted. Then: the same. (`StopsSyncing`)
+    /// - `Cut`: the power was cut while a pending block was written. Then: off; nothing is pending; the disc with all values.
+    ///   (`StopsSyncing`)
+    /// - `Off`: exactly when the power was off. Then: nothing changed. (`CacheWasOff`)
+    /// - `Fault`: what the medium lies on counted a failure. Then: as after `Cut`. (`StopsSyncing`)
     fn synchronize(&mut self) -> SyncOut
         ensures cause { SyncCause (shows self.old) (shows self.new) result }
         ensures step { (s : Contents) → stands self.old s → SyncContents (stands self.new) s result }
@@ -130,6 +275,20 @@ pub trait Caching {
         ensures underwent { underwent self.old self.new };
 
     /// Writes the oldest pending block to the disc.
+    ///
+    /// # Answers
+    ///
+    /// Causes: `TickCause`; the values: `TickContents`.
+    ///
+    /// - `Idle`: the power is on and nothing is pending. Then: nothing changed. (`IsIdle`)
+    /// - `Written`: the oldest pending block was written; told is its first sector. Then: it is not pending; every value stays.
+    ///   (`FlushesOldest`)
+    /// - `NoSpare`: it cannot be written: its home is dead, and so is every free spare; told is its first sector. Then: every
+    ///   value stays, and it is pending. (`StopsTick`)
+    /// - `NoUpdate`: it cannot be written: its move cannot be noted. Then: the same. (`StopsTick`)
+    /// - `Cut`: the power was cut while it was written. Then: off; nothing is pending; the disc with all values. (`StopsTick`)
+    /// - `Off`: exactly when the power was off. Then: nothing changed. (`CacheWasOff`)
+    /// - `Fault`: what the medium lies on counted a failure. Then: as after `Cut`. (`StopsTick`)
     fn tick(&mut self) -> TickOut
         ensures cause { TickCause (shows self.old) (shows self.new) result }
         ensures step { (s : Contents) → stands self.old s → TickContents (stands self.new) s result }

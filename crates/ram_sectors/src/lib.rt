@@ -1,5 +1,14 @@
 //! A drive as its host sees it, whatever it does with bad blocks: the sectors that it reads and writes, and the disc that it
 //! formats, expands, verifies and tells of. Contracts alone.
+//!
+//! # Answers
+//!
+//! What a drive stands for is a disc of sectors, or with the power off some discs, its candidates. With a write cache (`Caching`)
+//! each block has values, of which the last is shown and the older ones are those since its last synchronisation. Every answer of
+//! these calls has two definitions: its cause, which says what the drive shows afterwards, and its step, which says what became
+//! of the disc. `Cut` comes by the armed cut alone: it had exactly as many uses left as the call took. A block dies by an arm
+//! alone, where nothing failed. Both are said by `Reach` (`crates/model_medium/specs/Reach.antt`), to which each of these causes
+//! comes.
 #![tactic(auto)]
 
 ghost use Rattle.std.specs.Prelude.{◌≡◌, ◌*◌, ◌≤◌, length, IfSome};
@@ -57,6 +66,11 @@ pub trait Sectors {
     ghost underwent: { Self → Self → Type 0 };
 
     /// How many sectors the disc has, a multiple of 16. None exactly where the power is off or the disc is not formatted.
+    ///
+    /// # Answers
+    ///
+    /// - `Some`, `None`: how many sectors, of at most 146,930 blocks; `None` exactly when the power is off or the disc is not
+    ///   formatted. (`CapacityRule`)
     fn capacity(&self) -> Option<u32>
         ensures rule { CapacityRule (shows self.now) result }
         ensures few { IfSome result (λ sectors. sectors ≤ 16 * MOST_BLOCKS) };
@@ -65,6 +79,23 @@ pub trait Sectors {
     /// answers Off; without a format, NotFormatted; where some sector is none of the disc's, Range, with the capacity; where a
     /// block has no whole bytes, Unread, with its first sector of the request and its home. What `into` holds after another
     /// answer than Good is not known.
+    ///
+    /// # Answers
+    ///
+    /// Causes: `ReadCause`; the disc: `ReadStep`; it must end well where `CanRead` holds; without a use of the medium where all
+    /// blocks are buffered (`ReadIsQuiet`).
+    ///
+    /// - `Good`: each block's home is good now, or the block was buffered. Then: the bytes are the disc's; no cell and no list
+    ///   changed. (`ReadsAll`)
+    /// - `NotFormatted`: exactly when the power is on and the disc is not formatted. Then: nothing changed. (`IsUnformatted`)
+    /// - `Range`: exactly when the disc is formatted and `lba + n` is more than its capacity, which is told. Then: nothing
+    ///   changed. (`IsOutOfRange`)
+    /// - `Unread`: a block is not at hand, and its home is not good now; told are its first sector of the request, and the home.
+    ///   Then: the disc and the lists stay; no cell changed but that of the home, which may be dead now. (`MeetsUnread`)
+    /// - `Cut`: the power was cut in this read. Then: off; the disc is the only candidate; lists and buffer are gone.
+    ///   (`StopsInRead`)
+    /// - `Off`: exactly when the power was off. Then: nothing changed. (`WasOff`)
+    /// - `Fault`: what the medium lies on counted a failure. Then: as after `Cut`. (`StopsInRead`)
     fn read(&mut self, lba: u32, n: u32, into: &mut [u8]) -> ReadOut
         requires few { n ≤ TRANSFER_LIMIT }
         requires whole { length into.old ≡ 2048 * n }
@@ -80,6 +111,28 @@ pub trait Sectors {
     /// another: a write that is refused or stopped has replaced those before the one in progress. Beside the refusals of a
     /// read it may answer NoSpare, where the home of a block and all free spares are dead, and NoUpdate, where a spare has the
     /// block's bytes and the list that would say so could not be written.
+    ///
+    /// # Answers
+    ///
+    /// Causes: `WriteCause`; the disc: `WriteStep`; it must end well where `NothingDies` or `HasSpares` holds.
+    ///
+    /// - `Good`: each block is in its home, or in a spare of which a readable list says so. Then: the sectors are replaced, and
+    ///   no others. (`WritesAll`)
+    /// - `NotFormatted`: exactly when the power is on and the disc is not formatted. Then: nothing changed. (`IsUnformatted`)
+    /// - `Range`: exactly when the disc is formatted and `lba + n` is more than its capacity, which is told. Then: nothing
+    ///   changed. (`IsOutOfRange`)
+    /// - `Unread`: a block is covered in part and not at hand, and its home is not good now; told as for a read. Then: the
+    ///   sectors of the blocks before it are replaced, and no others. (`LacksRest`)
+    /// - `NoSpare`: the home of a block is dead now, and so is every spare that is free for it; told is its first sector of the
+    ///   request. Then: the sectors of the blocks before it are replaced, and no others. (`LacksSpare`)
+    /// - `NoUpdate`: the home is dead, a spare has the bytes, but no copy of the secondary list is left, or its counter, which is
+    ///   told, is the last. Then: the sectors of the blocks before the first whose home is dead are replaced. (`LacksUpdate`,
+    ///   `EndsAtDead`)
+    /// - `Cut`: the power was cut in this write. Then: off; two candidates: the blocks before one are new, and that one is old in
+    ///   one and new in the other; the lists that it had reached are settled, or the next one is written up to there.
+    ///   (`StopsInWrite`, `StopsInBlock`, `LeavesPlacing`)
+    /// - `Off`: exactly when the power was off. Then: nothing changed. (`WasOff`)
+    /// - `Fault`: what the medium lies on counted a failure. Then: as after `Cut`. (`StopsInWrite`, `StopsInBlock`)
     fn write(&mut self, lba: u32, n: u32, from: &[u8]) -> WriteOut
         requires few { n ≤ TRANSFER_LIMIT }
         requires whole { length from.now ≡ 2048 * n }
@@ -92,6 +145,19 @@ pub trait Sectors {
 
     /// Turns the power off and on again, and mounts the disc: its lists are chosen among their copies, which are repaired.
     /// Only on Ready and NotFormatted is the power on afterwards.
+    ///
+    /// # Answers
+    ///
+    /// Causes: `PowerCause`; the disc: `PowerStep`. The power is on after `Ready` and `NotFormatted` alone. No answer changes the
+    /// cell of a data block, or makes cells give lists that they did not.
+    ///
+    /// - `Ready`: lists were chosen among the copies; the capacity is told. Then: they are in use, their copies repaired; the
+    ///   disc is the first candidate that fits them. (`MountsLists`, `FindsDisc`)
+    /// - `NotFormatted`: none were chosen: no structure is valid, or the one chosen says Formatting, or no secondary list belongs
+    ///   to it. Then: the disc has no sectors; the mark is that of the copies. (`MountsNone`)
+    /// - `Cut`: the power was cut in the mount. Then: off; the candidates are as before; nothing was repaired, or the chosen
+    ///   structure in part, or both chosen lists. (`StopsInMount`, `StopsMounting`)
+    /// - `Fault`: what the medium lies on counted a failure. Then: off; the candidates are as before. (`StopsInMount`)
     fn power(&mut self) -> PowerOut
         ensures cause { PowerCause (shows self.old) (shows self.new) result }
         ensures step { (s : Standing) → stands self.old s
@@ -109,6 +175,29 @@ pub trait Sectors {
 pub trait Disc: Sectors {
     /// Formats the disc: anew, with a certification that leaves zeros, or by writing both lists again. A disc that is not
     /// formatted is formatted anew in both cases.
+    ///
+    /// # Answers
+    ///
+    /// Causes: `FormatCause`; the disc: `FormatStep`; it must end well where `FormatCompletes` says so. A rewriting format of a
+    /// disc that is not formatted is a full one.
+    ///
+    /// - `Good` of a full one: the blocks that are defective are no more than may be slipped, and each list has a copy. Then: new
+    ///   lists that name them are in use; every sector is zeros. (`FormatsAll`)
+    /// - `Good` of a rewriting one: each list has a copy that can be read. Then: disc and lists stay; each copy that was not
+    ///   exactly its text was written again. (`RewritesLists`)
+    /// - `TooMany`: of a full one: more blocks are defective than may be slipped, which are as many as there are primary spares;
+    ///   it says how many. Then: not formatted; the mark is one greater. (`FindsTooMany`)
+    /// - `NoUpdate` of a full one: the mark, which is told, has no room for two more. Then: nothing changed. (`MarkLacksRoom`)
+    /// - `NoUpdate` of a full one, later: an update left no copy of its list; the counter that was due is told. Then: not
+    ///   formatted. (`LosesList`)
+    /// - `NoUpdate` of a rewriting one: a list has no copy left; its counter is told, the structure's where that is the one.
+    ///   Then: disc and lists stay. (`RewritesInVain`)
+    /// - `Cut` of a full one: the power was cut in this format. Then: off; the candidates are the disc and none, or none alone,
+    ///   or none and the disc of zeros; the lists are written up to there. (`StopsInFormat`, `StandsInFormat`, `FormatsInPart`)
+    /// - `Cut` of a rewriting one: the power was cut in this format. Then: off; the disc is the only candidate; both lists are
+    ///   repaired up to there. (`StopsInRewrite`, `MendsLists`)
+    /// - `Off`: exactly when the power was off. Then: nothing changed. (`WasOff`)
+    /// - `Fault`: what the medium lies on counted a failure. Then: as after `Cut`. (`StopsInFormat`, `StopsInRewrite`)
     fn format(&mut self, kind: Kind) -> FormatOut
         ensures cause { FormatCause (Self.shows self.old) (Self.shows self.new) kind result }
         ensures step { (s : Standing) → Self.stands self.old s
@@ -121,6 +210,23 @@ pub trait Disc: Sectors {
     /// stay. Refused, with the capacity, where the disc cannot have this one: 0, no multiple of 16, more than it has, or
     /// more spares in all than 4,092, or 8,184 where its lists have version 2. NoUpdate, where the list that would say so could
     /// not be written: its copies are all dead, or its counter is the last one.
+    ///
+    /// # Answers
+    ///
+    /// Causes: `ExpandCause`; the disc: `ExpandStep`; it must end well where `CanExpand` holds.
+    ///
+    /// - `Good`: the disc has this capacity already. Then: disc and lists stay, and nothing is buffered. (`StaysAsLarge`)
+    /// - `Good` of a smaller one: the secondary list was updated, and has a copy. Then: the first sectors stay, and there are no
+    ///   others; the new list is in use. (`Grows`)
+    /// - `NotFormatted`: exactly when the power is on and the disc is not formatted. Then: nothing changed. (`IsUnformatted`)
+    /// - `Refused`: the capacity is 0, no multiple of 16, more than the disc has, or leaves too many spares; the present one is
+    ///   told. Then: nothing changed. (`RefusesSize`)
+    /// - `NoUpdate`: no copy of the secondary list is left, or its counter, which is told, is the last. Then: disc and lists
+    ///   stay, and nothing is buffered. (`GrowsInVain`)
+    /// - `Cut`: the power was cut in the update. Then: off; the disc and its first sectors are the candidates; the list is
+    ///   written up to there. (`StopsInExpansion`, `LeavesSdl`)
+    /// - `Off`: exactly when the power was off. Then: nothing changed. (`WasOff`)
+    /// - `Fault`: what the medium lies on counted a failure. Then: as after `Cut`. (`StopsInExpansion`)
     fn expand(&mut self, capacity: u32) -> ExpandOut
         ensures cause { ExpandCause (Self.shows self.old) (Self.shows self.new) capacity result }
         ensures step { (s : Standing) → Self.stands self.old s
@@ -131,6 +237,22 @@ pub trait Disc: Sectors {
 
     /// Reads each block in which some of `n` sectors from sector `lba` on lie from its home, and gives no bytes of it. What is
     /// buffered does not count, and stays. The answers are those of a read.
+    ///
+    /// # Answers
+    ///
+    /// Causes: `VerifyCause`; the disc: `VerifyStep`; it must end well where `CanRead` holds.
+    ///
+    /// - `Good`: the home of each covered block is good now; each was read, whether it is buffered or not. Then: disc, cells,
+    ///   lists and buffer stay. (`VerifiesAll`)
+    /// - `NotFormatted`: exactly when the power is on and the disc is not formatted. Then: nothing changed. (`IsUnformatted`)
+    /// - `Range`: exactly when the disc is formatted and `lba + n` is more than its capacity, which is told. Then: nothing
+    ///   changed. (`IsOutOfRange`)
+    /// - `Unread`: a home is not good now, and those before it are; told are its first sector of the request, and the home. Then:
+    ///   disc, lists and buffer stay; no cell changed but that home's, which may be dead now. (`MeetsUnverified`)
+    /// - `Cut`: the power was cut in this verification. Then: off; the disc is the only candidate; lists and buffer are gone.
+    ///   (`StopsInRead`)
+    /// - `Off`: exactly when the power was off. Then: nothing changed. (`WasOff`)
+    /// - `Fault`: what the medium lies on counted a failure. Then: as after `Cut`. (`StopsInRead`)
     fn verify(&mut self, lba: u32, n: u32) -> ReadOut
         requires few { n ≤ VERIFY_LIMIT }
         ensures cause { VerifyCause (Self.shows self.old) (Self.shows self.new) lba n result }
@@ -145,6 +267,11 @@ pub trait Disc: Sectors {
 
     /// Puts the text of the disc definition structure in use into the block. False, with the block as it was, exactly where
     /// the power is off or the disc is not formatted.
+    ///
+    /// # Answers
+    ///
+    /// - `true`: the power is on and the disc is formatted; the block has the text of the structure in use. (`DdsRule`)
+    /// - `false`: exactly when the power is off or the disc is not formatted; the block is as before. (`DdsRule`)
     fn dds_block(&self, into: &mut Block) -> bool
         ensures { DdsRule (Self.shows self.now) into.old into.new result };
 

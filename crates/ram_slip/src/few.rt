@@ -9,6 +9,10 @@ use ram_dds::PdlEntry;
 use ram_zones::{Geometry, LayoutKind};
 
 /// Whether the block is a data block of this zone.
+///
+/// # Answers
+///
+/// - `true`, `false`: `true` exactly when the block is a data block of the zone. (clause)
 pub fn is_inside(geometry: &Geometry, zone: u32, block: u32) -> bool
     requires { zone < geometry.now.zones }
     ensures { result ≡ is_inside geometry.now block zone }
@@ -44,6 +48,10 @@ fn zones_have_few(geometry: &Geometry, entries: &[PdlEntry], most: u32) -> bool
 }
 
 /// Whether no more blocks are named than may be slipped: in all, or in each zone.
+///
+/// # Answers
+///
+/// - `true`, `false`: `true` exactly when no more blocks are named than may be slipped: in all, or in each zone. (`SlipsFew`)
 pub fn slips_few(geometry: &Geometry, entries: &[PdlEntry]) -> bool
     ensures { IsTrue result ↔ SlipsFew geometry.now (pdl_blocks entries.now) }
 {

@@ -103,6 +103,16 @@ fn turn_in_group(geometry: &Geometry, dds: &DdsPdl, ssa: u32, place: u32) -> Opt
 }
 
 /// What a block is to a disc with n supplementary spares.
+///
+/// # Answers
+///
+/// A block is one of these things at most (`a_block_has_one_place`), so each answer comes exactly when it says what the block is.
+///
+/// - `Logical`: the block is that logical block. (`IsAtPlace`)
+/// - `Primary`: it is a primary spare. (`IsAtPlace`)
+/// - `Supplementary`: it is a supplementary spare. (`IsAtPlace`)
+/// - `Slipped`: the primary list names it. (`IsAtPlace`)
+/// - `Outside`: it is no data block. (`IsAtPlace`)
 pub fn place_of(geometry: &Geometry, dds: &DdsPdl, ssa: u32, block: u32) -> Place
     requires valid { IsValidPdl geometry.now (dds_of dds.now) }
     requires area { IsValidOnSome geometry.now ssa }
@@ -121,6 +131,10 @@ pub fn place_of(geometry: &Geometry, dds: &DdsPdl, ssa: u32, block: u32) -> Plac
 
 /// The turn of a spare in the order in which spares are taken, counted from 0, or none where the block is no spare. Each spare
 /// has a turn of its own, below the number of all spares.
+///
+/// # Answers
+///
+/// - `Some`, `None`: its turn in the order in which spares are taken; `None` exactly when it is no spare. (`HasTurn`)
 pub fn spare_turn(geometry: &Geometry, dds: &DdsPdl, ssa: u32, block: u32) -> Option<u32>
     requires valid { IsValidPdl geometry.now (dds_of dds.now) }
     requires area { IsValidOnSome geometry.now ssa }

@@ -51,6 +51,10 @@ fn is_same(a: LayoutKind, b: LayoutKind) -> bool
 
 /// Whether the primary defect list is valid for the geometry: its structure has the kind of its layout and its primary spares,
 /// and its blocks are data blocks that rise, no more than may be slipped.
+///
+/// # Answers
+///
+/// - `true`, `false`: `true` exactly when the primary list is valid for the geometry. (`IsValidPdl`)
 pub fn is_valid_pdl(geometry: &Geometry, dds: &DdsPdl) -> bool
     ensures { IsTrue result ↔ IsValidPdl geometry.now (dds_of dds.now) }
 {
@@ -83,6 +87,10 @@ fn may_have(geometry: &Geometry, ssa: u32) -> bool
 
 /// Whether n supplementary spares are valid: the spares are no more than a disc of this version may have, a logical
 /// block is left, and the layout may have them.
+///
+/// # Answers
+///
+/// - `true`, `false`: `true` exactly when this many supplementary spares are valid. (`IsValidSsa`)
 pub fn is_valid_ssa(geometry: &Geometry, version: Version, ssa: u32) -> bool
     ensures { IsTrue result ↔ IsValidSsa geometry.now version ssa }
 {

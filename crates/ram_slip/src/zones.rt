@@ -94,6 +94,10 @@ pub fn turn_in_zone(
 }
 
 /// Whether a spare may replace a block by where they lie: with a group of spares in each zone both lie in one zone.
+///
+/// # Answers
+///
+/// - `true`, `false`: `true` exactly when the spare may replace the block by where they lie. (`SharesPool`)
 pub fn shares_pool(geometry: &Geometry, block: u32, spare: u32) -> bool
     ensures { IsTrue result ↔ SharesPool geometry.now block spare }
 {

@@ -32,6 +32,11 @@ impl Model for Cursors {
 
 impl Cursors {
     /// Room for the cursors of any disc, and none yet.
+    ///
+    /// # Answers
+    ///
+    /// - `Ok`: room for the cursors of any disc, and none yet. (clause)
+    /// - `Err`: the system refused memory that was asked for within the budget. (clause)
     pub fn new(budget: &mut Budget) -> Result<Cursors, MemoryRefused>
         requires free { CURSORS_MEMORY ≤ budget.old }
         ensures left { budget.old ≤ budget.new + CURSORS_MEMORY }

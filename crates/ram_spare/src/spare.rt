@@ -53,6 +53,11 @@ fn is_free(sdl: &Sdl, block: u32) -> bool
 }
 
 /// The first free spare of a pool from this turn on, counted from 0. It is none exactly where there is none.
+///
+/// # Answers
+///
+/// - `Some`, `None`: the first free spare of the pool from that turn on, with its turn; `None` exactly when there is none.
+///   (`FindsFree`)
 pub fn free_from<L: Layout>(layout: &L, sdl: &Sdl, pool: u32, first: u32) -> Option<FreeSpare>
     requires pool { pool < length (L.pools layout.now) }
     requires rise { IsStrictlyIncreasing (defectives sdl.now.entries) }
@@ -115,6 +120,11 @@ fn first_turn<L: Layout>(layout: &L, pool: u32, cursor: u32, after: Option<u32>)
 
 /// The next free spare of a pool: the first, or the first after the spare `after`. It is none exactly where there is none.
 /// Spares before the cursor are not looked at.
+///
+/// # Answers
+///
+/// - `Some`, `None`: the first free spare of the pool, or the first after the one given; `None` exactly when there is none.
+///   (`next_in`)
 pub fn next_free<L: Layout>(
     layout: &L,
     cursors: &Cursors,

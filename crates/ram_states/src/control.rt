@@ -88,6 +88,14 @@ impl<M: MediumControl> State<M> {
     /// Makes the block of the medium of this number, counted from 0, dead: `Done`. There is no such block, and nothing
     /// changed: `NoBlock`. The state stays in both. What the medium lies on failed, and counted it: `Failed`; then the power
     /// is off. It is no use of the medium. (This project's own, as all here.)
+    ///
+    /// # Answers
+    ///
+    /// - `Done`: there is such a block. Then: it is dead; lists, buffer and disc stay. (`FailOnDrive`, `FailStands`)
+    /// - `NoBlock`: exactly when there is no such block; it says how many there are. Then: nothing changed. (`FailOnDrive`,
+    ///   `FailStands`)
+    /// - `Failed`: what the medium lies on counted a failure. Then: off; lists and buffer are gone, and the disc, or the
+    ///   candidates, are the candidates. (`LosesMemory`, `FailStands`)
     pub fn fail(self, block: u32) -> (State<M>, FailEnd)
         ensures rule { FailOnDrive (shown_state self) (shown_state result.0) block result.1 }
         ensures told { M.was_told (medium_under self) (medium_under result.0) (Fails block result.1) }
@@ -103,6 +111,10 @@ impl<M: MediumControl> State<M> {
 
     /// Makes the block of the medium of this number dead at its `n`-th use from now on, the next one being the first:
     /// `Set`. There is no such block: `NoBlock`. As many arms stand as can, 64: `Full`.
+    ///
+    /// # Answers
+    ///
+    /// As for `MediumControl::wear`; lists, buffer and disc stay (`KeepsMemory`).
     pub fn wear(&mut self, block: u32, n: u32) -> Arm
         requires { 1 ≤ n }
         ensures rule { WearRule (total (shown_state self.old).shape) (shown_state self.old).medium

@@ -24,6 +24,10 @@ impl<M: MediumControl> Ready<M> {
     /// copies are all dead, or that counter is the last one. The disc stays, and no block is buffered then. With a cut or a
     /// fault the power is off, and the disc and its first sectors are the candidates. (Spare areas after ECMA-330; how one
     /// grows is this project's own.)
+    ///
+    /// # Answers
+    ///
+    /// As for `Disc::expand`.
     pub fn expand(self, capacity: u32) -> (State<M>, ExpandOut)
         ensures cause { ExpandCause (shown_ready self) (shown_state result.0) capacity result.1 }
         ensures step { ExpandSteps (shown_ready self) (shown_state result.0) capacity result.1 }

@@ -52,6 +52,10 @@ impl<M: MediumControl> NotFormatted<M> {
     /// each data block is certified, and the dead ones are slipped, as many as there are primary spares. The answers are
     /// those of [`FormatOut`]; with a cut or a fault the power is off. It takes no memory. (After ECMA-330; the counters of the
     /// lists are this project's own.)
+    ///
+    /// # Answers
+    ///
+    /// As for `Ready::format`.
     pub fn format(self, kind: Kind) -> (State<M>, FormatOut)
         ensures cause { FormatCause (shown_bare self) (shown_state result.0) kind result.1 }
         ensures step { FormatSteps (shown_bare self) (shown_state result.0) kind result.1 }
@@ -172,6 +176,10 @@ impl<M: MediumControl> Ready<M> {
     /// sectors, and makes new lists. A rewriting one writes the copies of the lists in use again, and keeps the sectors.
     /// Neither takes memory. With a cut or a fault the power is off; a full format that found too many defective blocks, or
     /// lost all copies of a list, leaves the disc not formatted. (After the two formats of ECMA-330.)
+    ///
+    /// # Answers
+    ///
+    /// As for `Disc::format`; of `NotFormatted` it is a full one, whatever kind is asked for.
     pub fn format(self, kind: Kind) -> (State<M>, FormatOut)
         ensures cause { FormatCause (shown_ready self) (shown_state result.0) kind result.1 }
         ensures step { FormatSteps (shown_ready self) (shown_state result.0) kind result.1 }

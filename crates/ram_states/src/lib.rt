@@ -1,5 +1,11 @@
 //! The typed states of a drive that owns its medium: with its power off, or on with a formatted disc, or with one that is
 //! not formatted. Each call takes its state and gives the next.
+//!
+//! # Answers
+//!
+//! The states give the answers of ram_sectors, each those that its type allows: `Ready` is on and formatted, so it never answers
+//! `Off` or `NotFormatted`; `NotFormatted` is on, so it never answers `Off`. A call that consumes a state hands back the next
+//! one: `Off` after `Cut`, `Fault` and `Failed`.
 #![tactic(auto)]
 
 mod control;

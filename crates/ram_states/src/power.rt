@@ -28,6 +28,10 @@ use ram_zones::Geometry;
 
 impl<M: MediumControl> PoweredOff<M> {
     /// Turns the power on, and mounts the disc.
+    ///
+    /// # Answers
+    ///
+    /// As for `Sectors::power`, with the state: `Ready`, `NotFormatted`, or `PoweredOff`.
     pub fn power_on(self) -> PowerOn<M>
         ensures cause { PowerCause (shown_off self) (shown_after result) (power_out result) }
         ensures step { PowerSteps (shown_off self) (shown_after result) (power_out result) }

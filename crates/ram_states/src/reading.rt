@@ -73,6 +73,10 @@ impl<M: MediumControl> Ready<M> {
     ///
     /// After `Good`, `Range` and `Unread` the disc is ready as before. What `into` has is said after `Good` alone. (The
     /// answers are this project's own; homes are after ECMA-330's linear replacement.)
+    ///
+    /// # Answers
+    ///
+    /// As for `Sectors::read`.
     pub fn read(self, lba: u32, n: u32, into: &mut [u8]) -> (State<M>, ReadOut)
         requires few { n ≤ TRANSFER_LIMIT }
         requires whole { length into.old ≡ 2048 * n }

@@ -71,6 +71,10 @@ impl<M: MediumControl> Ready<M> {
     ///
     /// After `Good`, `Range` and `Unread` the disc is ready as before. (That the medium is read, and no bytes go to the
     /// host, is after INCITS MMC's VERIFY; the answers are this project's own.)
+    ///
+    /// # Answers
+    ///
+    /// As for `Disc::verify`.
     pub fn verify(self, lba: u32, n: u32) -> (State<M>, ReadOut)
         requires few { n ≤ VERIFY_LIMIT }
         ensures cause { VerifyCause (shown_ready self) (shown_state result.0) lba n result.1 }

@@ -69,6 +69,10 @@ impl<M: MediumControl> Ready<M> {
     /// disc is ready, as it is after `Good` and `Range`. After `Cut` and `Fault` nothing is kept in memory, and the block in
     /// work has all its old sectors of the request or all its new ones. (Linear replacement after ECMA-330; the answers and
     /// the order are this project's own.)
+    ///
+    /// # Answers
+    ///
+    /// As for `Sectors::write`.
     pub fn write(self, lba: u32, n: u32, from: &[u8]) -> (State<M>, WriteOut)
         requires few { n ≤ TRANSFER_LIMIT }
         requires whole { length from.now ≡ 2048 * n }

@@ -29,6 +29,14 @@ use ram_volume::Volume;
 
 /// Runs the script of the number `seed` over the image of this name, and writes a summary of the answers. The image is
 /// closed on every way out.
+///
+/// # Answers
+///
+/// - `Done`: the whole script was answered, and the summary is written. (`Generates`)
+/// - `SinkFault`: the whole script was answered, and a beginning of the summary is written. (`Generates`)
+/// - `Script`, `ImageFault`, `NotADisc`: nothing is written, and the image is as the lines leave it, or was not opened.
+///   (`Generates`)
+/// - `Differs`, `Usage`, `NoMemory`, `SourceFault`: never. (`Generates`)
 pub fn generate_image<K: Sink, O: Opener>(
     rooms: GenerateRooms,
     name: &str,

@@ -26,6 +26,11 @@ pub struct GenerateRooms {
 
 impl GenerateRooms {
     /// The rooms for a script that is drawn from a number.
+    ///
+    /// # Answers
+    ///
+    /// - `Ok`: the rooms for the lines of a script, with room for it and for its summary. (`AreReadyFor`)
+    /// - `Err`: the system refused memory that was asked for within the budget. (clause)
     pub fn new(budget: &mut Budget) -> Result<GenerateRooms, MemoryRefused>
         requires free { GENERATE_MEMORY ≤ budget.old }
         ensures left { budget.old ≤ budget.new + GENERATE_MEMORY }

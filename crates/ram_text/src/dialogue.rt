@@ -27,6 +27,11 @@ impl DialogueRoom {
     ghost use Rattle.ram_text.specs.DialogueRoom.{IsEmptyRoom};
 
     /// Nothing was read yet, and nothing is gathered. All room is taken here.
+    ///
+    /// # Answers
+    ///
+    /// - `Ok`: nothing was read, and nothing is gathered. (`IsEmptyRoom`)
+    /// - `Err`: the system refused memory that was asked for within the budget. (clause)
     pub fn new(budget: &mut Budget) -> Result<DialogueRoom, MemoryRefused>
         requires free { DIALOGUE_MEMORY ≤ budget.old }
         ensures left { budget.old ≤ budget.new + DIALOGUE_MEMORY }
@@ -68,6 +73,19 @@ impl<'a, S: Source, K: Sink> Dialogue<'a, S, K> {
 
     /// Looks for the next line. Where it may have to be waited for, all of the report is handed over first; where the
     /// sink fails then, nothing is asked.
+    ///
+    /// # Answers
+    ///
+    /// Unless a whole line is held, the report is handed over first.
+    ///
+    /// - `Ok`: nothing is due but what is written, or a whole line was held. Then: the next line was looked for, as follows.
+    ///   (`LooksOn`)
+    /// - `Line`: as of `LineReader::next_line`. Then: as of it. (`LooksOn`)
+    /// - `End`: as of `LineReader::next_line`. Then: as of it. (`LooksOn`)
+    /// - `LineTooLong`: as of `LineReader::next_line`. Then: as of it. (`LooksOn`)
+    /// - `ScriptTooLong`: as of `LineReader::next_line`. Then: as of it. (`LooksOn`)
+    /// - `Failed`: as of `LineReader::next_line`. Then: as of it. (`LooksOn`)
+    /// - `Err`: the sink counted a failure. Then: the source was not asked; what is due is as before. (`StopsAsking`)
     pub fn next_line(&mut self) -> Result<NextLine, SinkFailed>
         ensures ends { HasSameEnds self.old self.new }
         ensures rule { SearchRule S.Source K.Sink self.old self.new result }
@@ -91,6 +109,10 @@ impl<'a, S: Source, K: Sink> Dialogue<'a, S, K> {
 
     /// Prints the answer of the line of this number, which is no command. The blocks that were found are told behind how many
     /// they are.
+    ///
+    /// # Answers
+    ///
+    /// As for `Dialogue::print_answer`.
     pub fn print_event(&mut self, number: u64, event: &Event, found: &[u32]) -> Print
         ensures { Tells S.Source K.Sink self.old self.new (event_text number event.now found.now) result }
     {
@@ -104,6 +126,13 @@ impl<'a, S: Source, K: Sink> Dialogue<'a, S, K> {
     }
 
     /// Prints the answer to a command, and behind `good` its reply.
+    ///
+    /// # Answers
+    ///
+    /// The source is not asked.
+    ///
+    /// - `Done`: the whole text is due. Then: it stands behind what was due. (`Tells`)
+    /// - `Failed`: the sink counted a failure. Then: a prefix of the text stands behind what was due. (`Tells`)
     pub fn print_answer(&mut self, number: u64, answer: &Answer, cdb: &Cdb, reply: &[u8]) -> Print
         requires printed { IsPrinted answer.now }
         requires addressed { IsAddressed answer.now cdb.now }
@@ -121,6 +150,10 @@ impl<'a, S: Source, K: Sink> Dialogue<'a, S, K> {
     }
 
     /// Prints the last line of a report.
+    ///
+    /// # Answers
+    ///
+    /// As for `Dialogue::print_answer`.
     pub fn print_last(&mut self, last: &LastLine) -> Print
         ensures { Tells S.Source K.Sink self.old self.new (last_text last.now) result }
     {
@@ -128,6 +161,13 @@ impl<'a, S: Source, K: Sink> Dialogue<'a, S, K> {
     }
 
     /// Hands over what is gathered.
+    ///
+    /// # Answers
+    ///
+    /// The source is not asked.
+    ///
+    /// - `Done`: all was handed over. Then: what is due is as before; nothing is gathered. (`HandsOverAll`)
+    /// - `Failed`: the sink counted a failure. Then: what is due is as before. (`HandsOverAll`)
     pub fn flush(&mut self) -> Print
         ensures { HandsOverAll S.Source K.Sink self.old self.new result }
     {

@@ -67,6 +67,11 @@ impl Model for LineReader {
 
 impl LineReader {
     /// A reader that has read nothing. Its room is taken here, and none later.
+    ///
+    /// # Answers
+    ///
+    /// - `Ok`: nothing was read. (clause)
+    /// - `Err`: the system refused memory that was asked for within the budget. (clause)
     pub fn new(budget: &mut Budget) -> Result<LineReader, MemoryRefused>
         requires free { ROOM ≤ budget.old }
         ensures left { budget.old ≤ budget.new + ROOM }
@@ -99,6 +104,10 @@ impl LineReader {
     }
 
     /// Whether the next `next_line` finds a line without asking the source.
+    ///
+    /// # Answers
+    ///
+    /// - `true`, `false`: `true` exactly when the next `next_line` finds a line without asking the source. (`HoldsLine`)
     pub fn has_line(&self) -> bool
         ensures { IsTrue result ↔ HoldsLine self.now }
     {
@@ -112,6 +121,19 @@ impl LineReader {
     /// Of the limits of a line and of the script the one that is passed by the earlier byte decides, and where
     /// one byte passes both, it is the script's. More is asked of the source only where all of the report is
     /// handed over.
+    ///
+    /// # Answers
+    ///
+    /// Where a line is held already, `Line` comes and the source is not asked.
+    ///
+    /// - `Line`: the next line came, within both limits; it ends with a line feed, or with the script and is not empty. Then: it
+    ///   is no longer left. (`GivesLine`)
+    /// - `End`: nothing was left. Then: nothing changed. (`NothingWent`)
+    /// - `LineTooLong`: more than 70,000 bytes come without a line feed, and the script's limit is not passed by then. Then:
+    ///   nothing went. (`LineIsTooLong`)
+    /// - `ScriptTooLong`: more is left than the script may have, and no line ends within that; the line's limit is not passed
+    ///   before. Then: nothing went. (`ScriptIsTooLong`)
+    /// - `Failed`: the source counted a failure. Then: nothing went; no whole line is buffered. (`LineFails`)
     pub fn next_line<S: Source>(&mut self, source: &mut S, _report: &ReportWriter) -> NextLine
         requires shown { HoldsLine self.old ⊎ (gathered_in _report.now ≡ []) }
         ensures rule { NextLineRule S.Source self.old self.new source.old source.new result }

@@ -83,6 +83,23 @@ enum Form {
 /// `payload`. It takes no memory.
 ///
 /// It answers [`Unread`] exactly where the line is none of the language; `payload` is empty then.
+///
+/// # Answers
+///
+/// A line reads as one thing at most (`a_line_has_one_reading`), so each form comes exactly when the line has it.
+///
+/// - `Ok`: the line is in the language. Then: `payload` has the data that go with it. (`Reads`)
+/// - `Err`: exactly when it is not. Then: `payload` is empty. (`Reads`)
+/// - `Empty`: it has no words, or is a comment. Then: no data. (`IsForm`, `IsComment`)
+/// - `Press`: `press` and three numbers. Then: no data. (`IsForm`)
+/// - `Power`: `power`. Then: no data. (`IsForm`)
+/// - `Fail`: `fail` and a number. Then: no data. (`IsForm`)
+/// - `Wear`: `wear` and two numbers, the second not 0. Then: no data. (`IsForm`)
+/// - `Cut`: `cut`, a number that is not 0, and a fate. Then: no data. (`IsForm`)
+/// - `Tick`: `tick`. Then: no data. (`IsForm`)
+/// - `Scrub`: `scrub`, alone or with `all`. Then: no data. (`IsForm`)
+/// - `Command`: `cdb` and a block of 1 to 16 bytes, alone or with `fill`, `count` or `hex`. Then: the data that are spelled.
+///   (`IsForm`)
 pub fn parse_line(line: &[u8], payload: &mut Vec<u8>) -> Result<Line, Unread>
     requires short { length line.now ≤ LINE_LIMIT }
     requires empty { payload.old.items ≡ [] }

@@ -79,6 +79,10 @@ fn number(word: &[u8]) -> Option<u32>
 }
 
 /// Whether each byte is a decimal digit.
+///
+/// # Answers
+///
+/// - `true`, `false`: `true` exactly when each byte is a decimal digit. (clause)
 pub fn are_digits(word: &[u8]) -> bool
     ensures { result ≡ list_all is_ascii_digit word.now }
 {

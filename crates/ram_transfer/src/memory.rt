@@ -127,6 +127,11 @@ impl Workspace {
 
 impl Memory {
     /// Takes all of it, for any disc with a layout of this kind.
+    ///
+    /// # Answers
+    ///
+    /// - `Ok`: all memory of a drive, for any disc with a layout of this kind. (`IsOfKind`)
+    /// - `Err`: the system refused memory that was asked for within the budget. (clause)
     pub fn new(budget: &mut Budget, kind: LayoutKind) -> Result<Memory, MemoryRefused>
         requires free { VOLUME_MEMORY ≤ budget.old }
         ensures left { budget.old ≤ budget.new + VOLUME_MEMORY }

@@ -135,6 +135,20 @@ fn goes_past(long: bool, part: Part, k: u32, blocks: u32) -> bool
 }
 
 /// Reads all parts of a request, in order. How many were read before one whose block cannot be, if there is such a one.
+///
+/// # Answers
+///
+/// The power is on, which is asked for.
+///
+/// - `Ok`: it was not stopped. (`PartsEnd`)
+/// - `None`: each part was read, out of the buffer or from its home. Then: no cell changed; the bytes are the sectors of the
+///   disc, and the blocks used last are buffered. (`ReadsParts`)
+/// - `Some`: the block with this index was not buffered, and its home has no whole bytes; those before it were read. Then: these
+///   are buffered; at most that home died. (`MeetsBlock`)
+/// - `Err`: it was stopped: `Cut`, `Off` or `Fault`. Then: at most the home of one covered block died. (`StopsInBlock`)
+/// - `Cut`: the power was cut within the uses of the read. Then: off. (`StopsByCut`)
+/// - `Off`: the power was off. As the power is on at entry, this does not come. (`Stops`)
+/// - `Fault`: what the medium lies on counted a failure within as many. Then: off. (`StopsByFault`)
 pub fn read_parts<M: Medium>(
     medium: &mut M,
     geometry: &Geometry,
@@ -173,6 +187,12 @@ pub fn read_parts<M: Medium>(
 }
 
 /// How a read ended that was not stopped: at the block after n, where there is such a one.
+///
+/// # Answers
+///
+/// - `Good`: exactly when no block was met. (`read_end_at`)
+/// - `Unread`: exactly when one was; it is named by its first sector of the request, and by its home. (`read_end_at`)
+/// - `NotFormatted`, `Range`, `Cut`, `Off`, `Fault`: these do not come. (`read_end_at`)
 pub fn ended_at(
     geometry: &Geometry,
     layout: &AnyLayout,

@@ -18,6 +18,20 @@ use ram_zones::Geometry;
 
 /// Reads the homes of all blocks of a request, in order. How many were read before one that has no whole bytes, if there
 /// is such a one.
+///
+/// # Answers
+///
+/// The power is on, which is asked for; the buffer is not looked at.
+///
+/// - `Ok`: it was not stopped. (`HomesEnd`)
+/// - `None`: the home of each covered block was read, and has whole bytes where cells are known. Then: no cell changed.
+///   (`HasVerifiedUpTo`)
+/// - `Some`: the home of the block with this index has no whole bytes; those before it have. Then: at most that home died.
+///   (`MeetsBadHome`)
+/// - `Err`: it was stopped: `Cut`, `Off` or `Fault`. Then: at most the home of one covered block died. (`StopsAtHome`)
+/// - `Cut`: the power was cut within one use for each covered block. Then: off. (`StopsByCut`)
+/// - `Off`: the power was off. As the power is on at entry, this does not come. (`Stops`)
+/// - `Fault`: what the medium lies on counted a failure within as many. Then: off. (`StopsByFault`)
 pub fn read_homes<M: Medium>(
     medium: &mut M,
     geometry: &Geometry,

@@ -116,6 +116,16 @@ fn is_good(out: WriteOut) -> bool
 }
 
 /// Writes all parts of a request, in order, up to one that is refused.
+///
+/// # Answers
+///
+/// The power is on, which is asked for. What a drive shows then of what it showed before is what a write of a drive says.
+///
+/// - `Ok`: it was not stopped. Then: lists and buffer are in use. (`EndsParts`)
+/// - `Good`, `Unread`, `NoSpare`, `NoUpdate`: as of `Sectors::write`. Then: as there. (`WriteCause`)
+/// - `NotFormatted`, `Range`, `Off`: these do not come, as the disc is formatted and the request lies in it. (`WriteCause`)
+/// - `Err`: it was stopped: `Cut`, `Off` or `Fault`. Then: off; nothing is kept in memory. (`StopsParts`)
+/// - `Cut`, `Fault`: as of `Sectors::write`. Then: as there. (`WriteCause`)
 pub fn write_parts<M: MediumControl>(
     medium: &mut M,
     geometry: &Geometry,

@@ -54,6 +54,10 @@ impl<M: MediumControl> Volume<M> {
 
     /// Makes the block of the medium of this number, counted from 0, dead, with the power on or off. Where what the medium
     /// lies on failed, the power is off, nothing is kept in memory, and the disc is a candidate.
+    ///
+    /// # Answers
+    ///
+    /// As for `State::fail`.
     pub fn fail(&mut self, block: u32) -> FailEnd
         ensures rule { FailOnDrive (shown_by self.old) (shown_by self.new) block result }
         ensures told { M.was_told (medium_by self.old) (medium_by self.new) (Fails block result) }
@@ -66,6 +70,10 @@ impl<M: MediumControl> Volume<M> {
     }
 
     /// Makes a block of the medium dead at its `n`-th use from now on: 1 is the next.
+    ///
+    /// # Answers
+    ///
+    /// As for `State::wear`.
     pub fn wear(&mut self, block: u32, n: u32) -> Arm
         requires { 1 ≤ n }
         ensures rule { WearRule (total (shown_by self.old).shape) (shown_by self.old).medium

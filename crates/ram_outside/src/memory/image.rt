@@ -55,6 +55,11 @@ impl MemImage {
     }
 
     /// Makes room for `len` bytes in all, and changes no byte.
+    ///
+    /// # Answers
+    ///
+    /// - `Ok`: there is room for this many bytes in all; always if there was before. (clause)
+    /// - `Err`: memory was refused; the bytes and the count are as before. (clause)
     pub fn reserve(&mut self, len: usize) -> Result<(), AllocError>
         ensures ok { OnOk result (len ≤ self.new.room) }
         ensures enough { len ≤ self.old.room → IsOk result }

@@ -63,6 +63,10 @@ impl MemOpener {
     }
 
     /// The image that was handed back last.
+    ///
+    /// # Answers
+    ///
+    /// - `Some`, `None`: the image that was handed back last, if one was. (clause)
     pub fn returned(&self) -> Option<&MemImage>
         ensures { option_copied result ≡ self.now.returned }
     {

@@ -64,6 +64,11 @@ impl MemSink {
     }
 
     /// Makes room for `len` bytes in all, and changes no byte.
+    ///
+    /// # Answers
+    ///
+    /// - `Ok`: there is room for this many bytes in all; always if there was before. (clause)
+    /// - `Err`: memory was refused; what was written and the count are as before. (clause)
     pub fn reserve(&mut self, len: usize) -> Result<(), AllocError>
         ensures ok { OnOk result (len ≤ self.new.room) }
         ensures enough { len ≤ self.old.room → IsOk result }

@@ -15,6 +15,13 @@ use ram_sense::{Answer, Sense};
 /// Prints the answer to a command, and behind `good` its reply: a line for each sector that was read, or one line
 /// of data where there are some. A sector is looked at in one pass to tell whether it is of one byte; the digits
 /// of each line are made 2,048 bytes at a time.
+///
+/// # Answers
+///
+/// What is due is what the sink has written, and then what is gathered for it.
+///
+/// - `Done`: the whole text is due. Then: it stands behind what was due. (`IsPut`)
+/// - `Failed`: the sink counted a failure. Then: a prefix of the text stands behind what was due. (`IsCutShort`)
 pub fn print_answer<K: Sink>(
     writer: &mut ReportWriter,
     sink: &mut K,

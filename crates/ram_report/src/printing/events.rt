@@ -11,6 +11,10 @@ use ram_outside::Sink;
 
 /// Prints the answer to a line that is no command. The blocks that were found are told behind how many they are, and behind no
 /// other answer.
+///
+/// # Answers
+///
+/// As for `print_answer`.
 pub fn print_event<K: Sink>(
     writer: &mut ReportWriter,
     sink: &mut K,

@@ -9,6 +9,10 @@ use crate::report::ReportWriter;
 use ram_outside::Sink;
 
 /// Prints the last line of a report.
+///
+/// # Answers
+///
+/// As for `print_answer`.
 pub fn print_last<K: Sink>(writer: &mut ReportWriter, sink: &mut K, last: &LastLine) -> Print
     ensures { Prints K.Sink writer.old sink.old writer.new sink.new (last_text last.now) result }
 {

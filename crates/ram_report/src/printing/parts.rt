@@ -7,6 +7,10 @@ use crate::report::ReportWriter;
 use ram_outside::Sink;
 
 /// Prints a text of one line, and ends the line.
+///
+/// # Answers
+///
+/// As for `print_answer`.
 pub fn print_line<K: Sink>(writer: &mut ReportWriter, sink: &mut K, text: &[u8]) -> Print
     ensures { Prints K.Sink writer.old sink.old writer.new sink.new (text.now ++ codes "\n") result }
 {
