@@ -1,7 +1,7 @@
 # Builds the proved program, and installs it with the tools over it, the manual pages, and completion for bash:
 #     make
 #     make install PREFIX=/usr/local DESTDIR=
-# `make docs` makes the pages of definitions, and `make check` runs the gate.
+# `make docs` makes the pages of definitions and of answers, and `make check` runs the gate.
 PREFIX = /usr/local
 DESTDIR =
 INSTALL = install
@@ -20,6 +20,7 @@ all:
 
 docs:
 	checks/definitions
+	checks/answers
 
 check:
 	.ci/run
